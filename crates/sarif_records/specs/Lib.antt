@@ -1,0 +1,4 @@
+pub mod Kind
+pub mod Level
+pub mod State
+pub mod Status

@@ -1,0 +1,20 @@
+//! The base layer of `sarif_gate`: how a SARIF 2.1.0 log is read, and the types that the layers above speak of.
+#![tactic(auto)]
+
+mod fault;
+mod kinds;
+mod message;
+mod parts;
+mod place;
+mod record;
+mod sequence;
+mod text;
+
+pub use fault::{Fault, ReadFault};
+pub use kinds::{Kind, Level, State, Status};
+pub use message::Message;
+pub use parts::Parts;
+pub use place::Place;
+pub use record::Record;
+pub use sequence::{Pairs, Sequence};
+pub use text::Text;

@@ -1,0 +1,14 @@
+//! The message of a result, as results are compared by it.
+use crate::sequence::Sequence;
+use crate::text::Text;
+
+/// The members of a message by which results are compared (SARIF 2.1.0, "message object").
+#[derive(Debug, Drop, PartialEq, Eq, Hash)]
+pub struct Message {
+    /// `text`.
+    pub text: Option<Text>,
+    /// `id`.
+    pub id: Option<Text>,
+    /// `arguments`; absent it is empty.
+    pub args: Sequence<Text>,
+}

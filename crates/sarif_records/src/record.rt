@@ -1,0 +1,31 @@
+//! What matching and suppressing know of a result.
+use crate::kinds::{Kind, Level, Status};
+use crate::message::Message;
+use crate::place::Place;
+use crate::sequence::{Pairs, Sequence};
+use crate::text::Text;
+
+/// A result with what its run says of it (SARIF 2.1.0, "result object").
+#[derive(Debug, Drop)]
+pub struct Record {
+    /// The driver's `name`.
+    pub tool: Text,
+    /// `ruleId`, else `rule.id`, else the descriptor's `id`, else the empty text.
+    pub rule_id: Text,
+    /// `kind`; absent it is `fail`.
+    pub kind: Kind,
+    /// The effective level.
+    pub level: Level,
+    /// `message`.
+    pub message: Message,
+    /// The artifact of the first location.
+    pub place: Place,
+    /// `correlationGuid`, as a number.
+    pub guid: Option<u128>,
+    /// `fingerprints`.
+    pub full: Pairs,
+    /// `partialFingerprints`.
+    pub partial: Pairs,
+    /// The statuses of the result's own suppressions, in order.
+    pub held: Sequence<Status>,
+}

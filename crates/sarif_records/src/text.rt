@@ -1,0 +1,140 @@
+//! A text that contracts see as its bytes, and that is compared and hashed by them.
+ghost use Rattle.std.specs.Prelude.{◌≡◌, ℕ, List, Some, refl, bytes_eq, string_bytes, IfOk};
+ghost use Rattle.std.proofs.Common.{rules};
+ghost use Rattle.std.specs.Ordering.{nat_cmp};
+ghost use Rattle.std.specs.Hash as fed;
+ghost use Rattle.std.specs.Cmp.{partial_equiv_from_equiv};
+ghost use Rattle.std.specs.Cmp.Lexicographic.{slice_cmp, nat_list_eq_equiv, nat_list_cmp_total, texts_ties, texts_po};
+ghost use Rattle.std.specs.Cmp.Rules.{hashing};
+
+use std::alloc::{AllocError, Global};
+use std::cmp::Ordering;
+use std::convert::AsStr;
+use std::fmt;
+use std::hash::{Hash, Hasher};
+use std::marker::Model;
+
+/// A text of a log. Contracts see its UTF-8 bytes.
+#[derive(Drop)]
+pub struct Text {
+    content: String,
+}
+
+impl Model for Text {
+    ghost Value = { List ℕ };
+
+    ghost view = { λ t. string_bytes t.content };
+}
+
+impl Text {
+    /// A copy of `text`.
+    pub fn copy_of(alloc: Global, text: &str) -> Result<Text, AllocError>
+        ensures { IfOk result (λ t. t ≡ text.now) }
+    {
+        let content = String::from_str(alloc, text)?;
+        Ok(Text { content })
+    }
+
+    /// The text as a slice.
+    pub fn as_str(&self) -> &str
+        ensures { result.now ≡ self.now }
+    {
+        self.content.as_str()
+    }
+}
+
+impl From<String> for Text {
+    ghost from_gives = { λ s t. t ≡ string_bytes s };
+
+    fn from(content: String) -> Text {
+        Text { content }
+    }
+}
+
+impl From<Text> for String {
+    ghost from_gives = { λ t s. string_bytes s ≡ t };
+
+    fn from(text: Text) -> String {
+        let Text { content } = text;
+        content
+    }
+}
+
+impl AsStr for Text {
+    ghost text = { λ t. t };
+
+    fn as_str(&self) -> &str {
+        Text::as_str(self)
+    }
+}
+
+impl Clone for Text {
+    ghost is_clone = { λ text copy. copy ≡ text };
+
+    fn clone(&self) -> Result<Text, AllocError> {
+        let content = self.content.clone()?;
+        Ok(Text { content })
+    }
+}
+
+impl fmt::Display for Text {
+    ghost output = { λ t. Some t };
+
+    fn fmt<W: fmt::Write>(&self, f: &mut fmt::Formatter<W>) -> fmt::Result {
+        fmt::Display::fmt(&self.as_str(), f)
+    }
+}
+
+impl fmt::Debug for Text {
+    fn fmt<W: fmt::Write>(&self, f: &mut fmt::Formatter<W>) -> fmt::Result {
+        fmt::Debug::fmt(&self.as_str(), f)
+    }
+}
+
+impl PartialEq for Text {
+    ghost eq = { λ a b. bytes_eq a b };
+
+    ghost laws = { partial_equiv_from_equiv nat_list_eq_equiv };
+
+    fn eq(&self, other: &Text) -> bool {
+        self.as_str() == other.as_str()
+    }
+}
+
+impl Eq for Text {
+    ghost laws = { nat_list_eq_equiv };
+}
+
+impl PartialOrd for Text {
+    ghost partial_cmp = { λ a b. Some (slice_cmp nat_cmp a b) };
+
+    ghost laws = { texts_po };
+
+    fn partial_cmp(&self, other: &Text) -> Option<Ordering> {
+        Some(self.cmp(other))
+    }
+}
+
+impl Ord for Text {
+    ghost cmp = { λ a b. slice_cmp nat_cmp a b };
+
+    ghost total = { nat_list_cmp_total };
+
+    ghost matches_partial_cmp = { λ a b. refl };
+
+    ghost matches_eq = { λ a b. texts_ties a b };
+
+    fn cmp(&self, other: &Text) -> Ordering {
+        self.as_str().cmp(other.as_str())
+    }
+}
+
+impl Hash for Text {
+    ghost hash_input = { λ t. fed.str t };
+
+    ghost respects_eq = { Prim.search (hashing, rules) };
+
+    fn hash<H: Hasher>(&self, state: &mut H) {
+        self.as_str().hash(state);
+    }
+}
