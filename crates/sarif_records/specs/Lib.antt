@@ -2,3 +2,5 @@ pub mod Kind
 pub mod Level
 pub mod State
 pub mod Status
+pub mod Members
+pub mod Run

@@ -3,10 +3,12 @@
 
 mod fault;
 mod kinds;
+pub mod members;
 mod message;
 mod parts;
 mod place;
 mod record;
+mod run;
 mod sequence;
 mod text;
 
@@ -16,5 +18,6 @@ pub use message::Message;
 pub use parts::Parts;
 pub use place::Place;
 pub use record::Record;
+pub use run::RawRun;
 pub use sequence::{Pairs, Sequence};
 pub use text::Text;

@@ -1,0 +1,29 @@
+-- What the results of a run are (SARIF 2.1.0, run object, "results property").
+use Rattle.std.specs.Prelude.{◌≡◌, ℕ, Bool, false, List, [], ◌∷◌, Option, Some, None, codes, bytes_eq, is_some, option_map, option_and_then, unwrap_or, slice_index_or}
+use Rattle.serde_json.specs.Data.{Data, null, Items}
+use Rattle.serde_json.specs.Find.{get, as_str, as_array}
+use Rattle.sarif_records.specs.Members.{elements}
+
+-- the array of results, where there is one
+abbrev pub results_array : Data → Option Items
+results_array run = option_and_then as_array (get (codes "results") run)
+
+abbrev pub elements_or_none : Option Items → List Data
+elements_or_none None = []
+elements_or_none (Some ds) = elements ds
+
+-- the results in order; a run without results has none
+abbrev pub results_of : Data → List Data
+results_of run = elements_or_none (results_array run)
+
+-- the result with that number
+abbrev pub result_at : Data → ℕ → Data
+result_at run seq = slice_index_or (results_of run) seq null
+
+abbrev pub is_text : List ℕ → Option (List ℕ) → Bool
+is_text text found = unwrap_or (option_map (bytes_eq text) found) false
+
+-- whether the result is marked as absent from its log
+abbrev pub is_absent_result : Data → Bool
+is_absent_result result =
+    is_text (codes "absent") (option_and_then as_str (get (codes "baselineState") result))
