@@ -2,5 +2,6 @@ pub mod Kind
 pub mod Level
 pub mod State
 pub mod Status
+pub mod Stripping
 pub mod Members
 pub mod Run

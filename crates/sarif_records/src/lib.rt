@@ -10,6 +10,7 @@ mod place;
 mod record;
 mod run;
 mod sequence;
+mod stripping;
 mod text;
 
 pub use fault::{Fault, ReadFault};
@@ -20,4 +21,5 @@ pub use place::Place;
 pub use record::Record;
 pub use run::RawRun;
 pub use sequence::{Pairs, Sequence};
+pub use stripping::{strip, strip_in_place};
 pub use text::Text;
