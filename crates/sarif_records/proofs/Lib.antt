@@ -1,2 +1,4 @@
 pub mod Elements
 pub mod Stripped
+pub mod Utf8
+pub mod CheckEach

@@ -4,4 +4,5 @@ pub mod State
 pub mod Status
 pub mod Stripping
 pub mod Members
+pub mod Reading
 pub mod Run

@@ -88,3 +88,31 @@ pub struct ReadFault {
     /// What is wrong.
     pub fault: Fault,
 }
+
+impl From<Fault> for ReadFault {
+    ghost from_gives = { λ fault e. e ≡ record { run = None; fault = fault } };
+
+    fn from(fault: Fault) -> ReadFault {
+        ReadFault { run: None, fault }
+    }
+}
+
+impl From<AllocError> for ReadFault {
+    ghost use Rattle.sarif_records.specs.declared.fault.Fault.TheVariants.{OutOfMemory};
+
+    ghost from_gives = { λ _ e. e.fault ≡ OutOfMemory };
+
+    fn from(_error: AllocError) -> ReadFault {
+        ReadFault::from(Fault::OutOfMemory)
+    }
+}
+
+impl<T: Drop> From<AllocFailed<T>> for ReadFault {
+    ghost use Rattle.sarif_records.specs.declared.fault.Fault.TheVariants.{OutOfMemory};
+
+    ghost from_gives = { λ _ e. e.fault ≡ OutOfMemory };
+
+    fn from(_error: AllocFailed<T>) -> ReadFault {
+        ReadFault::from(Fault::OutOfMemory)
+    }
+}

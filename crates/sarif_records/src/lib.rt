@@ -3,10 +3,12 @@
 
 mod fault;
 mod kinds;
+mod log;
 pub mod members;
 mod message;
 mod parts;
 mod place;
+mod reading;
 mod record;
 mod run;
 mod sequence;
@@ -15,9 +17,11 @@ mod text;
 
 pub use fault::{Fault, ReadFault};
 pub use kinds::{Kind, Level, State, Status};
+pub use log::Log;
 pub use message::Message;
 pub use parts::Parts;
 pub use place::Place;
+pub use reading::{MOST_RESULTS, MOST_RUNS, driver_name, read_log, without_mark};
 pub use record::Record;
 pub use run::RawRun;
 pub use sequence::{Pairs, Sequence};
