@@ -2,3 +2,4 @@ pub mod Elements
 pub mod Stripped
 pub mod Utf8
 pub mod CheckEach
+pub mod NoFraction

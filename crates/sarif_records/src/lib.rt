@@ -3,6 +3,7 @@
 
 mod fault;
 mod kinds;
+mod laws;
 mod log;
 pub mod members;
 mod message;
@@ -17,6 +18,7 @@ mod text;
 
 pub use fault::{Fault, ReadFault};
 pub use kinds::{Kind, Level, State, Status};
+pub use laws::{stripped_holds_no_fraction, stripping_twice_is_once};
 pub use log::Log;
 pub use message::Message;
 pub use parts::Parts;
