@@ -1,3 +1,4 @@
 pub mod Counts
 pub mod Policy
+pub mod Summary
 pub mod Tally

@@ -4,8 +4,10 @@
 mod counts;
 mod decision;
 mod policy;
+mod table;
 mod tally;
 
 pub use counts::Counts;
 pub use decision::{hits, verdict};
 pub use policy::{Policy, States, Verdict};
+pub use table::summary;
