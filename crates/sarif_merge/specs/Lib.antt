@@ -1,4 +1,6 @@
+pub mod Counted
 pub mod Counts
 pub mod Policy
+pub mod Source
 pub mod Summary
 pub mod Tally

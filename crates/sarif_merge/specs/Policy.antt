@@ -14,7 +14,7 @@ abbrev pub default_policy : Policy
 default_policy = record {
   fail_on = Error;
   states = record { absent = false; fresh = true; unchanged = false; updated = true };
-  max = 0
+  max = 0;
 }
 
 -- whether results of this state count

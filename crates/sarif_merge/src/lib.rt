@@ -1,13 +1,19 @@
 //! The merge of SARIF 2.1.0 logs: its counts, its gate, its faults, and how it reads and writes.
 #![tactic(auto)]
 
+mod counted;
 mod counts;
 mod decision;
+mod output;
 mod policy;
+mod source;
 mod table;
 mod tally;
 
+pub use counted::{Counted, Failed};
 pub use counts::Counts;
 pub use decision::{hits, verdict};
+pub use output::write_out;
 pub use policy::{Policy, States, Verdict};
+pub use source::{SOURCE_LIMIT, SourceFault, read_source};
 pub use table::summary;

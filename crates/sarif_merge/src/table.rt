@@ -23,7 +23,12 @@ pub fn summary(alloc: Global, counts: &Counts, policy: &Policy) -> Result<String
     text.push_str(state_row(alloc, counts, State::Unchanged)?.as_str())?;
     text.push_str(state_row(alloc, counts, State::Updated)?.as_str())?;
     text.push_str(state_row(alloc, counts, State::Absent)?.as_str())?;
-    let gate = gate_row(alloc, verdict(counts, policy), hits(counts, policy), policy.max)?;
+    let gate = gate_row(
+        alloc,
+        verdict(counts, policy),
+        hits(counts, policy),
+        policy.max,
+    )?;
     text.push_str(gate.as_str())?;
     Ok(text)
 }

@@ -85,7 +85,11 @@ impl Tally {
     pub(crate) fn side(self, suppressed: bool) -> ByLevel
         ensures { result ≡ at_side self suppressed }
     {
-        if suppressed { self.suppressed } else { self.active }
+        if suppressed {
+            self.suppressed
+        } else {
+            self.active
+        }
     }
 
     pub(crate) fn add(&mut self, level: Level, suppressed: bool)

@@ -1,0 +1,15 @@
+use Rattle.std.proofs.Common.{◌≡◌, ◌-◌, ◌≤◌, ℕ, length}
+use Rattle.std.specs.Io.KnownBytes.{Consumes}
+use Rattle.sarif_merge.specs.Counted.{inner_of, faults_of}
+use Rattle.sarif_merge.specs.Source.{IsWithinLimit}
+use Rattle.sarif_merge.proofs.source.read_through.Given as goal
+
+abbrev pub invariant-loop-taken : goal.invariant-loop-taken
+invariant-loop-taken g l = record {
+  within : IsWithinLimit l.bytes.items;
+  read : Consumes (g.R.Read.remaining (inner_of l.fn.source)) (g.R.Read.remaining (inner_of l.source)) l.bytes.items;
+  quiet : faults_of l.source ≡ faults_of l.fn.source;
+}
+
+abbrev pub decreases-loop-taken : goal.decreases-loop-taken
+decreases-loop-taken g l = 67108865 - length l.bytes.items

@@ -1,0 +1,77 @@
+//! A reader or a writer that knows how many of its calls failed.
+ghost use Rattle.std.specs.Prelude.{◌≡◌, ◌<◌, ◌^◌, length, IfOk};
+ghost use Rattle.std.specs.Io.{ReadsAtMost, WritesAtMost};
+ghost use Rattle.std.specs.Io.KnownBytes.{ReadConsumes, WriteAppends};
+ghost use Rattle.sarif_merge.specs.Counted.{inner_of, faults_of, has_failed, RisesIf};
+
+use std::io::{Read, Write};
+use thiserror::Error;
+
+/// A call of a `Counted` failed: the inner call failed, or a write took none of at least one byte.
+#[derive(Clone, Copy, Debug, PartialEq, Eq, Error)]
+#[error("Failed")]
+pub struct Failed;
+
+/// A reader or a writer, beside the number of its calls that failed.
+#[derive(Debug, Drop)]
+pub struct Counted<D> {
+    inner: D,
+    faults: u64,
+}
+
+impl<D> Counted<D> {
+    /// Beside the number 0.
+    pub fn new(inner: D) -> Counted<D>
+        ensures inner { inner_of result ≡ inner }
+        ensures none { faults_of result ≡ 0 }
+    {
+        Counted { inner, faults: 0 }
+    }
+
+    /// How many calls failed.
+    pub fn faults(&self) -> u64
+        ensures { result ≡ faults_of self.now }
+    {
+        self.faults
+    }
+}
+
+impl<R: Read> Counted<R> {
+    /// Hands on what the reader gives. `Failed` is answered, and counted, exactly where its call failed.
+    pub fn read(&mut self, buf: &mut [u8]) -> Result<usize, Failed>
+        requires { faults_of self.old < 2 ^ 63 }
+        ensures bound { ReadsAtMost result buf.new }
+        ensures bytes { ReadConsumes (R.remaining (inner_of self.old))
+            (R.remaining (inner_of self.new)) result buf.new }
+        ensures counted { RisesIf (has_failed result) (faults_of self.old) (faults_of self.new) }
+    {
+        match self.inner.read(buf) {
+            Ok(n) => Ok(n),
+            Err(_) => {
+                self.faults += 1;
+                Err(Failed)
+            }
+        }
+    }
+}
+
+impl<W: Write> Counted<W> {
+    /// Hands on what the writer takes. `Failed` is answered, and counted, exactly where its call failed or
+    /// took none of at least one byte.
+    pub fn write(&mut self, buf: &[u8]) -> Result<usize, Failed>
+        requires { faults_of self.old < 2 ^ 63 }
+        ensures bound { WritesAtMost result buf.now }
+        ensures some { IfOk result (λ n. 0 < length buf.now → 0 < n) }
+        ensures bytes { WriteAppends (W.contents (inner_of self.old))
+            (W.contents (inner_of self.new)) result buf.now }
+        ensures counted { RisesIf (has_failed result) (faults_of self.old) (faults_of self.new) }
+    {
+        match self.inner.write(buf) {
+            Ok(n) if n > 0 || buf.is_empty() => Ok(n),
+            _ => {
+                self.faults += 1;
+                Err(Failed)
+            }
+        }
+    }
+}
