@@ -4,6 +4,7 @@
 mod counted;
 mod counts;
 mod decision;
+mod gate;
 mod output;
 mod policy;
 mod source;
