@@ -1,5 +1,6 @@
 pub mod Counted
 pub mod Counts
+pub mod Fault
 pub mod Gate
 pub mod Policy
 pub mod Source

@@ -4,6 +4,7 @@
 mod counted;
 mod counts;
 mod decision;
+mod fault;
 mod gate;
 mod output;
 mod policy;
@@ -14,6 +15,7 @@ mod tally;
 pub use counted::{Counted, Failed};
 pub use counts::Counts;
 pub use decision::{hits, verdict};
+pub use fault::{At, Cause, MergeFault, Source};
 pub use output::write_out;
 pub use policy::{Policy, States, Verdict};
 pub use source::{SOURCE_LIMIT, SourceFault, read_source};

@@ -1,0 +1,53 @@
+-- Why a merge is refused: the causes behind the faults of the layers below, and the program's status.
+use Rattle.std.specs.Prelude.{ℕ}
+use Rattle.sarif_records.specs.declared.fault.Fault.{Fault}
+use Rattle.sarif_records.specs.declared.fault.Fault.TheVariants as reading
+use Rattle.sarif_merge.specs.declared.source.SourceFault.{SourceFault}
+use Rattle.sarif_merge.specs.declared.source.SourceFault.TheVariants as source
+use Rattle.sarif_merge.specs.declared.fault.At.{At}
+use Rattle.sarif_merge.specs.declared.fault.At.TheVariants.{Nowhere}
+use Rattle.sarif_merge.specs.declared.fault.Cause.{Cause}
+use Rattle.sarif_merge.specs.declared.fault.Cause.TheVariants.{NotJson, NotLog, WrongVersion, BadRun, ExternalProperties, BadRules, BadIndex, BadLevel, BadKind, BadGuid, BadFingerprint, BadLocation, BadSuppression, BadMember, AbsentInput, TooMany, TooLong, ReadFailed, WriteFailed, OutOfMemory, NoWorker}
+use Rattle.sarif_merge.specs.declared.fault.MergeFault.{MergeFault}
+
+-- the cause of the same name
+abbrev pub cause_of : Fault → Cause
+cause_of reading.NotJson = NotJson
+cause_of reading.NotLog = NotLog
+cause_of reading.WrongVersion = WrongVersion
+cause_of reading.BadRun = BadRun
+cause_of reading.ExternalProperties = ExternalProperties
+cause_of reading.BadRules = BadRules
+cause_of reading.BadIndex = BadIndex
+cause_of reading.BadLevel = BadLevel
+cause_of reading.BadKind = BadKind
+cause_of reading.BadGuid = BadGuid
+cause_of reading.BadFingerprint = BadFingerprint
+cause_of reading.BadLocation = BadLocation
+cause_of reading.BadSuppression = BadSuppression
+cause_of reading.BadMember = BadMember
+cause_of reading.AbsentInput = AbsentInput
+cause_of reading.TooMany = TooMany
+cause_of reading.OutOfMemory = OutOfMemory
+
+-- the same for a source that was not read
+abbrev pub reading_cause : SourceFault → Cause
+reading_cause source.ReadFailed = ReadFailed
+reading_cause source.TooLong = TooLong
+reading_cause source.OutOfMemory = OutOfMemory
+
+-- the refusal for want of memory
+abbrev pub out_of_memory : MergeFault
+out_of_memory = record { at = Nowhere; cause = OutOfMemory }
+
+-- the cause at its place; want of memory or of a thread is nowhere
+abbrev pub fault_at : At → Cause → MergeFault
+fault_at at OutOfMemory = record { at = Nowhere; cause = OutOfMemory }
+fault_at at NoWorker = record { at = Nowhere; cause = NoWorker }
+fault_at at cause = record { at = at; cause = cause }
+
+-- the program's exit status: 3 where a read or a write failed, else 2
+abbrev pub status_of : Cause → ℕ
+status_of ReadFailed = 3
+status_of WriteFailed = 3
+status_of _ = 2
