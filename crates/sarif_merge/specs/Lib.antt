@@ -1,3 +1,4 @@
+pub mod CountOf
 pub mod Counted
 pub mod Counts
 pub mod Fault
