@@ -1,3 +1,4 @@
+pub mod Annotated
 pub mod CountOf
 pub mod Counted
 pub mod Counts
