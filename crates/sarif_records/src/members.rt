@@ -1,6 +1,6 @@
 //! Reading the members of an object by kind. A member that is null counts as absent; `wrong` is the
 //! error of a member that is of another kind.
-ghost use Rattle.std.specs.Prelude.{◌≡◌, map, option_map};
+ghost use Rattle.std.specs.Prelude.{◌≡◌, map, option_map, option_and_then};
 ghost use Rattle.sarif_records.specs.Members.{result_map};
 ghost use Rattle.serde_json.specs.View.{view};
 ghost use Rattle.sarif_records.specs.Members as said;
@@ -114,5 +114,74 @@ pub fn index_at<E: Drop>(value: &Value, name: &str, wrong: E) -> Result<Option<u
             },
             None => Err(wrong),
         },
+    }
+}
+
+/// The member `name` of an object that may be absent itself.
+pub fn member_within<'a>(value: Option<&'a Value>, name: &str) -> Option<&'a Value>
+    ensures { option_map (λ v. view v.now) result
+        ≡ option_and_then (said.member_at name.now) (option_map (λ v. view v.now) value.entry) }
+{
+    match value {
+        None => None,
+        Some(value) => member_at(value, name),
+    }
+}
+
+/// The text `name` of an object that may be absent itself.
+pub fn text_within<'a, E: Drop>(
+    value: Option<&'a Value>,
+    name: &str,
+    wrong: E,
+) -> Result<Option<&'a str>, E>
+    ensures { result_map (option_map (λ s. s.now)) result
+        ≡ said.if_there (said.text_at wrong name.now) (option_map (λ v. view v.now) value.entry) }
+{
+    match value {
+        None => Ok(None),
+        Some(value) => text_at(value, name, wrong),
+    }
+}
+
+/// The object `name` of an object that may be absent itself.
+pub fn object_within<'a, E: Drop>(
+    value: Option<&'a Value>,
+    name: &str,
+    wrong: E,
+) -> Result<Option<&'a Value>, E>
+    ensures { result_map (option_map (λ v. view v.now)) result
+        ≡ said.if_there (said.object_at wrong name.now) (option_map (λ v. view v.now) value.entry) }
+{
+    match value {
+        None => Ok(None),
+        Some(value) => object_at(value, name, wrong),
+    }
+}
+
+/// The index `name` of an object that may be absent itself.
+pub fn index_within<E: Drop>(value: Option<&Value>, name: &str, wrong: E) -> Result<Option<u32>, E>
+    ensures { result
+        ≡ said.if_there (said.index_at wrong name.now) (option_map (λ v. view v.now) value.entry) }
+{
+    match value {
+        None => Ok(None),
+        Some(value) => index_at(value, name, wrong),
+    }
+}
+
+/// The first of these, which must be an object where there is one.
+pub fn first_object<'a, E: Drop>(values: &'a [Value], wrong: E) -> Result<Option<&'a Value>, E>
+    ensures { result_map (option_map (λ v. view v.now)) result
+        ≡ said.if_object wrong (said.first_of (map view values.now)) }
+{
+    match values {
+        [] => Ok(None),
+        [first, ..] => {
+            if first.is_object() {
+                Ok(Some(first))
+            } else {
+                Err(wrong)
+            }
+        }
     }
 }
