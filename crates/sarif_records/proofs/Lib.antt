@@ -3,3 +3,5 @@ pub mod Stripped
 pub mod Utf8
 pub mod CheckEach
 pub mod NoFraction
+pub mod ReadEach
+pub mod Pairs

@@ -6,3 +6,7 @@ pub mod Stripping
 pub mod Members
 pub mod Reading
 pub mod Run
+pub mod Guid
+pub mod Fingerprints
+pub mod Suppression
+pub mod OwnMembers

@@ -2,11 +2,13 @@
 #![tactic(auto)]
 
 mod fault;
+mod guid;
 mod kinds;
 mod laws;
 mod log;
 pub mod members;
 mod message;
+mod own_members;
 mod parts;
 mod place;
 mod reading;
@@ -17,10 +19,12 @@ mod stripping;
 mod text;
 
 pub use fault::{Fault, ReadFault};
+pub use guid::read_guid;
 pub use kinds::{Kind, Level, State, Status};
 pub use laws::{stripped_holds_no_fraction, stripping_twice_is_once};
 pub use log::Log;
 pub use message::Message;
+pub use own_members::read_parts;
 pub use parts::Parts;
 pub use place::Place;
 pub use reading::{MOST_RESULTS, MOST_RUNS, driver_name, read_log, without_mark};

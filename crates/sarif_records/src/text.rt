@@ -1,5 +1,5 @@
 //! A text that contracts see as its bytes, and that is compared and hashed by them.
-ghost use Rattle.std.specs.Prelude.{◌≡◌, ℕ, List, Some, refl, bytes_eq, string_bytes, IfOk};
+ghost use Rattle.std.specs.Prelude.{◌≡◌, ℕ, List, Some, refl, bytes_eq, string_bytes, IfOk, option_map};
 ghost use Rattle.std.proofs.Common.{rules};
 ghost use Rattle.std.specs.Ordering.{nat_cmp};
 ghost use Rattle.std.specs.Hash as fed;
@@ -40,6 +40,16 @@ impl Text {
         ensures { result.now ≡ self.now }
     {
         self.content.as_str()
+    }
+}
+
+/// A copy of `text`, where there is one.
+pub(crate) fn copy_if_there(alloc: Global, text: Option<&str>) -> Result<Option<Text>, AllocError>
+    ensures { IfOk result (λ copy. copy ≡ option_map (λ s. s.now) text.entry) }
+{
+    match text {
+        None => Ok(None),
+        Some(text) => Ok(Some(Text::copy_of(alloc, text)?)),
     }
 }
 
