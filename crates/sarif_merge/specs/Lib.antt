@@ -4,6 +4,7 @@ pub mod Counted
 pub mod Counts
 pub mod Fault
 pub mod Gate
+pub mod MergedRuns
 pub mod Policy
 pub mod Source
 pub mod Summary

@@ -7,6 +7,7 @@ mod counts;
 mod decision;
 mod fault;
 mod gate;
+mod map_members;
 mod output;
 mod policy;
 mod source;
