@@ -1,5 +1,5 @@
 //! A reader or a writer that knows how many of its calls failed.
-ghost use Rattle.std.specs.Prelude.{◌≡◌, ◌<◌, ◌^◌, length, IfOk};
+ghost use Rattle.std.specs.Prelude.{◌≡◌, ◌+◌, ◌<◌, ◌^◌, length, IfOk};
 ghost use Rattle.std.specs.Io.{ReadsAtMost, WritesAtMost};
 ghost use Rattle.std.specs.Io.KnownBytes.{ReadConsumes, WriteAppends};
 ghost use Rattle.sarif_merge.specs.Counted.{inner_of, faults_of, has_failed, RisesIf};
@@ -34,10 +34,21 @@ impl<D> Counted<D> {
     {
         self.faults
     }
+
+    /// Counts a call that failed.
+    fn fail(&mut self) -> Failed
+        requires { faults_of self.old < 2 ^ 63 }
+        ensures one { faults_of self.new ≡ faults_of self.old + 1 }
+        ensures inner { inner_of self.new ≡ inner_of self.old }
+    {
+        self.faults += 1;
+        Failed
+    }
 }
 
 impl<R: Read> Counted<R> {
-    /// Hands on what the reader gives. `Failed` is answered, and counted, exactly where its call failed.
+    /// Hands on what the reader gives. `Failed` is answered, and counted, exactly where its call
+    /// failed.
     pub fn read(&mut self, buf: &mut [u8]) -> Result<usize, Failed>
         requires { faults_of self.old < 2 ^ 63 }
         ensures bound { ReadsAtMost result buf.new }
@@ -47,17 +58,14 @@ impl<R: Read> Counted<R> {
     {
         match self.inner.read(buf) {
             Ok(n) => Ok(n),
-            Err(_) => {
-                self.faults += 1;
-                Err(Failed)
-            }
+            Err(_) => Err(self.fail()),
         }
     }
 }
 
 impl<W: Write> Counted<W> {
-    /// Hands on what the writer takes. `Failed` is answered, and counted, exactly where its call failed or
-    /// took none of at least one byte.
+    /// Hands on what the writer takes. `Failed` is answered, and counted, exactly where its call
+    /// failed or took none of at least one byte.
     pub fn write(&mut self, buf: &[u8]) -> Result<usize, Failed>
         requires { faults_of self.old < 2 ^ 63 }
         ensures bound { WritesAtMost result buf.now }
@@ -68,10 +76,7 @@ impl<W: Write> Counted<W> {
     {
         match self.inner.write(buf) {
             Ok(n) if n > 0 || buf.is_empty() => Ok(n),
-            _ => {
-                self.faults += 1;
-                Err(Failed)
-            }
+            _ => Err(self.fail()),
         }
     }
 }

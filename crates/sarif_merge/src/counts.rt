@@ -5,15 +5,16 @@ ghost use Rattle.sarif_merge.specs.Tally.{tally_total};
 use crate::tally::Tally;
 use sarif_records::{Level, State};
 
-/// The results of a merged log, counted by baseline state, level, and active or suppressed. It holds
-/// fewer than 2^32.
+/// The results of a merged log, counted by baseline state, level, and active or suppressed: fewer
+/// than 2^32 of them.
 #[derive(Clone, Copy, Debug, PartialEq, Eq)]
 pub struct Counts {
     absent: Tally,
     fresh: Tally,
     unchanged: Tally,
     updated: Tally,
-    ghost few: { tally_total absent + tally_total fresh + tally_total unchanged + tally_total updated < 2 ^ 32 },
+    ghost few: { tally_total absent + tally_total fresh
+        + tally_total unchanged + tally_total updated < 2 ^ 32 },
 }
 
 impl Counts {

@@ -80,7 +80,8 @@ fn counts_value(alloc: Global, counts: &Counts) -> Result<Value, AllocError>
 }
 
 fn tally_value(alloc: Global, tally: Tally) -> Result<Value, AllocError>
-    ensures { IfOk result (λ v. view v ≡ state_data (λ level side. at_level (at_side tally side) level)) }
+    ensures { IfOk result
+        (λ v. view v ≡ state_data (λ level side. at_level (at_side tally side) level)) }
 {
     let active = levels_value(alloc, tally.active)?;
     let suppressed = levels_value(alloc, tally.suppressed)?;
@@ -114,7 +115,8 @@ fn push_listed(
     states: States,
     state: State,
 ) -> Result<(), AllocError>
-    ensures { OnOk result (map view names.new.items ≡ map view names.old.items ++ if_listed states state) }
+    ensures { OnOk result
+        (map view names.new.items ≡ map view names.old.items ++ if_listed states state) }
 {
     if states.lists(state) {
         let name = Value::try_from_str(alloc, state.name())?;

@@ -13,6 +13,8 @@ mod policy;
 mod source;
 mod table;
 mod tally;
+#[cfg(test)]
+mod tests;
 
 pub use counted::{Counted, Failed};
 pub use counts::Counts;

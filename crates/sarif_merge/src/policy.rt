@@ -29,7 +29,8 @@ impl States {
     }
 }
 
-/// When the gate fails: where more than `max` active results of the listed states are at least of level `fail_on`.
+/// When the gate fails: where more than `max` active results of the listed states are at least of
+/// level `fail_on`.
 #[derive(Clone, Copy, Debug, PartialEq, Eq)]
 pub struct Policy {
     /// The least level that counts.

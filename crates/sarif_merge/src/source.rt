@@ -39,8 +39,9 @@ impl From<AllocError> for SourceFault {
     }
 }
 
-/// All bytes up to the read that gives none. It stops at the first read that fails, of whatever cause, and
-/// after one byte past the limit, so also where the reader has no end. What was read stays read.
+/// All bytes up to the read that gives none. It stops at the first read that fails, of whatever
+/// cause, and after one byte past the limit, so also where the reader has no end. What was read
+/// stays read.
 pub fn read_source<R: Read>(alloc: Global, source: &mut Counted<R>) -> Result<Vec<u8>, SourceFault>
     requires { faults_of source.old < 2 ^ 63 }
     ensures bytes { IfOk result (λ v. Consumes (R.remaining (inner_of source.old))
@@ -49,7 +50,8 @@ pub fn read_source<R: Read>(alloc: Global, source: &mut Counted<R>) -> Result<Ve
     ensures within { IfOk result (λ v. IsWithinLimit v.items) }
     ensures too_long { result ≡ Err SourceFault.TooLong
         → IfSome (R.remaining (inner_of source.old)) IsPastLimit }
-    ensures counted { RisesIf (read_has_failed result) (faults_of source.old) (faults_of source.new) }
+    ensures counted { RisesIf (read_has_failed result)
+        (faults_of source.old) (faults_of source.new) }
 {
     let mut buffer = zeros(alloc, BUFFER)?;
     read_through(alloc, source, buffer.as_mut_slice())
@@ -69,7 +71,8 @@ fn read_through<R: Read>(
     ensures within { IfOk result (λ v. IsWithinLimit v.items) }
     ensures too_long { result ≡ Err SourceFault.TooLong
         → IfSome (R.remaining (inner_of source.old)) IsPastLimit }
-    ensures counted { RisesIf (read_has_failed result) (faults_of source.old) (faults_of source.new) }
+    ensures counted { RisesIf (read_has_failed result)
+        (faults_of source.old) (faults_of source.new) }
 {
     let mut bytes = Vec::new(alloc);
     loop {

@@ -35,7 +35,8 @@ pub fn summary(alloc: Global, counts: &Counts, policy: &Policy) -> Result<String
 
 /// The line of one state.
 fn state_row(alloc: Global, counts: &Counts, state: State) -> Result<String, AllocError>
-    ensures { IfOk result (λ s. string_bytes s ≡ row_of (name_column state) (count_at counts.now state)) }
+    ensures { IfOk result
+        (λ s. string_bytes s ≡ row_of (name_column state) (count_at counts.now state)) }
 {
     let row = tally_row(alloc, padded_name(state), counts.of(state))?;
     Ok(row)
@@ -57,7 +58,8 @@ fn padded_name(state: State) -> &'static str
 fn tally_row(alloc: Global, name: &str, tally: Tally) -> Result<String, AllocError>
     requires { tally_total tally < 2 ^ 32 }
     ensures { IfOk result
-        (λ s. string_bytes s ≡ row_of name.now (λ level side. at_level (at_side tally side) level)) }
+        (λ s. string_bytes s
+        ≡ row_of name.now (λ level side. at_level (at_side tally side) level)) }
 {
     let error = tally.active.error;
     let warning = tally.active.warning;
