@@ -4,6 +4,8 @@ pub mod Counted
 pub mod Counts
 pub mod Fault
 pub mod Gate
+pub mod Inputs
+pub mod SourceFaults
 pub mod MergedRuns
 pub mod Policy
 pub mod Source

@@ -31,12 +31,12 @@ own_results ms = option_and_then as_array (get_member (codes "results") ms)
 
 -- which suppressions are written for a result with that record and those suppressions of its own
 abbrev pub Listing : Type 0
-Listing = Record → Items → Items
+Listing = Record → List Data → List Data
 
 -- a result as it is written, by its record and its baseline state
 abbrev pub written : Listing → Record → State → Data → Data
 written listed r state =
-    on_members (λ ms. annotated_members r.level state (listed r (own_suppressions ms)) ms)
+    on_members (λ ms. annotated_members r.level state (items_of (listed r (elements (own_suppressions ms)))) ms)
 
 -- ---- input runs
 

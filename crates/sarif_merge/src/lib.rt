@@ -13,6 +13,7 @@ mod policy;
 mod source;
 mod table;
 mod tally;
+mod written;
 #[cfg(test)]
 mod tests;
 
