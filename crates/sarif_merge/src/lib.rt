@@ -1,6 +1,7 @@
 //! The merge of SARIF 2.1.0 logs: its counts, its gate, its faults, and how it reads and writes.
 #![tactic(auto)]
 
+mod absent;
 mod annotate;
 mod counted;
 mod counts;

@@ -29,7 +29,7 @@ pub use parts::Parts;
 pub use place::Place;
 pub use reading::{MOST_RESULTS, MOST_RUNS, driver_name, read_log, without_mark};
 pub use record::Record;
-pub use run::RawRun;
+pub use run::{RawRun, is_marked_absent};
 pub use sequence::{Pairs, Sequence};
 pub use stripping::{strip, strip_in_place};
 pub use text::Text;
