@@ -1,0 +1,9 @@
+use Rattle.std.proofs.Common.{◌≡◌, map, drop}
+use Rattle.serde_json.specs.View.{view}
+use Rattle.sarif_rules.specs.Reading.{before, read_each}
+use Rattle.sarif_rules.specs.Rules.{rules_of}
+use Rattle.sarif_rules.proofs.open.read_extensions.Given as goal
+
+abbrev pub invariant-loop-extension : goal.invariant-loop-extension
+invariant-loop-extension l =
+    before l.components (read_each rules_of (map view (drop l.extension-index l.extensions))) ≡ before l.fn.components (read_each rules_of (map view l.extensions))

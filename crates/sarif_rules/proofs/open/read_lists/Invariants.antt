@@ -1,0 +1,9 @@
+use Rattle.std.proofs.Common.{◌≡◌, map, drop}
+use Rattle.serde_json.specs.View.{view}
+use Rattle.sarif_rules.specs.Reading.{before, read_each}
+use Rattle.sarif_rules.specs.Overrides.{override_of}
+use Rattle.sarif_rules.proofs.open.read_lists.Given as goal
+
+abbrev pub invariant-loop-list : goal.invariant-loop-list
+invariant-loop-list l =
+    before l.invocations (read_each (read_each (override_of l.components)) (map (λ s. map view s.now) (drop l.list-index l.lists))) ≡ read_each (read_each (override_of l.components)) (map (λ s. map view s.now) l.lists)

@@ -1,0 +1,7 @@
+pub mod Reading
+pub mod Rules
+pub mod Descriptor
+pub mod Overrides
+pub mod Level
+pub mod Place
+pub mod Head

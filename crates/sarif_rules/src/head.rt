@@ -1,0 +1,216 @@
+//! What of a run its results need, and what it gives a result.
+ghost use Rattle.std.specs.Prelude.{◌≡◌, IfOk, IfErr, option_map};
+ghost use Rattle.sarif_records.specs.declared.fault.Fault.TheVariants.{OutOfMemory};
+ghost use Rattle.sarif_rules.specs.Reading.{Gives};
+ghost use Rattle.sarif_rules.specs.Descriptor.{Reference, reference_of, descriptor_of, rule_number};
+ghost use Rattle.sarif_rules.specs.Level as effective;
+ghost use Rattle.sarif_rules.specs.Place.{place_of, place_by};
+
+use crate::component::Component;
+use crate::invocation::Invocation;
+use sarif_records::{Fault, Kind, Level, Parts, Place, Sequence, Text};
+use std::alloc::AllocError;
+
+/// The rules, overrides and artifacts of a run.
+#[derive(Drop)]
+pub struct RunHead {
+    pub(crate) components: Sequence<Component>,
+    pub(crate) invocations: Sequence<Invocation>,
+    pub(crate) artifacts: Sequence<Place>,
+}
+
+impl RunHead {
+    /// The component and the place of the result's rule, if it has one (SARIF 2.1.0, "rule property"). Component 0
+    /// is the driver, `k + 1` the extension `k`. Takes no memory.
+    ///
+    /// `BadIndex` where the component or the rule is past its table.
+    pub fn descriptor(&self, parts: &Parts) -> Result<Option<(usize, usize)>, Fault>
+        ensures { result ≡ descriptor_of self.now.components (reference_of parts.now) }
+    {
+        let id = match &parts.rule_id {
+            Some(id) => Some(id.as_str()),
+            None => None,
+        };
+        find_descriptor(
+            self.components.as_slice(),
+            parts.component,
+            parts.rule_index,
+            id,
+        )
+    }
+
+    /// The effective level of the result (SARIF 2.1.0, "level property"). Takes no memory.
+    ///
+    /// `BadIndex` where the descriptor or the invocation is past its table, needed or not.
+    pub fn level(&self, parts: &Parts) -> Result<Level, Fault>
+        ensures { result ≡ effective.level_of self.now parts.now }
+    {
+        let descriptor = self.descriptor(parts)?;
+        self.level_with(parts, descriptor)
+    }
+
+    /// The effective level of a result with that descriptor.
+    pub(crate) fn level_with(
+        &self,
+        parts: &Parts,
+        descriptor: Option<(usize, usize)>,
+    ) -> Result<Level, Fault>
+        ensures { result ≡ effective.level_with self.now parts.now descriptor }
+    {
+        let overriding = self.overriding_level(parts.invocation, descriptor)?;
+        let default = self.default_level(descriptor);
+        Ok(first_level(parts.kind, parts.level, overriding, default))
+    }
+
+    // The level of the first override of the invocation that specifies the descriptor.
+    fn overriding_level(
+        &self,
+        invocation: Option<u32>,
+        descriptor: Option<(usize, usize)>,
+    ) -> Result<Option<Level>, Fault>
+        ensures { result
+            ≡ effective.overriding_level_at self.now.invocations invocation descriptor }
+    {
+        let Some(number) = invocation else {
+            return Ok(None);
+        };
+        let Some(chosen) = self.invocations.as_slice().get(number as usize) else {
+            return Err(Fault::BadIndex);
+        };
+        match descriptor {
+            Some(descriptor) => Ok(chosen.level_of(descriptor)),
+            None => Ok(None),
+        }
+    }
+
+    // The default level of the descriptor's rule.
+    fn default_level(&self, descriptor: Option<(usize, usize)>) -> Option<Level>
+        ensures { result ≡ effective.default_level self.now.components descriptor }
+    {
+        let (component, place) = descriptor?;
+        self.components
+            .as_slice()
+            .get(component)?
+            .rules()
+            .get(place)?
+            .level
+    }
+
+    /// The artifact of the result's first location (SARIF 2.1.0, "artifactLocation object").
+    ///
+    /// `BadIndex` where there is no `uri` and the artifact is past its table; `OutOfMemory`.
+    pub fn place(&self, parts: &Parts) -> Result<Place, Fault>
+        ensures ok { IfOk result (λ place. place_of self.now.artifacts parts.now ≡ Ok place) }
+        ensures err { IfErr result (λ fault. (fault ≡ OutOfMemory → ⊥)
+            → place_of self.now.artifacts parts.now ≡ Err fault) }
+    {
+        let uri = copied(&parts.uri)?;
+        let base = copied(&parts.base)?;
+        self.place_with(uri, base, parts.artifact)
+    }
+
+    /// The place of a result whose location has this `uri`, `uriBaseId` and `index`.
+    pub(crate) fn place_with(
+        &self,
+        uri: Option<Text>,
+        base: Option<Text>,
+        artifact: Option<u32>,
+    ) -> Result<Place, Fault>
+        ensures { Gives result (place_by self.now.artifacts uri base artifact) }
+    {
+        if uri.is_some() {
+            return Ok(Place { uri, base });
+        }
+        let Some(index) = artifact else {
+            return Ok(Place {
+                uri: None,
+                base: None,
+            });
+        };
+        let Some(named) = self.artifacts.as_slice().get(index as usize) else {
+            return Err(Fault::BadIndex);
+        };
+        let uri = copied(&named.uri)?;
+        let base = copied(&named.base)?;
+        Ok(Place { uri, base })
+    }
+}
+
+// The first level that applies to a result of that kind.
+fn first_level(
+    kind: Kind,
+    own: Option<Level>,
+    overriding: Option<Level>,
+    default: Option<Level>,
+) -> Level
+    ensures { result ≡ effective.first_level (effective.is_fail kind) own overriding default }
+{
+    match kind {
+        Kind::Fail => match (own, overriding, default) {
+            (Some(level), _, _) => level,
+            (None, Some(level), _) => level,
+            (None, None, Some(level)) => level,
+            (None, None, None) => Level::Warning,
+        },
+        _ => Level::NoLevel,
+    }
+}
+
+// A copy of a text, where there is one.
+fn copied(text: &Option<Text>) -> Result<Option<Text>, AllocError>
+    ensures { IfOk result (λ copy. copy ≡ text.now) }
+{
+    match text {
+        Some(text) => Ok(Some(text.clone()?)),
+        None => Ok(None),
+    }
+}
+
+/// The component and the place of the rule that is named by its extension, its index and its id.
+///
+/// `BadIndex` where the component or the index is past its table.
+pub(crate) fn find_descriptor(
+    components: &[Component],
+    component: Option<u32>,
+    index: Option<u32>,
+    id: Option<&str>,
+) -> Result<Option<(usize, usize)>, Fault>
+    ensures { result ≡ descriptor_of components.now
+        (record { component = component; index = index; id = option_map (λ s. s.now) id.entry }) }
+{
+    let number = match component {
+        Some(extension) => extension as usize + 1,
+        None => 0,
+    };
+    let Some(chosen) = components.get(number) else {
+        return Err(Fault::BadIndex);
+    };
+    match find_rule(chosen, index, id)? {
+        Some(place) => Ok(Some((number, place))),
+        None => Ok(None),
+    }
+}
+
+// The place of the rule with that index, else of the first with that id.
+fn find_rule(
+    component: &Component,
+    index: Option<u32>,
+    id: Option<&str>,
+) -> Result<Option<usize>, Fault>
+    ensures { result ≡ rule_number component.now index (option_map (λ s. s.now) id.entry) }
+{
+    match index {
+        Some(index) => {
+            let place = index as usize;
+            if place < component.rules().len() {
+                Ok(Some(place))
+            } else {
+                Err(Fault::BadIndex)
+            }
+        }
+        None => match id {
+            Some(id) => Ok(component.first_with_id(id)),
+            None => Ok(None),
+        },
+    }
+}
