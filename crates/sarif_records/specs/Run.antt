@@ -1,5 +1,5 @@
 -- What the results of a run are (SARIF 2.1.0, run object, "results property").
-use Rattle.std.specs.Prelude.{◌≡◌, ℕ, Bool, false, List, [], ◌∷◌, Option, Some, None, codes, bytes_eq, is_some, option_map, option_and_then, unwrap_or, slice_index_or}
+use Rattle.std.specs.Prelude.{◌≡◌, ℕ, ◌+◌, length, Bool, false, List, [], ◌∷◌, Option, Some, None, codes, bytes_eq, is_some, option_map, option_and_then, unwrap_or, slice_index_or}
 use Rattle.serde_json.specs.Data.{Data, null, Items}
 use Rattle.serde_json.specs.Find.{get, as_str, as_array}
 use Rattle.sarif_records.specs.Members.{elements}
@@ -27,3 +27,8 @@ is_text text found = unwrap_or (option_map (bytes_eq text) found) false
 abbrev pub is_absent_result : Data → Bool
 is_absent_result result =
     is_text (codes "absent") (option_and_then as_str (get (codes "baselineState") result))
+
+-- how many results these runs have
+abbrev pub results_total : List Data → ℕ
+results_total [] = 0
+results_total (run ∷ runs) = length (results_of run) + results_total runs

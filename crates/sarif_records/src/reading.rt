@@ -1,7 +1,7 @@
 //! Reading a log: JSON, stripping, and the form of the log and of its runs.
 ghost use Rattle.std.specs.Prelude.{◌≡◌, ◌≤◌, ◌+◌, Ok, Err, Some, None, map, length, IfOk, IfErr, OnOk, option_map};
 ghost use Rattle.serde_json.specs.View.{view, items_view};
-ghost use Rattle.sarif_records.specs.Run.{results_of, elements_or_none};
+ghost use Rattle.sarif_records.specs.Run.{results_of, results_total, elements_or_none};
 ghost use Rattle.serde_json.specs.Find.{as_array};
 ghost use Rattle.sarif_records.specs.Reading as said;
 ghost use Rattle.sarif_records.specs.declared.fault.Fault.TheVariants.{NotJson, OutOfMemory};
@@ -209,6 +209,7 @@ fn check_each(alloc: Global, values: Vec<Value>) -> Result<Vec<RawRun>, ReadFaul
     requires { length values.items ≤ 10000 }
     ensures ok { IfOk result (λ runs. (runs.items ≡ values.items)
         × (said.check_each 0 0 (map view values.items) ≡ Ok tt)) }
+    ensures few { IfOk result (λ runs. results_total (map view runs.items) ≤ 1000000) }
     ensures err { IfErr result (λ e. ¬ (e.fault ≡ OutOfMemory)
         → said.check_each 0 0 (map view values.items) ≡ Err e) }
 {
@@ -235,6 +236,7 @@ fn check_each(alloc: Global, values: Vec<Value>) -> Result<Vec<RawRun>, ReadFaul
 #[tactic(auto, unfolding(crate::specs::Reading::log_of_value))]
 fn log_of_value(alloc: Global, log: Value) -> Result<Log, ReadFault>
     ensures ok { IfOk result (λ runs. said.log_of_value (view log) ≡ Ok (map view runs)) }
+    ensures few { IfOk result (λ runs. results_total (map view runs) ≤ 1000000) }
     ensures err { IfErr result (λ e. ¬ (e.fault ≡ OutOfMemory)
         → said.log_of_value (view log) ≡ Err e) }
 {
@@ -250,6 +252,7 @@ fn log_of_value(alloc: Global, log: Value) -> Result<Log, ReadFault>
 #[tactic(auto, unfolding(crate::specs::Reading::log_of))]
 pub fn read_log(alloc: Global, bytes: &[u8]) -> Result<Log, ReadFault>
     ensures ok { IfOk result (λ log. said.log_of bytes.now ≡ Ok (map view log)) }
+    ensures few { IfOk result (λ log. results_total (map view log) ≤ 1000000) }
     ensures err { IfErr result (λ e. ¬ (e.fault ≡ OutOfMemory) → said.log_of bytes.now ≡ Err e) }
 {
     let mut value = read_json(alloc, without_mark(bytes))?;

@@ -1,8 +1,9 @@
-use Rattle.std.proofs.Common.{rules, ◌≡◌, [], ◌++◌, ◌∷◌, map, sym, ap, ◌∙◌, arith}
+use Rattle.std.proofs.Common.{rules, ◌≡◌, ◌+◌, length, [], ◌++◌, ◌∷◌, map, sym, ap, ◌∙◌, arith}
 use Rattle.std.proofs.lemmas.Grind.{common_steps}
 use Rattle.serde_json.specs.View.{view}
 use Rattle.sarif_records.specs.Reading as said
-use Rattle.sarif_records.proofs.CheckEach.{goes_on, stops, at_end}
+use Rattle.sarif_records.proofs.CheckEach.{goes_on, stops, at_end, results_total_push}
+use Rattle.sarif_records.specs.Run.{results_of, results_total}
 use Rattle.sarif_records.proofs.reading.check_each.Goals as goal
 
 pub returns-in-Err-clause-err : goal.returns-in-Err-clause-err
@@ -20,6 +21,9 @@ loop-value-preserved c =
       parts = grind (arith, common_steps, rest);
       number = grind (arith, common_steps);
       few = c.in-Ok.ensures.few.0;
+      sum =
+        let more : results_total (map view (c.loop-value.yielded ++ c.in-Some.value ∷ [])) ≡ results_total (map view c.loop-value.yielded) + length (results_of (view c.in-Some.value)) = results_total_push c.loop-value.yielded c.in-Some.value in
+        omega (arith, more, c.in-Ok.ensures.few.1, c.loop-value.invariant.sum);
       runs = grind (arith, common_steps);
       told = on ∙ ap (λ vs. said.check_each c.loop-value.number c.loop-value.before (map view vs)) (sym rest) ∙ c.loop-value.invariant.told;
     }
