@@ -5,3 +5,4 @@ pub mod Overrides
 pub mod Level
 pub mod Place
 pub mod Head
+pub mod Record

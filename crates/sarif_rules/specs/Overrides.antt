@@ -3,10 +3,10 @@ use Rattle.std.specs.Prelude.{ℕ, Bool, false, ◌&&◌, nat_eq, List, codes, O
 use Rattle.serde_json.specs.Data.{Data}
 use Rattle.sarif_records.specs.declared.fault.Fault.{Fault}
 use Rattle.sarif_records.specs.declared.fault.Fault.TheVariants.{BadMember, BadIndex}
-use Rattle.sarif_records.specs.Members.{◌>>=◌, text_at, object_at, objects_at, index_at}
+use Rattle.sarif_records.specs.Members.{◌>>=◌, text_at, object_at, objects_at, index_at, read_each, if_there}
 use Rattle.sarif_rules.specs.declared.component.Rule.{Rule}
 use Rattle.sarif_rules.specs.declared.invocation.Override.{Override}
-use Rattle.sarif_rules.specs.Reading.{read_each, if_there, level_at}
+use Rattle.sarif_rules.specs.Reading.{level_at}
 use Rattle.sarif_rules.specs.Descriptor.{descriptor_of}
 
 -- an override: the descriptor that it specifies, if it specifies one, and `configuration.level`

@@ -6,8 +6,7 @@ use Rattle.sarif_records.specs.declared.fault.Fault.{Fault}
 use Rattle.sarif_records.specs.declared.fault.Fault.TheVariants.{BadLocation, BadIndex}
 use Rattle.sarif_records.specs.declared.parts.Parts.{Parts}
 use Rattle.sarif_records.specs.declared.place.Place.{Place}
-use Rattle.sarif_records.specs.Members.{◌>>=◌, text_at, object_at, objects_at}
-use Rattle.sarif_rules.specs.Reading.{read_each, if_there}
+use Rattle.sarif_records.specs.Members.{◌>>=◌, text_at, object_at, objects_at, read_each, if_there}
 
 -- `uri` and `uriBaseId` of an artifact's `location`; its `index` is followed nowhere
 unfoldable pub artifact_of : Data → Result Place Fault

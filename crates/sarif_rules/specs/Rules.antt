@@ -5,9 +5,9 @@ use Rattle.serde_json.specs.Data.{Data}
 use Rattle.serde_json.specs.Find.{get}
 use Rattle.sarif_records.specs.declared.fault.Fault.{Fault}
 use Rattle.sarif_records.specs.declared.fault.Fault.TheVariants.{BadRules}
-use Rattle.sarif_records.specs.Members.{◌>>=◌, text_at, object_at, elements_at, objects_at}
+use Rattle.sarif_records.specs.Members.{◌>>=◌, text_at, object_at, elements_at, objects_at, read_each, if_there}
 use Rattle.sarif_rules.specs.declared.component.Rule.{Rule}
-use Rattle.sarif_rules.specs.Reading.{read_each, if_there, list_if_there, level_at}
+use Rattle.sarif_rules.specs.Reading.{list_if_there, level_at}
 
 -- a text that must be there
 abbrev pub required : {X : Type 0} → Option X → Result X Fault

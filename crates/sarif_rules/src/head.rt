@@ -1,15 +1,17 @@
 //! What of a run its results need, and what it gives a result.
-ghost use Rattle.std.specs.Prelude.{◌≡◌, IfOk, IfErr, option_map};
+ghost use Rattle.std.specs.Prelude.{◌≡◌, IfOk, IfErr, option_map, option_and_then};
+ghost use Rattle.std.specs.Option.{option_copied};
 ghost use Rattle.sarif_records.specs.declared.fault.Fault.TheVariants.{OutOfMemory};
 ghost use Rattle.sarif_rules.specs.Reading.{Gives};
 ghost use Rattle.sarif_rules.specs.Descriptor.{Reference, reference_of, descriptor_of, rule_number};
 ghost use Rattle.sarif_rules.specs.Level as effective;
+ghost use Rattle.sarif_rules.specs.Record.{rule_id_of};
 ghost use Rattle.sarif_rules.specs.Place.{place_of, place_by};
 
-use crate::component::Component;
+use crate::component::{Component, Rule};
 use crate::invocation::Invocation;
 use sarif_records::{Fault, Kind, Level, Parts, Place, Sequence, Text};
-use std::alloc::AllocError;
+use std::alloc::{AllocError, Global};
 
 /// The rules, overrides and artifacts of a run.
 #[derive(Drop)]
@@ -83,17 +85,42 @@ impl RunHead {
         }
     }
 
-    // The default level of the descriptor's rule.
-    fn default_level(&self, descriptor: Option<(usize, usize)>) -> Option<Level>
-        ensures { result ≡ effective.default_level self.now.components descriptor }
+    /// The rule id of a result: its own, else its rule's, else the empty text (SARIF 2.1.0, "ruleId property").
+    pub(crate) fn rule_id(
+        &self,
+        alloc: Global,
+        own: Option<Text>,
+        descriptor: Option<(usize, usize)>,
+    ) -> Result<Text, AllocError>
+        ensures { IfOk result (λ id. id ≡ rule_id_of self.now.components own descriptor) }
+    {
+        if let Some(id) = own {
+            return Ok(id);
+        }
+        match self.rule(descriptor) {
+            Some(rule) => rule.id.clone(),
+            None => Text::copy_of(alloc, ""),
+        }
+    }
+
+    // The rule of a descriptor.
+    fn rule(&self, descriptor: Option<(usize, usize)>) -> Option<&Rule>
+        ensures { option_copied result
+            ≡ option_and_then (effective.rule_at self.now.components) descriptor }
     {
         let (component, place) = descriptor?;
         self.components
             .as_slice()
             .get(component)?
             .rules()
-            .get(place)?
-            .level
+            .get(place)
+    }
+
+    // The default level of the descriptor's rule.
+    fn default_level(&self, descriptor: Option<(usize, usize)>) -> Option<Level>
+        ensures { result ≡ effective.default_level self.now.components descriptor }
+    {
+        self.rule(descriptor)?.level
     }
 
     /// The artifact of the result's first location (SARIF 2.1.0, "artifactLocation object").

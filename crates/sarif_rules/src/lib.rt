@@ -5,10 +5,12 @@
 mod component;
 mod head;
 mod invocation;
+mod making;
 mod open;
 mod reading;
 
 pub use component::{Component, Rule};
 pub use head::RunHead;
 pub use invocation::{Invocation, Override};
+pub use making::make_record;
 pub use open::open_run;

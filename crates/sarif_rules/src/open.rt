@@ -1,9 +1,9 @@
 //! Reading the rules, overrides and artifacts of a run.
 ghost use Rattle.std.specs.Prelude.{◌≡◌, IfOk, IfErr, map, option_map};
 ghost use Rattle.sarif_records.specs.declared.fault.Fault.TheVariants.{OutOfMemory, BadMember};
-ghost use Rattle.sarif_records.specs.Members.{objects_at};
+ghost use Rattle.sarif_records.specs.Members.{objects_at, read_each};
 ghost use Rattle.serde_json.specs.View.{view};
-ghost use Rattle.sarif_rules.specs.Reading.{Gives, before, list_if_there, read_each};
+ghost use Rattle.sarif_rules.specs.Reading.{Gives, before, list_if_there};
 ghost use Rattle.sarif_rules.specs.Rules.{rule_of, rules_of, driver_of, components_of};
 ghost use Rattle.sarif_rules.specs.Overrides.{override_of, override_lists, invocations_of};
 ghost use Rattle.sarif_rules.specs.Place.{artifact_of, artifacts_of};
@@ -12,8 +12,10 @@ ghost use Rattle.sarif_rules.specs.Head.{head_of};
 use crate::component::{Component, Rule};
 use crate::head::{RunHead, find_descriptor};
 use crate::invocation::{Invocation, Override};
-use crate::reading::{index_in, level_in, object_in, objects_in, text_in};
-use sarif_records::members::{elements_at, object_at, objects_at, text_at};
+use crate::reading::{level_within, objects_within};
+use sarif_records::members::{
+    elements_at, index_within, object_at, object_within, objects_at, text_at, text_within,
+};
 use sarif_records::{Fault, Place, RawRun, Sequence, Text};
 use serde_json::Value;
 use std::alloc::{AllocError, Global};
@@ -48,7 +50,7 @@ pub fn open_run(alloc: Global, run: &RawRun) -> Result<RunHead, Fault>
 fn read_components(alloc: Global, run: &Value) -> Result<Sequence<Component>, Fault>
     ensures { Gives result (components_of (view run.now)) }
 {
-    let extensions = objects_in(run.get("tool"), "extensions", Fault::BadRules)?;
+    let extensions = objects_within(run.get("tool"), "extensions", Fault::BadRules)?;
     let driver = read_driver(alloc, driver_of(run))?;
     let mut components = Sequence::new(alloc);
     components.push(driver)?;
@@ -114,7 +116,7 @@ fn read_rule(alloc: Global, rule: &Value) -> Result<Rule, Fault>
     let Some(id) = text_at(rule, "id", Fault::BadRules)? else {
         return Err(Fault::BadRules);
     };
-    let level = level_in(object_at(rule, "defaultConfiguration", Fault::BadRules)?)?;
+    let level = level_within(object_at(rule, "defaultConfiguration", Fault::BadRules)?)?;
     let id = Text::copy_of(alloc, id)?;
     Ok(Rule { id, level })
 }
@@ -143,8 +145,8 @@ fn read_artifact(alloc: Global, artifact: &Value) -> Result<Place, Fault>
     ensures { Gives result (artifact_of (view artifact.now)) }
 {
     let location = object_at(artifact, "location", Fault::BadLocation)?;
-    let uri = text_in(location, "uri", Fault::BadLocation)?;
-    let base = text_in(location, "uriBaseId", Fault::BadLocation)?;
+    let uri = text_within(location, "uri", Fault::BadLocation)?;
+    let base = text_within(location, "uriBaseId", Fault::BadLocation)?;
     let uri = copy_if_there(alloc, uri)?;
     let base = copy_if_there(alloc, base)?;
     Ok(Place { uri, base })
@@ -228,12 +230,12 @@ fn read_override(components: &[Component], entry: &Value) -> Result<Override, Fa
     ensures { result ≡ override_of components.now (view entry.now) }
 {
     let named = object_at(entry, "descriptor", Fault::BadMember)?;
-    let id = text_in(named, "id", Fault::BadMember)?;
-    let component = object_in(named, "toolComponent", Fault::BadMember)?;
+    let id = text_within(named, "id", Fault::BadMember)?;
+    let component = object_within(named, "toolComponent", Fault::BadMember)?;
     let configuration = object_at(entry, "configuration", Fault::BadMember)?;
-    let index = index_in(named, "index")?;
-    let extension = index_in(component, "index")?;
+    let index = index_within(named, "index", Fault::BadIndex)?;
+    let extension = index_within(component, "index", Fault::BadIndex)?;
     let descriptor = find_descriptor(components, extension, index, id)?;
-    let level = level_in(configuration)?;
+    let level = level_within(configuration)?;
     Ok(Override { descriptor, level })
 }

@@ -1,6 +1,7 @@
 use Rattle.std.proofs.Common.{◌≡◌, map, drop}
 use Rattle.serde_json.specs.View.{view}
-use Rattle.sarif_rules.specs.Reading.{before, read_each}
+use Rattle.sarif_records.specs.Members.{read_each}
+use Rattle.sarif_rules.specs.Reading.{before}
 use Rattle.sarif_rules.specs.Overrides.{override_of}
 use Rattle.sarif_rules.proofs.open.read_lists.Given as goal
 
