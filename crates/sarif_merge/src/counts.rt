@@ -68,3 +68,13 @@ impl Counts {
         }
     }
 }
+
+impl Default for Counts {
+    ghost use Rattle.sarif_merge.specs.Counts.{HoldsNothing};
+
+    ghost is_default = { λ counts. HoldsNothing counts };
+
+    fn default() -> Counts {
+        Counts::new()
+    }
+}
