@@ -1,5 +1,5 @@
 -- What a written result adds to the counts of its log.
-use Rattle.std.proofs.Common.{◌≡◌, ℕ, Bool, true, false, ◌&&◌, Option, Some, refl, ap, ◌∙◌}
+use Rattle.std.proofs.Common.{◌≡◌, Bool, ◌&&◌, Option, Some, refl, ap, ◌∙◌}
 use Rattle.std.specs.Prelude.{codes, bytes_eq, option_and_then}
 use Rattle.serde_json.specs.Data.{Data, string}
 use Rattle.serde_json.specs.Find.{get, as_str}

@@ -1,9 +1,7 @@
 -- The gate object holds whole numbers alone.
-use Rattle.std.proofs.Common.{◌≡◌, ℕ, List, [], ◌∷◌, ◌++◌, Bool, true, false, refl}
-use Rattle.serde_json.specs.Data.{Data}
+use Rattle.std.proofs.Common.{◌≡◌, ℕ, Bool, true, false, refl}
 use Rattle.serde_json.specs.View.{items_of}
 use Rattle.serde_json.specs.Written.{has_float, items_have_float}
-use Rattle.sarif_merge.specs.declared.policy.States.{States}
 use Rattle.sarif_merge.specs.declared.policy.Policy.{Policy}
 use Rattle.sarif_merge.specs.Policy.{Count}
 use Rattle.sarif_merge.specs.Gate.{gate_of, listed_names}

@@ -1,5 +1,5 @@
 -- Two counts that agree everywhere are one, so that what is said of the counts that the code holds is said of the log's.
-use Rattle.std.proofs.Common.{◌≡◌, Bool, ap}
+use Rattle.std.proofs.Common.{◌≡◌, Bool}
 use mathlib.Core.Path.{fun_ext}
 use Rattle.sarif_records.specs.declared.kinds.Level.{Level}
 use Rattle.sarif_records.specs.declared.kinds.State.{State}

@@ -173,7 +173,7 @@ pub struct MergeFault {
 
 impl MergeFault {
     /// The cause at this place; want of memory or of a thread is nowhere.
-    pub fn found(at: At, cause: Cause) -> MergeFault
+    pub(crate) fn found(at: At, cause: Cause) -> MergeFault
         ensures { result ≡ fault_at at cause }
     {
         match cause {

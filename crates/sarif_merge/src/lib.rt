@@ -24,5 +24,5 @@ pub use decision::{hits, verdict};
 pub use fault::{At, Cause, MergeFault, Source};
 pub use output::write_out;
 pub use policy::{Policy, States, Verdict};
-pub use source::{SOURCE_LIMIT, SourceFault, read_source};
+pub use source::{SourceFault, read_source};
 pub use table::summary;

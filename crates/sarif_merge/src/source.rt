@@ -10,7 +10,7 @@ use std::io::Read;
 use thiserror::Error;
 
 /// How many bytes a source may have.
-pub const SOURCE_LIMIT: usize = 67_108_864;
+const SOURCE_LIMIT: usize = 67_108_864;
 
 /// How many bytes one read asks for.
 const BUFFER: usize = 65_536;

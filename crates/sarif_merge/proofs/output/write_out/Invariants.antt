@@ -1,4 +1,4 @@
-use Rattle.std.proofs.Common.{◌≡◌, ◌-◌, ◌≤◌, ℕ, length, take}
+use Rattle.std.proofs.Common.{◌≡◌, ◌-◌, ◌≤◌, length, take}
 use Rattle.std.specs.Io.KnownBytes.{Appends}
 use Rattle.sarif_merge.specs.Counted.{inner_of, faults_of}
 use Rattle.sarif_merge.proofs.output.write_out.Given as goal
