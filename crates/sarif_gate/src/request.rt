@@ -1,0 +1,26 @@
+//! What one run of the program is asked to do.
+ghost use Rattle.std.specs.Prelude.{◌≤◌};
+
+use sarif_merge::Policy;
+use sarif_records::Text;
+
+/// What one run is asked to do. Sources are named as they were written, in the order of the words.
+#[derive(Debug, Drop)]
+pub struct Request {
+    /// The logs to merge.
+    pub logs: Vec<Text>,
+    /// The logs to compare them with.
+    pub baselines: Vec<Text>,
+    /// The suppression file.
+    pub suppress: Option<Text>,
+    /// Where the merged log goes.
+    pub out: Text,
+    /// The day on which suppressions expire or not, as yyyymmdd.
+    pub today: Option<u32>,
+    /// How many threads read results.
+    pub workers: u32,
+    /// What the gate fails on.
+    pub policy: Policy,
+    pub ghost some_workers: { 1 ≤ workers },
+    pub ghost few_workers: { workers ≤ 64 },
+}
