@@ -1,0 +1,198 @@
+"""What the program is given and what it must answer: the cases of tests/run and of tests/compare.
+
+A case is a command with its files; what it must write stands beside it, bytes where they are known
+whole, else a check of what was written. The groups `first` and `rules` have one log on standard input,
+the second with rules, overrides and artifacts; all others have words.
+"""
+
+import json
+from dataclasses import dataclass, field
+from pathlib import Path
+from typing import Callable, Optional
+
+EXAMPLES = Path(__file__).resolve().parent.parent / "examples"
+MARK = b"\xef\xbb\xbf"
+FULL = "/dev/full"
+
+
+@dataclass
+class Answer:
+    """What a program answered: its status, its two streams and the file that it was to write."""
+
+    status: int
+    stdout: bytes
+    stderr: bytes
+    out: Optional[bytes]
+
+
+@dataclass
+class Case:
+    """A command, and what it must answer; None stands for what isn't looked at."""
+
+    group: str
+    name: str
+    words: list = field(default_factory=list)
+    stdin: bytes = b""
+    files: dict = field(default_factory=dict)
+    status: int = 0
+    stdout: Optional[bytes] = None
+    stderr: Optional[bytes] = None
+    out: Optional[bytes] = None
+    out_name: str = "o"
+    streams: dict = field(default_factory=dict)
+    check: Optional[Callable] = None
+
+    def faults(self, answer):
+        """What is wrong in an answer, a line each."""
+        wrong = []
+        if answer.status != self.status:
+            said = answer.stderr.decode(errors="replace").strip()
+            wrong.append(f"status {answer.status}, and not {self.status}; it said: {said[:300]}")
+        for name in ("stdout", "stderr", "out"):
+            wanted, found = getattr(self, name), getattr(answer, name)
+            if wanted is not None and wanted != found:
+                wrong.append(f"{name}: {difference(wanted, found)}")
+        if self.check and not wrong:
+            wrong += self.check(answer)
+        return wrong
+
+
+def difference(wanted, found):
+    if found is None:
+        return "nothing was written"
+    pairs = enumerate(zip(wanted, found))
+    at = next((i for i, (a, b) in pairs if a != b), min(len(wanted), len(found)))
+    near = slice(max(0, at - 30), at + 50)
+    return f"at byte {at} {found[near]!r}, and not {wanted[near]!r}"
+
+
+# ---- Logs
+
+
+def text(value):
+    return json.dumps(value, ensure_ascii=False, separators=(",", ":")).encode()
+
+
+def log(*runs):
+    return text({"version": "2.1.0", "runs": list(runs)})
+
+
+def run(name, *results, **members):
+    return {"tool": {"driver": {"name": name}}, "results": list(results), **members}
+
+
+def plain(**members):
+    """A result that has a message and nothing else."""
+    return {"message": {"text": "m"}, **members}
+
+
+def ruled(**members):
+    """A result of the rule R1."""
+    return plain(ruleId="R1", **members)
+
+
+def at(uri, **members):
+    """The members of a result at a uri."""
+    place = {"physicalLocation": {"artifactLocation": {"uri": uri}}}
+    return {"locations": [place], **members}
+
+
+def rules(*entries, version=1):
+    return text({"version": version, "suppressions": list(entries)})
+
+
+NOTHING = {
+    state: {"active": [0] * 4, "suppressed": [0] * 4}
+    for state in ("absent", "new", "unchanged", "updated")
+}
+
+
+def gate(
+    verdict="pass", hits=0, fail_on="error", most=0, without=0, unused=0, suppressed=None, **active
+):
+    """The gate object whose counts are these, in the order error, warning, note, none."""
+    counts = json.loads(json.dumps(NOTHING))
+    for side, given in (("active", active), ("suppressed", suppressed or {})):
+        for state, numbers in given.items():
+            counts[state][side] = numbers
+    return {
+        "counts": counts,
+        "failOn": fail_on,
+        "hits": hits,
+        "max": most,
+        "runsWithoutResults": without,
+        "states": ["new", "updated"],
+        "unusedSuppressions": unused,
+        "verdict": verdict,
+    }
+
+
+def merged(gate, *runs):
+    """The text of a merged log of these runs, whose members stand in the order of their names."""
+    return text({"properties": {"gate": gate}, "runs": list(runs), "version": "2.1.0"})
+
+
+def written(name, *results):
+    return {"results": list(results), "tool": {"driver": {"name": name}}}
+
+
+def marked(state, level="warning", suppressions=(), **members):
+    """A result as it is written, its members in the order of their names."""
+    marks = {"baselineState": state, "level": level, "suppressions": list(suppressions)}
+    return dict(sorted({**members, **marks}.items()))
+
+
+ONE = log(run("lint", plain()))
+ONE_MERGED = merged(gate(new=[0, 1, 0, 0]), written("lint", marked("new", **plain())))
+HEADING = b"state           error    warning       note       none suppressed\n"
+ZERO = b"          0          0          0          0          0\n"
+ONE_COUNTED = b"          0          1          0          0          0\n"
+ONE_TABLE = (
+    HEADING
+    + b"new       "
+    + ONE_COUNTED
+    + b"unchanged "
+    + ZERO
+    + b"updated   "
+    + ZERO
+    + b"absent    "
+    + ZERO
+)
+ONE_SUMMARY = ONE_TABLE + b"gate: pass, hits 0, max 0\n"
+
+
+def line(fault):
+    return f"sarif_gate: {fault}\n".encode()
+
+
+def refused(fault):
+    """What a case has that is refused with this fault, and its status."""
+    status = 3 if fault.endswith(("ReadFailed", "WriteFailed")) else 2
+    return {"stdout": b"", "stderr": line(fault), "status": status}
+
+
+# ---- Checks of a merged log
+
+
+def tells(gate, states=None, levels=None):
+    """The gate object, and the states or the levels of all results in order."""
+
+    def check(answer):
+        log = json.loads(answer.stdout if answer.out is None else answer.out)
+        wrong = [f"the gate is {log['properties']['gate']}"] * (log["properties"]["gate"] != gate)
+        results = [it for run in log["runs"] for it in run.get("results", [])]
+        for name, wanted in (("baselineState", states), ("level", levels)):
+            found = [it[name] for it in results]
+            if wanted is not None and found != wanted:
+                wrong.append(f"{name} {found}, and not {wanted}")
+        return wrong
+
+    return check
+
+
+def example(name):
+    return (EXAMPLES / name).read_bytes()
+
+
+def expected(name):
+    return example(f"expected/{name}")

@@ -1,0 +1,250 @@
+"""Cases of the program's words: files, exit statuses, many logs and workers."""
+
+from cases import *
+
+
+def merging(group, name, logs, baselines=(), suppress=None, more=(), **wanted):
+    """A merge of these logs, by files and words."""
+    files = {f"log{number}": given for number, given in enumerate(logs)}
+    words = []
+    for number, given in enumerate(baselines):
+        files[f"baseline{number}"] = given
+        words += ["--baseline", f"baseline{number}"]
+    if suppress is not None:
+        files["rules"] = suppress
+        words += ["--suppress", "rules"]
+    words += [*more, "--out", "o", *(f"log{number}" for number in range(len(logs)))]
+    return Case(group, name, words, files=files, **wanted)
+
+
+def one(name, words, **wanted):
+    """Words on a file `a` that holds one warning."""
+    return Case("words", name, words, files={"a": ONE, **wanted.pop("files", {})}, **wanted)
+
+
+def gates():
+    base = ["--out", "o", "a"]
+    yield one("a log and an output", base, out=ONE_MERGED, stdout=ONE_SUMMARY, stderr=b"")
+    failed = gate("fail", 1, fail_on="warning", new=[0, 1, 0, 0])
+    yield one(
+        "a warning fails where the gate is told so",
+        ["--fail-on", "warning", *base],
+        status=1,
+        stdout=ONE_TABLE + b"gate: fail, hits 1, max 0\n",
+        check=tells(failed, ["new"]),
+    )
+    passed = gate("pass", 1, fail_on="warning", most=1, new=[0, 1, 0, 0])
+    yield one(
+        "as many hits as are allowed pass",
+        ["--fail-on", "warning", "--max", "1", *base],
+        stdout=ONE_TABLE + b"gate: pass, hits 1, max 1\n",
+        check=tells(passed, ["new"]),
+    )
+    least = gate("pass", 1, fail_on="none", most=4294967295, new=[0, 1, 0, 0])
+    yield one(
+        "the largest number of hits",
+        ["--fail-on=none", "--max=4294967295", *base],
+        check=tells(least),
+    )
+    for words in (
+        ["a", "--out=o"],
+        ["--out", "o", "--workers", "64", "a"],
+        ["--workers", "1", *base],
+    ):
+        yield one(f"the words {' '.join(words)}", words, out=ONE_MERGED, stdout=ONE_SUMMARY)
+    yield one("a day is read", ["--today", "99991231", *base], out=ONE_MERGED)
+
+
+def usage():
+    wrong = [
+        "--workers 0",
+        "--workers 65",
+        "--workers x",
+        "--max 4294967296",
+        "--max -1",
+        "--fail-on high",
+        "--fail-on Error",
+        "--today 0",
+        "--today 10000100",
+        "--today 99991232",
+        "--nothing",
+        "--out p",
+        "--suppress",
+    ]
+    for words in wrong:
+        yield one(
+            f"a --out o {words} is bad usage",
+            ["a", "--out", "o", *words.split()],
+            status=2,
+            stdout=b"",
+            check=says_usage,
+        )
+    yield one("no log is bad usage", ["--out", "o"], status=2, stdout=b"", check=says_usage)
+    yield one("no output is bad usage", ["a"], status=2, stdout=b"", check=says_usage)
+    for word in ("--help", "-h"):
+        yield one(f"{word} is help", [word], stderr=b"", check=says_help)
+
+
+def says_usage(answer):
+    wrong = ["nothing stands on standard error"] * (not answer.stderr)
+    return wrong + ["an output was written"] * (answer.out is not None)
+
+
+OPTIONS = ("--baseline", "--suppress", "--today", "--workers", "--fail-on", "--max", "--out")
+
+
+def says_help(answer):
+    return [f"the help doesn't name {it}" for it in OPTIONS if it.encode() not in answer.stdout]
+
+
+def files():
+    old = {"o": b"old"}
+    yield one(
+        "a log that isn't there",
+        ["--out", "o", "a", "b"],
+        files=old,
+        out=b"old",
+        **refused("log 1: ReadFailed"),
+    )
+    yield one(
+        "a log that is a folder",
+        ["--out", "o", ".", "a"],
+        files=old,
+        out=b"old",
+        **refused("log 0: ReadFailed"),
+    )
+    yield one(
+        "a baseline that isn't there",
+        ["--baseline", "a", "--baseline", "b", "--out", "o", "a"],
+        **refused("baseline 1: ReadFailed"),
+    )
+    yield one(
+        "a suppression file that isn't there",
+        ["--suppress", "b", "--out", "o", "a"],
+        **refused("suppressions: ReadFailed"),
+    )
+    bad = {"b": b"{"}
+    yield one(
+        "an unreadable log before one that isn't JSON",
+        ["--out", "o", "b", "c"],
+        files=bad,
+        **refused("log 1: ReadFailed"),
+    )
+    yield one(
+        "an output in a folder that isn't there",
+        ["--out", "none/o", "a"],
+        **refused("output: WriteFailed"),
+    )
+    yield one("an output that is a folder", ["--out", ".", "a"], **refused("output: WriteFailed"))
+    yield one(
+        "an output that takes nothing", ["--out", FULL, "a"], **refused("output: WriteFailed")
+    )
+    yield one(
+        "a refused merge leaves the old output",
+        ["--out", "o", "b"],
+        files={**bad, **old},
+        out=b"old",
+        **refused("log 0: NotJson"),
+    )
+    yield one(
+        "an old output is replaced", ["--out", "o", "a"], files={"o": b"x" * 9999}, out=ONE_MERGED
+    )
+    yield one(
+        "a baseline may be its own output",
+        ["--baseline", "o", "--out", "o", "a"],
+        files={"o": ONE},
+        out=ONE_MERGED.replace(b'"new":{"active":[0,1', b'"new":{"active":[0,0')
+        .replace(b'"unchanged":{"active":[0,0', b'"unchanged":{"active":[0,1')
+        .replace(b'"baselineState":"new"', b'"baselineState":"unchanged"'),
+    )
+    yield one("a log may be its own output", ["--out", "a", "a"], out_name="a", out=ONE_MERGED)
+    yield one(
+        "a summary that can't be written",
+        ["--out", "o", "a"],
+        status=3,
+        out=ONE_MERGED,
+        streams={"stdout": FULL},
+    )
+    yield one(
+        "a fault line that can't be written",
+        ["--out", "o", "b"],
+        status=3,
+        streams={"stderr": FULL},
+    )
+    long = {"b": bytes(67_108_865)}
+    yield one(
+        "a baseline past its limit",
+        ["--baseline", "b", "--out", "o", "a"],
+        files=long,
+        **refused("baseline 0: TooLong"),
+    )
+
+
+def many():
+    """Limits and the order of faults over several logs."""
+    half = log(*[run("b")] * 6_000)
+    yield merging("many", "two logs of 6,000 runs each", [half, half], **refused("log 1: TooMany"))
+    whole = log(*[run("b")] * 10_000)
+    yield merging("many", "a log of 10,000 runs", [whole], check=tells(gate(), []))
+    almost, two = log(*[run("b")] * 9_999), log(run("b"), run("b"))
+    yield merging(
+        "baseline",
+        "9,999 runs and a baseline of 2",
+        [almost],
+        [two],
+        **refused("baseline 0: TooMany"),
+    )
+    names = ["a"] * 1_001
+    yield Case(
+        "many",
+        "1,001 logs, before any is read",
+        ["--out", "o", *names],
+        **refused("log 1000: TooMany"),
+    )
+    before = [word for name in names for word in ("--baseline", name)]
+    yield one("1,001 baselines", [*before, "--out", "o", "a"], **refused("baseline 1000: TooMany"))
+    yield one(
+        "1,001 logs and baselines", [*before, "--out", "o", *names], **refused("log 1000: TooMany")
+    )
+    bad = log(run("lint", ruled(correlationGuid="x")))
+    yield merging(
+        "many", "a result's fault after a later log's", [bad, b"{"], **refused("log 1: NotJson")
+    )
+    yield merging(
+        "many",
+        "a result of the second log",
+        [ONE, bad],
+        **refused("log 1, run 0, result 0: BadGuid"),
+    )
+    both = written("lint", marked("new", **plain()))
+    merge = merged(gate(new=[0, 2, 0, 0]), both, both)
+    yield merging("many", "two logs, run after run", [ONE, ONE], out=merge)
+
+
+def workers():
+    given = log(run("lint", ruled(), ruled()), run("b"), run("lint", ruled()))
+    result = marked("new", **ruled())
+    merge = merged(
+        gate(new=[0, 3, 0, 0]),
+        written("lint", result, result),
+        written("b"),
+        written("lint", result),
+    )
+    eight = [plain() for _ in range(7)] + [plain(correlationGuid="x")]
+    faulty = log(run("lint", *eight), run("lint", plain(level="high")))
+    for number in ("1", "2", "8", "64"):
+        more = ["--workers", number]
+        yield merging("workers", f"three runs by {number} workers", [given], more=more, out=merge)
+        fault = refused("log 0, run 0, result 7: BadGuid")
+        yield merging(
+            "workers", f"the first fault by {number} workers", [faulty], more=more, **fault
+        )
+    many = log(*[run("lint", *[ruled()] * 100)] * 100)
+    yield merging(
+        "workers", "10,000 results by 4 workers", [many], check=tells(gate(new=[0, 10_000, 0, 0]))
+    )
+
+
+def cases():
+    for part in (gates, usage, files, many, workers):
+        yield from part()
