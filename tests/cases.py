@@ -1,8 +1,8 @@
 """What the program is given and what it must answer: the cases of tests/run and of tests/compare.
 
 A case is a command with its files; what it must write stands beside it, bytes where they are known
-whole, else a check of what was written. The groups `first` and `rules` have one log on standard input,
-the second with rules, overrides and artifacts; all others have words.
+whole, else a check of what was written. The groups `first` and `rules` have one log on standard
+input, the second with rules, overrides and artifacts; all others have words.
 """
 
 import json

@@ -7,7 +7,7 @@ DEEPEST = 127
 
 
 class Fault(Exception):
-    """A check failed; `run` is the number of the run, or `entry` that of the entry, that it names."""
+    """A check failed; `run` or `entry` is the number of the run or the entry that it names."""
 
     def __init__(self, cause, run=None, entry=None):
         super().__init__(cause)

@@ -16,7 +16,7 @@ def program(given=None):
     """The command to test: the one given, that of SARIF_GATE, or what rt ci left."""
     given = given or os.environ.get("SARIF_GATE")
     if given:
-        return shlex.split(given)
+        return [str(Path(it).resolve()) if Path(it).is_file() else it for it in shlex.split(given)]
     if not PROGRAM.is_file():
         raise SystemExit(
             f"no program stands at {PROGRAM.relative_to(ROOT)}: rt ci at the top makes it, "

@@ -1,0 +1,277 @@
+#!/usr/bin/env python3
+"""Makes the inputs of bench/run: SARIF logs and suppression files, the same for one seed.
+
+make_log.py SHAPE FOLDER [--scale S] [--seed N]
+
+It writes the files into FOLDER, and plan.json, which names them and tells what they hold.
+"""
+
+import argparse
+import json
+import random
+from pathlib import Path
+
+LOG_BYTES = 50_000_000
+RUNS = 20
+TAGS = (
+    "security",
+    "correctness",
+    "maintainability",
+    "external/cwe/cwe-079",
+    "external/cwe/cwe-476",
+)
+WORDS = "call of value pointer buffer index without check before use after free may be null".split()
+
+
+class Maker:
+    """A maker of results of about 1 KB, drawn by a seed."""
+
+    def __init__(self, seed):
+        self.rng = random.Random(seed)
+
+    def text(self, words):
+        return " ".join(self.rng.choices(WORDS, k=words))
+
+    def digest(self):
+        return f"{self.rng.getrandbits(128):032x}"
+
+    def place(self, uri=None):
+        uri = uri or f"src/part{self.rng.randrange(40)}/file{self.rng.randrange(2_000)}.c"
+        line, column = self.rng.randrange(1, 5_000), self.rng.randrange(1, 100)
+        region = {"startLine": line, "startColumn": column, "endColumn": column + 12}
+        artifact = {"uri": uri, "uriBaseId": "SRCROOT"}
+        return {"physicalLocation": {"artifactLocation": artifact, "region": region}}
+
+    def flow(self):
+        steps = [
+            {
+                "location": {**self.place(), "message": {"text": self.text(5)}},
+                "importance": "essential",
+                "nestingLevel": depth,
+            }
+            for depth in range(2)
+        ]
+        return [{"threadFlows": [{"locations": steps}]}]
+
+    def result(self, number):
+        """A third have fingerprints, a third partial ones, and a third a place alone."""
+        rule = self.rng.randrange(200)
+        prints = [
+            {"fingerprints": {"contextHash/v1": self.digest(), "contextHash/v2": self.digest()}},
+            {"partialFingerprints": {"primaryLocationLineHash": f"{self.digest()[:16]}:1"}},
+            {},
+        ]
+        return {
+            "ruleId": f"RULE{rule:04}",
+            "ruleIndex": rule,
+            "message": {"text": f"{self.text(10)} {number}", "arguments": [self.digest()[:8]]},
+            "locations": [self.place()],
+            **prints[number % 3],
+            "rank": self.rng.randrange(1_000) / 10 + 0.05,
+            "properties": {
+                "confidence": self.rng.random(),
+                "tags": self.rng.sample(TAGS, 2),
+                "score": [1, self.rng.randrange(9), self.rng.random()],
+                "seen": self.rng.randrange(10**6),
+            },
+            "codeFlows": self.flow(),
+        }
+
+    def rules(self, count, levels=("note", "warning", "error")):
+        return [
+            {
+                "id": f"RULE{number:04}",
+                "shortDescription": {"text": self.text(6)},
+                "defaultConfiguration": {"level": levels[number % len(levels)]},
+            }
+            for number in range(count)
+        ]
+
+    def results(self, size):
+        """Texts of results, of about so many bytes."""
+        found, length = [], 0
+        while length < size:
+            found.append(compact(self.result(len(found))))
+            length += len(found[-1]) + 1
+        return found
+
+
+def compact(value):
+    return json.dumps(value, separators=(",", ":"))
+
+
+def log_of(results, rules, runs=RUNS):
+    """The text of a log of these texts of results, dealt to its runs in order."""
+    tool = compact({"driver": {"name": "bench", "version": "1.0.5", "rules": rules}})
+    share = -(-len(results) // runs)
+    parts = [results[at : at + share] for at in range(0, len(results), share)]
+    texts = [
+        f'{{"tool":{tool},"columnKind":"utf16CodeUnits","results":[{",".join(it)}]}}'
+        for it in parts
+    ]
+    return f'{{"version":"2.1.0","runs":[{",".join(texts)}]}}'
+
+
+class Plan:
+    """The files of a shape."""
+
+    def __init__(self, folder, shape):
+        self.folder = Path(folder)
+        self.folder.mkdir(parents=True, exist_ok=True)
+        self.shape, self.logs, self.baselines, self.suppress = shape, [], [], None
+        self.results = 0
+
+    def file(self, name, text):
+        path = self.folder / name
+        path.write_text(text, encoding="utf-8")
+        return str(path)
+
+    def log(self, text, results):
+        self.logs.append(self.file(f"log{len(self.logs)}.sarif", text))
+        self.results += results
+
+    def baseline(self, text, results):
+        self.baselines.append(self.file(f"baseline{len(self.baselines)}.sarif", text))
+        self.results += results
+
+    def write(self):
+        sources = [*self.logs, *self.baselines, *[self.suppress] * bool(self.suppress)]
+        self.bytes = sum(Path(it).stat().st_size for it in sources)
+        plan = {name: it for name, it in vars(self).items() if name != "folder"}
+        self.file("plan.json", json.dumps(plan))
+
+
+def first(plan, maker, scale):
+    """One log of 20 runs."""
+    results = maker.results(LOG_BYTES * scale)
+    plan.log(log_of(results, maker.rules(200)), len(results))
+
+
+def rules(plan, maker, scale):
+    """As many rules, overrides of them in another order, and results of them, of one run."""
+    count = int(100_000 * scale)
+    order = list(range(count))
+    maker.rng.shuffle(order)
+    overrides = [
+        {
+            "descriptor": {"index": rule} if rule % 2 else {"id": f"RULE{rule:04}"},
+            "configuration": {"level": ("note", "none", "warning")[rule % 3]},
+        }
+        for rule in order
+    ]
+    results = [
+        {
+            "message": {"text": maker.text(4)},
+            "provenance": {"invocationIndex": 0},
+            **({"ruleIndex": rule} if rule % 3 else {"ruleId": f"RULE{rule:04}"}),
+        }
+        for rule in maker.rng.choices(order, k=count)
+    ]
+    driver = {"name": "bench", "rules": maker.rules(count)}
+    invocations = [{"executionSuccessful": True, "ruleConfigurationOverrides": overrides}]
+    run = {"tool": {"driver": driver}, "invocations": invocations, "results": results}
+    plan.log(compact({"version": "2.1.0", "runs": [run]}), count)
+
+
+def aged(maker, results):
+    """The results some days later: of ten one is moved, dropped or followed by a new one."""
+    found = []
+    for number, text in enumerate(results):
+        change = maker.rng.randrange(30)
+        if change == 0:
+            moved = json.loads(text)
+            moved["locations"] = [maker.place()]
+            text = compact(moved)
+        if change != 1:
+            found.append(text)
+        if change == 2:
+            found.append(compact(maker.result(len(results) + number)))
+    return found
+
+
+def pair(plan, maker, scale):
+    """A log of 20 runs, and the same log of some days before as its baseline."""
+    before = maker.results(LOG_BYTES * scale)
+    tables, current = maker.rules(200), aged(maker, before)
+    plan.baseline(log_of(before, tables), len(before))
+    plan.log(log_of(current, tables), len(current))
+
+
+def many(plan, maker, scale):
+    """A thousand logs of 20 KB with one run each."""
+    tables = maker.rules(5)
+    for _ in range(max(1, int(1_000 * scale))):
+        results = [text.replace('"ruleIndex"', '"index"') for text in maker.results(19_000)]
+        plan.log(log_of(results, tables, 1), len(results))
+
+
+def names(plan, maker, scale):
+    """Results with a fingerprint name of their own each, on both sides, in opposite orders."""
+    count = int(20_000 * scale)
+    results = [
+        compact(
+            {
+                "message": {"text": maker.text(4)},
+                "locations": [maker.place()],
+                "fingerprints": {f"name{number:05}/v1": maker.digest()},
+            }
+        )
+        for number in range(count)
+    ]
+    plan.baseline(log_of(results, []), count)
+    plan.log(log_of(results[::-1], []), count)
+
+
+def entry(maker, number, result):
+    """An entry that names this result by what it has; of ten, two match nothing."""
+    uri = result["locations"][0]["physicalLocation"]["artifactLocation"]["uri"]
+    if number % 10 == 0:
+        found = {"guid": f"{maker.rng.getrandbits(128):032x}"}
+    elif number % 10 == 1:
+        found = {"ruleId": "NONE", "uri": uri}
+    elif "fingerprints" in result:
+        found = {"tool": "bench", "fingerprints": result["fingerprints"]}
+    elif "partialFingerprints" in result:
+        found = {"partialFingerprints": result["partialFingerprints"], "uri": uri}
+    else:
+        found = {"ruleId": result["ruleId"], "uri": uri}
+    return {**found, "status": "accepted", "justification": maker.text(5)}
+
+
+def entries(plan, maker, scale):
+    """Ten thousand entries of a suppression file over a log of 20,000 results."""
+    results = maker.results(20_000_000 * scale)
+    plan.log(log_of(results, maker.rules(200)), len(results))
+    chosen = maker.rng.choices(results, k=max(1, int(10_000 * scale)))
+    found = [entry(maker, number, json.loads(text)) for number, text in enumerate(chosen)]
+    plan.suppress = plan.file("rules.json", compact({"version": 1, "suppressions": found}))
+
+
+def prefixes(plan, maker, scale):
+    """Ten thousand entries that name a prefix alone over a log of 20,000 results."""
+    results = maker.results(20_000_000 * scale)
+    plan.log(log_of(results, maker.rules(200)), len(results))
+    count = max(1, int(10_000 * scale))
+    found = [{"uriPrefix": f"src/part{number % 80}/file{number}."} for number in range(count)]
+    plan.suppress = plan.file("rules.json", compact({"version": 2, "suppressions": found}))
+
+
+SHAPES = {it.__name__: it for it in (first, rules, pair, many, names, entries, prefixes)}
+
+
+def main():
+    about = argparse.ArgumentParser(
+        description=__doc__, formatter_class=argparse.RawTextHelpFormatter
+    )
+    about.add_argument("shape", choices=SHAPES)
+    about.add_argument("folder")
+    about.add_argument("--scale", type=float, default=1.0)
+    about.add_argument("--seed", type=int, default=1)
+    given = about.parse_args()
+    plan = Plan(given.folder, given.shape)
+    SHAPES[given.shape](plan, Maker(f"{given.shape} {given.seed}"), given.scale)
+    plan.write()
+
+
+if __name__ == "__main__":
+    main()
