@@ -1,10 +1,10 @@
 """Building what bench/run measures.
 
-The programs of bench/programs are no crates of the repository, so that its gate doesn't prove them:
-each is a file main.rattle, since rt ci wants every .rt file in a crate, beside a file `libraries` with
-what would stand for it in crates.txt. They are built in a repository of their own, in a temporary
-folder, over copies of the crates; what is built stays in bench/work/bin with a sum of all that it was
-made from.
+The programs of bench/programs are no crates of the repository, so that its gate doesn't prove
+them: each is a file main.rattle, since rt ci wants every .rt file in a crate, beside a file
+`libraries` with what would stand for it in crates.txt. They are built in a repository of their own,
+in a temporary folder, over copies of the crates; what is built stays in bench/work/bin with a sum of
+all that it was made from.
 """
 
 import hashlib

@@ -108,6 +108,16 @@ def moved():
 
 def again():
     """A merged log as the next baseline."""
+    pair = log(run("lint", ruled(), ruled()), run("lint", ruled()))
+    runs = [written("lint", *[marked("new", **ruled())] * number) for number in (2, 1)]
+    known = [written("lint", *[marked("unchanged", **ruled())] * number) for number in (2, 1)]
+    yield merging(
+        "baseline",
+        "the output of a merge as its own baseline",
+        [pair],
+        [merged(gate(new=[0, 3, 0, 0]), *runs)],
+        out=merged(gate(unchanged=[0, 3, 0, 0]), *known),
+    )
     kept, gone = marked("unchanged", **partial("a.c", "b")), marked("absent", **partial("a.c"))
     before = merged(
         gate(), written("lint", marked("new", **partial("a.c", "b"))), written("lint", gone)

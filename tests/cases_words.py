@@ -171,6 +171,17 @@ def files():
         status=3,
         streams={"stderr": FULL},
     )
+    yield one(
+        "standard output as the output",
+        ["--out", "/dev/stdout", "a"],
+        stdout=ONE_MERGED + ONE_SUMMARY,
+    )
+    yield one(
+        "standard input as a log",
+        ["--out", "o", "/dev/stdin"],
+        stdin=ONE,
+        out=ONE_MERGED,
+    )
     long = {"b": bytes(67_108_865)}
     yield one(
         "a baseline past its limit",
