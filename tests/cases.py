@@ -81,6 +81,11 @@ def run(name, *results, **members):
     return {"tool": {"driver": {"name": name}}, "results": list(results), **members}
 
 
+def bare(count):
+    """A log of so many results without members."""
+    return log(run("b", 0)).replace(b"[0]", b"[" + b",".join([b"{}"] * count) + b"]")
+
+
 def plain(**members):
     """A result that has a message and nothing else."""
     return {"message": {"text": "m"}, **members}

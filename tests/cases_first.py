@@ -125,6 +125,7 @@ def faults():
         (log({**sound, "results": [1]}), "log 0, run 0: BadRun"),
         (log({**sound, "externalPropertyFileReferences": []}), "log 0, run 0: ExternalProperties"),
         (log(*[sound] * 10_001), "log 0: TooMany"),
+        (bare(1_000_001), "log 0, run 0: TooMany"),
     ]
     for given, fault in whole:
         yield Case("first", f"{given[:40]!r} is refused", stdin=given, **refused(fault))

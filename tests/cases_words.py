@@ -205,6 +205,11 @@ def many():
         [two],
         **refused("baseline 0: TooMany"),
     )
+    results = [bare(600_000), bare(400_001)]
+    yield merging("many", "1,000,001 results of two logs", results, **refused("log 1: TooMany"))
+    skipped = log(run("b", *[{"baselineState": "absent"}] * 2))
+    fault = refused("baseline 0: TooMany")
+    yield merging("baseline", "skipped results count", [bare(999_999)], [skipped], **fault)
     names = ["a"] * 1_001
     yield Case(
         "many",
