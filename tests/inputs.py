@@ -22,6 +22,7 @@ STATUSES = ["accepted", "underReview", "rejected"]
 RULES = ["R1", "R2", "R1", "", "R1/a"]
 URIS = ["a.c", "gen/a.c", "gen/b.c", "", "é.c"]
 NAMES = ["f/v1", "f/v2", "", "f", "é", "\U0001f600", "\uffff"]
+TEXTS = ["", "a", "A", "é", "\U0001f600", "\uffff", "\0\x1f\x7f", '"\\/', "\b\f\n\r\t"]
 
 
 class Raw:
@@ -76,6 +77,14 @@ class Inputs:
                 found[name] = self.junk()
         return found
 
+    def anything(self, depth):
+        """A value that a merge carries over as it is, but for its fractions."""
+        kind = self.count(3, 3, 3, 2, depth, depth)
+        if kind < 4:
+            return self.any([WHOLE, FRACTIONS, TEXTS, [True, False, None]][kind])
+        items = [self.anything(depth - 1) for _ in range(self.count(1, 3, 3, 1))]
+        return items if kind == 4 else dict(zip(self.rng.sample(TEXTS, len(items)), items))
+
     def one(self, values):
         return lambda: self.any(values)
 
@@ -107,7 +116,7 @@ class Inputs:
             *tables * self.has_rules,
             ("baselineGuid", 0.2, self.one(GUIDS)),
             ("externalPropertyFileReferences", 0.05 * self.has_rules, dict),
-            ("columnKind", 0.2, self.one(["utf16CodeUnits", 1, {"b": [self.any(FRACTIONS)]}])),
+            ("columnKind", 0.2, lambda: self.anything(2)),
             ("results", 0.93, results),
         )
 
@@ -203,11 +212,7 @@ class Inputs:
             ("suppressions", 0.3, self.list([2, 4, 2, 1], self.suppression)),
             ("locations", 0.7, self.locations),
             ("rank", 0.2, self.one(FRACTIONS)),
-            (
-                "properties",
-                0.2,
-                self.one([{"a": [1, [self.any(FRACTIONS)]], "b": [1]}, 7, "\u0001\\/é"]),
-            ),
+            ("properties", 0.3, lambda: self.anything(3)),
             *[("provenance", 0.4, self.of(index))] * self.has_rules,
         )
         return {**found, **self.referring()} if self.has_rules else found
