@@ -230,9 +230,10 @@ def entry(maker, number, result):
     elif number % 10 == 1:
         found = {"ruleId": "NONE", "uri": uri}
     elif "fingerprints" in result:
-        found = {"tool": "bench", "fingerprints": result["fingerprints"]}
+        found = {"ruleId": result["ruleId"], "fingerprints": result["fingerprints"]}
     elif "partialFingerprints" in result:
-        found = {"partialFingerprints": result["partialFingerprints"], "uri": uri}
+        found = {"ruleId": result["ruleId"], "uri": uri}
+        found["partialFingerprints"] = result["partialFingerprints"]
     else:
         found = {"ruleId": result["ruleId"], "uri": uri}
     return {**found, "status": "accepted", "justification": maker.text(5)}
