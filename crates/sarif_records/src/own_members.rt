@@ -10,6 +10,8 @@ mod indexes;
 mod location;
 mod message;
 mod suppressions;
+#[cfg(test)]
+mod tests;
 
 use crate::fault::Fault;
 use crate::guid::read_guid;
