@@ -3,30 +3,23 @@ use super::read_parts;
 use crate::fault::Fault;
 use crate::kinds::{Kind, Level, Status};
 use crate::parts::Parts;
-use crate::run::RawRun;
+use crate::reading::read_log;
 use crate::sequence::Pairs;
 use crate::text::Text;
-use serde_json::Value;
 use std::alloc::Global;
 use std::test::Fail;
 
-/// What `read_parts` answers for a result with this JSON text.
-#[tactic(auto, using(crate::proofs::Elements::elements_items_view, crate::proofs::Elements::length_elements))]
+/// What `read_parts` answers for a result with this JSON text, once it is read and stripped.
 fn read(alloc: Global, text: &str) -> Result<Result<Parts, Fault>, Fail> {
-    let run_text = format!(in alloc; "{{\"results\":[{text}]}}")?;
-    let value = Value::from_str(alloc, run_text.as_str())?;
-    let count = match value.get("results").and_then(Value::as_array) {
-        Some(results) => results.len(),
-        None => 0,
-    };
-    if count != 1 {
-        return Err(Fail::new("one result is wanted"));
+    let run = format!(in alloc;
+        "{{\"tool\":{{\"driver\":{{\"name\":\"lint\"}}}},\"results\":[{text}]}}"
+    )?;
+    let log = format!(in alloc; "{{\"version\":\"2.1.0\",\"runs\":[{run}]}}")?;
+    let log = read_log(alloc, log.as_bytes())?;
+    match log.runs() {
+        [run] if run.len() == 1 => Ok(read_parts(alloc, run, 0)),
+        _ => Err(Fail::new("one result is wanted")),
     }
-    let run = RawRun::new(value);
-    if run.len() != 1 {
-        return Err(Fail::new("one result is wanted"));
-    }
-    Ok(read_parts(alloc, &run, 0))
 }
 
 /// The members of a result that is accepted.
@@ -152,6 +145,9 @@ fn absent_and_null_members_are_the_defaults(rt: HostRuntime) -> Result<(), Fail>
                 {"uri":null,"uriBaseId":null,"index":-1}}}]}"#,
         r#"{"locations":[],"baselineState":"new"}"#,
         r#"{"locations":[{},null,7],"baselineState":7,"guid":"x","rank":1.5}"#,
+        r#"{"fingerprints":{"a":null,"b":1.5},"message":{"arguments":[1.5]}}"#,
+        r#"{"kind":1.5,"ruleIndex":1.0,"rule":{"index":1e2},
+            "provenance":{"invocationIndex":-0},"locations":[18446744073709551616]}"#,
     ] {
         let parts = accepted(rt.alloc(), text)?;
         assert!(rt; is_empty(&parts), "{text}");
