@@ -51,8 +51,8 @@ fn write_absent_members(
     requires { total_of counts.old < 4294967295 }
     ensures written { OnOk result (members_view members.new.entries
         ≡ annotated_members «record».now.level Absent
-            (items_of (elements (own_suppressions (members_view members.old.entries))))
-            (members_view members.old.entries)) }
+        (items_of (elements (own_suppressions (members_view members.old.entries))))
+        (members_view members.old.entries)) }
     ensures counted { OnOk result ((s : Stand) (l : Grade) (b : Bool) → count_at counts.new s l b
         ≡ count_at counts.old s l b
         + count_if (carries s l b (object (members_view members.new.entries))) 1) }

@@ -26,8 +26,8 @@ mutual
   no_fraction_members no_members = refl
   no_fraction_members (member k d ms) =
       elim (is_fractional d) as (λ b. is_fractional d ≡ b → members_have_float (if b then stripped_members ms else member k (stripped d) (stripped_members ms)) ≡ false) [
-        true ↦ λ e. no_fraction_members ms
-      | false ↦ λ e. rw (no_fraction d e, no_fraction_members ms) refl
+        | true ↦ λ e. no_fraction_members ms
+        | false ↦ λ e. rw (no_fraction d e, no_fraction_members ms) refl
       ] refl
 
 mutual
@@ -60,6 +60,6 @@ mutual
   twice_members no_members = refl
   twice_members (member k d ms) =
       elim (is_fractional d) as (λ b. is_fractional d ≡ b → stripped_members (if b then stripped_members ms else member k (stripped d) (stripped_members ms)) ≡ (if b then stripped_members ms else member k (stripped d) (stripped_members ms))) [
-        true ↦ λ e. twice_members ms
-      | false ↦ λ e. rw (same_fractions d, e, twice d, twice_members ms) refl
+        | true ↦ λ e. twice_members ms
+        | false ↦ λ e. rw (same_fractions d, e, twice d, twice_members ms) refl
       ] refl

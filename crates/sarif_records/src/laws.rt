@@ -7,11 +7,9 @@ ghost use Rattle.sarif_records.specs.Stripping.{stripped};
 /// What is stripped and stands inside an object holds no number with a fraction.
 pub fn stripped_holds_no_fraction()
     ensures { (members : Members) → has_float (stripped (object members)) ≡ false }
-{
-}
+{}
 
 /// Stripping twice is stripping once.
 pub fn stripping_twice_is_once()
     ensures { (value : Data) → stripped (stripped value) ≡ stripped value }
-{
-}
+{}

@@ -237,6 +237,7 @@ fn check_each(alloc: Global, values: Vec<Value>) -> Result<Vec<RawRun>, ReadFaul
 fn log_of_value(alloc: Global, log: Value) -> Result<Log, ReadFault>
     ensures ok { IfOk result (λ runs. said.log_of_value (view log) ≡ Ok (map view runs)) }
     ensures few { IfOk result (λ runs. results_total (map view runs) ≤ 1000000) }
+    ensures few_runs { IfOk result (λ runs. length runs ≤ 10000) }
     ensures err { IfErr result (λ e. ¬ (e.fault ≡ OutOfMemory)
         → said.log_of_value (view log) ≡ Err e) }
 {
@@ -253,6 +254,7 @@ fn log_of_value(alloc: Global, log: Value) -> Result<Log, ReadFault>
 pub fn read_log(alloc: Global, bytes: &[u8]) -> Result<Log, ReadFault>
     ensures ok { IfOk result (λ log. said.log_of bytes.now ≡ Ok (map view log)) }
     ensures few { IfOk result (λ log. results_total (map view log) ≤ 1000000) }
+    ensures few_runs { IfOk result (λ log. length log ≤ 10000) }
     ensures err { IfErr result (λ e. ¬ (e.fault ≡ OutOfMemory) → said.log_of bytes.now ≡ Err e) }
 {
     let mut value = read_json(alloc, without_mark(bytes))?;

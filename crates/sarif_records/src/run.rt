@@ -96,14 +96,7 @@ impl RawRun {
         requires { seq < length (results_of (seen self.now)) }
         ensures { result ≡ is_absent_result (result_at (seen self.now) seq) }
     {
-        match self
-            .result(seq)
-            .get("baselineState")
-            .and_then(Value::as_str)
-        {
-            Some("absent") => true,
-            _ => false,
-        }
+        is_marked_absent(self.result(seq))
     }
 
     /// The run as it was read.

@@ -82,6 +82,13 @@ impl Suppressions {
         self.entries.is_empty()
     }
 
+    /// No entries: what stands where there is no suppression file.
+    pub fn none(alloc: Global, today: Option<u32>) -> Result<Suppressions, AllocError>
+        ensures { IfOk result (λ s. s ≡ record { entries = []; today = today }) }
+    {
+        Suppressions::new(alloc, Vec::new(alloc), today)
+    }
+
     /// Which entries match the result, and whether it is then suppressed (SARIF 2.1.0, result object,
     /// "suppressions property").
     #[tactic(auto, using(crate::proofs::Numbered::selected, crate::proofs::Numbered::verdict))]

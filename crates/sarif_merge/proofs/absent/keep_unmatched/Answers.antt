@@ -26,9 +26,9 @@ loop-value-preserved-in-Continue-branch-2 c =
       left = omega (arith, fewer);
       told = ap (λ ds. ds ++ unmatched (drop (c.loop-value.at + 1) c.args.records.now) (drop (c.loop-value.at + 1) c.args.taken.now) (present (map view c.next.new.self.rest.items))) kept ∙ step ∙ ap (λ vs. map view c.loop-value.kept.items ++ unmatched (drop c.loop-value.at c.args.records.now) (drop c.loop-value.at c.args.taken.now) (present (map view vs))) (sym rest) ∙ c.loop-value.invariant.told;
       counted = λ s g b.
-        let more : count_in (items_view c.push.new.self.items) s g b ≡ count_in (items_view c.loop-value.kept.items) s g b + count_if (carries s g b (view c.write_absent.new.value)) 1 = ap (λ vs. count_in (items_view vs) s g b) c.in_ok-push.ensures.items ∙ count_in_push c.loop-value.kept.items c.write_absent.new.value s g b in
-        let one = c.in_ok-write_absent.ensures.counted s g b in
-        let before = c.loop-value.invariant.counted s g b in
-        omega (arith, more, one, before);
+          let more : count_in (items_view c.push.new.self.items) s g b ≡ count_in (items_view c.loop-value.kept.items) s g b + count_if (carries s g b (view c.write_absent.new.value)) 1 = ap (λ vs. count_in (items_view vs) s g b) c.in_ok-push.ensures.items ∙ count_in_push c.loop-value.kept.items c.write_absent.new.value s g b in
+          let one = c.in_ok-write_absent.ensures.counted s g b in
+          let before = c.loop-value.invariant.counted s g b in
+          omega (arith, more, one, before);
       total = omega (arith, c.in_ok-write_absent.ensures.total, c.loop-value.invariant.total);
     }

@@ -22,8 +22,8 @@ loop-value-preserved c =
       number = grind (arith, common_steps);
       few = c.in-Ok.ensures.few.0;
       sum =
-        let more : results_total (map view (c.loop-value.yielded ++ c.in-Some.value ∷ [])) ≡ results_total (map view c.loop-value.yielded) + length (results_of (view c.in-Some.value)) = results_total_push c.loop-value.yielded c.in-Some.value in
-        omega (arith, more, c.in-Ok.ensures.few.1, c.loop-value.invariant.sum);
+          let more : results_total (map view (c.loop-value.yielded ++ c.in-Some.value ∷ [])) ≡ results_total (map view c.loop-value.yielded) + length (results_of (view c.in-Some.value)) = results_total_push c.loop-value.yielded c.in-Some.value in
+          omega (arith, more, c.in-Ok.ensures.few.1, c.loop-value.invariant.sum);
       runs = grind (arith, common_steps);
       told = on ∙ ap (λ vs. said.check_each c.loop-value.number c.loop-value.before (map view vs)) (sym rest) ∙ c.loop-value.invariant.told;
     }
