@@ -43,19 +43,14 @@ class Maker:
         return {"physicalLocation": {"artifactLocation": artifact, "region": region}}
 
     def flow(self):
-        steps = [
-            {
-                "location": {**self.place(), "message": {"text": self.text(5)}},
-                "importance": "essential",
-                "nestingLevel": depth,
-            }
-            for depth in range(2)
-        ]
-        return [{"threadFlows": [{"locations": steps}]}]
+        location = {**self.place(), "message": {"text": self.text(8)}}
+        step = {"location": location, "importance": "essential", "nestingLevel": 1}
+        return [{"threadFlows": [{"locations": [step]}]}]
 
     def result(self, number):
         """A third have fingerprints, a third partial ones, and a third a place alone."""
-        rule = self.rng.randrange(200)
+        rule, location = self.rng.randrange(200), self.place()
+        location["physicalLocation"]["region"]["snippet"] = {"text": f"    {self.text(12)}\n"}
         prints = [
             {"fingerprints": {"contextHash/v1": self.digest(), "contextHash/v2": self.digest()}},
             {"partialFingerprints": {"primaryLocationLineHash": f"{self.digest()[:16]}:1"}},
@@ -64,8 +59,8 @@ class Maker:
         return {
             "ruleId": f"RULE{rule:04}",
             "ruleIndex": rule,
-            "message": {"text": f"{self.text(10)} {number}", "arguments": [self.digest()[:8]]},
-            "locations": [self.place()],
+            "message": {"text": f"{self.text(20)} {number}", "arguments": [self.digest()[:8]]},
+            "locations": [location],
             **prints[number % 3],
             "rank": self.rng.randrange(1_000) / 10 + 0.05,
             "properties": {
