@@ -1,3 +1,0 @@
-//! What no contract says: the texts, and which words ask for what.
-
-mod asking;
