@@ -2,6 +2,7 @@ pub mod Annotated
 pub mod CountOf
 pub mod Counted
 pub mod Counts
+pub mod Failing
 pub mod Fault
 pub mod Gate
 pub mod Inputs

@@ -1,10 +1,11 @@
 //! The merge of logs.
-ghost use Rattle.std.specs.Prelude.{◌≡◌, ◌<◌, ◌≤◌, ◌+◌, ◌^◌, length, map, OnOk, IfOk, IfErr, IsNone};
+ghost use Rattle.std.specs.Prelude.{◌≡◌, ◌<◌, ◌≤◌, ◌+◌, ◌^◌, length, map, OnOk, IfOk, IfErr, IsNone, false};
 ghost use Rattle.std.specs.List.{All};
 ghost use Rattle.std.specs.Io.KnownBytes.{Appends};
 ghost use Rattle.serde_json.specs.View.{view};
 ghost use Rattle.sarif_records.specs.Run.{results_of, results_total};
-ghost use Rattle.sarif_merge.specs.Counted.{inner_of, faults_of};
+ghost use Rattle.sarif_merge.specs.Counted.{inner_of, faults_of, RisesIf};
+ghost use Rattle.sarif_merge.specs.Failing.{faults_in, read_failed_in, write_failed_in, IsQuiet};
 ghost use Rattle.sarif_merge.specs.declared.fault.Cause.TheVariants.{WriteFailed};
 
 use crate::counted::Counted;
@@ -39,9 +40,11 @@ pub struct Merged {
 }
 
 /// Reads the one log.
+#[tactic(auto, using(crate::proofs::QuietFaults::quiet_fault))]
 fn read_one(alloc: Global, bytes: &[u8]) -> Result<Log, MergeFault>
     ensures few { IfOk result (λ log. results_total (map view log) ≤ 1000000) }
     ensures few_runs { IfOk result (λ log. length log ≤ 10000) }
+    ensures quiet { IsQuiet result }
 {
     match read_log(alloc, bytes) {
         Ok(log) => Ok(log),
@@ -57,14 +60,16 @@ fn read_one(alloc: Global, bytes: &[u8]) -> Result<Log, MergeFault>
 }
 
 /// Adds the records of a run's results, or answers the fault of opening it, else that of its first bad result.
+#[tactic(auto, using(crate::proofs::QuietFaults::quiet_fault))]
 fn judge_run(
     alloc: Global,
     number: u32,
     run: &RawRun,
     records: &mut Vec<Record>,
 ) -> Result<(), MergeFault>
-    ensures { OnOk result (length records.new.items
+    ensures records { OnOk result (length records.new.items
         ≡ length records.old.items + length (results_of (view run.now))) }
+    ensures quiet { IsQuiet result }
 {
     let source = Source::Log(0);
     let head = match open_run(alloc, run) {
@@ -88,7 +93,8 @@ fn judge_run(
 /// The records of all results of the runs, in order.
 fn judge(alloc: Global, runs: &[RawRun]) -> Result<Vec<Record>, MergeFault>
     requires { length runs.now ≤ 10000 }
-    ensures { IfOk result (λ records. length records.items ≡ results_total (map view runs.now)) }
+    ensures records { IfOk result (λ records. length records.items ≡ results_total (map view runs.now)) }
+    ensures quiet { IsQuiet result }
 {
     let mut records = Vec::new(alloc);
     for (number, run) in runs.iter().enumerate() {
@@ -119,6 +125,7 @@ fn log_text(alloc: Global, gate: Value, runs: Vec<Value>) -> Result<String, Allo
 fn merge_log(alloc: Global, log: Log, policy: &Policy) -> Result<Merged, MergeFault>
     requires few { results_total (map view log) ≤ 1000000 }
     requires few_runs { length log ≤ 10000 }
+    ensures { IsQuiet result }
 {
     let runs = log.into_runs();
     let without = count_without(&runs);
@@ -165,6 +172,7 @@ pub fn merge_bytes(
     requires one_log { length logs.now ≡ 1 }
     requires no_baseline { length baselines.now ≡ 0 }
     requires no_suppressions { IsNone suppressions }
+    ensures { IsQuiet result }
 {
     let log = read_one(alloc, &logs[0])?;
     merge_log(alloc, log, policy)
@@ -192,6 +200,8 @@ pub fn merge_to<R: Read, W: Write>(
     ensures written { IfOk result (λ merged. Appends (W.contents (inner_of out.old))
         (W.contents (inner_of out.new)) merged.log) }
     ensures untouched { IfErr result (λ fault. (fault.cause ≡ WriteFailed → ⊥) → out.new ≡ out.old) }
+    ensures read_failed { RisesIf (read_failed_in result) (faults_in logs.old) (faults_in logs.new) }
+    ensures write_failed { RisesIf (write_failed_in result) (faults_of out.old) (faults_of out.new) }
 {
     let merged = merge_read(alloc, &mut logs[0], policy)?;
     match write_out(out, merged.log.as_str().as_bytes()) {
@@ -207,6 +217,8 @@ fn merge_read<R: Read>(
     policy: &Policy,
 ) -> Result<Merged, MergeFault>
     requires { faults_of source.old < 2 ^ 63 }
+    ensures read_failed { RisesIf (read_failed_in result) (faults_of source.old) (faults_of source.new) }
+    ensures unwritten { write_failed_in result ≡ false }
 {
     let bytes = match read_source(alloc, source) {
         Ok(bytes) => bytes,

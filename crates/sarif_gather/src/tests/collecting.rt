@@ -1,4 +1,6 @@
 //! Pieces and the collector.
+ghost use Rattle.std.specs.Prelude.{◌≤◌};
+
 use crate::{Collector, Piece, Refused, Why};
 use std::alloc::Global;
 use std::test::Fail;
@@ -16,8 +18,6 @@ fn collector(alloc: Global, runs: u32) -> Result<Collector<u8, u8>, Fail>
 {
     Ok(Collector::new(alloc, runs)?)
 }
-
-ghost use Rattle.std.specs.Prelude.{◌≤◌};
 
 #[test]
 fn refused_piece_comes_back_with_the_first_reason(rt: HostRuntime) -> Result<(), Fail> {

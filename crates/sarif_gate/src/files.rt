@@ -1,0 +1,88 @@
+//! Files by name, opened when they are first used.
+
+use std::fs;
+use std::io::{self, Read, Write};
+use std::rt::Files;
+
+/// Where an input file stands.
+#[derive(Drop)]
+enum Stage<F> {
+    Unopened,
+    Open(F),
+    Ended,
+}
+
+/// A file that is opened at its first read, and closed at the read that gives 0 bytes. Where it can't be
+/// opened that read fails.
+#[derive(Drop)]
+pub struct InputFile<'a, R: Files> {
+    files: &'a R,
+    name: &'a str,
+    stage: Stage<R::File>,
+}
+
+impl<'a, R: Files> InputFile<'a, R> {
+    /// Opens nothing yet.
+    pub fn new(files: &'a R, name: &'a str) -> InputFile<'a, R> {
+        InputFile {
+            files,
+            name,
+            stage: Stage::Unopened,
+        }
+    }
+}
+
+impl<R: Files> Read for InputFile<'_, R> {
+    fn read(&mut self, buf: &mut [u8]) -> io::Result<usize> {
+        if matches!(self.stage, Stage::Unopened) {
+            self.stage = Stage::Open(fs::open(self.files, self.name)?);
+        }
+        let taken = match &mut self.stage {
+            Stage::Open(file) => file.read(buf)?,
+            _ => 0,
+        };
+        if taken == 0 {
+            self.stage = Stage::Ended;
+        }
+        Ok(taken)
+    }
+}
+
+/// A file that is created, or emptied where it is there, at its first write. Where that can't be done the
+/// write fails.
+#[derive(Drop)]
+pub struct OutputFile<'a, R: Files> {
+    files: &'a R,
+    name: &'a str,
+    file: Option<R::File>,
+}
+
+impl<'a, R: Files> OutputFile<'a, R> {
+    /// Creates nothing yet.
+    pub fn new(files: &'a R, name: &'a str) -> OutputFile<'a, R> {
+        OutputFile {
+            files,
+            name,
+            file: None,
+        }
+    }
+}
+
+impl<R: Files> Write for OutputFile<'_, R> {
+    fn write(&mut self, buf: &[u8]) -> io::Result<usize> {
+        if self.file.is_none() {
+            self.file = Some(fs::create(self.files, self.name)?);
+        }
+        match &mut self.file {
+            Some(file) => file.write(buf),
+            None => Ok(0),
+        }
+    }
+
+    fn flush(&mut self) -> io::Result<()> {
+        match &mut self.file {
+            Some(file) => file.flush(),
+            None => Ok(()),
+        }
+    }
+}

@@ -1,0 +1,139 @@
+//! Which words ask for what.
+
+use crate::request::Request;
+use crate::words::{WordsFault, read_words};
+use sarif_merge::States;
+use sarif_records::Level;
+use std::alloc::AllocError;
+use std::test::Fail;
+
+/// Reads words that are parted by one blank.
+fn read(rt: &HostRuntime, line: &str) -> Result<Result<Request, WordsFault>, AllocError> {
+    let mut words = Vec::new(rt.alloc());
+    for word in line.split(' ') {
+        words.push(String::from_str(rt.alloc(), word)?)?;
+    }
+    Ok(read_words(rt.alloc(), words.as_slice()))
+}
+
+/// What the words ask for; a refusal fails the test.
+fn accepted(rt: &HostRuntime, line: &str) -> Result<Request, Fail> {
+    let read = read(rt, line)?;
+    Ok(read.map_err(|_| "refused")?)
+}
+
+#[test]
+fn defaults_stand_where_no_word_says_more(rt: HostRuntime) -> Result<(), Fail> {
+    let request = accepted(&rt, "--out o a.sarif")?;
+    assert_eq!(rt; request.logs.len(), 1);
+    assert!(rt; request.logs[0].as_str() == "a.sarif");
+    assert!(rt; request.baselines.is_empty());
+    assert!(rt; request.suppress.is_none());
+    assert!(rt; request.out.as_str() == "o");
+    assert_eq!(rt; request.today, None);
+    assert_eq!(rt; request.workers, 4);
+    assert_eq!(rt; request.policy.fail_on, Level::Error);
+    assert_eq!(rt; request.policy.max, 0);
+    let states = States {
+        absent: false,
+        fresh: true,
+        unchanged: false,
+        updated: true,
+    };
+    assert_eq!(rt; request.policy.states, states);
+    Ok(())
+}
+
+#[test]
+fn each_word_is_read(rt: HostRuntime) -> Result<(), Fail> {
+    let line = "--baseline b --suppress=s --today 20250131 a --workers 64 --fail-on note \
+        --max 4294967295 --baseline c --out o d";
+    let request = accepted(&rt, line)?;
+    assert_eq!(rt; request.logs.len(), 2);
+    assert!(rt; request.logs[0].as_str() == "a");
+    assert!(rt; request.logs[1].as_str() == "d");
+    assert_eq!(rt; request.baselines.len(), 2);
+    assert!(rt; request.baselines[0].as_str() == "b");
+    assert!(rt; request.baselines[1].as_str() == "c");
+    assert!(rt; request.suppress.is_some_and(|name| name.as_str() == "s"));
+    assert_eq!(rt; request.today, Some(20_250_131));
+    assert_eq!(rt; request.workers, 64);
+    assert_eq!(rt; request.policy.fail_on, Level::Note);
+    assert_eq!(rt; request.policy.max, 4_294_967_295);
+    Ok(())
+}
+
+#[test]
+fn ends_of_the_ranges_are_taken(rt: HostRuntime) -> Result<(), Fail> {
+    let least = accepted(
+        &rt,
+        "a --out o --today 10000101 --workers 1 --max 0 --fail-on none",
+    )?;
+    assert_eq!(rt; least.today, Some(10_000_101));
+    assert_eq!(rt; least.workers, 1);
+    assert_eq!(rt; least.policy.fail_on, Level::NoLevel);
+    let most = accepted(&rt, "a --out o --today 99991231 --fail-on warning")?;
+    assert_eq!(rt; most.today, Some(99_991_231));
+    assert_eq!(rt; most.policy.fail_on, Level::Warning);
+    Ok(())
+}
+
+#[test]
+fn wrong_words_are_usage(rt: HostRuntime) -> Result<(), Fail> {
+    for line in [
+        "--out o",
+        "a",
+        "a --out o --workers 0",
+        "a --out o --workers 65",
+        "a --out o --max 4294967296",
+        "a --out o --max -1",
+        "a --out o --fail-on high",
+        "a --out o --today 0",
+        "a --out o --today 10000100",
+        "a --out o --today 99991232",
+        "a --out o --out p",
+        "a --out o --suppress s --suppress s",
+        "a --out o --workers 2 --workers 2",
+        "a --out o --max 1 --max 1",
+        "a --out o --fail-on error --fail-on error",
+        "a --out o --today 20250131 --today 20250131",
+        "a --out o --verbose",
+        "a --out",
+    ] {
+        match read(&rt, line)? {
+            Err(fault) => {
+                assert!(rt; matches!(fault, WordsFault::Usage(_)), "{line}");
+                assert_eq!(rt; fault.status(), 2);
+            }
+            Ok(_) => panic!(rt; "{line}"),
+        }
+    }
+    Ok(())
+}
+
+#[test]
+fn help_is_no_mistake(rt: HostRuntime) -> Result<(), Fail> {
+    for line in ["--help", "-h", "a --out o --help"] {
+        match read(&rt, line)? {
+            Err(fault) => {
+                assert_eq!(rt; fault.status(), 0, "{line}");
+                assert!(rt; text_of(&fault).contains("--baseline"), "{line}");
+            }
+            Ok(_) => panic!(rt; "{line}"),
+        }
+    }
+    Ok(())
+}
+
+/// The help.
+fn text_of(fault: &WordsFault) -> &str {
+    match fault {
+        WordsFault::Help(text) => text.as_str(),
+        _ => "",
+    }
+}
+
+#[test]
+fn wanting_memory_has_the_status_of_a_refusal(rt: HostRuntime) {
+    assert_eq!(rt; WordsFault::OutOfMemory.status(), 2);
+}

@@ -1,0 +1,25 @@
+-- A fault of what was read, or want of memory, says of no read and no write that it failed.
+use Rattle.std.proofs.Common.{◌≡◌, false, refl}
+use Rattle.sarif_records.specs.declared.fault.Fault.{Fault}
+use Rattle.sarif_records.specs.declared.fault.Fault.TheVariants.{NotJson, NotLog, WrongVersion, BadRun, ExternalProperties, BadRules, BadIndex, BadLevel, BadKind, BadGuid, BadFingerprint, BadLocation, BadSuppression, BadMember, AbsentInput, TooMany, OutOfMemory}
+use Rattle.sarif_merge.specs.declared.fault.At.{At}
+use Rattle.sarif_merge.specs.Fault.{cause_of, fault_at, status_of}
+
+pub quiet_fault : (at : At) (fault : Fault) → status_of (fault_at at (cause_of fault)).cause ≡ 2
+quiet_fault at NotJson = refl
+quiet_fault at NotLog = refl
+quiet_fault at WrongVersion = refl
+quiet_fault at BadRun = refl
+quiet_fault at ExternalProperties = refl
+quiet_fault at BadRules = refl
+quiet_fault at BadIndex = refl
+quiet_fault at BadLevel = refl
+quiet_fault at BadKind = refl
+quiet_fault at BadGuid = refl
+quiet_fault at BadFingerprint = refl
+quiet_fault at BadLocation = refl
+quiet_fault at BadSuppression = refl
+quiet_fault at BadMember = refl
+quiet_fault at AbsentInput = refl
+quiet_fault at TooMany = refl
+quiet_fault at OutOfMemory = refl
