@@ -2,7 +2,8 @@
 
 A case is a command with its files; what it must write stands beside it, bytes where they are known
 whole, else a check of what was written. The groups `first` and `rules` have one log on standard
-input, the second with rules, overrides and artifacts; all others have words.
+input, the second with rules, overrides and artifacts; `usage` has words that ask for no merge, and
+all others have words that do.
 """
 
 import json

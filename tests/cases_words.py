@@ -55,6 +55,11 @@ def gates():
     yield one("a day is read", ["--today", "99991231", *base], out=ONE_MERGED)
 
 
+def usual(name, words, **wanted):
+    """Words that are read and answered without a merge."""
+    return Case("usage", name, words, files={"a": ONE}, **wanted)
+
+
 def usage():
     wrong = [
         "--workers 0",
@@ -72,17 +77,17 @@ def usage():
         "--suppress",
     ]
     for words in wrong:
-        yield one(
+        yield usual(
             f"a --out o {words} is bad usage",
             ["a", "--out", "o", *words.split()],
             status=2,
             stdout=b"",
             check=says_usage,
         )
-    yield one("no log is bad usage", ["--out", "o"], status=2, stdout=b"", check=says_usage)
-    yield one("no output is bad usage", ["a"], status=2, stdout=b"", check=says_usage)
+    yield usual("no log is bad usage", ["--out", "o"], status=2, stdout=b"", check=says_usage)
+    yield usual("no output is bad usage", ["a"], status=2, stdout=b"", check=says_usage)
     for word in ("--help", "-h"):
-        yield one(f"{word} is help", [word], stderr=b"", check=says_help)
+        yield usual(f"{word} is help", [word], stderr=b"", check=says_help)
 
 
 def says_usage(answer):
