@@ -1,0 +1,87 @@
+-- The merged log of the inputs, its gate, and its text (SARIF 2.1.0, "sarifLog object").
+use Rattle.std.specs.Prelude.{ℕ, Bool, true, false, not, List, [], ◌∷◌, ◌++◌, map, length, count_by, is_some, slice_get, Option, Some, None, Result, Ok, Err, option_and_then, codes}
+use Rattle.std.specs.List.{range_with_len}
+use Rattle.serde_json.specs.Data.{Data, string, array, object, no_members, member}
+use Rattle.serde_json.specs.View.{items_of}
+use Rattle.serde_json.specs.Written.{compact_text}
+use Rattle.sarif_records.specs.declared.kinds.State.{State}
+use Rattle.sarif_records.specs.declared.record.Record.{Record}
+use Rattle.sarif_records.specs.Run.{results_array}
+use Rattle.sarif_match.specs.Partners.{partners_of, is_taken}
+use Rattle.sarif_match.specs.State.{state_of}
+use Rattle.sarif_suppress.specs.File.{File}
+use Rattle.sarif_suppress.specs.Suppressing.{unused_of}
+use Rattle.sarif_suppress.specs.Written.{suppressions_of}
+use Rattle.sarif_suppress.specs.declared.fault.SuppressFault.{SuppressFault}
+use Rattle.sarif_merge.specs.declared.policy.Policy.{Policy}
+use Rattle.sarif_merge.specs.CountOf.{count_of}
+use Rattle.sarif_merge.specs.Faults.{file_or_none}
+use Rattle.sarif_merge.specs.Gate.{gate_of}
+use Rattle.sarif_merge.specs.Inputs.{Inputs, Placed, input_runs, baseline_runs}
+use Rattle.sarif_merge.specs.Judging.{records_of}
+use Rattle.sarif_merge.specs.MergedRuns.{merged_runs, absent_runs}
+
+-- the records of all results of the logs
+abbrev pub current : Inputs → List Record
+current inputs = records_of false (input_runs inputs)
+
+-- the records of all results of the baselines, without those that are absent already
+abbrev pub baseline : Inputs → List Record
+baseline inputs = records_of true (baseline_runs inputs)
+
+-- the baseline state of each current result, by its partner
+abbrev pub states_by : List Record → List Record → List (Option ℕ) → List State
+states_by bs [] partners = []
+states_by bs (r ∷ rs) [] = []
+states_by bs (r ∷ rs) (partner ∷ partners) = state_of r (option_and_then (slice_get bs) partner) ∷ states_by bs rs partners
+
+abbrev pub states_of : List Record → List Record → List State
+states_of cs bs = states_by bs cs (partners_of cs bs)
+
+-- whether each baseline result is somebody's partner
+abbrev pub taken_of : List Record → List Record → List Bool
+taken_of cs bs = map (is_taken (partners_of cs bs)) (range_with_len 0 (length bs))
+
+abbrev pub file_in : Result File SuppressFault → File
+file_in (Ok entries) = entries
+file_in (Err fault) = record { entries = []; today = None }
+
+-- the suppression file of the inputs
+abbrev pub file : Inputs → File
+file inputs = file_in (file_or_none inputs.suppressions inputs.today)
+
+abbrev pub data_of : List Placed → List Data
+data_of runs = map (λ p. p.run) runs
+
+-- the runs of the merged log: the input runs, each result with its level, state and suppressions, and then the baseline runs
+-- with a result that is nobody's partner, with just these
+abbrev pub runs_of : Inputs → List Data
+runs_of inputs =
+    merged_runs (λ r own. suppressions_of own (file inputs) r) (current inputs) (states_of (current inputs) (baseline inputs)) (data_of (input_runs inputs))
+    ++ absent_runs (baseline inputs) (taken_of (current inputs) (baseline inputs)) (data_of (baseline_runs inputs))
+
+-- how many input runs have no results
+abbrev pub runs_without_results : List Data → ℕ
+runs_without_results runs = count_by (λ run. not (is_some (results_array run))) runs
+
+abbrev pub without_of : Inputs → ℕ
+without_of inputs = runs_without_results (data_of (input_runs inputs))
+
+-- how many entries of the suppression file match no current result
+abbrev pub unused_in : Inputs → ℕ
+unused_in inputs = unused_of (file inputs) (current inputs)
+
+-- the log with this gate and these runs
+abbrev pub log_with : Data → List Data → Data
+log_with gate runs = object
+    (member (codes "properties") (object (member (codes "gate") gate no_members))
+    (member (codes "runs") (array (items_of runs))
+    (member (codes "version") (string (codes "2.1.0")) no_members)))
+
+abbrev pub merged_log : Inputs → Policy → Data
+merged_log inputs policy =
+    log_with (gate_of (count_of (runs_of inputs)) policy (without_of inputs) (unused_in inputs)) (runs_of inputs)
+
+-- the text that is written
+abbrev pub output_text : Inputs → Policy → List ℕ
+output_text inputs policy = compact_text (merged_log inputs policy)
