@@ -1,0 +1,5 @@
+pub mod Collecting
+pub mod Held
+pub mod Numbers
+pub mod Piece
+pub mod Slot

@@ -1,0 +1,12 @@
+//! Many workers read the runs of a work; one collector puts the numbered results together again.
+#![tactic(auto)]
+
+mod collector;
+mod lists;
+mod numbered;
+mod piece;
+mod slot;
+
+pub use collector::Collector;
+pub use lists::Lists;
+pub use piece::{Parcel, Piece, Refused, Why};
