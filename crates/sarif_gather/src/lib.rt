@@ -3,10 +3,12 @@
 
 mod collector;
 mod lists;
+mod mailbox;
 mod numbered;
 mod piece;
 mod slot;
 
 pub use collector::Collector;
 pub use lists::Lists;
+pub use mailbox::{Desk, Full, Mailbox, Post, Settled};
 pub use piece::{Parcel, Piece, Refused, Why};

@@ -1,0 +1,75 @@
+//! A bounded mailbox for many senders and one taker.
+ghost use Rattle.std.specs.Prelude.{◌≡◌, ◌≤◌, ◌<◌, [], ◌∷◌, ◌++◌, OnOk, IfOk, IfErr, MatchOption};
+ghost use Rattle.sarif_gather.specs.Ends.{IsPostOf, IsDeskOf, AreNew, number_of, sent_by, taken_by};
+
+mod ends;
+mod rule;
+mod settling;
+
+use crate::mailbox::rule::{Delivery, Enlists, Sends, Takes, View};
+use crossbeam_queue::RuledArrayQueue;
+pub use ends::{Desk, Post};
+pub use settling::Settled;
+use std::alloc::{AllocError, Global};
+use std::sync::Wait;
+
+pub(crate) type Line<P> = RuledArrayQueue<(u32, P), View<P>, Delivery>;
+
+/// A queue of parcels, each with its sender.
+#[derive(Drop)]
+pub struct Mailbox<P> {
+    pub(crate) line: Line<P>,
+    pub(crate) senders: u32,
+}
+
+/// The mailbox was full. The parcel comes back.
+#[derive(Debug, Drop, PartialEq, Eq)]
+pub struct Full<P> {
+    pub parcel: P,
+}
+
+impl<P: Drop> Mailbox<P> {
+    /// A mailbox that holds `room` parcels, a post for each sender, in order, and the taker's desk.
+    pub fn new(
+        alloc: Global,
+        room: u32,
+        senders: u32,
+    ) -> Result<(Self, Vec<Post<P>>, Desk<P>), AllocError>
+        requires room { (1 ≤ room) × (room ≤ 4096) }
+        requires senders { (1 ≤ senders) × (senders ≤ 64) }
+        ensures { IfOk result (λ m. AreNew room senders m.0 m.1.items m.2) }
+    {
+        let mut posts = Vec::with_capacity(alloc, senders as usize)?;
+        let (line, mut pass) = Line::ruled(alloc, room as usize)?;
+        for number in 0..senders {
+            posts.push_reserved(Post::new(line.another::<Enlists>(&mut pass), number));
+        }
+        Ok((Mailbox { line, senders }, posts, Desk::new(pass)))
+    }
+
+    /// Puts a parcel at the back. It comes back only where the mailbox was full.
+    pub fn send<R: Wait>(&self, rt: &R, post: &mut Post<P>, parcel: P) -> Result<(), Full<P>>
+        requires { IsPostOf self.now post.old }
+        ensures post { IsPostOf self.now post.new × (number_of post.new ≡ number_of post.old) }
+        ensures ok { OnOk result (sent_by post.new ≡ sent_by post.old ++ parcel ∷ []) }
+        ensures full { IfErr result (λ f. (f.parcel ≡ parcel) × (sent_by post.new ≡ sent_by post.old)) }
+    {
+        match self
+            .line
+            .push_as::<Sends, R>(rt, &mut post.pass, (post.number, parcel))
+        {
+            Ok(()) => Ok(()),
+            Err((_, parcel)) => Err(Full { parcel }),
+        }
+    }
+
+    /// Takes the sender and the parcel at the front. None comes only where the mailbox was empty.
+    pub fn take<R: Wait>(&self, rt: &R, desk: &mut Desk<P>) -> Option<(u32, P)>
+        requires { IsDeskOf self.now desk.old }
+        ensures desk { IsDeskOf self.now desk.new }
+        ensures taken { MatchOption result (taken_by desk.new ≡ taken_by desk.old)
+            (λ p. taken_by desk.new ≡ taken_by desk.old ++ p ∷ []) }
+    {
+        self.line.pop_as::<Takes, R>(rt, &mut desk.pass)
+    }
+}
