@@ -1,4 +1,6 @@
+pub mod DealSteps
 pub mod Deliveries
+pub mod HandSums
 pub mod Numbering
 pub mod Places
 pub mod Runs

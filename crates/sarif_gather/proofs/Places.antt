@@ -1,6 +1,8 @@
 -- Places of lists.
 use Rattle.std.proofs.Common.{◌≡◌, ℕ, zero, suc, ◌⊎◌, List, [], ◌∷◌, ◌++◌, length, Option, Some, None, refl, ap, inl, inr, ⊎_elim}
 use Rattle.std.specs.Prelude.{slice_get}
+use mathlib.Core.Option.{some}
+use lib.ListN.{get_elem?}
 
 module _ {A : Type 0} where
   -- what stands in a list with one more element
@@ -9,3 +11,13 @@ module _ {A : Type 0} where
   slice_get_push [] y (suc k) x e = absurd (cc)
   slice_get_push (z ∷ zs) y zero x e = inl e
   slice_get_push (z ∷ zs) y (suc k) x e = ⊎_elim (λ h. inl h) (λ h. inr (ap suc h.0, h.1)) (slice_get_push zs y k x e)
+
+  -- the same place in the words of shared structures
+  pub elem : (xs : List A) (k : ℕ) (x : A) → slice_get xs k ≡ Some x → get_elem? xs k ≡ some x
+  elem [] k x e = absurd (cc)
+  elem (y ∷ ys) zero x e = ap some (cc)
+  elem (y ∷ ys) (suc k) x e = elem ys k x e
+
+  pub slice_get_last : (xs : List A) (y : A) → slice_get (xs ++ y ∷ []) (length xs) ≡ Some y
+  slice_get_last [] y = refl
+  slice_get_last (x ∷ xs) y = slice_get_last xs y

@@ -1,6 +1,8 @@
+pub mod Claims
 pub mod Collecting
 pub mod Delivery
 pub mod Ends
+pub mod Hands
 pub mod Held
 pub mod Numbers
 pub mod Piece

@@ -2,6 +2,7 @@
 #![tactic(auto)]
 
 mod collector;
+mod deal;
 mod lists;
 mod mailbox;
 mod numbered;
@@ -9,6 +10,7 @@ mod piece;
 mod slot;
 
 pub use collector::Collector;
+pub use deal::{Deal, Hand};
 pub use lists::Lists;
 pub use mailbox::{Desk, Full, Mailbox, Post, Settled};
 pub use piece::{Parcel, Piece, Refused, Why};
