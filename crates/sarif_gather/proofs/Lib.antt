@@ -2,6 +2,7 @@ pub mod DealSteps
 pub mod Deliveries
 pub mod HandSums
 pub mod Numbering
+pub mod Parcels
 pub mod Places
 pub mod Runs
 pub mod Settlements

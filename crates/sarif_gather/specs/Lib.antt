@@ -6,5 +6,6 @@ pub mod Hands
 pub mod Held
 pub mod Numbers
 pub mod Piece
+pub mod Pieces
 pub mod Senders
 pub mod Slot

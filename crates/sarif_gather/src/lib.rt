@@ -3,14 +3,17 @@
 
 mod collector;
 mod deal;
+mod gather;
 mod lists;
 mod mailbox;
 mod numbered;
 mod piece;
 mod slot;
+mod work;
 
 pub use collector::Collector;
 pub use deal::{Deal, Hand};
 pub use lists::Lists;
 pub use mailbox::{Desk, Full, Mailbox, Post, Settled};
 pub use piece::{Parcel, Piece, Refused, Why};
+pub use work::{Gate, NoGate, Work};

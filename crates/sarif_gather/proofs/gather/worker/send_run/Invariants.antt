@@ -1,0 +1,11 @@
+use Rattle.std.proofs.Common.{◌≡◌, ◌++◌, map}
+use Rattle.std.specs.List.{range_with_len}
+use Rattle.sarif_gather.specs.declared.piece.Piece.TheVariants.{Item}
+use Rattle.sarif_gather.specs.declared.piece.Parcel.TheVariants.{Carry}
+use Rattle.sarif_gather.specs.Ends.{IsPostOf, number_of, sent_by}
+use Rattle.sarif_gather.proofs.gather.worker.send_run.Given as goal
+
+abbrev pub invariant-loop-seq : goal.invariant-loop-seq
+invariant-loop-seq g l =
+    IsPostOf l.mailbox l.post × (number_of l.post ≡ number_of l.fn.post)
+    × (sent_by l.post ≡ sent_by l.fn.post ++ map Carry (map (λ seq. Item l.run seq (g.W.Work.item l.work l.run seq)) (range_with_len 0 l.seq)))

@@ -1,0 +1,11 @@
+use Rattle.std.proofs.Common.{◌≡◌, map}
+use Rattle.sarif_gather.specs.declared.piece.Parcel.TheVariants.{Carry}
+use Rattle.sarif_gather.specs.Ends.{IsPostOf, number_of, sent_by}
+use Rattle.sarif_gather.specs.Hands.{IsHandOf, drawn_by}
+use Rattle.sarif_gather.specs.Pieces.{pieces_of_runs}
+use Rattle.sarif_gather.proofs.gather.worker.send_runs.Given as goal
+
+abbrev pub invariant-loop : goal.invariant-loop
+invariant-loop g l =
+    (goal.iterator-loop g).can_next l.iterator' × (goal.iterator-loop g).is_finite l.iterator' × IsPostOf l.mailbox l.post × (number_of l.post ≡ number_of l.fn.post) × IsHandOf l.deal l.hand
+    × (sent_by l.post ≡ map Carry (pieces_of_runs (g.W.Work.count l.work) (g.W.Work.item l.work) (g.W.Work.end l.work) (drawn_by l.hand)))

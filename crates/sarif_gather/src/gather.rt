@@ -1,0 +1,3 @@
+//! Many workers, one collector.
+
+mod worker;
