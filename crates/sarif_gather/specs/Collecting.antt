@@ -1,5 +1,5 @@
 -- What a collector does with a piece: it takes it in, or there is a reason against it.
-use Rattle.std.specs.Prelude.{◌≡◌, ℕ, if◌then◌else◌, List, Option, Some, None, slice_get, slice_set}
+use Rattle.std.specs.Prelude.{◌≡◌, ℕ, if◌then◌else◌, List, [], ◌∷◌, Option, Some, None, slice_get, slice_set}
 use Rattle.std.specs.Ordering.{nat_cmp}
 use Rattle.std.specs.BTreeMap.{insert_entry}
 use Rattle.sarif_gather.specs.declared.piece.Piece.{Piece}
@@ -49,3 +49,14 @@ module _ {T C : Type 0} where
 abbrev pub IsReason : Option Why → Why → Type 0
 IsReason None why = why ≡ OutOfMemory
 IsReason (Some reason) why = why ≡ reason
+
+module _ {T C : Type 0} where
+  -- a run after its pieces
+  abbrev pub run_after : Held T C → List (Piece T C) → Held T C
+  run_after run [] = run
+  run_after run (piece ∷ pieces) = run_after (step_at run piece) pieces
+
+  -- all runs after these pieces
+  abbrev pub all_after : List (Held T C) → List (Piece T C) → List (Held T C)
+  all_after runs [] = runs
+  all_after runs (piece ∷ pieces) = all_after (with_piece runs piece) pieces

@@ -8,4 +8,5 @@ pub mod Numbers
 pub mod Piece
 pub mod Pieces
 pub mod Senders
+pub mod Served
 pub mod Slot

@@ -1,5 +1,5 @@
 -- The pieces of a work's runs, and lists of pieces and parcels.
-use Rattle.std.specs.Prelude.{ℕ, ◌==◌, List, [], ◌∷◌, ◌++◌, map, filter, false}
+use Rattle.std.specs.Prelude.{ℕ, ◌+◌, ◌==◌, List, [], ◌∷◌, ◌++◌, map, filter, false}
 use Rattle.std.specs.List.{range_with_len, flat_map}
 use Rattle.sarif_gather.specs.declared.piece.Piece.{Piece}
 use Rattle.sarif_gather.specs.declared.piece.Piece.TheVariants.{Item, Close}
@@ -41,3 +41,9 @@ module _ {T C : Type 0} where
 -- what stands in a list, without the senders
 abbrev pub parcels_in : {P : Type 0} → List (ℕ × P) → List P
 parcels_in h = map (λ x. x.1) h
+
+-- how many ends are among the parcels
+abbrev pub ends_in : {T C : Type 0} → List (Parcel T C) → ℕ
+ends_in [] = 0
+ends_in (Carry piece ∷ parcels) = ends_in parcels
+ends_in (End short ∷ parcels) = 1 + ends_in parcels

@@ -1,0 +1,68 @@
+//! The calling thread, which takes what the workers send.
+ghost use Rattle.std.specs.Prelude.{◌≡◌, [], OnOk};
+ghost use Rattle.std.specs.Bool.{OnTrue};
+ghost use Rattle.sarif_gather.specs.Collecting.{with_piece, all_after};
+ghost use Rattle.sarif_gather.specs.Ends.{IsDeskOf, taken_by};
+ghost use Rattle.sarif_gather.specs.Pieces.{carried, ends_in, parcels_in};
+
+use crate::collector::Collector;
+use crate::mailbox::{Desk, Mailbox};
+use crate::piece::{Parcel, Piece};
+use crate::work::Gate;
+use std::sync::Wait;
+use std::thread;
+
+// Gives a piece to the collector. False where there was no memory for it.
+fn take_in<T: Drop, C: Drop, G: Gate>(
+    collector: &mut Collector<T, C>,
+    gate: &G,
+    piece: Piece<T, C>,
+) -> bool
+    ensures { OnTrue result (collector.new ≡ with_piece collector.old piece) }
+{
+    let item = match &piece {
+        Piece::Item { run, seq, .. } => Some((*run, *seq)),
+        Piece::Close { .. } => None,
+    };
+    let is_taken = collector.accept(piece).is_ok();
+    if let Some((run, seq)) = item {
+        gate.taken(run, seq);
+    }
+    is_taken
+}
+
+/// Takes parcels until each worker that was started has sent its end, and gives the pieces to the
+/// collector. False where a worker or the collector found no memory.
+pub fn receive<T: Drop, C: Drop, G: Gate, R: Wait>(
+    rt: &R,
+    mailbox: &Mailbox<Parcel<T, C>>,
+    desk: &mut Desk<Parcel<T, C>>,
+    started: usize,
+    collector: &mut Collector<T, C>,
+    gate: &G,
+) -> bool
+    requires { IsDeskOf mailbox.now desk.old × (taken_by desk.old ≡ []) }
+    ensures desk { IsDeskOf mailbox.now desk.new }
+    ensures ends { ends_in (parcels_in (taken_by desk.new)) ≡ started }
+    ensures all { OnTrue result (collector.new
+        ≡ all_after collector.old (carried (parcels_in (taken_by desk.new)))) }
+{
+    let mut ended = 0;
+    let mut is_whole = true;
+    for _ in rt.forever() {
+        if ended == started {
+            return is_whole;
+        }
+        match mailbox.take(rt, desk) {
+            Some((_, Parcel::Carry(piece))) => {
+                is_whole = take_in(collector, gate, piece) && is_whole;
+            }
+            Some((_, Parcel::End { short })) => {
+                ended += 1;
+                is_whole = is_whole && !short;
+            }
+            None => thread::yield_now(),
+        }
+    }
+    unreachable!()
+}
