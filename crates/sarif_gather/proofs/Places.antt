@@ -21,3 +21,8 @@ module _ {A : Type 0} where
   pub slice_get_last : (xs : List A) (y : A) → slice_get (xs ++ y ∷ []) (length xs) ≡ Some y
   slice_get_last [] y = refl
   slice_get_last (x ∷ xs) y = slice_get_last xs y
+
+  pub slice_get_longer : (xs ys : List A) (k : ℕ) (x : A) → slice_get xs k ≡ Some x → slice_get (xs ++ ys) k ≡ Some x
+  slice_get_longer [] ys k x e = absurd (cc)
+  slice_get_longer (z ∷ zs) ys zero x e = e
+  slice_get_longer (z ∷ zs) ys (suc k) x e = slice_get_longer zs ys k x e

@@ -13,7 +13,7 @@ use crate::gather::worker::{Back, serve};
 use crate::mailbox::{Mailbox, Post};
 use crate::piece::Parcel;
 use crate::work::{Gate, Work};
-use std::alloc::Global;
+use std::alloc::{AllocError, Global};
 use std::sync::Wait;
 use std::thread::{Promise, PromisedHandle, Scope, Threads};
 
@@ -77,4 +77,40 @@ fn start_one<'s, E, W: Work + Sync, G: Gate + Sync, R: Threads + Wait + Sync>(
         { serve(rt, alloc, work, gate, deal, mailbox, post, hand) },
     );
     started.ok()
+}
+
+// Starts a worker for each post. It stops where no thread could be started.
+fn start_all<'s, E, W: Work + Sync, G: Gate + Sync, R: Threads + Wait + Sync>(
+    scope: &Scope<'s, E>,
+    rt: &'s R,
+    alloc: Global,
+    work: &'s W,
+    gate: &'s G,
+    deal: &'s Deal,
+    mailbox: &'s Mailbox<Parcel<W::Item, W::Tail>>,
+    posts: Vec<Post<Parcel<W::Item, W::Tail>>>,
+    mut hands: Vec<Hand>,
+) -> Result<Vec<PromisedHandle<Back<Parcel<W::Item, W::Tail>>, Service<'s, W>>>, AllocError>
+    requires deal { runs_of deal.now ≡ W.run_count work.now }
+    requires posts { (i : ℕ) (post : _) → slice_get posts.items i ≡ Some post
+        → IsNewPost mailbox.now i post }
+    requires hands { (i : ℕ) (hand : _) → slice_get hands.items i ≡ Some hand
+        → IsHandOf deal.now hand × (drawn_by hand ≡ []) }
+    requires count { vec_len hands ≡ vec_len posts }
+    ensures each { IfOk result (λ v. (k : ℕ) (h : _) → slice_get v.items k ≡ Some h
+        → (h.promise.work.now ≡ work.now) × (h.promise.deal.now ≡ deal.now)
+        × (h.promise.mailbox.now ≡ mailbox.now) × (h.promise.worker ≡ k)) }
+{
+    let mut handles = Vec::with_capacity(alloc, posts.len())?;
+    for post in posts {
+        let Some(hand) = hands.pop() else {
+            unreachable!()
+        };
+        let started = start_one(scope, rt, alloc, work, gate, deal, mailbox, post, hand);
+        let Some(handle) = started else {
+            break;
+        };
+        handles.push_reserved(handle);
+    }
+    Ok(handles)
 }
