@@ -1,9 +1,13 @@
+pub mod Arrivals
 pub mod DealSteps
 pub mod Deliveries
+pub mod Endings
+pub mod Gatherings
 pub mod HandSums
 pub mod Numbering
 pub mod Parcels
 pub mod Places
+pub mod RunByRun
 pub mod Runs
 pub mod Settlements
 pub mod Tallies

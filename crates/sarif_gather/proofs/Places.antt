@@ -1,5 +1,7 @@
 -- Places of lists.
-use Rattle.std.proofs.Common.{◌≡◌, ℕ, zero, suc, ◌⊎◌, List, [], ◌∷◌, ◌++◌, length, Option, Some, None, refl, ap, inl, inr, ⊎_elim}
+use Rattle.std.specs.List.{list_any}
+use Rattle.std.proofs.lemmas.Bool.{or_parts}
+use Rattle.std.proofs.Common.{◌≡◌, ℕ, zero, suc, Bool, false, sym, ◌∙◌, ◌⊎◌, List, [], ◌∷◌, ◌++◌, length, Option, Some, None, refl, ap, inl, inr, ⊎_elim}
 use Rattle.std.specs.Prelude.{slice_get}
 use mathlib.Core.Option.{some}
 use lib.ListN.{get_elem?}
@@ -26,3 +28,9 @@ module _ {A : Type 0} where
   slice_get_longer [] ys k x e = absurd (cc)
   slice_get_longer (z ∷ zs) ys zero x e = e
   slice_get_longer (z ∷ zs) ys (suc k) x e = slice_get_longer zs ys k x e
+
+  -- where no element passes, this one doesn't
+  pub none_passes : (p : A → Bool) (xs : List A) → list_any p xs ≡ false → (k : ℕ) (x : A) → slice_get xs k ≡ Some x → p x ≡ false
+  none_passes p [] none k x e = absurd (cc)
+  none_passes p (y ∷ ys) none zero x e = let same : y ≡ x = cc in ap p (sym same) ∙ (or_parts (p y) (list_any p ys) none).0
+  none_passes p (y ∷ ys) none (suc k) x e = none_passes p ys (or_parts (p y) (list_any p ys) none).1 k x e

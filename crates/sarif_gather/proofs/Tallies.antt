@@ -34,7 +34,7 @@ module _ {P : Type 0} where
       (λ (q : x.0 ≡ m → ⊥). let other = ap length (of_other x.0 m x.1 h q) in let more = tally_more m x h (omega (arith, q)) in omega arith)
       (cases_eq x.0 m)
 
-  rest_of : (k : ℕ) (x : ℕ × P) (h : List (ℕ × P)) → of_sender k (x ∷ h) ≡ [] → of_sender k h ≡ []
+  pub rest_of : (k : ℕ) (x : ℕ × P) (h : List (ℕ × P)) → of_sender k (x ∷ h) ≡ [] → of_sender k h ≡ []
   rest_of k x h none = ⊎_elim
       (λ (q : x.0 ≡ k). absurd (let e : x.1 ∷ of_sender k h ≡ [] = sym (subst (λ j. of_sender j (x ∷ h) ≡ x.1 ∷ of_sender j h) q (of_same x.0 x.1 h)) ∙ none in cc))
       (λ (q : x.0 ≡ k → ⊥). sym (of_other x.0 k x.1 h q) ∙ none)

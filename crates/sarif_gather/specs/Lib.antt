@@ -2,6 +2,7 @@ pub mod Claims
 pub mod Collecting
 pub mod Delivery
 pub mod Ends
+pub mod Gathered
 pub mod Hands
 pub mod Held
 pub mod Numbers

@@ -4,7 +4,7 @@ use Rattle.std.specs.Bool.{OnFalse}
 use Rattle.sarif_gather.specs.declared.piece.Parcel.{Parcel}
 use Rattle.sarif_gather.specs.declared.mailbox.Mailbox.{Mailbox}
 use Rattle.sarif_gather.specs.declared.deal.state.Deal.{Deal}
-use Rattle.sarif_gather.specs.declared.gather.worker.Back.{Back}
+use Rattle.sarif_gather.specs.declared.gathering.worker.Back.{Back}
 use Rattle.sarif_gather.specs.Ends.{IsPostOf, number_of, sent_by}
 use Rattle.sarif_gather.specs.Hands.{IsHandOf, drawn_by, is_marked}
 use Rattle.sarif_gather.specs.Pieces.{parcels_of}

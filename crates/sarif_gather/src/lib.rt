@@ -3,16 +3,19 @@
 
 mod collector;
 mod deal;
-mod gather;
+mod gathering;
 mod lists;
 mod mailbox;
 mod numbered;
 mod piece;
 mod slot;
+#[cfg(test)]
+mod tests;
 mod work;
 
 pub use collector::Collector;
 pub use deal::{Deal, Hand};
+pub use gathering::{GatherFault, gather};
 pub use lists::Lists;
 pub use mailbox::{Desk, Full, Mailbox, Post, Settled};
 pub use piece::{Parcel, Piece, Refused, Why};

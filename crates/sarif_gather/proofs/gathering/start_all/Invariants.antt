@@ -4,7 +4,7 @@ use Rattle.std.specs.Vec.{vec_capacity}
 use Rattle.std.specs.Vec.Iter.{into_iter_items}
 use Rattle.sarif_gather.specs.Ends.{IsNewPost}
 use Rattle.sarif_gather.specs.Hands.{IsHandOf, drawn_by}
-use Rattle.sarif_gather.proofs.gather.start_all.Given as goal
+use Rattle.sarif_gather.proofs.gathering.start_all.Given as goal
 
 abbrev pub invariant-loop-post : goal.invariant-loop-post
 invariant-loop-post g l =

@@ -3,7 +3,7 @@ use Rattle.std.specs.Bool.{OnTrue}
 use Rattle.sarif_gather.specs.Collecting.{all_after}
 use Rattle.sarif_gather.specs.Ends.{IsDeskOf, taken_by}
 use Rattle.sarif_gather.specs.Pieces.{carried, ends_in, parcels_in}
-use Rattle.sarif_gather.proofs.gather.receiving.receive.Given as goal
+use Rattle.sarif_gather.proofs.gathering.receiving.receive.Given as goal
 
 abbrev pub invariant-loop : goal.invariant-loop
 invariant-loop g l =

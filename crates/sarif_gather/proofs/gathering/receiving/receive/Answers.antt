@@ -4,14 +4,13 @@ use Rattle.sarif_gather.specs.Collecting.{with_piece, all_after}
 use Rattle.sarif_gather.specs.Ends.{taken_by}
 use Rattle.sarif_gather.specs.Pieces.{carried, ends_in, parcels_in}
 use Rattle.sarif_gather.proofs.Parcels.{carried_push, ends_push, all_after_push, carried_end, ends_end}
-use Rattle.sarif_gather.proofs.gather.receiving.receive.Goals as goal
+use Rattle.sarif_gather.proofs.gathering.receiving.receive.Goals as goal
 
 pub loop-preserved-then-take_in : goal.loop-preserved-then-take_in
 loop-preserved-then-take_in g c =
     let was = c.loop.invariant in
     let arm = c.in-Some-default-Carry in
-    let h = taken_by c.loop.desk in
-    (
+    let h = taken_by c.loop.desk in (
       tt,
       tt,
       arm.ensures.desk,
@@ -25,8 +24,7 @@ loop-preserved-then-take_in g c =
 pub loop-preserved-else-take_in : goal.loop-preserved-else-take_in
 loop-preserved-else-take_in g c =
     let was = c.loop.invariant in
-    let arm = c.in-Some-default-Carry in
-    (
+    let arm = c.in-Some-default-Carry in (
       tt,
       tt,
       arm.ensures.desk,
@@ -39,8 +37,7 @@ pub loop-preserved-then-is_whole : goal.loop-preserved-then-is_whole
 loop-preserved-then-is_whole g c =
     let was = c.loop.invariant in
     let arm = c.in-Some-default-End in
-    let h = taken_by c.loop.desk in
-    (
+    let h = taken_by c.loop.desk in (
       tt,
       tt,
       arm.ensures.desk,
@@ -54,8 +51,7 @@ loop-preserved-then-is_whole g c =
 pub loop-preserved-else-is_whole : goal.loop-preserved-else-is_whole
 loop-preserved-else-is_whole g c =
     let was = c.loop.invariant in
-    let arm = c.in-Some-default-End in
-    (
+    let arm = c.in-Some-default-End in (
       tt,
       tt,
       arm.ensures.desk,

@@ -3,7 +3,7 @@ use Rattle.sarif_gather.specs.declared.piece.Piece.TheVariants.{Item}
 use Rattle.sarif_gather.specs.declared.piece.Parcel.TheVariants.{Carry}
 use Rattle.sarif_gather.specs.Ends.{sent_by}
 use Rattle.sarif_gather.proofs.Parcels.{one_more}
-use Rattle.sarif_gather.proofs.gather.worker.send_run.Goals as goal
+use Rattle.sarif_gather.proofs.gathering.worker.send_run.Goals as goal
 
 pub loop-seq-preserved : goal.loop-seq-preserved
 loop-seq-preserved g c =

@@ -3,7 +3,7 @@ use Rattle.sarif_gather.specs.declared.piece.Parcel.TheVariants.{Carry}
 use Rattle.sarif_gather.specs.Ends.{IsPostOf, number_of, sent_by}
 use Rattle.sarif_gather.specs.Hands.{IsHandOf, drawn_by}
 use Rattle.sarif_gather.specs.Pieces.{pieces_of_runs}
-use Rattle.sarif_gather.proofs.gather.worker.send_runs.Given as goal
+use Rattle.sarif_gather.proofs.gathering.worker.send_runs.Given as goal
 
 abbrev pub invariant-loop : goal.invariant-loop
 invariant-loop g l =

@@ -1,6 +1,6 @@
 use Rattle.std.proofs.Common.{◌≡◌}
 use Rattle.sarif_gather.specs.Ends.{IsPostOf, number_of, sent_by}
-use Rattle.sarif_gather.proofs.gather.worker.send_on.Given as goal
+use Rattle.sarif_gather.proofs.gathering.worker.send_on.Given as goal
 
 abbrev pub invariant-loop : goal.invariant-loop
 invariant-loop g l =

@@ -3,7 +3,7 @@ use Rattle.std.specs.Prelude.{slice_get}
 use Rattle.std.proofs.lemmas.List.{length_push}
 use Rattle.sarif_gather.specs.Ends.{IsNewPost}
 use Rattle.sarif_gather.proofs.Places.{slice_get_push, slice_get_last, slice_get_longer}
-use Rattle.sarif_gather.proofs.gather.start_all.Goals as goal
+use Rattle.sarif_gather.proofs.gathering.start_all.Goals as goal
 
 pub start_one-started-requires-clause-hand : goal.start_one-started-requires-clause-hand
 start_one-started-requires-clause-hand g c κs within =
@@ -20,8 +20,7 @@ loop-post-preserved g c =
     let fewer = ap length steps in
     let popped = c.in-Some-pop.ensures.len in
     let mine = was.5 0 post (ap (λ l. slice_get l 0) steps) in
-    let made = c.in-Some-started.ensures in
-    (
+    let made = c.in-Some-started.ensures in (
       tt,
       tt,
       omega arith,
@@ -31,10 +30,10 @@ loop-post-preserved g c =
       λ i hand at. was.6 i hand (ap (λ l. slice_get l i) c.in-Some-pop.ensures.items ∙ slice_get_longer c.pop.new.self.items (c.in-Some-pop.hand ∷ []) i hand at),
       λ k h at. ⊎_elim (λ e. was.7 k h e)
           (λ e. (
-              ap (λ q. q.promise.work.now) (sym e.1) ∙ made.0,
-              ap (λ q. q.promise.deal.now) (sym e.1) ∙ made.1,
-              ap (λ q. q.promise.mailbox.now) (sym e.1) ∙ made.2,
-              ap (λ q. q.promise.worker) (sym e.1) ∙ made.3 ∙ mine.number ∙ omega (arith, e.0, was.2),
-            ))
+            ap (λ q. q.promise.work.now) (sym e.1) ∙ made.0,
+            ap (λ q. q.promise.deal.now) (sym e.1) ∙ made.1,
+            ap (λ q. q.promise.mailbox.now) (sym e.1) ∙ made.2,
+            ap (λ q. q.promise.worker) (sym e.1) ∙ made.3 ∙ mine.number ∙ omega (arith, e.0, was.2),
+          ))
           (slice_get_push c.loop-post.handles.items c.in-Some-started.handle k h (ap (λ l. slice_get l k) (sym c.push_reserved.ensures.items) ∙ at)),
     )

@@ -1,0 +1,56 @@
+use Rattle.std.proofs.Common.{◌≡◌, ◌<◌, ◌++◌, ℕ, List, true, map, vec_len, replicate, Some, None, sym, ap, ◌∙◌, subst, arith}
+use Rattle.std.specs.Prelude.{slice_get}
+use Rattle.sarif_gather.specs.declared.piece.Parcel.{Parcel}
+use Rattle.sarif_gather.specs.declared.mailbox.ends.Post.{Post}
+use Rattle.sarif_gather.specs.declared.deal.hand.Hand.{Hand}
+use Rattle.sarif_gather.specs.Claims.{times, total, once_below}
+use Rattle.sarif_gather.specs.Ends.{AreAllPosts, AreWhole, taken_by}
+use Rattle.sarif_gather.specs.Hands.{AreAllHands, drawn_by}
+use Rattle.sarif_gather.specs.Held.{closed_run, empty_run, first_open}
+use Rattle.sarif_gather.specs.Pieces.{lists_of}
+use Rattle.sarif_gather.proofs.Gatherings.{gathered_at, all_posts, all_hands, marked, collected, wholes_again, no_open}
+use Rattle.sarif_gather.proofs.gathering.gather.Goals as goal
+
+pub settle-requires-clause-posts : goal.settle-requires-clause-posts
+settle-requires-clause-posts g c =
+    let now = gathered_at _ _ _ _ _ _ _ _ _ _ c.in_ok-gathered.ensures (c.in_ok-collector.ensures ∙ ap (λ n. replicate n empty_run) c.runs-runs.ensures) (c.in_ok-mailbox.posts.ok.0 ∙ c.in_ok-mailbox.ensures.count) in
+    subst (λ (l : List (Post (Parcel g.row.W-Item.Denot g.row.W-Tail.Denot))). AreAllPosts c.in_ok-mailbox.mailbox l) (sym c.in_ok-posts.ensures.0) (all_posts _ _ _ _ _ _ _ _ now c.in_ok-mailbox.ensures.senders_are)
+
+pub settle-requires-2 : goal.settle-requires-2
+settle-requires-2 g c =
+    let now = gathered_at _ _ _ _ _ _ _ _ _ _ c.in_ok-gathered.ensures (c.in_ok-collector.ensures ∙ ap (λ n. replicate n empty_run) c.runs-runs.ensures) (c.in_ok-mailbox.posts.ok.0 ∙ c.in_ok-mailbox.ensures.count) in
+    subst (λ (l : List Hand). AreAllHands c.in_ok-deal.deal l) (sym c.in_ok-posts.ensures.1) (all_hands _ _ _ _ _ _ _ _ now c.in_ok-deal.ensures.hands_are)
+
+pub gather_scoped-requires-clause-hands : goal.gather_scoped-requires-clause-hands
+gather_scoped-requires-clause-hands g c κs within = λ i hand at. (c.in_ok-deal.ensures.all_of.each i hand at, (c.in_ok-deal.ensures.fresh i hand at).0)
+
+pub unreachable-requires : goal.unreachable-requires
+unreachable-requires g c =
+    let P : Type 0 = Parcel g.row.W-Item.Denot g.row.W-Tail.Denot in
+    let now = gathered_at _ _ _ _ _ _ _ _ _ _ c.in_ok-gathered.ensures (c.in_ok-collector.ensures ∙ ap (λ n. replicate n empty_run) c.runs-runs.ensures) (c.in_ok-mailbox.posts.ok.0 ∙ c.in_ok-mailbox.ensures.count) in
+    let left = c.in-Ok._settled.left.items in
+    let arrived = subst (λ (l : List (Post P)). AreWhole c.in_ok-mailbox.mailbox l (taken_by c.in_ok-gathered.gathered.desk ++ left)) c.in_ok-posts.ensures.0 c.in-Ok.ensures.whole in
+    let one = marked _ _ _ _ _ _ _ _ now (omega arith) in
+    let n = c.settle-2.ensures.marked 0 one.0.hand (ap (λ l. slice_get l 0) c.in_ok-posts.ensures.1 ∙ one.1) one.2 in
+    let runs = n ∙ c.in_ok-deal.ensures.runs_are ∙ c.runs-runs.ensures in
+    let dealt : (run : ℕ) → total (λ h. times run (drawn_by h)) (map (λ b. b.hand) c.in_ok-gathered.gathered.backs.items) ≡ once_below run (g.W.Work.run_count c.args.work.now) = λ run.
+    ap (total (λ h. times run (drawn_by h))) (sym c.in_ok-posts.ensures.1) ∙ c.settle-2.ensures.drawn run ∙ ap (once_below run) runs in
+    let all = collected _ _ _ _ _ _ _ _ now left c.in_ok-mailbox.ensures.senders_are arrived dealt in
+    let opened = c.in_default-finish.ensures.err.1 in
+    let none = ap first_open all ∙ no_open (lists_of (g.W.Work.count c.args.work.now) (g.W.Work.item c.args.work.now) (g.W.Work.end c.args.work.now) (g.W.Work.run_count c.args.work.now)) in
+    let clash : Some c.in_default-finish.field-0.0 ≡ None = sym opened ∙ none in
+    cc
+
+pub returns : goal.returns
+returns g c =
+    let P : Type 0 = Parcel g.row.W-Item.Denot g.row.W-Tail.Denot in
+    let now = gathered_at _ _ _ _ _ _ _ _ _ _ c.in_ok-gathered.ensures (c.in_ok-collector.ensures ∙ ap (λ n. replicate n empty_run) c.runs-runs.ensures) (c.in_ok-mailbox.posts.ok.0 ∙ c.in_ok-mailbox.ensures.count) in
+    let left = c.in-Ok._settled.left.items in
+    let arrived = subst (λ (l : List (Post P)). AreWhole c.in_ok-mailbox.mailbox l (taken_by c.in_ok-gathered.gathered.desk ++ left)) c.in_ok-posts.ensures.0 c.in-Ok.ensures.whole in
+    let one = marked _ _ _ _ _ _ _ _ now (omega arith) in
+    let n = c.settle-2.ensures.marked 0 one.0.hand (ap (λ l. slice_get l 0) c.in_ok-posts.ensures.1 ∙ one.1) one.2 in
+    let runs = n ∙ c.in_ok-deal.ensures.runs_are ∙ c.runs-runs.ensures in
+    let dealt : (run : ℕ) → total (λ h. times run (drawn_by h)) (map (λ b. b.hand) c.in_ok-gathered.gathered.backs.items) ≡ once_below run (g.W.Work.run_count c.args.work.now) = λ run.
+    ap (total (λ h. times run (drawn_by h))) (sym c.in_ok-posts.ensures.1) ∙ c.settle-2.ensures.drawn run ∙ ap (once_below run) runs in
+    let all = collected _ _ _ _ _ _ _ _ now left c.in_ok-mailbox.ensures.senders_are arrived dealt in
+    wholes_again c.in-Ok-finish.lists (lists_of (g.W.Work.count c.args.work.now) (g.W.Work.item c.args.work.now) (g.W.Work.end c.args.work.now) (g.W.Work.run_count c.args.work.now)) (sym c.in-Ok-finish.ensures.ok ∙ all)
