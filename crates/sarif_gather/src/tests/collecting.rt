@@ -1,4 +1,6 @@
 //! Pieces and the collector.
+ghost use Rattle.std.specs.Prelude.{◌≤◌};
+
 use crate::{Collector, Piece, Refused, Why};
 use std::alloc::Global;
 use std::test::Fail;
@@ -17,24 +19,54 @@ fn collector(alloc: Global, runs: u32) -> Result<Collector<u8, u8>, Fail>
     Ok(Collector::new(alloc, runs)?)
 }
 
-ghost use Rattle.std.specs.Prelude.{◌≤◌};
-
 #[test]
 fn refused_piece_comes_back_with_the_first_reason(rt: HostRuntime) -> Result<(), Fail> {
     let mut all = collector(rt.alloc(), 2)?;
     assert!(rt; all.accept(item(0, 0, 7)).is_ok());
     let doubled = all.accept(item(0, 0, 8));
-    assert_eq!(rt; doubled, Err(Refused { piece: item(0, 0, 8), why: Why::Double }));
-    assert_eq!(rt; all.accept(item(2, 0, 8)), Err(Refused { piece: item(2, 0, 8), why: Why::Stranger }));
-    assert_eq!(rt; all.accept(close(0, 2, 1)), Err(Refused { piece: close(0, 2, 1), why: Why::Short }));
+    assert_eq!(rt;
+        doubled,
+        Err(Refused {
+            piece: item(0, 0, 8),
+            why: Why::Double
+        })
+    );
+    assert_eq!(rt;
+        all.accept(item(2, 0, 8)),
+        Err(Refused {
+            piece: item(2, 0, 8),
+            why: Why::Stranger
+        })
+    );
+    assert_eq!(rt;
+        all.accept(close(0, 2, 1)),
+        Err(Refused {
+            piece: close(0, 2, 1),
+            why: Why::Short
+        })
+    );
     assert!(rt; all.accept(close(0, 1, 1)).is_ok());
-    assert_eq!(rt; all.accept(item(0, 0, 9)), Err(Refused { piece: item(0, 0, 9), why: Why::AfterClose }));
-    assert_eq!(rt; all.accept(close(0, 1, 1)), Err(Refused { piece: close(0, 1, 1), why: Why::AfterClose }));
+    assert_eq!(rt;
+        all.accept(item(0, 0, 9)),
+        Err(Refused {
+            piece: item(0, 0, 9),
+            why: Why::AfterClose
+        })
+    );
+    assert_eq!(rt;
+        all.accept(close(0, 1, 1)),
+        Err(Refused {
+            piece: close(0, 1, 1),
+            why: Why::AfterClose
+        })
+    );
     Ok(())
 }
 
 #[test]
-fn finish_names_the_least_open_run_and_hands_the_collector_back(rt: HostRuntime) -> Result<(), Fail> {
+fn finish_names_the_least_open_run_and_hands_the_collector_back(
+    rt: HostRuntime,
+) -> Result<(), Fail> {
     let mut all = collector(rt.alloc(), 2)?;
     assert!(rt; all.accept(close(0, 0, 5)).is_ok());
     let Err((run, mut all)) = all.finish() else {
@@ -55,7 +87,13 @@ fn finish_names_the_least_open_run_and_hands_the_collector_back(rt: HostRuntime)
 #[test]
 fn items_come_out_in_the_order_of_their_numbers(rt: HostRuntime) -> Result<(), Fail> {
     let mut all = collector(rt.alloc(), 1)?;
-    for piece in [item(0, 3, 13), item(0, 1, 11), item(0, 0, 10), item(0, 2, 12), close(0, 4, 9)] {
+    for piece in [
+        item(0, 3, 13),
+        item(0, 1, 11),
+        item(0, 0, 10),
+        item(0, 2, 12),
+        close(0, 4, 9),
+    ] {
         assert!(rt; all.accept(piece).is_ok());
     }
     let Ok(mut lists) = all.finish() else {

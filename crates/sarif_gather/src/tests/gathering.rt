@@ -1,21 +1,35 @@
 //! The whole: workers, the mailbox, the deal and the collector.
 ghost use Rattle.std.specs.Prelude.{◌≡◌, ◌≤◌, ◌<◌, ◌+◌, ◌*◌, length, slice_index};
-ghost use Rattle.sarif_gather.specs.Pieces.{lists_of};
 
 use crate::{Gate, GatherFault, Lists, NoGate, Work, gather};
 use std::alloc::{AllocError, Global};
+use std::process::Abort;
 use std::sync::atomic::{AtomicU64, Ordering};
 use std::test::Fail;
-use std::thread;
 
-/// Runs with so many items. The item of a run with a number is 1,000 times the run and the number.
+// How often a test looks at a flag before it notes a miss.
+const TURNS: u32 = 50_000_000;
+
+// True once the flag is set.
+fn waits_for(flag: &AtomicU64) -> bool {
+    for _ in 0..TURNS {
+        if flag.load(Ordering::SeqCst) != 0 {
+            return true;
+        }
+    }
+    false
+}
+
+/// Runs with so many items. The item of a run with a number is 100,000 times the run and the number.
 #[derive(Clone, Copy)]
-struct Counts<'a> {
+struct Numbers<'a> {
     counts: &'a [u32],
+    // The item for which there is no memory.
+    lacking: Option<(u32, u32)>,
     ghost few: { length counts.now ≤ 10000 },
 }
 
-impl<'a> Work for Counts<'a> {
+impl<'a> Work for Numbers<'a> {
     type Head = u32;
 
     type Item = u64;
@@ -47,10 +61,230 @@ impl<'a> Work for Counts<'a> {
     }
 
     fn make(&self, _alloc: Global, head: &u32, seq: u32) -> Result<u64, AllocError> {
+        if self.lacking == Some((*head, seq)) {
+            return Err(AllocError);
+        }
         Ok(100000 * *head as u64 + seq as u64)
     }
 
     fn tail(&self, head: u32) -> u32 {
         head
     }
+}
+
+// Each run has its items in order, and its tail.
+fn assert_whole(rt: &impl Abort, counts: &[u32], lists: &Lists<u64, u32>) {
+    assert!(rt; lists.runs() as usize == counts.len());
+    for run in 0..lists.runs() {
+        let items = lists.items(run);
+        assert!(rt; items.len() == counts[run as usize] as usize);
+        for (seq, item) in items.iter().enumerate() {
+            assert!(rt; *item == 100000 * run as u64 + seq as u64);
+        }
+        assert!(rt; *lists.tail(run) == run);
+    }
+}
+
+#[test]
+fn lists_are_the_same_for_all_workers_and_rooms(rt: HostRuntime) -> Result<(), Fail> {
+    let counts = [2, 0, 5];
+    let work = Numbers {
+        counts: &counts,
+        lacking: None,
+    };
+    for (workers, room) in [(1, 1), (64, 1), (64, 4096), (1, 2), (3, 2)] {
+        let Ok(lists) = gather(&rt, rt.alloc(), &work, workers, room, &NoGate) else {
+            panic!(rt; "there are memory and threads")
+        };
+        assert_whole(&rt, &counts, &lists);
+    }
+    Ok(())
+}
+
+#[test]
+fn many_workers_share_a_narrow_room(rt: HostRuntime) -> Result<(), Fail> {
+    let counts = [20000, 20000];
+    let work = Numbers {
+        counts: &counts,
+        lacking: None,
+    };
+    let Ok(lists) = gather(&rt, rt.alloc(), &work, 64, 1, &NoGate) else {
+        panic!(rt; "there are memory and threads")
+    };
+    assert_whole(&rt, &counts, &lists);
+    Ok(())
+}
+
+#[test]
+fn want_of_memory_is_answered_once_all_workers_ended(rt: HostRuntime) -> Result<(), Fail> {
+    let counts = [5, 5, 5];
+    let work = Numbers {
+        counts: &counts,
+        lacking: Some((1, 3)),
+    };
+    for workers in [1, 2, 64] {
+        let Err(fault) = gather(&rt, rt.alloc(), &work, workers, 1, &NoGate) else {
+            panic!(rt; "an item has no memory")
+        };
+        assert!(rt; fault == GatherFault::OutOfMemory);
+    }
+    Ok(())
+}
+
+/// The worker of each run waits for the worker of the other.
+#[derive(Drop)]
+struct Meeting {
+    started: [AtomicU64; 2],
+    misses: AtomicU64,
+}
+
+impl Gate for Meeting {
+    fn making(&self, run: u32, _seq: u32) {
+        if run > 1 {
+            return;
+        }
+        self.started[run as usize].store(1, Ordering::SeqCst);
+        if !waits_for(&self.started[1 - run as usize]) {
+            self.misses.store(1, Ordering::SeqCst);
+        }
+    }
+
+    fn taken(&self, _run: u32, _seq: u32) {}
+}
+
+#[test]
+fn two_workers_meet(rt: HostRuntime) -> Result<(), Fail> {
+    let counts = [1, 1];
+    let work = Numbers {
+        counts: &counts,
+        lacking: None,
+    };
+    let gate = Meeting {
+        started: [AtomicU64::new(0), AtomicU64::new(0)],
+        misses: AtomicU64::new(0),
+    };
+    let Ok(lists) = gather(&rt, rt.alloc(), &work, 2, 1, &gate) else {
+        panic!(rt; "there are memory and threads")
+    };
+    assert_whole(&rt, &counts, &lists);
+    assert!(rt; gate.misses.load(Ordering::SeqCst) == 0);
+    Ok(())
+}
+
+/// Notes an item that is made while more than the room's parcels wait.
+#[derive(Drop)]
+struct Room {
+    room: u64,
+    taken: AtomicU64,
+    misses: AtomicU64,
+}
+
+impl Gate for Room {
+    fn making(&self, _run: u32, seq: u32) {
+        let taken = self.taken.load(Ordering::SeqCst);
+        if taken.wrapping_add(self.room).wrapping_add(1) < seq as u64 {
+            self.misses.store(1, Ordering::SeqCst);
+        }
+    }
+
+    fn taken(&self, _run: u32, seq: u32) {
+        if seq == 0 {
+            waits_for(&self.misses);
+        }
+        self.taken.fetch_add(1, Ordering::SeqCst);
+    }
+}
+
+#[test]
+fn room_bounds_what_waits(rt: HostRuntime) -> Result<(), Fail> {
+    let counts = [100];
+    let work = Numbers {
+        counts: &counts,
+        lacking: None,
+    };
+    let gate = Room {
+        room: 1,
+        taken: AtomicU64::new(0),
+        misses: AtomicU64::new(0),
+    };
+    let Ok(lists) = gather(&rt, rt.alloc(), &work, 1, 1, &gate) else {
+        panic!(rt; "there are memory and threads")
+    };
+    assert_whole(&rt, &counts, &lists);
+    assert!(rt; gate.misses.load(Ordering::SeqCst) == 0);
+    Ok(())
+}
+
+/// Three runs of one item. That of run 0 waits for those of runs 1 and 2.
+#[derive(Clone, Copy)]
+struct Dealt<'a> {
+    second: &'a AtomicU64,
+    third: &'a AtomicU64,
+    misses: &'a AtomicU64,
+}
+
+impl<'a> Work for Dealt<'a> {
+    type Head = u32;
+
+    type Item = u32;
+
+    type Tail = ();
+
+    ghost run_count = { λ w. 3 };
+
+    ghost count = { λ w run. 1 };
+
+    ghost item = { λ w run seq. run };
+
+    ghost end = { λ w run. tt };
+
+    ghost IsHeadOf = { λ w run head. head ≡ run };
+
+    ghost use Rattle.std.proofs.Common.{arith};
+
+    ghost few = { λ w. Prim.omega arith };
+
+    fn runs(&self) -> u32 {
+        3
+    }
+
+    fn start(&self, _alloc: Global, run: u32) -> Result<u32, AllocError> {
+        Ok(run)
+    }
+
+    fn len(&self, _head: &u32) -> u32 {
+        1
+    }
+
+    fn make(&self, _alloc: Global, head: &u32, _seq: u32) -> Result<u32, AllocError> {
+        match *head {
+            1 => self.second.store(1, Ordering::SeqCst),
+            2 => self.third.store(1, Ordering::SeqCst),
+            _ => {
+                if !(waits_for(self.second) && waits_for(self.third)) {
+                    self.misses.store(1, Ordering::SeqCst);
+                }
+            }
+        }
+        Ok(*head)
+    }
+
+    fn tail(&self, _head: u32) {}
+}
+
+#[test]
+fn runs_are_dealt_as_workers_come_free(rt: HostRuntime) -> Result<(), Fail> {
+    let (second, third) = (AtomicU64::new(0), AtomicU64::new(0));
+    let misses = AtomicU64::new(0);
+    let work = Dealt {
+        second: &second,
+        third: &third,
+        misses: &misses,
+    };
+    let Ok(lists) = gather(&rt, rt.alloc(), &work, 2, 1, &NoGate) else {
+        panic!(rt; "there are memory and threads")
+    };
+    assert!(rt; lists.runs() == 3);
+    assert!(rt; misses.load(Ordering::SeqCst) == 0);
+    Ok(())
 }
