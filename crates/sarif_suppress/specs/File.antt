@@ -1,0 +1,55 @@
+-- Reading the suppression file.
+use Rattle.std.specs.Prelude.{ℕ, ◌+◌, ⊤, List, [], ◌∷◌, length, Option, Some, None, Result, Ok, Err, option_and_then, nat_eq, nat_le, codes, if◌then◌else◌}
+use Rattle.serde_json.specs.Data.{Data, Items}
+use Rattle.serde_json.specs.Find.{get, as_array, as_number, as_u64}
+use Rattle.sarif_records.specs.Members.{◌>>=◌, elements}
+use Rattle.sarif_suppress.specs.declared.entry.Entry.{Entry}
+use Rattle.sarif_suppress.specs.declared.fault.SuppressFault.{SuppressFault}
+use Rattle.sarif_suppress.specs.declared.fault.SuppressFault.TheVariants.{NotList, WrongVersion, TooMany}
+use Rattle.sarif_suppress.specs.declared.version.Version.{Version}
+use Rattle.sarif_suppress.specs.declared.version.Version.TheVariants.{First, Second}
+use Rattle.sarif_suppress.specs.Entries.{unless_fault, entry_of}
+
+-- the entries of a suppression file in order, and the day for which it was read, where one is known
+pub record File : Type 0 where
+  pub entries : List Entry
+  pub today : Option ℕ
+
+abbrev pub list_or : Option Items → Result (List Data) SuppressFault
+list_or None = Err NotList
+list_or (Some ds) = Ok (elements ds)
+
+-- the file is an object with an array `suppressions`
+abbrev pub check_list : Data → Result (List Data) SuppressFault
+check_list d = list_or (option_and_then as_array (get (codes "suppressions") d))
+
+abbrev pub version_or : Option ℕ → Result Version SuppressFault
+version_or None = Err WrongVersion
+version_or (Some n) =
+    if nat_eq n 1 then Ok First else (if nat_eq n 2 then Ok Second else Err WrongVersion)
+
+-- `version` is the whole number 1 or 2
+abbrev pub check_version : Data → Result Version SuppressFault
+check_version d =
+    version_or (option_and_then as_u64 (option_and_then as_number (get (codes "version") d)))
+
+-- at most 10,000 entries
+abbrev pub check_count : List Data → Result ⊤ SuppressFault
+check_count ds = unless_fault (nat_le (length ds) 10000) TooMany
+
+-- the entries from number n on, or the fault of the first that has one
+unfoldable pub entries_from : Version → Option ℕ → ℕ → List Data → Result (List Entry) SuppressFault
+entries_from version today n [] = Ok []
+entries_from version today n (d ∷ ds) = do
+  e ← entry_of version today n d
+  es ← entries_from version today (n + 1) ds
+  Ok (e ∷ es)
+
+-- the file that a value stands for
+unfoldable pub file_of_value : Option ℕ → Data → Result File SuppressFault
+file_of_value today d = do
+  ds ← check_list d
+  version ← check_version d
+  _ ← check_count ds
+  es ← entries_from version today 0 ds
+  Ok (record { entries = es; today = today })

@@ -1,0 +1,5 @@
+pub mod Matching
+pub mod Entries
+pub mod File
+pub mod Numbers
+pub mod Table

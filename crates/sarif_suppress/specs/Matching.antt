@@ -1,0 +1,64 @@
+-- Which results an entry of the suppression file matches.
+use Rattle.std.specs.Prelude.{ℕ, Bool, true, false, not, ◌&&◌, ◌||◌, List, [], ◌∷◌, Option, Some, None, is_some, nat_eq, nat_lt, bytes_eq}
+use Rattle.std.specs.List.{list_any, list_all, starts_with}
+use Rattle.sarif_records.specs.declared.record.Record.{Record}
+use Rattle.sarif_suppress.specs.declared.conditions.Conditions.{Conditions}
+use Rattle.sarif_suppress.specs.declared.entry.Entry.{Entry}
+
+-- the text is the one that is asked for, if one is
+abbrev pub is_text : Option (List ℕ) → List ℕ → Bool
+is_text None found = true
+is_text (Some text) found = bytes_eq text found
+
+-- there is a text, and it is the one that is asked for, if one is
+abbrev pub is_there : Option (List ℕ) → Option (List ℕ) → Bool
+is_there None found = true
+is_there (Some text) None = false
+is_there (Some text) (Some found) = bytes_eq text found
+
+-- there is a text, and it begins as is asked for, if anything is
+abbrev pub begins : Option (List ℕ) → Option (List ℕ) → Bool
+begins None found = true
+begins (Some prefix) None = false
+begins (Some prefix) (Some found) = starts_with nat_eq found prefix
+
+-- there is a guid, and it is the one that is asked for, if one is
+abbrev pub is_guid : Option ℕ → Option ℕ → Bool
+is_guid None found = true
+is_guid (Some guid) None = false
+is_guid (Some guid) (Some found) = nat_eq guid found
+
+-- the same name with the same value
+abbrev pub is_pair : List ℕ × List ℕ → List ℕ × List ℕ → Bool
+is_pair a b = bytes_eq a.0 b.0 && bytes_eq a.1 b.1
+
+-- each pair that is asked for stands among those found
+abbrev pub are_among : List (List ℕ × List ℕ) → List (List ℕ × List ℕ) → Bool
+are_among wanted found = list_all (λ pair. list_any (λ p. is_pair p pair) found) wanted
+
+abbrev pub is_empty : {A : Type 0} → List A → Bool
+is_empty [] = true
+is_empty (x ∷ xs) = false
+
+-- at least one condition is named
+abbrev pub is_any : Conditions → Bool
+is_any c =
+    is_some c.tool || (is_some c.rule_id || (is_some c.uri || (is_some c.uri_prefix || (is_some c.guid || (not (is_empty c.full) || not (is_empty c.partial))))))
+
+-- every condition that is named holds of the result
+abbrev pub hold : Conditions → Record → Bool
+hold c r =
+    is_text c.rule_id r.rule_id && (is_text c.tool r.tool && (is_there c.uri r.place.uri && (begins c.uri_prefix r.place.uri && (is_guid c.guid r.guid && (are_among c.full r.full && are_among c.partial r.partial)))))
+
+-- the last day lies before today; with no last day, or where no day is known, an entry doesn't expire
+abbrev pub is_past : Option ℕ → Option ℕ → Bool
+is_past None last = false
+is_past (Some today) None = false
+is_past (Some today) (Some last) = nat_lt last today
+
+abbrev pub is_expired : Option ℕ → Entry → Bool
+is_expired today e = is_past today e.expires
+
+-- the entry isn't expired, and every condition that it names holds
+abbrev pub matches : Option ℕ → Entry → Record → Bool
+matches today e r = not (is_expired today e) && hold e.conditions r

@@ -1,0 +1,38 @@
+//! An entry of the suppression file.
+ghost use Rattle.std.specs.Prelude.{◌≡◌};
+ghost use Rattle.sarif_suppress.specs.Matching as said;
+
+use crate::conditions::Conditions;
+use sarif_records::{Record, Status, Text};
+
+/// An entry of the suppression file: which results it suppresses, until when, and what is written of it.
+#[derive(Debug, Drop)]
+pub struct Entry {
+    /// What the entry asks of a result.
+    pub conditions: Conditions,
+    /// `expires`: the last day on which it suppresses, as the number yyyymmdd.
+    pub expires: Option<u32>,
+    /// `status`; absent it is `accepted`.
+    pub status: Status,
+    /// `justification`.
+    pub justification: Option<Text>,
+}
+
+impl Entry {
+    /// Whether the last day of the entry lies before `today`.
+    fn is_expired(&self, today: Option<u32>) -> bool
+        ensures { result ≡ said.is_expired today self.now }
+    {
+        match (self.expires, today) {
+            (Some(last), Some(today)) => last < today,
+            _ => false,
+        }
+    }
+
+    /// Whether the entry suppresses the result on that day.
+    pub(crate) fn matches(&self, today: Option<u32>, record: &Record) -> bool
+        ensures { result ≡ said.matches today self.now «record».now }
+    {
+        !self.is_expired(today) && self.conditions.hold(record)
+    }
+}

@@ -1,0 +1,15 @@
+//! The suppression file of `sarif_gate`: which entries a result matches, and what is written of them.
+#![tactic(auto)]
+
+mod conditions;
+mod entry;
+mod fault;
+mod read_entry;
+mod read_file;
+mod table;
+mod version;
+
+pub use conditions::Conditions;
+pub use entry::Entry;
+pub use fault::SuppressFault;
+pub use version::Version;

@@ -1,0 +1,279 @@
+//! Reading an entry of the suppression file. Each check says when it passes and else gives its fault.
+ghost use Rattle.std.specs.Prelude.{◌≡◌, option_map, Ok, Err, IfOk, IfErr};
+ghost use Rattle.serde_json.specs.View.{view, members_view};
+ghost use Rattle.sarif_records.specs.Members as told;
+ghost use Rattle.sarif_suppress.specs.Entries as said;
+
+use crate::conditions::Conditions;
+use crate::entry::Entry;
+use crate::fault::SuppressFault;
+use crate::version::Version;
+use sarif_records::members::{member_at, text_at};
+use sarif_records::{Pairs, Sequence, Status, Text};
+use serde_json::{Map, Value};
+use std::alloc::{AllocError, Global};
+use uuid::Uuid;
+
+/// Whether all members are ones that the version knows.
+fn are_members_of(version: Version, members: &Map<String, Value>) -> bool
+    ensures { result ≡ said.are_members_of version (members_view members.now.entries) }
+{
+    for (name, _) in members.iter() {
+        if !version.has_member(name.as_str()) {
+            return false;
+        }
+    }
+    true
+}
+
+/// Passes an object whose members are all ones that the version knows; else `wrong`.
+fn check_members(version: Version, wrong: SuppressFault, entry: &Value) -> Result<(), SuppressFault>
+    ensures { result ≡ said.check_members version wrong (view entry.now) }
+{
+    match entry.as_object() {
+        Some(members) => {
+            if are_members_of(version, members) {
+                Ok(())
+            } else {
+                Err(wrong)
+            }
+        }
+        None => Err(wrong),
+    }
+}
+
+/// A copy of a text, if there is one.
+fn copied(alloc: Global, text: Option<&str>) -> Result<Option<Text>, AllocError>
+    ensures { IfOk result (λ copy. copy ≡ option_map (λ s. s.now) text.entry) }
+{
+    match text {
+        Some(text) => Ok(Some(Text::copy_of(alloc, text)?)),
+        None => Ok(None),
+    }
+}
+
+/// The text `name` of an entry.
+fn own_text_at(
+    alloc: Global,
+    entry: &Value,
+    name: &str,
+    wrong: SuppressFault,
+) -> Result<Option<Text>, SuppressFault>
+    ensures ok { IfOk result (λ text. told.text_at wrong name.now (view entry.now) ≡ Ok text) }
+    ensures err { IfErr result (λ fault. (fault ≡ SuppressFault.OutOfMemory → ⊥)
+        → told.text_at wrong name.now (view entry.now) ≡ Err fault) }
+{
+    let text = text_at(entry, name, wrong)?;
+    Ok(copied(alloc, text)?)
+}
+
+/// The number of the guid that a text stands for, in any of the forms of RFC 9562.
+fn guid_of_text(text: &str) -> Option<u128>
+    ensures { result ≡ said.guid_of_text text.now }
+{
+    match Uuid::parse_str(text) {
+        Ok(guid) => Some(guid.as_u128()),
+        Err(_) => None,
+    }
+}
+
+/// The guid `name` of an entry.
+fn guid_at(entry: &Value, name: &str, wrong: SuppressFault) -> Result<Option<u128>, SuppressFault>
+    ensures { result ≡ said.guid_at wrong name.now (view entry.now) }
+{
+    match text_at(entry, name, wrong)? {
+        None => Ok(None),
+        Some(text) => match guid_of_text(text) {
+            Some(guid) => Ok(Some(guid)),
+            None => Err(wrong),
+        },
+    }
+}
+
+/// Whether all members are texts or null.
+fn are_texts(members: &Map<String, Value>) -> bool
+    ensures { result ≡ said.are_texts (members_view members.now.entries) }
+{
+    for (_, value) in members.iter() {
+        if !value.is_string() && !value.is_null() {
+            return false;
+        }
+    }
+    true
+}
+
+/// The members that are texts, with their names.
+fn pairs_of(alloc: Global, members: &Map<String, Value>) -> Result<Pairs, AllocError>
+    ensures { IfOk result (λ pairs. pairs ≡ said.pairs_of (members_view members.now.entries)) }
+{
+    let mut pairs = Sequence::new(alloc);
+    for (name, value) in members.iter() {
+        if let Some(text) = value.as_str() {
+            let name = Text::copy_of(alloc, name.as_str())?;
+            pairs.push((name, Text::copy_of(alloc, text)?))?;
+        }
+    }
+    Ok(pairs)
+}
+
+/// The map of texts `name` of an entry, without its null members; absent it is empty.
+fn pairs_at(
+    alloc: Global,
+    entry: &Value,
+    name: &str,
+    wrong: SuppressFault,
+) -> Result<Pairs, SuppressFault>
+    ensures ok { IfOk result (λ pairs. said.pairs_at wrong name.now (view entry.now) ≡ Ok pairs) }
+    ensures err { IfErr result (λ fault. (fault ≡ SuppressFault.OutOfMemory → ⊥)
+        → said.pairs_at wrong name.now (view entry.now) ≡ Err fault) }
+{
+    match member_at(entry, name) {
+        None => Ok(Sequence::new(alloc)),
+        Some(member) => match member.as_object() {
+            Some(members) => {
+                if are_texts(members) {
+                    Ok(pairs_of(alloc, members)?)
+                } else {
+                    Err(wrong)
+                }
+            }
+            None => Err(wrong),
+        },
+    }
+}
+
+/// Whether the number is a day yyyymmdd of the years 1000 to 9999, of a month 1 to 12 and a day 1 to 31.
+fn is_day(number: u64) -> bool
+    ensures { result ≡ said.is_day number }
+{
+    let month = number / 100 % 100;
+    let day = number % 100;
+    10_000_101 <= number
+        && number <= 99_991_231
+        && 1 <= month
+        && month <= 12
+        && 1 <= day
+        && day <= 31
+}
+
+/// The day `name` of an entry.
+fn day_at(entry: &Value, name: &str, wrong: SuppressFault) -> Result<Option<u32>, SuppressFault>
+    ensures { result ≡ said.day_at wrong name.now (view entry.now) }
+{
+    match member_at(entry, name) {
+        None => Ok(None),
+        Some(member) => match member.as_u64() {
+            Some(number) => {
+                if is_day(number) {
+                    Ok(Some(number as u32))
+                } else {
+                    Err(wrong)
+                }
+            }
+            None => Err(wrong),
+        },
+    }
+}
+
+/// The status `name` of an entry; absent it is `accepted`.
+fn status_at(entry: &Value, name: &str, wrong: SuppressFault) -> Result<Status, SuppressFault>
+    ensures { result ≡ said.status_at wrong name.now (view entry.now) }
+{
+    match text_at(entry, name, wrong)? {
+        None => Ok(Status::Accepted),
+        Some(text) => match Status::from_name(text) {
+            Some(status) => Ok(status),
+            None => Err(wrong),
+        },
+    }
+}
+
+/// The conditions that an entry names.
+#[tactic(auto, unfolding(crate::specs::Entries::conditions_of))]
+fn conditions_of(
+    alloc: Global,
+    entry: &Value,
+    wrong: SuppressFault,
+) -> Result<Conditions, SuppressFault>
+    ensures ok { IfOk result (λ conditions. said.conditions_of wrong (view entry.now) ≡ Ok conditions) }
+    ensures err { IfErr result (λ fault. (fault ≡ SuppressFault.OutOfMemory → ⊥)
+        → said.conditions_of wrong (view entry.now) ≡ Err fault) }
+{
+    let tool = own_text_at(alloc, entry, "tool", wrong)?;
+    let rule_id = own_text_at(alloc, entry, "ruleId", wrong)?;
+    let uri = own_text_at(alloc, entry, "uri", wrong)?;
+    let uri_prefix = own_text_at(alloc, entry, "uriPrefix", wrong)?;
+    let guid = guid_at(entry, "guid", wrong)?;
+    let full = pairs_at(alloc, entry, "fingerprints", wrong)?;
+    let partial = pairs_at(alloc, entry, "partialFingerprints", wrong)?;
+    Ok(Conditions {
+        tool,
+        rule_id,
+        uri,
+        uri_prefix,
+        guid,
+        full,
+        partial,
+    })
+}
+
+/// The entry, whose members are all known.
+#[tactic(auto, unfolding(crate::specs::Entries::members_of))]
+fn members_of(alloc: Global, entry: &Value, wrong: SuppressFault) -> Result<Entry, SuppressFault>
+    ensures ok { IfOk result (λ read. said.members_of wrong (view entry.now) ≡ Ok read) }
+    ensures err { IfErr result (λ fault. (fault ≡ SuppressFault.OutOfMemory → ⊥)
+        → said.members_of wrong (view entry.now) ≡ Err fault) }
+{
+    let conditions = conditions_of(alloc, entry, wrong)?;
+    let expires = day_at(entry, "expires", wrong)?;
+    let status = status_at(entry, "status", wrong)?;
+    let justification = own_text_at(alloc, entry, "justification", wrong)?;
+    Ok(Entry {
+        conditions,
+        expires,
+        status,
+        justification,
+    })
+}
+
+/// Passes an entry that names a condition.
+fn check_condition(number: u32, entry: &Entry) -> Result<(), SuppressFault>
+    ensures { result ≡ said.check_condition number entry.now }
+{
+    if entry.conditions.is_any() {
+        Ok(())
+    } else {
+        Err(SuppressFault::EmptyMatch(number))
+    }
+}
+
+/// Passes an entry without a last day, and every entry where the day is known.
+fn check_today(number: u32, today: Option<u32>, entry: &Entry) -> Result<(), SuppressFault>
+    ensures { result ≡ said.check_today number today entry.now }
+{
+    if entry.expires.is_some() && today.is_none() {
+        Err(SuppressFault::NeedsToday(number))
+    } else {
+        Ok(())
+    }
+}
+
+/// Entry `number` of the file.
+#[tactic(auto, unfolding(crate::specs::Entries::entry_of))]
+pub(crate) fn read_entry(
+    alloc: Global,
+    version: Version,
+    today: Option<u32>,
+    number: u32,
+    entry: &Value,
+) -> Result<Entry, SuppressFault>
+    ensures ok { IfOk result (λ read. said.entry_of version today number (view entry.now) ≡ Ok read) }
+    ensures err { IfErr result (λ fault. (fault ≡ SuppressFault.OutOfMemory → ⊥)
+        → said.entry_of version today number (view entry.now) ≡ Err fault) }
+{
+    check_members(version, SuppressFault::BadEntry(number), entry)?;
+    let entry = members_of(alloc, entry, SuppressFault::BadEntry(number))?;
+    check_condition(number, &entry)?;
+    check_today(number, today, &entry)?;
+    Ok(entry)
+}
