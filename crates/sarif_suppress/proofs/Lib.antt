@@ -1,1 +1,2 @@
 pub mod FromEntries
+pub mod Numbered

@@ -3,3 +3,4 @@ pub mod Entries
 pub mod File
 pub mod Numbers
 pub mod Table
+pub mod Suppressing

@@ -1,5 +1,6 @@
 -- The numbers of entries, counted from 0.
-use Rattle.std.specs.Prelude.{ℕ, ◌+◌, Bool, true, false, List, [], ◌∷◌, Option, Some, None, bytes_eq, if◌then◌else◌}
+use Rattle.std.specs.Prelude.{ℕ, ◌+◌, Bool, true, false, List, [], ◌∷◌, Option, Some, None, nat_lt, bytes_eq, slice_get, if◌then◌else◌}
+use Rattle.std.specs.Option.{option_map_or}
 use Rattle.sarif_suppress.specs.declared.entry.Entry.{Entry}
 
 -- the numbers of those that pass the test, where the first has number n
@@ -23,3 +24,17 @@ is_no_rule (Some wanted) = false
 -- the entry asks for no rule id
 abbrev pub asks_for_none : Entry → Bool
 asks_for_none e = is_no_rule e.conditions.rule_id
+
+-- the lesser of a number and the first of a list, before the rest of both
+abbrev pub before : ℕ → (List ℕ → List ℕ) → List ℕ → List ℕ
+before n rest [] = n ∷ rest []
+before n rest (m ∷ ms) = if nat_lt n m then n ∷ rest (m ∷ ms) else m ∷ before n rest ms
+
+-- two rising lists as one
+abbrev pub merged : List ℕ → List ℕ → List ℕ
+merged [] ms = ms
+merged (n ∷ ns) ms = before n (merged ns) ms
+
+-- whether the entry with that number passes the test
+abbrev pub passes_at : (Entry → Bool) → List Entry → ℕ → Bool
+passes_at test entries n = option_map_or test (slice_get entries n) false

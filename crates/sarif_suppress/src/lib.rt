@@ -6,6 +6,7 @@ mod entry;
 mod fault;
 mod read_entry;
 mod read_file;
+mod select;
 mod table;
 mod version;
 

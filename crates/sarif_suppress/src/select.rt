@@ -1,0 +1,106 @@
+//! Which entries match a result, among those whose numbers the table gives.
+ghost use Rattle.std.specs.Prelude.{◌≡◌, ◌+◌, ◌<◌, ◌∷◌, ◌&&◌, [], false, filter, length, IfOk, IfNone, IfSome, if◌then◌else◌};
+ghost use Rattle.std.specs.List.{list_all};
+ghost use Rattle.sarif_suppress.specs.Matching.{is_empty, matches};
+ghost use Rattle.sarif_suppress.specs.Numbers.{merged, passes_at};
+ghost use Rattle.sarif_suppress.specs.Suppressing as said;
+
+use crate::entry::Entry;
+use sarif_records::{Record, Sequence, Status};
+use std::alloc::{AllocError, Global};
+
+/// The least number of two rising lists, and what is left of both.
+fn take_least<'a>(left: &'a [u32], right: &'a [u32]) -> Option<(u32, &'a [u32], &'a [u32])>
+    ensures none { IfNone result (merged left.now right.now ≡ []) }
+    ensures least { IfSome result (λ t. merged left.now right.now ≡ t.0 ∷ merged t.1.now t.2.now) }
+    ensures fewer { IfSome result
+        (λ t. length t.1.now + length t.2.now < length left.now + length right.now) }
+{
+    match (left, right) {
+        ([], []) => None,
+        ([n, rest @ ..], []) => Some((*n, rest, right)),
+        ([], [m, rest @ ..]) => Some((*m, left, rest)),
+        ([n, left_rest @ ..], [m, right_rest @ ..]) => {
+            if *n < *m {
+                Some((*n, left_rest, right))
+            } else {
+                Some((*m, left, right_rest))
+            }
+        }
+    }
+}
+
+/// The numbers of two rising lists whose entries match the result.
+pub(crate) fn select(
+    alloc: Global,
+    entries: &[Entry],
+    today: Option<u32>,
+    record: &Record,
+    named: &[u32],
+    others: &[u32],
+) -> Result<Sequence<u32>, AllocError>
+    ensures { IfOk result (λ found. found
+        ≡ filter (passes_at (λ e. matches today e «record».now) entries.now)
+            (merged named.now others.now)) }
+{
+    let mut found = Sequence::new(alloc);
+    let mut left = named;
+    let mut right = others;
+    while let Some((number, left_rest, right_rest)) = take_least(left, right) {
+        if let Some(entry) = entries.get(number as usize) {
+            if entry.matches(today, record) {
+                found.push(number)?;
+            }
+        }
+        left = left_rest;
+        right = right_rest;
+    }
+    Ok(found)
+}
+
+/// Whether the status doesn't hinder a suppression.
+fn is_accepted(status: Status) -> bool
+    ensures { result ≡ said.is_accepted status }
+{
+    match status {
+        Status::Accepted => true,
+        Status::UnderReview | Status::Rejected => false,
+    }
+}
+
+/// Whether all of these statuses are accepted.
+fn all_accepted(statuses: &[Status]) -> bool
+    ensures { result ≡ list_all said.is_accepted statuses.now }
+{
+    statuses.iter().all(|status| is_accepted(*status))
+}
+
+/// Whether there is an entry with this number and it is accepted.
+fn is_accepted_at(entries: &[Entry], number: u32) -> bool
+    ensures { result ≡ passes_at (λ e. said.is_accepted e.status) entries.now number }
+{
+    match entries.get(number as usize) {
+        Some(entry) => is_accepted(entry.status),
+        None => false,
+    }
+}
+
+/// Whether the entries with these numbers are accepted.
+fn are_accepted(entries: &[Entry], numbers: &[u32]) -> bool
+    ensures { result
+        ≡ list_all (passes_at (λ e. said.is_accepted e.status) entries.now) numbers.now }
+{
+    numbers.iter().all(|number| is_accepted_at(entries, *number))
+}
+
+/// Whether suppressions of these statuses, and then of the entries with these numbers, suppress.
+pub(crate) fn do_suppress(held: &[Status], entries: &[Entry], numbers: &[u32]) -> bool
+    ensures { result ≡ (if is_empty held.now && is_empty numbers.now then false
+        else (list_all said.is_accepted held.now
+        && list_all (passes_at (λ e. said.is_accepted e.status) entries.now) numbers.now)) }
+{
+    if held.is_empty() && numbers.is_empty() {
+        return false;
+    }
+    all_accepted(held) && are_accepted(entries, numbers)
+}
