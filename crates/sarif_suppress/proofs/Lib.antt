@@ -1,2 +1,4 @@
 pub mod FromEntries
 pub mod Numbered
+pub mod JustTexts
+pub mod Marked

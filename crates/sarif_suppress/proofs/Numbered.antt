@@ -14,6 +14,8 @@ use Rattle.sarif_suppress.specs.declared.entry.Entry.{Entry}
 use Rattle.sarif_suppress.specs.Matching.{is_text, is_empty, matches}
 use Rattle.sarif_suppress.specs.Numbers.{numbers_from, is_rule, is_no_rule, asks_for, asks_for_none, before, merged, passes_at}
 use Rattle.sarif_suppress.specs.Suppressing.{is_accepted, suppresses}
+use Rattle.sarif_suppress.specs.Written.{with_object, with_object_if, with_objects, with_objects_at}
+use Rattle.serde_json.specs.Data.{Data}
 
 -- ---- what stands at a number
 
@@ -42,8 +44,8 @@ filter_numbers test held whole n [] holds part = refl
 filter_numbers test held whole n (e ∷ es) holds part =
     let rest : filter (passes_at test whole) (numbers_from held (n + 1) es) ≡ numbers_from test (n + 1) es = filter_numbers test held whole (n + 1) es holds part.1 in
     elim (held e) as (λ b. held e ≡ b → filter (passes_at test whole) (if b then n ∷ numbers_from held (n + 1) es else numbers_from held (n + 1) es) ≡ (if test e then n ∷ numbers_from test (n + 1) es else numbers_from test (n + 1) es)) [
-      true ↦ λ h. rw (part.0, rest) refl
-    | false ↦ λ h. rw (holds e h, rest) refl
+      | true ↦ λ h. rw (part.0, rest) refl
+      | false ↦ λ h. rw (holds e h, rest) refl
     ] refl
 
 -- ---- two lists as one
@@ -58,8 +60,8 @@ numbers_start : (test : Entry → Bool) (n m : ℕ) (es : List Entry) → n < m 
 numbers_start test n m [] below = tt
 numbers_start test n m (e ∷ es) below =
     elim (test e) as (λ b. StartsAbove n (if b then m ∷ numbers_from test (m + 1) es else numbers_from test (m + 1) es)) [
-      true ↦ below
-    | false ↦ numbers_start test n (m + 1) es (omega arith)
+      | true ↦ below
+      | false ↦ numbers_start test n (m + 1) es (omega arith)
     ]
 
 nat_lt-below : (n m : ℕ) → n < m → nat_lt n m ≡ true
@@ -84,10 +86,10 @@ merged_numbers p q n (e ∷ es) apart =
     let rest : merged (numbers_from p (n + 1) es) (numbers_from q (n + 1) es) ≡ numbers_from (λ x. p x || q x) (n + 1) es = merged_numbers p q (n + 1) es apart in
     let one_more : n ∷ merged (numbers_from p (n + 1) es) (numbers_from q (n + 1) es) ≡ n ∷ numbers_from (λ x. p x || q x) (n + 1) es = ap (λ ns. n ∷ ns) rest in
     elim (p e) as (λ b. p e ≡ b → merged (if b then n ∷ numbers_from p (n + 1) es else numbers_from p (n + 1) es) (if q e then n ∷ numbers_from q (n + 1) es else numbers_from q (n + 1) es) ≡ (if b || q e then n ∷ numbers_from (λ x. p x || q x) (n + 1) es else numbers_from (λ x. p x || q x) (n + 1) es)) [
-      true ↦ λ h. rw (apart e h) (merged_left n (numbers_from p (n + 1) es) (numbers_from q (n + 1) es) (numbers_start q n (n + 1) es (omega arith)) ∙ one_more)
-    | false ↦ λ h. elim (q e) as (λ b. merged (numbers_from p (n + 1) es) (if b then n ∷ numbers_from q (n + 1) es else numbers_from q (n + 1) es) ≡ (if b then n ∷ numbers_from (λ x. p x || q x) (n + 1) es else numbers_from (λ x. p x || q x) (n + 1) es)) [
-        true ↦ merged_right n (numbers_from p (n + 1) es) (numbers_from q (n + 1) es) (numbers_start p n (n + 1) es (omega arith)) ∙ one_more
-      | false ↦ rest
+      | true ↦ λ h. rw (apart e h) (merged_left n (numbers_from p (n + 1) es) (numbers_from q (n + 1) es) (numbers_start q n (n + 1) es (omega arith)) ∙ one_more)
+      | false ↦ λ h. elim (q e) as (λ b. merged (numbers_from p (n + 1) es) (if b then n ∷ numbers_from q (n + 1) es else numbers_from q (n + 1) es) ≡ (if b then n ∷ numbers_from (λ x. p x || q x) (n + 1) es else numbers_from (λ x. p x || q x) (n + 1) es)) [
+        | true ↦ merged_right n (numbers_from p (n + 1) es) (numbers_from q (n + 1) es) (numbers_start p n (n + 1) es (omega arith)) ∙ one_more
+        | false ↦ rest
       ]
     ] refl
 
@@ -123,16 +125,16 @@ all_numbers test picked whole n [] part = refl
 all_numbers test picked whole n (e ∷ es) part =
     let rest : list_all (passes_at test whole) (numbers_from picked (n + 1) es) ≡ list_all test (filter picked es) = all_numbers test picked whole (n + 1) es part.1 in
     elim (picked e) as (λ b. list_all (passes_at test whole) (if b then n ∷ numbers_from picked (n + 1) es else numbers_from picked (n + 1) es) ≡ list_all test (if b then e ∷ filter picked es else filter picked es)) [
-      true ↦ rw (part.0, rest) refl
-    | false ↦ rest
+      | true ↦ rw (part.0, rest) refl
+      | false ↦ rest
     ]
 
 none_numbers : {A : Type 0} (f : Entry → A) (picked : Entry → Bool) (n : ℕ) (es : List Entry) → is_empty (numbers_from picked n es) ≡ is_empty (map f (filter picked es))
 none_numbers f picked n [] = refl
 none_numbers f picked n (e ∷ es) =
     elim (picked e) as (λ b. is_empty (if b then n ∷ numbers_from picked (n + 1) es else numbers_from picked (n + 1) es) ≡ is_empty (map f (if b then e ∷ filter picked es else filter picked es))) [
-      true ↦ refl
-    | false ↦ none_numbers f picked (n + 1) es
+      | true ↦ refl
+      | false ↦ none_numbers f picked (n + 1) es
     ]
 
 list_all-map : {A B : Type 0} (test : B → Bool) (f : A → B) (xs : List A) → list_all test (map f xs) ≡ list_all (λ x. test (f x)) xs
@@ -153,3 +155,17 @@ verdict held picked entries =
     let theirs : list_all (passes_at (λ e. is_accepted e.status) entries) (numbers_from picked 0 entries) ≡ list_all is_accepted (map (λ e. e.status) (filter picked entries)) = all_numbers (λ e. is_accepted e.status) picked entries 0 entries (whole_is_part entries) ∙ sym (list_all-map is_accepted (λ e. e.status) (filter picked entries)) in
     let none : is_empty (numbers_from picked 0 entries) ≡ is_empty (map (λ e. e.status) (filter picked entries)) = none_numbers (λ e. e.status) picked 0 entries in
     rw (unless, none, theirs, is_empty-append, list_all-append) refl
+
+-- ---- what is written
+
+written_from : (picked : Entry → Bool) (whole : List Entry) (list : List Data) (n : ℕ) (es : List Entry) → IsPart whole n es → with_objects_at list whole (numbers_from picked n es) ≡ with_objects list (filter picked es)
+written_from picked whole list n [] part = refl
+written_from picked whole list n (e ∷ es) part =
+    elim (picked e) as (λ b. with_objects_at list whole (if b then n ∷ numbers_from picked (n + 1) es else numbers_from picked (n + 1) es) ≡ with_objects list (if b then e ∷ filter picked es else filter picked es)) [
+      | true ↦ ap (λ o. with_objects_at (with_object_if list o) whole (numbers_from picked (n + 1) es)) part.0 ∙ written_from picked whole (with_object list e) (n + 1) es part.1
+      | false ↦ written_from picked whole list (n + 1) es part.1
+    ]
+
+-- the objects of the entries with these numbers are those of the entries themselves
+pub written : (picked : Entry → Bool) (list : List Data) (entries : List Entry) → with_objects_at list entries (numbers_from picked 0 entries) ≡ with_objects list (filter picked entries)
+written picked list entries = written_from picked entries list 0 entries (whole_is_part entries)

@@ -4,3 +4,5 @@ pub mod File
 pub mod Numbers
 pub mod Table
 pub mod Suppressing
+pub mod Written
+pub mod Marks

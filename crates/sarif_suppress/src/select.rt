@@ -1,6 +1,6 @@
 //! Which entries match a result, among those whose numbers the table gives.
 ghost use Rattle.std.specs.Prelude.{◌≡◌, ◌+◌, ◌<◌, ◌∷◌, ◌&&◌, [], false, filter, length, IfOk, IfNone, IfSome, if◌then◌else◌};
-ghost use Rattle.std.specs.List.{list_all};
+ghost use Rattle.std.specs.List.{list_all, list_any};
 ghost use Rattle.sarif_suppress.specs.Matching.{is_empty, matches};
 ghost use Rattle.sarif_suppress.specs.Numbers.{merged, passes_at};
 ghost use Rattle.sarif_suppress.specs.Suppressing as said;
@@ -41,7 +41,7 @@ pub(crate) fn select(
 ) -> Result<Sequence<u32>, AllocError>
     ensures { IfOk result (λ found. found
         ≡ filter (passes_at (λ e. matches today e «record».now) entries.now)
-            (merged named.now others.now)) }
+        (merged named.now others.now)) }
 {
     let mut found = Sequence::new(alloc);
     let mut left = named;
@@ -90,7 +90,9 @@ fn are_accepted(entries: &[Entry], numbers: &[u32]) -> bool
     ensures { result
         ≡ list_all (passes_at (λ e. said.is_accepted e.status) entries.now) numbers.now }
 {
-    numbers.iter().all(|number| is_accepted_at(entries, *number))
+    numbers
+        .iter()
+        .all(|number| is_accepted_at(entries, *number))
 }
 
 /// Whether suppressions of these statuses, and then of the entries with these numbers, suppress.
@@ -103,4 +105,11 @@ pub(crate) fn do_suppress(held: &[Status], entries: &[Entry], numbers: &[u32]) -
         return false;
     }
     all_accepted(held) && are_accepted(entries, numbers)
+}
+
+/// Whether the entry matches one of the results on that day.
+pub(crate) fn is_used(entry: &Entry, today: Option<u32>, records: &[Record]) -> bool
+    ensures { result ≡ list_any (λ r. matches today entry.now r) records.now }
+{
+    records.iter().any(|record| entry.matches(today, record))
 }

@@ -60,3 +60,13 @@ pub(crate) fn numbers_without_rule(alloc: Global, entries: &[Entry]) -> Result<V
     }
     Ok(numbers)
 }
+
+/// The numbers of the entries that ask for `rule`.
+pub(crate) fn numbers_for<'a>(table: &'a IndexMap<Text, Vec<u32>>, rule: &Text) -> &'a [u32]
+    ensures { result.now ≡ numbers_at table.now rule.now }
+{
+    match table.get(rule) {
+        Some(numbers) => numbers.as_slice(),
+        None => &[],
+    }
+}

@@ -1,0 +1,133 @@
+//! A suppression file that was read, and what it makes of the results.
+ghost use Rattle.std.specs.Prelude.{◌≡◌, ◌<◌, ◌≤◌, [], length, map, option_map, slice_get, IfOk};
+ghost use Rattle.serde_json.specs.View.{view};
+ghost use Rattle.sarif_records.specs.declared.record.Record.{Record};
+ghost use Rattle.sarif_suppress.specs.Marks.{marks_of};
+ghost use Rattle.sarif_suppress.specs.Written as said;
+ghost use Rattle.sarif_suppress.specs.Suppressing.{matching_numbers, is_suppressed, unused_of};
+
+use crate::entry::Entry;
+use crate::marks::Marks;
+use crate::object::{object_of, with_objects};
+use crate::select::{do_suppress, is_used, select};
+use crate::table::{numbers_by_rule, numbers_for, numbers_without_rule};
+use indexmap::IndexMap;
+use sarif_records::{Record, Sequence, Text};
+use serde_json::Value;
+use std::alloc::{AllocError, Global};
+use std::marker::Model;
+
+/// The entries of a suppression file, on the day for which it was read. Contracts see the file: its
+/// entries in order, and the day.
+#[derive(Drop)]
+pub struct Suppressions {
+    entries: Vec<Entry>,
+    today: Option<u32>,
+    by_rule: IndexMap<Text, Vec<u32>>,
+    without_rule: Vec<u32>,
+}
+
+impl Model for Suppressions {
+    ghost use Rattle.sarif_suppress.specs.File.{File};
+    ghost use Rattle.sarif_suppress.specs.Table.{IsTable};
+
+    ghost Value = { File };
+
+    ghost view = { λ s. record { entries = s.entries.items; today = s.today } };
+
+    ghost invariant = { λ s. IsTable s.entries.items s.by_rule s.without_rule.items };
+}
+
+/// What a suppression file makes of a result.
+#[derive(Debug, Drop)]
+pub struct Applied {
+    /// The numbers of the entries that match, in file order.
+    pub entries: Sequence<u32>,
+    /// Whether the result is suppressed, by its own suppressions and those of these entries.
+    pub suppressed: bool,
+}
+
+impl Suppressions {
+    /// At most 10,000 entries, with their table.
+    pub(crate) fn new(
+        alloc: Global,
+        entries: Vec<Entry>,
+        today: Option<u32>,
+    ) -> Result<Suppressions, AllocError>
+        requires { length entries.items ≤ 10000 }
+        ensures { IfOk result (λ s. s ≡ record { entries = entries.items; today = today }) }
+    {
+        let by_rule = numbers_by_rule(alloc, &entries)?;
+        let without_rule = numbers_without_rule(alloc, &entries)?;
+        Ok(Suppressions {
+            entries,
+            today,
+            by_rule,
+            without_rule,
+        })
+    }
+
+    /// Which entries match the result, and whether it is then suppressed (SARIF 2.1.0, result object,
+    /// "suppressions property").
+    #[tactic(auto, using(crate::proofs::Numbered::selected, crate::proofs::Numbered::verdict))]
+    pub fn apply(&self, alloc: Global, record: &Record) -> Result<Applied, AllocError>
+        ensures entries { IfOk result
+            (λ applied. applied.entries ≡ matching_numbers self.now «record».now) }
+        ensures verdict { IfOk result
+            (λ applied. applied.suppressed ≡ is_suppressed self.now «record».now) }
+    {
+        let named = numbers_for(&self.by_rule, &record.rule_id);
+        let others = self.without_rule.as_slice();
+        let entries = select(alloc, &self.entries, self.today, record, named, others)?;
+        let suppressed = do_suppress(record.held.as_slice(), &self.entries, entries.as_slice());
+        Ok(Applied {
+            entries,
+            suppressed,
+        })
+    }
+
+    /// How many entries match none of the results. Takes no memory.
+    pub fn unused(&self, records: &[Record]) -> u32
+        ensures { result ≡ unused_of self.now records.now }
+    {
+        self.entries
+            .iter()
+            .filter(|entry| !is_used(entry, self.today, records))
+            .count() as u32
+    }
+
+    /// The object that is written for entry `n`, counted from 0: its `kind`, which is `external`, its
+    /// `status`, and its `justification` where it has one (SARIF 2.1.0, suppression object).
+    pub fn object(&self, alloc: Global, n: u32) -> Result<Value, AllocError>
+        requires { n < length self.now.entries }
+        ensures { IfOk result
+            (λ v. option_map said.object_of (slice_get self.now.entries n) ≡ Some (view v)) }
+    {
+        object_of(alloc, &self.entries[n as usize])
+    }
+
+    /// What is written of a result to which the file was applied: its `own` suppressions as they stand,
+    /// and then the objects of the entries that match, in file order, without each that equals one that
+    /// stands before it.
+    pub fn written(
+        &self,
+        alloc: Global,
+        own: Vec<Value>,
+        applied: &Applied,
+    ) -> Result<Vec<Value>, AllocError>
+        ensures { (r : Record) → applied.now.entries ≡ matching_numbers self.now r
+            → IfOk result (λ list. map view list.items
+            ≡ said.suppressions_of (map view own.items) self.now r) }
+    {
+        let list = with_objects(alloc, own, &self.entries, applied.entries.as_slice())?;
+        Ok(list)
+    }
+
+    /// A mark for each entry, none of them set.
+    #[tactic(auto, using(crate::proofs::Marked::unset))]
+    pub fn marks(&self, alloc: Global) -> Result<Marks, AllocError>
+        ensures { IfOk result (λ marks. marks ≡ marks_of self.now []) }
+    {
+        Ok(Marks::unset(alloc, self.entries.len())?)
+    }
+}
