@@ -1,9 +1,8 @@
 -- Reading the entries of the suppression file.
-use Rattle.std.specs.Prelude.{ℕ, ⊤, Bool, true, false, ◌&&◌, ◌||◌, ◌/◌, ◌%◌, List, [], ◌∷◌, Option, Some, None, Result, Ok, Err, option_map, option_and_then, nat_le, bytes_eq, codes, not, is_some, is_none, if◌then◌else◌}
-use Rattle.std.specs.Int.{w128, from_be_bytes}
-use Rattle.uuid.specs.Text.{parsed}
+use Rattle.std.specs.Prelude.{ℕ, ⊤, Bool, true, false, ◌&&◌, ◌||◌, ◌/◌, ◌%◌, List, [], ◌∷◌, Option, Some, None, Result, Ok, Err, option_and_then, nat_le, bytes_eq, codes, not, is_some, is_none, if◌then◌else◌}
 use Rattle.serde_json.specs.Data.{Data, null, boolean, number, string, array, object, Members, no_members, member}
 use Rattle.serde_json.specs.Find.{as_str, as_object, as_number, as_u64}
+use Rattle.sarif_records.specs.Guid.{guid_of_text}
 use Rattle.sarif_records.specs.Members.{◌>>=◌, member_at, text_at, or_wrong}
 use Rattle.sarif_records.specs.Status.{status_named}
 use Rattle.sarif_records.specs.declared.kinds.Status.{Status}
@@ -42,10 +41,6 @@ check_object version wrong (Some ms) = unless_fault (are_members_of version ms) 
 -- an entry is an object of members that its version knows, whatever their values
 abbrev pub check_members : Version → SuppressFault → Data → Result ⊤ SuppressFault
 check_members version wrong d = check_object version wrong (as_object d)
-
--- the number of the guid that a text stands for (RFC 9562), where it stands for one
-abbrev pub guid_of_text : List ℕ → Option ℕ
-guid_of_text text = option_map (from_be_bytes w128) (parsed text)
 
 abbrev pub guid_or : SuppressFault → Option (List ℕ) → Result (Option ℕ) SuppressFault
 guid_or wrong None = Ok None

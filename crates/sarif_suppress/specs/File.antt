@@ -3,9 +3,10 @@ use Rattle.std.specs.Prelude.{ℕ, ◌+◌, ⊤, List, [], ◌∷◌, length, Op
 use Rattle.serde_json.specs.Data.{Data, Items}
 use Rattle.serde_json.specs.Find.{get, as_array, as_number, as_u64}
 use Rattle.sarif_records.specs.Members.{◌>>=◌, elements}
+use Rattle.sarif_records.specs.Reading.{without_mark, json_of}
 use Rattle.sarif_suppress.specs.declared.entry.Entry.{Entry}
 use Rattle.sarif_suppress.specs.declared.fault.SuppressFault.{SuppressFault}
-use Rattle.sarif_suppress.specs.declared.fault.SuppressFault.TheVariants.{NotList, WrongVersion, TooMany}
+use Rattle.sarif_suppress.specs.declared.fault.SuppressFault.TheVariants.{NotJson, NotList, WrongVersion, TooMany}
 use Rattle.sarif_suppress.specs.declared.version.Version.{Version}
 use Rattle.sarif_suppress.specs.declared.version.Version.TheVariants.{First, Second}
 use Rattle.sarif_suppress.specs.Entries.{unless_fault, entry_of}
@@ -53,3 +54,13 @@ file_of_value today d = do
   _ ← check_count ds
   es ← entries_from version today 0 ds
   Ok (record { entries = es; today = today })
+
+abbrev pub value_or : Option Data → Result Data SuppressFault
+value_or None = Err NotJson
+value_or (Some d) = Ok d
+
+-- the suppression file of these bytes, on that day
+unfoldable pub file_of : List ℕ → Option ℕ → Result File SuppressFault
+file_of bytes today = do
+  d ← value_or (json_of (without_mark bytes))
+  file_of_value today d

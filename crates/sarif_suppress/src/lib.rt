@@ -17,5 +17,6 @@ pub use conditions::Conditions;
 pub use entry::Entry;
 pub use fault::SuppressFault;
 pub use marks::Marks;
+pub use read_file::read_rules;
 pub use suppressions::{Applied, Suppressions};
 pub use version::Version;

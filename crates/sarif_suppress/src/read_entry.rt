@@ -9,10 +9,9 @@ use crate::entry::Entry;
 use crate::fault::SuppressFault;
 use crate::version::Version;
 use sarif_records::members::{member_at, text_at};
-use sarif_records::{Pairs, Sequence, Status, Text};
+use sarif_records::{Pairs, Sequence, Status, Text, read_guid};
 use serde_json::{Map, Value};
 use std::alloc::{AllocError, Global};
-use uuid::Uuid;
 
 /// Whether all members are ones that the version knows.
 fn are_members_of(version: Version, members: &Map<String, Value>) -> bool
@@ -60,21 +59,11 @@ fn own_text_at(
     wrong: SuppressFault,
 ) -> Result<Option<Text>, SuppressFault>
     ensures ok { IfOk result (λ text. told.text_at wrong name.now (view entry.now) ≡ Ok text) }
-    ensures err { IfErr result (λ fault. (fault ≡ SuppressFault.OutOfMemory → ⊥)
+    ensures err { IfErr result (λ fault. ¬ (fault ≡ SuppressFault.OutOfMemory)
         → told.text_at wrong name.now (view entry.now) ≡ Err fault) }
 {
     let text = text_at(entry, name, wrong)?;
     Ok(copied(alloc, text)?)
-}
-
-/// The number of the guid that a text stands for, in any of the forms of RFC 9562.
-fn guid_of_text(text: &str) -> Option<u128>
-    ensures { result ≡ said.guid_of_text text.now }
-{
-    match Uuid::parse_str(text) {
-        Ok(guid) => Some(guid.as_u128()),
-        Err(_) => None,
-    }
 }
 
 /// The guid `name` of an entry.
@@ -83,7 +72,7 @@ fn guid_at(entry: &Value, name: &str, wrong: SuppressFault) -> Result<Option<u12
 {
     match text_at(entry, name, wrong)? {
         None => Ok(None),
-        Some(text) => match guid_of_text(text) {
+        Some(text) => match read_guid(text) {
             Some(guid) => Ok(Some(guid)),
             None => Err(wrong),
         },
@@ -124,7 +113,7 @@ fn pairs_at(
     wrong: SuppressFault,
 ) -> Result<Pairs, SuppressFault>
     ensures ok { IfOk result (λ pairs. said.pairs_at wrong name.now (view entry.now) ≡ Ok pairs) }
-    ensures err { IfErr result (λ fault. (fault ≡ SuppressFault.OutOfMemory → ⊥)
+    ensures err { IfErr result (λ fault. ¬ (fault ≡ SuppressFault.OutOfMemory)
         → said.pairs_at wrong name.now (view entry.now) ≡ Err fault) }
 {
     match member_at(entry, name) {
@@ -196,7 +185,7 @@ fn conditions_of(
     wrong: SuppressFault,
 ) -> Result<Conditions, SuppressFault>
     ensures ok { IfOk result (λ conditions. said.conditions_of wrong (view entry.now) ≡ Ok conditions) }
-    ensures err { IfErr result (λ fault. (fault ≡ SuppressFault.OutOfMemory → ⊥)
+    ensures err { IfErr result (λ fault. ¬ (fault ≡ SuppressFault.OutOfMemory)
         → said.conditions_of wrong (view entry.now) ≡ Err fault) }
 {
     let tool = own_text_at(alloc, entry, "tool", wrong)?;
@@ -221,7 +210,7 @@ fn conditions_of(
 #[tactic(auto, unfolding(crate::specs::Entries::members_of))]
 fn members_of(alloc: Global, entry: &Value, wrong: SuppressFault) -> Result<Entry, SuppressFault>
     ensures ok { IfOk result (λ read. said.members_of wrong (view entry.now) ≡ Ok read) }
-    ensures err { IfErr result (λ fault. (fault ≡ SuppressFault.OutOfMemory → ⊥)
+    ensures err { IfErr result (λ fault. ¬ (fault ≡ SuppressFault.OutOfMemory)
         → said.members_of wrong (view entry.now) ≡ Err fault) }
 {
     let conditions = conditions_of(alloc, entry, wrong)?;
@@ -268,7 +257,7 @@ pub(crate) fn read_entry(
     entry: &Value,
 ) -> Result<Entry, SuppressFault>
     ensures ok { IfOk result (λ read. said.entry_of version today number (view entry.now) ≡ Ok read) }
-    ensures err { IfErr result (λ fault. (fault ≡ SuppressFault.OutOfMemory → ⊥)
+    ensures err { IfErr result (λ fault. ¬ (fault ≡ SuppressFault.OutOfMemory)
         → said.entry_of version today number (view entry.now) ≡ Err fault) }
 {
     check_members(version, SuppressFault::BadEntry(number), entry)?;

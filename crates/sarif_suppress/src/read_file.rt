@@ -1,13 +1,16 @@
 //! Reading the suppression file: first its form, and then its entries one after another.
-ghost use Rattle.std.specs.Prelude.{◌≡◌, ◌≤◌, length, map, Ok, Err, IfOk, IfErr};
+ghost use Rattle.std.specs.Prelude.{◌≡◌, ◌≤◌, length, map, Ok, Err, Some, None, IfOk, IfErr, OnOk};
 ghost use Rattle.serde_json.specs.View.{view};
 ghost use Rattle.sarif_records.specs.Members.{result_map};
+ghost use Rattle.sarif_records.specs.Reading.{json_of};
 ghost use Rattle.sarif_suppress.specs.File as said;
 
 use crate::entry::Entry;
 use crate::fault::SuppressFault;
 use crate::read_entry::read_entry;
+use crate::suppressions::Suppressions;
 use crate::version::Version;
+use sarif_records::without_mark;
 use serde_json::Value;
 use std::alloc::Global;
 
@@ -38,7 +41,8 @@ fn check_version(file: &Value) -> Result<Version, SuppressFault>
 
 /// Passes a list of at most 10,000 entries.
 fn check_count(entries: &[Value]) -> Result<(), SuppressFault>
-    ensures { result ≡ said.check_count (map view entries.now) }
+    ensures passes { result ≡ said.check_count (map view entries.now) }
+    ensures few { OnOk result (length entries.now ≤ 10000) }
 {
     if entries.len() <= MOST_ENTRIES {
         Ok(())
@@ -59,7 +63,7 @@ fn read_entries(
     ensures few { IfOk result (λ entries. length entries.items ≤ 10000) }
     ensures ok { IfOk result (λ entries. said.entries_from version today 0 (map view values.now)
         ≡ Ok entries.items) }
-    ensures err { IfErr result (λ fault. (fault ≡ SuppressFault.OutOfMemory → ⊥)
+    ensures err { IfErr result (λ fault. ¬ (fault ≡ SuppressFault.OutOfMemory)
         → said.entries_from version today 0 (map view values.now) ≡ Err fault) }
 {
     let mut entries = Vec::new(alloc);
@@ -67,4 +71,61 @@ fn read_entries(
         entries.push(read_entry(alloc, version, today, number as u32, value)?)?;
     }
     Ok(entries)
+}
+
+/// The JSON value of `bytes`.
+#[tactic(auto, using(sarif_records::proofs::Utf8::json_of_read, sarif_records::proofs::Utf8::json_of_refused))]
+fn read_json(alloc: Global, bytes: &[u8]) -> Result<Value, SuppressFault>
+    ensures ok { IfOk result (λ v. json_of bytes.now ≡ Some (view v)) }
+    ensures err { IfErr result (λ fault. ¬ (fault ≡ SuppressFault.OutOfMemory)
+        → (fault ≡ SuppressFault.NotJson) × (json_of bytes.now ≡ None)) }
+{
+    match Value::from_slice(alloc, bytes) {
+        Ok(value) => Ok(value),
+        Err(error) => {
+            if error.is_memory() {
+                Err(SuppressFault::OutOfMemory)
+            } else {
+                Err(SuppressFault::NotJson)
+            }
+        }
+    }
+}
+
+/// The file that a value stands for.
+#[tactic(auto, unfolding(crate::specs::File::file_of_value))]
+fn read_value(
+    alloc: Global,
+    value: &Value,
+    today: Option<u32>,
+) -> Result<Suppressions, SuppressFault>
+    ensures ok { IfOk result (λ file. said.file_of_value today (view value.now) ≡ Ok file) }
+    ensures err { IfErr result (λ fault. ¬ (fault ≡ SuppressFault.OutOfMemory)
+        → said.file_of_value today (view value.now) ≡ Err fault) }
+{
+    let values = check_list(value)?;
+    let version = check_version(value)?;
+    check_count(values)?;
+    let entries = read_entries(alloc, version, today, values)?;
+    Ok(Suppressions::new(alloc, entries, today)?)
+}
+
+/// Reads a suppression file, an object with `version` and `suppressions`; `docs/formats.md` describes it.
+/// `today` is the day as the number yyyymmdd, if one is known: no clock is read.
+///
+/// The checks are made in this order, and the first that fails is answered: `NotJson`, `NotList`,
+/// `WrongVersion`, `TooMany`, and then for each entry in turn `BadEntry`, `EmptyMatch` and `NeedsToday`.
+/// `OutOfMemory` may come instead where memory is wanting.
+#[tactic(auto, unfolding(crate::specs::File::file_of))]
+pub fn read_rules(
+    alloc: Global,
+    bytes: &[u8],
+    today: Option<u32>,
+) -> Result<Suppressions, SuppressFault>
+    ensures ok { IfOk result (λ file. said.file_of bytes.now today ≡ Ok file) }
+    ensures err { IfErr result (λ fault. ¬ (fault ≡ SuppressFault.OutOfMemory)
+        → said.file_of bytes.now today ≡ Err fault) }
+{
+    let value = read_json(alloc, without_mark(bytes))?;
+    read_value(alloc, &value, today)
 }
