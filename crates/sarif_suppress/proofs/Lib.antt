@@ -2,3 +2,5 @@ pub mod FromEntries
 pub mod Numbered
 pub mod JustTexts
 pub mod Marked
+pub mod Meaning
+pub mod ObjectTest

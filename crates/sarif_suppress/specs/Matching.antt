@@ -1,5 +1,5 @@
 -- Which results an entry of the suppression file matches.
-use Rattle.std.specs.Prelude.{ℕ, Bool, true, false, not, ◌&&◌, ◌||◌, List, [], ◌∷◌, Option, Some, None, is_some, nat_eq, nat_lt, bytes_eq}
+use Rattle.std.specs.Prelude.{◌≡◌, ℕ, ◌≤◌, Bool, true, false, not, ◌&&◌, ◌||◌, List, [], ◌∷◌, ◌++◌, Option, Some, None, Contains, is_some, nat_eq, nat_lt, bytes_eq}
 use Rattle.std.specs.List.{list_any, list_all, starts_with}
 use Rattle.sarif_records.specs.declared.record.Record.{Record}
 use Rattle.sarif_suppress.specs.declared.conditions.Conditions.{Conditions}
@@ -62,3 +62,20 @@ is_expired today e = is_past today e.expires
 -- the entry isn't expired, and every condition that it names holds
 abbrev pub matches : Option ℕ → Entry → Record → Bool
 matches today e r = not (is_expired today e) && hold e.conditions r
+
+-- ---- the same in words
+
+-- the result meets every condition that is named
+pub record Meets (c : Conditions) (r : Record) : Type 0 where
+  pub tool : (text : List ℕ) → c.tool ≡ Some text → r.tool ≡ text
+  pub rule_id : (text : List ℕ) → c.rule_id ≡ Some text → r.rule_id ≡ text
+  pub uri : (text : List ℕ) → c.uri ≡ Some text → r.place.uri ≡ Some text
+  pub uri_prefix : (prefix : List ℕ) → c.uri_prefix ≡ Some prefix → (rest : List ℕ) × (r.place.uri ≡ Some (prefix ++ rest))
+  pub guid : (guid : ℕ) → c.guid ≡ Some guid → r.guid ≡ Some guid
+  pub full : (pair : List ℕ × List ℕ) → Contains c.full pair → Contains r.full pair
+  pub partial : (pair : List ℕ × List ℕ) → Contains c.partial pair → Contains r.partial pair
+
+-- the last day of the entry, where it has one, isn't over today, and the result meets its conditions
+pub record Matches (today : Option ℕ) (e : Entry) (r : Record) : Type 0 where
+  pub in_time : (last day : ℕ) → e.expires ≡ Some last → today ≡ Some day → day ≤ last
+  pub meets : Meets e.conditions r

@@ -1,5 +1,5 @@
 //! An entry of the suppression file.
-ghost use Rattle.std.specs.Prelude.{◌≡◌};
+ghost use Rattle.std.specs.Prelude.{◌≡◌, ◌↔◌, IsTrue};
 ghost use Rattle.sarif_suppress.specs.Matching as said;
 
 use crate::conditions::Conditions;
@@ -29,9 +29,12 @@ impl Entry {
         }
     }
 
-    /// Whether the entry suppresses the result on that day.
-    pub(crate) fn matches(&self, today: Option<u32>, record: &Record) -> bool
-        ensures { result ≡ said.matches today self.now «record».now }
+    /// Whether the entry matches the result on that day: it isn't expired, and the result meets every
+    /// condition that it names.
+    #[tactic(auto, using(crate::proofs::Meaning::means))]
+    pub fn matches(&self, today: Option<u32>, record: &Record) -> bool
+        ensures means { IsTrue result ↔ said.Matches today self.now «record».now }
+        ensures test { result ≡ said.matches today self.now «record».now }
     {
         !self.is_expired(today) && self.conditions.hold(record)
     }

@@ -4,6 +4,7 @@
 mod conditions;
 mod entry;
 mod fault;
+mod laws;
 mod marks;
 mod object;
 mod read_entry;
@@ -16,6 +17,9 @@ mod version;
 pub use conditions::Conditions;
 pub use entry::Entry;
 pub use fault::SuppressFault;
+pub use laws::{
+    nothing_is_written_of_nothing, object_holds_no_fraction, written_passes_where_its_parts_do,
+};
 pub use marks::Marks;
 pub use read_file::read_rules;
 pub use suppressions::{Applied, Suppressions};

@@ -1,5 +1,5 @@
 //! The object that is written for an entry, and whether a value is that object.
-ghost use Rattle.std.specs.Prelude.{◌≡◌, map, slice_get, IfOk, OnOk};
+ghost use Rattle.std.specs.Prelude.{◌≡◌, ◌↔◌, IsTrue, map, slice_get, IfOk, OnOk};
 ghost use Rattle.std.specs.List.{list_any};
 ghost use Rattle.serde_json.specs.View.{view, members_view};
 ghost use Rattle.sarif_suppress.specs.Written as said;
@@ -80,8 +80,10 @@ fn are_members_of(entry: &Entry, members: &Map<String, Value>) -> bool
 }
 
 /// Whether the value is the entry's object.
+#[tactic(auto, using(crate::proofs::ObjectTest::object_means))]
 pub(crate) fn is_object_of(entry: &Entry, value: &Value) -> bool
-    ensures { result ≡ said.is_object_of entry.now (view value.now) }
+    ensures means { IsTrue result ↔ (view value.now ≡ said.object_of entry.now) }
+    ensures test { result ≡ said.is_object_of entry.now (view value.now) }
 {
     match value.as_object() {
         Some(members) => are_members_of(entry, members),

@@ -1,5 +1,5 @@
 //! A suppression file that was read, and what it makes of the results.
-ghost use Rattle.std.specs.Prelude.{◌≡◌, ◌<◌, ◌≤◌, [], length, map, option_map, slice_get, IfOk};
+ghost use Rattle.std.specs.Prelude.{◌≡◌, ◌==◌, ◌<◌, ◌≤◌, [], length, map, option_map, slice_get, IfOk};
 ghost use Rattle.serde_json.specs.View.{view};
 ghost use Rattle.sarif_records.specs.declared.record.Record.{Record};
 ghost use Rattle.sarif_suppress.specs.Marks.{marks_of};
@@ -65,6 +65,21 @@ impl Suppressions {
             by_rule,
             without_rule,
         })
+    }
+
+    /// How many entries the file has, at most 10,000.
+    pub fn len(&self) -> u32
+        ensures count { result ≡ length self.now.entries }
+        ensures few { result ≤ 10000 }
+    {
+        self.entries.len() as u32
+    }
+
+    /// Whether the file has no entries.
+    pub fn is_empty(&self) -> bool
+        ensures { result ≡ (length self.now.entries == 0) }
+    {
+        self.entries.is_empty()
     }
 
     /// Which entries match the result, and whether it is then suppressed (SARIF 2.1.0, result object,
