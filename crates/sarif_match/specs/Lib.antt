@@ -1,0 +1,4 @@
+pub mod Key
+pub mod KeyParts
+pub mod Tiers
+pub mod State

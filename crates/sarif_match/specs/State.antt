@@ -1,0 +1,42 @@
+-- The state of a result beside its partner in the baseline (SARIF 2.1.0, "baselineState property").
+use Rattle.std.specs.Prelude.{◌≡◌, ℕ, Bool, Option, Some, None, ◌&&◌, ◌==◌, if◌then◌else◌}
+use Rattle.sarif_records.specs.declared.record.Record.{Record}
+use Rattle.sarif_records.specs.declared.kinds.Kind.{Kind}
+use Rattle.sarif_records.specs.declared.kinds.Kind.TheVariants.{Pass, Undecided, Informational, NotApplicable, Review, Fail}
+use Rattle.sarif_records.specs.declared.kinds.Level.{Level}
+use Rattle.sarif_records.specs.declared.kinds.Level.TheVariants.{NoLevel, Note, Warning, Error}
+use Rattle.sarif_records.specs.declared.kinds.State.{State}
+use Rattle.sarif_records.specs.declared.kinds.State.TheVariants.{New, Unchanged, Updated}
+use Rattle.sarif_match.specs.KeyParts.{place_eq, message_eq}
+
+-- the number of each kind and level, in the order of their declaration
+abbrev pub kind_number : Kind → ℕ
+kind_number Pass = 0
+kind_number Undecided = 1
+kind_number Informational = 2
+kind_number NotApplicable = 3
+kind_number Review = 4
+kind_number Fail = 5
+
+abbrev pub level_number : Level → ℕ
+level_number NoLevel = 0
+level_number Note = 1
+level_number Warning = 2
+level_number Error = 3
+
+-- whether kind, effective level, message and place are equal
+abbrev pub is_unchanged : Record → Record → Bool
+is_unchanged now before =
+    (kind_number now.kind == kind_number before.kind) && ((level_number now.level == level_number before.level) && (message_eq now.message before.message && place_eq now.place before.place))
+
+-- the state of a current result with this partner
+abbrev pub state_of : Record → Option Record → State
+state_of now None = New
+state_of now (Some before) = if is_unchanged now before then Unchanged else Updated
+
+-- kind, effective level, message and place are equal
+pub record IsUnchanged (now before : Record) : Type 0 where
+  pub kind : now.kind ≡ before.kind
+  pub level : now.level ≡ before.level
+  pub message : now.message ≡ before.message
+  pub place : now.place ≡ before.place

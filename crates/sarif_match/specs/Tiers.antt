@@ -1,0 +1,26 @@
+-- The tiers of a merge, in order.
+use Rattle.std.specs.Prelude.{ℕ, List, [], ◌∷◌, ◌++◌, map, fold, reverse}
+use Rattle.std.specs.List.{flat_map}
+use Rattle.std.specs.Ordering.{nat_cmp}
+use Rattle.std.specs.Cmp.Lexicographic.{slice_cmp}
+use Rattle.std.specs.BTreeSet.{insert_key}
+use Rattle.sarif_records.specs.declared.record.Record.{Record}
+use Rattle.sarif_match.specs.declared.tier.Tier.{Tier}
+use Rattle.sarif_match.specs.declared.tier.Tier.TheVariants.{Guid, Fingerprint, PartialHere, PartialMoved, Place}
+
+-- the names of the fingerprints of these results, as they stand (SARIF 2.1.0, "fingerprints property")
+abbrev pub names_of : List Record → List (List ℕ)
+names_of rs = flat_map (λ r. map (λ pair. pair.0) r.full) rs
+
+-- the names of a list added to strictly rising names, each once, in byte order
+abbrev pub with_names : List (List ℕ) → List (List ℕ) → List (List ℕ)
+with_names rising names = fold (insert_key (slice_cmp nat_cmp)) rising names
+
+-- the names in any result of either list, each once, in strictly falling byte order
+abbrev pub falling_names : List Record → List Record → List (List ℕ)
+falling_names cs bs = reverse (with_names (with_names [] (names_of cs)) (names_of bs))
+
+-- the tiers in the order in which a merge goes through them
+abbrev pub tiers_of : List Record → List Record → List Tier
+tiers_of cs bs =
+    Guid ∷ (map Fingerprint (falling_names cs bs) ++ PartialHere ∷ (PartialMoved ∷ (Place ∷ [])))

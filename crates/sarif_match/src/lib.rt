@@ -1,0 +1,14 @@
+//! Which results of a merge are new: current results are paired with those of a baseline, tier by tier.
+#![tactic(auto)]
+
+mod keys;
+mod states;
+mod tier;
+mod tier_key;
+mod tier_list;
+
+pub use keys::key;
+pub use states::state;
+pub use tier::Tier;
+pub use tier_key::Key;
+pub use tier_list::tiers;

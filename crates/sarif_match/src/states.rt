@@ -1,0 +1,25 @@
+//! The baseline state of a current result.
+ghost use Rattle.std.specs.Prelude.{◌≡◌};
+ghost use Rattle.std.specs.Option.{option_copied};
+ghost use Rattle.sarif_match.specs.State.{state_of};
+
+use sarif_records::{Record, State};
+
+/// The baseline state of a current result beside its partner (SARIF 2.1.0, "baselineState property"): new
+/// without a partner, unchanged where kind, effective level, message and place are equal, else updated.
+pub fn state(current: &Record, partner: Option<&Record>) -> State
+    ensures { result ≡ state_of current.now (option_copied partner.entry) }
+{
+    let Some(before) = partner else {
+        return State::New;
+    };
+    if current.kind == before.kind
+        && current.level == before.level
+        && current.message == before.message
+        && current.place == before.place
+    {
+        State::Unchanged
+    } else {
+        State::Updated
+    }
+}

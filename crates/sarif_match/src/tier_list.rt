@@ -1,0 +1,78 @@
+//! The tiers of a merge, in order.
+ghost use Rattle.std.specs.Prelude.{◌≡◌, ◌++◌, IfOk, OnOk, map, reverse};
+ghost use Rattle.std.specs.BTreeSet.{keys};
+ghost use Rattle.sarif_match.specs.Tiers.{names_of, with_names, tiers_of};
+ghost use Rattle.sarif_match.specs.declared.tier.Tier.TheVariants.{Fingerprint};
+
+use crate::tier::Tier;
+use sarif_records::{Record, Text};
+use std::alloc::{AllocError, Global};
+use std::collections::BTreeSet;
+
+/// The tiers of a merge of these results, in the order in which it goes through them: one for each
+/// fingerprint name of either list, the greatest first, stands between `Guid` and the others.
+pub fn tiers(
+    alloc: Global,
+    current: &[Record],
+    baseline: &[Record],
+) -> Result<Vec<Tier>, AllocError>
+    ensures { IfOk result (λ tiers. tiers.items ≡ tiers_of current.now baseline.now) }
+{
+    let mut names = BTreeSet::new(alloc);
+    add_names(&mut names, current)?;
+    add_names(&mut names, baseline)?;
+    let mut tiers = vec![in alloc; Tier::Guid]?;
+    push_fingerprints(alloc, &mut tiers, &names)?;
+    tiers.push(Tier::PartialHere)?;
+    tiers.push(Tier::PartialMoved)?;
+    tiers.push(Tier::Place)?;
+    Ok(tiers)
+}
+
+/// Adds the names of these results' fingerprints.
+fn add_names<'a>(names: &mut BTreeSet<&'a Text>, findings: &'a [Record]) -> Result<(), AllocError>
+    ensures { OnOk result (map (λ name. name.now) (keys names.new)
+        ≡ with_names (map (λ name. name.now) (keys names.old)) (names_of findings.now)) }
+{
+    for finding in findings {
+        add_names_of(names, finding.full.as_slice())?;
+    }
+    Ok(())
+}
+
+/// Adds the names of these fingerprints.
+fn add_names_of<'a>(
+    names: &mut BTreeSet<&'a Text>,
+    fingerprints: &'a [(Text, Text)],
+) -> Result<(), AllocError>
+    ensures { OnOk result (map (λ name. name.now) (keys names.new)
+        ≡ with_names (map (λ name. name.now) (keys names.old)) (map (λ pair. pair.0) fingerprints.now)) }
+{
+    for (name, _) in fingerprints {
+        names.insert(name)?;
+    }
+    Ok(())
+}
+
+/// Puts the tiers of these names at the end, the greatest first.
+fn push_fingerprints(
+    alloc: Global,
+    tiers: &mut Vec<Tier>,
+    names: &BTreeSet<&Text>,
+) -> Result<(), AllocError>
+    ensures { OnOk result (tiers.new.items
+        ≡ tiers.old.items ++ map Fingerprint (reverse (map (λ name. name.now) (keys names.now)))) }
+{
+    let descending = falling(alloc, names)?;
+    for name in &descending {
+        tiers.push(Tier::Fingerprint((*name).clone()?))?;
+    }
+    Ok(())
+}
+
+/// The names, the greatest first.
+fn falling<'a>(alloc: Global, names: &BTreeSet<&'a Text>) -> Result<Vec<&'a Text>, AllocError>
+    ensures { IfOk result (λ falling. falling.items ≡ reverse (keys names.now)) }
+{
+    names.iter().rev().copied().collect(alloc)
+}
