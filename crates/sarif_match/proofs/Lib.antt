@@ -1,3 +1,5 @@
 pub mod KeyLemmas
 pub mod ValueLemmas
 pub mod NameLemmas
+pub mod TableLemmas
+pub mod PairingLemmas

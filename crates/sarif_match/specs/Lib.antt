@@ -2,3 +2,5 @@ pub mod Key
 pub mod KeyParts
 pub mod Tiers
 pub mod State
+pub mod Pairing
+pub mod Queues

@@ -2,6 +2,8 @@
 #![tactic(auto)]
 
 mod keys;
+mod pairing;
+mod queues;
 mod states;
 mod tier;
 mod tier_key;
