@@ -1,8 +1,9 @@
 -- Queues and pairs, one result at a time.
-use Rattle.std.proofs.Common.{◌≡◌, ℕ, ◌+◌, ◌<◌, zero, suc, Bool, true, false, cond, List, [], ◌∷◌, ◌++◌, Option, Some, None, length, get_or, take, drop, map, filter, slice_get, refl, sym, ap, ◌∙◌, arith, length-append, append_assoc}
+use Rattle.std.proofs.Common.{◌≡◌, ℕ, ◌+◌, ◌<◌, suc, Bool, true, false, cond, List, [], ◌∷◌, ◌++◌, Option, Some, None, length, get_or, take, drop, map, filter, slice_get, refl, sym, ap, ◌∙◌, arith, length-append, append_assoc}
 use Rattle.std.proofs.Math.Seq.{drop-cons}
 use Rattle.std.proofs.lemmas.List.{take_more, map-append}
 use Rattle.std.proofs.lemmas.List.Elements.{filter-append}
+use Rattle.sarif_match.proofs.ListLemmas.{append-nil, slice_get-drop, drop-one}
 use Rattle.sarif_match.specs.Pairing.{places, pairs_from, with_pair}
 
 -- the pairs with one more at the end, where there is a partner
@@ -13,24 +14,6 @@ pushed pairs i (Some j) = pairs ++ ((i, j) ∷ [])
 pushed-append : (pairs : List (ℕ × ℕ)) (i : ℕ) (o : Option ℕ) (rest : List (ℕ × ℕ)) → pushed pairs i o ++ rest ≡ pairs ++ with_pair i o rest
 pushed-append pairs i None rest = refl
 pushed-append pairs i (Some j) rest = append_assoc pairs ((i, j) ∷ []) rest
-
--- the first of what is left after n is number n
-slice_get-drop : {X : Type 0} (xs : List X) (n : ℕ) → slice_get (drop n xs) 0 ≡ slice_get xs n
-slice_get-drop [] zero = refl
-slice_get-drop [] (suc n) = refl
-slice_get-drop (x ∷ xs) zero = refl
-slice_get-drop (x ∷ xs) (suc n) = slice_get-drop xs n
-
--- one more is left out
-drop-one : {X : Type 0} (xs : List X) (n : ℕ) → drop 1 (drop n xs) ≡ drop (suc n) xs
-drop-one [] zero = refl
-drop-one [] (suc n) = refl
-drop-one (x ∷ xs) zero = refl
-drop-one (x ∷ xs) (suc n) = drop-one xs n
-
-append-nil : {X : Type 0} (xs : List X) → xs ++ [] ≡ xs
-append-nil [] = refl
-append-nil {X} (x ∷ xs) = ap (λ (rest : List X). x ∷ rest) (append-nil xs)
 
 module _ {K : Type 0} (eq : K → K → Bool) where
   -- one result more at the end is one place more of its key

@@ -4,3 +4,5 @@ pub mod Tiers
 pub mod State
 pub mod Pairing
 pub mod Queues
+pub mod Partners
+pub mod Named

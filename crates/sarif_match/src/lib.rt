@@ -2,6 +2,7 @@
 #![tactic(auto)]
 
 mod keys;
+mod named;
 mod pairing;
 mod queues;
 mod states;

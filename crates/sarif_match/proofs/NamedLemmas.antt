@@ -1,0 +1,116 @@
+-- Groups of results by name, one fingerprint and one result at a time.
+use Rattle.std.proofs.Common.{◌≡◌, ℕ, ◌+◌, ◌-◌, ◌<◌, ◌≤◌, zero, suc, Bool, true, false, cond, List, [], ◌∷◌, ◌++◌, Option, Some, None, ◌==◌, length, get_or, take, slice_get, bytes_eq, refl, sym, ap, ◌∙◌, arith, eq-eqb}
+use Rattle.std.proofs.lemmas.Bool.{ne_eqb}
+use Rattle.std.proofs.lemmas.List.{take_more, map-append, length-map, length-take-le}
+use Rattle.std.specs.Option.{option_map, option_map_or}
+use Rattle.sarif_records.specs.declared.record.Record.{Record}
+use Rattle.sarif_match.specs.declared.tier.Tier.{Tier}
+use Rattle.sarif_match.specs.declared.tier_key.Key.{Key}
+use Rattle.sarif_match.specs.Key.{key_of, value_of}
+use Rattle.sarif_match.specs.KeyParts.{KeyParts, parts_of, fingerprint_parts}
+use Rattle.sarif_match.specs.Named.{with_parts, ends_with, put_once, IsBelow}
+use Rattle.sarif_match.specs.Partners.{with_key, keyed_from}
+use Rattle.sarif_match.proofs.ValueLemmas.{same_text}
+use Rattle.sarif_match.proofs.ListLemmas.{append-nil, slice_get-last, slice_get-map}
+
+-- the first, else the second
+abbrev pub first_some : {X : Type 0} → Option X → Option X → Option X
+first_some (Some x) o = Some x
+first_some None o = o
+
+-- the value among one pair more
+pub value_of-push : (q : List ℕ) (pairs : List (List ℕ × List ℕ)) (p : List ℕ × List ℕ) → value_of q (pairs ++ (p ∷ [])) ≡ first_some (value_of q pairs) (cond (bytes_eq p.0 q) (Some p.1) None)
+value_of-push q [] p = refl
+value_of-push q (x ∷ xs) p =
+    ap (λ (o : Option (List ℕ)). cond (bytes_eq x.0 q) (Some x.1) o) (value_of-push q xs p) ∙ by_test (bytes_eq x.0 q)
+    where
+    by_test : (b : Bool) → cond b (Some x.1) (first_some (value_of q xs) (cond (bytes_eq p.0 q) (Some p.1) None)) ≡ first_some (cond b (Some x.1) (value_of q xs)) (cond (bytes_eq p.0 q) (Some p.1) None)
+    by_test true = refl
+    by_test false = refl
+
+-- borrowed keys have the numbers of their parts
+ends_with-with_parts : (n : ℕ) (xs : List (ℕ × Key)) → ends_with n (with_parts xs) ≡ ends_with n xs
+ends_with-with_parts n xs =
+    let parts = λ (e : ℕ × Key). (let keyed : ℕ × KeyParts = (e.0, parts_of e.1) in keyed) in
+    let is_n = λ (o : Option (ℕ × KeyParts)). option_map_or (λ (e : ℕ × KeyParts). e.0 == n) o false in
+    ap (λ (k : ℕ). is_n (slice_get (with_parts xs) (k - 1))) (length-map xs parts) ∙ ap is_n (slice_get-map parts xs (length xs - 1)) ∙ at (slice_get xs (length xs - 1))
+    where
+    at : (o : Option (ℕ × Key)) → option_map_or (λ (e : ℕ × KeyParts). e.0 == n) (option_map (λ (e : ℕ × Key). (let keyed : ℕ × KeyParts = (e.0, parts_of e.1) in keyed)) o) false ≡ option_map_or (λ (e : ℕ × Key). e.0 == n) o false
+    at None = refl
+    at (Some e) = refl
+
+module _ {K : Type 0} where
+  pub with_key-append : (n : ℕ) (o : Option K) (xs ys : List (ℕ × K)) → with_key n o (xs ++ ys) ≡ with_key n o xs ++ ys
+  with_key-append n None xs ys = refl
+  with_key-append n (Some k) xs ys = refl
+
+  -- no result below n has the number n
+  is_not-below : (n : ℕ) (xs : List (ℕ × K)) (i : ℕ) → IsBelow n xs → option_map_or (λ (e : ℕ × K). e.0 == n) (slice_get xs i) false ≡ false
+  is_not-below n [] i below = refl
+  is_not-below n (x ∷ xs) zero below = let lt : x.0 < n = below.0 in ne_eqb x.0 n (λ same. omega arith)
+  is_not-below n (x ∷ xs) (suc i) below = is_not-below n xs i below.1
+
+  -- one result is put once
+  put_once-first : (n : ℕ) (k : K) (xs : List (ℕ × K)) → IsBelow n xs → put_once n k xs ≡ xs ++ ((n, k) ∷ [])
+  put_once-first n k xs below =
+      ap (λ (b : Bool). cond b xs (xs ++ ((n, k) ∷ []))) (is_not-below n xs (length xs - 1) below)
+
+  put_once-again : (n : ℕ) (k k' : K) (xs : List (ℕ × K)) → put_once n k (xs ++ ((n, k') ∷ [])) ≡ xs ++ ((n, k') ∷ [])
+  put_once-again n k k' xs =
+      let ys : List (ℕ × K) = xs ++ ((n, k') ∷ []) in
+      let same : n == n ≡ true = eq-eqb n n refl in
+      ap (λ (o : Option (ℕ × K)). cond (option_map_or (λ (e : ℕ × K). e.0 == n) o false) ys (ys ++ ((n, k) ∷ []))) (slice_get-last xs (n, k')) ∙ ap (λ (b : Bool). cond b ys (ys ++ ((n, k) ∷ []))) same
+
+-- the keys of one result more
+pub keyed_from-push : (tier : Tier) (n : ℕ) (rs : List Record) (r : Record) → keyed_from tier n (rs ++ (r ∷ [])) ≡ keyed_from tier n rs ++ with_key (n + length rs) (key_of r tier) []
+keyed_from-push tier n [] r =
+    let at : n ≡ n + 0 = omega arith in
+    ap (λ (m : ℕ). with_key m (key_of r tier) []) at
+keyed_from-push tier n (x ∷ rs) r =
+    let at : suc n + length rs ≡ n + suc (length rs) = omega arith in
+    ap (with_key n (key_of x tier)) (keyed_from-push tier (suc n) rs r ∙ ap (λ (m : ℕ). keyed_from tier (suc n) rs ++ with_key m (key_of r tier) []) at) ∙ with_key-append n (key_of x tier) (keyed_from tier (suc n) rs) (with_key (n + suc (length rs)) (key_of r tier) [])
+
+with_key-below : {K : Type 0} (n m : ℕ) (o : Option K) (xs : List (ℕ × K)) → n < m → IsBelow m xs → IsBelow m (with_key n o xs)
+with_key-below n m None xs lt below = below
+with_key-below n m (Some k) xs lt below = (lt, below)
+
+pub IsBelow-keyed_from : (tier : Tier) (n m : ℕ) (rs : List Record) → n + length rs ≤ m → IsBelow m (keyed_from tier n rs)
+IsBelow-keyed_from tier n m [] h = tt
+IsBelow-keyed_from tier n m (r ∷ rs) h =
+    with_key-below n m (key_of r tier) (keyed_from tier (suc n) rs) (omega arith) (IsBelow-keyed_from tier (suc n) m rs (omega arith))
+
+-- a group after one fingerprint more of the result with number n
+group_more : (b : Bool) (n : ℕ) (tool name q value : List ℕ) (o : Option (List ℕ)) (old now : List (ℕ × KeyParts)) → (b ≡ true → name ≡ q) → IsBelow n old → now ≡ old ++ with_key n (option_map (λ v. fingerprint_parts tool q v) o) [] → cond b (put_once n (fingerprint_parts tool name value) now) now ≡ old ++ with_key n (option_map (λ v. fingerprint_parts tool q v) (first_some o (cond b (Some value) None))) []
+group_more true n tool name q value None old now same below so_far =
+    ap (put_once n (fingerprint_parts tool name value)) (so_far ∙ append-nil old) ∙ put_once-first n (fingerprint_parts tool name value) old below ∙ ap (λ (name : List ℕ). old ++ ((n, fingerprint_parts tool name value) ∷ [])) (same refl)
+group_more true n tool name q value (Some v) old now same below so_far =
+    ap (put_once n (fingerprint_parts tool name value)) so_far ∙ put_once-again n (fingerprint_parts tool name value) (fingerprint_parts tool q v) old
+group_more false n tool name q value None old now same below so_far = so_far
+group_more false n tool name q value (Some v) old now same below so_far = so_far
+
+-- a key is put among borrowed keys as its parts are among parts
+with_parts-put_once : (n : ℕ) (key : Key) (xs : List (ℕ × Key)) → with_parts (put_once n key xs) ≡ put_once n (parts_of key) (with_parts xs)
+with_parts-put_once n key xs =
+    at (ends_with n xs) ∙ ap (λ (b : Bool). cond b (with_parts xs) (with_parts xs ++ ((n, parts_of key) ∷ []))) (sym (ends_with-with_parts n xs))
+    where
+    at : (b : Bool) → with_parts (cond b xs (xs ++ ((n, key) ∷ []))) ≡ cond b (with_parts xs) (with_parts xs ++ ((n, parts_of key) ∷ []))
+    at true = refl
+    at false = map-append (λ (e : ℕ × Key). (let keyed : ℕ × KeyParts = (e.0, parts_of e.1) in keyed)) xs ((n, key) ∷ [])
+
+-- a group of borrowed keys after one fingerprint more of the result with number n
+pub group_step : (n : ℕ) (tool q : List ℕ) (pairs : List (List ℕ × List ℕ)) (i : ℕ) (p : List ℕ × List ℕ) (key : Key) (group new : List (ℕ × Key)) (old : List (ℕ × KeyParts)) → p ≡ get_or pairs i p → i < length pairs → parts_of key ≡ fingerprint_parts tool p.0 p.1 → IsBelow n old → new ≡ cond (bytes_eq p.0 q) (put_once n key group) group → with_parts group ≡ old ++ with_key n (option_map (λ v. fingerprint_parts tool q v) (value_of q (take i pairs))) [] → with_parts new ≡ old ++ with_key n (option_map (λ v. fingerprint_parts tool q v) (value_of q (take (i + 1) pairs))) []
+group_step n tool q pairs i p key group new old here within parts below step so_far =
+    let now : List (ℕ × KeyParts) = with_parts group in
+    let told = λ (o : Option (List ℕ)). old ++ with_key n (option_map (λ (v : List ℕ). fingerprint_parts tool q v) o) [] in
+    let more : value_of q (take (i + 1) pairs) ≡ first_some (value_of q (take i pairs)) (cond (bytes_eq p.0 q) (Some p.1) None) = ap (value_of q) (take_more pairs i p within ∙ ap (λ (x : List ℕ × List ℕ). take i pairs ++ (x ∷ [])) (sym here)) ∙ value_of-push q (take i pairs) p in
+    ap with_parts step ∙ by_test (bytes_eq p.0 q) ∙ ap (λ (k : KeyParts). cond (bytes_eq p.0 q) (put_once n k now) now) parts ∙ group_more (bytes_eq p.0 q) n tool p.0 q p.1 (value_of q (take i pairs)) old now (same_text p.0 q) below so_far ∙ ap told (sym more)
+    where
+    by_test : (b : Bool) → with_parts (cond b (put_once n key group) group) ≡ cond b (put_once n (parts_of key) (with_parts group)) (with_parts group)
+    by_test true = with_parts-put_once n key group
+    by_test false = refl
+
+-- the groups of one result more
+pub groups_step : (tier : Tier) (rs : List Record) (i : ℕ) (r : Record) (old new : List (ℕ × KeyParts)) → r ≡ get_or rs i r → i < length rs → new ≡ old ++ with_key i (key_of r tier) [] → old ≡ keyed_from tier 0 (take i rs) → new ≡ keyed_from tier 0 (take (i + 1) rs)
+groups_step tier rs i r old new here within step so_far =
+    let at : i ≡ 0 + length (take i rs) = omega (arith, length-take-le i rs (omega arith)) in
+    step ∙ ap (λ (xs : List (ℕ × KeyParts)). xs ++ with_key i (key_of r tier) []) so_far ∙ ap (λ (m : ℕ). keyed_from tier 0 (take i rs) ++ with_key m (key_of r tier) []) at ∙ sym (keyed_from-push tier 0 (take i rs) r) ∙ ap (keyed_from tier 0) (ap (λ (x : Record). take i rs ++ (x ∷ [])) here ∙ sym (take_more rs i r within))

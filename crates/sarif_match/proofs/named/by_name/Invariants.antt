@@ -1,0 +1,10 @@
+use Rattle.std.proofs.Common.{◌≡◌, List, ℕ, take}
+use Rattle.std.specs.Borrow.{Bor}
+use Rattle.sarif_match.specs.declared.tier.Tier.TheVariants.{Fingerprint}
+use Rattle.sarif_match.specs.Named.{with_parts, group_at}
+use Rattle.sarif_match.specs.Partners.{keyed_from}
+use Rattle.sarif_match.proofs.named.by_name.Given as goal
+
+abbrev pub invariant-loop-number : goal.invariant-loop-number
+invariant-loop-number l =
+    (name : Bor (List ℕ)) → with_parts (group_at l.named name) ≡ keyed_from (Fingerprint name.now) 0 (take l.number l.findings)

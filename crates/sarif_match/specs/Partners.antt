@@ -1,0 +1,65 @@
+-- Which baseline result each current result is paired with, tier by tier.
+use Rattle.std.specs.Prelude.{◌≡◌, ℕ, suc, List, [], ◌∷◌, Bool, false, not, Option, Some, None, ◌==◌, filter, fold, length, replicate, is_some, slice_index_or, slice_set}
+use Rattle.std.specs.List.{list_any}
+use Rattle.std.specs.Option.{option_map_or}
+use Rattle.sarif_records.specs.declared.record.Record.{Record}
+use Rattle.sarif_match.specs.declared.tier.Tier.{Tier}
+use Rattle.sarif_match.specs.Key.{key_of}
+use Rattle.sarif_match.specs.KeyParts.{KeyParts, same_parts}
+use Rattle.sarif_match.specs.Pairing.{pairs_from}
+use Rattle.sarif_match.specs.Tiers.{tiers_of}
+
+-- the results, with one more at the front where it has a key
+abbrev pub with_key : {K : Type 0} → ℕ → Option K → List (ℕ × K) → List (ℕ × K)
+with_key n None keyed = keyed
+with_key n (Some key) keyed = (n, key) ∷ keyed
+
+-- the results that have a key at a tier, with their numbers; the first result has number n
+abbrev pub keyed_from : Tier → ℕ → List Record → List (ℕ × KeyParts)
+keyed_from tier n [] = []
+keyed_from tier n (r ∷ rs) = with_key n (key_of r tier) (keyed_from tier (suc n) rs)
+
+-- Partners are a list with a number of the baseline, or none, for each current result.
+
+-- whether current result i has a partner
+abbrev pub has_partner : List (Option ℕ) → ℕ → Bool
+has_partner partners i = is_some (slice_index_or partners i None)
+
+-- whether baseline result j is somebody's partner
+abbrev pub is_taken : List (Option ℕ) → ℕ → Bool
+is_taken partners j = list_any (λ partner. option_map_or (λ taken. taken == j) partner false) partners
+
+-- the current results that are left over
+abbrev pub left : {K : Type 0} → List (Option ℕ) → List (ℕ × K) → List (ℕ × K)
+left partners keyed = filter (λ e. not (has_partner partners e.0)) keyed
+
+-- the baseline results that are left over
+abbrev pub free : {K : Type 0} → List (Option ℕ) → List (ℕ × K) → List (ℕ × K)
+free partners keyed = filter (λ e. not (is_taken partners e.0)) keyed
+
+-- the partners, with each of these pairs put in
+abbrev pub put_all : List (Option ℕ) → List (ℕ × ℕ) → List (Option ℕ)
+put_all partners [] = partners
+put_all partners (pair ∷ pairs) = put_all (slice_set partners pair.0 (Some pair.1)) pairs
+
+module _ (current baseline : List Record) where
+  -- the pairs of a tier: equal keys, and equal ranks among what the tiers before have left over
+  abbrev pub pairs_at : List (Option ℕ) → Tier → List (ℕ × ℕ)
+  pairs_at partners tier =
+      pairs_from same_parts [] (left partners (keyed_from tier 0 current)) (free partners (keyed_from tier 0 baseline))
+
+  -- the partners after one tier more
+  abbrev pub after_tier : List (Option ℕ) → Tier → List (Option ℕ)
+  after_tier partners tier = put_all partners (pairs_at partners tier)
+
+  -- the partners after these tiers
+  abbrev pub partners_after : List Tier → List (Option ℕ)
+  partners_after tiers = fold after_tier (replicate (length current) None) tiers
+
+  -- the partner of each current result
+  abbrev pub partners_of : List (Option ℕ)
+  partners_of = partners_after (tiers_of current baseline)
+
+  -- baseline result j is nobody's partner
+  abbrev pub IsUnmatched : ℕ → Type 0
+  IsUnmatched j = is_taken partners_of j ≡ false

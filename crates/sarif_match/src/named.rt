@@ -1,0 +1,90 @@
+//! An index of results by the names of their fingerprints.
+ghost use Rattle.std.specs.Prelude.{◌≡◌, ◌<◌, ◌^◌, ℕ, List, [], ◌++◌, IfOk, OnOk, if◌then◌else◌, length, bytes_eq};
+ghost use Rattle.std.specs.Borrow.{Bor};
+ghost use Rattle.sarif_match.specs.Key.{key_of};
+ghost use Rattle.sarif_match.specs.Named.{with_parts, group_at, same_name, put_once, IsBelow};
+ghost use Rattle.sarif_match.specs.Partners.{keyed_from, with_key};
+ghost use Rattle.sarif_match.specs.declared.tier.Tier.TheVariants.{Fingerprint};
+
+use crate::tier_key::Key;
+use indexmap::IndexMap;
+use sarif_records::{Record, Text};
+use std::alloc::{AllocError, Global};
+
+/// For each fingerprint name the results that have it, with their numbers and keys, in order.
+pub(crate) fn by_name<'a>(
+    alloc: Global,
+    findings: &'a [Record],
+) -> Result<IndexMap<&'a Text, Vec<(u32, Key<'a>)>>, AllocError>
+    requires { length findings.now < 2 ^ 32 }
+    ensures { IfOk result (λ named. (name : Bor (List ℕ)) → with_parts (group_at named name)
+        ≡ keyed_from (Fingerprint name.now) 0 findings.now) }
+{
+    let mut named = IndexMap::new(alloc);
+    for (number, finding) in findings.iter().enumerate() {
+        add_finding(alloc, &mut named, number as u32, finding)?;
+    }
+    Ok(named)
+}
+
+/// Puts a result at the end of the group of each of its fingerprint names.
+fn add_finding<'a>(
+    alloc: Global,
+    named: &mut IndexMap<&'a Text, Vec<(u32, Key<'a>)>>,
+    number: u32,
+    finding: &'a Record,
+) -> Result<(), AllocError>
+    requires { (name : Bor (List ℕ)) → IsBelow number (with_parts (group_at named.old name)) }
+    ensures { OnOk result ((name : Bor (List ℕ)) → with_parts (group_at named.new name)
+        ≡ with_parts (group_at named.old name)
+            ++ with_key number (key_of finding.now (Fingerprint name.now)) []) }
+{
+    for (name, value) in finding.full.as_slice() {
+        let key = Key::Fingerprint {
+            tool: &finding.tool,
+            name,
+            value,
+        };
+        add_key(alloc, named, name, number, key)?;
+    }
+    Ok(())
+}
+
+/// Puts a key at the end of a name's group. Of a result that has the name twice, the first counts.
+fn add_key<'a>(
+    alloc: Global,
+    named: &mut IndexMap<&'a Text, Vec<(u32, Key<'a>)>>,
+    name: &'a Text,
+    number: u32,
+    key: Key<'a>,
+) -> Result<(), AllocError>
+    ensures { OnOk result ((q : Bor (List ℕ)) → group_at named.new q
+        ≡ (if same_name name.entry q
+            then put_once number key.entry (group_at named.old q)
+            else group_at named.old q)) }
+{
+    if let Some(group) = named.get_mut(&name) {
+        put_last(group, number, key)?;
+        return Ok(());
+    }
+    let group = vec![in alloc; (number, key)]?;
+    named.insert(name, group)?;
+    Ok(())
+}
+
+/// Puts a key at the end, unless the last one has the same number.
+fn put_last<'a>(
+    group: &mut Vec<(u32, Key<'a>)>,
+    number: u32,
+    key: Key<'a>,
+) -> Result<(), AllocError>
+    ensures { OnOk result (group.new.items ≡ put_once number key.entry group.old.items) }
+{
+    if let Some(last) = group.last() {
+        if last.0 == number {
+            return Ok(());
+        }
+    }
+    group.push((number, key))?;
+    Ok(())
+}
