@@ -5,3 +5,5 @@ pub mod TableLemmas
 pub mod PairingLemmas
 pub mod NamedLemmas
 pub mod ListLemmas
+pub mod PutLemmas
+pub mod FitsLemmas

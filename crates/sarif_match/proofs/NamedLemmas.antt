@@ -2,13 +2,19 @@
 use Rattle.std.proofs.Common.{◌≡◌, ℕ, ◌+◌, ◌-◌, ◌<◌, ◌≤◌, zero, suc, Bool, true, false, cond, List, [], ◌∷◌, ◌++◌, Option, Some, None, ◌==◌, length, get_or, take, slice_get, bytes_eq, refl, sym, ap, ◌∙◌, arith, eq-eqb}
 use Rattle.std.proofs.lemmas.Bool.{ne_eqb}
 use Rattle.std.proofs.lemmas.List.{take_more, map-append, length-map, length-take-le}
+use Rattle.std.proofs.Common.{Result, Ok, Err, IfOk}
+use Rattle.std.specs.Borrow.{Bor}
+use Rattle.std.specs.declared.alloc.Global.{Global}
+use Rattle.std.specs.declared.vec.Vec.{Vec}
 use Rattle.std.specs.Option.{option_map, option_map_or}
 use Rattle.sarif_records.specs.declared.record.Record.{Record}
 use Rattle.sarif_match.specs.declared.tier.Tier.{Tier}
 use Rattle.sarif_match.specs.declared.tier_key.Key.{Key}
 use Rattle.sarif_match.specs.Key.{key_of, value_of}
 use Rattle.sarif_match.specs.KeyParts.{KeyParts, parts_of, fingerprint_parts}
-use Rattle.sarif_match.specs.Named.{with_parts, ends_with, put_once, IsBelow}
+use Rattle.std.proofs.Common.{not, slice_index_or}
+use Rattle.std.proofs.lemmas.List.Elements.{filter-append}
+use Rattle.sarif_match.specs.Named.{with_parts, ends_with, put_once, IsBelow, unmarked}
 use Rattle.sarif_match.specs.Partners.{with_key, keyed_from}
 use Rattle.sarif_match.proofs.ValueLemmas.{same_text}
 use Rattle.sarif_match.proofs.ListLemmas.{append-nil, slice_get-last, slice_get-map}
@@ -23,7 +29,7 @@ pub value_of-push : (q : List ℕ) (pairs : List (List ℕ × List ℕ)) (p : Li
 value_of-push q [] p = refl
 value_of-push q (x ∷ xs) p =
     ap (λ (o : Option (List ℕ)). cond (bytes_eq x.0 q) (Some x.1) o) (value_of-push q xs p) ∙ by_test (bytes_eq x.0 q)
-    where
+  where
     by_test : (b : Bool) → cond b (Some x.1) (first_some (value_of q xs) (cond (bytes_eq p.0 q) (Some p.1) None)) ≡ first_some (cond b (Some x.1) (value_of q xs)) (cond (bytes_eq p.0 q) (Some p.1) None)
     by_test true = refl
     by_test false = refl
@@ -34,7 +40,7 @@ ends_with-with_parts n xs =
     let parts = λ (e : ℕ × Key). (let keyed : ℕ × KeyParts = (e.0, parts_of e.1) in keyed) in
     let is_n = λ (o : Option (ℕ × KeyParts)). option_map_or (λ (e : ℕ × KeyParts). e.0 == n) o false in
     ap (λ (k : ℕ). is_n (slice_get (with_parts xs) (k - 1))) (length-map xs parts) ∙ ap is_n (slice_get-map parts xs (length xs - 1)) ∙ at (slice_get xs (length xs - 1))
-    where
+  where
     at : (o : Option (ℕ × Key)) → option_map_or (λ (e : ℕ × KeyParts). e.0 == n) (option_map (λ (e : ℕ × Key). (let keyed : ℕ × KeyParts = (e.0, parts_of e.1) in keyed)) o) false ≡ option_map_or (λ (e : ℕ × Key). e.0 == n) o false
     at None = refl
     at (Some e) = refl
@@ -92,7 +98,7 @@ group_more false n tool name q value (Some v) old now same below so_far = so_far
 with_parts-put_once : (n : ℕ) (key : Key) (xs : List (ℕ × Key)) → with_parts (put_once n key xs) ≡ put_once n (parts_of key) (with_parts xs)
 with_parts-put_once n key xs =
     at (ends_with n xs) ∙ ap (λ (b : Bool). cond b (with_parts xs) (with_parts xs ++ ((n, parts_of key) ∷ []))) (sym (ends_with-with_parts n xs))
-    where
+  where
     at : (b : Bool) → with_parts (cond b xs (xs ++ ((n, key) ∷ []))) ≡ cond b (with_parts xs) (with_parts xs ++ ((n, parts_of key) ∷ []))
     at true = refl
     at false = map-append (λ (e : ℕ × Key). (let keyed : ℕ × KeyParts = (e.0, parts_of e.1) in keyed)) xs ((n, key) ∷ [])
@@ -104,7 +110,7 @@ group_step n tool q pairs i p key group new old here within parts below step so_
     let told = λ (o : Option (List ℕ)). old ++ with_key n (option_map (λ (v : List ℕ). fingerprint_parts tool q v) o) [] in
     let more : value_of q (take (i + 1) pairs) ≡ first_some (value_of q (take i pairs)) (cond (bytes_eq p.0 q) (Some p.1) None) = ap (value_of q) (take_more pairs i p within ∙ ap (λ (x : List ℕ × List ℕ). take i pairs ++ (x ∷ [])) (sym here)) ∙ value_of-push q (take i pairs) p in
     ap with_parts step ∙ by_test (bytes_eq p.0 q) ∙ ap (λ (k : KeyParts). cond (bytes_eq p.0 q) (put_once n k now) now) parts ∙ group_more (bytes_eq p.0 q) n tool p.0 q p.1 (value_of q (take i pairs)) old now (same_text p.0 q) below so_far ∙ ap told (sym more)
-    where
+  where
     by_test : (b : Bool) → with_parts (cond b (put_once n key group) group) ≡ cond b (put_once n (parts_of key) (with_parts group)) (with_parts group)
     by_test true = with_parts-put_once n key group
     by_test false = refl
@@ -114,3 +120,26 @@ pub groups_step : (tier : Tier) (rs : List Record) (i : ℕ) (r : Record) (old n
 groups_step tier rs i r old new here within step so_far =
     let at : i ≡ 0 + length (take i rs) = omega (arith, length-take-le i rs (omega arith)) in
     step ∙ ap (λ (xs : List (ℕ × KeyParts)). xs ++ with_key i (key_of r tier) []) so_far ∙ ap (λ (m : ℕ). keyed_from tier 0 (take i rs) ++ with_key m (key_of r tier) []) at ∙ sym (keyed_from-push tier 0 (take i rs) r) ∙ ap (keyed_from tier 0) (ap (λ (x : Record). take i rs ++ (x ∷ [])) here ∙ sym (take_more rs i r within))
+
+-- what has no mark among one result more
+pub unmarked_step : (tier : Tier) (marks : List Bool) (rs : List Record) (i : ℕ) (r : Record) (old new : List (ℕ × KeyParts)) → r ≡ get_or rs i r → i < length rs → new ≡ old ++ unmarked marks (with_key i (key_of r tier) []) → old ≡ unmarked marks (keyed_from tier 0 (take i rs)) → new ≡ unmarked marks (keyed_from tier 0 (take (i + 1) rs))
+unmarked_step tier marks rs i r old new here within step so_far =
+    step ∙ ap (λ (xs : List (ℕ × KeyParts)). xs ++ unmarked marks (with_key i (key_of r tier) [])) so_far ∙ sym (filter-append (λ (e : ℕ × KeyParts). not (slice_index_or marks e.0 false)) (keyed_from tier 0 (take i rs)) (with_key i (key_of r tier) [])) ∙ ap (unmarked marks) (groups_step tier rs i r (keyed_from tier 0 (take i rs)) _ here within refl refl)
+
+-- what has no mark, as parts
+pub with_parts-unmarked : (marks : List Bool) (xs : List (ℕ × Key)) → with_parts (unmarked marks xs) ≡ unmarked marks (with_parts xs)
+with_parts-unmarked marks [] = refl
+with_parts-unmarked marks (x ∷ xs) =
+    at (not (slice_index_or marks x.0 false)) ∙ ap (λ (rest : List (ℕ × KeyParts)). cond (not (slice_index_or marks x.0 false)) ((x.0, parts_of x.1) ∷ rest) rest) (with_parts-unmarked marks xs)
+  where
+    at : (b : Bool) → with_parts (cond b (x ∷ unmarked marks xs) (unmarked marks xs)) ≡ cond b ((x.0, parts_of x.1) ∷ with_parts (unmarked marks xs)) (with_parts (unmarked marks xs))
+    at true = refl
+    at false = refl
+
+pub IfOk-with_parts : {E : Type 0} (r : Result (Vec (ℕ × Key) Global) E) (marks : List Bool) (group : List (ℕ × Key)) (all : List (ℕ × KeyParts)) → with_parts group ≡ all → IfOk r (λ left. left.items ≡ unmarked marks group) → IfOk r (λ left. with_parts left.items ≡ unmarked marks all)
+IfOk-with_parts (Ok left) marks group all same told = ap with_parts told ∙ with_parts-unmarked marks group ∙ ap (unmarked marks) same
+IfOk-with_parts (Err e) marks group all same told = tt
+
+-- whether two borrowed names are equal
+abbrev pub same_name : Bor (List ℕ) → Bor (List ℕ) → Bool
+same_name a b = bytes_eq a.now b.now

@@ -20,7 +20,7 @@ module _ {K : Type 0} (eq : K → K → Bool) where
   pub places-push : (k : K) (xs : List (ℕ × K)) (e : ℕ × K) → places eq k (xs ++ (e ∷ [])) ≡ cond (eq e.1 k) (places eq k xs ++ (e.0 ∷ [])) (places eq k xs)
   places-push k xs e =
       ap (map (λ (x : ℕ × K). x.0)) (filter-append (λ (x : ℕ × K). eq x.1 k) xs (e ∷ [])) ∙ map-append (λ (x : ℕ × K). x.0) (filter (λ (x : ℕ × K). eq x.1 k) xs) (filter (λ (x : ℕ × K). eq x.1 k) (e ∷ [])) ∙ by_test (eq e.1 k)
-      where
+    where
       by_test : (b : Bool) → places eq k xs ++ map (λ (x : ℕ × K). x.0) (cond b (e ∷ []) []) ≡ cond b (places eq k xs ++ (e.0 ∷ [])) (places eq k xs)
       by_test true = refl
       by_test false = append-nil (places eq k xs)
@@ -39,9 +39,10 @@ module _ {K : Type 0} (eq : K → K → Bool) where
   pub queue_emptied : (q : K) (xs bs : List (ℕ × K)) (i : ℕ) (e : ℕ × K) (old new : List ℕ) → e ≡ get_or xs i e → i < length xs → new ≡ cond (eq e.1 q) (drop 1 old) old → old ≡ drop (length (places eq q (take i xs))) (places eq q bs) → new ≡ drop (length (places eq q (take (i + 1) xs))) (places eq q bs)
   queue_emptied q xs bs i e old new here within step so_far =
       step ∙ ap (λ (ns : List ℕ). cond (eq e.1 q) (drop 1 ns) ns) so_far ∙ by_test (eq e.1 q) ∙ ap (λ (ns : List ℕ). drop (length ns) (places eq q bs)) (sym (places-push q (take i xs) e) ∙ ap (places eq q) (sym (taken_more xs i e here within)))
-      where
+    where
       seen : List ℕ
       seen = places eq q (take i xs)
+
       by_test : (b : Bool) → cond b (drop 1 (drop (length seen) (places eq q bs))) (drop (length seen) (places eq q bs)) ≡ drop (length (cond b (seen ++ (e.0 ∷ [])) seen)) (places eq q bs)
       by_test true =
           let longer : suc (length seen) ≡ length (seen ++ (e.0 ∷ [])) = omega (arith, length-append seen (e.0 ∷ [])) in

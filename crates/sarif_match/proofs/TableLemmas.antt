@@ -24,7 +24,7 @@ module _ {K V S X : Type 0} {eq : K → K → Bool} (laws : IsEquivalence eq) (r
   pub read-kept : n ≡ m → read (get eq m key) ≡ f (read (get eq m key)) → read (get eq n q) ≡ cond (eq key q) (f (read (get eq m q))) (read (get eq m q))
   read-kept same kept =
       ap (λ (t : HashMap K V S). read (get eq t q)) same ∙ kept_cond (eq key q) one_value
-      where
+    where
       kept_cond : (b : Bool) → (b ≡ true → get eq m q ≡ get eq m key) → read (get eq m q) ≡ cond b (f (read (get eq m q))) (read (get eq m q))
       kept_cond true one = ap read (one refl) ∙ kept ∙ sym (ap (λ (o : Option V). f (read o)) (one refl))
       kept_cond false one = refl

@@ -6,3 +6,6 @@ pub mod Pairing
 pub mod Queues
 pub mod Partners
 pub mod Named
+pub mod Progress
+pub mod Fits
+pub mod Side

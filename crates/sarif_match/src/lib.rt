@@ -2,15 +2,19 @@
 #![tactic(auto)]
 
 mod keys;
+mod matching;
 mod named;
 mod pairing;
+mod progress;
 mod queues;
+mod side;
 mod states;
 mod tier;
 mod tier_key;
 mod tier_list;
 
 pub use keys::key;
+pub use matching::{Matching, match_all};
 pub use states::state;
 pub use tier::Tier;
 pub use tier_key::Key;

@@ -1,8 +1,7 @@
 //! An index of results by the names of their fingerprints.
 ghost use Rattle.std.specs.Prelude.{◌≡◌, ◌<◌, ◌^◌, ℕ, List, [], ◌++◌, IfOk, OnOk, if◌then◌else◌, length, bytes_eq};
-ghost use Rattle.std.specs.Borrow.{Bor};
 ghost use Rattle.sarif_match.specs.Key.{key_of};
-ghost use Rattle.sarif_match.specs.Named.{with_parts, group_at, same_name, put_once, IsBelow};
+ghost use Rattle.sarif_match.specs.Named.{with_parts, group_at, put_once, IsBelow};
 ghost use Rattle.sarif_match.specs.Partners.{keyed_from, with_key};
 ghost use Rattle.sarif_match.specs.declared.tier.Tier.TheVariants.{Fingerprint};
 
@@ -17,8 +16,8 @@ pub(crate) fn by_name<'a>(
     findings: &'a [Record],
 ) -> Result<IndexMap<&'a Text, Vec<(u32, Key<'a>)>>, AllocError>
     requires { length findings.now < 2 ^ 32 }
-    ensures { IfOk result (λ named. (name : Bor (List ℕ)) → with_parts (group_at named name)
-        ≡ keyed_from (Fingerprint name.now) 0 findings.now) }
+    ensures { IfOk result (λ named. (name : List ℕ) → with_parts (group_at named name)
+        ≡ keyed_from (Fingerprint name) 0 findings.now) }
 {
     let mut named = IndexMap::new(alloc);
     for (number, finding) in findings.iter().enumerate() {
@@ -34,10 +33,10 @@ fn add_finding<'a>(
     number: u32,
     finding: &'a Record,
 ) -> Result<(), AllocError>
-    requires { (name : Bor (List ℕ)) → IsBelow number (with_parts (group_at named.old name)) }
-    ensures { OnOk result ((name : Bor (List ℕ)) → with_parts (group_at named.new name)
+    requires { (name : List ℕ) → IsBelow number (with_parts (group_at named.old name)) }
+    ensures { OnOk result ((name : List ℕ) → with_parts (group_at named.new name)
         ≡ with_parts (group_at named.old name)
-            ++ with_key number (key_of finding.now (Fingerprint name.now)) []) }
+        ++ with_key number (key_of finding.now (Fingerprint name)) []) }
 {
     for (name, value) in finding.full.as_slice() {
         let key = Key::Fingerprint {
@@ -58,10 +57,10 @@ fn add_key<'a>(
     number: u32,
     key: Key<'a>,
 ) -> Result<(), AllocError>
-    ensures { OnOk result ((q : Bor (List ℕ)) → group_at named.new q
-        ≡ (if same_name name.entry q
-            then put_once number key.entry (group_at named.old q)
-            else group_at named.old q)) }
+    ensures { OnOk result ((q : List ℕ) → group_at named.new q
+        ≡ (if bytes_eq name.now q
+        then put_once number key.entry (group_at named.old q)
+        else group_at named.old q)) }
 {
     if let Some(group) = named.get_mut(&name) {
         put_last(group, number, key)?;

@@ -1,5 +1,4 @@
 use Rattle.std.proofs.Common.{◌≡◌, List, ℕ, [], ◌++◌, take}
-use Rattle.std.specs.Borrow.{Bor}
 use Rattle.std.specs.Option.{option_map}
 use Rattle.sarif_match.specs.Key.{value_of}
 use Rattle.sarif_match.specs.KeyParts.{fingerprint_parts}
@@ -9,4 +8,4 @@ use Rattle.sarif_match.proofs.named.add_finding.Given as goal
 
 abbrev pub invariant-loop-name : goal.invariant-loop-name
 invariant-loop-name l =
-    (q : Bor (List ℕ)) → with_parts (group_at l.named q) ≡ with_parts (group_at l.fn.named q) ++ with_key l.number (option_map (λ value. fingerprint_parts l.finding.tool q.now value) (value_of q.now (take l.name-index l.name-items))) []
+    (q : List ℕ) → with_parts (group_at l.named q) ≡ with_parts (group_at l.fn.named q) ++ with_key l.number (option_map (λ value. fingerprint_parts l.finding.tool q value) (value_of q (take l.name-index l.name-items))) []

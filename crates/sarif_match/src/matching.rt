@@ -1,0 +1,96 @@
+//! All tiers: which baseline result each current result is paired with.
+ghost use Rattle.std.specs.Prelude.{◌≡◌, ◌≤◌, List, Option, ℕ, None, false, length, slice_index_or, IfOk, OnOk};
+ghost use Rattle.sarif_match.specs.Partners.{is_taken, after_tier, partners_of};
+ghost use Rattle.sarif_match.specs.Progress.{IsSound};
+ghost use Rattle.sarif_match.specs.Side.{IsIndexed};
+
+use crate::pairing::pair_up;
+use crate::progress::Progress;
+use crate::side::Side;
+use crate::tier::Tier;
+use crate::tier_list::tiers;
+use sarif_records::Record;
+use std::alloc::{AllocError, Global};
+use std::marker::Model;
+
+/// Which baseline result each current result is paired with. Contracts see the list of partners: for each
+/// current result the number of its partner in the baseline, or none.
+#[derive(Drop)]
+pub struct Matching {
+    partners: Vec<Option<u32>>,
+    taken: Vec<bool>,
+}
+
+impl Model for Matching {
+    ghost Value = { List (Option ℕ) };
+
+    ghost view = { λ m. m.partners.items };
+
+    ghost invariant = { λ m. (j : ℕ) → slice_index_or m.taken.items j false ≡ is_taken m.partners.items j };
+}
+
+impl Matching {
+    /// The partner of current result `i`, if it has one. Past the last result there is none.
+    pub fn partner(&self, i: u32) -> Option<u32>
+        ensures { result ≡ slice_index_or self.now i None }
+    {
+        self.partners.get(i as usize).copied().flatten()
+    }
+
+    /// Whether baseline result `j` is some current result's partner. No result past the last is.
+    pub fn taken(&self, j: u32) -> bool
+        ensures { result ≡ is_taken self.now j }
+    {
+        self.taken.get(j as usize).copied().unwrap_or(false)
+    }
+}
+
+/// Pairs each current result with at most one baseline result, tier by tier. At each tier the results
+/// that are left over are paired where their keys are equal, the first with the first, the second with
+/// the second, and so on. Each list has at most 1,000,000 results.
+pub fn match_all<'a>(
+    alloc: Global,
+    current: &'a [Record],
+    baseline: &'a [Record],
+) -> Result<Matching, AllocError>
+    requires current { length current.now ≤ 1000000 }
+    requires baseline { length baseline.now ≤ 1000000 }
+    ensures { IfOk result (λ matching. matching ≡ partners_of current.now baseline.now) }
+{
+    let mut progress = Progress::new(alloc, current.len(), baseline.len())?;
+    let tiers = tiers(alloc, current, baseline)?;
+    let now = Side::new(alloc, current)?;
+    let before = Side::new(alloc, baseline)?;
+    for tier in &tiers {
+        match_tier(alloc, &mut progress, tier, &now, &before)?;
+    }
+    let Progress {
+        partners,
+        taken,
+        ..
+    } = progress;
+    Ok(Matching { partners, taken })
+}
+
+/// Pairs what is left over at one tier.
+fn match_tier<'a>(
+    alloc: Global,
+    progress: &mut Progress,
+    tier: &Tier,
+    current: &Side<'a>,
+    baseline: &Side<'a>,
+) -> Result<(), AllocError>
+    requires current { IsIndexed current.now }
+    requires baseline { IsIndexed baseline.now }
+    requires sound { IsSound (length current.now.findings.now) (length baseline.now.findings.now) progress.old }
+    ensures sound { OnOk result
+        (IsSound (length current.now.findings.now) (length baseline.now.findings.now) progress.new) }
+    ensures paired { OnOk result (progress.new.partners.items
+        ≡ after_tier current.now.findings.now baseline.now.findings.now progress.old.partners.items tier.now) }
+{
+    let left = current.left_over(alloc, tier, &progress.paired)?;
+    let free = baseline.left_over(alloc, tier, &progress.taken)?;
+    let pairs = pair_up(alloc, &left, &free)?;
+    progress.put_pairs(&pairs);
+    Ok(())
+}
