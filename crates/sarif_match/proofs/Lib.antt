@@ -7,3 +7,9 @@ pub mod NamedLemmas
 pub mod ListLemmas
 pub mod PutLemmas
 pub mod FitsLemmas
+pub mod PartsLemmas
+pub mod SplitLemmas
+pub mod PairedLemmas
+pub mod LawLemmas
+pub mod StateLemmas
+pub mod SortedLemmas

@@ -9,3 +9,4 @@ pub mod Named
 pub mod Progress
 pub mod Fits
 pub mod Side
+pub mod Paired

@@ -1,6 +1,6 @@
 -- The tiers of a merge, in order.
-use Rattle.std.specs.Prelude.{ℕ, List, [], ◌∷◌, ◌++◌, map, fold, reverse}
-use Rattle.std.specs.List.{flat_map}
+use Rattle.std.specs.Prelude.{ℕ, Bool, List, bytes_eq, [], ◌∷◌, ◌++◌, map, fold, reverse}
+use Rattle.std.specs.List.{flat_map, list_any}
 use Rattle.std.specs.Ordering.{nat_cmp}
 use Rattle.std.specs.Cmp.Lexicographic.{slice_cmp}
 use Rattle.std.specs.BTreeSet.{insert_key}
@@ -12,13 +12,21 @@ use Rattle.sarif_match.specs.declared.tier.Tier.TheVariants.{Guid, Fingerprint, 
 abbrev pub names_of : List Record → List (List ℕ)
 names_of rs = flat_map (λ r. map (λ pair. pair.0) r.full) rs
 
+-- whether the name is among these
+abbrev pub has_name : List ℕ → List (List ℕ) → Bool
+has_name name names = list_any (λ own. bytes_eq own name) names
+
 -- the names of a list added to strictly rising names, each once, in byte order
 abbrev pub with_names : List (List ℕ) → List (List ℕ) → List (List ℕ)
 with_names rising names = fold (insert_key (slice_cmp nat_cmp)) rising names
 
--- the names in any result of either list, each once, in strictly falling byte order
+-- the names in any result of either list, each once, in strictly rising byte order
+abbrev pub rising_names : List Record → List Record → List (List ℕ)
+rising_names cs bs = with_names (with_names [] (names_of cs)) (names_of bs)
+
+-- the same in strictly falling byte order
 abbrev pub falling_names : List Record → List Record → List (List ℕ)
-falling_names cs bs = reverse (with_names (with_names [] (names_of cs)) (names_of bs))
+falling_names cs bs = reverse (rising_names cs bs)
 
 -- the tiers in the order in which a merge goes through them
 abbrev pub tiers_of : List Record → List Record → List Tier

@@ -2,6 +2,7 @@
 #![tactic(auto)]
 
 mod keys;
+mod laws;
 mod matching;
 mod named;
 mod pairing;
@@ -19,3 +20,6 @@ pub use states::state;
 pub use tier::Tier;
 pub use tier_key::Key;
 pub use tier_list::tiers;
+
+#[cfg(test)]
+mod tests;

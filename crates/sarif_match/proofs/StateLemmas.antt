@@ -1,0 +1,69 @@
+-- What the tests of a state say.
+use Rattle.std.proofs.Common.{◌≡◌, ℕ, Bool, true, false, cond, ◌&&◌, ◌==◌, refl, sym, ap, ◌∙◌, eq-eqb}
+use Rattle.std.specs.Prelude.{Some}
+use Rattle.std.proofs.lemmas.Bool.Decides.{Decides-eqb}
+use Rattle.sarif_records.specs.declared.record.Record.{Record}
+use Rattle.sarif_records.specs.declared.kinds.Kind.{Kind}
+use Rattle.sarif_records.specs.declared.kinds.Kind.TheVariants.{Pass, Undecided, Informational, NotApplicable, Review, Fail}
+use Rattle.sarif_records.specs.declared.kinds.Level.{Level}
+use Rattle.sarif_records.specs.declared.kinds.Level.TheVariants.{NoLevel, Note, Warning, Error}
+use Rattle.sarif_records.specs.declared.kinds.State.TheVariants.{Unchanged, Updated}
+use Rattle.sarif_match.specs.KeyParts.{message_eq, place_eq}
+use Rattle.sarif_match.specs.State.{kind_number, level_number, is_unchanged, state_of, IsUnchanged}
+use Rattle.sarif_match.proofs.PartsLemmas.{and_both, message_same, message_refl, place_same, place_refl}
+
+-- the kind with this number
+kind_at : ℕ → Kind
+kind_at n =
+    cond (n == 0) Pass (cond (n == 1) Undecided (cond (n == 2) Informational (cond (n == 3) NotApplicable (cond (n == 4) Review Fail))))
+
+kind_at-number : (k : Kind) → kind_at (kind_number k) ≡ k
+unfolding kind_at
+kind_at-number Pass = refl
+kind_at-number Undecided = refl
+kind_at-number Informational = refl
+kind_at-number NotApplicable = refl
+kind_at-number Review = refl
+kind_at-number Fail = refl
+
+-- the level with this number
+level_at : ℕ → Level
+level_at n = cond (n == 0) NoLevel (cond (n == 1) Note (cond (n == 2) Warning Error))
+
+level_at-number : (l : Level) → level_at (level_number l) ≡ l
+unfolding level_at
+level_at-number NoLevel = refl
+level_at-number Note = refl
+level_at-number Warning = refl
+level_at-number Error = refl
+
+updated_is_no_unchanged : Updated ≡ Unchanged → false ≡ true
+updated_is_no_unchanged e = cc
+
+from_unchanged : (b : Bool) → cond b Unchanged Updated ≡ Unchanged → b ≡ true
+from_unchanged true e = refl
+from_unchanged false e = updated_is_no_unchanged e
+
+pub unchanged_is_equal : (now before : Record) → state_of now (Some before) ≡ Unchanged → IsUnchanged now before
+unchanged_is_equal now before e =
+    let kinds = kind_number now.kind == kind_number before.kind in
+    let levels = level_number now.level == level_number before.level in
+    let messages = message_eq now.message before.message in
+    let places = place_eq now.place before.place in
+    let all = and_both kinds (levels && (messages && places)) (from_unchanged (is_unchanged now before) e) in
+    let rest = and_both levels (messages && places) all.1 in
+    let last = and_both messages places rest.1 in
+    record {
+      kind = sym (kind_at-number now.kind) ∙ ap kind_at ((Decides-eqb (kind_number now.kind) (kind_number before.kind)).0 all.0) ∙ kind_at-number before.kind;
+      level = sym (level_at-number now.level) ∙ ap level_at ((Decides-eqb (level_number now.level) (level_number before.level)).0 rest.0) ∙ level_at-number before.level;
+      message = message_same now.message before.message last.0;
+      place = place_same now.place before.place last.1;
+    }
+
+pub equal_is_unchanged : (now before : Record) → IsUnchanged now before → state_of now (Some before) ≡ Unchanged
+equal_is_unchanged now before h =
+    let kinds : (kind_number now.kind == kind_number before.kind) ≡ true = eq-eqb (kind_number now.kind) (kind_number before.kind) (ap kind_number h.kind) in
+    let levels : (level_number now.level == level_number before.level) ≡ true = eq-eqb (level_number now.level) (level_number before.level) (ap level_number h.level) in
+    let messages : message_eq now.message before.message ≡ true = ap (message_eq now.message) (sym h.message) ∙ message_refl now.message in
+    let places : place_eq now.place before.place ≡ true = ap (place_eq now.place) (sym h.place) ∙ place_refl now.place in
+    ap (λ (b : Bool). cond (b && ((level_number now.level == level_number before.level) && (message_eq now.message before.message && place_eq now.place before.place))) Unchanged Updated) kinds ∙ ap (λ (b : Bool). cond (b && (message_eq now.message before.message && place_eq now.place before.place)) Unchanged Updated) levels ∙ ap (λ (b : Bool). cond (b && place_eq now.place before.place) Unchanged Updated) messages ∙ ap (λ (b : Bool). cond b Unchanged Updated) places

@@ -1,0 +1,66 @@
+//! Laws of tiers, keys, partners and states, each the contract of a function that does nothing.
+ghost use Rattle.std.specs.Prelude.{◌≡◌, ◌↔◌, ◌||◌, ℕ, List, Some, None, IsTrue, slice_index_or};
+ghost use Rattle.std.specs.Ordering.{nat_cmp};
+ghost use Rattle.std.specs.Cmp.Lexicographic.{slice_cmp};
+ghost use Rattle.std.specs.List.Sorted.{IsStrictlySortedBy};
+ghost use Rattle.sarif_records.specs.declared.record.Record.{Record};
+ghost use Rattle.sarif_records.specs.declared.kinds.State.TheVariants.{Unchanged};
+ghost use Rattle.sarif_match.specs.declared.tier_key.Key.{Key};
+ghost use Rattle.sarif_match.specs.KeyParts.{parts_of};
+ghost use Rattle.sarif_match.specs.Queues.{same_key};
+ghost use Rattle.sarif_match.specs.Paired.{ArePartners};
+ghost use Rattle.sarif_match.specs.Partners.{partners_of};
+ghost use Rattle.sarif_match.specs.State.{state_of, IsUnchanged};
+ghost use Rattle.sarif_match.specs.Tiers.{names_of, has_name, rising_names};
+
+use crate::matching::Matching;
+use sarif_records::Record;
+
+/// Two keys are equal exactly where they are of one tier and all their parts are equal.
+pub fn keys_are_equal_where_their_parts_are()
+    ensures { (a b : Key) → IsTrue (same_key a b) ↔ (parts_of a ≡ parts_of b) }
+{}
+
+/// The fingerprint names of the tiers are just those of the results, each once and in byte order, of
+/// which the tiers have the reverse.
+pub fn names_are_sorted()
+    ensures rising { (current baseline : List Record) →
+        IsStrictlySortedBy (slice_cmp nat_cmp) (rising_names current baseline) }
+    ensures just { (current baseline : List Record) (name : List ℕ) →
+        has_name name (rising_names current baseline)
+        ≡ (has_name name (names_of current) || has_name name (names_of baseline)) }
+{}
+
+/// A baseline result is a current result's partner exactly where the two are paired at one tier: they
+/// have equal keys at it and equal ranks, and neither had a partner after the tiers before.
+pub fn partners_are_paired_at_one_tier()
+    ensures { (current baseline : List Record) (i j : ℕ) →
+        (slice_index_or (partners_of current baseline) i None ≡ Some j)
+        ↔ ArePartners current baseline i j }
+{}
+
+/// No baseline result is the partner of two current results.
+pub fn no_baseline_result_has_two_partners()
+    ensures { (current baseline : List Record) (i k j : ℕ) →
+        slice_index_or (partners_of current baseline) i None ≡ Some j →
+        slice_index_or (partners_of current baseline) k None ≡ Some j → i ≡ k }
+{}
+
+/// The partners depend on nothing but the two lists.
+pub fn partners_depend_on_the_two_lists_alone(
+    one: &Matching,
+    other: &Matching,
+    current: &[Record],
+    baseline: &[Record],
+)
+    requires one { one.now ≡ partners_of current.now baseline.now }
+    requires other { other.now ≡ partners_of current.now baseline.now }
+    ensures { one.now ≡ other.now }
+{}
+
+/// A result that has a partner is unchanged exactly where kind, effective level, message and place are
+/// those of the partner.
+pub fn unchanged_results_are_equal()
+    ensures { (now before : Record) →
+        (state_of now (Some before) ≡ Unchanged) ↔ IsUnchanged now before }
+{}
