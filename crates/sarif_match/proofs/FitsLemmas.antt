@@ -123,3 +123,14 @@ pub pairs_at-told : (current baseline : List Record) (n m : ℕ) (progress : Pro
 pairs_at-told current baseline n m progress tier l f pairs sound l_is f_is told =
     let partners = progress.partners.items in
     told ∙ sym (pairs_from-with_parts [] l f) ∙ ap (λ (xs : List (ℕ × KeyParts)). pairs_from same_parts [] xs (with_parts f)) (l_is ∙ unmarked-left progress.paired.items (has_partner partners) sound.paired (keyed_from tier 0 current)) ∙ ap (λ (xs : List (ℕ × KeyParts)). pairs_from same_parts [] (left partners (keyed_from tier 0 current)) xs) (f_is ∙ unmarked-left progress.taken.items (is_taken partners) sound.taken (keyed_from tier 0 baseline))
+
+pairs_from-nil : (seen es : List (ℕ × KeyParts)) → pairs_from same_parts seen es [] ≡ []
+pairs_from-nil seen [] = refl
+pairs_from-nil seen (e ∷ es) = pairs_from-nil (seen ++ (e ∷ [])) es
+
+-- nothing is paired where no baseline result is left over
+pub pairs_at-none : (current baseline : List Record) (n m : ℕ) (progress : Progress) (tier : Tier) (f : List (ℕ × Key)) → IsSound n m progress → with_parts f ≡ unmarked progress.taken.items (keyed_from tier 0 baseline) → f ≡ [] → pairs_at current baseline progress.partners.items tier ≡ []
+pairs_at-none current baseline n m progress tier f sound f_is none =
+    let partners = progress.partners.items in
+    let free_is : free partners (keyed_from tier 0 baseline) ≡ [] = sym (unmarked-left progress.taken.items (is_taken partners) sound.taken (keyed_from tier 0 baseline)) ∙ sym f_is ∙ ap with_parts none in
+    ap (pairs_from same_parts [] (left partners (keyed_from tier 0 current))) free_is ∙ pairs_from-nil [] (left partners (keyed_from tier 0 current))

@@ -36,3 +36,7 @@ module _ {X Y : Type 0} (f : X → Y) where
   slice_get-map [] i = refl
   slice_get-map (x ∷ xs) zero = refl
   slice_get-map (x ∷ xs) (suc i) = slice_get-map xs i
+
+pub nil_from_length : {X : Type 0} (xs : List X) → length xs ≡ 0 → xs ≡ []
+nil_from_length [] e = refl
+nil_from_length (x ∷ xs) e = absurd (omega arith)

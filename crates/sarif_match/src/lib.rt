@@ -2,7 +2,7 @@
 #![tactic(auto)]
 
 mod keys;
-mod laws;
+pub mod laws;
 mod matching;
 mod named;
 mod pairing;

@@ -88,8 +88,11 @@ fn match_tier<'a>(
     ensures paired { OnOk result (progress.new.partners.items
         ≡ after_tier current.now.findings.now baseline.now.findings.now progress.old.partners.items tier.now) }
 {
-    let left = current.left_over(alloc, tier, &progress.paired)?;
     let free = baseline.left_over(alloc, tier, &progress.taken)?;
+    if free.is_empty() {
+        return Ok(());
+    }
+    let left = current.left_over(alloc, tier, &progress.paired)?;
     let pairs = pair_up(alloc, &left, &free)?;
     progress.put_pairs(&pairs);
     Ok(())

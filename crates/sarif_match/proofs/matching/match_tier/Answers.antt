@@ -4,7 +4,8 @@ use Rattle.sarif_match.specs.Named.{with_parts, unmarked}
 use Rattle.sarif_match.specs.Pairing.{pairs_from}
 use Rattle.sarif_match.specs.Partners.{keyed_from, put_all}
 use Rattle.sarif_match.specs.Queues.{same_key}
-use Rattle.sarif_match.proofs.FitsLemmas.{Fits-pairs_at, pairs_at-told}
+use Rattle.sarif_match.proofs.FitsLemmas.{Fits-pairs_at, pairs_at-none, pairs_at-told}
+use Rattle.sarif_match.proofs.ListLemmas.{nil_from_length}
 use Rattle.sarif_match.proofs.matching.match_tier.Goals as goal
 
 pub put_pairs-requires-clause-fits : goal.put_pairs-requires-clause-fits
@@ -27,3 +28,13 @@ returns-clause-paired c =
     let free : with_parts c.in_ok-free.free.items ≡ unmarked progress.taken.items (keyed_from c.args.tier.now 0 baseline) = search rules in
     let pairs : c.deref-5.result.now ≡ pairs_from same_key [] c.in_ok-left.left.items c.in_ok-free.free.items = search rules in
     c.put_pairs.ensures.put ∙ ap (put_all progress.partners.items) (pairs_at-told current baseline _ _ progress c.args.tier.now _ _ _ c.requires.sound left free pairs)
+
+pub returns-then-is_empty-clause-paired : goal.returns-then-is_empty-clause-paired
+returns-then-is_empty-clause-paired c =
+    let current = c.args.current.now.findings.now in
+    let baseline = c.args.baseline.now.findings.now in
+    let progress = c.args.progress.now in
+    let free : with_parts c.in_ok-free.free.items ≡ unmarked progress.taken.items (keyed_from c.args.tier.now 0 baseline) = search rules in
+    let empty : length c.in_ok-free.free.items ≡ 0 = search rules in
+    let none = nil_from_length c.in_ok-free.free.items empty in
+    sym (ap (put_all progress.partners.items) (pairs_at-none current baseline _ _ progress c.args.tier.now c.in_ok-free.free.items c.requires.sound free none))
