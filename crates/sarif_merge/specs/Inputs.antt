@@ -1,5 +1,5 @@
 -- What a merge is given, and the runs that can be read from it.
-use Rattle.std.specs.Prelude.{ℕ, ◌+◌, List, [], ◌∷◌, map, Option, Result, Ok, Err}
+use Rattle.std.specs.Prelude.{ℕ, ◌+◌, List, [], ◌∷◌, ◌++◌, Option, Result, Ok, Err}
 use Rattle.std.specs.List.{flat_map}
 use Rattle.serde_json.specs.Data.{Data}
 use Rattle.sarif_records.specs.declared.fault.ReadFault.{ReadFault}
@@ -30,6 +30,10 @@ log_sources inputs = numbered Log 0 inputs.logs
 abbrev pub baseline_sources : Inputs → List Sourced
 baseline_sources inputs = numbered Baseline 0 inputs.baselines
 
+-- the logs, and then the baselines
+abbrev pub all_sources : Inputs → List Sourced
+all_sources inputs = log_sources inputs ++ baseline_sources inputs
+
 -- a run of a source, with its number there
 pub record Placed : Type 0 where
   pub source : Source
@@ -57,3 +61,7 @@ input_runs inputs = placed (log_sources inputs)
 
 abbrev pub baseline_runs : Inputs → List Placed
 baseline_runs inputs = placed (baseline_sources inputs)
+
+-- the input runs, and then the baseline runs
+abbrev pub all_runs : Inputs → List Placed
+all_runs inputs = input_runs inputs ++ baseline_runs inputs

@@ -4,11 +4,15 @@ pub mod Counted
 pub mod Counts
 pub mod Failing
 pub mod Fault
+pub mod Faults
 pub mod Gate
 pub mod Inputs
-pub mod SourceFaults
+pub mod Judging
+pub mod MergedLog
 pub mod MergedRuns
+pub mod PlacedRun
 pub mod Policy
 pub mod Source
+pub mod SourceFaults
 pub mod Summary
 pub mod Tally

@@ -1,10 +1,9 @@
 -- The faults of reading the sources, in their order, and of the limits of all of them together.
 use Rattle.std.specs.Prelude.{ℕ, ◌+◌, Bool, ◌||◌, nat_lt, List, [], ◌∷◌, ◌++◌, length, Option, Some, None, Result, Ok, Err, if◌then◌else◌}
-use Rattle.std.specs.List.{sum_by}
 use Rattle.serde_json.specs.Data.{Data}
 use Rattle.sarif_records.specs.declared.fault.ReadFault.{ReadFault}
 use Rattle.sarif_records.specs.Reading.{log_of}
-use Rattle.sarif_records.specs.Run.{results_of}
+use Rattle.sarif_records.specs.Run.{results_total}
 use Rattle.sarif_merge.specs.declared.fault.Source.{Source}
 use Rattle.sarif_merge.specs.declared.fault.At.{At}
 use Rattle.sarif_merge.specs.declared.fault.At.TheVariants.{Whole, Run}
@@ -25,10 +24,6 @@ abbrev pub reading_faults : Source → Result (List Data) ReadFault → List Mer
 reading_faults source (Ok runs) = []
 reading_faults source (Err fault) = fault_of_reading source fault ∷ []
 
--- how many results these runs have
-abbrev pub results_in : List Data → ℕ
-results_in runs = sum_by (λ run. length (results_of run)) runs
-
 -- more than 10,000 runs, or more than 1,000,000 results
 abbrev pub is_past_limits : ℕ → ℕ → Bool
 is_past_limits runs results = nat_lt 10000 runs || nat_lt 1000000 results
@@ -43,5 +38,5 @@ abbrev pub source_faults : ℕ → ℕ → List Sourced → List MergeFault
 source_faults runs results [] = []
 source_faults runs results (s ∷ rest) =
     let now = runs + length (runs_in s) in
-    let all = results + results_in (runs_in s) in
+    let all = results + results_total (runs_in s) in
     (reading_faults s.source (log_of s.bytes) ++ limit_faults s.source now all) ++ source_faults now all rest

@@ -14,6 +14,7 @@ mod map_members;
 mod merge;
 mod merged_run;
 mod output;
+mod placed;
 mod policy;
 mod source;
 mod table;
