@@ -5,3 +5,4 @@ pub mod CheckEach
 pub mod NoFraction
 pub mod ReadEach
 pub mod Pairs
+pub mod WholeRuns

@@ -21,7 +21,7 @@ mod text;
 pub use fault::{Fault, ReadFault};
 pub use guid::read_guid;
 pub use kinds::{Kind, Level, State, Status};
-pub use laws::{stripped_holds_no_fraction, stripping_twice_is_once};
+pub use laws::{read_runs_hold_no_fraction, stripped_holds_no_fraction, stripping_twice_is_once};
 pub use log::Log;
 pub use message::Message;
 pub use own_members::read_parts;
