@@ -1,4 +1,5 @@
-//! The base layer of `sarif_gate`: how a SARIF 2.1.0 log is read, and the types that the layers above speak of.
+//! The base layer of `sarif_gate`: how a SARIF 2.1.0 log is read, and the types that the layers
+//! above speak of.
 #![tactic(auto)]
 
 mod fault;

@@ -7,7 +7,8 @@ ghost use Rattle.sarif_records.specs.Members as said;
 
 use serde_json::Value;
 
-/// The member `name` of an object, where it is there and not null. What is no object has no members.
+/// The member `name` of an object, where it is there and not null. What is no object has no
+/// members.
 pub fn member_at<'a>(value: &'a Value, name: &str) -> Option<&'a Value>
     ensures { option_map (λ v. view v.now) result ≡ said.member_at name.now (view value.now) }
 {

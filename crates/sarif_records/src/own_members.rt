@@ -2,7 +2,8 @@
 ghost use Rattle.std.specs.Prelude.{◌≡◌, ◌<◌, length, Ok, Err, IfOk, IfErr};
 ghost use Rattle.serde_json.specs.View.{view as seen};
 ghost use Rattle.sarif_records.specs.Run.{results_of, result_at};
-ghost use Rattle.sarif_records.specs.OwnMembers.{check_present, own_kind, own_level, own_guid, parts_of};
+ghost use Rattle.sarif_records.specs.OwnMembers.{check_present, own_kind, own_level, own_guid};
+ghost use Rattle.sarif_records.specs.OwnMembers.{parts_of};
 ghost use Rattle.sarif_records.specs.declared.fault.Fault.TheVariants.{OutOfMemory};
 
 mod fingerprints;

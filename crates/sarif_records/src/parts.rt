@@ -4,8 +4,8 @@ use crate::message::Message;
 use crate::sequence::{Pairs, Sequence};
 use crate::text::Text;
 
-/// The members of a result that the merge reads (SARIF 2.1.0, "result object"). An index that is absent
-/// or -1 is `None`.
+/// The members of a result that the merge reads (SARIF 2.1.0, "result object"). An index that is
+/// absent or -1 is `None`.
 #[derive(Debug, Drop)]
 pub struct Parts {
     /// `kind`; absent it is `fail`.

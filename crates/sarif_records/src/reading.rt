@@ -1,5 +1,6 @@
 //! Reading a log: JSON, stripping, and the form of the log and of its runs.
-ghost use Rattle.std.specs.Prelude.{◌≡◌, ◌≤◌, ◌+◌, Ok, Err, Some, None, map, length, IfOk, IfErr, OnOk, option_map};
+ghost use Rattle.std.specs.Prelude.{◌≡◌, ◌≤◌, ◌+◌, Ok, Err, Some, None, map, length, option_map};
+ghost use Rattle.std.specs.Prelude.{IfOk, IfErr, OnOk};
 ghost use Rattle.serde_json.specs.View.{view, items_view};
 ghost use Rattle.sarif_records.specs.Run.{results_of, results_total, elements_or_none};
 ghost use Rattle.serde_json.specs.Find.{as_array};
@@ -125,7 +126,8 @@ fn check_results(run: &Value) -> Result<(), Fault>
 fn count_results(before: usize, run: &Value) -> Result<usize, Fault>
     requires { before ≤ 1000000 }
     ensures said { result ≡ said.count_results before (view run.now) }
-    ensures few { IfOk result (λ now. (now ≤ 1000000) × (now ≡ before + length (results_of (view run.now)))) }
+    ensures few { IfOk result (λ now. (now ≤ 1000000)
+        × (now ≡ before + length (results_of (view run.now)))) }
 {
     let count = match run.get("results").and_then(Value::as_array) {
         Some(results) => results.len(),
@@ -138,12 +140,14 @@ fn count_results(before: usize, run: &Value) -> Result<usize, Fault>
     }
 }
 
-/// The form of one run, after `before` results in the runs before it; gives the number with its own.
+/// The form of one run, after `before` results in the runs before it; gives the number with its
+/// own.
 #[tactic(auto, unfolding(crate::specs::Reading::check_run))]
 fn check_run(before: usize, run: &Value) -> Result<usize, Fault>
     requires { before ≤ 1000000 }
     ensures said { result ≡ said.check_run before (view run.now) }
-    ensures few { IfOk result (λ now. (now ≤ 1000000) × (now ≡ before + length (results_of (view run.now)))) }
+    ensures few { IfOk result (λ now. (now ≤ 1000000)
+        × (now ≡ before + length (results_of (view run.now)))) }
 {
     check_tool(run)?;
     check_external(run)?;
@@ -166,7 +170,8 @@ fn check_log(log: &Value) -> Result<(), Fault>
 #[tactic(auto, using(crate::proofs::Utf8::json_of_read, crate::proofs::Utf8::json_of_refused))]
 fn read_json(alloc: Global, bytes: &[u8]) -> Result<Value, Fault>
     ensures ok { IfOk result (λ v. said.json_of bytes.now ≡ Some (view v)) }
-    ensures err { IfErr result (λ fault. ¬ (fault ≡ OutOfMemory) → (fault ≡ NotJson) × (said.json_of bytes.now ≡ None)) }
+    ensures err { IfErr result (λ fault. ¬ (fault ≡ OutOfMemory)
+        → (fault ≡ NotJson) × (said.json_of bytes.now ≡ None)) }
 {
     match Value::from_slice(alloc, bytes) {
         Ok(value) => Ok(value),
@@ -246,10 +251,10 @@ fn log_of_value(alloc: Global, log: Value) -> Result<Log, ReadFault>
     Ok(Log::new(runs))
 }
 
-/// Reads a log (SARIF 2.1.0, "sarifLog object"): the JSON after one leading byte order mark, stripped, with
-/// the form of the log and of its runs. Want of memory is `OutOfMemory`; each other refusal is the first
-/// fault of the bytes, `NotJson`, `NotLog`, `WrongVersion` or `TooMany` without a run, `BadRun`,
-/// `ExternalProperties` or `TooMany` with the run's number.
+/// Reads a log (SARIF 2.1.0, "sarifLog object"): the JSON after one leading byte order mark,
+/// stripped, with the form of the log and of its runs. Want of memory is `OutOfMemory`; each other
+/// refusal is the first fault of the bytes, `NotJson`, `NotLog`, `WrongVersion` or `TooMany`
+/// without a run, `BadRun`, `ExternalProperties` or `TooMany` with the run's number.
 #[tactic(auto, unfolding(crate::specs::Reading::log_of))]
 pub fn read_log(alloc: Global, bytes: &[u8]) -> Result<Log, ReadFault>
     ensures ok { IfOk result (λ log. said.log_of bytes.now ≡ Ok (map view log)) }

@@ -6,7 +6,8 @@ ghost use Rattle.sarif_records.specs.Run.{is_absent_result};
 use serde_json::Value;
 use std::marker::Model;
 
-/// Whether the `baselineState` of a result is the text `absent` (SARIF 2.1.0, "baselineState property").
+/// Whether the `baselineState` of a result is the text `absent` (SARIF 2.1.0, "baselineState
+/// property").
 pub fn is_marked_absent(found: &Value) -> bool
     ensures { result ≡ is_absent_result (seen found.now) }
 {
@@ -16,8 +17,8 @@ pub fn is_marked_absent(found: &Value) -> bool
     }
 }
 
-/// A run whose form `read_log` checked: its results are objects, at most 1,000,000 (SARIF 2.1.0, "run
-/// object"). Contracts see the run as its `Value`.
+/// A run whose form `read_log` checked: its results are objects, at most 1,000,000 (SARIF 2.1.0,
+/// "run object"). Contracts see the run as its `Value`.
 #[derive(Drop)]
 pub struct RawRun {
     run: Value,
@@ -43,7 +44,8 @@ impl Model for RawRun {
 impl RawRun {
     ghost use Rattle.std.specs.Prelude.{◌≡◌, ◌<◌, ◌≤◌, length, is_some, map};
     ghost use Rattle.serde_json.specs.View.{view as seen};
-    ghost use Rattle.sarif_records.specs.Run.{results_of, results_array, result_at, is_absent_result};
+    ghost use Rattle.sarif_records.specs.Run.{results_of, results_array, result_at};
+    ghost use Rattle.sarif_records.specs.Run.{is_absent_result};
 
     /// A run with at most 1,000,000 results.
     pub(crate) fn new(run: Value) -> RawRun

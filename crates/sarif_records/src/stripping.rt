@@ -1,7 +1,8 @@
 //! Stripping: numbers with a fraction or an exponent go with the member that holds them.
 ghost use Rattle.std.specs.Prelude.{◌≡◌, not, IfOk, IsTrue, map};
 ghost use Rattle.serde_json.specs.View.{view, items_view, members_view};
-ghost use Rattle.sarif_records.specs.Stripping.{is_fractional, any_fractional, stripped, stripped_members};
+ghost use Rattle.sarif_records.specs.Stripping.{is_fractional, any_fractional};
+ghost use Rattle.sarif_records.specs.Stripping.{stripped, stripped_members};
 
 use serde_json::{Map, Value};
 use std::alloc::AllocError;
@@ -42,7 +43,8 @@ fn strip_items(items: &mut Vec<Value>)
 #[cycle(strip)]
 #[tactic(auto, using(crate::proofs::Stripped::stripped_items_view, crate::proofs::Stripped::item_depth_at, std::proofs::lemmas::List::take_all))]
 fn strip_members(members: &mut Map<String, Value>)
-    ensures { members_view members.new.entries ≡ stripped_members (members_view members.old.entries) }
+    ensures { members_view members.new.entries
+        ≡ stripped_members (members_view members.old.entries) }
 {
     members.retain(
         |_, member| -> bool

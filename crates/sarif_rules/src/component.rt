@@ -18,7 +18,8 @@ pub struct Rule {
     pub level: Option<Level>,
 }
 
-/// The rules of a tool component, in order (SARIF 2.1.0, "toolComponent object"). Contracts see their list.
+/// The rules of a tool component, in order (SARIF 2.1.0, "toolComponent object"). Contracts see
+/// their list.
 #[derive(Drop)]
 pub struct Component {
     rules: Vec<Rule>,

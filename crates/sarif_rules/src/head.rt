@@ -22,8 +22,8 @@ pub struct RunHead {
 }
 
 impl RunHead {
-    /// The component and the place of the result's rule, if it has one (SARIF 2.1.0, "rule property"). Component 0
-    /// is the driver, `k + 1` the extension `k`. Takes no memory.
+    /// The component and the place of the result's rule, if it has one (SARIF 2.1.0, "rule
+    /// property"). Component 0 is the driver, `k + 1` the extension `k`. Takes no memory.
     ///
     /// `BadIndex` where the component or the rule is past its table.
     pub fn descriptor(&self, parts: &Parts) -> Result<Option<(usize, usize)>, Fault>
@@ -85,7 +85,8 @@ impl RunHead {
         }
     }
 
-    /// The rule id of a result: its own, else its rule's, else the empty text (SARIF 2.1.0, "ruleId property").
+    /// The rule id of a result: its own, else its rule's, else the empty text (SARIF 2.1.0, "ruleId
+    /// property").
     pub(crate) fn rule_id(
         &self,
         alloc: Global,

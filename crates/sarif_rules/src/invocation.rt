@@ -20,7 +20,8 @@ pub struct Override {
     pub level: Option<Level>,
 }
 
-/// The overrides of an invocation, in order (SARIF 2.1.0, "invocation object"). Contracts see their list.
+/// The overrides of an invocation, in order (SARIF 2.1.0, "invocation object"). Contracts see their
+/// list.
 #[derive(Drop)]
 pub struct Invocation {
     overrides: Vec<Override>,
@@ -51,7 +52,8 @@ impl Invocation {
         Ok(Invocation { overrides, first })
     }
 
-    /// The level of the first override that specifies the descriptor. Takes no search through the overrides.
+    /// The level of the first override that specifies the descriptor. Takes no search through the
+    /// overrides.
     pub(crate) fn level_of(&self, descriptor: (usize, usize)) -> Option<Level>
         ensures { result ≡ overriding_level self.now (Some descriptor) }
     {

@@ -1,5 +1,5 @@
-//! Rules, overrides and artifacts of a run, and what they give a result: its descriptor, its effective level, its
-//! place and its whole record.
+//! Rules, overrides and artifacts of a run, and what they give a result: its descriptor, its
+//! effective level, its place and its whole record.
 #![tactic(auto)]
 
 mod component;

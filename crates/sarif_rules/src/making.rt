@@ -12,11 +12,12 @@ use sarif_records::{Fault, Parts, RawRun, Record, Text, driver_name, read_parts}
 use serde_json::Value;
 use std::alloc::{AllocError, Global};
 
-/// Makes the record of result `seq` of a run, with the head that was opened from that run (SARIF 2.1.0, "result
-/// object").
+/// Makes the record of result `seq` of a run, with the head that was opened from that run (SARIF
+/// 2.1.0, "result object").
 ///
-/// The faults are those of `read_parts`, and then `BadIndex` where the component, the rule, the invocation or, with
-/// no `uri`, the artifact is past its table. `OutOfMemory` may come in place of any of them.
+/// The faults are those of `read_parts`, and then `BadIndex` where the component, the rule, the
+/// invocation or, with no `uri`, the artifact is past its table. `OutOfMemory` may come in place of
+/// any of them.
 #[tactic(auto, unfolding(crate::specs::Record::record_of))]
 pub fn make_record(alloc: Global, head: &RunHead, run: &RawRun, seq: u32) -> Result<Record, Fault>
     requires opened { head_of (view run.now) ≡ Ok head.now }

@@ -23,10 +23,11 @@ use std::alloc::{AllocError, Global};
 /// Reads the rules, overrides and artifacts of a run.
 ///
 /// The first of these that is wrong, in this order, is the fault:
-/// - of the driver and then of each extension (SARIF 2.1.0, "toolComponent object"), rule by rule, `BadRules`, and
-///   `BadLevel` of its default level;
+/// - of the driver and then of each extension (SARIF 2.1.0, "toolComponent object"), rule by rule,
+///   `BadRules`, and `BadLevel` of its default level;
 /// - of the artifacts `BadLocation`;
-/// - of the invocations `BadMember`, and then override by override `BadMember`, `BadIndex`, `BadLevel`.
+/// - of the invocations `BadMember`, and then override by override `BadMember`, `BadIndex`,
+///   `BadLevel`.
 ///
 /// `OutOfMemory` may come in place of any of them.
 #[tactic(auto, unfolding(crate::specs::Head::head_of))]
