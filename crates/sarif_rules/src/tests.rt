@@ -167,6 +167,21 @@ fn place_is_the_own_uri_or_that_of_the_artifact(rt: HostRuntime) -> Result<(), F
     Ok(())
 }
 
+const ONE_ARTIFACT: &str =
+    r#"none warning a.c -|{"tool":{"driver":{"name":"lint"}},"artifacts":[{"location":{"uri":"a.c"}}],"results":[{"locations":[{"physicalLocation":{"artifactLocation":{"index":0}}}]}]}
+none warning b.c -|{"tool":{"driver":{"name":"lint"}},"artifacts":[{"location":{"uri":"a.c"}}],"results":[{"locations":[{"physicalLocation":{"artifactLocation":{"uri":"b.c","index":0}}}]}]}
+BadIndex|{"tool":{"driver":{"name":"lint"}},"artifacts":[{"location":{"uri":"a.c"}}],"results":[{"locations":[{"physicalLocation":{"artifactLocation":{"index":1}}}]}]}
+none warning a.c -|{"tool":{"driver":{"name":"lint"}},"artifacts":[{"location":{"uri":"a.c"}}],"results":[{"locations":[{"physicalLocation":{"artifactLocation":{"uriBaseId":"S","index":0}}}]}]}
+none warning b.c -|{"tool":{"driver":{"name":"lint"}},"artifacts":[{"location":{"uri":"a.c"}}],"results":[{"locations":[{"physicalLocation":{"artifactLocation":{"uri":"b.c","index":9}}}]}]}
+BadIndex|{"tool":{"driver":{"name":"lint"}},"artifacts":[{"location":{"uri":"a.c"}}],"results":[{"locations":[{"physicalLocation":{"artifactLocation":{"uri":"b.c","index":-2}}}]}]}"#;
+
+#[test]
+fn place_beside_one_artifact(rt: HostRuntime) -> Result<(), Fail> {
+    let wrong = wrong_row(rt.alloc(), ONE_ARTIFACT)?;
+    assert_eq!(rt; wrong, None);
+    Ok(())
+}
+
 const RESULT_FAULTS: &str =
     r#"BadKind|{"tool":{"driver":{"name":"lint"}},"results":[{"kind":"bad","correlationGuid":"x"}]}
 BadFingerprint|{"tool":{"driver":{"name":"lint"}},"results":[{"fingerprints":{"a":1}}]}
