@@ -1,8 +1,7 @@
 -- The check of all runs, one run at a time.
-use Rattle.std.proofs.Common.{◌≡◌, ◌+◌, ◌++◌, ℕ, List, [], ◌∷◌, map, length, arith, Some, Result, Ok, Err, refl, sym, ap}
+use Rattle.std.proofs.Common.{◌≡◌, ◌+◌, ◌++◌, ℕ, List, [], ◌∷◌, map, length, arith, Some, Ok, Err, refl, sym, ap}
 use Rattle.serde_json.specs.Data.{Data}
 use Rattle.sarif_records.specs.declared.fault.Fault.{Fault}
-use Rattle.sarif_records.specs.declared.fault.ReadFault.{ReadFault}
 use Rattle.sarif_records.specs.Members.{◌>>=◌}
 use Rattle.serde_json.specs.declared.value.Value.{Value}
 use Rattle.serde_json.specs.View.{view}

@@ -1,14 +1,14 @@
 -- Reading a log: its stripped runs, or the first fault with the run that it names (SARIF 2.1.0, "sarifLog object",
 -- "run object", "tool object", "toolComponent object").
-use Rattle.std.specs.Prelude.{◌≡◌, ◌+◌, ◌≤◌, ℕ, zero, suc, ⊤, Bool, true, false, ◌&&◌, not, nat_lt, List, [], ◌∷◌, take, drop, length, Option, Some, None, Result, Ok, Err, codes, bytes_eq, is_some, option_map, option_and_then, unwrap_or, if◌then◌else◌}
+use Rattle.std.specs.Prelude.{◌+◌, ℕ, ⊤, Bool, true, false, not, nat_lt, List, [], ◌∷◌, take, drop, length, Option, Some, None, Result, Ok, Err, codes, bytes_eq, is_some, option_map, option_and_then, unwrap_or, if◌then◌else◌}
 use Rattle.std.specs.Str.{is_utf8}
-use Rattle.serde_json.specs.Data.{Data, null, boolean, number, string, array, object, Items, Members, no_members, member}
+use Rattle.serde_json.specs.Data.{Data, null, boolean, number, string, array, object, Members, no_members, member}
 use Rattle.serde_json.specs.Find.{get, as_str, as_array, as_object}
 use Rattle.serde_json.specs.Read.{read}
 use Rattle.sarif_records.specs.declared.fault.Fault.{Fault}
 use Rattle.sarif_records.specs.declared.fault.Fault.TheVariants.{NotJson, NotLog, WrongVersion, BadRun, ExternalProperties, TooMany}
 use Rattle.sarif_records.specs.declared.fault.ReadFault.{ReadFault}
-use Rattle.sarif_records.specs.Members.{◌>>=◌, member_at, is_object, elements, are_objects, objects_at}
+use Rattle.sarif_records.specs.Members.{◌>>=◌, member_at, objects_at}
 use Rattle.sarif_records.specs.Run.{results_of, is_text, elements_or_none}
 use Rattle.sarif_records.specs.Stripping.{stripped}
 

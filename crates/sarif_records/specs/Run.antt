@@ -1,5 +1,5 @@
 -- What the results of a run are (SARIF 2.1.0, run object, "results property").
-use Rattle.std.specs.Prelude.{◌≡◌, ℕ, ◌+◌, length, Bool, false, List, [], ◌∷◌, Option, Some, None, codes, bytes_eq, is_some, option_map, option_and_then, unwrap_or, slice_index_or}
+use Rattle.std.specs.Prelude.{ℕ, ◌+◌, length, Bool, false, List, [], ◌∷◌, Option, Some, None, codes, bytes_eq, option_map, option_and_then, unwrap_or, slice_index_or}
 use Rattle.serde_json.specs.Data.{Data, null, Items}
 use Rattle.serde_json.specs.Find.{get, as_str, as_array}
 use Rattle.sarif_records.specs.Members.{elements}

@@ -1,4 +1,4 @@
-use Rattle.std.proofs.Common.{◌≡◌, false, ap, ◌∙◌, option_map, unwrap_or}
+use Rattle.std.proofs.Common.{false, ap, ◌∙◌, option_map, unwrap_or}
 use Rattle.sarif_records.specs.Reading.{has_no_members}
 use Rattle.sarif_records.proofs.Elements.{has_no_members-entries}
 use Rattle.sarif_records.proofs.reading.is_empty_object.Goals as goal

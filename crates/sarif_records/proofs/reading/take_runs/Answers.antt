@@ -1,12 +1,11 @@
-use Rattle.std.proofs.Common.{rules, ◌≡◌, Option, None, Some, codes, option_map, option_and_then, map, sym, ap, ◌∙◌}
-use Rattle.serde_json.specs.Data.{Data, object, array}
+use Rattle.std.proofs.Common.{rules, ◌≡◌, None, Some, codes, option_map, option_and_then, map, sym, ap, ◌∙◌}
+use Rattle.serde_json.specs.Data.{object}
 use Rattle.serde_json.specs.Find.{as_array, get_member}
-use Rattle.serde_json.specs.View.{view, items_view, members_view}
-use Rattle.serde_json.specs.declared.value.Value.{Value, the_lemmas}
-use Rattle.serde_json.proofs.Views.{view-lookup, view-Array}
+use Rattle.serde_json.specs.View.{view, members_view}
+use Rattle.serde_json.specs.declared.value.Value.{the_lemmas}
+use Rattle.serde_json.proofs.Views.{view-lookup}
 use Rattle.sarif_records.specs.Run.{elements_or_none}
 use Rattle.sarif_records.specs.Reading as said
-use Rattle.sarif_records.proofs.Elements.{elements_items_view}
 use Rattle.sarif_records.proofs.reading.take_runs.Goals as goal
 
 pub returns-in-Some : goal.returns-in-Some
