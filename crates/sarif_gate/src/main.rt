@@ -21,13 +21,15 @@ use sarif_merge::{Counted, MergeFault};
 use sarif_records::Text;
 use std::alloc::AllocError;
 use std::process::ExitCode;
+use std::sync::Wait;
+use std::thread::Threads;
 use std::{env, io};
 use words::{WordsFault, read_words};
 
 fn main(rt: HostRuntime) -> ExitCode {
     let status = match words_of(&rt) {
-        Ok(words) if words.is_empty() => run_streams(&rt),
-        Ok(words) => run_words(&rt, words.as_slice()),
+        Ok(words) if words.is_empty() => run_streams(&rt, &rt),
+        Ok(words) => run_words(&rt, &rt, words.as_slice()),
         Err(error) => {
             let _ = eprintln!(rt; "sarif_gate: {error}");
             2
@@ -45,18 +47,19 @@ fn words_of(rt: &HostRuntime) -> io::Result<Vec<String>> {
 }
 
 /// Merges one log from standard input to standard output, and says on standard error how it went.
-fn run_streams(rt: &HostRuntime) -> u8 {
+fn run_streams<T: Threads + Wait + Sync>(rt: &HostRuntime, threads: &T) -> u8 {
     let request = Request::of_standard_streams(rt.alloc());
     let mut logs = [Counted::new(rt.stdin())];
     let mut out = Counted::new(rt.stdout());
     let mut say = Counted::new(rt.stderr());
     let mut complain = Counted::new(rt.stderr());
     run_request(
+        threads,
         rt.alloc(),
         &request,
         &mut logs,
         &mut [],
-        None,
+        &mut None,
         &mut out,
         &mut say,
         &mut complain,
@@ -64,9 +67,9 @@ fn run_streams(rt: &HostRuntime) -> u8 {
 }
 
 /// Does what the words ask for.
-fn run_words(rt: &HostRuntime, words: &[String]) -> u8 {
+fn run_words<T: Threads + Wait + Sync>(rt: &HostRuntime, threads: &T, words: &[String]) -> u8 {
     match read_words(rt.alloc(), words) {
-        Ok(request) => match run_files(rt, &request) {
+        Ok(request) => match run_files(rt, threads, &request) {
             Ok(status) => status,
             Err(error) => {
                 let mut complain = Counted::new(rt.stderr());
@@ -83,22 +86,27 @@ fn run_words(rt: &HostRuntime, words: &[String]) -> u8 {
 }
 
 /// Merges the files that are named.
-fn run_files(rt: &HostRuntime, request: &Request) -> Result<u8, AllocError> {
+fn run_files<T: Threads + Wait + Sync>(
+    rt: &HostRuntime,
+    threads: &T,
+    request: &Request,
+) -> Result<u8, AllocError> {
     let mut logs = inputs_of(rt, &request.logs)?;
     let mut baselines = inputs_of(rt, &request.baselines)?;
+    let mut suppressions = match &request.suppress {
+        Some(name) => Some(Counted::new(InputFile::new(rt, name.as_str()))),
+        None => None,
+    };
     let mut out = Counted::new(OutputFile::new(rt, request.out.as_str()));
     let mut say = Counted::new(rt.stdout());
     let mut complain = Counted::new(rt.stderr());
-    if logs.len() != 1 || !baselines.is_empty() || request.suppress.is_some() {
-        let _ = eprintln!(rt; "sarif_gate: only one log and nothing else is merged yet");
-        return Ok(2);
-    }
     Ok(run_request(
+        threads,
         rt.alloc(),
         request,
         logs.as_mut_slice(),
         baselines.as_mut_slice(),
-        None,
+        &mut suppressions,
         &mut out,
         &mut say,
         &mut complain,

@@ -1,5 +1,5 @@
 -- The faults of the inputs of a merge, in the order in which they are looked for, and what a refusal answers.
-use Rattle.std.specs.Prelude.{◌≡◌, ℕ, nat_lt, List, [], ◌∷◌, ◌++◌, ◌⊎◌, length, Option, Some, None, Result, Ok, Err, if◌then◌else◌}
+use Rattle.std.specs.Prelude.{◌≡◌, ◌≤◌, ◌<◌, ℕ, nat_lt, List, [], ◌∷◌, ◌++◌, ◌⊎◌, length, Option, Some, None, Result, Ok, Err, if◌then◌else◌}
 use Rattle.sarif_suppress.specs.File.{File, file_of}
 use Rattle.sarif_suppress.specs.declared.fault.SuppressFault.{SuppressFault}
 use Rattle.sarif_suppress.specs.declared.fault.SuppressFault.TheVariants as file
@@ -17,6 +17,12 @@ use Rattle.sarif_merge.specs.Judging.{faults_of_runs}
 abbrev pub number_faults : (ℕ → Source) → List (List ℕ) → List MergeFault
 number_faults name sources =
     if nat_lt 1000 (length sources) then fault_at (Whole (name 1000)) TooMany ∷ [] else []
+
+-- more than 1,000 logs, or else more than 1,000 baselines
+abbrev pub IsTooMany : ℕ → ℕ → MergeFault → Type 0
+IsTooMany logs baselines fault =
+    ((1000 < logs) × (fault ≡ record { at = Whole (Log 1000); cause = TooMany }))
+    ⊎ ((logs ≤ 1000) × (1000 < baselines) × (fault ≡ record { at = Whole (Baseline 1000); cause = TooMany }))
 
 -- a fault of the suppression file with its place
 abbrev pub fault_of_file : SuppressFault → MergeFault

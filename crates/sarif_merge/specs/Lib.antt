@@ -1,4 +1,6 @@
 pub mod Annotated
+pub mod AreSound
+pub mod AreRead
 pub mod CountOf
 pub mod Counted
 pub mod Counts
@@ -7,12 +9,18 @@ pub mod Fault
 pub mod Faults
 pub mod Gate
 pub mod Inputs
+pub mod Judged
 pub mod Judging
+pub mod Merged
 pub mod MergedLog
 pub mod MergedRuns
+pub mod OptionalReader
 pub mod PlacedRun
 pub mod Policy
+pub mod ReadSoFar
 pub mod Source
 pub mod SourceFaults
+pub mod SourceKind
 pub mod Summary
 pub mod Tally
+pub mod WereRead

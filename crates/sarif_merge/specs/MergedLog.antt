@@ -1,5 +1,5 @@
 -- The merged log, its gate, and its text (SARIF 2.1.0, "sarifLog object").
-use Rattle.std.specs.Prelude.{◌≡◌, ℕ, Bool, not, List, [], ◌∷◌, ◌++◌, map, length, count_by, is_some, slice_get, Option, None, Result, Ok, Err, option_and_then, codes}
+use Rattle.std.specs.Prelude.{ℕ, ◌+◌, Bool, not, List, [], ◌∷◌, ◌++◌, map, length, count_by, is_some, slice_get, slice_index_or, Option, None, Result, Ok, Err, option_and_then, codes}
 use Rattle.std.specs.List.{range_with_len}
 use Rattle.serde_json.specs.Data.{Data, string, array, object, no_members, member}
 use Rattle.serde_json.specs.View.{items_of}
@@ -20,19 +20,22 @@ use Rattle.sarif_merge.specs.Gate.{gate_of}
 use Rattle.sarif_merge.specs.Inputs.{Inputs, Placed, input_runs, baseline_runs}
 use Rattle.sarif_merge.specs.Judging.{records_of}
 use Rattle.sarif_merge.specs.MergedRuns.{Listing, merged_runs, absent_runs}
-use Rattle.sarif_merge.specs.Policy.{Count}
 
 -- ---- states
 
-abbrev pub states_by : List Record → List Record → List (Option ℕ) → List State
-states_by bs [] partners = []
-states_by bs (r ∷ rs) [] = []
-states_by bs (r ∷ rs) (partner ∷ partners) =
-    state_of r (option_and_then (slice_get bs) partner) ∷ states_by bs rs partners
+-- a partner, by its number in the baseline
+abbrev pub partner_in : List Record → Option ℕ → Option Record
+partner_in bs partner = option_and_then (slice_get bs) partner
 
--- the baseline state of each current result, by its partner among the baseline's
+-- the baseline state of each of these current results, of which the first has number n
+abbrev pub states_from : List Record → List (Option ℕ) → ℕ → List Record → List State
+states_from bs partners n [] = []
+states_from bs partners n (r ∷ rs) =
+    state_of r (partner_in bs (slice_index_or partners n None)) ∷ states_from bs partners (n + 1) rs
+
+-- the baseline state of each current result, by its partner in the baseline
 abbrev pub states_of : List Record → List Record → List State
-states_of cs bs = states_by bs cs (partners_of cs bs)
+states_of cs bs = states_from bs (partners_of cs bs) 0 cs
 
 -- whether each baseline result is somebody's partner
 abbrev pub taken_of : List Record → List Record → List Bool

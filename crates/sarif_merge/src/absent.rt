@@ -13,9 +13,9 @@ use sarif_records::{Record, is_marked_absent};
 use serde_json::Value;
 use std::alloc::{AllocError, Global};
 
-/// Those of a baseline run's results that aren't absent already and that no current result took, written as
-/// absent. The records and marks are those of its results that aren't absent already.
-fn keep_unmatched(
+/// Those of a baseline run's results that aren't absent already and that no current result took,
+/// written as absent. The records and marks are those of its results that aren't absent already.
+pub(crate) fn keep_unmatched(
     alloc: Global,
     results: Vec<Value>,
     records: &[Record],
@@ -27,8 +27,9 @@ fn keep_unmatched(
     requires few { total_of counts.old + length records.now < 4294967296 }
     ensures kept { IfOk result (λ kept. map view kept.items
         ≡ unmatched records.now taken.now (present (map view results.items))) }
-    ensures counted { IfOk result (λ kept. (s : Stand) (l : Grade) (b : Bool) → count_at counts.new s l b
-        ≡ count_at counts.old s l b + count_in (items_view kept.items) s l b) }
+    ensures counted { IfOk result (λ kept. (s : Stand) (l : Grade) (b : Bool) →
+        count_at counts.new s l b ≡ count_at counts.old s l b
+        + count_in (items_view kept.items) s l b) }
     ensures total { OnOk result (total_of counts.new ≤ total_of counts.old + length records.now) }
 {
     let mut kept = Vec::new(alloc);

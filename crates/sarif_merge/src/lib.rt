@@ -2,33 +2,49 @@
 #![tactic(auto)]
 
 mod absent;
+mod absent_run;
 mod annotate;
 mod counted;
 mod counts;
 mod current;
 mod decision;
 mod fault;
+mod first_fault;
 mod gate;
 mod item;
+mod judging;
+mod laws;
+mod log_text;
 mod map_members;
+mod matched;
 mod merge;
+mod merge_sources;
+mod merged;
 mod merged_run;
 mod output;
 mod placed;
 mod policy;
+mod records;
+mod readers;
 mod source;
+mod sources;
+mod suppression_file;
 mod table;
 mod tally;
 #[cfg(test)]
 mod tests;
 mod written;
+mod written_log;
 
 pub use counted::{Counted, Failed};
 pub use counts::Counts;
 pub use decision::{hits, verdict};
 pub use fault::{At, Cause, MergeFault, Source};
-pub use merge::{Merged, merge_bytes, merge_to};
+pub use merge::merge_bytes;
+pub use merge_sources::merge_to;
+pub use merged::Merged;
 pub use output::write_out;
 pub use policy::{Policy, States, Verdict};
 pub use source::{SourceFault, read_source};
+pub use sarif_gather::{Gate, NoGate};
 pub use table::summary;

@@ -8,9 +8,10 @@ ghost use Rattle.sarif_records.specs.declared.kinds.State.{State as Stand};
 ghost use Rattle.sarif_records.specs.declared.record.Record.{Record as Known};
 ghost use Rattle.sarif_suppress.specs.Marks.{marks_of};
 ghost use Rattle.sarif_suppress.specs.Written.{suppressions_of};
-ghost use Rattle.sarif_merge.specs.CountOf.{count_in, results_in};
+ghost use Rattle.sarif_merge.specs.CountOf.{count_in, count_of, results_in};
 ghost use Rattle.sarif_merge.specs.Counts.{count_at, total_of};
-ghost use Rattle.sarif_merge.specs.MergedRuns.{written_all, with_results, annotated_items, own_results, bare, merged_run};
+ghost use Rattle.sarif_merge.specs.MergedRuns.{written_all, annotated_items, merged_run};
+ghost use Rattle.sarif_merge.specs.MergedRuns.{merged_runs, with_results, own_results, bare};
 
 use crate::counts::Counts;
 use crate::current::write_results;
@@ -38,8 +39,9 @@ fn write_list(
         (map view results.items)) }
     ensures marked { OnOk result ((rs : List Known) → marks.old ≡ marks_of rules.now rs
         → marks.new ≡ marks_of rules.now (rs ++ records.now)) }
-    ensures counted { IfOk result (λ list. (s : Stand) (l : Grade) (b : Bool) → count_at counts.new s l b
-        ≡ count_at counts.old s l b + count_in (items_view list.items) s l b) }
+    ensures counted { IfOk result (λ list. (s : Stand) (l : Grade) (b : Bool) →
+        count_at counts.new s l b ≡ count_at counts.old s l b
+        + count_in (items_view list.items) s l b) }
     ensures total { OnOk result (total_of counts.new ≤ total_of counts.old + length records.now) }
 {
     let mut results = results;
@@ -69,13 +71,25 @@ fn write_run_members(
         ≡ length (results_of (object (members_view members.old.entries))) }
     requires states { length states.now ≡ length records.now }
     requires few { total_of counts.old + length records.now < 4294967296 }
+    ensures written { OnOk result (members_view members.new.entries
+        ≡ with_results (annotated_items (λ r own. suppressions_of own rules.now r)
+        records.now states.now (own_results (members_view members.old.entries)))
+        (bare (members_view members.old.entries))) }
+    ensures marked { OnOk result ((rs : List Known) → marks.old ≡ marks_of rules.now rs
+        → marks.new ≡ marks_of rules.now (rs ++ records.now)) }
+    ensures counted { OnOk result ((s : Stand) (l : Grade) (b : Bool) → count_at counts.new s l b
+        ≡ count_at counts.old s l b
+        + count_in (results_in (object (members_view members.new.entries))) s l b) }
     ensures total { OnOk result (total_of counts.new ≤ total_of counts.old + length records.now) }
 {
-    if let Some(results) = take_results(members) {
-        let written = write_list(alloc, results, records, states, rules, marks, counts)?;
-        put_results(alloc, members, written)?;
+    match take_results(members) {
+        Some(results) => {
+            let list = write_list(alloc, results, records, states, rules, marks, counts)?;
+            put_results(alloc, members, list)?;
+            Ok(())
+        }
+        None => Ok(()),
     }
-    Ok(())
 }
 
 /// Writes a run; what is no object stays as it is.
@@ -91,12 +105,22 @@ fn write_run(
     requires records { length records.now ≡ length (results_of (view run.old)) }
     requires states { length states.now ≡ length records.now }
     requires few { total_of counts.old + length records.now < 4294967296 }
+    ensures written { OnOk result (view run.new
+        ≡ merged_run (λ r own. suppressions_of own rules.now r) records.now states.now
+        (view run.old)) }
+    ensures marked { OnOk result ((rs : List Known) → marks.old ≡ marks_of rules.now rs
+        → marks.new ≡ marks_of rules.now (rs ++ records.now)) }
+    ensures counted { OnOk result ((s : Stand) (l : Grade) (b : Bool) → count_at counts.new s l b
+        ≡ count_at counts.old s l b + count_in (results_in (view run.new)) s l b) }
     ensures total { OnOk result (total_of counts.new ≤ total_of counts.old + length records.now) }
 {
-    if let Some(members) = run.as_object_mut() {
-        write_run_members(alloc, members, records, states, rules, marks, counts)?;
+    match run.as_object_mut() {
+        Some(members) => {
+            write_run_members(alloc, members, records, states, rules, marks, counts)?;
+            Ok(())
+        }
+        None => Ok(()),
     }
-    Ok(())
 }
 
 /// Writes the runs, in order; the records and states are those of all their results.
@@ -112,6 +136,15 @@ pub(crate) fn write_runs(
     requires records { length records.now ≡ results_total (map view runs.items) }
     requires states { length states.now ≡ length records.now }
     requires few { total_of counts.old + length records.now < 4294967296 }
+    ensures written { IfOk result (λ list. map view list.items
+        ≡ merged_runs (λ r own. suppressions_of own rules.now r) records.now states.now
+        (map view runs.items)) }
+    ensures marked { OnOk result ((rs : List Known) → marks.old ≡ marks_of rules.now rs
+        → marks.new ≡ marks_of rules.now (rs ++ records.now)) }
+    ensures counted { IfOk result (λ list. (s : Stand) (l : Grade) (b : Bool) →
+        count_at counts.new s l b ≡ count_at counts.old s l b
+        + count_of (map view list.items) s l b) }
+    ensures total { OnOk result (total_of counts.new ≤ total_of counts.old + length records.now) }
 {
     let mut written = Vec::with_capacity(alloc, runs.len())?;
     let mut at = 0;

@@ -1,0 +1,123 @@
+-- What is known of the runs of sources, and of an answer after the checks before it.
+use Rattle.std.proofs.Common.{◌≡◌, ℕ, suc, ◌+◌, ◌≤◌, ◌++◌, ◌||◌, ◌&&◌, List, [], ◌∷◌, Bool, true, false, Option, Some, None, Result, Ok, Err, take, drop, length, map, arith, refl, sym, ap, subst, ◌∙◌}
+use Rattle.std.proofs.lemmas.List.{map-append, length-append}
+use Rattle.std.proofs.lemmas.List.Concat.{flat_map-append}
+use Rattle.std.proofs.lemmas.List.Folds.{list_any-append}
+use Rattle.std.proofs.Math.Seq.{take-append_seam, drop-append_seam}
+use Rattle.std.specs.List.{AllByRecursion, list_any}
+use Rattle.serde_json.specs.Data.{Data}
+use Rattle.serde_json.specs.Written.{has_float}
+use Rattle.sarif_records.specs.declared.fault.ReadFault.{ReadFault}
+use Rattle.sarif_records.specs.Reading.{log_of}
+use Rattle.sarif_records.specs.Run.{results_of, results_total}
+use Rattle.sarif_suppress.specs.File.{File}
+use Rattle.sarif_suppress.specs.Suppressing.{unused_of}
+use Rattle.sarif_merge.specs.declared.fault.MergeFault.{MergeFault}
+use Rattle.sarif_merge.specs.declared.fault.Source.{Source}
+use Rattle.sarif_merge.specs.declared.fault.Source.TheVariants.{Log, Baseline}
+use Rattle.sarif_merge.specs.declared.merged.Merged.{Merged}
+use Rattle.sarif_merge.specs.declared.policy.Policy.{Policy}
+use Rattle.sarif_merge.specs.AreSound.{AreSound}
+use Rattle.sarif_merge.specs.Inputs.{Sourced, Placed, numbered, placed, placed_from, readable, runs_in}
+use Rattle.sarif_merge.specs.Judging.{records_of, skips}
+use Rattle.sarif_merge.specs.CountOf.{count_of}
+use Rattle.sarif_merge.specs.Gate.{gate_of}
+use Rattle.sarif_merge.specs.Merged.{HoldsFirst, IsMergedBy}
+use Rattle.sarif_merge.specs.MergedLog.{current_runs, data_of, leftover_runs, runs_by, runs_without_results}
+
+pub placed-append : (xs ys : List Sourced) → placed (xs ++ ys) ≡ placed xs ++ placed ys
+placed-append xs ys = flat_map-append (λ s. placed_from s.source 0 (runs_in s)) xs ys
+
+-- ---- logs and baselines
+
+all-append : (P : Placed → Type 0) (xs ys : List Placed) → AllByRecursion P xs → AllByRecursion P ys → AllByRecursion P (xs ++ ys)
+all-append P [] ys h k = k
+all-append P (x ∷ xs) ys h k = (h.0, all-append P xs ys h.1 k)
+
+log_from : (k n : ℕ) (runs : List Data) → AllByRecursion (λ p. skips p.source ≡ false) (placed_from (Log k) n runs)
+log_from k n [] = tt
+log_from k n (run ∷ runs) = (refl, log_from k (n + 1) runs)
+
+log_sides : (k : ℕ) (ls : List (List ℕ)) → AllByRecursion (λ p. skips p.source ≡ false) (placed (numbered Log k ls))
+log_sides k [] = tt
+log_sides k (bytes ∷ ls) =
+    all-append (λ p. skips p.source ≡ false) (placed_from (Log k) 0 (readable (log_of bytes))) (placed (numbered Log (k + 1) ls)) (log_from k 0 (readable (log_of bytes))) (log_sides (k + 1) ls)
+
+baseline_from : (k n : ℕ) (runs : List Data) → AllByRecursion (λ p. skips p.source ≡ true) (placed_from (Baseline k) n runs)
+baseline_from k n [] = tt
+baseline_from k n (run ∷ runs) = (refl, baseline_from k (n + 1) runs)
+
+baseline_sides : (k : ℕ) (bs : List (List ℕ)) → AllByRecursion (λ p. skips p.source ≡ true) (placed (numbered Baseline k bs))
+baseline_sides k [] = tt
+baseline_sides k (bytes ∷ bs) =
+    all-append (λ p. skips p.source ≡ true) (placed_from (Baseline k) 0 (readable (log_of bytes))) (placed (numbered Baseline (k + 1) bs)) (baseline_from k 0 (readable (log_of bytes))) (baseline_sides (k + 1) bs)
+
+-- ---- numbers with a fraction
+
+data_from : (source : Source) (n : ℕ) (runs : List Data) → data_of (placed_from source n runs) ≡ runs
+data_from source n [] = refl
+data_from source n (run ∷ runs) = ap (λ ds. run ∷ ds) (data_from source (n + 1) runs)
+
+
+module _ (law : (bytes : List ℕ) (runs : List Data) → log_of bytes ≡ Ok runs → list_any has_float runs ≡ false) where
+  readable_whole : (bytes : List ℕ) (r : Result (List Data) ReadFault) → log_of bytes ≡ r → list_any has_float (readable r) ≡ false
+  readable_whole bytes (Ok runs) h = law bytes runs h
+  readable_whole bytes (Err fault) h = refl
+
+  whole : (sources : List Sourced) → list_any has_float (data_of (placed sources)) ≡ false
+  whole [] = refl
+  whole (s ∷ rest) =
+      let here = placed_from s.source 0 (runs_in s) in
+      ap (list_any has_float) (map-append (λ p. p.run) here (placed rest))
+      ∙ (list_any-append has_float (data_of here) (data_of (placed rest))
+      ∙ (ap (λ b. b || list_any has_float (data_of (placed rest))) (ap (list_any has_float) (data_from s.source 0 (runs_in s)) ∙ readable_whole s.bytes (log_of s.bytes) refl)
+      ∙ whole rest))
+
+total-append : (xs ys : List Data) → results_total (xs ++ ys) ≡ results_total xs + results_total ys
+total-append [] ys = omega arith
+total-append (x ∷ xs) ys = omega (arith, total-append xs ys)
+
+pub sound_runs : ((bytes : List ℕ) (runs : List Data) → log_of bytes ≡ Ok runs → list_any has_float runs ≡ false) → (ls bs : List (List ℕ)) → length (placed (numbered Log 0 ls ++ numbered Baseline 0 bs)) ≤ 10000 → results_total (data_of (placed (numbered Log 0 ls ++ numbered Baseline 0 bs))) ≤ 1000000 → AreSound (placed (numbered Log 0 ls)) (placed (numbered Baseline 0 bs))
+sound_runs law ls bs few results =
+    let now = placed (numbered Log 0 ls) in
+    let before = placed (numbered Baseline 0 bs) in
+    let both = placed-append (numbered Log 0 ls) (numbered Baseline 0 bs) in
+    let sizes : length (placed (numbered Log 0 ls ++ numbered Baseline 0 bs)) ≡ length now + length before = ap length both ∙ length-append now before in
+    let totals : results_total (data_of (placed (numbered Log 0 ls ++ numbered Baseline 0 bs))) ≡ results_total (data_of now) + results_total (data_of before) =
+        ap (λ ps. results_total (data_of ps)) both ∙ (ap results_total (map-append (λ p. p.run) now before) ∙ total-append (data_of now) (data_of before)) in
+    record {
+      current = log_sides 0 ls;
+      baseline = baseline_sides 0 bs;
+      few_runs = omega (arith, sizes, few);
+      few_results = omega (arith, totals, results);
+      whole_current = whole law (numbered Log 0 ls);
+      whole_baseline = whole law (numbered Baseline 0 bs);
+    }
+
+-- ---- the two parts of all runs
+
+pub front : (all : List Placed) (n : ℕ) (xs ys : List Sourced) → all ≡ placed (xs ++ ys) → n ≡ length (placed xs) → take n all ≡ placed xs
+front all n xs ys h k =
+    ap (λ m. take m all) k ∙ (ap (take (length (placed xs))) (h ∙ placed-append xs ys) ∙ take-append_seam (placed xs) (placed ys))
+
+pub back : (all : List Placed) (n : ℕ) (xs ys : List Sourced) → all ≡ placed (xs ++ ys) → n ≡ length (placed xs) → drop n all ≡ placed ys
+back all n xs ys h k =
+    ap (λ m. drop m all) k ∙ (ap (drop (length (placed xs))) (h ∙ placed-append xs ys) ∙ drop-append_seam (placed xs) (placed ys))
+
+pub same_sound : (now before xs ys : List Placed) → AreSound xs ys → now ≡ xs → before ≡ ys → AreSound now before
+same_sound now before xs ys h e f = subst (λ k. AreSound now k) (sym f) (subst (λ k. AreSound k ys) (sym e) h)
+
+pub same_merge : (file given : File) (now before xs ys : List Placed) (policy : Policy) (merged : Merged) → IsMergedBy file now before policy merged → file ≡ given → now ≡ xs → before ≡ ys → IsMergedBy given xs ys policy merged
+same_merge file given now before xs ys policy merged h d e f =
+    subst (λ k. IsMergedBy given xs k policy merged) f (subst (λ k. IsMergedBy given k before policy merged) e (subst (λ k. IsMergedBy k now before policy merged) d h))
+
+-- the log begins with the input runs
+pub begins : (file : File) (now before : List Placed) (policy : Policy) (merged : Merged) → IsMergedBy file now before policy merged → HoldsFirst (current_runs file now before) merged.log
+begins file now before policy merged h =
+    (gate_of (count_of (runs_by file now before)) policy (runs_without_results (data_of now)) (unused_of file (records_of now)), leftover_runs now before, h.log)
+
+-- ---- answers
+
+pub nothing_before : (a b c d e : List MergeFault) → a ++ b ≡ [] → c ≡ [] → d ≡ [] → a ++ (b ++ (c ++ (d ++ e))) ≡ e
+nothing_before [] b c d e h i j = ap (λ x. x ++ (c ++ (d ++ e))) h ∙ (ap (λ x. x ++ (d ++ e)) i ∙ ap (λ x. x ++ e) j)
+nothing_before (x ∷ a) b c d e h i j = cc

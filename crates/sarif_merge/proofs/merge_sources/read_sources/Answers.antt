@@ -1,0 +1,8 @@
+use Rattle.std.proofs.Common.{◌≡◌, ◌≤◌, length, map, arith, rules, refl}
+use Rattle.sarif_merge.proofs.merge_sources.read_sources.Goals as goal
+
+pub returns-clause-few_logs : goal.returns-clause-few_logs
+returns-clause-few_logs g c = omega (arith, c.in_ok-log_bytes.ensures.number, c.requires.few_logs)
+
+pub returns-clause-few_baselines : goal.returns-clause-few_baselines
+returns-clause-few_baselines g c = omega (arith, c.in_ok-baseline_bytes.ensures.number, c.requires.few_baselines)

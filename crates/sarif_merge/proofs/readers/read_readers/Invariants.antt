@@ -1,0 +1,12 @@
+use Rattle.std.proofs.Common.{◌≡◌, length, map, take, drop}
+use Rattle.sarif_merge.specs.AreRead.{AreRead}
+use Rattle.sarif_merge.specs.Failing.{faults_in}
+use Rattle.sarif_merge.proofs.readers.read_readers.Given as goal
+
+abbrev pub invariant-loop-number : goal.invariant-loop-number
+invariant-loop-number g l = record {
+  left : drop l.number l.readers ≡ drop l.number l.fn.readers;
+  read : AreRead g.R.Read.remaining (take l.number l.fn.readers) (take l.number l.readers) (map (λ v. v.items) l.sources.items);
+  number : length l.sources.items ≡ l.number;
+  quiet : faults_in l.readers ≡ faults_in l.fn.readers;
+}

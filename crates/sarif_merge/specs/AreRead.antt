@@ -1,0 +1,43 @@
+-- What reading sources from readers does to each of them.
+use Rattle.std.specs.Prelude.{◌≡◌, ℕ, ◌+◌, List, [], ◌∷◌, ◌⊎◌, ⊤, Option, IfSome}
+use Rattle.std.specs.Io.KnownBytes.{Consumes, IsAtEnd}
+use Rattle.sarif_merge.specs.declared.counted.Counted.{Counted}
+use Rattle.sarif_merge.specs.declared.fault.At.TheVariants.{Whole}
+use Rattle.sarif_merge.specs.declared.fault.Cause.TheVariants.{ReadFailed, TooLong}
+use Rattle.sarif_merge.specs.declared.fault.MergeFault.{MergeFault}
+use Rattle.sarif_merge.specs.declared.fault.Source.{Source}
+use Rattle.sarif_merge.specs.Counted.{inner_of}
+use Rattle.sarif_merge.specs.Fault.{out_of_memory}
+use Rattle.sarif_merge.specs.Source.{IsWithinLimit, IsPastLimit}
+
+-- the reader gave just these bytes and is at its end; `remaining` is what a reader has left, where it tells that
+abbrev pub IsRead : {R : Type 0} → (R → Option (List ℕ)) → Counted R → Counted R → List ℕ → Type 0
+IsRead remaining old new bytes =
+    Consumes (remaining (inner_of old)) (remaining (inner_of new)) bytes
+    × IsAtEnd (remaining (inner_of new))
+    × IsWithinLimit bytes
+
+-- each of the readers did
+abbrev pub AreRead : {R : Type 0} → (R → Option (List ℕ)) → List (Counted R) → List (Counted R) → List (List ℕ) → Type 0
+AreRead remaining [] [] [] = ⊤
+AreRead remaining [] [] (bytes ∷ rest) = ⊥
+AreRead remaining [] (new ∷ news) all = ⊥
+AreRead remaining (old ∷ olds) [] all = ⊥
+AreRead remaining (old ∷ olds) (new ∷ news) [] = ⊥
+AreRead remaining (old ∷ olds) (new ∷ news) (bytes ∷ rest) =
+    IsRead remaining old new bytes × AreRead remaining olds news rest
+
+-- why reading a source ended: memory was wanting, a read failed, or it is too long, which it is where it tells
+abbrev pub HasStopped : {R : Type 0} → (R → Option (List ℕ)) → Source → Counted R → MergeFault → Type 0
+HasStopped remaining source old fault =
+    (fault ≡ out_of_memory)
+    ⊎ ((fault ≡ record { at = Whole source; cause = ReadFailed })
+    ⊎ ((fault ≡ record { at = Whole source; cause = TooLong }) × IfSome (remaining (inner_of old)) IsPastLimit))
+
+-- reading the sources, from number n on, ended at one of them: those before it were read, those after it untouched
+abbrev pub StopsIn : {R : Type 0} → (R → Option (List ℕ)) → (ℕ → Source) → ℕ → List (Counted R) → List (Counted R) → MergeFault → Type 0
+StopsIn remaining name n [] news fault = ⊥
+StopsIn remaining name n (old ∷ olds) [] fault = ⊥
+StopsIn remaining name n (old ∷ olds) (new ∷ news) fault =
+    (HasStopped remaining (name n) old fault × (news ≡ olds))
+    ⊎ (((bytes : List ℕ) × IsRead remaining old new bytes) × StopsIn remaining name (n + 1) olds news fault)

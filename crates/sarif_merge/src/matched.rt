@@ -1,0 +1,77 @@
+//! What matching makes of the results.
+ghost use Rattle.std.specs.Prelude.{◌≡◌, ◌≤◌, length, map, IfOk};
+ghost use Rattle.std.specs.List.{range_with_len};
+ghost use Rattle.sarif_match.specs.Partners.{is_taken};
+ghost use Rattle.sarif_match.specs.State.{state_of};
+ghost use Rattle.sarif_merge.specs.MergedLog.{partner_in, states_from, states_of, taken_of};
+
+use sarif_match::{Matching, match_all, state};
+use sarif_records::{Record, State};
+use std::alloc::{AllocError, Global};
+
+/// The baseline state of each current result, and for each baseline result whether a current one is paired with it.
+#[derive(Drop)]
+pub(crate) struct Matched {
+    pub(crate) states: Vec<State>,
+    pub(crate) taken: Vec<bool>,
+}
+
+/// The baseline state of a current result with this partner.
+fn state_beside(record: &Record, baseline: &[Record], partner: Option<u32>) -> State
+    ensures { result ≡ state_of «record».now (partner_in baseline.now partner) }
+{
+    match partner {
+        Some(number) => state(record, baseline.get(number as usize)),
+        None => state(record, None),
+    }
+}
+
+/// The baseline state of each current result.
+fn list_states(
+    alloc: Global,
+    current: &[Record],
+    baseline: &[Record],
+    matching: &Matching,
+) -> Result<Vec<State>, AllocError>
+    requires { length current.now ≤ 1000000 }
+    ensures { IfOk result
+        (λ states. states.items ≡ states_from baseline.now matching.now 0 current.now) }
+{
+    let mut states = Vec::with_capacity(alloc, current.len())?;
+    for (number, record) in current.iter().enumerate() {
+        let partner = matching.partner(number as u32);
+        states.push(state_beside(record, baseline, partner))?;
+    }
+    Ok(states)
+}
+
+/// Whether each of so many baseline results is taken.
+fn list_taken(alloc: Global, count: u32, matching: &Matching) -> Result<Vec<bool>, AllocError>
+    ensures { IfOk result
+        (λ taken. taken.items ≡ map (is_taken matching.now) (range_with_len 0 count)) }
+{
+    let mut taken = Vec::with_capacity(alloc, count as usize)?;
+    for number in 0..count {
+        taken.push(matching.taken(number))?;
+    }
+    Ok(taken)
+}
+
+/// Matches the results of all logs with those of all baselines.
+pub(crate) fn match_records(
+    alloc: Global,
+    current: &[Record],
+    baseline: &[Record],
+) -> Result<Matched, AllocError>
+    requires current { length current.now ≤ 1000000 }
+    requires baseline { length baseline.now ≤ 1000000 }
+    ensures states { IfOk result
+        (λ matched. matched.states.items ≡ states_of current.now baseline.now) }
+    ensures taken { IfOk result
+        (λ matched. matched.taken.items ≡ taken_of current.now baseline.now) }
+{
+    let matching = match_all(alloc, current, baseline)?;
+    let states = list_states(alloc, current, baseline, &matching)?;
+    let taken = list_taken(alloc, baseline.len() as u32, &matching)?;
+    Ok(Matched { states, taken })
+}
