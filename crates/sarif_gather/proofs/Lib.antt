@@ -1,4 +1,5 @@
 pub mod Arrivals
+pub mod Arrived
 pub mod DealSteps
 pub mod Deliveries
 pub mod Endings

@@ -1,3 +1,4 @@
+pub mod Arriving
 pub mod Claims
 pub mod Collecting
 pub mod Delivery

@@ -1,6 +1,7 @@
 //! Many workers read the runs of a work; one collector puts the numbered results together again.
 #![tactic(auto)]
 
+mod collect_fault;
 mod collector;
 mod deal;
 mod gathering;
@@ -13,6 +14,7 @@ mod slot;
 mod tests;
 mod work;
 
+pub use collect_fault::{CollectFault, collect};
 pub use collector::Collector;
 pub use deal::{Deal, Hand};
 pub use gathering::{GatherFault, gather};

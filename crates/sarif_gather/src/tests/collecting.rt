@@ -1,7 +1,7 @@
 //! Pieces and the collector.
-ghost use Rattle.std.specs.Prelude.{◌≤◌};
+ghost use Rattle.std.specs.Prelude.{◌≤◌, ◌<◌, ◌^◌, vec_len};
 
-use crate::{Collector, Piece, Refused, Why};
+use crate::{CollectFault, Collector, Piece, Refused, Why, collect};
 use std::alloc::Global;
 use std::test::Fail;
 
@@ -104,6 +104,58 @@ fn items_come_out_in_the_order_of_their_numbers(rt: HostRuntime) -> Result<(), F
     };
     assert_eq!(rt; items.as_slice(), [10, 11, 12, 13].as_slice());
     assert_eq!(rt; tail, 9);
+    assert!(rt; lists.pop().is_none());
+    Ok(())
+}
+
+// What the arrivals come to: how many runs they assemble to, or the fault.
+fn told(alloc: Global, runs: u32, arrivals: Vec<Piece<u8, u8>>) -> Result<u32, CollectFault>
+    requires runs { runs ≤ 10000 }
+    requires few { vec_len arrivals < 2 ^ 32 }
+{
+    Ok(collect(alloc, runs, arrivals)?.runs())
+}
+
+#[test]
+fn first_arrival_that_is_refused_is_told(rt: HostRuntime) -> Result<(), Fail> {
+    let alloc = rt.alloc();
+    let double = vec![in alloc; item(0, 0, 1), item(0, 0, 2)]?;
+    assert_eq!(rt; told(alloc, 1, double), Err(CollectFault { at: 1, why: Why::Double }));
+    let stranger = vec![in alloc; item(1, 0, 1)]?;
+    assert_eq!(rt; told(alloc, 1, stranger), Err(CollectFault { at: 0, why: Why::Stranger }));
+    let late = vec![in alloc; close(0, 0, 1), item(0, 0, 2)]?;
+    assert_eq!(rt; told(alloc, 1, late), Err(CollectFault { at: 1, why: Why::AfterClose }));
+    let many = vec![in alloc; item(0, 0, 1), item(0, 1, 2), close(0, 3, 3)]?;
+    assert_eq!(rt; told(alloc, 1, many), Err(CollectFault { at: 2, why: Why::Short }));
+    let gap = vec![in alloc; item(0, 0, 1), item(0, 2, 2), close(0, 2, 3)]?;
+    assert_eq!(rt; told(alloc, 1, gap), Err(CollectFault { at: 2, why: Why::Short }));
+    let again = vec![in alloc; item(0, 0, 1), close(0, 1, 2), item(0, 0, 3)]?;
+    assert_eq!(rt; told(alloc, 1, again), Err(CollectFault { at: 2, why: Why::AfterClose }));
+    let far = vec![in alloc; item(0, 4294967295, 1), close(0, 1, 2)]?;
+    assert_eq!(rt; told(alloc, 1, far), Err(CollectFault { at: 1, why: Why::Short }));
+    assert_eq!(rt;
+        told(alloc, 1, Vec::new(alloc)),
+        Err(CollectFault { at: 0, why: Why::Unclosed(0) })
+    );
+    assert_eq!(rt; told(alloc, 0, Vec::new(alloc)), Ok(0));
+    Ok(())
+}
+
+#[test]
+fn run_that_is_out_of_order_comes_out_whole(rt: HostRuntime) -> Result<(), Fail> {
+    let alloc = rt.alloc();
+    let arrivals = vec![in alloc; item(0, 1, 11), item(0, 0, 10), close(0, 2, 5)]?;
+    let Ok(mut lists) = collect(alloc, 1, arrivals) else {
+        panic!(rt; "the arrivals are lawful")
+    };
+    assert!(rt; lists.runs() == 1);
+    assert_eq!(rt; lists.items(0), [10, 11].as_slice());
+    assert!(rt; *lists.tail(0) == 5);
+    let Some((items, tail)) = lists.pop() else {
+        panic!(rt; "there is a run")
+    };
+    assert_eq!(rt; items.as_slice(), [10, 11].as_slice());
+    assert_eq!(rt; tail, 5);
     assert!(rt; lists.pop().is_none());
     Ok(())
 }

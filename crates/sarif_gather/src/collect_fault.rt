@@ -1,0 +1,53 @@
+//! A whole list of arrivals, on one thread.
+ghost use Rattle.std.specs.Prelude.{◌≡◌, ◌≤◌, ◌<◌, ◌^◌, replicate, map, vec_len, IfOk, IfErr};
+ghost use Rattle.sarif_gather.specs.Arriving.{IsFirstFault, AllAccepted};
+ghost use Rattle.sarif_gather.specs.Collecting.{all_after};
+ghost use Rattle.sarif_gather.specs.Held.{empty_run, closed_run};
+
+use crate::collector::Collector;
+use crate::lists::Lists;
+use crate::piece::{Piece, Refused, Why};
+use std::alloc::Global;
+
+/// The number of the first arrival that is refused, and why; or the number of all arrivals, where a
+/// run has no close.
+#[derive(Clone, Copy, Debug, PartialEq, Eq)]
+pub struct CollectFault {
+    pub at: u32,
+    pub why: Why,
+}
+
+/// What these arrivals assemble to. Where there is no memory for a collector, that is told at 0.
+pub fn collect<T: Drop, C: Drop>(
+    alloc: Global,
+    runs: u32,
+    arrivals: Vec<Piece<T, C>>,
+) -> Result<Lists<T, C>, CollectFault>
+    requires runs { runs ≤ 10000 }
+    requires few { vec_len arrivals < 2 ^ 32 }
+    ensures ok { IfOk result (λ lists. AllAccepted (replicate runs empty_run) arrivals.items
+        × (all_after (replicate runs empty_run) arrivals.items ≡ map closed_run lists)) }
+    ensures err { IfErr result (λ fault.
+        IsFirstFault (replicate runs empty_run) arrivals.items fault.at fault.why) }
+{
+    let Ok(mut collector) = Collector::new(alloc, runs) else {
+        return Err(CollectFault {
+            at: 0,
+            why: Why::OutOfMemory,
+        });
+    };
+    let mut at = 0;
+    for piece in arrivals {
+        if let Err(Refused { piece: _, why }) = collector.accept(piece) {
+            return Err(CollectFault { at, why });
+        }
+        at += 1;
+    }
+    match collector.finish() {
+        Ok(lists) => Ok(lists),
+        Err((run, _)) => Err(CollectFault {
+            at,
+            why: Why::Unclosed(run),
+        }),
+    }
+}
