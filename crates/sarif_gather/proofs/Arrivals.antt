@@ -94,7 +94,7 @@ module _ {T C : Type 0} (count : ℕ → ℕ) (item : ℕ → ℕ → T) (end : 
   pub mine : (run : ℕ) (rs : List ℕ) → times run rs ≡ 1 → on_run run (carried (parcels_of count item end rs)) ≡ pieces_of run (item run) (count run) (end run)
   mine run rs once = ap (on_run run) (carried-map (pieces_of_runs count item end rs)) ∙ drawn_once run rs once
 
-none_of : {A : Type 0} (f : A → ℕ) (xs : List A) → total f xs ≡ 0 → (j : ℕ) (y : A) → slice_get xs j ≡ Some y → f y ≡ 0
+pub none_of : {A : Type 0} (f : A → ℕ) (xs : List A) → total f xs ≡ 0 → (j : ℕ) (y : A) → slice_get xs j ≡ Some y → f y ≡ 0
 none_of f [] none j y at = absurd (cc)
 none_of f (x ∷ xs) none zero y at = let same : x ≡ y = cc in ap f (sym same) ∙ omega arith
 none_of f (x ∷ xs) none (suc j) y at = none_of f xs (omega arith) j y at

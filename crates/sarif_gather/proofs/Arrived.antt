@@ -1,5 +1,5 @@
 -- Arrivals at a collector, one after another.
-use Rattle.std.proofs.Common.{◌≡◌, ℕ, ◌+◌, ◌<◌, cond, Bool, true, false, List, [], ◌∷◌, ◌++◌, length, take, Option, Some, None, refl, sym, ap, ◌∙◌, subst, arith, append-nil}
+use Rattle.std.proofs.Common.{◌≡◌, ◌⊎◌, inr, ℕ, zero, suc, ◌+◌, ◌<◌, cond, Bool, true, false, List, [], ◌∷◌, ◌++◌, length, take, Option, Some, None, refl, sym, ap, ◌∙◌, subst, arith, append-nil}
 use Rattle.std.specs.Prelude.{slice_get}
 use Rattle.std.proofs.lemmas.List.{take_at, take_all}
 use Rattle.sarif_gather.specs.declared.piece.Piece.{Piece}
@@ -12,13 +12,25 @@ use Rattle.sarif_gather.specs.Held.{Held, first_open}
 use Rattle.sarif_gather.specs.Numbers.{has_number, counts_up}
 use Rattle.sarif_gather.specs.Piece.{run_in}
 
-never_by : (b : Bool) (x : Why) (n : ℕ) → x ≡ Double → cond b (Some x) None ≡ Some (Unclosed n) → ⊥
-never_by true x n d e = cc
-never_by false x n d e = cc
+-- the reasons that no piece has
+abbrev Later : Why → Type 0
+Later Stranger = ⊥
+Later AfterClose = ⊥
+Later Double = ⊥
+Later Short = ⊥
+Later OutOfMemory = Unit {0}
+Later (Unclosed n) = Unit {0}
 
-never_short : (b : Bool) (n : ℕ) → cond b None (Some Short) ≡ Some (Unclosed n) → ⊥
-never_short true n e = cc
-never_short false n e = cc
+never_is : (x w : Why) → (Later x → ⊥) → Later w → Some x ≡ Some w → ⊥
+never_is x w none late e = let same : x ≡ w = cc in none (subst Later (sym same) late)
+
+never_by : (b : Bool) (w : Why) → Later w → cond b (Some Double) None ≡ Some w → ⊥
+never_by true w late e = never_is Double w (λ l. l) late e
+never_by false w late e = cc
+
+never_short : (b : Bool) (w : Why) → Later w → cond b None (Some Short) ≡ Some w → ⊥
+never_short true w late e = cc
+never_short false w late e = never_is Short w (λ l. l) late e
 
 module _ {T C : Type 0} where
   pub accepted_push : (runs : List (Held T C)) (ps : List (Piece T C)) (p : Piece T C) → AllAccepted runs ps → refusal_of (all_after runs ps) p ≡ None → AllAccepted runs (ps ++ p ∷ [])
@@ -29,18 +41,18 @@ module _ {T C : Type 0} where
   at_length [] p rest = refl
   at_length (q ∷ ps) p rest = at_length ps p rest
 
-  -- a reason against a piece is never that a run has no close
-  never_open : (bodies : List (ℕ × T)) (p : Piece T C) (n : ℕ) → refusal_of_open bodies p ≡ Some (Unclosed n) → ⊥
-  never_open bodies (Item run seq body) n e = never_by (has_number seq bodies) Double n refl e
-  never_open bodies (Close run count tail) n e = never_short (counts_up 0 count bodies) n e
+  -- a reason against a piece is neither want of memory nor that a run has no close
+  never_open : (bodies : List (ℕ × T)) (p : Piece T C) (w : Why) → Later w → refusal_of_open bodies p ≡ Some w → ⊥
+  never_open bodies (Item run seq body) w late e = never_by (has_number seq bodies) w late e
+  never_open bodies (Close run count tail) w late e = never_short (counts_up 0 count bodies) w late e
 
-  never_tail : (t : Option C) (bodies : List (ℕ × T)) (p : Piece T C) (n : ℕ) → refusal_by_tail t bodies p ≡ Some (Unclosed n) → ⊥
-  never_tail None bodies p n e = never_open bodies p n e
-  never_tail (Some t) bodies p n e = cc
+  never_tail : (t : Option C) (bodies : List (ℕ × T)) (p : Piece T C) (w : Why) → Later w → refusal_by_tail t bodies p ≡ Some w → ⊥
+  never_tail None bodies p w late e = never_open bodies p w late e
+  never_tail (Some t) bodies p w late e = never_is AfterClose w (λ l. l) late e
 
-  never : (o : Option (Held T C)) (p : Piece T C) (n : ℕ) → refusal_in o p ≡ Some (Unclosed n) → ⊥
-  never None p n e = cc
-  never (Some h) p n e = never_tail h.tail h.bodies p n e
+  never : (o : Option (Held T C)) (p : Piece T C) (w : Why) → Later w → refusal_in o p ≡ Some w → ⊥
+  never None p w late e = never_is Stranger w (λ l. l) late e
+  never (Some h) p w late e = never_tail h.tail h.bodies p w late e
 
   -- the first refused arrival
   module _ (runs : List (Held T C)) (arrivals ps : List (Piece T C)) (p : Piece T C) (rest : List (Piece T C)) (is : arrivals ≡ ps ++ p ∷ rest) (at : ℕ) (len : at ≡ length ps) (all : AllAccepted runs ps) where
@@ -58,11 +70,11 @@ module _ {T C : Type 0} where
     here AfterClose e = refused_as AfterClose e
     here Double e = refused_as Double e
     here Short e = refused_as Short e
-    here OutOfMemory e = tt
-    here (Unclosed n) e = absurd (never (slice_get (all_after runs ps) (run_in p)) p n e)
+    here OutOfMemory e = absurd (never (slice_get (all_after runs ps) (run_in p)) p OutOfMemory tt e)
+    here (Unclosed n) e = absurd (never (slice_get (all_after runs ps) (run_in p)) p (Unclosed n) tt e)
 
     by_reason : (o : Option Why) (why : Why) → refusal_of (all_after runs ps) p ≡ o → IsReason o why → FaultHere runs arrivals at why
-    by_reason None why e r = subst (FaultHere runs arrivals at) (sym r) tt
+    by_reason None why e r = subst (FaultHere runs arrivals at) (sym r) (inr (p, there, ap (λ l. refusal_of (all_after runs l) p) taken_before ∙ e))
     by_reason (Some x) why e r = subst (FaultHere runs arrivals at) (sym r) (here x e)
 
     pub first_refused : (why : Why) → IsReason (refusal_of (all_after runs ps) p) why → IsFirstFault runs arrivals at why
@@ -77,3 +89,20 @@ module _ {T C : Type 0} where
     before = subst (AllAccepted runs) (sym (ap (take at) is ∙ take_all at ps (omega arith))) all;
     here = (len ∙ ap length (sym is), ap (λ l. first_open (all_after runs l)) is ∙ open_run);
   }
+
+  -- where all are accepted, none is refused at any place
+  taken_at : (runs : List (Held T C)) (arrivals : List (Piece T C)) (at : ℕ) (why : Why) → AllAccepted runs arrivals → RefusesAt runs arrivals at why → ⊥
+  taken_at runs [] at why all refused = let e = refused.1 in cc
+  taken_at runs (p ∷ ps) zero why all refused =
+      let same : p ≡ refused.0 = (let e : Some p ≡ Some refused.0 = refused.1 in cc) in
+      let e : None ≡ Some why = sym all.0 ∙ ap (refusal_of runs) same ∙ refused.2 in cc
+  taken_at runs (p ∷ ps) (suc at) why all refused = taken_at (with_piece runs p) ps at why all.1 refused
+
+  -- arrivals that a fault is told of are refused, or leave a run open, if it isn't want of memory
+  pub taken_lacks : (runs : List (Held T C)) (arrivals : List (Piece T C)) (at : ℕ) (why : Why) → AllAccepted runs arrivals → first_open (all_after runs arrivals) ≡ None → FaultHere runs arrivals at why → why ≡ OutOfMemory
+  taken_lacks runs arrivals at OutOfMemory all closed here = refl
+  taken_lacks runs arrivals at (Unclosed run) all closed here = absurd (let e : Some run ≡ None = sym here.1 ∙ closed in cc)
+  taken_lacks runs arrivals at Stranger all closed here = absurd (taken_at runs arrivals at Stranger all here)
+  taken_lacks runs arrivals at AfterClose all closed here = absurd (taken_at runs arrivals at AfterClose all here)
+  taken_lacks runs arrivals at Double all closed here = absurd (taken_at runs arrivals at Double all here)
+  taken_lacks runs arrivals at Short all closed here = absurd (taken_at runs arrivals at Short all here)

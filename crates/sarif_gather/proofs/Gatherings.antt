@@ -20,86 +20,19 @@ use Rattle.sarif_gather.specs.Collecting.{run_after, all_after}
 use Rattle.sarif_gather.specs.Ends.{AreWhole, AreAllPosts, IsPostOf, number_of, sent_by, taken_by}
 use Rattle.sarif_gather.specs.Gathered.{IsGathered}
 use Rattle.sarif_gather.specs.Hands.{drawn_by, is_marked, hands_of, IsHandOf, AreAllHands}
+use Rattle.sarif_gather.specs.Honest.{AreHonest}
 use Rattle.sarif_gather.specs.Held.{Held, Whole, empty_run, closed_run, first_open}
 use Rattle.sarif_gather.specs.Pieces.{on_run, pieces_of, pieces_of_runs, parcels_of, carried, ends_in, parcels_in, whole_run, lists_of}
 use Rattle.sarif_gather.specs.Senders.{of_sender}
 use Rattle.sarif_gather.specs.Served.{IsServed}
-use Rattle.sarif_gather.proofs.Arrivals.{from_one, mine, not_mine, the_one}
 use Rattle.sarif_gather.proofs.Endings.{all_taken}
-use Rattle.sarif_gather.proofs.RunByRun.{run_by_run, length-all_after, run_after-pieces}
+use Rattle.sarif_gather.proofs.Honesty.{held_whole}
+use Rattle.sarif_gather.proofs.Places.{at_below, from_mapped, into_mapped}
 
 module _ {A : Type 0} where
-  pub at_below : (xs : List A) (k : ℕ) → k < length xs → (x : A) × (slice_get xs k ≡ Some x)
-  at_below [] k lt = absurd (omega arith)
-  at_below (x ∷ xs) zero lt = (x, refl)
-  at_below (x ∷ xs) (suc k) lt = at_below xs k (omega arith)
-
-  at_replicate : (n k : ℕ) (x : A) → k < n → slice_get (replicate n x) k ≡ Some x
-  at_replicate zero k x lt = absurd (omega arith)
-  at_replicate (suc n) zero x lt = refl
-  at_replicate (suc n) (suc k) x lt = at_replicate n k x (omega arith)
-
-  -- lists with the same elements at each place
-  same_places : (xs ys : List A) → length xs ≡ length ys → ((k : ℕ) → k < length xs → slice_get xs k ≡ slice_get ys k) → xs ≡ ys
-  same_places [] [] len same = refl
-  same_places [] (y ∷ ys) len same = absurd (omega arith)
-  same_places (x ∷ xs) [] len same = absurd (omega arith)
-  same_places (x ∷ xs) (y ∷ ys) len same =
-      let head : Some x ≡ Some y = same zero (omega arith) in
-      let first : x ≡ y = cc in
-      λ i. first i ∷ same_places xs ys (omega arith) (λ k lt. same (suc k) (omega arith)) i
-
   pub total-map : {B : Type 0} (f : B → ℕ) (g : A → B) (xs : List A) → total f (map g xs) ≡ total (λ x. f (g x)) xs
   total-map f g [] = refl
   total-map f g (x ∷ xs) = ap (λ n. f (g x) + n) (total-map f g xs)
-
-at_range : (a n k : ℕ) → k < n → slice_get (range_with_len a n) k ≡ Some (a + k)
-at_range a zero k lt = absurd (omega arith)
-at_range a (suc n) zero lt = ap (λ m. Some m) (omega arith)
-at_range a (suc n) (suc k) lt = at_range (a + 1) n k (omega arith) ∙ ap (λ m. Some m) (omega arith)
-
-module _ {T : Type 0} where
-  items_again : (a : ℕ) (xs ys : List T) → enumerate_from a xs ≡ enumerate_from a ys → xs ≡ ys
-  items_again a [] [] e = refl
-  items_again a [] (y ∷ ys) e = absurd (cc)
-  items_again a (x ∷ xs) [] e = absurd (cc)
-  items_again a (x ∷ xs) (y ∷ ys) e =
-      let head : ◌≡◌ {A = ℕ × T} (a, x) (a, y) = cc in
-      let tail : enumerate_from (a + 1) xs ≡ enumerate_from (a + 1) ys = cc in
-      λ i. (head i).1 ∷ items_again (a + 1) xs ys tail i
-
-module _ {T C : Type 0} where
-  -- closed runs as a collector has them tell the runs
-  closed_again : (v w : Whole T C) → closed_run v ≡ closed_run w → v ≡ w
-  closed_again v w e =
-      let items = items_again 0 v.items w.items (ap (λ h. h.bodies) e) in
-      let some_tail : Some v.tail ≡ Some w.tail = ap (λ h. h.tail) e in
-      let tail : v.tail ≡ w.tail = cc in
-      λ i. record { items = items i; tail = tail i }
-
-  pub wholes_again : (vs ws : List (Whole T C)) → map closed_run vs ≡ map closed_run ws → vs ≡ ws
-  wholes_again [] [] e = refl
-  wholes_again [] (w ∷ ws) e = absurd (cc)
-  wholes_again (v ∷ vs) [] e = absurd (cc)
-  wholes_again (v ∷ vs) (w ∷ ws) e =
-      let head : closed_run v ≡ closed_run w = cc in
-      let tail : map closed_run vs ≡ map closed_run ws = cc in
-      λ i. closed_again v w head i ∷ wholes_again vs ws tail i
-
-  none_open : (n : ℕ) (ws : List (Whole T C)) → position_from (λ (h : Held T C). is_none h.tail) n (map closed_run ws) ≡ None
-  none_open n [] = refl
-  none_open n (w ∷ ws) = none_open (n + 1) ws
-
-  pub no_open : (ws : List (Whole T C)) → first_open (map closed_run ws) ≡ None
-  no_open ws = none_open 0 ws
-
-from_mapped : {A B : Type 0} (f : A → B) (xs : List A) (i : ℕ) (y : B) → slice_get (map f xs) i ≡ Some y → (x : A) × (slice_get xs i ≡ Some x) × (f x ≡ y)
-from_mapped f [] i y at = absurd (cc)
-from_mapped f (x ∷ xs) zero y at = (x, refl, cc)
-from_mapped f (x ∷ xs) (suc i) y at = from_mapped f xs i y at
-
-into_mapped : {A B : Type 0} (f : A → B) (xs : List A) (i : ℕ) (x : A) → slice_get xs i ≡ Some x → slice_get (map f xs) i ≡ Some (f x)
-into_mapped f xs i x at = slice_get-map f xs i ∙ ap (option_map f) at
 
 pub gathered_at : {T C : Type 0} (count : ℕ → ℕ) (item : ℕ → ℕ → T) (end : ℕ → C) (mailbox : Mailbox (Parcel T C)) (deal : Deal) (before : List (Held T C)) (n runs workers : ℕ) (g : Gathered T C)
     → IsGathered count item end mailbox deal before n g → before ≡ replicate runs empty_run → n ≡ workers → IsGathered count item end mailbox deal (replicate runs empty_run) workers g
@@ -148,29 +81,16 @@ module _ {T C : Type 0} (count : ℕ → ℕ) (item : ℕ → ℕ → T) (end : 
     taken_of : (k : ℕ) → of_sender k (taken_by g.desk) ≡ of_sender k (taken_by g.desk ++ left)
     taken_of k = ap (of_sender k) (sym (append-nil (taken_by g.desk))) ∙ ap (λ l. of_sender k (taken_by g.desk ++ l)) (sym none_left)
 
-    -- each run's pieces are those of the work
-    of_run : (run : ℕ) → run < runs → on_run run (carried (parcels_in (taken_by g.desk))) ≡ pieces_of run (item run) (count run) (end run)
-    of_run run lt =
-        let f : Back (Parcel T C) → ℕ = λ b. times run (drawn_by b.hand) in
-        let one = the_one f g.backs.items (sym (total-map (λ h. times run (drawn_by h)) (λ (b : Back (Parcel T C)). b.hand) g.backs.items) ∙ dealt run ∙ ap (λ b. cond b 1 0) (lt-ltb run runs lt)) in
-        let others : (j : ℕ) → j ≢ one.0 → on_run run (carried (of_sender j (taken_by g.desk))) ≡ [] = λ j n. ⊎_elim
-        (λ (low : j < workers). let b = at_below g.backs.items j (let m = gathered.backs in omega arith) in
-        ap (λ l. on_run run (carried l)) (taken_of j ∙ of_worker j b.0 b.1) ∙ not_mine count item end run (drawn_by b.0.hand) (one.4 j b.0 n b.1))
-        (λ (high : workers ≤ j). ap (λ l. on_run run (carried l)) (taken_of j ∙ of_stranger j high))
-        (cases_lt j workers) in
-        from_one run one.0 (taken_by g.desk) others ∙ ap (λ l. on_run run (carried l)) (taken_of one.0 ∙ of_worker one.0 one.1 one.2) ∙ mine count item end run (drawn_by one.1.hand) one.3
+    -- what was taken is what the workers of the work sent
+    honest : AreHonest count item end runs (map (λ b. drawn_by b.hand) g.backs.items) (taken_by g.desk)
+    honest = record {
+      shared = λ run. total-map (times run) (λ (b : Back (Parcel T C)). drawn_by b.hand) g.backs.items
+          ∙ sym (total-map (λ h. times run (drawn_by h)) (λ (b : Back (Parcel T C)). b.hand) g.backs.items) ∙ dealt run;
+      each = λ k share at. let b = from_mapped (λ (b : Back (Parcel T C)). drawn_by b.hand) g.backs.items k share at in
+          taken_of k ∙ of_worker k b.0 b.1 ∙ ap (parcels_of count item end) b.2;
+      strangers = λ k le. taken_of k ∙ of_stranger k (let m = length-map g.backs.items (λ b. drawn_by b.hand) in let n = gathered.backs in omega (arith, m, n));
+    }
 
     -- so the collector has each run closed, with its items and its tail
     pub collected : g.collector ≡ map closed_run (lists_of count item end runs)
-    collected =
-        let pieces = carried (parcels_in (taken_by g.desk)) in
-        let len : length (all_after (replicate runs empty_run) pieces) ≡ runs = length-all_after (replicate runs empty_run) pieces ∙ length-replicate runs empty_run in
-        gathered.collected
-        ∙ same_places (all_after (replicate runs empty_run) pieces) (map closed_run (lists_of count item end runs))
-        (len ∙ sym (length-map (lists_of count item end runs) closed_run ∙ length-map-range_with_len (λ run. whole_run (count run) (item run) (end run)) 0 runs))
-        (λ run lt. let low : run < runs = omega arith in
-        run_by_run (replicate runs empty_run) pieces run empty_run (at_replicate runs run empty_run low)
-        ∙ ap (λ l. Some (run_after empty_run l)) (of_run run low)
-        ∙ ap (λ h. Some h) (run_after-pieces run (item run) (count run) (end run))
-        ∙ sym (into_mapped closed_run (lists_of count item end runs) run (whole_run (count run) (item run) (end run))
-        (slice_get-map (λ r. whole_run (count r) (item r) (end r)) (range_with_len 0 runs) run ∙ ap (option_map (λ r. whole_run (count r) (item r) (end r))) (at_range 0 runs run low ∙ ap (λ m. Some m) (zero-add run)))))
+    collected = gathered.collected ∙ held_whole count item end runs (map (λ b. drawn_by b.hand) g.backs.items) (taken_by g.desk) honest

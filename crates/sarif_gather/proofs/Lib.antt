@@ -1,10 +1,14 @@
+pub mod AllRuns
 pub mod Arrivals
 pub mod Arrived
+pub mod Bodies
 pub mod DealSteps
 pub mod Deliveries
 pub mod Endings
 pub mod Gatherings
 pub mod HandSums
+pub mod Honesty
+pub mod Lawfulness
 pub mod Numbering
 pub mod Parcels
 pub mod Places
@@ -12,3 +16,4 @@ pub mod RunByRun
 pub mod Runs
 pub mod Settlements
 pub mod Tallies
+pub mod Wholes

@@ -42,14 +42,14 @@ module _ {T C : Type 0} where
       (cases_eq (run_in p) run)
 
   -- one piece
-  with_same : (runs : List (Held T C)) (p : Piece T C) (h : Held T C) → slice_get runs (run_in p) ≡ Some h → slice_get (with_piece runs p) (run_in p) ≡ Some (step_at h p)
+  pub with_same : (runs : List (Held T C)) (p : Piece T C) (h : Held T C) → slice_get runs (run_in p) ≡ Some h → slice_get (with_piece runs p) (run_in p) ≡ Some (step_at h p)
   with_same runs p h at = ap (λ o. slice_get (set_in runs o p) (run_in p)) at ∙ slice_get-set_same runs (run_in p) (step_at h p) h at
 
-  with_other_by : (runs : List (Held T C)) (p : Piece T C) (o : Option (Held T C)) (run : ℕ) → (run_in p ≡ run → ⊥) → slice_get (set_in runs o p) run ≡ slice_get runs run
+  pub with_other_by : (runs : List (Held T C)) (p : Piece T C) (o : Option (Held T C)) (run : ℕ) → (run_in p ≡ run → ⊥) → slice_get (set_in runs o p) run ≡ slice_get runs run
   with_other_by runs p None run n = refl
   with_other_by runs p (Some h) run n = slice_get-set_other runs (run_in p) run (step_at h p) n
 
-  length_by : (runs : List (Held T C)) (p : Piece T C) (o : Option (Held T C)) → length (set_in runs o p) ≡ length runs
+  pub length_by : (runs : List (Held T C)) (p : Piece T C) (o : Option (Held T C)) → length (set_in runs o p) ≡ length runs
   length_by runs p None = refl
   length_by runs p (Some h) = length-set runs (run_in p) (step_at h p)
 

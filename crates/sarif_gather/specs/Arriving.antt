@@ -1,5 +1,5 @@
 -- A list of arrivals at a collector: what is accepted, and the first that is not.
-use Rattle.std.specs.Prelude.{◌≡◌, ℕ, ◌<◌, List, [], ◌∷◌, take, length, Some, None, slice_get}
+use Rattle.std.specs.Prelude.{◌≡◌, ◌⊎◌, ℕ, List, [], ◌∷◌, take, length, Some, None, slice_get}
 use Rattle.sarif_gather.specs.declared.piece.Piece.{Piece}
 use Rattle.sarif_gather.specs.declared.piece.Why.{Why}
 use Rattle.sarif_gather.specs.declared.piece.Why.TheVariants.{Stranger, AfterClose, Double, Short, OutOfMemory, Unclosed}
@@ -16,9 +16,13 @@ module _ {T C : Type 0} where
   abbrev pub RefusesAt : List (Held T C) → List (Piece T C) → ℕ → Why → Type 0
   RefusesAt runs arrivals at why = (piece : Piece T C) × (slice_get arrivals at ≡ Some piece) × (refusal_of (all_after runs (take at arrivals)) piece ≡ Some why)
 
-  -- what the reason says of the place
+  -- there is no reason against the arrival at this place
+  abbrev pub AcceptsAt : List (Held T C) → List (Piece T C) → ℕ → Type 0
+  AcceptsAt runs arrivals at = (piece : Piece T C) × (slice_get arrivals at ≡ Some piece) × (refusal_of (all_after runs (take at arrivals)) piece ≡ None)
+
+  -- what the reason says of the place. For want of memory an arrival was refused against which there is no other reason, or no collector was made at all
   abbrev pub FaultHere : List (Held T C) → List (Piece T C) → ℕ → Why → Type 0
-  FaultHere runs arrivals at OutOfMemory = Unit {0}
+  FaultHere runs arrivals at OutOfMemory = (at ≡ 0) ⊎ AcceptsAt runs arrivals at
   FaultHere runs arrivals at (Unclosed run) = (at ≡ length arrivals) × (first_open (all_after runs arrivals) ≡ Some run)
   FaultHere runs arrivals at Stranger = RefusesAt runs arrivals at Stranger
   FaultHere runs arrivals at AfterClose = RefusesAt runs arrivals at AfterClose

@@ -6,6 +6,9 @@ pub mod Ends
 pub mod Gathered
 pub mod Hands
 pub mod Held
+pub mod Honest
+pub mod Lawful
+pub mod Laws
 pub mod Numbers
 pub mod Piece
 pub mod Pieces

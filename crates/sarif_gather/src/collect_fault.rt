@@ -1,8 +1,9 @@
 //! A whole list of arrivals, on one thread.
-ghost use Rattle.std.specs.Prelude.{◌≡◌, ◌≤◌, ◌<◌, ◌^◌, replicate, map, vec_len, IfOk, IfErr};
-ghost use Rattle.sarif_gather.specs.Arriving.{IsFirstFault, AllAccepted};
-ghost use Rattle.sarif_gather.specs.Collecting.{all_after};
-ghost use Rattle.sarif_gather.specs.Held.{empty_run, closed_run};
+ghost use Rattle.std.specs.Prelude.{◌≡◌, ◌≤◌, ◌<◌, ◌^◌, replicate, vec_len, IfOk, IfErr};
+ghost use Rattle.sarif_gather.specs.declared.piece.Why.TheVariants.{OutOfMemory};
+ghost use Rattle.sarif_gather.specs.Arriving.{IsFirstFault};
+ghost use Rattle.sarif_gather.specs.Held.{empty_run};
+ghost use Rattle.sarif_gather.specs.Lawful.{IsLawful, assembled};
 
 use crate::collector::Collector;
 use crate::lists::Lists;
@@ -17,7 +18,8 @@ pub struct CollectFault {
     pub why: Why,
 }
 
-/// What these arrivals assemble to. Where there is no memory for a collector, that is told at 0.
+/// What these arrivals assemble to, exactly where they are lawful and there is memory; else the first
+/// fault. Where there is no memory for a collector, that is told at 0.
 pub fn collect<T: Drop, C: Drop>(
     alloc: Global,
     runs: u32,
@@ -25,9 +27,11 @@ pub fn collect<T: Drop, C: Drop>(
 ) -> Result<Lists<T, C>, CollectFault>
     requires runs { runs ≤ 10000 }
     requires few { vec_len arrivals < 2 ^ 32 }
-    ensures ok { IfOk result (λ lists. AllAccepted (replicate runs empty_run) arrivals.items
-        × (all_after (replicate runs empty_run) arrivals.items ≡ map closed_run lists)) }
-    ensures err { IfErr result (λ fault.
+    ensures lawful { IfOk result (λ lists. IsLawful runs arrivals.items
+        × (lists ≡ assembled runs arrivals.items)) }
+    ensures unlawful { IfErr result (λ fault. IsLawful runs arrivals.items
+        → fault.why ≡ OutOfMemory) }
+    ensures first { IfErr result (λ fault.
         IsFirstFault (replicate runs empty_run) arrivals.items fault.at fault.why) }
 {
     let Ok(mut collector) = Collector::new(alloc, runs) else {

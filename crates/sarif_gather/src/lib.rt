@@ -5,6 +5,7 @@ mod collect_fault;
 mod collector;
 mod deal;
 mod gathering;
+pub mod laws;
 mod lists;
 mod mailbox;
 mod numbered;

@@ -120,22 +120,67 @@ fn told(alloc: Global, runs: u32, arrivals: Vec<Piece<u8, u8>>) -> Result<u32, C
 fn first_arrival_that_is_refused_is_told(rt: HostRuntime) -> Result<(), Fail> {
     let alloc = rt.alloc();
     let double = vec![in alloc; item(0, 0, 1), item(0, 0, 2)]?;
-    assert_eq!(rt; told(alloc, 1, double), Err(CollectFault { at: 1, why: Why::Double }));
+    assert_eq!(rt;
+        told(alloc, 1, double),
+        Err(CollectFault {
+            at: 1,
+            why: Why::Double
+        })
+    );
     let stranger = vec![in alloc; item(1, 0, 1)]?;
-    assert_eq!(rt; told(alloc, 1, stranger), Err(CollectFault { at: 0, why: Why::Stranger }));
+    assert_eq!(rt;
+        told(alloc, 1, stranger),
+        Err(CollectFault {
+            at: 0,
+            why: Why::Stranger
+        })
+    );
     let late = vec![in alloc; close(0, 0, 1), item(0, 0, 2)]?;
-    assert_eq!(rt; told(alloc, 1, late), Err(CollectFault { at: 1, why: Why::AfterClose }));
+    assert_eq!(rt;
+        told(alloc, 1, late),
+        Err(CollectFault {
+            at: 1,
+            why: Why::AfterClose
+        })
+    );
     let many = vec![in alloc; item(0, 0, 1), item(0, 1, 2), close(0, 3, 3)]?;
-    assert_eq!(rt; told(alloc, 1, many), Err(CollectFault { at: 2, why: Why::Short }));
+    assert_eq!(rt;
+        told(alloc, 1, many),
+        Err(CollectFault {
+            at: 2,
+            why: Why::Short
+        })
+    );
     let gap = vec![in alloc; item(0, 0, 1), item(0, 2, 2), close(0, 2, 3)]?;
-    assert_eq!(rt; told(alloc, 1, gap), Err(CollectFault { at: 2, why: Why::Short }));
+    assert_eq!(rt;
+        told(alloc, 1, gap),
+        Err(CollectFault {
+            at: 2,
+            why: Why::Short
+        })
+    );
     let again = vec![in alloc; item(0, 0, 1), close(0, 1, 2), item(0, 0, 3)]?;
-    assert_eq!(rt; told(alloc, 1, again), Err(CollectFault { at: 2, why: Why::AfterClose }));
+    assert_eq!(rt;
+        told(alloc, 1, again),
+        Err(CollectFault {
+            at: 2,
+            why: Why::AfterClose
+        })
+    );
     let far = vec![in alloc; item(0, 4294967295, 1), close(0, 1, 2)]?;
-    assert_eq!(rt; told(alloc, 1, far), Err(CollectFault { at: 1, why: Why::Short }));
+    assert_eq!(rt;
+        told(alloc, 1, far),
+        Err(CollectFault {
+            at: 1,
+            why: Why::Short
+        })
+    );
     assert_eq!(rt;
         told(alloc, 1, Vec::new(alloc)),
-        Err(CollectFault { at: 0, why: Why::Unclosed(0) })
+        Err(CollectFault {
+            at: 0,
+            why: Why::Unclosed(0)
+        })
     );
     assert_eq!(rt; told(alloc, 0, Vec::new(alloc)), Ok(0));
     Ok(())

@@ -3,12 +3,14 @@ use Rattle.std.proofs.lemmas.List.{length_push, nil_from_length}
 use Rattle.std.specs.Vec.Iter.{into_iter_items}
 use Rattle.sarif_gather.specs.Collecting.{refusal_of, with_piece, IsReason}
 use Rattle.sarif_gather.specs.Held.{Held, empty_run, first_open}
+use Rattle.sarif_gather.specs.declared.piece.Why.TheVariants.{Unclosed}
+use Rattle.sarif_gather.proofs.AllRuns.{told_lists, told_fault}
 use Rattle.sarif_gather.proofs.Arrived.{accepted_push, first_refused, left_open}
 use Rattle.sarif_gather.proofs.Parcels.{all_after_push}
 use Rattle.sarif_gather.proofs.collect_fault.collect.Goals as goal
 
-pub returns-in-Err-clause-err : goal.returns-in-Err-clause-err
-returns-in-Err-clause-err g c =
+pub returns-in-Err-clause-first : goal.returns-in-Err-clause-first
+returns-in-Err-clause-first g c =
     let was = c.loop-piece.invariant in
     let piece = c.in-Some.piece in
     let steps = c.in-Some.ensures.steps.0 in
@@ -30,10 +32,20 @@ loop-piece-preserved g c =
       accepted_push (replicate c.args.runs empty_run) yielded piece was.5 (ap (λ k. refusal_of k piece) (sym was.4) ∙ ok.0),
     )
 
-pub returns-clause-err : goal.returns-clause-err
-returns-clause-err g c =
+pub returns-in-Err-clause-unlawful : goal.returns-in-Err-clause-unlawful
+returns-in-Err-clause-unlawful g c = told_fault c.args.runs c.args.arrivals.items c.loop-piece.at c.in-Err.field-0.why (returns-in-Err-clause-first g c)
+
+pub returns-in-Ok-finish-clause-lawful : goal.returns-in-Ok-finish-clause-lawful
+returns-in-Ok-finish-clause-lawful g c =
     let was = c.loop-piece.invariant in
     let yielded = c.loop-piece.yielded in
     let none : into_iter_items c.loop-piece.piece-iterator ≡ [] = nil_from_length (into_iter_items c.loop-piece.piece-iterator) (sym c.loop-piece.piece-iterator.rest.ok.0 ∙ c.in-None.ensures.steps.0) in
-    left_open (replicate c.args.runs empty_run) c.args.arrivals.items yielded (was.2 ∙ ap (λ l. yielded ++ l) none ∙ append-nil yielded) c.loop-piece.at was.3 was.5 c.in-Err-finish.run'
-    (ap first_open (sym was.4) ∙ c.in-Err-finish.ensures.err.1)
+    told_lists c.args.runs c.args.arrivals.items yielded (was.2 ∙ ap (λ l. yielded ++ l) none ∙ append-nil yielded) c.in-Ok-finish.lists was.5 (sym was.4 ∙ c.in-Ok-finish.ensures.ok)
+
+pub returns-clause-unlawful : goal.returns-clause-unlawful
+returns-clause-unlawful g c =
+    let was = c.loop-piece.invariant in
+    let yielded = c.loop-piece.yielded in
+    let none : into_iter_items c.loop-piece.piece-iterator ≡ [] = nil_from_length (into_iter_items c.loop-piece.piece-iterator) (sym c.loop-piece.piece-iterator.rest.ok.0 ∙ c.in-None.ensures.steps.0) in
+    told_fault c.args.runs c.args.arrivals.items c.loop-piece.at (Unclosed c.in-Err-finish.run') (left_open (replicate c.args.runs empty_run) c.args.arrivals.items yielded (was.2 ∙ ap (λ l. yielded ++ l) none ∙ append-nil yielded) c.loop-piece.at was.3 was.5 c.in-Err-finish.run'
+    (ap first_open (sym was.4) ∙ c.in-Err-finish.ensures.err.1))

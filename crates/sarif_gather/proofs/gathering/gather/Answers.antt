@@ -8,7 +8,8 @@ use Rattle.sarif_gather.specs.Ends.{AreAllPosts, AreWhole, taken_by}
 use Rattle.sarif_gather.specs.Hands.{AreAllHands, drawn_by}
 use Rattle.sarif_gather.specs.Held.{closed_run, empty_run, first_open}
 use Rattle.sarif_gather.specs.Pieces.{lists_of}
-use Rattle.sarif_gather.proofs.Gatherings.{gathered_at, all_posts, all_hands, marked, collected, wholes_again, no_open}
+use Rattle.sarif_gather.proofs.Gatherings.{gathered_at, all_posts, all_hands, marked, collected}
+use Rattle.sarif_gather.proofs.Wholes.{wholes_again, no_open}
 use Rattle.sarif_gather.proofs.gathering.gather.Goals as goal
 
 pub settle-requires-clause-posts : goal.settle-requires-clause-posts
