@@ -143,6 +143,14 @@ fn first_arrival_that_is_refused_is_told(rt: HostRuntime) -> Result<(), Fail> {
             why: Why::AfterClose
         })
     );
+    let closes = vec![in alloc; close(0, 0, 1), close(0, 0, 2)]?;
+    assert_eq!(rt;
+        told(alloc, 1, closes),
+        Err(CollectFault {
+            at: 1,
+            why: Why::AfterClose
+        })
+    );
     let many = vec![in alloc; item(0, 0, 1), item(0, 1, 2), close(0, 3, 3)]?;
     assert_eq!(rt;
         told(alloc, 1, many),

@@ -1,6 +1,12 @@
 //! The deal.
-use crate::Deal;
+ghost use Rattle.std.specs.Prelude.{◌≡◌, ◌≤◌, ◌<◌, ℕ, length, vec_len, All, slice_index_or};
+ghost use Rattle.sarif_gather.specs.Hands.{IsHandOf, AreAllHands};
+
+use crate::{Deal, Hand};
+use std::sync::atomic::{AtomicU64, Ordering};
 use std::test::Fail;
+use std::thread;
+use std::thread::Threads;
 
 #[test]
 fn each_run_is_drawn_once_and_then_none(rt: HostRuntime) -> Result<(), Fail> {
@@ -17,5 +23,60 @@ fn each_run_is_drawn_once_and_then_none(rt: HostRuntime) -> Result<(), Fail> {
     hands.push(a)?;
     hands.push(b)?;
     assert_eq!(rt; deal.settle(hands), 3);
+    Ok(())
+}
+
+const RUNS: u32 = 10_000;
+
+// A hand draws until no run is left, and counts how often each run was drawn.
+fn draw_out(deal: &Deal, drawn: &[AtomicU64], hand: &mut Hand)
+    requires { IsHandOf deal.now hand.old }
+    ensures { IsHandOf deal.now hand.new }
+{
+    for _ in 0..=RUNS {
+        let Some(run) = deal.draw(hand) else {
+            return;
+        };
+        if let Some(times) = drawn.get(run as usize) {
+            times.fetch_add(1, Ordering::SeqCst);
+        }
+    }
+}
+
+// Each hand draws on a thread of its own.
+fn draw_each<R: Threads + Sync>(rt: &R, deal: &Deal, drawn: &[AtomicU64], hands: &mut [Hand])
+    requires { All (IsHandOf deal.now) hands.old }
+    ensures len { length hands.new ≡ length hands.old }
+    ensures each { (i : ℕ) (d : _) → i < length hands.old
+        → IsHandOf deal.now (slice_index_or hands.new i d) }
+{
+    thread::for_each_mut(rt, hands, 8, &|_, hand| draw_out(deal, drawn, hand));
+}
+
+fn draw_all<R: Threads + Sync>(
+    rt: &R,
+    deal: &Deal,
+    drawn: &[AtomicU64],
+    mut hands: Vec<Hand>,
+) -> Vec<Hand>
+    requires { AreAllHands deal.now hands.items }
+    ensures { AreAllHands deal.now result.items }
+{
+    draw_each(rt, deal, drawn, hands.as_mut_slice());
+    hands
+}
+
+#[test]
+fn eight_hands_draw_each_run_once(rt: HostRuntime) -> Result<(), Fail> {
+    let (deal, hands) = Deal::new(rt.alloc(), RUNS, 8)?;
+    let mut drawn = Vec::new(rt.alloc());
+    for _ in 0..RUNS {
+        drawn.push(AtomicU64::new(0))?;
+    }
+    let hands = draw_all(&rt, &deal, drawn.as_slice(), hands);
+    for times in drawn.as_slice() {
+        assert_eq!(rt; times.load(Ordering::SeqCst), 1);
+    }
+    assert_eq!(rt; deal.settle(hands), RUNS);
     Ok(())
 }

@@ -1,10 +1,31 @@
 //! The mailbox.
-ghost use Rattle.std.specs.Prelude.{◌≡◌, ◌≤◌, vec_len};
+ghost use Rattle.std.specs.Prelude.{◌≡◌, ◌≤◌, ◌<◌, ℕ, length, vec_len, All, IfOk, slice_index_or};
+ghost use Rattle.sarif_gather.specs.Ends.{IsPostOf, IsDeskOf, AreAllPosts, number_of};
 
-use crate::{Full, Mailbox, Parcel};
+use crate::{Desk, Full, Mailbox, Parcel, Post};
+use std::alloc::{AllocError, Global};
+use std::sync::Wait;
 use std::test::Fail;
+use std::thread;
+use std::thread::Threads;
 
 type Sent = Parcel<u8, u8>;
+
+// Both posts of a mailbox for two senders.
+fn both(
+    alloc: Global,
+    mailbox: &Mailbox<Sent>,
+    first: Post<Sent>,
+    second: Post<Sent>,
+) -> Result<Vec<Post<Sent>>, AllocError>
+    requires two { mailbox.now.senders ≡ 2 }
+    requires first { IsPostOf mailbox.now first × (number_of first ≡ 0) }
+    requires second { IsPostOf mailbox.now second × (number_of second ≡ 1) }
+    ensures { IfOk result (λ posts. AreAllPosts mailbox.now posts.items) }
+{
+    let posts = vec![in alloc; first, second]?;
+    Ok(posts)
+}
 
 #[test]
 fn full_and_none_come_from_a_full_and_an_empty_mailbox(rt: HostRuntime) -> Result<(), Fail> {
@@ -34,9 +55,140 @@ fn full_and_none_come_from_a_full_and_an_empty_mailbox(rt: HostRuntime) -> Resul
             .send(&rt, &mut second, Parcel::End { short: true })
             .is_ok()
     );
+    let back = both(rt.alloc(), &mailbox, first, second)?;
+    let Ok(settled) = mailbox.settle(&rt, rt.alloc(), desk, back) else {
+        panic!(rt; "there is memory for one parcel")
+    };
     assert_eq!(rt;
-        mailbox.take(&rt, &mut desk),
-        Some((1, Parcel::End { short: true }))
+        settled.left.as_slice(),
+        [(1, Parcel::End { short: true })].as_slice()
     );
+    Ok(())
+}
+
+// How many parcels each sender sends.
+const PARCELS: u32 = 1000;
+
+/// Of each sender, how many parcels came in the order in which they were sent, and of all, how many
+/// came out of it.
+#[derive(Clone, Copy)]
+struct Tally {
+    in_order: [u32; 4],
+    strays: u32,
+}
+
+impl Tally {
+    fn note(&mut self, sender: u32, parcel: u32) {
+        match self.in_order.get_mut(sender as usize) {
+            Some(next) if *next == parcel => *next = next.wrapping_add(1),
+            _ => self.strays = self.strays.wrapping_add(1),
+        }
+    }
+}
+
+// Sends a parcel, and tries again where the mailbox is full.
+fn send_on<R: Wait>(rt: &R, mailbox: &Mailbox<u32>, post: &mut Post<u32>, mut parcel: u32)
+    requires { IsPostOf mailbox.now post.old }
+    ensures { IsPostOf mailbox.now post.new × (number_of post.new ≡ number_of post.old) }
+{
+    for _ in rt.forever() {
+        match mailbox.send(rt, post, parcel) {
+            Ok(()) => return,
+            Err(Full { parcel: back }) => parcel = back,
+        }
+        thread::yield_now();
+    }
+    unreachable!()
+}
+
+// Sends numbered parcels.
+fn send_numbered<R: Wait>(rt: &R, mailbox: &Mailbox<u32>, post: &mut Post<u32>)
+    requires { IsPostOf mailbox.now post.old }
+    ensures { IsPostOf mailbox.now post.new × (number_of post.new ≡ number_of post.old) }
+{
+    for number in 0..PARCELS {
+        send_on(rt, mailbox, post, number);
+    }
+}
+
+// Each post sends numbered parcels, on a thread of its own.
+fn send_each<R: Threads + Wait + Sync>(rt: &R, mailbox: &Mailbox<u32>, posts: &mut [Post<u32>])
+    requires { All (IsPostOf mailbox.now) posts.old }
+    ensures len { length posts.new ≡ length posts.old }
+    ensures each { (i : ℕ) (d : _) → i < length posts.old
+        → IsPostOf mailbox.now (slice_index_or posts.new i d)
+        × (number_of (slice_index_or posts.new i d) ≡ number_of (slice_index_or posts.old i d)) }
+{
+    thread::for_each_mut(rt, posts, 4, &|_, post| send_numbered(rt, mailbox, post));
+}
+
+fn send_all<R: Threads + Wait + Sync>(
+    rt: &R,
+    mailbox: &Mailbox<u32>,
+    mut posts: Vec<Post<u32>>,
+) -> Vec<Post<u32>>
+    requires { AreAllPosts mailbox.now posts.items }
+    ensures { AreAllPosts mailbox.now result.items }
+{
+    send_each(rt, mailbox, posts.as_mut_slice());
+    posts
+}
+
+// Takes all parcels but the last three.
+fn take_most<R: Wait>(rt: &R, mailbox: &Mailbox<u32>, mut desk: Desk<u32>) -> (Desk<u32>, Tally)
+    requires { IsDeskOf mailbox.now desk }
+    ensures { IsDeskOf mailbox.now result.0 }
+{
+    let mut tally = Tally {
+        in_order: [0; 4],
+        strays: 0,
+    };
+    for _ in 0..4 * PARCELS - 3 {
+        let (sender, parcel) = take_next(rt, mailbox, &mut desk);
+        tally.note(sender, parcel);
+    }
+    (desk, tally)
+}
+
+// Waits for a parcel.
+fn take_next<R: Wait>(rt: &R, mailbox: &Mailbox<u32>, desk: &mut Desk<u32>) -> (u32, u32)
+    requires { IsDeskOf mailbox.now desk.old }
+    ensures { IsDeskOf mailbox.now desk.new }
+{
+    for _ in rt.forever() {
+        if let Some(parcel) = mailbox.take(rt, desk) {
+            return parcel;
+        }
+        thread::yield_now();
+    }
+    unreachable!()
+}
+
+#[test]
+fn what_four_senders_sent_arrives_whole_and_in_order(rt: HostRuntime) -> Result<(), Fail> {
+    let (mailbox, posts, desk) = Mailbox::<u32>::new(rt.alloc(), 3, 4)?;
+    let shared = &mailbox;
+    let threads = &rt;
+    let (posts, (desk, taken)) = thread::join(
+        &rt,
+        move || -> Vec<Post<u32>>
+            requires { AreAllPosts shared.now posts.items }
+            ensures { AreAllPosts shared.entry.now result.items }
+        { send_all(threads, shared, posts) },
+        move || -> (Desk<u32>, Tally)
+            requires { IsDeskOf shared.now desk }
+            ensures { IsDeskOf shared.entry.now result.0 }
+        { take_most(threads, shared, desk) },
+    );
+    let Ok(settled) = mailbox.settle(&rt, rt.alloc(), desk, posts) else {
+        panic!(rt; "there is memory for three parcels")
+    };
+    assert_eq!(rt; settled.left.len(), 3);
+    let mut tally = taken;
+    for (sender, parcel) in settled.left.as_slice() {
+        tally.note(*sender, *parcel);
+    }
+    assert_eq!(rt; tally.in_order, [PARCELS; 4]);
+    assert_eq!(rt; tally.strays, 0);
     Ok(())
 }
