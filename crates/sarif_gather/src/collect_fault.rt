@@ -18,8 +18,8 @@ pub struct CollectFault {
     pub why: Why,
 }
 
-/// What these arrivals assemble to, exactly where they are lawful and there is memory; else the first
-/// fault. Where there is no memory for a collector, that is told at 0.
+/// What these arrivals assemble to, exactly where they are lawful and there is memory; else the
+/// first fault. Where there is no memory for a collector, that is told at 0.
 pub fn collect<T: Drop, C: Drop>(
     alloc: Global,
     runs: u32,

@@ -1,5 +1,6 @@
 //! The collector, which puts a work's pieces together again, run by run.
-ghost use Rattle.std.specs.Prelude.{◌≡◌, ◌≤◌, ◌<◌, ◌^◌, [], replicate, map, length, OnOk, IfOk, IfErr};
+ghost use Rattle.std.specs.Prelude.{◌≡◌, ◌≤◌, ◌<◌, ◌^◌, [], replicate, map, length};
+ghost use Rattle.std.specs.Prelude.{OnOk, IfOk, IfErr};
 ghost use Rattle.std.specs.Vec.{vec_capacity};
 ghost use Rattle.sarif_gather.specs.Held.{empty_run, closed_run, first_open};
 ghost use Rattle.sarif_gather.specs.Slot.{held_of, whole_of};

@@ -1,7 +1,9 @@
 //! A deal: runs drawn by hands, each run once.
-ghost use Rattle.std.specs.Prelude.{◌≡◌, ◌≤◌, ◌<◌, ℕ, true, [], ◌∷◌, ◌++◌, IfOk, IfSome, IfNone, IsNone, Some, slice_get};
+ghost use Rattle.std.specs.Prelude.{◌≡◌, ◌≤◌, ◌<◌, ℕ, true, [], ◌∷◌, ◌++◌, Some, slice_get};
+ghost use Rattle.std.specs.Prelude.{IfOk, IfSome, IfNone, IsNone};
 ghost use Rattle.sarif_gather.specs.Claims.{times, total, once_below};
-ghost use Rattle.sarif_gather.specs.Hands.{IsSeatOf, IsHandOf, AreNewHands, AreAllHands, drawn_by, runs_of, is_marked, joined};
+ghost use Rattle.sarif_gather.specs.Hands.{IsSeatOf, IsHandOf, AreNewHands, AreAllHands};
+ghost use Rattle.sarif_gather.specs.Hands.{drawn_by, runs_of, is_marked, joined};
 
 mod hand;
 mod rule;
@@ -76,7 +78,8 @@ impl Deal {
 
 // One hand takes in what the others know.
 fn take_back(claims: &Claims, all: &mut Seat<(), HandView>, hands: Vec<Hand>)
-    requires free { (all.old.me.1 ≡ []) × (0 < all.old.me.0.parts) × (0 < claims.now.shared.table_id.words) }
+    requires free { (all.old.me.1 ≡ []) × (0 < all.old.me.0.parts)
+        × (0 < claims.now.shared.table_id.words) }
     requires all { IsSeatOf claims.now all.old }
     requires hands { (i : ℕ) (hand : _) → slice_get hands.items i ≡ Some hand
         → IsSeatOf claims.now hand.seat }

@@ -1,7 +1,9 @@
 //! Many workers, one collector.
-ghost use Rattle.std.specs.Prelude.{◌≡◌, ◌≤◌, ◌<◌, ℕ, [], Some, slice_get, map, vec_len, IfOk, IfSome};
+ghost use Rattle.std.specs.Prelude.{◌≡◌, ◌≤◌, ◌<◌, ℕ, [], Some, slice_get, map, vec_len};
+ghost use Rattle.std.specs.Prelude.{IfOk, IfSome};
 ghost use Rattle.std.specs.List.{list_any};
-ghost use Rattle.sarif_gather.specs.Ends.{IsPostOf, IsDeskOf, IsNewPost, number_of, sent_by, taken_by};
+ghost use Rattle.sarif_gather.specs.Ends.{IsPostOf, IsDeskOf, IsNewPost};
+ghost use Rattle.sarif_gather.specs.Ends.{number_of, sent_by, taken_by};
 ghost use Rattle.sarif_gather.specs.Hands.{IsHandOf, drawn_by, runs_of};
 ghost use Rattle.sarif_gather.specs.Served.{IsServed};
 ghost use Rattle.sarif_gather.specs.Gathered.{IsGathered};
@@ -93,8 +95,8 @@ fn start_one<'s, E, W: Work + Sync, G: Gate + Sync, R: Threads + Wait + Sync>(
             requires deal { runs_of deal.now ≡ W.run_count work.now }
             requires post { IsPostOf mailbox.now post × (sent_by post ≡ []) }
             requires hand { IsHandOf deal.now hand × (drawn_by hand ≡ []) }
-            ensures { IsServed (W.count work.entry.now) (W.item work.entry.now) (W.end work.entry.now)
-                mailbox.entry.now deal.entry.now (number_of post) result }
+            ensures { IsServed (W.count work.entry.now) (W.item work.entry.now)
+                (W.end work.entry.now) mailbox.entry.now deal.entry.now (number_of post) result }
         { serve(rt, alloc, work, gate, deal, mailbox, post, hand) },
     );
     started.ok()

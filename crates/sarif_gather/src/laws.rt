@@ -12,8 +12,8 @@ pub fn lawful_arrivals_are_just_those_that_are_taken<T, C>()
     ensures assembled { (runs : ℕ) (arrivals : List (Piece T C)) → AreAssembled runs arrivals }
 {}
 
-/// What the workers of a work send is lawful, whatever the order in which it arrives: no piece of an
-/// honest worker is refused, and the pieces assemble to the work's lists.
+/// What the workers of a work send is lawful, whatever the order in which it arrives: no piece of
+/// an honest worker is refused, and the pieces assemble to the work's lists.
 pub fn pieces_of_honest_workers_are_taken<T, C>()
     ensures { (count : ℕ → ℕ) (item : ℕ → ℕ → T) (end : ℕ → C) (runs : ℕ) (shares : List (List ℕ))
         (arrived : List (ℕ × Parcel T C)) → AreHonest count item end runs shares arrived

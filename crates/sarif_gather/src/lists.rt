@@ -1,5 +1,7 @@
-//! What a collector gives in the end: each run's items, in the order of their numbers, and its tail.
-ghost use Rattle.std.specs.Prelude.{◌≡◌, ◌<◌, ◌^◌, [], ◌∷◌, ◌++◌, map, length, slice_get, MatchOption, option_map};
+//! What a collector gives in the end: each run's items, in the order of their numbers, and its
+//! tail.
+ghost use Rattle.std.specs.Prelude.{◌≡◌, ◌<◌, ◌^◌, [], ◌∷◌, ◌++◌, map, length};
+ghost use Rattle.std.specs.Prelude.{slice_get, MatchOption, option_map};
 ghost use Rattle.sarif_gather.specs.Slot.{whole_of};
 
 use std::marker::Model;

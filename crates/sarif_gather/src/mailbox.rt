@@ -52,7 +52,8 @@ impl<P: Drop> Mailbox<P> {
         requires { IsPostOf self.now post.old }
         ensures post { IsPostOf self.now post.new × (number_of post.new ≡ number_of post.old) }
         ensures ok { OnOk result (sent_by post.new ≡ sent_by post.old ++ parcel ∷ []) }
-        ensures full { IfErr result (λ f. (f.parcel ≡ parcel) × (sent_by post.new ≡ sent_by post.old)) }
+        ensures full { IfErr result (λ f. (f.parcel ≡ parcel)
+            × (sent_by post.new ≡ sent_by post.old)) }
     {
         match self
             .line

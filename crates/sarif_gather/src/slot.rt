@@ -59,7 +59,8 @@ impl<T: Drop, C: Drop> Slot<T, C> {
     fn close(&mut self, alloc: Global, run: u32, count: u32, tail: C) -> Result<(), Refused<T, C>>
         ensures ok { OnOk result ((refusal_at (held_of self.old) (Close run count tail) ≡ None)
             × (held_of self.new ≡ step_at (held_of self.old) (Close run count tail))) }
-        ensures same { IfErr result (λ r. (self.new ≡ self.old) × (r.piece ≡ Close run count tail)) }
+        ensures same { IfErr result (λ r. (self.new ≡ self.old)
+            × (r.piece ≡ Close run count tail)) }
         ensures why { IfErr result (λ r.
             IsReason (refusal_at (held_of self.old) (Close run count tail)) r.why) }
     {

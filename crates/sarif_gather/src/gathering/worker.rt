@@ -52,7 +52,8 @@ fn send_run<W: Work, G: Gate, R: Wait>(
     requires post { IsPostOf mailbox.now post.old }
     ensures post { IsPostOf mailbox.now post.new × (number_of post.new ≡ number_of post.old) }
     ensures sent { OnOk result (sent_by post.new ≡ sent_by post.old
-        ++ map Carry (pieces_of run (W.item work.now run) (W.count work.now run) (W.end work.now run))) }
+        ++ map Carry
+        (pieces_of run (W.item work.now run) (W.count work.now run) (W.end work.now run))) }
 {
     let head = work.start(alloc, run)?;
     let count = work.len(&head);
@@ -93,7 +94,8 @@ fn send_runs<W: Work, G: Gate, R: Wait>(
     ensures post { IsPostOf mailbox.now post.new × (number_of post.new ≡ number_of post.old) }
     ensures hand { IsHandOf deal.now hand.new }
     ensures all { OnTrue result ((is_marked hand.new ≡ true) × (sent_by post.new
-        ≡ map Carry (pieces_of_runs (W.count work.now) (W.item work.now) (W.end work.now) (drawn_by hand.new)))) }
+        ≡ map Carry (pieces_of_runs (W.count work.now) (W.item work.now) (W.end work.now)
+        (drawn_by hand.new)))) }
 {
     for _ in rt.forever() {
         let Some(run) = deal.draw(hand) else {
@@ -123,7 +125,8 @@ pub fn serve<W: Work, G: Gate, R: Wait>(
     ensures post { IsPostOf mailbox.now result.post × (number_of result.post ≡ number_of post) }
     ensures hand { IsHandOf deal.now result.hand }
     ensures all { OnFalse result.short ((is_marked result.hand ≡ true) × (sent_by result.post
-        ≡ parcels_of (W.count work.now) (W.item work.now) (W.end work.now) (drawn_by result.hand))) }
+        ≡ parcels_of (W.count work.now) (W.item work.now) (W.end work.now)
+        (drawn_by result.hand))) }
 {
     let all = send_runs(rt, alloc, work, gate, deal, mailbox, &mut post, &mut hand);
     send_on(rt, mailbox, &mut post, Parcel::End { short: !all });

@@ -1,7 +1,8 @@
 //! The mailbox's rule, and what each step tells.
 ghost use Rattle.std.specs.Prelude.{◌≡◌, ◌+◌, [], ◌∷◌, ◌++◌};
 ghost use Rattle.sarif_gather.specs.declared.mailbox.rule.View.TheVariants.{Taker, Sender, Gone};
-ghost use Rattle.sarif_gather.specs.Delivery.{Delivers, Settles, taken_in, made_in, settled_in, number_in, sent_in};
+ghost use Rattle.sarif_gather.specs.Delivery.{Delivers, Settles, taken_in, made_in, settled_in};
+ghost use Rattle.sarif_gather.specs.Delivery.{number_in, sent_in};
 
 use crossbeam_queue::protocol::{Join, Lesson, Outcome, Protocol, Split};
 use std::collections::LinkedList;
@@ -61,7 +62,8 @@ impl<P> Lesson<(u32, P), View<P>> for Sends {
     ghost fact = { λ v items. Unit {0} };
 }
 
-/// A parcel was taken. Of what stands in the mailbox, the desk knows what each returned sender sent.
+/// A parcel was taken. Of what stands in the mailbox, the desk knows what each returned sender
+/// sent.
 pub struct Takes;
 
 impl<P> Outcome<(u32, P), View<P>> for Takes {

@@ -3,7 +3,8 @@ ghost use Rattle.std.specs.Prelude.{◌≡◌, [], ◌++◌, map, Some, slice_ge
 ghost use Rattle.crossbeam_queue.specs.Passes.{view, IsPassOf};
 ghost use Rattle.sarif_gather.specs.declared.mailbox.rule.View.TheVariants.{Taker};
 ghost use Rattle.sarif_gather.specs.Delivery.{taken_in, made_in};
-ghost use Rattle.sarif_gather.specs.Ends.{IsPostOf, IsDeskOf, AreAllPosts, AreWhole, taken_by, returned};
+ghost use Rattle.sarif_gather.specs.Ends.{IsPostOf, IsDeskOf, AreAllPosts, AreWhole};
+ghost use Rattle.sarif_gather.specs.Ends.{taken_by, returned};
 
 use crate::mailbox::ends::{Desk, Post};
 use crate::mailbox::rule::{Returns, Takes, View};
@@ -19,8 +20,8 @@ pub struct Settled<P> {
 }
 
 impl<P: Drop> Mailbox<P> {
-    /// Ends the mailbox: what was taken, and then what is left, is what each sender sent. Where there
-    /// is no memory for what is left, all comes back.
+    /// Ends the mailbox: what was taken, and then what is left, is what each sender sent. Where
+    /// there is no memory for what is left, all comes back.
     pub fn settle<R: Wait>(
         self,
         rt: &R,
@@ -30,7 +31,8 @@ impl<P: Drop> Mailbox<P> {
     ) -> Result<Settled<P>, (Self, Desk<P>, Vec<Post<P>>)>
         requires desk { IsDeskOf self desk }
         requires posts { AreAllPosts self posts.items }
-        ensures whole { IfOk result (λ s. AreWhole self posts.items (taken_by desk ++ s.left.items)) }
+        ensures whole { IfOk result (λ s.
+            AreWhole self posts.items (taken_by desk ++ s.left.items)) }
         ensures back { IfErr result (λ e. (e.0 ≡ self) × (e.1 ≡ desk) × (e.2 ≡ posts)) }
     {
         let Ok(mut left) = Vec::with_capacity(alloc, self.line.capacity()) else {

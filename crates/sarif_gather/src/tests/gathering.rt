@@ -20,7 +20,8 @@ fn waits_for(flag: &AtomicU64) -> bool {
     false
 }
 
-/// Runs with so many items. The item of a run with a number is 100,000 times the run and the number.
+/// Runs with so many items. The item of a run with a number is 100,000 times the run, and the
+/// number.
 #[derive(Clone, Copy)]
 struct Numbers<'a> {
     counts: &'a [u32],
