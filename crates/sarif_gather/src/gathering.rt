@@ -35,6 +35,10 @@ pub enum GatherFault {
 }
 
 impl From<AllocError> for GatherFault {
+    ghost use Rattle.sarif_gather.specs.declared.gathering.GatherFault.TheVariants.{OutOfMemory};
+
+    ghost from_gives = { λ _ fault. fault ≡ OutOfMemory };
+
     fn from(_fault: AllocError) -> Self {
         GatherFault::OutOfMemory
     }
