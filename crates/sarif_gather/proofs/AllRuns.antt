@@ -1,6 +1,6 @@
 -- All runs: arrivals are accepted, and close every run, just where they are lawful.
-use Rattle.std.proofs.Common.{◌≡◌, ℕ, zero, suc, ◌+◌, ◌<◌, ◌≤◌, ◌⊎◌, Bool, false, List, [], ◌∷◌, ◌++◌, map, length, replicate, Option, Some, None, refl, sym, ap, ◌∙◌, subst, ⊎_elim, arith, zero-add}
-use Rattle.std.specs.Prelude.{slice_get, is_none}
+use Rattle.std.proofs.Common.{◌≡◌, ℕ, zero, suc, ◌+◌, ◌<◌, ◌≤◌, List, [], ◌∷◌, ◌++◌, map, length, replicate, Some, None, refl, sym, ap, ◌∙◌, subst, ⊎_elim, arith, zero-add}
+use Rattle.std.specs.Prelude.{slice_get}
 use Rattle.std.specs.List.{range_with_len, flat_map}
 use Rattle.std.proofs.lemmas.Bool.{cases_eq, cases_lt}
 use Rattle.std.proofs.lemmas.List.{length-map, length-replicate}
@@ -15,7 +15,7 @@ use Rattle.sarif_gather.specs.Lawful.{IsLawful, assembled_run, assembled}
 use Rattle.sarif_gather.specs.Piece.{run_in}
 use Rattle.sarif_gather.specs.Pieces.{on_run}
 use Rattle.sarif_gather.proofs.Arrived.{taken_lacks}
-use Rattle.sarif_gather.proofs.Lawfulness.{Accepted, AreOf, Ends, ends, whole_after, lawful_run, assembles, accepts_lawful}
+use Rattle.sarif_gather.proofs.Lawfulness.{Accepted, AreOf, ends, whole_after, lawful_run, assembles, accepts_lawful}
 use Rattle.sarif_gather.proofs.Places.{at_below, at_replicate, same_places, into_mapped}
 use Rattle.sarif_gather.proofs.RunByRun.{on_same, on_other, with_same, with_other_by, length_by, run_by_run, length-all_after}
 use Rattle.sarif_gather.proofs.Wholes.{closed_at, no_open, wholes_again}

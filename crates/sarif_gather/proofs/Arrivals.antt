@@ -1,17 +1,16 @@
 -- What arrives of each run, where each is sent by one worker.
-use Rattle.std.proofs.Common.{◌≡◌, ◌≢◌, ℕ, zero, suc, ◌+◌, ◌<◌, ◌≤◌, ◌⊎◌, cond, eqb, false, List, [], ◌∷◌, ◌++◌, map, length, Option, Some, None, refl, sym, ap, ◌∙◌, subst, inl, inr, ⊎_elim, arith, append-nil, append_assoc, eq-eqb, ne_eqb}
+use Rattle.std.proofs.Common.{◌≡◌, ◌≢◌, ℕ, zero, suc, cond, eqb, false, List, [], ◌∷◌, ◌++◌, map, Some, refl, sym, ap, ◌∙◌, subst, ⊎_elim, arith, append-nil, eq-eqb, ne_eqb}
 use Rattle.std.specs.Prelude.{slice_get}
-use Rattle.std.specs.List.{range_with_len, flat_map}
-use Rattle.std.proofs.lemmas.Bool.{cases_eq, cases_lt}
+use Rattle.std.specs.List.{range_with_len}
+use Rattle.std.proofs.lemmas.Bool.{cases_eq}
 use Rattle.sarif_gather.specs.declared.piece.Piece.{Piece}
 use Rattle.sarif_gather.specs.declared.piece.Piece.TheVariants.{Item, Close}
 use Rattle.sarif_gather.specs.declared.piece.Parcel.{Parcel}
 use Rattle.sarif_gather.specs.declared.piece.Parcel.TheVariants.{Carry, End}
-use Rattle.sarif_gather.specs.Claims.{times, total, once_below}
-use Rattle.sarif_gather.specs.Pieces.{on_run, pieces_of, pieces_of_runs, parcels_of, carried, ends_in, parcels_in}
+use Rattle.sarif_gather.specs.Claims.{times, total}
+use Rattle.sarif_gather.specs.Pieces.{on_run, pieces_of, pieces_of_runs, parcels_of, carried, parcels_in}
 use Rattle.sarif_gather.specs.Senders.{of_sender}
-use Rattle.sarif_gather.proofs.Deliveries.{of_same, of_other, of-append}
-use Rattle.sarif_gather.proofs.Parcels.{carried-append, ends_in-append}
+use Rattle.sarif_gather.proofs.Deliveries.{of_same, of_other}
 use Rattle.sarif_gather.proofs.RunByRun.{on_same, on_other, on_run-append}
 
 nil_left : {A : Type 0} (a b : List A) → a ++ b ≡ [] → a ≡ []

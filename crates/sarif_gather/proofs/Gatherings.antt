@@ -1,30 +1,21 @@
 -- All that was taken is all that was sent, so the collector has each run whole.
-use Rattle.std.proofs.Common.{◌≡◌, ◌≢◌, ℕ, zero, suc, ◌+◌, ◌<◌, ◌≤◌, ◌⊎◌, cond, true, false, List, [], ◌∷◌, ◌++◌, map, length, replicate, Option, Some, None, refl, sym, ap, ◌∙◌, subst, inl, inr, ⊎_elim, arith, append-nil, zero-add}
-use Rattle.std.specs.Prelude.{slice_get, option_map, is_none}
-use Rattle.std.specs.List.{range_with_len, enumerate_from, position_from}
-use Rattle.std.proofs.lemmas.Bool.{cases_lt, lt-ltb, OnFalse_at}
-use Rattle.std.proofs.lemmas.List.FromFn.{length-range_with_len, length-map-range_with_len}
-use Rattle.std.proofs.lemmas.List.{length-replicate, length-map}
-use Rattle.std.proofs.lemmas.Option.{slice_get-map, slice_get_within}
-use Rattle.sarif_gather.specs.declared.piece.Piece.{Piece}
+use Rattle.std.proofs.Common.{◌≡◌, ℕ, ◌+◌, ◌<◌, ◌≤◌, true, List, [], ◌∷◌, ◌++◌, map, replicate, Some, refl, sym, ap, ◌∙◌, subst, arith, append-nil}
+use Rattle.std.specs.Prelude.{slice_get}
+use Rattle.std.proofs.lemmas.Bool.{OnFalse_at}
+use Rattle.std.proofs.lemmas.List.{length-map}
 use Rattle.sarif_gather.specs.declared.piece.Parcel.{Parcel}
-use Rattle.sarif_gather.specs.declared.piece.Parcel.TheVariants.{Carry, End}
 use Rattle.sarif_gather.specs.declared.mailbox.Mailbox.{Mailbox}
-use Rattle.sarif_gather.specs.declared.mailbox.ends.Post.{Post}
 use Rattle.sarif_gather.specs.declared.deal.state.Deal.{Deal}
-use Rattle.sarif_gather.specs.declared.deal.hand.Hand.{Hand}
 use Rattle.sarif_gather.specs.declared.gathering.Gathered.{Gathered}
 use Rattle.sarif_gather.specs.declared.gathering.worker.Back.{Back}
 use Rattle.sarif_gather.specs.Claims.{times, total, once_below}
-use Rattle.sarif_gather.specs.Collecting.{run_after, all_after}
-use Rattle.sarif_gather.specs.Ends.{AreWhole, AreAllPosts, IsPostOf, number_of, sent_by, taken_by}
+use Rattle.sarif_gather.specs.Ends.{AreWhole, AreAllPosts, IsPostOf, sent_by, taken_by}
 use Rattle.sarif_gather.specs.Gathered.{IsGathered}
 use Rattle.sarif_gather.specs.Hands.{drawn_by, is_marked, hands_of, IsHandOf, AreAllHands}
 use Rattle.sarif_gather.specs.Honest.{AreHonest}
-use Rattle.sarif_gather.specs.Held.{Held, Whole, empty_run, closed_run, first_open}
-use Rattle.sarif_gather.specs.Pieces.{on_run, pieces_of, pieces_of_runs, parcels_of, carried, ends_in, parcels_in, whole_run, lists_of}
+use Rattle.sarif_gather.specs.Held.{Held, empty_run, closed_run}
+use Rattle.sarif_gather.specs.Pieces.{pieces_of_runs, parcels_of, lists_of}
 use Rattle.sarif_gather.specs.Senders.{of_sender}
-use Rattle.sarif_gather.specs.Served.{IsServed}
 use Rattle.sarif_gather.proofs.Endings.{all_taken}
 use Rattle.sarif_gather.proofs.Honesty.{held_whole}
 use Rattle.sarif_gather.proofs.Places.{at_below, from_mapped, into_mapped}

@@ -1,19 +1,18 @@
 -- What the workers of a work send is lawful, and a collector accepts it.
-use Rattle.std.proofs.Common.{◌≡◌, ◌≢◌, ℕ, zero, suc, ◌+◌, ◌<◌, ◌≤◌, ◌⊎◌, cond, List, [], ◌∷◌, ◌++◌, map, length, replicate, Some, refl, sym, ap, ◌∙◌, subst, ⊎_elim, arith, zero-add}
+use Rattle.std.proofs.Common.{◌≡◌, ℕ, ◌<◌, ◌≤◌, cond, List, [], map, length, replicate, Some, sym, ap, ◌∙◌, subst, ⊎_elim, arith, zero-add}
 use Rattle.std.specs.Prelude.{slice_get, option_map}
 use Rattle.std.specs.List.{range_with_len}
 use Rattle.std.proofs.lemmas.Bool.{cases_lt, lt-ltb, le-ltb}
 use Rattle.std.proofs.lemmas.List.{length-map, length-replicate}
 use Rattle.std.proofs.lemmas.List.FromFn.{length-map-range_with_len}
 use Rattle.std.proofs.lemmas.Option.{slice_get-map}
-use Rattle.sarif_gather.specs.declared.piece.Piece.{Piece}
 use Rattle.sarif_gather.specs.declared.piece.Parcel.{Parcel}
-use Rattle.sarif_gather.specs.Claims.{times, total, once_below}
+use Rattle.sarif_gather.specs.Claims.{times, total}
 use Rattle.sarif_gather.specs.Collecting.{run_after, all_after}
-use Rattle.sarif_gather.specs.Held.{Held, Whole, empty_run, closed_run}
+use Rattle.sarif_gather.specs.Held.{empty_run, closed_run}
 use Rattle.sarif_gather.specs.Honest.{AreHonest, AreTaken}
 use Rattle.sarif_gather.specs.Lawful.{IsLawful, IsLawfulRun, assembled}
-use Rattle.sarif_gather.specs.Pieces.{on_run, pieces_of, parcels_of, carried, parcels_in, whole_run, lists_of}
+use Rattle.sarif_gather.specs.Pieces.{on_run, pieces_of, carried, parcels_in, whole_run, lists_of}
 use Rattle.sarif_gather.specs.Senders.{of_sender}
 use Rattle.sarif_gather.proofs.AllRuns.{lawful_accepted, lawful_held}
 use Rattle.sarif_gather.proofs.Arrivals.{from_one, mine, not_mine, the_one, none_of}

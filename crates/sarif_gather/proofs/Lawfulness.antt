@@ -1,5 +1,5 @@
 -- One run: its pieces are accepted, and close it, just where they are lawful; and it is then what they assemble to.
-use Rattle.std.proofs.Common.{◌≡◌, ◌≢◌, ℕ, zero, suc, ◌+◌, ◌<◌, ◌≤◌, ◌⊎◌, cond, ltb, Bool, true, false, List, [], ◌∷◌, ◌++◌, map, length, Option, Some, None, refl, sym, ap, ◌∙◌, subst, ⊎_elim, arith, append-nil, append_assoc, zero-add}
+use Rattle.std.proofs.Common.{◌≡◌, ◌≢◌, ℕ, zero, suc, ◌+◌, ◌<◌, ◌≤◌, cond, ltb, Bool, true, false, List, [], ◌∷◌, ◌++◌, map, length, Option, Some, None, refl, sym, ap, ◌∙◌, subst, ⊎_elim, arith, append-nil, append_assoc, zero-add}
 use Rattle.std.specs.Prelude.{is_none}
 use Rattle.std.specs.List.{range_with_len, enumerate_from}
 use Rattle.std.specs.Ordering.{nat_cmp}

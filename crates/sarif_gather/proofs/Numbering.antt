@@ -1,5 +1,5 @@
 -- Bodies in a row and early ones behind them: what is among them, and where one more goes.
-use Rattle.std.proofs.Common.{◌≡◌, ℕ, zero, suc, ◌+◌, ◌<◌, ◌≤◌, ◌≢◌, ◌==◌, ◌&&◌, ◌⊎◌, Bool, true, false, cond, List, [], ◌∷◌, ◌++◌, map, length, Ordering, Some, refl, sym, ap, ◌∙◌, subst, inl, inr, ⊎_elim, arith, leb, eqb, append-nil, append_assoc}
+use Rattle.std.proofs.Common.{◌≡◌, ℕ, ◌+◌, ◌<◌, ◌≤◌, ◌&&◌, true, false, cond, List, [], ◌∷◌, ◌++◌, map, length, Ordering, Some, refl, sym, ap, ◌∙◌, subst, ⊎_elim, arith, append_assoc}
 use Rattle.std.specs.Prelude.{is_some}
 use Rattle.std.specs.Ordering.{nat_cmp, match_ordering, is_eq}
 use Rattle.std.specs.declared.cmp.Ordering.TheVariants.{Less, Equal, Greater}
@@ -7,7 +7,7 @@ use Rattle.std.specs.Cmp.{nat_cmp_is}
 use Rattle.std.specs.List.{enumerate_from}
 use Rattle.std.specs.BTreeMap.{is_at, insert_entry}
 use Rattle.std.specs.Map.{lookup}
-use Rattle.std.proofs.lemmas.Bool.{true≢false, cases_lt, cases_order, leb-true, le-leb, eqb-true, eq-eqb, ne_eqb, and_parts, and_from}
+use Rattle.std.proofs.lemmas.Bool.{true≢false, cases_lt, cases_order, leb-true, le-leb, eqb-true, eq-eqb, and_parts, and_from}
 use Rattle.sarif_gather.specs.Numbers.{has_number, all_from, counts_up}
 
 cmp_less : (k j : ℕ) → k < j → nat_cmp k j ≡ Less

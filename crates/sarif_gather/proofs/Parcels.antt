@@ -1,14 +1,13 @@
 -- Lists of pieces and parcels.
-use Rattle.std.proofs.Common.{◌≡◌, ℕ, zero, suc, ◌+◌, ◌<◌, ◌≤◌, cond, eqb, Bool, false, List, [], ◌∷◌, ◌++◌, map, length, refl, sym, ap, ◌∙◌, subst, ⊎_elim, arith, append_assoc, append-nil, zero-add, add-zero}
-use Rattle.std.specs.Prelude.{filter}
-use Rattle.std.specs.List.{range_with_len, flat_map}
+use Rattle.std.proofs.Common.{◌≡◌, ℕ, ◌+◌, Bool, List, [], ◌∷◌, ◌++◌, map, refl, sym, ap, ◌∙◌, arith, append_assoc, append-nil, zero-add, add-zero}
+use Rattle.std.specs.List.{range_with_len}
 use Rattle.std.proofs.lemmas.List.{map-append}
 use Rattle.std.proofs.lemmas.List.FromFn.{map-range_with_len_more}
 use Rattle.sarif_gather.specs.declared.piece.Piece.{Piece}
-use Rattle.sarif_gather.specs.declared.piece.Piece.TheVariants.{Item, Close}
+use Rattle.sarif_gather.specs.declared.piece.Piece.TheVariants.{Item}
 use Rattle.sarif_gather.specs.declared.piece.Parcel.{Parcel}
 use Rattle.sarif_gather.specs.declared.piece.Parcel.TheVariants.{Carry, End}
-use Rattle.sarif_gather.specs.Pieces.{pieces_of, pieces_of_runs, carried, on_run, ends_in, parcels_in}
+use Rattle.sarif_gather.specs.Pieces.{carried, ends_in, parcels_in}
 use Rattle.sarif_gather.specs.Held.{Held}
 use Rattle.sarif_gather.specs.Collecting.{with_piece, all_after}
 

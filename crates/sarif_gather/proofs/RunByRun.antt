@@ -1,18 +1,18 @@
 -- A collector goes run by run: each run ends as its own pieces leave it.
-use Rattle.std.proofs.Common.{◌≡◌, ◌≢◌, ℕ, zero, suc, ◌+◌, ◌<◌, ◌≤◌, ◌⊎◌, cond, eqb, List, [], ◌∷◌, ◌++◌, map, length, set, Option, Some, None, refl, sym, ap, ◌∙◌, subst, inl, inr, ⊎_elim, arith, append-nil, append_assoc, length-set, eq-eqb, ne_eqb}
-use Rattle.std.specs.Prelude.{slice_get, filter, option_map}
-use Rattle.std.specs.List.{range_with_len, flat_map, enumerate_from}
+use Rattle.std.proofs.Common.{◌≡◌, ℕ, zero, suc, ◌+◌, cond, List, [], ◌∷◌, ◌++◌, map, length, set, Option, Some, None, refl, sym, ap, ◌∙◌, ⊎_elim, append-nil, append_assoc, length-set, eq-eqb, ne_eqb}
+use Rattle.std.specs.Prelude.{slice_get}
+use Rattle.std.specs.List.{range_with_len, enumerate_from}
 use Rattle.std.specs.Ordering.{nat_cmp}
 use Rattle.std.specs.BTreeMap.{insert_entry}
-use Rattle.std.proofs.lemmas.Bool.{cases_eq, cases_lt}
+use Rattle.std.proofs.lemmas.Bool.{cases_eq}
 use Rattle.std.proofs.lemmas.List.{length_push}
 use Rattle.sarif_gather.specs.declared.piece.Piece.{Piece}
 use Rattle.sarif_gather.specs.declared.piece.Piece.TheVariants.{Item, Close}
-use Rattle.sarif_gather.specs.Held.{Held, Whole, empty_run, closed_run}
+use Rattle.sarif_gather.specs.Held.{Held, empty_run, closed_run}
 use Rattle.sarif_gather.specs.Piece.{run_in}
 use Rattle.sarif_gather.specs.Pieces.{on_run, pieces_of, whole_run}
 use Rattle.sarif_gather.specs.Collecting.{step_at, set_in, with_piece, run_after, all_after}
-use Rattle.sarif_gather.proofs.Numbering.{insert_next, enumerate-push}
+use Rattle.sarif_gather.proofs.Numbering.{insert_next}
 
 module _ {A : Type 0} where
   pub slice_get-set_same : (xs : List A) (i : ℕ) (x y : A) → slice_get xs i ≡ Some y → slice_get (set xs i x) i ≡ Some x

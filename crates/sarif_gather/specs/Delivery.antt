@@ -1,5 +1,5 @@
 -- The delivery core: what each sender sent is what was taken of it, and then what the mailbox holds of it.
-use Rattle.std.specs.Prelude.{◌≡◌, ℕ, suc, ◌+◌, ◌≤◌, List, [], ◌∷◌, ◌++◌, length}
+use Rattle.std.specs.Prelude.{◌≡◌, ℕ, suc, ◌+◌, ◌≤◌, List, [], ◌++◌, length}
 use mathlib.Core.Option.{some}
 use lib.ListN.{get_elem?}
 use Rattle.sarif_gather.specs.declared.mailbox.rule.View.{View}

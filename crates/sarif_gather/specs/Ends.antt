@@ -5,7 +5,7 @@ use Rattle.sarif_gather.specs.declared.mailbox.Mailbox.{Mailbox}
 use Rattle.sarif_gather.specs.declared.mailbox.ends.Post.{Post}
 use Rattle.sarif_gather.specs.declared.mailbox.ends.Desk.{Desk}
 use Rattle.sarif_gather.specs.Senders.{of_sender}
-use Rattle.sarif_gather.specs.Delivery.{taken_in, made_in, settled_in, number_in, sent_in}
+use Rattle.sarif_gather.specs.Delivery.{taken_in, made_in, settled_in, sent_in}
 
 module _ {P : Type 0} where
   abbrev pub number_of : Post P → ℕ

@@ -1,4 +1,4 @@
-use Rattle.std.proofs.Common.{◌≡◌, ◌<◌, ◌++◌, ℕ, List, true, map, vec_len, replicate, Some, None, sym, ap, ◌∙◌, subst, arith}
+use Rattle.std.proofs.Common.{◌≡◌, ◌++◌, ℕ, List, map, replicate, Some, None, sym, ap, ◌∙◌, subst, arith}
 use Rattle.std.specs.Prelude.{slice_get}
 use Rattle.sarif_gather.specs.declared.piece.Parcel.{Parcel}
 use Rattle.sarif_gather.specs.declared.mailbox.ends.Post.{Post}
@@ -6,7 +6,7 @@ use Rattle.sarif_gather.specs.declared.deal.hand.Hand.{Hand}
 use Rattle.sarif_gather.specs.Claims.{times, total, once_below}
 use Rattle.sarif_gather.specs.Ends.{AreAllPosts, AreWhole, taken_by}
 use Rattle.sarif_gather.specs.Hands.{AreAllHands, drawn_by}
-use Rattle.sarif_gather.specs.Held.{closed_run, empty_run, first_open}
+use Rattle.sarif_gather.specs.Held.{empty_run, first_open}
 use Rattle.sarif_gather.specs.Pieces.{lists_of}
 use Rattle.sarif_gather.proofs.Gatherings.{gathered_at, all_posts, all_hands, marked, collected}
 use Rattle.sarif_gather.proofs.Wholes.{wholes_again, no_open}

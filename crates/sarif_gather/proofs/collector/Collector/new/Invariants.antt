@@ -1,4 +1,4 @@
-use Rattle.std.proofs.Common.{◌≡◌, replicate, map, length, vec_len}
+use Rattle.std.proofs.Common.{◌≡◌, replicate, map, vec_len}
 use Rattle.std.specs.Vec.{vec_capacity}
 use Rattle.sarif_gather.specs.Held.{empty_run}
 use Rattle.sarif_gather.specs.Slot.{held_of}

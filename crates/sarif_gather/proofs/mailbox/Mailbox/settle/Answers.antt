@@ -1,6 +1,6 @@
-use Rattle.std.proofs.Common.{◌≡◌, ◌∷◌, ◌++◌, [], map, sym, ap, ◌∙◌, arith, append_assoc}
+use Rattle.std.proofs.Common.{◌∷◌, ◌++◌, [], map, sym, ap, ◌∙◌, arith, append_assoc}
 use Rattle.sarif_gather.specs.declared.mailbox.rule.View.TheVariants.{Taker}
-use Rattle.sarif_gather.specs.Delivery.{Settles, taken_in, made_in, settled_in}
+use Rattle.sarif_gather.specs.Delivery.{taken_in, made_in, settled_in}
 use Rattle.sarif_gather.specs.Ends.{taken_by, returned}
 use Rattle.sarif_gather.proofs.Deliveries.{takes}
 use Rattle.sarif_gather.proofs.Settlements.{covers, settles_at, settles_at_none, whole}

@@ -1,9 +1,6 @@
-use Rattle.std.proofs.Common.{◌++◌, length, sym, ap, ◌∙◌, arith}
+use Rattle.std.proofs.Common.{length, sym, ap, ◌∙◌, arith}
 use Rattle.std.proofs.lemmas.Bool.{true≢false}
 use Rattle.std.proofs.lemmas.List.{length_push}
-use Rattle.std.specs.Ordering.{nat_cmp}
-use Rattle.std.specs.List.{enumerate_from}
-use Rattle.std.specs.BTreeMap.{insert_entry}
 use Rattle.std.specs.Option.{is_some}
 use Rattle.sarif_gather.specs.Numbers.{has_number, all_from}
 use Rattle.sarif_gather.proofs.Numbering.{absent, insert_next, insert_past_row, all_from_next, all_from-insert}

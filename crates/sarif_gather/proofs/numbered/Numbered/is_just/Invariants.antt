@@ -1,4 +1,4 @@
-use Rattle.std.proofs.Common.{◌≡◌, ◌+◌, ◌≤◌, length}
+use Rattle.std.proofs.Common.{◌≡◌}
 use Rattle.sarif_gather.specs.Numbers.{counts_up}
 use Rattle.sarif_gather.proofs.numbered.Numbered.is_just.Given as goal
 

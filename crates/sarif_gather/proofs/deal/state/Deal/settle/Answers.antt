@@ -1,4 +1,4 @@
-use Rattle.std.proofs.Common.{◌≡◌, ℕ, ◌≤◌, ◌∷◌, ◌++◌, [], length, min, Some, sym, ap, ◌∙◌, subst, arith, length-append}
+use Rattle.std.proofs.Common.{◌∷◌, ◌++◌, [], length, min, sym, ap, ◌∙◌, subst, arith, length-append}
 use Rattle.std.specs.Prelude.{slice_get}
 use Rattle.sarif_gather.specs.declared.deal.rule.HandView.{HandView}
 use Rattle.sarif_gather.specs.Claims.{times, total, once_below, Learns}
