@@ -88,9 +88,6 @@ begins k runs hands =
 
 -- the deal after a draw by a hand that found a run so far
 module _ (k : Terms) (s : State (Unit {0}) HandView) (id : ℕ) (v : HandView) (h : Dealt k s) (at : get_elem? s.views id ≡ some v) (part : 0 < v.parts) (unmarked : v.marks < v.parts) where
-  word_before : ℕ
-  word_before = slice_index s.words 0
-
   small_word : slice_index s.words 0 + 1 < 2 ^ 64
   small_word =
       let marks = total_le (λ u. u.marks) (λ u. u.parts) s.views (λ j u a. (h.each j u a).marks) in
