@@ -19,47 +19,25 @@ fn collector(alloc: Global, runs: u32) -> Result<Collector<u8, u8>, Fail>
     Ok(Collector::new(alloc, runs)?)
 }
 
+fn refused(piece: Piece<u8, u8>, why: Why) -> Result<(), Refused<u8, u8>> {
+    Err(Refused { piece, why })
+}
+
 #[test]
 fn refused_piece_comes_back_with_the_first_reason(rt: HostRuntime) -> Result<(), Fail> {
     let mut all = collector(rt.alloc(), 2)?;
     assert!(rt; all.accept(item(0, 0, 7)).is_ok());
     let doubled = all.accept(item(0, 0, 8));
-    assert_eq!(rt;
-        doubled,
-        Err(Refused {
-            piece: item(0, 0, 8),
-            why: Why::Double
-        })
-    );
-    assert_eq!(rt;
-        all.accept(item(2, 0, 8)),
-        Err(Refused {
-            piece: item(2, 0, 8),
-            why: Why::Stranger
-        })
-    );
-    assert_eq!(rt;
-        all.accept(close(0, 2, 1)),
-        Err(Refused {
-            piece: close(0, 2, 1),
-            why: Why::Short
-        })
-    );
+    assert_eq!(rt; doubled, refused(item(0, 0, 8), Why::Double));
+    let strange = all.accept(item(2, 0, 8));
+    assert_eq!(rt; strange, refused(item(2, 0, 8), Why::Stranger));
+    let short = all.accept(close(0, 2, 1));
+    assert_eq!(rt; short, refused(close(0, 2, 1), Why::Short));
     assert!(rt; all.accept(close(0, 1, 1)).is_ok());
-    assert_eq!(rt;
-        all.accept(item(0, 0, 9)),
-        Err(Refused {
-            piece: item(0, 0, 9),
-            why: Why::AfterClose
-        })
-    );
-    assert_eq!(rt;
-        all.accept(close(0, 1, 1)),
-        Err(Refused {
-            piece: close(0, 1, 1),
-            why: Why::AfterClose
-        })
-    );
+    let late = all.accept(item(0, 0, 9));
+    assert_eq!(rt; late, refused(item(0, 0, 9), Why::AfterClose));
+    let closed = all.accept(close(0, 1, 1));
+    assert_eq!(rt; closed, refused(close(0, 1, 1), Why::AfterClose));
     Ok(())
 }
 
@@ -116,80 +94,30 @@ fn told(alloc: Global, runs: u32, arrivals: Vec<Piece<u8, u8>>) -> Result<u32, C
     Ok(collect(alloc, runs, arrivals)?.runs())
 }
 
+fn fault(at: u32, why: Why) -> Result<u32, CollectFault> {
+    Err(CollectFault { at, why })
+}
+
 #[test]
 fn first_arrival_that_is_refused_is_told(rt: HostRuntime) -> Result<(), Fail> {
     let alloc = rt.alloc();
     let double = vec![in alloc; item(0, 0, 1), item(0, 0, 2)]?;
-    assert_eq!(rt;
-        told(alloc, 1, double),
-        Err(CollectFault {
-            at: 1,
-            why: Why::Double
-        })
-    );
+    assert_eq!(rt; told(alloc, 1, double), fault(1, Why::Double));
     let stranger = vec![in alloc; item(1, 0, 1)]?;
-    assert_eq!(rt;
-        told(alloc, 1, stranger),
-        Err(CollectFault {
-            at: 0,
-            why: Why::Stranger
-        })
-    );
+    assert_eq!(rt; told(alloc, 1, stranger), fault(0, Why::Stranger));
     let late = vec![in alloc; close(0, 0, 1), item(0, 0, 2)]?;
-    assert_eq!(rt;
-        told(alloc, 1, late),
-        Err(CollectFault {
-            at: 1,
-            why: Why::AfterClose
-        })
-    );
+    assert_eq!(rt; told(alloc, 1, late), fault(1, Why::AfterClose));
     let closes = vec![in alloc; close(0, 0, 1), close(0, 0, 2)]?;
-    assert_eq!(rt;
-        told(alloc, 1, closes),
-        Err(CollectFault {
-            at: 1,
-            why: Why::AfterClose
-        })
-    );
+    assert_eq!(rt; told(alloc, 1, closes), fault(1, Why::AfterClose));
     let many = vec![in alloc; item(0, 0, 1), item(0, 1, 2), close(0, 3, 3)]?;
-    assert_eq!(rt;
-        told(alloc, 1, many),
-        Err(CollectFault {
-            at: 2,
-            why: Why::Short
-        })
-    );
+    assert_eq!(rt; told(alloc, 1, many), fault(2, Why::Short));
     let gap = vec![in alloc; item(0, 0, 1), item(0, 2, 2), close(0, 2, 3)]?;
-    assert_eq!(rt;
-        told(alloc, 1, gap),
-        Err(CollectFault {
-            at: 2,
-            why: Why::Short
-        })
-    );
+    assert_eq!(rt; told(alloc, 1, gap), fault(2, Why::Short));
     let again = vec![in alloc; item(0, 0, 1), close(0, 1, 2), item(0, 0, 3)]?;
-    assert_eq!(rt;
-        told(alloc, 1, again),
-        Err(CollectFault {
-            at: 2,
-            why: Why::AfterClose
-        })
-    );
+    assert_eq!(rt; told(alloc, 1, again), fault(2, Why::AfterClose));
     let far = vec![in alloc; item(0, 4294967295, 1), close(0, 1, 2)]?;
-    assert_eq!(rt;
-        told(alloc, 1, far),
-        Err(CollectFault {
-            at: 1,
-            why: Why::Short
-        })
-    );
-    assert_eq!(rt;
-        told(alloc, 1, Vec::new(alloc)),
-        Err(CollectFault {
-            at: 0,
-            why: Why::Unclosed(0)
-        })
-    );
+    assert_eq!(rt; told(alloc, 1, far), fault(1, Why::Short));
+    assert_eq!(rt; told(alloc, 1, Vec::new(alloc)), fault(0, Why::Unclosed(0)));
     assert_eq!(rt; told(alloc, 0, Vec::new(alloc)), Ok(0));
     Ok(())
 }
