@@ -5,7 +5,8 @@ ghost use Rattle.sarif_suppress.specs.Matching as said;
 use crate::conditions::Conditions;
 use sarif_records::{Record, Status, Text};
 
-/// An entry of the suppression file: which results it suppresses, until when, and what is written of it.
+/// An entry of the suppression file: which results it suppresses, until when, and what is written
+/// of it.
 #[derive(Debug, Drop)]
 pub struct Entry {
     /// What the entry asks of a result.
@@ -29,8 +30,8 @@ impl Entry {
         }
     }
 
-    /// Whether the entry matches the result on that day: it isn't expired, and the result meets every
-    /// condition that it names.
+    /// Whether the entry matches the result on that day: it isn't expired, and the result meets
+    /// every condition that it names.
     #[tactic(auto, using(crate::proofs::Meaning::means))]
     pub fn matches(&self, today: Option<u32>, record: &Record) -> bool
         ensures means { IsTrue result ↔ said.Matches today self.now «record».now }

@@ -10,8 +10,9 @@ ghost use Rattle.sarif_suppress.specs.Matching.{is_empty};
 ghost use Rattle.sarif_suppress.specs.Suppressing.{matching};
 ghost use Rattle.sarif_suppress.specs.Written.{object_of, suppressions_of};
 
-/// A test holds of every suppression that is written just where it holds of every own one and of the
-/// object of every entry that matches. So the objects that aren't written again change no such test.
+/// A test holds of every suppression that is written just where it holds of every own one and of
+/// the object of every entry that matches. So the objects that aren't written again change no such
+/// test.
 #[tactic(auto, using(crate::proofs::ObjectTest::written_passes))]
 pub fn written_passes_where_its_parts_do()
     ensures { (accepts : Data → Bool) (own : List Data) (file : File) (r : Record)

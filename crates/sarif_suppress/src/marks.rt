@@ -1,5 +1,5 @@
-//! Marks of the entries that matched a result, so that those that are unused are counted without going
-//! through all results for each of them.
+//! Marks of the entries that matched a result, so that those that are unused are counted without
+//! going through all results for each of them.
 ghost use Rattle.std.specs.Prelude.{◌≡◌, ◌≤◌, ◌++◌, ◌∷◌, [], List, length, false, not, count_by, replicate, IfOk};
 ghost use Rattle.sarif_records.specs.declared.record.Record.{Record};
 ghost use Rattle.sarif_suppress.specs.File.{File};
@@ -10,7 +10,8 @@ use crate::suppressions::Applied;
 use std::alloc::{AllocError, Global};
 use std::marker::Model;
 
-/// For each entry of a suppression file whether it has matched a result. Contracts see the list of marks.
+/// For each entry of a suppression file whether it has matched a result. Contracts see the list of
+/// marks.
 #[derive(Drop)]
 pub struct Marks {
     marks: Vec<bool>,
@@ -56,18 +57,20 @@ impl Marks {
         Ok(Marks { marks })
     }
 
-    /// Sets the marks of the entries that matched a result. Takes no memory. Where the marks were those of
-    /// the results so far, they are then those of these and this one.
+    /// Sets the marks of the entries that matched a result. Takes no memory. Where the marks were
+    /// those of the results so far, they are then those of these and this one.
     pub fn set(&mut self, applied: &Applied)
         ensures marks { self.new ≡ with_marks self.old applied.now.entries }
-        ensures one_more { (file : File) (rs : List Record) (r : Record) → self.old ≡ marks_of file rs
-            → applied.now.entries ≡ matching_numbers file r → self.new ≡ marks_of file (rs ++ r ∷ []) }
+        ensures one_more { (file : File) (rs : List Record) (r : Record)
+            → self.old ≡ marks_of file rs
+            → applied.now.entries ≡ matching_numbers file r
+            → self.new ≡ marks_of file (rs ++ r ∷ []) }
     {
         set_marks(&mut self.marks, applied.entries.as_slice());
     }
 
-    /// How many entries are not marked. Takes no memory. Where the marks are those of all results, these
-    /// are the unused entries.
+    /// How many entries are not marked. Takes no memory. Where the marks are those of all results,
+    /// these are the unused entries.
     pub fn unused(&self) -> u32
         ensures unset { result ≡ count_by (λ mark. not mark) self.now }
         ensures unused { (file : File) (rs : List Record) → self.now ≡ marks_of file rs

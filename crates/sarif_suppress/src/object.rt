@@ -8,8 +8,8 @@ use crate::entry::Entry;
 use serde_json::{Map, Value, json};
 use std::alloc::{AllocError, Global};
 
-/// The object of an entry: its `kind`, which is `external`, its `status`, and its `justification` where it
-/// has one.
+/// The object of an entry: its `kind`, which is `external`, its `status`, and its `justification`
+/// where it has one.
 pub(crate) fn object_of(alloc: Global, entry: &Entry) -> Result<Value, AllocError>
     ensures { IfOk result (λ v. view v ≡ said.object_of entry.now) }
 {
@@ -34,8 +34,8 @@ fn is_string(text: &str, value: &Value) -> bool
 
 /// Whether the members are just these texts, each under its name.
 fn are_just(texts: &[(&str, &str)], members: &Map<String, Value>) -> bool
-    ensures { result
-        ≡ said.are_just (map (λ p. (p.0.now, p.1.now)) texts.now) (members_view members.now.entries) }
+    ensures { result ≡ said.are_just (map (λ p. (p.0.now, p.1.now)) texts.now)
+        (members_view members.now.entries) }
 {
     let mut at = 0;
     for (name, value) in members.iter() {
@@ -131,8 +131,8 @@ fn add_object_at(
     }
 }
 
-/// The list with the objects of the entries of these numbers behind it, without each that equals one that
-/// stands before it.
+/// The list with the objects of the entries of these numbers behind it, without each that equals
+/// one that stands before it.
 pub(crate) fn with_objects(
     alloc: Global,
     own: Vec<Value>,

@@ -1,4 +1,5 @@
-//! Reading an entry of the suppression file. Each check says when it passes and else gives its fault.
+//! Reading an entry of the suppression file. Each check says when it passes and else gives its
+//! fault.
 ghost use Rattle.std.specs.Prelude.{◌≡◌, option_map, Ok, Err, IfOk, IfErr};
 ghost use Rattle.serde_json.specs.View.{view, members_view};
 ghost use Rattle.sarif_records.specs.Members as told;
@@ -131,7 +132,8 @@ fn pairs_at(
     }
 }
 
-/// Whether the number is a day yyyymmdd of the years 1000 to 9999, of a month 1 to 12 and a day 1 to 31.
+/// Whether the number is a day yyyymmdd of the years 1000 to 9999, of a month 1 to 12 and a day 1
+/// to 31.
 fn is_day(number: u64) -> bool
     ensures { result ≡ said.is_day number }
 {
@@ -184,7 +186,8 @@ fn conditions_of(
     entry: &Value,
     wrong: SuppressFault,
 ) -> Result<Conditions, SuppressFault>
-    ensures ok { IfOk result (λ conditions. said.conditions_of wrong (view entry.now) ≡ Ok conditions) }
+    ensures ok { IfOk result
+        (λ conditions. said.conditions_of wrong (view entry.now) ≡ Ok conditions) }
     ensures err { IfErr result (λ fault. ¬ (fault ≡ SuppressFault.OutOfMemory)
         → said.conditions_of wrong (view entry.now) ≡ Err fault) }
 {
@@ -256,7 +259,8 @@ pub(crate) fn read_entry(
     number: u32,
     entry: &Value,
 ) -> Result<Entry, SuppressFault>
-    ensures ok { IfOk result (λ read. said.entry_of version today number (view entry.now) ≡ Ok read) }
+    ensures ok { IfOk result
+        (λ read. said.entry_of version today number (view entry.now) ≡ Ok read) }
     ensures err { IfErr result (λ fault. ¬ (fault ≡ SuppressFault.OutOfMemory)
         → said.entry_of version today number (view entry.now) ≡ Err fault) }
 {

@@ -110,12 +110,12 @@ fn read_value(
     Ok(Suppressions::new(alloc, entries, today)?)
 }
 
-/// Reads a suppression file, an object with `version` and `suppressions`; `docs/formats.md` describes it.
-/// `today` is the day as the number yyyymmdd, if one is known: no clock is read.
+/// Reads a suppression file, an object with `version` and `suppressions`; `docs/formats.md`
+/// describes it. `today` is the day as the number yyyymmdd, if one is known: no clock is read.
 ///
 /// The checks are made in this order, and the first that fails is answered: `NotJson`, `NotList`,
-/// `WrongVersion`, `TooMany`, and then for each entry in turn `BadEntry`, `EmptyMatch` and `NeedsToday`.
-/// `OutOfMemory` may come instead where memory is wanting.
+/// `WrongVersion`, `TooMany`, and then for each entry in turn `BadEntry`, `EmptyMatch` and
+/// `NeedsToday`. `OutOfMemory` may come instead where memory is wanting.
 #[tactic(auto, unfolding(crate::specs::File::file_of))]
 pub fn read_rules(
     alloc: Global,

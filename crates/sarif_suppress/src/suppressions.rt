@@ -89,8 +89,8 @@ impl Suppressions {
         Suppressions::new(alloc, Vec::new(alloc), today)
     }
 
-    /// Which entries match the result, and whether it is then suppressed (SARIF 2.1.0, result object,
-    /// "suppressions property").
+    /// Which entries match the result, and whether it is then suppressed (SARIF 2.1.0, result
+    /// object, "suppressions property").
     #[tactic(auto, using(crate::proofs::Numbered::selected, crate::proofs::Numbered::verdict))]
     pub fn apply(&self, alloc: Global, record: &Record) -> Result<Applied, AllocError>
         ensures entries { IfOk result
@@ -118,8 +118,8 @@ impl Suppressions {
             .count() as u32
     }
 
-    /// The object that is written for entry `n`, counted from 0: its `kind`, which is `external`, its
-    /// `status`, and its `justification` where it has one (SARIF 2.1.0, suppression object).
+    /// The object that is written for entry `n`, counted from 0: its `kind`, which is `external`,
+    /// its `status`, and its `justification` where it has one (SARIF 2.1.0, suppression object).
     pub fn object(&self, alloc: Global, n: u32) -> Result<Value, AllocError>
         requires { n < length self.now.entries }
         ensures { IfOk result
@@ -128,9 +128,9 @@ impl Suppressions {
         object_of(alloc, &self.entries[n as usize])
     }
 
-    /// What is written of a result to which the file was applied: its `own` suppressions as they stand,
-    /// and then the objects of the entries that match, in file order, without each that equals one that
-    /// stands before it.
+    /// What is written of a result to which the file was applied: its `own` suppressions as they
+    /// stand, and then the objects of the entries that match, in file order, without each that
+    /// equals one that stands before it.
     pub fn written(
         &self,
         alloc: Global,

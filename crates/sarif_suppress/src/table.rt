@@ -1,5 +1,5 @@
-//! The numbers of the entries by the rule id that they ask for, so that a result meets only those that may
-//! match it.
+//! The numbers of the entries by the rule id that they ask for, so that a result meets only those
+//! that may match it.
 ghost use Rattle.std.specs.Prelude.{◌≡◌, ◌≤◌, ◌++◌, ◌∷◌, [], List, ℕ, length, bytes_eq, IfOk, OnOk, if◌then◌else◌};
 ghost use Rattle.sarif_suppress.specs.Numbers.{numbers_from, asks_for, asks_for_none};
 ghost use Rattle.sarif_suppress.specs.Table.{numbers_at};
