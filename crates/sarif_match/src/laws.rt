@@ -21,8 +21,8 @@ pub fn keys_are_equal_where_their_parts_are()
     ensures { (a b : Key) → IsTrue (same_key a b) ↔ (parts_of a ≡ parts_of b) }
 {}
 
-/// The fingerprint names of the tiers are just those of the results, each once and in byte order, of
-/// which the tiers have the reverse.
+/// The fingerprint names of the tiers are just those of the results, each once and in byte order,
+/// of which the tiers have the reverse.
 pub fn names_are_sorted()
     ensures rising { (current baseline : List Record) →
         IsStrictlySortedBy (slice_cmp nat_cmp) (rising_names current baseline) }
@@ -31,8 +31,8 @@ pub fn names_are_sorted()
         ≡ (has_name name (names_of current) || has_name name (names_of baseline)) }
 {}
 
-/// A baseline result is a current result's partner exactly where the two are paired at one tier: they
-/// have equal keys at it and equal ranks, and neither had a partner after the tiers before.
+/// A baseline result is a current result's partner exactly where the two are paired at one tier:
+/// they have equal keys at it and equal ranks, and neither had a partner after the tiers before.
 pub fn partners_are_paired_at_one_tier()
     ensures { (current baseline : List Record) (i j : ℕ) →
         (slice_index_or (partners_of current baseline) i None ≡ Some j)
@@ -58,8 +58,8 @@ pub fn partners_depend_on_the_two_lists_alone(
     ensures { one.now ≡ other.now }
 {}
 
-/// A result that has a partner is unchanged exactly where kind, effective level, message and place are
-/// those of the partner.
+/// A result that has a partner is unchanged exactly where kind, effective level, message and place
+/// are those of the partner.
 pub fn unchanged_results_are_equal()
     ensures { (now before : Record) →
         (state_of now (Some before) ≡ Unchanged) ↔ IsUnchanged now before }

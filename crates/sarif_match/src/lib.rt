@@ -1,4 +1,5 @@
-//! Which results of a merge are new: current results are paired with those of a baseline, tier by tier.
+//! Which results of a merge are new: current results are paired with those of a baseline, tier by
+//! tier.
 #![tactic(auto)]
 
 mod keys;

@@ -13,8 +13,8 @@ use sarif_records::Record;
 use std::alloc::{AllocError, Global};
 use std::marker::Model;
 
-/// Which baseline result each current result is paired with. Contracts see the list of partners: for each
-/// current result the number of its partner in the baseline, or none.
+/// Which baseline result each current result is paired with. Contracts see the list of partners:
+/// for each current result the number of its partner in the baseline, or none.
 #[derive(Drop)]
 pub struct Matching {
     partners: Vec<Option<u32>>,
@@ -26,7 +26,8 @@ impl Model for Matching {
 
     ghost view = { λ m. m.partners.items };
 
-    ghost invariant = { λ m. (j : ℕ) → slice_index_or m.taken.items j false ≡ is_taken m.partners.items j };
+    ghost invariant = { λ m. (j : ℕ) →
+        slice_index_or m.taken.items j false ≡ is_taken m.partners.items j };
 }
 
 impl Matching {
@@ -45,9 +46,9 @@ impl Matching {
     }
 }
 
-/// Pairs each current result with at most one baseline result, tier by tier. At each tier the results
-/// that are left over are paired where their keys are equal, the first with the first, the second with
-/// the second, and so on. Each list has at most 1,000,000 results.
+/// Pairs each current result with at most one baseline result, tier by tier. At each tier the
+/// results that are left over are paired where their keys are equal, the first with the first, the
+/// second with the second, and so on. Each list has at most 1,000,000 results.
 pub fn match_all<'a>(
     alloc: Global,
     current: &'a [Record],
@@ -82,11 +83,13 @@ fn match_tier<'a>(
 ) -> Result<(), AllocError>
     requires current { IsIndexed current.now }
     requires baseline { IsIndexed baseline.now }
-    requires sound { IsSound (length current.now.findings.now) (length baseline.now.findings.now) progress.old }
-    ensures sound { OnOk result
-        (IsSound (length current.now.findings.now) (length baseline.now.findings.now) progress.new) }
+    requires sound { IsSound (length current.now.findings.now)
+        (length baseline.now.findings.now) progress.old }
+    ensures sound { OnOk result (IsSound (length current.now.findings.now)
+        (length baseline.now.findings.now) progress.new) }
     ensures paired { OnOk result (progress.new.partners.items
-        ≡ after_tier current.now.findings.now baseline.now.findings.now progress.old.partners.items tier.now) }
+        ≡ after_tier current.now.findings.now baseline.now.findings.now
+        progress.old.partners.items tier.now) }
 {
     let left = current.left_over(alloc, tier, &progress.paired)?;
     let free = baseline.left_over(alloc, tier, &progress.taken)?;

@@ -7,8 +7,8 @@ use crate::queues::{queues_of, take_first};
 use crate::tier_key::Key;
 use std::alloc::{AllocError, Global};
 
-/// Pairs each current result with the baseline result that has its key and stands behind as many others
-/// with that key. Both lists hold what is left over and has a key, in rising order.
+/// Pairs each current result with the baseline result that has its key and stands behind as many
+/// others with that key. Both lists hold what is left over and has a key, in rising order.
 pub(crate) fn pair_up<'a>(
     alloc: Global,
     current: &[(u32, Key<'a>)],

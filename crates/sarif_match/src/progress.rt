@@ -37,9 +37,11 @@ impl Progress {
 
     /// Puts these pairs in.
     pub(crate) fn put_pairs(&mut self, pairs: &[(u32, u32)])
-        requires sound { IsSound (length self.old.partners.items) (length self.old.taken.items) self.old }
+        requires sound { IsSound (length self.old.partners.items)
+            (length self.old.taken.items) self.old }
         requires fits { Fits (length self.old.taken.items) self.old.partners.items pairs.now }
-        ensures sound { IsSound (length self.old.partners.items) (length self.old.taken.items) self.new }
+        ensures sound { IsSound (length self.old.partners.items)
+            (length self.old.taken.items) self.new }
         ensures put { self.new.partners.items ≡ put_all self.old.partners.items pairs.now }
     {
         for (i, j) in pairs {
@@ -49,11 +51,13 @@ impl Progress {
 
     /// Makes baseline result `j` the partner of current result `i`.
     fn put_pair(&mut self, i: u32, j: u32)
-        requires sound { IsSound (length self.old.partners.items) (length self.old.taken.items) self.old }
+        requires sound { IsSound (length self.old.partners.items)
+            (length self.old.taken.items) self.old }
         requires current { i < length self.old.partners.items }
         requires left { has_partner self.old.partners.items i ≡ false }
         requires baseline { j < length self.old.taken.items }
-        ensures sound { IsSound (length self.old.partners.items) (length self.old.taken.items) self.new }
+        ensures sound { IsSound (length self.old.partners.items)
+            (length self.old.taken.items) self.new }
         ensures put { self.new.partners.items ≡ slice_set self.old.partners.items i (Some j) }
     {
         self.partners[i as usize] = Some(j);

@@ -14,7 +14,8 @@ pub(crate) fn queues_of<'a>(
     alloc: Global,
     baseline: &[(u32, Key<'a>)],
 ) -> Result<IndexMap<Key<'a>, VecDeque<u32>>, AllocError>
-    ensures { IfOk result (λ queues. (q : Key) → queue_at queues q ≡ places same_key q baseline.now) }
+    ensures { IfOk result (λ queues. (q : Key)
+        → queue_at queues q ≡ places same_key q baseline.now) }
 {
     let mut queues = IndexMap::new(alloc);
     for (number, key) in baseline {
@@ -31,7 +32,9 @@ fn add_last<'a>(
     number: u32,
 ) -> Result<(), AllocError>
     ensures { OnOk result ((q : Key) → queue_at queues.new q
-        ≡ (if same_key key.entry q then queue_at queues.old q ++ number ∷ [] else queue_at queues.old q)) }
+        ≡ (if same_key key.entry q
+        then queue_at queues.old q ++ number ∷ []
+        else queue_at queues.old q)) }
 {
     if let Some(queue) = queues.get_mut(&key) {
         queue.push_back(number)?;

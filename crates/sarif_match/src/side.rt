@@ -32,8 +32,8 @@ impl<'a> Side<'a> {
         Ok(Side { findings, named })
     }
 
-    /// The results that have a key at the tier and no mark, with their numbers and keys, in order. The
-    /// tier of a fingerprint visits only those that carry its name.
+    /// The results that have a key at the tier and no mark, with their numbers and keys, in order.
+    /// The tier of a fingerprint visits only those that carry its name.
     pub(crate) fn left_over(
         &self,
         alloc: Global,

@@ -46,7 +46,8 @@ fn add_names_of<'a>(
     fingerprints: &'a [(Text, Text)],
 ) -> Result<(), AllocError>
     ensures { OnOk result (map (λ name. name.now) (keys names.new)
-        ≡ with_names (map (λ name. name.now) (keys names.old)) (map (λ pair. pair.0) fingerprints.now)) }
+        ≡ with_names (map (λ name. name.now) (keys names.old))
+        (map (λ pair. pair.0) fingerprints.now)) }
 {
     for (name, _) in fingerprints {
         names.insert(name)?;

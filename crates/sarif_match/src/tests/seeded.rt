@@ -1,5 +1,5 @@
-//! The matching beside one that follows the rule word by word, on lists drawn by a seeded generator, and
-//! on long lists.
+//! The matching beside one that follows the rule word by word, on lists drawn by a seeded
+//! generator, and on long lists.
 use super::matched;
 use super::sketch::{A, Sketch, record, records};
 use crate::{Tier, key, state, tiers};
