@@ -1,4 +1,5 @@
-//! The suppression file of `sarif_gate`: which entries a result matches, and what is written of them.
+//! The suppression file of `sarif_gate`: which entries a result matches, and what is written of
+//! them.
 #![tactic(auto)]
 
 mod conditions;
@@ -12,6 +13,8 @@ mod read_file;
 mod select;
 mod suppressions;
 mod table;
+#[cfg(test)]
+mod tests;
 mod version;
 
 pub use conditions::Conditions;

@@ -1,0 +1,136 @@
+use super::{expect_written, result_at, rules_of, with_own};
+use sarif_records::Status;
+use std::test::Fail;
+
+const ACCEPTED: &str = "[{\"kind\":\"external\",\"status\":\"accepted\"}]";
+
+const IN_SOURCE: &str = "[{\"kind\":\"inSource\"}]";
+
+#[test]
+fn one_suppression_under_review_keeps_a_result_active(rt: HostRuntime) -> Result<(), Fail> {
+    let entries = "{\"ruleId\":\"R2\",\"status\":\"rejected\"}";
+    let rules = rules_of(rt.alloc(), 1, entries, None)?;
+    let finding = with_own(result_at(rt.alloc(), "", None)?, Status::Accepted)?;
+    let finding = with_own(finding, Status::UnderReview)?;
+    let own = "[{\"kind\":\"inSource\"},{\"kind\":\"external\",\"status\":\"underReview\"}]";
+    expect_written(&rt, &rules, &finding, own, (own, false))
+}
+
+#[test]
+fn a_rejected_entry_keeps_a_result_active(rt: HostRuntime) -> Result<(), Fail> {
+    let entries = "{\"ruleId\":\"R2\",\"status\":\"rejected\"}";
+    let rules = rules_of(rt.alloc(), 1, entries, None)?;
+    let finding = with_own(result_at(rt.alloc(), "R2", None)?, Status::Accepted)?;
+    let list = "[{\"kind\":\"inSource\"},{\"kind\":\"external\",\"status\":\"rejected\"}]";
+    expect_written(&rt, &rules, &finding, IN_SOURCE, (list, false))?;
+    let finding = with_own(result_at(rt.alloc(), "R3", None)?, Status::Accepted)?;
+    expect_written(&rt, &rules, &finding, IN_SOURCE, (IN_SOURCE, true))
+}
+
+#[test]
+fn a_result_without_a_suppression_is_active(rt: HostRuntime) -> Result<(), Fail> {
+    let rules = rules_of(rt.alloc(), 1, "{\"ruleId\":\"NOPE\"}", None)?;
+    let finding = result_at(rt.alloc(), "", None)?;
+    expect_written(&rt, &rules, &finding, "[]", ("[]", false))?;
+    assert_eq!(rt; rules.unused(&[finding]), 1);
+    Ok(())
+}
+
+#[test]
+fn entries_of_two_statuses_are_both_written(rt: HostRuntime) -> Result<(), Fail> {
+    let entries = "{\"ruleId\":\"R1\"},{\"tool\":\"lint\",\"status\":\"rejected\"}";
+    let rules = rules_of(rt.alloc(), 1, entries, None)?;
+    let list = "[{\"kind\":\"external\",\"status\":\"accepted\"},\
+         {\"kind\":\"external\",\"status\":\"rejected\"}]";
+    let finding = result_at(rt.alloc(), "R1", None)?;
+    expect_written(&rt, &rules, &finding, "[]", (list, false))
+}
+
+#[test]
+fn equal_objects_are_written_once(rt: HostRuntime) -> Result<(), Fail> {
+    let rules = rules_of(
+        rt.alloc(),
+        1,
+        "{\"ruleId\":\"R1\"},{\"tool\":\"lint\"}",
+        None,
+    )?;
+    let finding = result_at(rt.alloc(), "R1", None)?;
+    expect_written(&rt, &rules, &finding, "[]", (ACCEPTED, true))?;
+    assert_eq!(rt; rules.unused(&[finding]), 0);
+    let finding = with_own(result_at(rt.alloc(), "R1", None)?, Status::Accepted)?;
+    expect_written(&rt, &rules, &finding, ACCEPTED, (ACCEPTED, true))?;
+    assert_eq!(rt; rules.unused(&[finding]), 0);
+    Ok(())
+}
+
+#[test]
+fn own_suppressions_stay_as_they_stand(rt: HostRuntime) -> Result<(), Fail> {
+    let rules = rules_of(
+        rt.alloc(),
+        1,
+        "{\"ruleId\":\"R1\",\"justification\":\"j\"}",
+        None,
+    )?;
+    let finding = with_own(result_at(rt.alloc(), "R1", None)?, Status::Accepted)?;
+    for own in [
+        "{\"kind\":\"inSource\"},{\"kind\":\"inSource\"}",
+        "{\"justification\":null,\"kind\":\"external\",\"status\":\"accepted\"}",
+        "{\"justification\":\"j\",\"kind\":\"external\"}",
+        "{\"justification\":\"j\",\"kind\":\"inSource\",\"status\":\"accepted\"}",
+        "{\"justification\":\"k\",\"kind\":\"external\",\"status\":\"accepted\"}",
+        "{\"guid\":\"g\",\"justification\":\"j\",\"kind\":\"external\",\"status\":\"accepted\"}",
+        "{\"justification\":\"j\",\"kind\":\"external\",\"status\":\"accepted\",\"z\":1}",
+    ] {
+        let before = format!(in rt.alloc(); "[{own}]")?;
+        let after = format!(in rt.alloc();
+            "[{own},{{\"justification\":\"j\",\"kind\":\"external\",\"status\":\"accepted\"}}]"
+        )?;
+        expect_written(
+            &rt,
+            &rules,
+            &finding,
+            before.as_str(),
+            (after.as_str(), true),
+        )?;
+    }
+    Ok(())
+}
+
+#[test]
+fn entries_are_applied_in_file_order(rt: HostRuntime) -> Result<(), Fail> {
+    let entries = "{\"tool\":\"lint\",\"justification\":\"c\"},{\"ruleId\":\"R2\"},\
+         {\"ruleId\":\"R1\",\"justification\":\"a\"},{\"tool\":\"lint\",\"status\":\"underReview\"}";
+    let rules = rules_of(rt.alloc(), 1, entries, None)?;
+    let finding = result_at(rt.alloc(), "R1", None)?;
+    let applied = rules.apply(rt.alloc(), &finding)?;
+    assert!(rt; applied.entries.as_slice() == [0, 2, 3].as_slice());
+    let list = "[{\"justification\":\"c\",\"kind\":\"external\",\"status\":\"accepted\"},\
+         {\"justification\":\"a\",\"kind\":\"external\",\"status\":\"accepted\"},\
+         {\"kind\":\"external\",\"status\":\"underReview\"}]";
+    expect_written(&rt, &rules, &finding, "[]", (list, false))
+}
+
+#[test]
+fn marks_count_what_no_result_used(rt: HostRuntime) -> Result<(), Fail> {
+    let entries = "{\"ruleId\":\"R1\"},{\"ruleId\":\"R2\"},{\"tool\":\"lint\"}";
+    let rules = rules_of(rt.alloc(), 1, entries, None)?;
+    let mut marks = rules.marks(rt.alloc())?;
+    assert_eq!(rt; marks.unused(), 3);
+    marks.set(&rules.apply(rt.alloc(), &result_at(rt.alloc(), "R3", None)?)?);
+    assert_eq!(rt; marks.unused(), 2);
+    marks.set(&rules.apply(rt.alloc(), &result_at(rt.alloc(), "R1", None)?)?);
+    assert_eq!(rt; marks.unused(), 1);
+    Ok(())
+}
+
+#[test]
+fn an_object_has_its_justification_where_there_is_one(rt: HostRuntime) -> Result<(), Fail> {
+    let entries = "{\"tool\":\"a\",\"status\":\"underReview\",\"justification\":\"\"}";
+    let rules = rules_of(rt.alloc(), 1, entries, None)?;
+    assert_eq!(rt; rules.len(), 1);
+    assert!(rt; !rules.is_empty());
+    let text = rules.object(rt.alloc(), 0)?.to_string(rt.alloc())?;
+    let wanted = "{\"justification\":\"\",\"kind\":\"external\",\"status\":\"underReview\"}";
+    assert_eq!(rt; text.as_str(), wanted);
+    Ok(())
+}
