@@ -1,7 +1,7 @@
 -- What the test of an entry against a result means.
-use Rattle.std.proofs.Common.{◌≡◌, ℕ, zero, suc, ◌<◌, ◌≤◌, Bool, true, false, not, ◌&&◌, ◌||◌, List, [], ◌∷◌, ◌++◌, take, drop, length, Option, Some, None, nat_eq, nat_lt, bytes_eq, refl, sym, ap, subst, ◌∙◌, arith}
+use Rattle.std.proofs.Common.{◌≡◌, ℕ, zero, suc, ◌≤◌, Bool, true, false, not, ◌&&◌, ◌||◌, List, [], ◌∷◌, ◌++◌, take, drop, length, Option, Some, None, nat_lt, refl, sym, ap, ◌∙◌, arith}
 use Rattle.std.specs.Bool.{Decides}
-use Rattle.std.specs.List.{All, Contains, list_any, list_all, starts_with}
+use Rattle.std.specs.List.{All, Contains, list_any}
 use Rattle.std.proofs.Math.Seq.{take-append_seam}
 use Rattle.std.proofs.lemmas.Bool.{false≢true, eqb-true, eq-eqb}
 use Rattle.std.proofs.lemmas.Bool.Decides.{nat_tests, Decides-by_and}
@@ -12,7 +12,7 @@ use Rattle.std.proofs.lemmas.Slice.Eq.{bytes_eq-Decides}
 use Rattle.sarif_records.specs.declared.record.Record.{Record}
 use Rattle.sarif_suppress.specs.declared.conditions.Conditions.{Conditions}
 use Rattle.sarif_suppress.specs.declared.entry.Entry.{Entry}
-use Rattle.sarif_suppress.specs.Matching.{is_text, is_there, begins, is_guid, is_pair, are_among, hold, is_past, is_expired, matches, Meets, Matches}
+use Rattle.sarif_suppress.specs.Matching.{is_text, is_there, begins, is_guid, is_pair, are_among, hold, is_past, matches, Meets, Matches}
 
 and_means : {A B : Type 0} (a b : Bool) → Decides a A → Decides b B → Decides (a && b) (A × B)
 and_means true b first second = (λ t. (first.0 refl, second.0 t), λ p. second.1 p.1)

@@ -1,18 +1,17 @@
 -- The numbers of entries: what stands at each, and the two lists of the table as one.
-use Rattle.std.proofs.Common.{◌≡◌, ℕ, ◌+◌, ◌<◌, ◌≤◌, Bool, true, false, not, ◌&&◌, ◌||◌, List, [], ◌∷◌, ◌++◌, map, filter, length, Option, Some, None, nat_lt, bytes_eq, refl, sym, ap, ◌∙◌, arith, cond, if◌then◌else◌}
+use Rattle.std.proofs.Common.{◌≡◌, ℕ, ◌+◌, ◌<◌, Bool, true, false, not, ◌&&◌, ◌||◌, List, [], ◌∷◌, ◌++◌, map, filter, length, Option, Some, None, nat_lt, bytes_eq, refl, sym, ap, ◌∙◌, arith, if◌then◌else◌}
 use Rattle.std.specs.Prelude.{slice_get}
-use Rattle.std.specs.Option.{option_map_or}
 use Rattle.std.specs.List.{list_all}
 use Rattle.std.proofs.Math.Seq.{get_or-append_seam}
 use Rattle.std.proofs.lemmas.Bool.Decides.{nat_tests}
-use Rattle.std.proofs.lemmas.List.{append-nil, append_assoc, length-append}
+use Rattle.std.proofs.lemmas.List.{append_assoc, length-append}
 use Rattle.std.proofs.lemmas.List.Folds.{list_all-append}
 use Rattle.std.proofs.lemmas.Option.{slice_get-get_or}
 use Rattle.sarif_records.specs.declared.kinds.Status.{Status}
 use Rattle.sarif_records.specs.declared.record.Record.{Record}
 use Rattle.sarif_suppress.specs.declared.entry.Entry.{Entry}
 use Rattle.sarif_suppress.specs.Matching.{is_text, is_empty, matches}
-use Rattle.sarif_suppress.specs.Numbers.{numbers_from, is_rule, is_no_rule, asks_for, asks_for_none, before, merged, passes_at}
+use Rattle.sarif_suppress.specs.Numbers.{numbers_from, is_rule, is_no_rule, asks_for, asks_for_none, merged, passes_at}
 use Rattle.sarif_suppress.specs.Suppressing.{is_accepted, suppresses}
 use Rattle.sarif_suppress.specs.Written.{with_object, with_object_if, with_objects, with_objects_at}
 use Rattle.serde_json.specs.Data.{Data}

@@ -109,7 +109,8 @@ fn array_of(alloc: Global, text: &str) -> Vec<Value> {
     }
 }
 
-/// Asserts what is written of a result with these suppressions of its own, and whether it is suppressed.
+/// Asserts what is written of a result with these suppressions of its own, and whether it is
+/// suppressed.
 fn expect_written(
     rt: &(impl Abort + AllocGlobal),
     rules: &Suppressions,

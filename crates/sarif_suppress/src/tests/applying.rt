@@ -1,5 +1,8 @@
 use super::{expect_written, result_at, rules_of, with_own};
-use sarif_records::Status;
+use crate::{Marks, Suppressions};
+use sarif_records::{Record, Status};
+use std::alloc::{AllocError, Global};
+use std::process::Abort;
 use std::test::Fail;
 
 const ACCEPTED: &str = "[{\"kind\":\"external\",\"status\":\"accepted\"}]";
@@ -63,35 +66,37 @@ fn equal_objects_are_written_once(rt: HostRuntime) -> Result<(), Fail> {
     Ok(())
 }
 
+/// Asserts that after these own suppressions the object of the entry is written.
+fn expect_kept(
+    rt: &(impl Abort + AllocGlobal),
+    rules: &Suppressions,
+    finding: &Record,
+    own: &str,
+) -> Result<(), Fail> {
+    let object = "{\"justification\":\"j\",\"kind\":\"external\",\"status\":\"accepted\"}";
+    let before = format!(in rt.alloc(); "[{own}]")?;
+    let after = format!(in rt.alloc(); "[{own},{object}]")?;
+    expect_written(rt, rules, finding, before.as_str(), (after.as_str(), true))
+}
+
+/// Lists of own suppressions, none of which equals the object of an entry with the reason `j`.
+const OTHERS: [&str; 7] = [
+    "{\"kind\":\"inSource\"},{\"kind\":\"inSource\"}",
+    "{\"justification\":null,\"kind\":\"external\",\"status\":\"accepted\"}",
+    "{\"justification\":\"j\",\"kind\":\"external\"}",
+    "{\"justification\":\"j\",\"kind\":\"inSource\",\"status\":\"accepted\"}",
+    "{\"justification\":\"k\",\"kind\":\"external\",\"status\":\"accepted\"}",
+    "{\"guid\":\"g\",\"justification\":\"j\",\"kind\":\"external\",\"status\":\"accepted\"}",
+    "{\"justification\":\"j\",\"kind\":\"external\",\"status\":\"accepted\",\"z\":1}",
+];
+
 #[test]
 fn own_suppressions_stay_as_they_stand(rt: HostRuntime) -> Result<(), Fail> {
-    let rules = rules_of(
-        rt.alloc(),
-        1,
-        "{\"ruleId\":\"R1\",\"justification\":\"j\"}",
-        None,
-    )?;
+    let entry = "{\"ruleId\":\"R1\",\"justification\":\"j\"}";
+    let rules = rules_of(rt.alloc(), 1, entry, None)?;
     let finding = with_own(result_at(rt.alloc(), "R1", None)?, Status::Accepted)?;
-    for own in [
-        "{\"kind\":\"inSource\"},{\"kind\":\"inSource\"}",
-        "{\"justification\":null,\"kind\":\"external\",\"status\":\"accepted\"}",
-        "{\"justification\":\"j\",\"kind\":\"external\"}",
-        "{\"justification\":\"j\",\"kind\":\"inSource\",\"status\":\"accepted\"}",
-        "{\"justification\":\"k\",\"kind\":\"external\",\"status\":\"accepted\"}",
-        "{\"guid\":\"g\",\"justification\":\"j\",\"kind\":\"external\",\"status\":\"accepted\"}",
-        "{\"justification\":\"j\",\"kind\":\"external\",\"status\":\"accepted\",\"z\":1}",
-    ] {
-        let before = format!(in rt.alloc(); "[{own}]")?;
-        let after = format!(in rt.alloc();
-            "[{own},{{\"justification\":\"j\",\"kind\":\"external\",\"status\":\"accepted\"}}]"
-        )?;
-        expect_written(
-            &rt,
-            &rules,
-            &finding,
-            before.as_str(),
-            (after.as_str(), true),
-        )?;
+    for own in OTHERS {
+        expect_kept(&rt, &rules, &finding, own)?;
     }
     Ok(())
 }
@@ -99,7 +104,8 @@ fn own_suppressions_stay_as_they_stand(rt: HostRuntime) -> Result<(), Fail> {
 #[test]
 fn entries_are_applied_in_file_order(rt: HostRuntime) -> Result<(), Fail> {
     let entries = "{\"tool\":\"lint\",\"justification\":\"c\"},{\"ruleId\":\"R2\"},\
-         {\"ruleId\":\"R1\",\"justification\":\"a\"},{\"tool\":\"lint\",\"status\":\"underReview\"}";
+         {\"ruleId\":\"R1\",\"justification\":\"a\"},\
+         {\"tool\":\"lint\",\"status\":\"underReview\"}";
     let rules = rules_of(rt.alloc(), 1, entries, None)?;
     let finding = result_at(rt.alloc(), "R1", None)?;
     let applied = rules.apply(rt.alloc(), &finding)?;
@@ -110,15 +116,28 @@ fn entries_are_applied_in_file_order(rt: HostRuntime) -> Result<(), Fail> {
     expect_written(&rt, &rules, &finding, "[]", (list, false))
 }
 
+/// Sets the marks of a result with that rule id.
+fn mark(
+    alloc: Global,
+    rules: &Suppressions,
+    marks: &mut Marks,
+    rule_id: &str,
+) -> Result<(), AllocError> {
+    let finding = result_at(alloc, rule_id, None)?;
+    let applied = rules.apply(alloc, &finding)?;
+    marks.set(&applied);
+    Ok(())
+}
+
 #[test]
 fn marks_count_what_no_result_used(rt: HostRuntime) -> Result<(), Fail> {
     let entries = "{\"ruleId\":\"R1\"},{\"ruleId\":\"R2\"},{\"tool\":\"lint\"}";
     let rules = rules_of(rt.alloc(), 1, entries, None)?;
     let mut marks = rules.marks(rt.alloc())?;
     assert_eq!(rt; marks.unused(), 3);
-    marks.set(&rules.apply(rt.alloc(), &result_at(rt.alloc(), "R3", None)?)?);
+    mark(rt.alloc(), &rules, &mut marks, "R3")?;
     assert_eq!(rt; marks.unused(), 2);
-    marks.set(&rules.apply(rt.alloc(), &result_at(rt.alloc(), "R1", None)?)?);
+    mark(rt.alloc(), &rules, &mut marks, "R1")?;
     assert_eq!(rt; marks.unused(), 1);
     Ok(())
 }

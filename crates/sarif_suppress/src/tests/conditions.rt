@@ -1,5 +1,5 @@
 use super::{all_match, expect_written, result_at, rules_of};
-use sarif_records::{Sequence, Text};
+use sarif_records::{Record, Sequence, Text};
 use std::alloc::{AllocError, Global};
 use std::process::Abort;
 use std::test::Fail;
@@ -66,13 +66,19 @@ fn a_guid_is_compared_as_a_number(rt: HostRuntime) -> Result<(), Fail> {
     Ok(())
 }
 
-#[test]
-fn each_fingerprint_must_stand_with_its_value(rt: HostRuntime) -> Result<(), Fail> {
-    let alloc = rt.alloc();
+/// A result with two fingerprints and a partial one.
+fn fingerprinted(alloc: Global) -> Result<Record, AllocError> {
     let mut finding = result_at(alloc, "R1", None)?;
     add_pair(alloc, &mut finding.full, "a/v1", "x")?;
     add_pair(alloc, &mut finding.full, "a/v2", "y")?;
     add_pair(alloc, &mut finding.partial, "p/v1", "z")?;
+    Ok(finding)
+}
+
+#[test]
+fn each_fingerprint_must_stand_with_its_value(rt: HostRuntime) -> Result<(), Fail> {
+    let alloc = rt.alloc();
+    let finding = fingerprinted(alloc)?;
     let same = [
         "{\"fingerprints\":{\"a/v2\":\"y\"}}",
         "{\"fingerprints\":{\"a/v1\":\"x\",\"a/v2\":\"y\",\"b\":null}}",
@@ -90,8 +96,8 @@ fn each_fingerprint_must_stand_with_its_value(rt: HostRuntime) -> Result<(), Fai
     Ok(())
 }
 
-/// Asserts whether an entry for `gen/` that ends on 31 January 2025 suppresses a result at that uri on
-/// that day.
+/// Asserts whether an entry for `gen/` that ends on 31 January 2025 suppresses a result at that uri
+/// on that day.
 fn expect_on(
     rt: &(impl Abort + AllocGlobal),
     uri: &str,

@@ -1,4 +1,4 @@
-use Rattle.std.proofs.Common.{rules, arith}
+use Rattle.std.proofs.Common.{arith}
 use Rattle.std.proofs.lemmas.Grind.{common_steps}
 use Rattle.sarif_suppress.proofs.Marked.{one_more}
 use Rattle.sarif_suppress.proofs.marks.Marks.set.Goals as goal

@@ -1,6 +1,6 @@
-use Rattle.std.proofs.Common.{◌≡◌, ◌∙◌, sym, ap, rules}
+use Rattle.std.proofs.Common.{◌≡◌, ◌∙◌}
 use Rattle.sarif_suppress.specs.Matching.{matches}
-use Rattle.sarif_suppress.specs.Numbers.{numbers_from, asks_for, asks_for_none, merged}
+use Rattle.sarif_suppress.specs.Numbers.{numbers_from, asks_for, asks_for_none}
 use Rattle.sarif_suppress.proofs.Numbered.{selected, verdict}
 use Rattle.sarif_suppress.proofs.suppressions.Suppressions.apply.Goals as goal
 
