@@ -1,4 +1,5 @@
-//! Rows worked by hand, the texts of faults, and what no clause can say: that workers overlap, and the bound on what waits.
+//! Rows worked by hand, the texts of faults, and what no clause can say: that workers overlap, and
+//! the bound on what waits.
 mod baselines;
 mod counting;
 mod faults;

@@ -262,8 +262,10 @@ fn baselines_are_matched_together(rt: HostRuntime) -> Result<(), Fail> {
 #[test]
 fn matched_results_of_a_baseline_are_left_out(rt: HostRuntime) -> Result<(), Fail> {
     let other = r#"{"message":{"text":"m"},"ruleId":"R2"}"#;
-    let gone =
-        r#"{"baselineState":"absent","level":"warning","message":{"text":"m"},"ruleId":"R2","suppressions":[]}"#;
+    let gone = concat!(
+        r#"{"baselineState":"absent","level":"warning","#,
+        r#""message":{"text":"m"},"ruleId":"R2","suppressions":[]}"#
+    );
     let log = log_of(rt.alloc(), &[Run("lint", &[A])])?;
     let baseline = log_of(
         rt.alloc(),

@@ -15,14 +15,20 @@ pub const M: &str = r#"{"message":{"text":"m"}}"#;
 pub const A: &str = r#"{"message":{"text":"m"},"ruleId":"R1"}"#;
 
 /// The same as it is written.
-pub const A_NEW: &str =
-    r#"{"baselineState":"new","level":"warning","message":{"text":"m"},"ruleId":"R1","suppressions":[]}"#;
+pub const A_NEW: &str = concat!(
+    r#"{"baselineState":"new","level":"warning","#,
+    r#""message":{"text":"m"},"ruleId":"R1","suppressions":[]}"#
+);
 
-pub const A_UNCHANGED: &str =
-    r#"{"baselineState":"unchanged","level":"warning","message":{"text":"m"},"ruleId":"R1","suppressions":[]}"#;
+pub const A_UNCHANGED: &str = concat!(
+    r#"{"baselineState":"unchanged","level":"warning","#,
+    r#""message":{"text":"m"},"ruleId":"R1","suppressions":[]}"#
+);
 
-pub const A_ABSENT: &str =
-    r#"{"baselineState":"absent","level":"warning","message":{"text":"m"},"ruleId":"R1","suppressions":[]}"#;
+pub const A_ABSENT: &str = concat!(
+    r#"{"baselineState":"absent","level":"warning","#,
+    r#""message":{"text":"m"},"ruleId":"R1","suppressions":[]}"#
+);
 
 /// What a merge is given.
 #[derive(Clone, Copy)]
@@ -54,8 +60,9 @@ pub const NOTHING: Given = Given {
     workers: 1,
 };
 
-/// What a merged log holds that passes the default policy without a hit: its active results by state, the new
-/// ones that are suppressed, each as the numbers of errors, warnings, notes and others, and its runs.
+/// What a merged log holds that passes the default policy without a hit: its active results by
+/// state and the new ones that are suppressed, each as the numbers of errors, warnings, notes and
+/// others, and its runs.
 #[derive(Clone, Copy)]
 pub struct Wanted<'a> {
     pub absent: &'a str,

@@ -102,8 +102,10 @@ fn what_is_no_failure_has_no_level(rt: HostRuntime) -> Result<(), Fail> {
         logs: &logs,
         ..NOTHING
     };
-    let written =
-        r#"{"baselineState":"new","kind":"pass","level":"none","message":{"text":"m"},"suppressions":[]}"#;
+    let written = concat!(
+        r#"{"baselineState":"new","kind":"pass","level":"none","#,
+        r#""message":{"text":"m"},"suppressions":[]}"#
+    );
     let runs = runs(rt.alloc(), &[Run("lint", &[written])])?;
     let wanted = Wanted {
         new: "0,0,0,1",
@@ -114,7 +116,8 @@ fn what_is_no_failure_has_no_level(rt: HostRuntime) -> Result<(), Fail> {
     Ok(())
 }
 
-/// A run of a rule of the level `note`, with an override of this configuration and a result with these members.
+/// A run of a rule of the level `note`, with an override of this configuration and a result with
+/// these members.
 fn run_with(rt: &impl AllocGlobal, configuration: &str, members: &str) -> Result<String, Fail> {
     let run = format!(in rt.alloc();
         "[{{\"invocations\":[{{\"ruleConfigurationOverrides\":\
@@ -161,8 +164,10 @@ fn fractions_are_dropped_with_their_member(rt: HostRuntime) -> Result<(), Fail> 
         logs: &logs,
         ..NOTHING
     };
-    let written =
-        r#"{"baselineState":"new","level":"warning","message":{"text":"m"},"properties":{"keep":[1,2]},"suppressions":[]}"#;
+    let written = concat!(
+        r#"{"baselineState":"new","level":"warning","message":{"text":"m"},"#,
+        r#""properties":{"keep":[1,2]},"suppressions":[]}"#
+    );
     let runs = runs(rt.alloc(), &[Run("lint", &[written])])?;
     let wanted = Wanted {
         new: "0,1,0,0",

@@ -10,8 +10,10 @@ use std::thread::Threads;
 const EMPTY_ENTRY: &str = r#"{"version":1,"suppressions":[{}]}"#;
 
 /// The log of one result, and the first 50 bytes of it.
-const WHOLE: &str =
-    r#"{"version":"2.1.0","runs":[{"tool":{"driver":{"name":"lint"}},"results":[{"message":{"text":"m"}}]}]}"#;
+const WHOLE: &str = concat!(
+    r#"{"version":"2.1.0","runs":[{"tool":{"driver":{"name":"lint"}},"#,
+    r#""results":[{"message":{"text":"m"}}]}]}"#
+);
 
 const BROKEN: &str = r#"{"version":"2.1.0","runs":[{"tool":{"driver":{"nam"#;
 

@@ -32,8 +32,10 @@ fn entries_that_match_nothing_are_unused(rt: HostRuntime) -> Result<(), Fail> {
 
 #[test]
 fn one_status_that_is_not_accepted_keeps_a_result_active(rt: HostRuntime) -> Result<(), Fail> {
-    let reviewed =
-        r#"{"message":{"text":"m"},"suppressions":[{"kind":"inSource"},{"kind":"external","status":"underReview"}]}"#;
+    let reviewed = concat!(
+        r#"{"message":{"text":"m"},"suppressions":[{"kind":"inSource"},"#,
+        r#"{"kind":"external","status":"underReview"}]}"#
+    );
     let rejected = r#"{"message":{"text":"m"},"ruleId":"R2","suppressions":[{"kind":"inSource"}]}"#;
     let own = r#"{"message":{"text":"m"},"ruleId":"R3","suppressions":[{"kind":"inSource"}]}"#;
     let log = log_of(rt.alloc(), &[Run("lint", &[reviewed, rejected, own])])?;
@@ -70,7 +72,8 @@ fn one_status_that_is_not_accepted_keeps_a_result_active(rt: HostRuntime) -> Res
 fn an_object_that_stands_is_not_written_again(rt: HostRuntime) -> Result<(), Fail> {
     // A rank with a fraction is dropped, and then both own suppressions equal that of the entries.
     let result = concat!(
-        r#"{"message":{"text":"m"},"suppressions":[{"kind":"external","rank":1.5,"status":"accepted"},"#,
+        r#"{"message":{"text":"m"},"suppressions":["#,
+        r#"{"kind":"external","rank":1.5,"status":"accepted"},"#,
         r#"{"status":"accepted","kind":"external"}]}"#
     );
     let log = log_of(rt.alloc(), &[Run("lint", &[result])])?;
@@ -86,7 +89,8 @@ fn an_object_that_stands_is_not_written_again(rt: HostRuntime) -> Result<(), Fai
     };
     let written = concat!(
         r#"{"baselineState":"new","level":"warning","message":{"text":"m"},"#,
-        r#""suppressions":[{"kind":"external","status":"accepted"},{"kind":"external","status":"accepted"},"#,
+        r#""suppressions":[{"kind":"external","status":"accepted"},"#,
+        r#"{"kind":"external","status":"accepted"},"#,
         r#"{"justification":"j","kind":"external","status":"accepted"}]}"#
     );
     let runs = runs(rt.alloc(), &[Run("lint", &[written])])?;

@@ -1,4 +1,4 @@
-//! That workers give the same log, that they work at once, and that what they found doesn't pile up.
+//! That workers give the same log and work at once, and that what they found doesn't pile up.
 use crate::tests::merging::{
     A, A_NEW, Given, M, NO_RUNS, NOTHING, Run, Wanted, expect_log, log_of, merge_watched, runs,
 };
