@@ -1,8 +1,8 @@
 //! Merges with baselines.
 use crate::Merged;
 use crate::tests::merging::{
-    A, A_ABSENT, A_NEW, A_UNCHANGED, Given, NO_RUNS, NOTHING, Run, Wanted, expect_log,
-    expect_refusal, log_of, log_with, merge, runs,
+    Given, NOTHING, Wanted, beside, expect_log, expect_part, expect_refusal, expect_runs, log_of,
+    log_with, merge, one_log,
 };
 use std::alloc::{AllocError, Global};
 use std::process::Abort;
@@ -10,152 +10,119 @@ use std::sync::Wait;
 use std::test::Fail;
 use std::thread::Threads;
 
-/// Merges one log with one baseline.
-fn expect_beside(
-    rt: &(impl Abort + AllocGlobal + Threads + Wait + Sync),
-    log: &str,
-    baseline: &str,
-    wanted: Wanted,
-) -> Result<Merged, Fail> {
-    let logs = [log];
-    let baselines = [baseline];
-    let given = Given {
-        logs: &logs,
-        baselines: &baselines,
-        ..NOTHING
-    };
-    let merged = expect_log(rt, given, wanted)?;
-    Ok(merged)
-}
-
 #[test]
 fn equal_results_are_paired_in_order(rt: HostRuntime) -> Result<(), Fail> {
-    let log = log_of(rt.alloc(), &[Run("lint", &[A, A]), Run("lint", &[A])])?;
-    let baseline = log_of(rt.alloc(), &[Run("lint", &[A, A])])?;
-    let written = [
-        Run("lint", &[A_UNCHANGED, A_UNCHANGED]),
-        Run("lint", &[A_NEW]),
-    ];
-    let written = runs(rt.alloc(), &written)?;
+    let given = beside(rt.alloc(), "lint: A A; lint: A", "lint: A A")?;
     let wanted = Wanted {
         new: "0,1,0,0",
         unchanged: "0,2,0,0",
-        runs: written.as_str(),
-        ..NO_RUNS
+        ..NOTHING
     };
-    let merged = expect_beside(&rt, log.as_str(), baseline.as_str(), wanted)?;
+    let runs = "lint: A_UNCHANGED A_UNCHANGED; lint: A_NEW";
+    let merged = expect_log(&rt, &given, wanted, runs)?;
     // The merged log as the next baseline.
-    let again = [
-        Run("lint", &[A_UNCHANGED, A_UNCHANGED]),
-        Run("lint", &[A_UNCHANGED]),
-    ];
-    let again = runs(rt.alloc(), &again)?;
+    let mut again = one_log(rt.alloc(), "lint: A A; lint: A")?;
+    again.baseline(rt.alloc(), merged.log.as_str())?;
     let wanted = Wanted {
         unchanged: "0,3,0,0",
-        runs: again.as_str(),
-        ..NO_RUNS
+        ..NOTHING
     };
-    expect_beside(&rt, log.as_str(), merged.log.as_str(), wanted)?;
+    let runs = "lint: A_UNCHANGED A_UNCHANGED; lint: A_UNCHANGED";
+    expect_log(&rt, &again, wanted, runs)?;
     Ok(())
 }
 
 #[test]
 fn equal_guids_make_another_message_an_update(rt: HostRuntime) -> Result<(), Fail> {
-    let before =
-        r#"{"correlationGuid":"0f14d0ab-9605-4a62-a9e4-5ed26688389b","message":{"text":"m"}}"#;
-    let now =
-        r#"{"correlationGuid":"0F14D0AB-9605-4A62-A9E4-5ED26688389B","message":{"text":"n"}}"#;
-    let log = log_of(rt.alloc(), &[Run("lint", &[now])])?;
-    let baseline = log_of(rt.alloc(), &[Run("lint", &[before])])?;
-    let written = concat!(
-        r#"{"baselineState":"updated","correlationGuid":"0F14D0AB-9605-4A62-A9E4-5ED26688389B","#,
-        r#""level":"warning","message":{"text":"n"},"suppressions":[]}"#
+    let now = concat!(
+        r#"lint: {"correlationGuid":"0F14D0AB-9605-4A62-A9E4-5ED26688389B","#,
+        r#""message":{"text":"n"}}"#
     );
-    let written = runs(rt.alloc(), &[Run("lint", &[written])])?;
+    let before = concat!(
+        r#"lint: {"correlationGuid":"0f14d0ab-9605-4a62-a9e4-5ed26688389b","#,
+        r#""message":{"text":"m"}}"#
+    );
+    let given = beside(rt.alloc(), now, before)?;
     let wanted = Wanted {
         updated: "0,1,0,0",
-        runs: written.as_str(),
-        ..NO_RUNS
+        ..NOTHING
     };
-    expect_beside(&rt, log.as_str(), baseline.as_str(), wanted)?;
+    let runs = concat!(
+        r#"lint: {"baselineState":"updated","#,
+        r#""correlationGuid":"0F14D0AB-9605-4A62-A9E4-5ED26688389B","#,
+        r#""level":"warning","message":{"text":"n"},"suppressions":[]}"#
+    );
+    expect_log(&rt, &given, wanted, runs)?;
     Ok(())
 }
 
-/// A at `a.c` with this partial fingerprint; it begins with `first` and ends with `last`.
-fn at_a_c(alloc: Global, first: &str, value: &str, last: &str) -> Result<String, AllocError> {
+/// A at `a.c` with this partial fingerprint.
+const FIRST: &str = concat!(
+    r#"lint: {"locations":[{"physicalLocation":{"artifactLocation":{"uri":"a.c"}}}],"#,
+    r#""message":{"text":"m"},"partialFingerprints":{"p/v1":"a"},"ruleId":"R1"}"#
+);
+
+/// The same with another partial fingerprint.
+const SECOND: &str = concat!(
+    r#"lint: {"locations":[{"physicalLocation":{"artifactLocation":{"uri":"a.c"}}}],"#,
+    r#""message":{"text":"m"},"partialFingerprints":{"p/v1":"b"},"ruleId":"R1"}"#
+);
+
+/// The second as it is written in this state.
+fn written_second(alloc: Global, state: &str) -> Result<String, AllocError> {
     format!(in alloc;
-        "{{{first}\"locations\":[{{\"physicalLocation\":{{\"artifactLocation\":\
-        {{\"uri\":\"a.c\"}}}}}}],\"message\":{{\"text\":\"m\"}},\
-        \"partialFingerprints\":{{\"p/v1\":\"{value}\"}},\"ruleId\":\"R1\"{last}}}"
+        "lint: {{\"baselineState\":\"{state}\",\"level\":\"warning\",\
+        \"locations\":[{{\"physicalLocation\":{{\"artifactLocation\":{{\"uri\":\"a.c\"}}}}}}],\
+        \"message\":{{\"text\":\"m\"}},\"partialFingerprints\":{{\"p/v1\":\"b\"}},\
+        \"ruleId\":\"R1\",\"suppressions\":[]}}"
     )
 }
 
-fn log_at_a_c(alloc: Global, value: &str) -> Result<String, AllocError> {
-    let result = at_a_c(alloc, "", value, "")?;
-    log_of(alloc, &[Run("lint", &[result.as_str()])])
-}
-
-/// The same as it is written, in this state.
-fn written_at_a_c(alloc: Global, state: &str, value: &str) -> Result<String, AllocError> {
-    let first = format!(in alloc; "\"baselineState\":\"{state}\",\"level\":\"warning\",")?;
-    at_a_c(alloc, first.as_str(), value, ",\"suppressions\":[]")
-}
-
-/// The merge of a log with a baseline whose result has another fingerprint.
-fn expect_absent(rt: &(impl Abort + AllocGlobal + Threads + Wait + Sync)) -> Result<Merged, Fail> {
-    let log = log_at_a_c(rt.alloc(), "b")?;
-    let baseline = log_at_a_c(rt.alloc(), "a")?;
-    let new = written_at_a_c(rt.alloc(), "new", "b")?;
-    let absent = written_at_a_c(rt.alloc(), "absent", "a")?;
-    let written = runs(
-        rt.alloc(),
-        &[
-            Run("lint", &[new.as_str()]),
-            Run("lint", &[absent.as_str()]),
-        ],
-    )?;
+/// The merge of the second with the first as its baseline.
+fn merge_other<R: Abort + AllocGlobal + Threads + Wait + Sync>(rt: &R) -> Result<Merged, Fail> {
+    let given = beside(rt.alloc(), SECOND, FIRST)?;
+    let new = written_second(rt.alloc(), "new")?;
+    let absent = concat!(
+        r#"lint: {"baselineState":"absent","level":"warning","#,
+        r#""locations":[{"physicalLocation":{"artifactLocation":{"uri":"a.c"}}}],"#,
+        r#""message":{"text":"m"},"partialFingerprints":{"p/v1":"a"},"#,
+        r#""ruleId":"R1","suppressions":[]}"#
+    );
+    let runs = format!(in rt.alloc(); "{new}; {absent}")?;
     let wanted = Wanted {
         absent: "0,1,0,0",
         new: "0,1,0,0",
-        runs: written.as_str(),
-        ..NO_RUNS
+        ..NOTHING
     };
-    let merged = expect_beside(rt, log.as_str(), baseline.as_str(), wanted)?;
+    let merged = expect_log(rt, &given, wanted, runs.as_str())?;
     Ok(merged)
 }
 
 #[test]
 fn what_no_result_is_paired_with_is_absent(rt: HostRuntime) -> Result<(), Fail> {
-    let merged = expect_absent(&rt)?;
+    let merged = merge_other(&rt)?;
     // Its absent result is skipped in a baseline, and refused in a log.
-    let log = log_at_a_c(rt.alloc(), "b")?;
-    let unchanged = written_at_a_c(rt.alloc(), "unchanged", "b")?;
-    let written = runs(rt.alloc(), &[Run("lint", &[unchanged.as_str()])])?;
+    let mut again = one_log(rt.alloc(), SECOND)?;
+    again.baseline(rt.alloc(), merged.log.as_str())?;
     let wanted = Wanted {
         unchanged: "0,1,0,0",
-        runs: written.as_str(),
-        ..NO_RUNS
-    };
-    expect_beside(&rt, log.as_str(), merged.log.as_str(), wanted)?;
-    let logs = [merged.log.as_str()];
-    let given = Given {
-        logs: &logs,
         ..NOTHING
     };
-    expect_refusal(&rt, given, "log 0, run 1, result 0: AbsentInput")
+    let runs = written_second(rt.alloc(), "unchanged")?;
+    expect_log(&rt, &again, wanted, runs.as_str())?;
+    let mut given = Given::new(rt.alloc());
+    given.log(rt.alloc(), merged.log.as_str())?;
+    expect_refusal(&rt, &given, "log 0, run 1, result 0: AbsentInput")
 }
 
 #[test]
 fn a_partner_stands_in_any_run(rt: HostRuntime) -> Result<(), Fail> {
-    let log = log_of(rt.alloc(), &[Run("lint", &[]), Run("lint", &[A])])?;
-    let baseline = log_of(rt.alloc(), &[Run("lint", &[A]), Run("lint", &[])])?;
-    let written = runs(rt.alloc(), &[Run("lint", &[]), Run("lint", &[A_UNCHANGED])])?;
+    let given = beside(rt.alloc(), "lint: ; lint: A", "lint: A; lint: ")?;
     let wanted = Wanted {
         unchanged: "0,1,0,0",
-        runs: written.as_str(),
-        ..NO_RUNS
+        ..NOTHING
     };
-    expect_beside(&rt, log.as_str(), baseline.as_str(), wanted)?;
+    expect_log(&rt, &given, wanted, "lint: ; lint: A_UNCHANGED")?;
     Ok(())
 }
 
@@ -170,117 +137,76 @@ fn partial_at(alloc: Global, uri: &str) -> Result<String, AllocError> {
 
 #[test]
 fn a_result_that_moved_is_an_update(rt: HostRuntime) -> Result<(), Fail> {
-    let (a, b) = (
-        partial_at(rt.alloc(), "a.c")?,
-        partial_at(rt.alloc(), "b.c")?,
-    );
+    let a = partial_at(rt.alloc(), "a.c")?;
+    let b = partial_at(rt.alloc(), "b.c")?;
+    let before = format!(in rt.alloc(); "lint: {a}")?;
+    let now = format!(in rt.alloc(); "lint: {b}")?;
+    let given = beside(rt.alloc(), now.as_str(), before.as_str())?;
+    expect_part(&rt, &given, r#""updated":{"active":[0,1,0,0]"#)?;
+    expect_part(&rt, &given, r#""absent":{"active":[0,0,0,0]"#)
+}
+
+#[test]
+fn a_result_that_stayed_comes_before_one_that_moved(rt: HostRuntime) -> Result<(), Fail> {
+    let a = partial_at(rt.alloc(), "a.c")?;
+    let b = partial_at(rt.alloc(), "b.c")?;
     let c = partial_at(rt.alloc(), "c.c")?;
-    let log = log_of(rt.alloc(), &[Run("lint", &[b.as_str()])])?;
-    let baseline = log_of(rt.alloc(), &[Run("lint", &[a.as_str()])])?;
-    let (logs, baselines) = ([log.as_str()], [baseline.as_str()]);
-    let given = Given {
-        logs: &logs,
-        baselines: &baselines,
-        ..NOTHING
-    };
-    let merged = merge(&rt, given)?;
-    assert!(rt;
-        merged
-            .log
-            .as_str()
-            .contains(r#""updated":{"active":[0,1,0,0]"#)
-    );
-    assert!(rt;
-        merged
-            .log
-            .as_str()
-            .contains(r#""absent":{"active":[0,0,0,0]"#)
-    );
-    let log = log_of(rt.alloc(), &[Run("lint", &[b.as_str(), c.as_str()])])?;
-    let baseline = log_of(rt.alloc(), &[Run("lint", &[a.as_str(), b.as_str()])])?;
-    let (logs, baselines) = ([log.as_str()], [baseline.as_str()]);
-    let given = Given {
-        logs: &logs,
-        baselines: &baselines,
-        ..NOTHING
-    };
-    let merged = merge(&rt, given)?;
-    let results = merged
-        .log
-        .as_str()
-        .split_once("\"runs\":")
-        .ok_or("no runs")?;
-    assert!(rt;
-        results
-            .1
-            .starts_with(r#"[{"results":[{"baselineState":"unchanged","#)
-    );
-    assert!(rt; results.1.contains(r#"},{"baselineState":"updated","#));
-    assert!(rt;
-        merged
-            .log
-            .as_str()
-            .contains(r#""unchanged":{"active":[0,1,0,0]"#)
-    );
-    assert!(rt;
-        merged
-            .log
-            .as_str()
-            .contains(r#""updated":{"active":[0,1,0,0]"#)
-    );
-    Ok(())
+    let before = format!(in rt.alloc(); "lint: {a} {b}")?;
+    let now = format!(in rt.alloc(); "lint: {b} {c}")?;
+    let given = beside(rt.alloc(), now.as_str(), before.as_str())?;
+    expect_part(
+        &rt,
+        &given,
+        r#""runs":[{"results":[{"baselineState":"unchanged","#,
+    )?;
+    expect_part(&rt, &given, r#"},{"baselineState":"updated","#)?;
+    expect_part(&rt, &given, r#""unchanged":{"active":[0,1,0,0]"#)?;
+    expect_part(&rt, &given, r#""updated":{"active":[0,1,0,0]"#)
 }
 
 #[test]
 fn baselines_are_matched_together(rt: HostRuntime) -> Result<(), Fail> {
-    let log = log_of(rt.alloc(), &[Run("lint", &[A])])?;
-    let runs = format!(in rt.alloc();
-        "[{{\"results\":[{A}],\"tool\":{{\"driver\":{{\"name\":\"lint\",\"version\":\"1\"}}}}}}]"
-    )?;
-    let second = log_with(rt.alloc(), runs.as_str())?;
-    let logs = [log.as_str()];
-    let baselines = [log.as_str(), second.as_str()];
-    let given = Given {
-        logs: &logs,
-        baselines: &baselines,
-        ..NOTHING
-    };
-    let written = format!(in rt.alloc();
-        "[{{\"results\":[{A_UNCHANGED}],\"tool\":{{\"driver\":{{\"name\":\"lint\"}}}}}},\
-        {{\"results\":[{A_ABSENT}],\"tool\":{{\"driver\":{{\"name\":\"lint\",\"version\":\"1\"}}}}}}]"
-    )?;
+    let mut given = beside(rt.alloc(), "lint: A", "lint: A")?;
+    let second = concat!(
+        r#"[{"results":[{"message":{"text":"m"},"ruleId":"R1"}],"#,
+        r#""tool":{"driver":{"name":"lint","version":"1"}}}]"#
+    );
+    let baseline = log_with(rt.alloc(), second)?;
+    given.baseline(rt.alloc(), baseline.as_str())?;
     let wanted = Wanted {
         absent: "0,1,0,0",
         unchanged: "0,1,0,0",
-        runs: written.as_str(),
-        ..NO_RUNS
+        ..NOTHING
     };
-    expect_log(&rt, given, wanted)?;
+    let runs = concat!(
+        r#"[{"results":[{"baselineState":"unchanged","level":"warning","message":{"text":"m"},"#,
+        r#""ruleId":"R1","suppressions":[]}],"tool":{"driver":{"name":"lint"}}},"#,
+        r#"{"results":[{"baselineState":"absent","level":"warning","message":{"text":"m"},"#,
+        r#""ruleId":"R1","suppressions":[]}],"tool":{"driver":{"name":"lint","version":"1"}}}]"#
+    );
+    expect_runs(&rt, &given, wanted, runs)?;
     Ok(())
 }
 
 #[test]
 fn matched_results_of_a_baseline_are_left_out(rt: HostRuntime) -> Result<(), Fail> {
-    let other = r#"{"message":{"text":"m"},"ruleId":"R2"}"#;
-    let gone = concat!(
-        r#"{"baselineState":"absent","level":"warning","#,
-        r#""message":{"text":"m"},"ruleId":"R2","suppressions":[]}"#
+    let baseline = concat!(
+        r#"b: ; lint: {"message":{"text":"m"},"ruleId":"R2"} A A_ABSENT "#,
+        r#"{"message":{"text":"n"},"ruleId":"R2"}"#
     );
-    let log = log_of(rt.alloc(), &[Run("lint", &[A])])?;
-    let baseline = log_of(
-        rt.alloc(),
-        &[Run("b", &[]), Run("lint", &[other, A, gone, other])],
-    )?;
-    let written = runs(
-        rt.alloc(),
-        &[Run("lint", &[A_UNCHANGED]), Run("lint", &[gone, gone])],
-    )?;
+    let given = beside(rt.alloc(), "lint: A", baseline)?;
     let wanted = Wanted {
         absent: "0,2,0,0",
         unchanged: "0,1,0,0",
-        runs: written.as_str(),
-        ..NO_RUNS
+        ..NOTHING
     };
-    expect_beside(&rt, log.as_str(), baseline.as_str(), wanted)?;
+    let runs = concat!(
+        r#"lint: A_UNCHANGED; lint: "#,
+        r#"{"baselineState":"absent","level":"warning","message":{"text":"m"},"#,
+        r#""ruleId":"R2","suppressions":[]} "#,
+        r#"{"baselineState":"absent","level":"warning","message":{"text":"n"},"#,
+        r#""ruleId":"R2","suppressions":[]}"#
+    );
+    expect_log(&rt, &given, wanted, runs)?;
     Ok(())
 }

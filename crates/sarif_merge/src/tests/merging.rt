@@ -1,81 +1,214 @@
-//! Merging texts, and what is wanted of the merged log.
-use crate::{MergeFault, Merged, Policy, States, Verdict, merge_bytes};
+//! Merging texts. A list of runs is written `lint: A M; b: `, so each run is a tool and its results,
+//! each by its name or by its own text, which has no blank.
+use crate::{MergeFault, Merged, Policy, Verdict, merge_bytes};
 use sarif_gather::{Gate, NoGate};
-use sarif_records::Level;
 use std::alloc::{AllocError, Global};
 use std::process::Abort;
 use std::sync::Wait;
 use std::test::Fail;
 use std::thread::Threads;
 
-/// A result with a message alone.
-pub const M: &str = r#"{"message":{"text":"m"}}"#;
+/// A result with a message alone, or of the rule `R1`; and that as it is written by its state.
+fn result_named(name: &str) -> Option<&'static str> {
+    match name {
+        "M" => Some(r#"{"message":{"text":"m"}}"#),
+        "A" => Some(r#"{"message":{"text":"m"},"ruleId":"R1"}"#),
+        "A_NEW" => Some(concat!(
+            r#"{"baselineState":"new","level":"warning","message":{"text":"m"},"#,
+            r#""ruleId":"R1","suppressions":[]}"#
+        )),
+        "A_UNCHANGED" => Some(concat!(
+            r#"{"baselineState":"unchanged","level":"warning","message":{"text":"m"},"#,
+            r#""ruleId":"R1","suppressions":[]}"#
+        )),
+        "A_ABSENT" => Some(concat!(
+            r#"{"baselineState":"absent","level":"warning","message":{"text":"m"},"#,
+            r#""ruleId":"R1","suppressions":[]}"#
+        )),
+        _ => None,
+    }
+}
 
-/// A result of the rule `R1`.
-pub const A: &str = r#"{"message":{"text":"m"},"ruleId":"R1"}"#;
+fn push_result(text: &mut String, name: &str) -> Result<(), AllocError> {
+    match result_named(name) {
+        Some(result) => text.push_str(result),
+        None => text.push_str(name),
+    }
+}
 
-/// The same as it is written.
-pub const A_NEW: &str = concat!(
-    r#"{"baselineState":"new","level":"warning","#,
-    r#""message":{"text":"m"},"ruleId":"R1","suppressions":[]}"#
-);
+fn push_results(text: &mut String, names: &str) -> Result<(), AllocError> {
+    let mut is_first = true;
+    for name in names.split(' ') {
+        if name.is_empty() {
+            continue;
+        }
+        if !is_first {
+            text.push_str(",")?;
+        }
+        is_first = false;
+        push_result(text, name)?;
+    }
+    Ok(())
+}
 
-pub const A_UNCHANGED: &str = concat!(
-    r#"{"baselineState":"unchanged","level":"warning","#,
-    r#""message":{"text":"m"},"ruleId":"R1","suppressions":[]}"#
-);
+fn push_run(text: &mut String, run: &str) -> Result<(), Fail> {
+    let (tool, names) = run.split_once(": ").ok_or("no tool")?;
+    text.push_str(r#"{"results":["#)?;
+    push_results(text, names)?;
+    text.push_str(r#"],"tool":{"driver":{"name":""#)?;
+    text.push_str(tool)?;
+    text.push_str(r#""}}}"#)?;
+    Ok(())
+}
 
-pub const A_ABSENT: &str = concat!(
-    r#"{"baselineState":"absent","level":"warning","#,
-    r#""message":{"text":"m"},"ruleId":"R1","suppressions":[]}"#
-);
+/// The runs as they stand in a log, their members in the order in which they are written.
+pub fn runs_of(alloc: Global, runs: &str) -> Result<String, Fail> {
+    let mut text = String::from_str(alloc, "[")?;
+    let mut is_first = true;
+    for run in runs.split("; ") {
+        if !is_first {
+            text.push_str(",")?;
+        }
+        is_first = false;
+        push_run(&mut text, run)?;
+    }
+    text.push_str("]")?;
+    Ok(text)
+}
+
+/// The log with these runs, which stand in JSON.
+pub fn log_with(alloc: Global, runs: &str) -> Result<String, AllocError> {
+    format!(in alloc; "{{\"version\":\"2.1.0\",\"runs\":{runs}}}")
+}
+
+/// The log with these runs.
+pub fn log_of(alloc: Global, runs: &str) -> Result<String, Fail> {
+    let runs = runs_of(alloc, runs)?;
+    let log = log_with(alloc, runs.as_str())?;
+    Ok(log)
+}
 
 /// What a merge is given.
-#[derive(Clone, Copy)]
-pub struct Given<'a> {
-    pub logs: &'a [&'a str],
-    pub baselines: &'a [&'a str],
-    pub suppressions: Option<&'a str>,
+#[derive(Drop)]
+pub struct Given {
+    logs: Vec<Vec<u8>>,
+    baselines: Vec<Vec<u8>>,
+    entries: Option<Vec<u8>>,
     pub policy: Policy,
     pub today: Option<u32>,
     pub workers: u32,
 }
 
-/// Nothing, to one worker; the policy is the default.
-pub const NOTHING: Given = Given {
-    logs: &[],
-    baselines: &[],
-    suppressions: None,
-    policy: Policy {
-        fail_on: Level::Error,
-        states: States {
-            absent: false,
-            fresh: true,
-            unchanged: false,
-            updated: true,
-        },
-        max: 0,
-    },
-    today: None,
-    workers: 1,
-};
+impl Given {
+    /// Nothing, to one worker; the policy is the default.
+    pub fn new(alloc: Global) -> Given {
+        Given {
+            logs: Vec::new(alloc),
+            baselines: Vec::new(alloc),
+            entries: None,
+            policy: Policy::default(),
+            today: None,
+            workers: 1,
+        }
+    }
+
+    /// One more log, as it stands.
+    pub fn log(&mut self, alloc: Global, text: &str) -> Result<(), AllocError> {
+        let bytes = text.as_bytes().to_vec(alloc)?;
+        self.logs.push(bytes)?;
+        Ok(())
+    }
+
+    /// One more baseline, as it stands.
+    pub fn baseline(&mut self, alloc: Global, text: &str) -> Result<(), AllocError> {
+        let bytes = text.as_bytes().to_vec(alloc)?;
+        self.baselines.push(bytes)?;
+        Ok(())
+    }
+
+    /// A suppression file of this version with these entries.
+    pub fn entries(&mut self, alloc: Global, version: u8, list: &str) -> Result<(), AllocError> {
+        let text = format!(in alloc; "{{\"version\":{version},\"suppressions\":[{list}]}}")?;
+        self.entries = Some(text.as_bytes().to_vec(alloc)?);
+        Ok(())
+    }
+}
+
+/// One log with these runs.
+pub fn one_log(alloc: Global, runs: &str) -> Result<Given, Fail> {
+    let mut given = Given::new(alloc);
+    let log = log_of(alloc, runs)?;
+    given.log(alloc, log.as_str())?;
+    Ok(given)
+}
+
+/// One log and one baseline with these runs.
+pub fn beside(alloc: Global, runs: &str, baseline_runs: &str) -> Result<Given, Fail> {
+    let mut given = one_log(alloc, runs)?;
+    let baseline = log_of(alloc, baseline_runs)?;
+    given.baseline(alloc, baseline.as_str())?;
+    Ok(given)
+}
+
+pub fn merge_watched<G: Gate + Sync, R: Abort + AllocGlobal + Threads + Wait + Sync>(
+    rt: &R,
+    given: &Given,
+    gate: &G,
+) -> Result<Merged, MergeFault> {
+    let workers = given.workers;
+    assert!(rt; 1 <= workers && workers <= 64);
+    let entries = match &given.entries {
+        Some(bytes) => Some(bytes.as_slice()),
+        None => None,
+    };
+    merge_bytes(
+        rt,
+        rt.alloc(),
+        &given.logs,
+        &given.baselines,
+        entries,
+        &given.policy,
+        given.today,
+        workers,
+        gate,
+    )
+}
+
+/// The merge by nobody's gate.
+pub fn merge<R: Abort + AllocGlobal + Threads + Wait + Sync>(
+    rt: &R,
+    given: &Given,
+) -> Result<Merged, MergeFault> {
+    merge_watched(rt, given, &NoGate)
+}
+
+/// Asserts that what is given is refused with this text.
+pub fn expect_refusal<R: Abort + AllocGlobal + Threads + Wait + Sync>(
+    rt: &R,
+    given: &Given,
+    wanted: &str,
+) -> Result<(), Fail> {
+    let fault = merge(rt, given).err().ok_or("accepted")?;
+    let text = format!(in rt.alloc(); "{fault}")?;
+    assert_eq!(rt; text.as_str(), wanted);
+    Ok(())
+}
 
 /// What a merged log holds that passes the default policy without a hit: its active results by
 /// state and the new ones that are suppressed, each as the numbers of errors, warnings, notes and
-/// others, and its runs.
+/// others.
 #[derive(Clone, Copy)]
-pub struct Wanted<'a> {
-    pub absent: &'a str,
-    pub new: &'a str,
-    pub suppressed: &'a str,
-    pub unchanged: &'a str,
-    pub updated: &'a str,
+pub struct Wanted {
+    pub absent: &'static str,
+    pub new: &'static str,
+    pub suppressed: &'static str,
+    pub unchanged: &'static str,
+    pub updated: &'static str,
     pub without: u32,
     pub unused: u32,
-    pub runs: &'a str,
 }
 
-pub const NO_RUNS: Wanted = Wanted {
+pub const NOTHING: Wanted = Wanted {
     absent: "0,0,0,0",
     new: "0,0,0,0",
     suppressed: "0,0,0,0",
@@ -83,58 +216,9 @@ pub const NO_RUNS: Wanted = Wanted {
     updated: "0,0,0,0",
     without: 0,
     unused: 0,
-    runs: "[]",
 };
 
-/// A run of a tool with these results.
-#[derive(Clone, Copy)]
-pub struct Run<'a>(pub &'a str, pub &'a [&'a str]);
-
-fn push_joined(text: &mut String, parts: &[&str]) -> Result<(), AllocError> {
-    let mut is_first = true;
-    for part in parts {
-        if !is_first {
-            text.push_str(",")?;
-        }
-        is_first = false;
-        text.push_str(part)?;
-    }
-    Ok(())
-}
-
-fn push_run(text: &mut String, run: Run) -> Result<(), AllocError> {
-    text.push_str(r#"{"results":["#)?;
-    push_joined(text, run.1)?;
-    text.push_str(r#"],"tool":{"driver":{"name":""#)?;
-    text.push_str(run.0)?;
-    text.push_str(r#""}}}"#)
-}
-
-/// The runs as a log holds them, their members in the order in which they are written.
-pub fn runs(alloc: Global, runs: &[Run]) -> Result<String, AllocError> {
-    let mut text = String::from_str(alloc, "[")?;
-    let mut is_first = true;
-    for run in runs {
-        if !is_first {
-            text.push_str(",")?;
-        }
-        is_first = false;
-        push_run(&mut text, *run)?;
-    }
-    text.push_str("]")?;
-    Ok(text)
-}
-
-/// The log with these runs.
-pub fn log_with(alloc: Global, runs: &str) -> Result<String, AllocError> {
-    format!(in alloc; "{{\"version\":\"2.1.0\",\"runs\":{runs}}}")
-}
-
-pub fn log_of(alloc: Global, held: &[Run]) -> Result<String, AllocError> {
-    log_with(alloc, runs(alloc, held)?.as_str())
-}
-
-fn text_of(alloc: Global, wanted: Wanted) -> Result<String, AllocError> {
+fn text_of(alloc: Global, wanted: Wanted, runs: &str) -> Result<String, AllocError> {
     let Wanted {
         absent,
         new,
@@ -143,7 +227,6 @@ fn text_of(alloc: Global, wanted: Wanted) -> Result<String, AllocError> {
         updated,
         without,
         unused,
-        runs,
     } = wanted;
     format!(in alloc;
         "{{\"properties\":{{\"gate\":{{\"counts\":{{\
@@ -157,68 +240,15 @@ fn text_of(alloc: Global, wanted: Wanted) -> Result<String, AllocError> {
     )
 }
 
-fn sources(alloc: Global, texts: &[&str]) -> Result<Vec<Vec<u8>>, AllocError> {
-    let mut sources = Vec::new(alloc);
-    for text in texts {
-        sources.push(text.as_bytes().to_vec(alloc)?)?;
-    }
-    Ok(sources)
-}
-
-pub fn merge_watched<G: Gate + Sync>(
-    rt: &(impl Abort + AllocGlobal + Threads + Wait + Sync),
-    given: Given,
-    gate: &G,
-) -> Result<Result<Merged, MergeFault>, AllocError> {
-    assert!(rt; 1 <= given.workers && given.workers <= 64);
-    let logs = sources(rt.alloc(), given.logs)?;
-    let baselines = sources(rt.alloc(), given.baselines)?;
-    let suppressions = match given.suppressions {
-        Some(text) => Some(text.as_bytes()),
-        None => None,
-    };
-    Ok(merge_bytes(
-        rt,
-        rt.alloc(),
-        &logs,
-        &baselines,
-        suppressions,
-        &given.policy,
-        given.today,
-        given.workers,
-        gate,
-    ))
-}
-
-/// The merge; a refusal fails the test.
-pub fn merge(
-    rt: &(impl Abort + AllocGlobal + Threads + Wait + Sync),
-    given: Given,
-) -> Result<Merged, Fail> {
-    let merged = merge_watched(rt, given, &NoGate)??;
-    Ok(merged)
-}
-
-/// Asserts that what is given is refused with this text.
-pub fn expect_refusal(
-    rt: &(impl Abort + AllocGlobal + Threads + Wait + Sync),
-    given: Given,
-    wanted: &str,
-) -> Result<(), Fail> {
-    let answer = merge_watched(rt, given, &NoGate)?;
-    let fault = answer.err().ok_or("accepted")?;
-    assert_eq!(rt; format!(in rt.alloc(); "{fault}")?.as_str(), wanted);
-    Ok(())
-}
-
-/// Asserts that the merged log has this text.
-pub fn expect_log(
-    rt: &(impl Abort + AllocGlobal + Threads + Wait + Sync),
-    given: Given,
+/// Asserts that the merged log holds just that, and these runs, which stand in JSON.
+pub fn expect_runs<R: Abort + AllocGlobal + Threads + Wait + Sync>(
+    rt: &R,
+    given: &Given,
     wanted: Wanted,
+    runs: &str,
 ) -> Result<Merged, Fail> {
     let merged = merge(rt, given)?;
-    let text = text_of(rt.alloc(), wanted)?;
+    let text = text_of(rt.alloc(), wanted, runs)?;
     assert_eq!(rt; merged.log.as_str(), text.as_str());
     assert_eq!(rt; merged.without, wanted.without);
     assert_eq!(rt; merged.unused, wanted.unused);
@@ -226,14 +256,25 @@ pub fn expect_log(
     Ok(merged)
 }
 
+/// The same, with the runs as tools and results.
+pub fn expect_log<R: Abort + AllocGlobal + Threads + Wait + Sync>(
+    rt: &R,
+    given: &Given,
+    wanted: Wanted,
+    runs: &str,
+) -> Result<Merged, Fail> {
+    let runs = runs_of(rt.alloc(), runs)?;
+    let merged = expect_runs(rt, given, wanted, runs.as_str())?;
+    Ok(merged)
+}
+
 /// Asserts that the merged log has this part.
-pub fn expect_part(
-    rt: &(impl Abort + AllocGlobal + Threads + Wait + Sync),
-    given: Given,
+pub fn expect_part<R: Abort + AllocGlobal + Threads + Wait + Sync>(
+    rt: &R,
+    given: &Given,
     part: &str,
 ) -> Result<(), Fail> {
     let merged = merge(rt, given)?;
-    let log = merged.log.as_str();
-    assert!(rt; log.contains(part), "{part} in {log}");
+    assert!(rt; merged.log.as_str().contains(part), "{part}");
     Ok(())
 }

@@ -1,36 +1,20 @@
 //! That workers give the same log and work at once, and that what they found doesn't pile up.
-use crate::tests::merging::{
-    A, A_NEW, Given, M, NO_RUNS, NOTHING, Run, Wanted, expect_log, log_of, merge_watched, runs,
-};
+use crate::tests::merging::{NOTHING, Wanted, expect_log, merge_watched, one_log};
 use sarif_gather::Gate;
+use std::alloc::{AllocError, Global};
 use std::sync::atomic::{AtomicU64, Ordering};
 use std::test::Fail;
 
 #[test]
 fn the_log_is_the_same_for_all_workers(rt: HostRuntime) -> Result<(), Fail> {
-    let log = log_of(
-        rt.alloc(),
-        &[Run("lint", &[A, A]), Run("b", &[]), Run("lint", &[A])],
-    )?;
-    let logs = [log.as_str()];
-    let written = [
-        Run("lint", &[A_NEW, A_NEW]),
-        Run("b", &[]),
-        Run("lint", &[A_NEW]),
-    ];
-    let written = runs(rt.alloc(), &written)?;
+    let mut given = one_log(rt.alloc(), "lint: A A; b: ; lint: A")?;
     let wanted = Wanted {
         new: "0,3,0,0",
-        runs: written.as_str(),
-        ..NO_RUNS
+        ..NOTHING
     };
     for workers in [1, 8, 64] {
-        let given = Given {
-            logs: &logs,
-            workers,
-            ..NOTHING
-        };
-        expect_log(&rt, given, wanted)?;
+        given.workers = workers;
+        expect_log(&rt, &given, wanted, "lint: A_NEW A_NEW; b: ; lint: A_NEW")?;
     }
     Ok(())
 }
@@ -71,18 +55,13 @@ impl Gate for Meeting {
 
 #[test]
 fn two_workers_meet(rt: HostRuntime) -> Result<(), Fail> {
-    let log = log_of(rt.alloc(), &[Run("lint", &[A]), Run("lint", &[A])])?;
-    let logs = [log.as_str()];
-    let given = Given {
-        logs: &logs,
-        workers: 2,
-        ..NOTHING
-    };
+    let mut given = one_log(rt.alloc(), "lint: A; lint: A")?;
+    given.workers = 2;
     let gate = Meeting {
         started: [AtomicU64::new(0), AtomicU64::new(0)],
         misses: AtomicU64::new(0),
     };
-    merge_watched(&rt, given, &gate)??;
+    merge_watched(&rt, &given, &gate)?;
     assert_eq!(rt; gate.misses.load(Ordering::SeqCst), 0);
     Ok(())
 }
@@ -111,20 +90,25 @@ impl Gate for Room {
     }
 }
 
+/// A run of so many results.
+fn run_of_many(alloc: Global, times: u32) -> Result<String, AllocError> {
+    let mut runs = String::from_str(alloc, "lint:")?;
+    for _ in 0..times {
+        runs.push_str(" M")?;
+    }
+    Ok(runs)
+}
+
 #[test]
 fn room_bounds_what_waits(rt: HostRuntime) -> Result<(), Fail> {
-    let log = log_of(rt.alloc(), &[Run("lint", &[M; 1000])])?;
-    let logs = [log.as_str()];
-    let given = Given {
-        logs: &logs,
-        ..NOTHING
-    };
+    let runs = run_of_many(rt.alloc(), 1_000)?;
+    let given = one_log(rt.alloc(), runs.as_str())?;
     let gate = Room {
         room: 256,
         taken: AtomicU64::new(0),
         misses: AtomicU64::new(0),
     };
-    merge_watched(&rt, given, &gate)??;
+    merge_watched(&rt, &given, &gate)?;
     assert_eq!(rt; gate.misses.load(Ordering::SeqCst), 0);
     assert_eq!(rt; gate.taken.load(Ordering::SeqCst), 1000);
     Ok(())
