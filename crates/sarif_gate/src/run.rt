@@ -1,18 +1,20 @@
 //! Doing what a request asks for, over readers and writers of any kind.
-ghost use Rattle.std.specs.Prelude.{◌≡◌, ◌<◌, ◌≤◌, ◌+◌, ◌^◌, nat_eq};
+ghost use Rattle.std.specs.Prelude.{◌≡◌, [], ◌<◌, ◌≤◌, ◌+◌, ◌^◌, nat_eq};
 ghost use Rattle.std.specs.List.{All};
 ghost use Rattle.std.specs.Io.KnownBytes.{Appends};
 ghost use Rattle.sarif_merge.specs.declared.merged.Merged.{Merged as Outcome};
 ghost use Rattle.sarif_merge.specs.Counted.{inner_of, faults_of, RisesIf};
 ghost use Rattle.sarif_merge.specs.Counts.{count_at};
+ghost use Rattle.sarif_merge.specs.Faults.{faults_of as faults_among};
+ghost use Rattle.sarif_merge.specs.Inputs.{Inputs};
 ghost use Rattle.sarif_merge.specs.OptionalReader.{faults_if};
 ghost use Rattle.sarif_merge.specs.Summary.{summary_of};
-ghost use Rattle.sarif_merge.specs.WereRead.{readers, failures, IsMergedFrom};
+ghost use Rattle.sarif_merge.specs.WereRead.{readers, failures, AllTell, IsMergedFrom, WereRead};
 ghost use Rattle.sarif_gate.specs.Status.{verdict_status};
 
 use crate::ending::{accept, refuse};
 use crate::request::Request;
-use sarif_merge::{Counted, NoGate, merge_to};
+use sarif_merge::{Counted, NoGate, merge_to, sources_are_read_in_one_way};
 use std::alloc::Global;
 use std::io::{Read, Write};
 use std::sync::Wait;
@@ -52,8 +54,17 @@ pub fn run_request<R: Read, W: Write, S: Write, E: Write, T: Threads + Wait + Sy
     ensures failed { RisesIf (nat_eq result 3)
         (failures (readers logs.old baselines.old suppressions.old) + faults_of out.old + faults_of say.old)
         (failures (readers logs.new baselines.new suppressions.new) + faults_of out.new + faults_of say.new) }
+    // Where all sources were read and one of them has a fault, it answers 2.
+    ensures faulty { (inputs : Inputs) → inputs.today ≡ «request».now.today
+        → AllTell R.remaining (readers logs.old baselines.old suppressions.old)
+        → WereRead R.remaining (readers logs.old baselines.old suppressions.old)
+        (readers logs.new baselines.new suppressions.new) inputs
+        → failures (readers logs.new baselines.new suppressions.new)
+        ≡ failures (readers logs.old baselines.old suppressions.old)
+        → (faults_among inputs ≡ [] → ⊥) → result ≡ 2 }
     ensures known { result ≤ 3 }
 {
+    sources_are_read_in_one_way::<R>();
     let merged = merge_to(
         rt,
         alloc,

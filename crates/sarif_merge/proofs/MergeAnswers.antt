@@ -60,14 +60,14 @@ module _ (ls bs : List (List ℕ)) (runs : Runs) (read : AreRunsOf ls bs runs) w
     pub faults_are : file_faults (file_or_none file today) ≡ [] → faults_of (given ls bs file today) ≡ faults_of_runs (map placed_of runs.all.items)
     faults_are sound =
         nothing_before (number_faults Log ls) (number_faults Baseline bs) (source_faults 0 0 (sources_of ls bs)) (file_faults (file_or_none file today)) (faults_of_runs (placed (numbered Log 0 ls) ++ placed (numbered Baseline 0 bs)))
-            (ap (λ x. x ++ number_faults Baseline bs) (few_sources ls read.few_logs) ∙ few_baselines bs read.few_baselines) read.faultless sound
+        (ap (λ x. x ++ number_faults Baseline bs) (few_sources ls read.few_logs) ∙ few_baselines bs read.few_baselines) read.faultless sound
         ∙ ap faults_of_runs (sym (read.all ∙ placed-append (numbered Log 0 ls) (numbered Baseline 0 bs)))
 
     -- where reading has no fault, the first is that of the suppression file
     pub file_first : (fault : MergeFault) → first (file_faults (file_or_none file today)) ≡ Some fault → first (faults_of (given ls bs file today)) ≡ Some fault
     file_first fault is =
         ap first (nothing_before (number_faults Log ls) (number_faults Baseline bs) (source_faults 0 0 (sources_of ls bs)) [] (file_faults (file_or_none file today) ++ faults_of_runs (placed (numbered Log 0 ls) ++ placed (numbered Baseline 0 bs)))
-            (ap (λ x. x ++ number_faults Baseline bs) (few_sources ls read.few_logs) ∙ few_baselines bs read.few_baselines) read.faultless refl)
+        (ap (λ x. x ++ number_faults Baseline bs) (few_sources ls read.few_logs) ∙ few_baselines bs read.few_baselines) read.faultless refl)
         ∙ first_of (file_faults (file_or_none file today)) (faults_of_runs (placed (numbered Log 0 ls) ++ placed (numbered Baseline 0 bs))) fault is
 
     pub merged_is : (entries : File) (policy : Policy) (merged : Merged) → file_or_none file today ≡ Ok entries → IsMergedBy entries (take runs.inputs (map placed_of runs.all.items)) (drop runs.inputs (map placed_of runs.all.items)) policy merged → faults_of_runs (map placed_of runs.all.items) ≡ [] → IsMerged (given ls bs file today) policy merged

@@ -58,7 +58,6 @@ data_from : (source : Source) (n : ℕ) (runs : List Data) → data_of (placed_f
 data_from source n [] = refl
 data_from source n (run ∷ runs) = ap (λ ds. run ∷ ds) (data_from source (n + 1) runs)
 
-
 module _ (law : (bytes : List ℕ) (runs : List Data) → log_of bytes ≡ Ok runs → list_any has_float runs ≡ false) where
   readable_whole : (bytes : List ℕ) (r : Result (List Data) ReadFault) → log_of bytes ≡ r → list_any has_float (readable r) ≡ false
   readable_whole bytes (Ok runs) h = law bytes runs h
@@ -84,7 +83,7 @@ sound_runs law ls bs few results =
     let both = placed-append (numbered Log 0 ls) (numbered Baseline 0 bs) in
     let sizes : length (placed (numbered Log 0 ls ++ numbered Baseline 0 bs)) ≡ length now + length before = ap length both ∙ length-append now before in
     let totals : results_total (data_of (placed (numbered Log 0 ls ++ numbered Baseline 0 bs))) ≡ results_total (data_of now) + results_total (data_of before) =
-        ap (λ ps. results_total (data_of ps)) both ∙ (ap results_total (map-append (λ p. p.run) now before) ∙ total-append (data_of now) (data_of before)) in
+    ap (λ ps. results_total (data_of ps)) both ∙ (ap results_total (map-append (λ p. p.run) now before) ∙ total-append (data_of now) (data_of before)) in
     record {
       current = log_sides 0 ls;
       baseline = baseline_sides 0 bs;

@@ -1,12 +1,14 @@
 -- What reading all sources of a merge from readers does, and why it is refused.
-use Rattle.std.specs.Prelude.{◌≡◌, ℕ, ◌+◌, ◌<◌, List, [], ◌⊎◌, ⊤, Option, Some, None, length, take}
+use Rattle.std.specs.Prelude.{◌≡◌, ℕ, ◌+◌, ◌<◌, List, [], ◌⊎◌, ⊤, Option, Some, None, IsSome, IfSome, length, take}
 use Rattle.std.specs.Io.KnownBytes.{Appends}
+use Rattle.std.specs.List.{AllByRecursion}
 use Rattle.sarif_merge.specs.declared.counted.Counted.{Counted}
 use Rattle.sarif_merge.specs.declared.fault.MergeFault.{MergeFault}
 use Rattle.sarif_merge.specs.declared.fault.Source.TheVariants.{Log, Baseline, Suppress}
 use Rattle.sarif_merge.specs.declared.merged.Merged.{Merged}
 use Rattle.sarif_merge.specs.declared.policy.Policy.{Policy}
 use Rattle.sarif_merge.specs.AreRead.{IsRead, AreRead, HasStopped, StopsIn}
+use Rattle.sarif_merge.specs.Counted.{inner_of}
 use Rattle.sarif_merge.specs.Failing.{faults_in}
 use Rattle.sarif_merge.specs.Faults.{IsTooMany, IsWanting, faults_of as faults_among, first_fault}
 use Rattle.sarif_merge.specs.Inputs.{Inputs}
@@ -75,3 +77,13 @@ abbrev pub IsPartlyWritten : {R : Type 0} → (R → Option (List ℕ)) → Read
 IsPartlyWritten remaining old new today policy before after =
     (inputs : Inputs) × (inputs.today ≡ today) × WereRead remaining old new inputs × (faults_among inputs ≡ [])
     × ((n : ℕ) × (n < length (output_text inputs policy)) × Appends before after (take n (output_text inputs policy)))
+
+-- a reader tells what it has left
+abbrev pub Tells : {R : Type 0} → (R → Option (List ℕ)) → Counted R → Type 0
+Tells remaining reader = IsSome (remaining (inner_of reader))
+
+-- each of the readers does
+pub record AllTell {R : Type 0} (remaining : R → Option (List ℕ)) (all : Readers R) : Type 0 where
+  pub logs : AllByRecursion (Tells remaining) all.logs
+  pub baselines : AllByRecursion (Tells remaining) all.baselines
+  pub suppressions : IfSome all.suppressions (Tells remaining)

@@ -103,18 +103,18 @@ pub fn merge_bytes<G: Gate + Sync, R: Threads + Wait + Sync>(
     // Ok comes only where nothing is at fault. The log then begins with the input runs: each result once, in
     // its run's order, with its level, its state and its suppressions.
     ensures inputs { let inputs = given (bytes_of logs.now) (bytes_of baselines.now)
-            (option_map (λ b. b.now) suppressions.entry) today in
+        (option_map (λ b. b.now) suppressions.entry) today in
         IfOk result (λ merged. (faults_of inputs ≡ []) × HoldsFirst (written_inputs inputs) merged.log) }
     // After these stand just the unmatched results of the baselines, as absent, and nothing after the log.
     ensures states { let inputs = given (bytes_of logs.now) (bytes_of baselines.now)
-            (option_map (λ b. b.now) suppressions.entry) today in
+        (option_map (λ b. b.now) suppressions.entry) today in
         IfOk result (λ merged. merged.log ≡ output_text inputs policy.now) }
     // Counts, verdict and numbers are those of the log that is written.
     ensures gate { let inputs = given (bytes_of logs.now) (bytes_of baselines.now)
-            (option_map (λ b. b.now) suppressions.entry) today in
+        (option_map (λ b. b.now) suppressions.entry) today in
         IfOk result (HasGate (runs_of inputs) policy.now (without_of inputs) (unused_in inputs)) }
     ensures refusals { let inputs = given (bytes_of logs.now) (bytes_of baselines.now)
-            (option_map (λ b. b.now) suppressions.entry) today in
+        (option_map (λ b. b.now) suppressions.entry) today in
         IfErr result (λ fault. IsWanting fault ⊎ (first_fault inputs ≡ Some fault)) }
     ensures quiet { IsQuiet result }
 {

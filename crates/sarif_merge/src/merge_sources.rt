@@ -70,7 +70,7 @@ fn read_sources<R: Read>(
         (readers logs.old baselines.old suppressions.old)
         (readers logs.new baselines.new suppressions.new)
         (given (bytes_of sources.logs.items) (bytes_of sources.baselines.items)
-            (option_map (λ v. v.items) sources.suppressions) today)) }
+        (option_map (λ v. v.items) sources.suppressions) today)) }
     ensures few_logs { IfOk result (λ sources. length sources.logs.items ≤ 1000) }
     ensures few_baselines { IfOk result (λ sources. length sources.baselines.items ≤ 1000) }
     ensures stopped { IfErr result (HasStoppedAt R.remaining
@@ -209,7 +209,15 @@ pub fn merge_to<R: Read, W: Write, G: Gate + Sync, T: Threads + Wait + Sync>(
     ensures write_failed { RisesIf (write_failed_in result) (faults_of out.old) (faults_of out.new) }
 {
     let merged = merge_readers(
-        rt, alloc, logs, baselines, suppressions, policy, today, workers, gate,
+        rt,
+        alloc,
+        logs,
+        baselines,
+        suppressions,
+        policy,
+        today,
+        workers,
+        gate,
     )?;
     match write_out(out, merged.log.as_str().as_bytes()) {
         Ok(()) => Ok(merged),

@@ -11,8 +11,13 @@ returns-clause-states g c =
     let few_logs = subst (λ n. n ≤ 1000) (sym (length-map ls (λ v. v.items))) c.in_ok-check_numbers.ensures.few_logs in
     let few_baselines = subst (λ n. n ≤ 1000) (sym (length-map bs (λ v. v.items))) c.in_ok-check_numbers.ensures.few_baselines in
     (c.in_ok-merged.ensures.merge (bytes_of ls) (bytes_of bs) (record {
-      all = read.all; inputs = read.inputs; few_logs = few_logs; few_baselines = few_baselines;
-      few = read.few; few_results = read.few_results; faultless = read.faults;
+      all = read.all;
+      inputs = read.inputs;
+      few_logs = few_logs;
+      few_baselines = few_baselines;
+      few = read.few;
+      few_results = read.few_results;
+      faultless = read.faults;
     })).log
 
 pub returns-clause-gate : goal.returns-clause-gate
@@ -23,6 +28,11 @@ returns-clause-gate g c =
     let few_logs = subst (λ n. n ≤ 1000) (sym (length-map ls (λ v. v.items))) c.in_ok-check_numbers.ensures.few_logs in
     let few_baselines = subst (λ n. n ≤ 1000) (sym (length-map bs (λ v. v.items))) c.in_ok-check_numbers.ensures.few_baselines in
     (c.in_ok-merged.ensures.merge (bytes_of ls) (bytes_of bs) (record {
-      all = read.all; inputs = read.inputs; few_logs = few_logs; few_baselines = few_baselines;
-      few = read.few; few_results = read.few_results; faultless = read.faults;
+      all = read.all;
+      inputs = read.inputs;
+      few_logs = few_logs;
+      few_baselines = few_baselines;
+      few = read.few;
+      few_results = read.few_results;
+      faultless = read.faults;
     })).gate

@@ -18,7 +18,7 @@ returns-in_err-rules-clause-merge g c = λ ls bs read.
     let fault = c.in_err-rules.field-0.0 in
     let is : c.from_residual.result ≡ Err fault = search rules in
     subst (λ r. IsMergeOf (given ls bs file c.args.today) c.args.policy.now r) (sym is)
-        (elim c.in_err-rules.ensures.faults [ inl wants ↦ inl wants | inr found ↦ inr (file_first ls bs c.args.runs read file c.args.today fault found) ])
+    (elim c.in_err-rules.ensures.faults [ inl wants ↦ inl wants | inr found ↦ inr (file_first ls bs c.args.runs read file c.args.today fault found) ])
 
 pub returns-in_err-merged-clause-merge : goal.returns-in_err-merged-clause-merge
 returns-in_err-merged-clause-merge g c = λ ls bs read.
@@ -27,7 +27,7 @@ returns-in_err-merged-clause-merge g c = λ ls bs read.
     let is : c.from_residual-in_err-merged.result ≡ Err fault = search rules in
     let same = faults_are ls bs c.args.runs read file c.args.today c.in_ok-rules.ensures.faults in
     subst (λ r. IsMergeOf (given ls bs file c.args.today) c.args.policy.now r) (sym is)
-        (elim c.in_err-merged.ensures.faults [ inl wants ↦ inl wants | inr found ↦ inr (ap first same ∙ found) ])
+    (elim c.in_err-merged.ensures.faults [ inl wants ↦ inl wants | inr found ↦ inr (ap first same ∙ found) ])
 
 pub returns-clause-merge : goal.returns-clause-merge
 returns-clause-merge g c = λ ls bs read.

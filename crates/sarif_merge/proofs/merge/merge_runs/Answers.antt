@@ -124,7 +124,7 @@ returns-clause-merged g c =
     let ds = c.in_ok-current.current.items in
     let es = c.in_ok-current.baseline.items in
     let written = c.in_ok-written.ensures.runs
-        ∙ runs_are all n cs bs current baseline none c.requires.sound c.args.rules.now c.in_ok-matched.matched.states.items c.in_ok-matched.matched.taken.items (map view ds) (map view es) states taken c.in_ok-current.ensures.current c.in_ok-current.ensures.baseline in
+    ∙ runs_are all n cs bs current baseline none c.requires.sound c.args.rules.now c.in_ok-matched.matched.states.items c.in_ok-matched.matched.taken.items (map view ds) (map view es) states taken c.in_ok-current.ensures.current c.in_ok-current.ensures.baseline in
     let without = c.count_without-without.ensures ∙ (ap (λ rs. runs_without_results (map view rs)) c.deref-4.ensures.value ∙ ap runs_without_results c.in_ok-current.ensures.current) in
     let unused = c.in_ok-written.ensures.unused ∙ ap (unused_of c.args.rules.now) current in
     same_log (map view c.in_ok-written.written.runs.items) _ c.args.policy.now c.count_without-without.result c.in_ok-written.written.unused _ _ c.in_ok-merged.merged c.in_ok-merged.ensures written without unused
