@@ -1,4 +1,6 @@
 //! Files by name, opened when they are first used.
+ghost use Rattle.std.specs.Prelude.{◌≡◌, None};
+ghost use Rattle.sarif_gate.specs.declared.files.Stage.TheVariants.{Unopened};
 
 use std::fs;
 use std::io::{self, Read, Write};
@@ -23,7 +25,10 @@ pub struct InputFile<'a, R: Files> {
 
 impl<'a, R: Files> InputFile<'a, R> {
     /// Opens nothing yet.
-    pub fn new(files: &'a R, name: &'a str) -> InputFile<'a, R> {
+    pub fn new(files: &'a R, name: &'a str) -> InputFile<'a, R>
+        ensures name { result.name.now ≡ name.now }
+        ensures unopened { result.stage ≡ Unopened }
+    {
         InputFile {
             files,
             name,
@@ -59,7 +64,10 @@ pub struct OutputFile<'a, R: Files> {
 
 impl<'a, R: Files> OutputFile<'a, R> {
     /// Creates nothing yet.
-    pub fn new(files: &'a R, name: &'a str) -> OutputFile<'a, R> {
+    pub fn new(files: &'a R, name: &'a str) -> OutputFile<'a, R>
+        ensures name { result.name.now ≡ name.now }
+        ensures unopened { result.file ≡ None }
+    {
         OutputFile {
             files,
             name,

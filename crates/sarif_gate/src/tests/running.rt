@@ -1,0 +1,354 @@
+//! What is written, said and complained of, and with which status.
+
+use crate::request::Request;
+use crate::run::run_request;
+use sarif_merge::Counted;
+use sarif_records::Level;
+use std::alloc::Global;
+use std::cell::RefCell;
+use std::io::{self, Read, Write};
+use std::sync::Wait;
+use std::thread::Threads;
+
+/// A log of one run with one result, which has a message alone.
+const LOG: &str = "{\"version\":\"2.1.0\",\"runs\":[{\"tool\":{\"driver\":{\"name\":\"lint\"}},\
+    \"results\":[{\"message\":{\"text\":\"m\"}}]}]}";
+
+/// What is written of it.
+const MERGED: &str = "{\"properties\":{\"gate\":{\"counts\":{\
+    \"absent\":{\"active\":[0,0,0,0],\"suppressed\":[0,0,0,0]},\
+    \"new\":{\"active\":[0,1,0,0],\"suppressed\":[0,0,0,0]},\
+    \"unchanged\":{\"active\":[0,0,0,0],\"suppressed\":[0,0,0,0]},\
+    \"updated\":{\"active\":[0,0,0,0],\"suppressed\":[0,0,0,0]}},\
+    \"failOn\":\"error\",\"hits\":0,\"max\":0,\"runsWithoutResults\":0,\"states\":[\"new\",\"updated\"],\
+    \"unusedSuppressions\":0,\"verdict\":\"pass\"}},\
+    \"runs\":[{\"results\":[{\"baselineState\":\"new\",\"level\":\"warning\",\"message\":{\"text\":\"m\"},\
+    \"suppressions\":[]}],\
+    \"tool\":{\"driver\":{\"name\":\"lint\"}}}],\
+    \"version\":\"2.1.0\"}";
+
+/// What is said of it.
+const SUMMARY: &str = "\
+state           error    warning       note       none suppressed
+new                 0          1          0          0          0
+unchanged           0          0          0          0          0
+updated             0          0          0          0          0
+absent              0          0          0          0          0
+gate: pass, hits 0, max 0
+";
+
+/// A log whose one result has a bad guid.
+const BAD: &str = "{\"version\":\"2.1.0\",\"runs\":[{\"tool\":{\"driver\":{\"name\":\"lint\"}},\
+    \"results\":[{\"message\":{\"text\":\"m\"},\"correlationGuid\":\"x\"}]}]}";
+
+/// Gives at most `piece` of its bytes a read, and fails after so many reads.
+#[derive(Drop)]
+struct Given {
+    bytes: &'static [u8],
+    piece: usize,
+    good: u32,
+}
+
+impl Given {
+    /// All of a text, ten bytes a read.
+    fn whole(text: &'static str) -> Given {
+        Given {
+            bytes: text.as_bytes(),
+            piece: 10,
+            good: 1000,
+        }
+    }
+
+    /// The log, ten bytes a read, which fails after so many reads.
+    fn failing(good: u32) -> Given {
+        Given {
+            bytes: LOG.as_bytes(),
+            piece: 10,
+            good,
+        }
+    }
+}
+
+impl Read for Given {
+    fn read(&mut self, buf: &mut [u8]) -> io::Result<usize> {
+        if self.good == 0 {
+            return Err(io::ErrorKind::Interrupted.into());
+        }
+        self.good -= 1;
+        let count = self.bytes.len().min(buf.len()).min(self.piece);
+        buf[..count].copy_from_slice(&self.bytes[..count]);
+        self.bytes = &self.bytes[count..];
+        Ok(count)
+    }
+}
+
+/// How many bytes the writers of a run take: `piece` of them a write, and the others in all.
+#[derive(Clone, Copy)]
+struct Rooms {
+    piece: usize,
+    out: usize,
+    say: usize,
+    complain: usize,
+}
+
+/// Room for all that is ever written here.
+const AMPLE: Rooms = Rooms {
+    piece: 10_000,
+    out: 10_000,
+    say: 10_000,
+    complain: 10_000,
+};
+
+/// Takes at most `piece` bytes a write and `room` in all, and then fails.
+#[derive(Drop)]
+struct Narrow<'a> {
+    taken: &'a RefCell<Vec<u8>>,
+    piece: usize,
+    room: usize,
+}
+
+impl<'a> Narrow<'a> {
+    fn new(taken: &'a RefCell<Vec<u8>>, piece: usize, room: usize) -> Narrow<'a> {
+        Narrow { taken, piece, room }
+    }
+}
+
+impl Write for Narrow<'_> {
+    fn write(&mut self, buf: &[u8]) -> io::Result<usize> {
+        let count = buf.len().min(self.piece).min(self.room);
+        if count == 0 {
+            return Err(io::ErrorKind::Other.into());
+        }
+        match self.taken.try_borrow_mut() {
+            Ok(mut taken) => taken.extend_from_slice(&buf[..count])?,
+            Err(_) => return Err(io::ErrorKind::Other.into()),
+        }
+        self.room -= count;
+        Ok(count)
+    }
+
+    fn flush(&mut self) -> io::Result<()> {
+        Ok(())
+    }
+}
+
+/// The status of a run, and what its writers took.
+#[derive(Drop)]
+struct Ended {
+    status: u8,
+    out: Vec<u8>,
+    say: Vec<u8>,
+    complain: Vec<u8>,
+}
+
+/// Runs a request over one log alone.
+fn run<T: Threads + Wait + Sync>(
+    threads: &T,
+    alloc: Global,
+    request: &Request,
+    log: Given,
+    rooms: Rooms,
+) -> Ended {
+    let out = RefCell::new(Vec::new(alloc));
+    let say = RefCell::new(Vec::new(alloc));
+    let complain = RefCell::new(Vec::new(alloc));
+    let status = run_request(
+        threads,
+        alloc,
+        request,
+        &mut [Counted::new(log)],
+        &mut [],
+        &mut None,
+        &mut Counted::new(Narrow::new(&out, rooms.piece, rooms.out)),
+        &mut Counted::new(Narrow::new(&say, rooms.piece, rooms.say)),
+        &mut Counted::new(Narrow::new(&complain, rooms.piece, rooms.complain)),
+    );
+    Ended {
+        status,
+        out: out.into_inner(),
+        say: say.into_inner(),
+        complain: complain.into_inner(),
+    }
+}
+
+/// Runs over one log with a baseline and a suppression file.
+fn run_all<T: Threads + Wait + Sync>(
+    threads: &T,
+    alloc: Global,
+    log: Given,
+    baseline: Given,
+    suppressions: Given,
+) -> Ended {
+    let out = RefCell::new(Vec::new(alloc));
+    let say = RefCell::new(Vec::new(alloc));
+    let complain = RefCell::new(Vec::new(alloc));
+    let status = run_request(
+        threads,
+        alloc,
+        &Request::of_standard_streams(alloc),
+        &mut [Counted::new(log)],
+        &mut [Counted::new(baseline)],
+        &mut Some(Counted::new(suppressions)),
+        &mut Counted::new(Narrow::new(&out, AMPLE.piece, AMPLE.out)),
+        &mut Counted::new(Narrow::new(&say, AMPLE.piece, AMPLE.say)),
+        &mut Counted::new(Narrow::new(&complain, AMPLE.piece, AMPLE.complain)),
+    );
+    Ended {
+        status,
+        out: out.into_inner(),
+        say: say.into_inner(),
+        complain: complain.into_inner(),
+    }
+}
+
+#[test]
+fn one_new_warning_passes_a_gate_on_errors(rt: HostRuntime) {
+    let request = Request::of_standard_streams(rt.alloc());
+    let ended = run(&rt, rt.alloc(), &request, Given::whole(LOG), AMPLE);
+    assert_eq!(rt; ended.status, 0);
+    assert_eq!(rt; ended.out.as_slice(), MERGED.as_bytes());
+    assert_eq!(rt; ended.say.as_slice(), SUMMARY.as_bytes());
+    assert!(rt; ended.complain.is_empty());
+}
+
+#[test]
+fn a_gate_on_warnings_fails(rt: HostRuntime) {
+    let mut request = Request::of_standard_streams(rt.alloc());
+    request.policy.fail_on = Level::Warning;
+    let ended = run(&rt, rt.alloc(), &request, Given::whole(LOG), AMPLE);
+    assert_eq!(rt; ended.status, 1);
+    assert!(rt; ended.say.ends_with(b"\ngate: fail, hits 1, max 0\n"));
+}
+
+#[test]
+fn a_gate_that_lets_one_warning_pass(rt: HostRuntime) {
+    let mut request = Request::of_standard_streams(rt.alloc());
+    request.policy.fail_on = Level::Warning;
+    request.policy.max = 1;
+    let ended = run(&rt, rt.alloc(), &request, Given::whole(LOG), AMPLE);
+    assert_eq!(rt; ended.status, 0);
+    assert!(rt; ended.say.ends_with(b"\ngate: pass, hits 1, max 1\n"));
+}
+
+#[test]
+fn a_second_read_that_fails(rt: HostRuntime) {
+    let request = Request::of_standard_streams(rt.alloc());
+    let ended = run(&rt, rt.alloc(), &request, Given::failing(1), AMPLE);
+    assert_eq!(rt; ended.status, 3);
+    assert!(rt; ended.out.is_empty());
+    assert!(rt; ended.say.is_empty());
+    assert_eq!(rt;
+        ended.complain.as_slice(),
+        b"sarif_gate: log 0: ReadFailed\n".as_slice()
+    );
+}
+
+/// The log ends with the eleventh read, and one more is needed to see it.
+#[test]
+fn each_read_that_is_reached_may_fail(rt: HostRuntime) {
+    let request = Request::of_standard_streams(rt.alloc());
+    for good in 0..12 {
+        let ended = run(&rt, rt.alloc(), &request, Given::failing(good), AMPLE);
+        assert_eq!(rt; ended.status, 3);
+        assert!(rt; ended.out.is_empty());
+        assert_eq!(rt;
+            ended.complain.as_slice(),
+            b"sarif_gate: log 0: ReadFailed\n".as_slice()
+        );
+    }
+    let ended = run(&rt, rt.alloc(), &request, Given::failing(12), AMPLE);
+    assert_eq!(rt; ended.status, 0);
+}
+
+#[test]
+fn a_write_that_fails_leaves_the_beginning(rt: HostRuntime) {
+    let request = Request::of_standard_streams(rt.alloc());
+    let rooms = Rooms { out: 10, ..AMPLE };
+    let ended = run(&rt, rt.alloc(), &request, Given::whole(LOG), rooms);
+    assert_eq!(rt; ended.status, 3);
+    assert_eq!(rt; ended.out.as_slice(), b"{\"properti".as_slice());
+    assert!(rt; ended.say.is_empty());
+    assert_eq!(rt;
+        ended.complain.as_slice(),
+        b"sarif_gate: output: WriteFailed\n".as_slice()
+    );
+}
+
+#[test]
+fn writes_that_fail_early_and_late(rt: HostRuntime) {
+    let request = Request::of_standard_streams(rt.alloc());
+    for room in [0, 1, 100, 400, MERGED.len().saturating_sub(1)] {
+        let rooms = Rooms { out: room, ..AMPLE };
+        let ended = run(&rt, rt.alloc(), &request, Given::whole(LOG), rooms);
+        assert_eq!(rt; ended.status, 3);
+        assert_eq!(rt; ended.out.len(), room);
+        assert!(rt; MERGED.as_bytes().starts_with(ended.out.as_slice()));
+        assert!(rt; ended.say.is_empty());
+    }
+}
+
+#[test]
+fn a_writer_that_takes_a_byte_at_a_time(rt: HostRuntime) {
+    let request = Request::of_standard_streams(rt.alloc());
+    let rooms = Rooms { piece: 1, ..AMPLE };
+    let ended = run(&rt, rt.alloc(), &request, Given::whole(LOG), rooms);
+    assert_eq!(rt; ended.status, 0);
+    assert_eq!(rt; ended.out.as_slice(), MERGED.as_bytes());
+    assert_eq!(rt; ended.say.as_slice(), SUMMARY.as_bytes());
+}
+
+#[test]
+fn a_lost_summary_is_told_by_the_status(rt: HostRuntime) {
+    let request = Request::of_standard_streams(rt.alloc());
+    let rooms = Rooms { say: 0, ..AMPLE };
+    let ended = run(&rt, rt.alloc(), &request, Given::whole(LOG), rooms);
+    assert_eq!(rt; ended.status, 3);
+    assert_eq!(rt; ended.out.as_slice(), MERGED.as_bytes());
+}
+
+#[test]
+fn a_lost_complaint_changes_no_status(rt: HostRuntime) {
+    let request = Request::of_standard_streams(rt.alloc());
+    let rooms = Rooms {
+        complain: 0,
+        ..AMPLE
+    };
+    let ended = run(&rt, rt.alloc(), &request, Given::whole("{}"), rooms);
+    assert_eq!(rt; ended.status, 2);
+    assert!(rt; ended.out.is_empty());
+}
+
+#[test]
+fn a_baseline_is_read_before_a_result_is_judged(rt: HostRuntime) {
+    let ended = run_all(
+        &rt,
+        rt.alloc(),
+        Given::whole(BAD),
+        Given::whole("{"),
+        Given::whole("{}"),
+    );
+    assert_eq!(rt; ended.status, 2);
+    assert!(rt; ended.out.is_empty());
+    assert_eq!(rt;
+        ended.complain.as_slice(),
+        b"sarif_gate: baseline 0: NotJson\n".as_slice()
+    );
+}
+
+#[test]
+fn an_entry_without_a_condition_is_refused(rt: HostRuntime) {
+    let file = "{\"version\":1,\"suppressions\":[{}]}";
+    let ended = run_all(
+        &rt,
+        rt.alloc(),
+        Given::whole(BAD),
+        Given::whole(LOG),
+        Given::whole(file),
+    );
+    assert_eq!(rt; ended.status, 2);
+    assert!(rt; ended.out.is_empty());
+    assert_eq!(rt;
+        ended.complain.as_slice(),
+        b"sarif_gate: suppressions, entry 0: EmptyMatch\n".as_slice()
+    );
+}
