@@ -16,9 +16,9 @@ const MERGED: &str = "{\"properties\":{\"gate\":{\"counts\":{\
     \"new\":{\"active\":[0,1,0,0],\"suppressed\":[0,0,0,0]},\
     \"unchanged\":{\"active\":[0,0,0,0],\"suppressed\":[0,0,0,0]},\
     \"updated\":{\"active\":[0,0,0,0],\"suppressed\":[0,0,0,0]}},\
-    \"failOn\":\"error\",\"hits\":0,\"max\":0,\"runsWithoutResults\":0,\"states\":[\"new\",\"updated\"],\
-    \"unusedSuppressions\":0,\"verdict\":\"pass\"}},\
-    \"runs\":[{\"results\":[{\"baselineState\":\"new\",\"level\":\"warning\",\"message\":{\"text\":\"m\"},\
-    \"suppressions\":[]}],\
+    \"failOn\":\"error\",\"hits\":0,\"max\":0,\"runsWithoutResults\":0,\
+    \"states\":[\"new\",\"updated\"],\"unusedSuppressions\":0,\"verdict\":\"pass\"}},\
+    \"runs\":[{\"results\":[{\"baselineState\":\"new\",\"level\":\"warning\",\
+    \"message\":{\"text\":\"m\"},\"suppressions\":[]}],\
     \"tool\":{\"driver\":{\"name\":\"lint\"}}}],\
     \"version\":\"2.1.0\"}";

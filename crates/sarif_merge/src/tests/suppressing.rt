@@ -8,14 +8,18 @@ use std::thread::Threads;
 
 #[test]
 fn entries_that_match_nothing_are_unused(rt: HostRuntime) -> Result<(), Fail> {
-    let mut given = one_log(rt.alloc(), "lint: A")?;
+    let mut given = one_log(rt.alloc(), "lint: M")?;
     given.entries(rt.alloc(), 1, r#"{"ruleId":"NOPE"}"#)?;
     let wanted = Wanted {
         new: "0,1,0,0",
         unused: 1,
         ..NOTHING
     };
-    expect_log(&rt, &given, wanted, "lint: A_NEW")?;
+    let runs = concat!(
+        r#"lint: {"baselineState":"new","level":"warning","#,
+        r#""message":{"text":"m"},"suppressions":[]}"#
+    );
+    expect_log(&rt, &given, wanted, runs)?;
     Ok(())
 }
 
