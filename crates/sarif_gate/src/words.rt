@@ -127,7 +127,8 @@ fn number_of(matches: &ArgMatches<'_>, id: &str) -> Option<u32>
 fn policy_of(matches: &ArgMatches<'_>) -> Policy
     ensures fail_on { result.fail_on ≡ fail_on_in (rows_of (found_of matches.now)) }
     ensures states { result.states ≡ default_policy.states }
-    ensures max { IsReadOr default_policy.max (one_of (codes "max") (rows_of (found_of matches.now))) result.max }
+    ensures max { IsReadOr default_policy.max
+        (one_of (codes "max") (rows_of (found_of matches.now))) result.max }
 {
     let policy = Policy::default();
     Policy {
@@ -140,7 +141,8 @@ fn policy_of(matches: &ArgMatches<'_>) -> Policy
 /// The least level that counts.
 #[tactic(auto, using(crate::proofs::Rows::first_in_rows))]
 fn fail_on_of(matches: &ArgMatches<'_>) -> Option<Level>
-    ensures { result ≡ option_and_then level_named (first_of (codes "fail-on") (rows_of (found_of matches.now))) }
+    ensures { result ≡ option_and_then level_named
+        (first_of (codes "fail-on") (rows_of (found_of matches.now))) }
 {
     match matches.get_str(FAIL_ON) {
         Some(name) => Level::from_name(name),

@@ -9,7 +9,8 @@ use std::alloc::{AllocError, Global};
 
 /// Takes the member `name` out.
 pub(crate) fn remove_member(members: &mut Map<String, Value>, name: &str) -> Option<Value>
-    ensures found { option_map view result ≡ get_member name.now (members_view members.old.entries) }
+    ensures found { option_map view result
+        ≡ get_member name.now (members_view members.old.entries) }
     ensures left { members_view members.new.entries
         ≡ without name.now (members_view members.old.entries) }
 {

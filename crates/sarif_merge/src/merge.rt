@@ -39,7 +39,8 @@ fn merge_runs<G: Gate + Sync, R: Threads + Wait + Sync>(
     requires inputs { runs.inputs ≤ length runs.all.items }
     requires sound { AreSound (take runs.inputs (map placed_of runs.all.items))
         (drop runs.inputs (map placed_of runs.all.items)) }
-    ensures merged { IfOk result (IsMergedBy rules.now (take runs.inputs (map placed_of runs.all.items))
+    ensures merged { IfOk result (IsMergedBy rules.now
+        (take runs.inputs (map placed_of runs.all.items))
         (drop runs.inputs (map placed_of runs.all.items)) policy.now) }
     ensures faults { Answers (faults_of_runs (map placed_of runs.all.items)) result }
     ensures quiet { IsQuiet result }
@@ -69,7 +70,8 @@ pub(crate) fn merge_read<G: Gate + Sync, R: Threads + Wait + Sync>(
     gate: &G,
 ) -> Result<Merged, MergeFault>
     requires workers { (1 ≤ workers) × (workers ≤ 64) }
-    requires read { (logs : List (List ℕ)) × (baselines : List (List ℕ)) × AreRunsOf logs baselines runs }
+    requires read { (logs : List (List ℕ)) × (baselines : List (List ℕ))
+        × AreRunsOf logs baselines runs }
     ensures merge { (logs baselines : List (List ℕ)) → AreRunsOf logs baselines runs → IsMergeOf
         (given logs baselines (option_map (λ b. b.now) suppressions.entry) today) policy.now result }
     ensures quiet { IsQuiet result }

@@ -114,7 +114,8 @@ fn merge_bytes_read<G: Gate + Sync, T: Threads + Wait + Sync>(
     requires workers { (1 ≤ workers) × (workers ≤ 64) }
     requires few_logs { length sources.logs.items ≤ 1000 }
     requires few_baselines { length sources.baselines.items ≤ 1000 }
-    ensures merge { IsMergeOf (given (bytes_of sources.logs.items) (bytes_of sources.baselines.items)
+    ensures merge { IsMergeOf
+        (given (bytes_of sources.logs.items) (bytes_of sources.baselines.items)
         (option_map (λ v. v.items) sources.suppressions) today) policy.now result }
     ensures quiet { IsQuiet result }
 {
@@ -197,7 +198,8 @@ pub fn merge_to<R: Read, W: Write, G: Gate + Sync, T: Threads + Wait + Sync>(
     ensures refused { IfErr result (λ fault. (fault.cause ≡ WriteFailed → ⊥) → IsRefused R.remaining
         (readers logs.old baselines.old suppressions.old)
         (readers logs.new baselines.new suppressions.new) today fault) }
-    ensures untouched { IfErr result (λ fault. (fault.cause ≡ WriteFailed → ⊥) → out.new ≡ out.old) }
+    ensures untouched { IfErr result
+        (λ fault. (fault.cause ≡ WriteFailed → ⊥) → out.new ≡ out.old) }
     // A refusal while writing.
     ensures part { IfErr result (λ fault. fault.cause ≡ WriteFailed → IsPartlyWritten R.remaining
         (readers logs.old baselines.old suppressions.old)
@@ -206,7 +208,8 @@ pub fn merge_to<R: Read, W: Write, G: Gate + Sync, T: Threads + Wait + Sync>(
     ensures read_failed { RisesIf (read_failed_in result)
         (failures (readers logs.old baselines.old suppressions.old))
         (failures (readers logs.new baselines.new suppressions.new)) }
-    ensures write_failed { RisesIf (write_failed_in result) (faults_of out.old) (faults_of out.new) }
+    ensures write_failed { RisesIf (write_failed_in result)
+        (faults_of out.old) (faults_of out.new) }
 {
     let merged = merge_readers(
         rt,
