@@ -1,5 +1,6 @@
 pub mod Elements
 pub mod Stripped
+pub mod StrippedEach
 pub mod Utf8
 pub mod CheckEach
 pub mod NoFraction

@@ -8,13 +8,18 @@ ghost use Rattle.sarif_records.specs.Reading as said;
 ghost use Rattle.sarif_records.specs.declared.fault.Fault.TheVariants.{NotJson, OutOfMemory};
 ghost use Rattle.sarif_records.specs.Stripping.{stripped};
 
+#[cfg(test)]
+mod tests;
+
 use crate::fault::{Fault, ReadFault};
 use crate::log::Log;
 use crate::members::{member_at, objects_at};
 use crate::run::RawRun;
 use crate::stripping::strip_in_place;
+use crate::stripping_together::strip_log;
 use serde_json::Value;
 use std::alloc::Global;
+use std::thread::Threads;
 
 /// The most runs of a log, and of a merge.
 pub const MOST_RUNS: usize = 10_000;
@@ -264,5 +269,24 @@ pub fn read_log(alloc: Global, bytes: &[u8]) -> Result<Log, ReadFault>
 {
     let mut value = read_json(alloc, without_mark(bytes))?;
     strip_in_place(&mut value);
+    log_of_value(alloc, value)
+}
+
+/// Reads a log as [`read_log`] does, with the same refusals. At most `threads` threads strip it, the
+/// calling one among them; with fewer than two, that one does all of it.
+#[tactic(auto, unfolding(crate::specs::Reading::log_of))]
+pub fn read_log_with<R: Threads + Sync>(
+    rt: &R,
+    alloc: Global,
+    bytes: &[u8],
+    threads: u32,
+) -> Result<Log, ReadFault>
+    ensures ok { IfOk result (λ log. said.log_of bytes.now ≡ Ok (map view log)) }
+    ensures few { IfOk result (λ log. results_total (map view log) ≤ 1000000) }
+    ensures few_runs { IfOk result (λ log. length log ≤ 10000) }
+    ensures err { IfErr result (λ e. ¬ (e.fault ≡ OutOfMemory) → said.log_of bytes.now ≡ Err e) }
+{
+    let mut value = read_json(alloc, without_mark(bytes))?;
+    strip_log(rt, &mut value, threads);
     log_of_value(alloc, value)
 }
