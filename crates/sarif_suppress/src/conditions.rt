@@ -94,11 +94,12 @@ impl Conditions {
     pub(crate) fn hold(&self, record: &Record) -> bool
         ensures { result ≡ said.hold self.now «record».now }
     {
-        is_text(&self.rule_id, &record.rule_id)
-            && is_text(&self.tool, &record.tool)
+        // Numbers first, and then what tells entries of one rule apart.
+        is_guid(self.guid, record.guid)
             && is_there(&self.uri, &record.place.uri)
             && begins(&self.uri_prefix, &record.place.uri)
-            && is_guid(self.guid, record.guid)
+            && is_text(&self.rule_id, &record.rule_id)
+            && is_text(&self.tool, &record.tool)
             && are_among(self.full.as_slice(), record.full.as_slice())
             && are_among(self.partial.as_slice(), record.partial.as_slice())
     }

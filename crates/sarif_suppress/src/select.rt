@@ -1,4 +1,4 @@
-//! Which entries match a result, among those whose numbers the table gives.
+//! Which entries match a result, among those whose numbers the tables give.
 ghost use Rattle.std.specs.Prelude.{◌≡◌, ◌+◌, ◌<◌, ◌∷◌, ◌&&◌, [], false, filter, length, IfOk, IfNone, IfSome, if◌then◌else◌};
 ghost use Rattle.std.specs.List.{list_all, list_any};
 ghost use Rattle.sarif_suppress.specs.Matching.{is_empty, matches};
@@ -30,30 +30,61 @@ fn take_least<'a>(left: &'a [u32], right: &'a [u32]) -> Option<(u32, &'a [u32], 
     }
 }
 
-/// The numbers of two rising lists whose entries match the result.
+/// The same of three rising lists.
+fn take_least_of_three<'a>(
+    first: &'a [u32],
+    second: &'a [u32],
+    third: &'a [u32],
+) -> Option<(u32, &'a [u32], &'a [u32], &'a [u32])>
+    ensures none { IfNone result (merged first.now (merged second.now third.now) ≡ []) }
+    ensures least { IfSome result (λ t. merged first.now (merged second.now third.now)
+        ≡ t.0 ∷ merged t.1.now (merged t.2.now t.3.now)) }
+    ensures fewer { IfSome result (λ t. length t.1.now + (length t.2.now + length t.3.now)
+        < length first.now + (length second.now + length third.now)) }
+{
+    match (first, take_least(second, third)) {
+        ([], None) => None,
+        ([n, rest @ ..], None) => Some((*n, rest, second, third)),
+        ([], Some((m, second_rest, third_rest))) => Some((m, first, second_rest, third_rest)),
+        ([n, first_rest @ ..], Some((m, second_rest, third_rest))) => {
+            if *n < m {
+                Some((*n, first_rest, second, third))
+            } else {
+                Some((m, first, second_rest, third_rest))
+            }
+        }
+    }
+}
+
+/// The numbers of three rising lists whose entries match the result.
 pub(crate) fn select(
     alloc: Global,
     entries: &[Entry],
     today: Option<u32>,
     record: &Record,
-    named: &[u32],
+    by_guid: &[u32],
+    by_rule: &[u32],
     others: &[u32],
 ) -> Result<Sequence<u32>, AllocError>
     ensures { IfOk result (λ found. found
         ≡ filter (passes_at (λ e. matches today e «record».now) entries.now)
-        (merged named.now others.now)) }
+        (merged by_guid.now (merged by_rule.now others.now))) }
 {
     let mut found = Sequence::new(alloc);
-    let mut left = named;
-    let mut right = others;
-    while let Some((number, left_rest, right_rest)) = take_least(left, right) {
+    let mut first = by_guid;
+    let mut second = by_rule;
+    let mut third = others;
+    while let Some((number, first_rest, second_rest, third_rest)) = take_least_of_three(
+        first, second, third,
+    ) {
         if let Some(entry) = entries.get(number as usize) {
             if entry.matches(today, record) {
                 found.push(number)?;
             }
         }
-        left = left_rest;
-        right = right_rest;
+        first = first_rest;
+        second = second_rest;
+        third = third_rest;
     }
     Ok(found)
 }

@@ -10,7 +10,9 @@ use crate::entry::Entry;
 use crate::marks::Marks;
 use crate::object::{object_of, with_objects};
 use crate::select::{do_suppress, is_used, select};
-use crate::table::{numbers_by_rule, numbers_for, numbers_without_rule};
+use crate::table::{
+    numbers_by_guid, numbers_by_rule, numbers_for, numbers_of_others, numbers_with_guid,
+};
 use indexmap::IndexMap;
 use sarif_records::{Record, Sequence, Text};
 use serde_json::Value;
@@ -23,8 +25,9 @@ use std::marker::Model;
 pub struct Suppressions {
     entries: Vec<Entry>,
     today: Option<u32>,
+    by_guid: IndexMap<u128, Vec<u32>>,
     by_rule: IndexMap<Text, Vec<u32>>,
-    without_rule: Vec<u32>,
+    others: Vec<u32>,
 }
 
 impl Model for Suppressions {
@@ -35,7 +38,7 @@ impl Model for Suppressions {
 
     ghost view = { λ s. record { entries = s.entries.items; today = s.today } };
 
-    ghost invariant = { λ s. IsTable s.entries.items s.by_rule s.without_rule.items };
+    ghost invariant = { λ s. IsTable s.entries.items s.by_guid s.by_rule s.others.items };
 }
 
 /// What a suppression file makes of a result.
@@ -48,7 +51,7 @@ pub struct Applied {
 }
 
 impl Suppressions {
-    /// At most 10,000 entries, with their table.
+    /// At most 10,000 entries, with their tables.
     pub(crate) fn new(
         alloc: Global,
         entries: Vec<Entry>,
@@ -57,13 +60,15 @@ impl Suppressions {
         requires { length entries.items ≤ 10000 }
         ensures { IfOk result (λ s. s ≡ record { entries = entries.items; today = today }) }
     {
+        let by_guid = numbers_by_guid(alloc, &entries)?;
         let by_rule = numbers_by_rule(alloc, &entries)?;
-        let without_rule = numbers_without_rule(alloc, &entries)?;
+        let others = numbers_of_others(alloc, &entries)?;
         Ok(Suppressions {
             entries,
             today,
+            by_guid,
             by_rule,
-            without_rule,
+            others,
         })
     }
 
@@ -98,9 +103,18 @@ impl Suppressions {
         ensures verdict { IfOk result
             (λ applied. applied.suppressed ≡ is_suppressed self.now «record».now) }
     {
-        let named = numbers_for(&self.by_rule, &record.rule_id);
-        let others = self.without_rule.as_slice();
-        let entries = select(alloc, &self.entries, self.today, record, named, others)?;
+        let by_guid = numbers_with_guid(&self.by_guid, record.guid);
+        let by_rule = numbers_for(&self.by_rule, &record.rule_id);
+        let others = self.others.as_slice();
+        let entries = select(
+            alloc,
+            &self.entries,
+            self.today,
+            record,
+            by_guid,
+            by_rule,
+            others,
+        )?;
         let suppressed = do_suppress(record.held.as_slice(), &self.entries, entries.as_slice());
         Ok(Applied {
             entries,

@@ -116,6 +116,37 @@ fn entries_are_applied_in_file_order(rt: HostRuntime) -> Result<(), Fail> {
     expect_written(&rt, &rules, &finding, "[]", (list, false))
 }
 
+/// Asserts which entries match a result at the place `a.c` with that rule id and guid.
+fn expect_entries(
+    rt: &(impl Abort + AllocGlobal),
+    rules: &Suppressions,
+    rule_id: &str,
+    guid: Option<u128>,
+    wanted: &[u32],
+) -> Result<(), Fail> {
+    let mut finding = result_at(rt.alloc(), rule_id, Some("a.c"))?;
+    finding.guid = guid;
+    let applied = rules.apply(rt.alloc(), &finding)?;
+    assert!(rt; applied.entries.as_slice() == wanted);
+    Ok(())
+}
+
+#[test]
+fn entries_are_found_by_guid_by_rule_and_by_neither(rt: HostRuntime) -> Result<(), Fail> {
+    let entries = "{\"ruleId\":\"R1\"},\
+         {\"guid\":\"00000000-0000-4000-8000-00000000000a\"},\
+         {\"uri\":\"a.c\"},\
+         {\"guid\":\"00000000-0000-4000-8000-00000000000a\",\"ruleId\":\"R1\"}";
+    let rules = rules_of(rt.alloc(), 1, entries, None)?;
+    let guid = Some(0x00000000_0000_4000_8000_00000000000a);
+    let other = Some(0x00000000_0000_4000_8000_00000000000b);
+    expect_entries(&rt, &rules, "R1", guid, &[0, 1, 2, 3])?;
+    expect_entries(&rt, &rules, "R2", guid, &[1, 2])?;
+    expect_entries(&rt, &rules, "R1", other, &[0, 2])?;
+    expect_entries(&rt, &rules, "R1", None, &[0, 2])?;
+    expect_entries(&rt, &rules, "R2", None, &[2])
+}
+
 /// Sets the marks of a result with that rule id.
 fn mark(
     alloc: Global,
