@@ -1,5 +1,5 @@
 -- A refusal that is no failed read and no failed write has status 2.
-use Rattle.std.proofs.Common.{◌≡◌, ℕ, ◌+◌, Bool, true, false, if◌then◌else◌, arith, refl}
+use Rattle.std.proofs.Common.{◌≡◌, ℕ, Bool, true, false, arith, refl}
 use Rattle.sarif_merge.specs.declared.fault.Cause.{Cause}
 use Rattle.sarif_merge.specs.declared.fault.Cause.TheVariants.{ReadFailed, WriteFailed}
 use Rattle.sarif_merge.specs.Counted.{RisesIf}

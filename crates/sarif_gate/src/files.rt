@@ -1,6 +1,8 @@
 //! Files by name, opened when they are first used.
-ghost use Rattle.std.specs.Prelude.{◌≡◌, None};
-ghost use Rattle.sarif_gate.specs.declared.files.Stage.TheVariants.{Unopened};
+ghost use Rattle.std.specs.Prelude.{◌≡◌, ◌<◌, None, Ok, IfOk, IsOk, OnOk, OnErr};
+ghost use Rattle.std.specs.Io.{ReadsAtMost, WritesAtMost};
+ghost use Rattle.std.specs.Io.KnownBytes.{Keeps, ReadConsumes, WriteAppends};
+ghost use Rattle.sarif_gate.specs.declared.files.Stage.TheVariants.{Unopened, Open, Ended};
 
 use std::fs;
 use std::io::{self, Read, Write};
@@ -38,7 +40,17 @@ impl<'a, R: Files> InputFile<'a, R> {
 }
 
 impl<R: Files> Read for InputFile<'_, R> {
-    fn read(&mut self, buf: &mut [u8]) -> io::Result<usize> {
+    fn read(&mut self, buf: &mut [u8]) -> io::Result<usize>
+        ensures bound { ReadsAtMost result buf.new }
+        ensures bytes { ReadConsumes None None result buf.new }
+        ensures name { self.new.name.now ≡ self.old.name.now }
+        // Bytes come from an open file alone.
+        ensures open { IfOk result (λ n. 0 < n → (file : _) × (self.new.stage ≡ Open file)) }
+        // Only a read that gives none ends it, and it stays ended.
+        ensures closed { IfOk result (λ n. n ≡ 0 → self.new.stage ≡ Ended) }
+        ensures failed { OnErr result (self.new.stage ≡ Ended → ⊥) }
+        ensures ended { self.old.stage ≡ Ended → result ≡ Ok 0 }
+    {
         if matches!(self.stage, Stage::Unopened) {
             self.stage = Stage::Open(fs::open(self.files, self.name)?);
         }
@@ -77,7 +89,14 @@ impl<'a, R: Files> OutputFile<'a, R> {
 }
 
 impl<R: Files> Write for OutputFile<'_, R> {
-    fn write(&mut self, buf: &[u8]) -> io::Result<usize> {
+    fn write(&mut self, buf: &[u8]) -> io::Result<usize>
+        ensures bound { WritesAtMost result buf.now }
+        ensures bytes { WriteAppends None None result buf.now }
+        ensures name { self.new.name.now ≡ self.old.name.now }
+        // Bytes are taken by a created file alone, and it stays.
+        ensures created { OnOk result (self.new.file ≡ None → ⊥) }
+        ensures kept { self.new.file ≡ None → self.old.file ≡ None }
+    {
         if self.file.is_none() {
             self.file = Some(fs::create(self.files, self.name)?);
         }
@@ -87,7 +106,13 @@ impl<R: Files> Write for OutputFile<'_, R> {
         }
     }
 
-    fn flush(&mut self) -> io::Result<()> {
+    fn flush(&mut self) -> io::Result<()>
+        ensures bytes { Keeps None None }
+        ensures name { self.new.name.now ≡ self.old.name.now }
+        // Where nothing was written, nothing is created, and that is fine.
+        ensures uncreated { self.old.file ≡ None → IsOk result × (self.new.file ≡ None) }
+        ensures kept { self.new.file ≡ None → self.old.file ≡ None }
+    {
         match &mut self.file {
             Some(file) => file.flush(),
             None => Ok(()),

@@ -1,9 +1,12 @@
 //! Merges SARIF 2.1.0 logs, and fails where too many new or updated results are left.
 #![tactic(auto)]
 
-ghost use Rattle.std.specs.Prelude.{◌≡◌, IfOk, length};
+ghost use Rattle.std.specs.Prelude.{◌≡◌, ◌≤◌, IfOk, IfErr, Result, length, map, string_bytes};
 ghost use Rattle.std.specs.List.{All};
 ghost use Rattle.sarif_merge.specs.Counted.{faults_of};
+ghost use Rattle.sarif_gate.specs.Words.{Answers, words_status};
+ghost use Rattle.sarif_gate.specs.declared.request.Request.{Request as Asked};
+ghost use Rattle.sarif_gate.specs.declared.words.WordsFault.{WordsFault as Mistake};
 
 mod command;
 mod complaint;
@@ -47,7 +50,9 @@ fn words_of(rt: &HostRuntime) -> io::Result<Vec<String>> {
 }
 
 /// Merges one log from standard input to standard output, and says on standard error how it went.
-fn run_streams<T: Threads + Wait + Sync>(rt: &HostRuntime, threads: &T) -> u8 {
+fn run_streams<T: Threads + Wait + Sync>(rt: &HostRuntime, threads: &T) -> u8
+    ensures known { result ≤ 3 }
+{
     let request = Request::of_standard_streams(rt.alloc());
     let mut logs = [Counted::new(rt.stdin())];
     let mut out = Counted::new(rt.stdout());
@@ -67,7 +72,12 @@ fn run_streams<T: Threads + Wait + Sync>(rt: &HostRuntime, threads: &T) -> u8 {
 }
 
 /// Does what the words ask for.
-fn run_words<T: Threads + Wait + Sync>(rt: &HostRuntime, threads: &T, words: &[String]) -> u8 {
+fn run_words<T: Threads + Wait + Sync>(rt: &HostRuntime, threads: &T, words: &[String]) -> u8
+    // Where the words make no request, the status is that of their fault, or of want of memory.
+    ensures told { (asked : Result Asked Mistake) × Answers (map string_bytes words.now) asked
+        × IfErr asked (λ fault. result ≡ words_status fault) }
+    ensures known { result ≤ 3 }
+{
     match read_words(rt.alloc(), words) {
         Ok(request) => match run_files(rt, threads, &request) {
             Ok(status) => status,
@@ -90,7 +100,9 @@ fn run_files<T: Threads + Wait + Sync>(
     rt: &HostRuntime,
     threads: &T,
     request: &Request,
-) -> Result<u8, AllocError> {
+) -> Result<u8, AllocError>
+    ensures known { IfOk result (λ status. status ≤ 3) }
+{
     let mut logs = inputs_of(rt, &request.logs)?;
     let mut baselines = inputs_of(rt, &request.baselines)?;
     let mut suppressions = match &request.suppress {

@@ -1,7 +1,7 @@
 -- What is found in an annotated result.
-use Rattle.std.proofs.Common.{◌≡◌, ℕ, Bool, List, Option, Some, ◌&&◌, codes, refl, sym, ap, ◌∙◌}
-use Rattle.serde_json.specs.Data.{Data, string, array, object, Items, Members, put}
-use Rattle.serde_json.specs.Find.{get, get_member}
+use Rattle.std.proofs.Common.{◌≡◌, Bool, Some, ◌&&◌, codes, ap, ◌∙◌}
+use Rattle.serde_json.specs.Data.{string, array, object, Items, Members, put}
+use Rattle.serde_json.specs.Find.{get_member}
 use Rattle.serde_json.proofs.Views.{get_member-put, get_member-put_other}
 use Rattle.sarif_records.specs.declared.kinds.Level.{Level}
 use Rattle.sarif_records.specs.declared.kinds.State.{State}

@@ -1,5 +1,5 @@
 -- The results of two lists of runs are those of the first and those of the second.
-use Rattle.std.proofs.Common.{◌≡◌, ℕ, ◌+◌, ◌++◌, List, [], ◌∷◌, Bool, arith, refl}
+use Rattle.std.proofs.Common.{◌≡◌, ◌+◌, ◌++◌, List, [], ◌∷◌, Bool, arith}
 use Rattle.serde_json.specs.Data.{Data}
 use Rattle.sarif_records.specs.declared.kinds.Level.{Level}
 use Rattle.sarif_records.specs.declared.kinds.State.{State}

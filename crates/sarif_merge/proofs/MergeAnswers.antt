@@ -1,5 +1,5 @@
 -- The merge of what was read, from the runs and the suppression file of it.
-use Rattle.std.proofs.Common.{◌≡◌, ℕ, ◌≤◌, ◌++◌, List, [], ◌∷◌, Bool, true, false, Option, Some, None, Result, Ok, Err, take, drop, length, map, inl, inr, arith, refl, sym, ap, subst, ◌∙◌}
+use Rattle.std.proofs.Common.{◌≡◌, ℕ, ◌≤◌, ◌++◌, List, [], ◌∷◌, false, Option, Some, Ok, take, drop, length, map, arith, refl, sym, ap, subst, ◌∙◌}
 use Rattle.std.proofs.lemmas.List.{length-map, length-append}
 use Rattle.std.specs.Prelude.{nat_lt}
 use Rattle.std.proofs.lemmas.Bool.Decides.{nat_tests}
@@ -15,11 +15,11 @@ use Rattle.sarif_merge.specs.declared.merged.Merged.{Merged}
 use Rattle.sarif_merge.specs.declared.policy.Policy.{Policy}
 use Rattle.sarif_merge.specs.declared.sources.Runs.{Runs}
 use Rattle.sarif_merge.specs.AreSound.{AreSound}
-use Rattle.sarif_merge.specs.Faults.{Answers, IsWanting, faults_of, file_faults, file_or_none, first, number_faults}
-use Rattle.sarif_merge.specs.Inputs.{Placed, numbered, placed}
+use Rattle.sarif_merge.specs.Faults.{faults_of, file_faults, file_or_none, first, number_faults}
+use Rattle.sarif_merge.specs.Inputs.{numbered, placed}
 use Rattle.sarif_merge.specs.Judging.{faults_of_runs}
-use Rattle.sarif_merge.specs.Merged.{given, AreRunsOf, IsMerged, IsMergedBy, IsMergeOf}
-use Rattle.sarif_merge.specs.MergedLog.{data_of, file_given, file_in}
+use Rattle.sarif_merge.specs.Merged.{given, AreRunsOf, IsMerged, IsMergedBy}
+use Rattle.sarif_merge.specs.MergedLog.{data_of, file_in}
 use Rattle.sarif_merge.specs.PlacedRun.{placed_of}
 use Rattle.sarif_merge.specs.ReadSoFar.{sources_of}
 use Rattle.sarif_merge.specs.SourceFaults.{source_faults}

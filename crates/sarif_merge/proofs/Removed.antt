@@ -1,5 +1,5 @@
 -- A map without an entry, beside its members without those of that name.
-use Rattle.std.proofs.Common.{◌≡◌, ℕ, Bool, true, false, cond, List, [], ◌∷◌, Option, Some, None, nat_cmp, is_eq, bytes_eq, string_bytes, if◌then◌else◌, String, Global, true≢false, refl, sym, ap, ◌∙◌}
+use Rattle.std.proofs.Common.{◌≡◌, ℕ, Bool, true, false, cond, List, [], ◌∷◌, Option, Some, None, nat_cmp, is_eq, bytes_eq, string_bytes, if◌then◌else◌, String, Global, true≢false, refl, sym, ap}
 use Rattle.std.proofs.lemmas.Map.Text.{is_eq-slice_cmp}
 use Rattle.std.specs.Cmp.Lexicographic.{slice_cmp}
 use Rattle.std.specs.Map.{lookup, remove_entry}

@@ -1,8 +1,5 @@
 -- Facts of runs that were read: their faults in two parts, and how many results and states they have.
-use Rattle.std.proofs.Common.{◌≡◌, ℕ, suc, ◌+◌, ◌≤◌, ◌++◌, List, [], ◌∷◌, Bool, true, false, not, Option, cond, take, drop, length, filter, arith, refl, sym, ap, subst, ◌∙◌}
-use Rattle.std.proofs.lemmas.List.{take-append-drop}
-use Rattle.std.proofs.lemmas.List.Concat.{flat_map-append}
-use Rattle.std.proofs.lemmas.List.FromFn.{length-map-range_with_len}
+use Rattle.std.proofs.Common.{◌≡◌, ℕ, suc, ◌+◌, ◌≤◌, ◌++◌, List, [], ◌∷◌, Bool, true, false, not, Option, cond, take, drop, length, arith, refl, ap, subst, ◌∙◌}
 use Rattle.std.proofs.lemmas.List.Sums.{sum_by-cons}
 use Rattle.std.specs.List.{sum_by}
 use Rattle.serde_json.specs.Data.{Data}
@@ -14,7 +11,7 @@ use Rattle.sarif_merge.specs.declared.merged.Merged.{Merged}
 use Rattle.sarif_merge.specs.declared.policy.Policy.{Policy}
 use Rattle.sarif_merge.specs.AreSound.{AreSound}
 use Rattle.sarif_merge.specs.Inputs.{Placed}
-use Rattle.sarif_merge.specs.Judging.{run_faults, faults_of_runs, records_of}
+use Rattle.sarif_merge.specs.Judging.{faults_of_runs, records_of}
 use Rattle.sarif_merge.specs.Merged.{IsLogOf}
 use Rattle.sarif_merge.specs.MergedLog.{states_from, states_of, taken_of, data_of, listing_of, runs_by}
 use Rattle.sarif_merge.specs.MergedRuns.{present, merged_runs, absent_runs}

@@ -1,8 +1,6 @@
 -- One result more of a baseline run.
-use Rattle.std.proofs.Common.{◌≡◌, ℕ, suc, ◌+◌, ◌<◌, Bool, true, false, not, List, [], ◌∷◌, ◌++◌, length, get_or, drop, drop-cons, add-one, append_assoc, refl, sym, ap, ◌∙◌}
-use Rattle.serde_json.specs.Data.{Data, Items, item}
-use Rattle.sarif_records.specs.declared.kinds.Level.{Level}
-use Rattle.sarif_records.specs.declared.kinds.State.{State}
+use Rattle.std.proofs.Common.{◌≡◌, ℕ, suc, ◌+◌, ◌<◌, Bool, false, List, [], ◌∷◌, ◌++◌, length, get_or, drop, drop-cons, add-one, append_assoc, sym, ap, ◌∙◌}
+use Rattle.serde_json.specs.Data.{Data}
 use Rattle.sarif_records.specs.declared.kinds.State.TheVariants.{Absent}
 use Rattle.sarif_records.specs.declared.record.Record.{Record}
 use Rattle.sarif_records.specs.Run.{is_absent_result}

@@ -1,7 +1,7 @@
 -- An annotated result (SARIF 2.1.0, "result object": "level property", "baselineState property", "suppressions
 -- property").
-use Rattle.std.specs.Prelude.{ℕ, List, Option, codes, bytes_eq, if◌then◌else◌}
-use Rattle.serde_json.specs.Data.{Data, null, boolean, number, string, array, object, Items, Members, no_members, member, put}
+use Rattle.std.specs.Prelude.{codes}
+use Rattle.serde_json.specs.Data.{Data, null, boolean, number, string, array, object, Items, Members, put}
 use Rattle.serde_json.specs.Find.{get_member}
 use Rattle.sarif_records.specs.declared.kinds.Level.{Level}
 use Rattle.sarif_records.specs.declared.kinds.State.{State}

@@ -1,5 +1,5 @@
 -- What is known of runs that were read.
-use Rattle.std.specs.Prelude.{◌≡◌, ℕ, ◌+◌, ◌≤◌, true, false, List, length}
+use Rattle.std.specs.Prelude.{◌≡◌, ◌+◌, ◌≤◌, true, false, List, length}
 use Rattle.std.specs.List.{AllByRecursion, list_any}
 use Rattle.serde_json.specs.Written.{has_float}
 use Rattle.sarif_records.specs.Run.{results_total}

@@ -1,7 +1,6 @@
 -- What the merge knows of each result, and the faults of runs and results.
 use Rattle.std.specs.Prelude.{ℕ, ◌+◌, Bool, true, false, ◌&&◌, List, [], ◌∷◌, map, length, Option, Some, None, Result, Ok, Err, if◌then◌else◌}
 use Rattle.std.specs.List.{flat_map, range_with_len}
-use Rattle.serde_json.specs.Data.{Data}
 use Rattle.sarif_records.specs.declared.fault.Fault.{Fault}
 use Rattle.sarif_records.specs.declared.record.Record.{Record}
 use Rattle.sarif_records.specs.Run.{results_of, result_at, is_absent_result}

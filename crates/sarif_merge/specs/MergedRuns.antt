@@ -1,7 +1,7 @@
 -- The runs of a merged log: each input run with its results annotated, then each baseline run that has a result
 -- which no current result is paired with (SARIF 2.1.0, "run object").
-use Rattle.std.specs.Prelude.{ℕ, Bool, true, false, not, List, [], ◌∷◌, ◌++◌, take, drop, length, filter, Option, Some, None, codes, bytes_eq, option_and_then, if◌then◌else◌}
-use Rattle.serde_json.specs.Data.{Data, array, Items, no_items, item, Members, no_members, member, put}
+use Rattle.std.specs.Prelude.{ℕ, Bool, true, false, not, List, [], ◌∷◌, take, drop, length, filter, Option, Some, None, codes, bytes_eq, option_and_then, if◌then◌else◌}
+use Rattle.serde_json.specs.Data.{Data, array, Items, Members, no_members, member, put}
 use Rattle.serde_json.specs.Find.{as_array, get_member}
 use Rattle.serde_json.specs.View.{items_of}
 use Rattle.sarif_records.specs.declared.kinds.State.{State}

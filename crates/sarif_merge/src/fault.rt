@@ -209,6 +209,11 @@ impl<T: Drop> From<AllocFailed<T>> for MergeFault {
 }
 
 impl fmt::Display for Source {
+    ghost use Rattle.std.specs.Prelude.{Some};
+    ghost use Rattle.sarif_merge.specs.FaultText.{source_text};
+
+    ghost output = { λ source. Some (source_text source) };
+
     fn fmt<W: fmt::Write>(&self, f: &mut fmt::Formatter<W>) -> fmt::Result {
         match *self {
             Source::Log(number) => write!(f, "log {number}"),
@@ -220,6 +225,11 @@ impl fmt::Display for Source {
 }
 
 impl fmt::Display for At {
+    ghost use Rattle.std.specs.Prelude.{Some};
+    ghost use Rattle.sarif_merge.specs.FaultText.{at_text};
+
+    ghost output = { λ at. Some (at_text at) };
+
     fn fmt<W: fmt::Write>(&self, f: &mut fmt::Formatter<W>) -> fmt::Result {
         match *self {
             At::Nowhere => Ok(()),

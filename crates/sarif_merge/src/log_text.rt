@@ -5,8 +5,12 @@ ghost use Rattle.serde_json.specs.View.{view};
 ghost use Rattle.serde_json.specs.Written.{compact_text, has_float};
 ghost use Rattle.sarif_merge.specs.MergedLog.{log_with};
 
+use crate::moved_text::push_text;
 use serde_json::{Value, json};
 use std::alloc::{AllocError, Global};
+
+/// How many arrays and objects a result of a log lies in: the log, its runs, the run and its results.
+const ABOVE_RESULTS: u32 = 4;
 
 /// The log with this gate and these runs.
 fn log_value(alloc: Global, gate: Value, runs: Vec<Value>) -> Result<Value, AllocError>
@@ -29,5 +33,7 @@ pub(crate) fn log_text(alloc: Global, gate: Value, runs: Vec<Value>) -> Result<S
         (λ s. string_bytes s ≡ compact_text (log_with (view gate) (map view runs.items))) }
 {
     let log = log_value(alloc, gate, runs)?;
-    log.to_string(alloc)
+    let mut text = String::new(alloc);
+    push_text(alloc, &mut text, log, ABOVE_RESULTS)?;
+    Ok(text)
 }

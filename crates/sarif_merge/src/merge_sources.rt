@@ -7,7 +7,9 @@ ghost use Rattle.sarif_merge.specs.Failing.{read_failed_in, write_failed_in, IsQ
 ghost use Rattle.sarif_merge.specs.Merged.{given, bytes_of, IsMergeOf};
 ghost use Rattle.sarif_merge.specs.OptionalReader.{faults_if};
 ghost use Rattle.sarif_merge.specs.WereRead.{readers, failures, HasStoppedIf, HasStoppedAt, IsMergedFrom, IsPartlyWritten, IsReadIf, IsRefused, WereRead};
+ghost use Rattle.sarif_merge.specs.declared.fault.At.TheVariants.{Whole};
 ghost use Rattle.sarif_merge.specs.declared.fault.Cause.TheVariants.{WriteFailed};
+ghost use Rattle.sarif_merge.specs.declared.fault.Source.TheVariants.{Output};
 
 use crate::counted::Counted;
 use crate::fault::{At, Cause, MergeFault, Source};
@@ -101,7 +103,8 @@ fn slice_of(bytes: &Option<Vec<u8>>) -> Option<&[u8]>
     }
 }
 
-/// Merges what was read; each source's bytes are let go once they are parsed.
+/// Merges what was read. The sources are parsed by the workers and the calling thread, and each one's bytes are let go
+/// once it is parsed.
 fn merge_bytes_read<G: Gate + Sync, T: Threads + Wait + Sync>(
     rt: &T,
     alloc: Global,
@@ -124,7 +127,7 @@ fn merge_bytes_read<G: Gate + Sync, T: Threads + Wait + Sync>(
         baselines,
         suppressions,
     } = sources;
-    let runs = read_owned_runs(alloc, logs, baselines)?;
+    let runs = read_owned_runs(rt, alloc, logs, baselines, workers + 1)?;
     let file = slice_of(&suppressions);
     let merged = merge_read(rt, alloc, runs, file, policy, today, workers, gate)?;
     Ok(merged)
@@ -205,6 +208,7 @@ pub fn merge_to<R: Read, W: Write, G: Gate + Sync, T: Threads + Wait + Sync>(
         (readers logs.old baselines.old suppressions.old)
         (readers logs.new baselines.new suppressions.new) today policy.now
         (W.contents (inner_of out.old)) (W.contents (inner_of out.new))) }
+    ensures place { IfErr result (λ fault. fault.cause ≡ WriteFailed → fault.at ≡ Whole Output) }
     ensures read_failed { RisesIf (read_failed_in result)
         (failures (readers logs.old baselines.old suppressions.old))
         (failures (readers logs.new baselines.new suppressions.new)) }

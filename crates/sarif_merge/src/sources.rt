@@ -7,15 +7,18 @@ ghost use Rattle.sarif_merge.specs.Failing.{IsQuiet};
 ghost use Rattle.sarif_merge.specs.Faults.{Answers, IsTooMany, number_faults};
 ghost use Rattle.sarif_merge.specs.Inputs.{numbered, placed, placed_from, readable};
 ghost use Rattle.sarif_merge.specs.MergedLog.{data_of};
+ghost use Rattle.sarif_merge.specs.Parsed.{AreParsedFrom, IsParsedFrom};
 ghost use Rattle.sarif_merge.specs.PlacedRun.{placed_of};
 ghost use Rattle.sarif_merge.specs.ReadSoFar.{IsCounted, faults_with, sources_of};
 ghost use Rattle.sarif_merge.specs.SourceFaults.{reading_faults, limit_faults, source_faults};
 ghost use Rattle.sarif_merge.specs.SourceKind.{source_of};
 
 use crate::fault::{At, Cause, MergeFault, Source};
+use crate::parsing::{ParsedSources, parse, parse_sources};
 use crate::placed::PlacedRun;
-use sarif_records::{Log, MOST_RESULTS, MOST_RUNS, RawRun, read_log};
+use sarif_records::{Log, MOST_RESULTS, MOST_RUNS, RawRun, ReadFault};
 use std::alloc::{AllocError, Global};
+use std::thread::Threads;
 
 /// How many sources of each kind a merge may have.
 const MOST_SOURCES: usize = 1_000;
@@ -71,16 +74,17 @@ fn too_many(source: Source) -> MergeFault
     MergeFault::found(At::Whole(source), Cause::TooMany)
 }
 
-/// The runs of one source.
+/// The log that was parsed of a source, or its fault with its place.
 #[tactic(auto, using(crate::proofs::QuietFaults::quiet_fault))]
-fn read_one(alloc: Global, source: Source, bytes: &[u8]) -> Result<Log, MergeFault>
-    ensures runs { IfOk result (λ log. log_of bytes.now ≡ Ok (map view log)) }
-    ensures few_runs { IfOk result (λ log. length log ≤ 10000) }
-    ensures few_results { IfOk result (λ log. results_total (map view log) ≤ 1000000) }
-    ensures faults { Answers (reading_faults source (log_of bytes.now)) result }
+fn log_of_source(source: Source, parsed: Result<Log, ReadFault>) -> Result<Log, MergeFault>
+    ensures runs { (bytes : List ℕ) → IsParsedFrom bytes parsed
+        → IfOk result (λ log. log_of bytes ≡ Ok (map view log)) }
+    ensures same { IfOk result (λ log. parsed ≡ Ok log) }
+    ensures faults { (bytes : List ℕ) → IsParsedFrom bytes parsed
+        → Answers (reading_faults source (log_of bytes)) result }
     ensures quiet { IsQuiet result }
 {
-    match read_log(alloc, bytes) {
+    match parsed {
         Ok(log) => Ok(log),
         Err(fault) => {
             let at = match fault.run {
@@ -161,6 +165,36 @@ impl Reading {
         }
     }
 
+    /// Adds the runs of a source that was parsed.
+    fn add(
+        &mut self,
+        alloc: Global,
+        source: Source,
+        parsed: Result<Log, ReadFault>,
+    ) -> Result<(), MergeFault>
+        requires counted { IsCounted self.old }
+        requires parsed { (bytes : List ℕ) × IsParsedFrom bytes parsed }
+        ensures runs { (bytes : List ℕ) → IsParsedFrom bytes parsed
+            → OnOk result (map placed_of self.new.runs.items
+            ≡ map placed_of self.old.runs.items
+            ++ placed_from source 0 (readable (log_of bytes))) }
+        ensures results { (bytes : List ℕ) → IsParsedFrom bytes parsed
+            → OnOk result (self.new.results
+            ≡ self.old.results + results_total (readable (log_of bytes))) }
+        ensures counted { OnOk result (IsCounted self.new) }
+        ensures faults { (bytes : List ℕ) → IsParsedFrom bytes parsed
+            → Answers (faults_with source (log_of bytes)
+            (length self.old.runs.items) self.old.results) result }
+        ensures quiet { IsQuiet result }
+    {
+        let log = log_of_source(source, parsed)?;
+        let results = self.results + count_results(log.runs());
+        check_limits(source, self.runs.len() + log.runs().len(), results)?;
+        place_runs(alloc, source, log.into_runs(), &mut self.runs)?;
+        self.results = results;
+        Ok(())
+    }
+
     /// Reads a source, and adds its runs.
     fn read(&mut self, alloc: Global, source: Source, bytes: &[u8]) -> Result<(), MergeFault>
         requires { IsCounted self.old }
@@ -174,11 +208,34 @@ impl Reading {
             (length self.old.runs.items) self.old.results) result }
         ensures quiet { IsQuiet result }
     {
-        let log = read_one(alloc, source, bytes)?;
-        let results = self.results + count_results(log.runs());
-        check_limits(source, self.runs.len() + log.runs().len(), results)?;
-        place_runs(alloc, source, log.into_runs(), &mut self.runs)?;
-        self.results = results;
+        self.add(alloc, source, parse(alloc, bytes))
+    }
+
+    /// Adds the runs of the sources of a kind that were parsed, in order.
+    fn add_all(
+        &mut self,
+        alloc: Global,
+        kind: SourceKind,
+        parsed: Vec<Result<Log, ReadFault>>,
+    ) -> Result<(), MergeFault>
+        requires few { length parsed.items ≤ 1000 }
+        requires counted { IsCounted self.old }
+        requires parsed { (sources : List (List ℕ)) × AreParsedFrom sources parsed.items }
+        ensures runs { (sources : List (List ℕ)) → AreParsedFrom sources parsed.items
+            → OnOk result (map placed_of self.new.runs.items
+            ≡ map placed_of self.old.runs.items
+            ++ placed (numbered (source_of kind) 0 sources)) }
+        ensures counted { OnOk result (IsCounted self.new) }
+        ensures faults { (sources : List (List ℕ)) → AreParsedFrom sources parsed.items
+            → Answers (source_faults (length self.old.runs.items) self.old.results
+            (numbered (source_of kind) 0 sources)) result }
+        ensures quiet { IsQuiet result }
+    {
+        let mut number = 0;
+        for log in parsed {
+            self.add(alloc, kind.source(number), log)?;
+            number += 1;
+        }
         Ok(())
     }
 
@@ -201,31 +258,6 @@ impl Reading {
     {
         for (number, bytes) in sources.iter().enumerate() {
             self.read(alloc, kind.source(number as u32), bytes)?;
-        }
-        Ok(())
-    }
-
-    /// The same, and each source's bytes are let go once it is read.
-    fn read_all_owned(
-        &mut self,
-        alloc: Global,
-        kind: SourceKind,
-        sources: Vec<Vec<u8>>,
-    ) -> Result<(), MergeFault>
-        requires few { length sources.items ≤ 1000 }
-        requires counted { IsCounted self.old }
-        ensures runs { OnOk result (map placed_of self.new.runs.items
-            ≡ map placed_of self.old.runs.items
-            ++ placed (numbered (source_of kind) 0 (map (λ v. v.items) sources.items))) }
-        ensures counted { OnOk result (IsCounted self.new) }
-        ensures faults { Answers (source_faults (length self.old.runs.items) self.old.results
-            (numbered (source_of kind) 0 (map (λ v. v.items) sources.items))) result }
-        ensures quiet { IsQuiet result }
-    {
-        let mut number = 0;
-        for bytes in sources {
-            self.read(alloc, kind.source(number), &bytes)?;
-            number += 1;
         }
         Ok(())
     }
@@ -259,12 +291,15 @@ pub(crate) fn read_runs(
     Ok(Runs { all, inputs })
 }
 
-/// The same, and each source's bytes are let go once it is read.
-pub(crate) fn read_owned_runs(
+/// The same in at most so many threads, this one among them; each source's bytes are let go once it is parsed.
+pub(crate) fn read_owned_runs<R: Threads + Sync>(
+    rt: &R,
     alloc: Global,
     logs: Vec<Vec<u8>>,
     baselines: Vec<Vec<u8>>,
+    threads: u32,
 ) -> Result<Runs, MergeFault>
+    requires threads { 1 ≤ threads }
     requires logs { length logs.items ≤ 1000 }
     requires baselines { length baselines.items ≤ 1000 }
     ensures all { IfOk result (λ runs. map placed_of runs.all.items ≡ placed
@@ -279,10 +314,11 @@ pub(crate) fn read_owned_runs(
         (sources_of (map (λ v. v.items) logs.items) (map (λ v. v.items) baselines.items))) result }
     ensures quiet { IsQuiet result }
 {
+    let ParsedSources { logs, baselines } = parse_sources(rt, alloc, logs, baselines, threads)?;
     let mut reading = Reading::new(alloc);
-    reading.read_all_owned(alloc, SourceKind::Log, logs)?;
+    reading.add_all(alloc, SourceKind::Log, logs)?;
     let inputs = reading.runs.len() as u32;
-    reading.read_all_owned(alloc, SourceKind::Baseline, baselines)?;
+    reading.add_all(alloc, SourceKind::Baseline, baselines)?;
     let Reading { runs: all, .. } = reading;
     Ok(Runs { all, inputs })
 }

@@ -1,6 +1,5 @@
-use Rattle.std.proofs.Common.{◌≡◌, refl, sym, ap, ◌∙◌}
+use Rattle.std.proofs.Common.{sym, ap, ◌∙◌}
 use Rattle.sarif_merge.specs.Faults.{faults_of as faults_among}
-use Rattle.sarif_merge.specs.WereRead.{readers, failures}
 use Rattle.sarif_gate.proofs.Quiet.{quiet_status, no_rise}
 use Rattle.sarif_gate.proofs.run.run_request.Goals as goal
 

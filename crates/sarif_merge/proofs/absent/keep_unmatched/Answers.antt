@@ -4,7 +4,6 @@ use Rattle.std.proofs.lemmas.Grind.{common_steps}
 use Rattle.serde_json.specs.View.{view, items_view}
 use Rattle.sarif_records.specs.Run.{is_absent_result}
 use Rattle.sarif_merge.specs.CountOf.{carries, count_in}
-use Rattle.sarif_merge.specs.Counts.{count_at}
 use Rattle.sarif_merge.specs.Policy.{count_if}
 use Rattle.sarif_merge.specs.MergedRuns.{present, unmatched}
 use Rattle.sarif_merge.proofs.CountIn.{count_in_push}

@@ -1,4 +1,4 @@
-use Rattle.std.proofs.Common.{◌≡◌, option_map, string_bytes, ap, ◌∙◌}
+use Rattle.std.proofs.Common.{option_map, string_bytes, ap, ◌∙◌}
 use Rattle.serde_json.specs.Data.{put}
 use Rattle.serde_json.specs.Find.{get_member}
 use Rattle.serde_json.specs.View.{view, members_view}

@@ -1,4 +1,4 @@
-use Rattle.std.proofs.Common.{rules, ◌≡◌, map, sym, ap, ◌∙◌}
+use Rattle.std.proofs.Common.{◌≡◌, map, sym, ap, ◌∙◌}
 use Rattle.serde_json.specs.View.{view, items_of, items_view, members_view}
 use Rattle.sarif_records.specs.Members.{elements}
 use Rattle.sarif_suppress.specs.Written.{suppressions_of}

@@ -1,13 +1,12 @@
-use Rattle.std.proofs.Common.{rules, ◌≡◌, ◌<◌, ◌+◌, ◌++◌, [], ◌∷◌, take, length, map, get_or, refl, sym, ap, ◌∙◌, append_assoc, arith}
+use Rattle.std.proofs.Common.{◌≡◌, ◌<◌, ◌++◌, [], ◌∷◌, take, length, map, get_or, sym, ap, ◌∙◌, append_assoc, arith}
 use Rattle.std.proofs.lemmas.Grind.{common_steps}
 use Rattle.std.proofs.lemmas.List.{map-append, take_more, take_more_set}
 use Rattle.serde_json.specs.View.{view, items_view}
 use Rattle.sarif_records.specs.declared.kinds.State.TheVariants.{New}
 use Rattle.sarif_suppress.specs.Marks.{marks_of}
 use Rattle.sarif_suppress.specs.Written.{suppressions_of}
-use Rattle.sarif_merge.specs.CountOf.{carries, count_in}
+use Rattle.sarif_merge.specs.CountOf.{count_in}
 use Rattle.sarif_merge.specs.MergedRuns.{Listing, written, written_all}
-use Rattle.sarif_merge.specs.Policy.{count_if}
 use Rattle.sarif_merge.proofs.CountIn.{count_in_push}
 use Rattle.sarif_merge.proofs.WrittenMore.{written_more}
 use Rattle.sarif_merge.proofs.current.write_results.Goals as goal

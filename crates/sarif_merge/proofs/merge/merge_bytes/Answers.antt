@@ -1,4 +1,4 @@
-use Rattle.std.proofs.Common.{◌≡◌, ◌≤◌, length, map, sym, subst}
+use Rattle.std.proofs.Common.{◌≤◌, sym, subst}
 use Rattle.std.proofs.lemmas.List.{length-map}
 use Rattle.sarif_merge.specs.Merged.{bytes_of}
 use Rattle.sarif_merge.proofs.merge.merge_bytes.Goals as goal

@@ -1,4 +1,4 @@
-use Rattle.std.proofs.Common.{◌≡◌, [], Some, Err, map, take, drop, inl, inr, rules, refl, sym, ap, subst, ◌∙◌}
+use Rattle.std.proofs.Common.{◌≡◌, Err, inl, inr, rules, sym, ap, subst, ◌∙◌}
 use Rattle.std.specs.Prelude.{option_map}
 use Rattle.sarif_merge.specs.Faults.{first}
 use Rattle.sarif_merge.specs.Merged.{given, IsMergeOf}

@@ -1,4 +1,4 @@
-use Rattle.std.proofs.Common.{◌≡◌, ◌≤◌, ◌+◌, ◌++◌, ◌||◌, [], take, drop, length, map, arith, rules, sym, ap, ◌∙◌}
+use Rattle.std.proofs.Common.{◌||◌, take, drop, length, map, arith, sym, ap, ◌∙◌}
 use Rattle.std.proofs.lemmas.List.FromFn.{length-map-range_with_len}
 use Rattle.serde_json.specs.View.{view}
 use Rattle.std.proofs.lemmas.List.Folds.{list_any-append}

@@ -1,7 +1,6 @@
-use Rattle.std.proofs.Common.{◌≡◌, Err, inl, inr, map, refl, rules, sym, subst}
-use Rattle.std.specs.Prelude.{option_map, IfErr}
+use Rattle.std.proofs.Common.{◌≡◌, Err, inl, inr, refl, rules}
+use Rattle.std.specs.Prelude.{option_map}
 use Rattle.sarif_merge.specs.Merged.{given, bytes_of}
-use Rattle.sarif_merge.specs.WereRead.{readers, IsRefused}
 use Rattle.sarif_merge.proofs.merge_sources.merge_readers.Goals as goal
 
 pub returns-in_err-check_numbers-clause-refused : goal.returns-in_err-check_numbers-clause-refused

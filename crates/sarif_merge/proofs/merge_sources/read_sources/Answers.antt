@@ -1,4 +1,4 @@
-use Rattle.std.proofs.Common.{◌≡◌, ◌≤◌, length, map, arith, rules, refl}
+use Rattle.std.proofs.Common.{arith}
 use Rattle.sarif_merge.proofs.merge_sources.read_sources.Goals as goal
 
 pub returns-clause-few_logs : goal.returns-clause-few_logs

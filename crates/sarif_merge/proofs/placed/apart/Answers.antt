@@ -1,4 +1,4 @@
-use Rattle.std.proofs.Common.{◌≡◌, ◌+◌, ◌-◌, ◌<◌, ◌++◌, [], ◌∷◌, map, take, drop, arith, rules, refl, sym, ap, ◌∙◌}
+use Rattle.std.proofs.Common.{◌≡◌, ◌-◌, ◌<◌, ◌++◌, ◌∷◌, map, take, drop, arith, rules, refl, sym, ap, ◌∙◌}
 use Rattle.serde_json.specs.View.{view}
 use Rattle.sarif_merge.specs.MergedLog.{data_of}
 use Rattle.sarif_merge.specs.PlacedRun.{placed_of}

@@ -1,6 +1,6 @@
-use Rattle.std.proofs.Common.{rules, ◌≡◌, ◌+◌, ◌&&◌, map, sym, ap, ◌∙◌}
+use Rattle.std.proofs.Common.{rules, ◌≡◌, ◌+◌, ◌&&◌, sym, ap, ◌∙◌}
 use Rattle.serde_json.specs.Data.{object}
-use Rattle.serde_json.specs.View.{view, items_of, items_view, members_view}
+use Rattle.serde_json.specs.View.{items_view, members_view}
 use Rattle.sarif_merge.specs.CountOf.{carries, suppresses}
 use Rattle.sarif_merge.specs.Counts.{count_at, same_state}
 use Rattle.sarif_merge.specs.Policy.{count_if}

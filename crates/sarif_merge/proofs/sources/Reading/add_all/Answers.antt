@@ -1,0 +1,89 @@
+use Rattle.std.proofs.Common.{rules, ◌≡◌, ◌⊎◌, ◌+◌, Some, append-nil, ◌++◌, [], ◌∷◌, map, length, sym, ap, ◌∙◌, subst, arith}
+use Rattle.std.proofs.lemmas.List.{nil_from_length}
+use Rattle.std.proofs.lemmas.Result.{err_from_is_err_and}
+use Rattle.sarif_records.specs.Reading.{log_of}
+use Rattle.sarif_records.specs.Run.{results_total}
+use Rattle.sarif_merge.specs.Faults.{first, IsWanting}
+use Rattle.sarif_merge.specs.Inputs.{numbered, placed, placed_from, readable}
+use Rattle.sarif_merge.specs.Parsed.{AreParsedFrom}
+use Rattle.sarif_merge.specs.PlacedRun.{placed_of}
+use Rattle.sarif_merge.specs.ReadSoFar.{faults_with}
+use Rattle.sarif_merge.specs.SourceFaults.{source_faults}
+use Rattle.sarif_merge.specs.SourceKind.{source_of}
+use Rattle.sarif_merge.proofs.ParsedParts.{parsed_first, parsed_none}
+use Rattle.sarif_merge.proofs.SourceAnswers.{still_first}
+use Rattle.sarif_merge.proofs.SourceSteps.{source_step}
+use Rattle.sarif_merge.proofs.sources.Reading.add_all.Goals as goal
+
+pub add-requires-clause-parsed : goal.add-requires-clause-parsed
+add-requires-clause-parsed c =
+    let later = c.next.new.self.rest.items in
+    let left : c.loop-log.log-iterator.rest.items ≡ c.in-Some.log ∷ later = search rules in
+    let w = c.loop-log.invariant.within in
+    let one = parsed_first w.0 c.in-Some.log later (subst (λ ps. AreParsedFrom w.0 ps) left w.1) in
+    (one.0, one.3)
+
+pub loop-log-preserved : goal.loop-log-preserved
+loop-log-preserved c =
+    let n = c.loop-log.number in
+    let name = source_of c.args.kind in
+    let parsed = c.in-Some.log in
+    let later = c.next.new.self.rest.items in
+    let old = c.loop-log.self in
+    let left : c.loop-log.log-iterator.rest.items ≡ parsed ∷ later = search rules in
+    let around = c.loop-log.invariant.within in
+    let one = parsed_first around.0 parsed later (subst (λ ps. AreParsedFrom around.0 ps) left around.1) in
+    record {
+      few = omega (arith, c.loop-log.invariant.few, ap length left);
+      counted = search rules;
+      within = (one.1, one.4);
+      whole = λ sources all.
+          let w = c.loop-log.invariant.whole sources all in
+          let here = parsed_first w.0 parsed later (subst (λ ps. AreParsedFrom w.0 ps) left w.1) in
+          let runs = subst (λ s. map placed_of c.add.new.self.runs.items ≡ map placed_of old.runs.items ++ placed_from s 0 (readable (log_of here.0))) c.source.ensures (c.in_ok-add.ensures.runs here.0 here.3) in
+          let none = subst (λ s. faults_with s (log_of here.0) (length old.runs.items) old.results ≡ []) c.source.ensures (c.in_ok-add.ensures.faults here.0 here.3) in
+          let step = source_step name n old c.add.new.self here.0 here.1 runs (c.in_ok-add.ensures.results here.0 here.3) none in (
+            here.1,
+            here.4,
+            step.0 ∙ ap (λ bs. map placed_of old.runs.items ++ placed (numbered name n bs)) (sym here.2) ∙ w.2,
+            step.1 ∙ ap (λ bs. source_faults (length old.runs.items) old.results (numbered name n bs)) (sym here.2) ∙ w.3,
+          );
+    }
+
+pub returns-in_err-add-clause-faults : goal.returns-in_err-add-clause-faults
+returns-in_err-add-clause-faults c = λ sources all.
+    let n = c.loop-log.number in
+    let name = source_of c.args.kind in
+    let parsed = c.in-Some.log in
+    let later = c.next.new.self.rest.items in
+    let old = c.loop-log.self in
+    let left : c.loop-log.log-iterator.rest.items ≡ parsed ∷ later = search rules in
+    let w = c.loop-log.invariant.whole sources all in
+    let here = parsed_first w.0 parsed later (subst (λ ps. AreParsedFrom w.0 ps) left w.1) in
+    let p = err_from_is_err_and c.from_residual.result c.from_residual.ensures.1 in
+    let e = c.in_err-add.field-0.0 in
+    let refused = subst (λ s. IsWanting e ⊎ (first (faults_with s (log_of here.0) (length old.runs.items) old.results) ≡ Some e)) c.source.ensures (c.in_err-add.ensures.faults here.0 here.3) in
+    let runs = readable (log_of here.0) in
+    let more = still_first (faults_with (name n) (log_of here.0) (length old.runs.items) old.results) (source_faults (length old.runs.items + length runs) (old.results + results_total runs) (numbered name (n + 1) here.1)) e refused in
+    let same = ap (λ bs. source_faults (length old.runs.items) old.results (numbered name n bs)) (sym here.2) ∙ w.3 in
+    rw (p.1, p.2) (subst (λ faults. IsWanting e ⊎ (first faults ≡ Some e)) same more)
+
+pub returns-clause-runs : goal.returns-clause-runs
+returns-clause-runs c = λ sources all.
+    let name = source_of c.args.kind in
+    let w = c.loop-log.invariant.whole sources all in
+    let none_left : length c.loop-log.log-iterator.rest.items ≡ 0 = search rules in
+    let end = nil_from_length c.loop-log.log-iterator.rest.items none_left in
+    let none = parsed_none w.0 (subst (λ ps. AreParsedFrom w.0 ps) end w.1) in
+    let runs = map placed_of c.loop-log.self.runs.items in
+    sym (append-nil runs) ∙ ap (λ bs. runs ++ placed (numbered name c.loop-log.number bs)) (sym none) ∙ w.2
+
+pub returns-clause-faults : goal.returns-clause-faults
+returns-clause-faults c = λ sources all.
+    let name = source_of c.args.kind in
+    let old = c.loop-log.self in
+    let w = c.loop-log.invariant.whole sources all in
+    let none_left : length c.loop-log.log-iterator.rest.items ≡ 0 = search rules in
+    let end = nil_from_length c.loop-log.log-iterator.rest.items none_left in
+    let none = parsed_none w.0 (subst (λ ps. AreParsedFrom w.0 ps) end w.1) in
+    sym w.3 ∙ ap (λ bs. source_faults (length old.runs.items) old.results (numbered name c.loop-log.number bs)) none
