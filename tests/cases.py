@@ -41,6 +41,7 @@ class Case:
     out: Optional[bytes] = None
     out_name: str = "o"
     streams: dict = field(default_factory=dict)
+    open_files: Optional[int] = None
     check: Optional[Callable] = None
 
     def faults(self, answer):

@@ -254,22 +254,12 @@ def dated():
         ),
     )
     active = tells(gate(new=[0, 1, 0, 0], unused=1), ["new"])
-    yield merging(
-        "suppress",
-        "an entry has ended",
-        [inside],
-        suppress=file,
-        more=["--today", "20250201"],
-        check=active,
-    )
-    yield merging(
-        "suppress",
-        "a prefix stands at the front",
-        [outside],
-        suppress=file,
-        more=["--today", "20250131"],
-        check=active,
-    )
+    for what, given, day in (
+        ("an entry has ended", inside, "20250201"),
+        ("a prefix stands at the front", outside, "20250131"),
+    ):
+        words = ["--today", day]
+        yield merging("suppress", what, [given], suppress=file, more=words, check=active)
     yield merging(
         "suppress",
         "no day is given",

@@ -210,6 +210,9 @@ def many():
         [two],
         **refused("baseline 0: TooMany"),
     )
+    few = merging("many", "40 logs and 40 baselines where 12 files may be open", [ONE] * 40, [ONE] * 40)
+    few.open_files = 12
+    yield few
     results = [bare(600_000), bare(400_001)]
     yield merging("many", "1,000,001 results of two logs", results, **refused("log 1: TooMany"))
     skipped = log(run("b", *[{"baselineState": "absent"}] * 2))

@@ -1,6 +1,7 @@
 """Running the program that is tested."""
 
 import os
+import resource
 import shlex
 import subprocess
 from pathlib import Path
@@ -33,6 +34,9 @@ def answer(command, case, folder):
     for name, path in case.streams.items():
         streams[name] = os.open(path, os.O_RDONLY if name == "stdin" else os.O_WRONLY)
     given = {} if "stdin" in case.streams else {"input": case.stdin}
+    if case.open_files is not None:
+        most = (case.open_files, case.open_files)
+        streams["preexec_fn"] = lambda: resource.setrlimit(resource.RLIMIT_NOFILE, most)
     ran = subprocess.Popen([*command, *case.words], cwd=folder, **streams)
     try:
         stdout, stderr = ran.communicate(timeout=SECONDS, **given)
