@@ -34,8 +34,6 @@ mod sources;
 mod suppression_file;
 mod table;
 mod tally;
-#[cfg(test)]
-mod tests;
 mod written;
 mod written_log;
 

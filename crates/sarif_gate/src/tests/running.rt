@@ -2,6 +2,7 @@
 
 use crate::request::Request;
 use crate::run::run_request;
+use crate::tests::MERGED;
 use sarif_merge::Counted;
 use sarif_records::Level;
 use std::alloc::Global;
@@ -13,19 +14,6 @@ use std::thread::Threads;
 /// A log of one run with one result, which has a message alone.
 const LOG: &str = "{\"version\":\"2.1.0\",\"runs\":[{\"tool\":{\"driver\":{\"name\":\"lint\"}},\
     \"results\":[{\"message\":{\"text\":\"m\"}}]}]}";
-
-/// What is written of it.
-const MERGED: &str = "{\"properties\":{\"gate\":{\"counts\":{\
-    \"absent\":{\"active\":[0,0,0,0],\"suppressed\":[0,0,0,0]},\
-    \"new\":{\"active\":[0,1,0,0],\"suppressed\":[0,0,0,0]},\
-    \"unchanged\":{\"active\":[0,0,0,0],\"suppressed\":[0,0,0,0]},\
-    \"updated\":{\"active\":[0,0,0,0],\"suppressed\":[0,0,0,0]}},\
-    \"failOn\":\"error\",\"hits\":0,\"max\":0,\"runsWithoutResults\":0,\"states\":[\"new\",\"updated\"],\
-    \"unusedSuppressions\":0,\"verdict\":\"pass\"}},\
-    \"runs\":[{\"results\":[{\"baselineState\":\"new\",\"level\":\"warning\",\"message\":{\"text\":\"m\"},\
-    \"suppressions\":[]}],\
-    \"tool\":{\"driver\":{\"name\":\"lint\"}}}],\
-    \"version\":\"2.1.0\"}";
 
 /// What is said of it.
 const SUMMARY: &str = "\

@@ -1,7 +1,8 @@
 //! Merging texts. A list of runs is written `lint: A M; b: `, so each run is a tool and its results,
 //! each by its name or by its own text, which has no blank.
-use crate::{MergeFault, Merged, Policy, Verdict, merge_bytes};
-use sarif_gather::{Gate, NoGate};
+use sarif_merge::{
+    Counted, Gate, MergeFault, Merged, NoGate, Policy, Verdict, merge_bytes, merge_to,
+};
 use std::alloc::{AllocError, Global};
 use std::process::Abort;
 use std::sync::Wait;
@@ -172,6 +173,30 @@ pub fn merge_watched<G: Gate + Sync, R: Abort + AllocGlobal + Threads + Wait + S
         workers,
         gate,
     )
+}
+
+/// The same of one log, from a reader into a writer that holds what it took.
+pub fn write_watched<G: Gate + Sync, R: Abort + AllocGlobal + Threads + Wait + Sync>(
+    rt: &R,
+    log: &[u8],
+    workers: u32,
+    gate: &G,
+) -> Result<Vec<u8>, MergeFault> {
+    assert!(rt; 1 <= workers && workers <= 64);
+    let mut taken = Vec::new(rt.alloc());
+    merge_to(
+        rt,
+        rt.alloc(),
+        &mut [Counted::new(log)],
+        &mut [],
+        &mut None,
+        &mut Counted::new(&mut taken),
+        &Policy::default(),
+        None,
+        workers,
+        gate,
+    )?;
+    Ok(taken)
 }
 
 /// The merge by nobody's gate.

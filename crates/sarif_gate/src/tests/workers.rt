@@ -1,6 +1,8 @@
 //! That workers give the same log and work at once, and that what they found doesn't pile up.
-use crate::tests::merging::{NOTHING, Wanted, expect_log, merge_watched, one_log};
-use sarif_gather::Gate;
+use crate::tests::merging::{
+    NOTHING, Wanted, expect_log, log_of, merge, merge_watched, one_log, write_watched,
+};
+use sarif_merge::Gate;
 use std::alloc::{AllocError, Global};
 use std::sync::atomic::{AtomicU64, Ordering};
 use std::test::Fail;
@@ -53,16 +55,34 @@ impl Gate for Meeting {
     fn taken(&self, _run: u32, _seq: u32) {}
 }
 
+impl Meeting {
+    fn new() -> Meeting {
+        Meeting {
+            started: [AtomicU64::new(0), AtomicU64::new(0)],
+            misses: AtomicU64::new(0),
+        }
+    }
+}
+
 #[test]
 fn two_workers_meet(rt: HostRuntime) -> Result<(), Fail> {
     let mut given = one_log(rt.alloc(), "lint: A; lint: A")?;
     given.workers = 2;
-    let gate = Meeting {
-        started: [AtomicU64::new(0), AtomicU64::new(0)],
-        misses: AtomicU64::new(0),
-    };
+    let gate = Meeting::new();
     merge_watched(&rt, &given, &gate)?;
     assert_eq!(rt; gate.misses.load(Ordering::SeqCst), 0);
+    Ok(())
+}
+
+#[test]
+fn two_workers_meet_over_what_a_reader_gives(rt: HostRuntime) -> Result<(), Fail> {
+    let log = log_of(rt.alloc(), "lint: A; lint: A")?;
+    let gate = Meeting::new();
+    let written = write_watched(&rt, log.as_str().as_bytes(), 2, &gate)?;
+    assert_eq!(rt; gate.misses.load(Ordering::SeqCst), 0);
+    let given = one_log(rt.alloc(), "lint: A; lint: A")?;
+    let merged = merge(&rt, &given)?;
+    assert_eq!(rt; written.as_slice(), merged.log.as_str().as_bytes());
     Ok(())
 }
 
@@ -90,6 +110,17 @@ impl Gate for Room {
     }
 }
 
+impl Room {
+    /// That of the merge.
+    fn new() -> Room {
+        Room {
+            room: 256,
+            taken: AtomicU64::new(0),
+            misses: AtomicU64::new(0),
+        }
+    }
+}
+
 /// A run of so many results.
 fn run_of_many(alloc: Global, times: u32) -> Result<String, AllocError> {
     let mut runs = String::from_str(alloc, "lint:")?;
@@ -103,12 +134,19 @@ fn run_of_many(alloc: Global, times: u32) -> Result<String, AllocError> {
 fn room_bounds_what_waits(rt: HostRuntime) -> Result<(), Fail> {
     let runs = run_of_many(rt.alloc(), 1_000)?;
     let given = one_log(rt.alloc(), runs.as_str())?;
-    let gate = Room {
-        room: 256,
-        taken: AtomicU64::new(0),
-        misses: AtomicU64::new(0),
-    };
+    let gate = Room::new();
     merge_watched(&rt, &given, &gate)?;
+    assert_eq!(rt; gate.misses.load(Ordering::SeqCst), 0);
+    assert_eq!(rt; gate.taken.load(Ordering::SeqCst), 1000);
+    Ok(())
+}
+
+#[test]
+fn room_bounds_what_waits_of_what_a_reader_gives(rt: HostRuntime) -> Result<(), Fail> {
+    let runs = run_of_many(rt.alloc(), 1_000)?;
+    let log = log_of(rt.alloc(), runs.as_str())?;
+    let gate = Room::new();
+    write_watched(&rt, log.as_str().as_bytes(), 1, &gate)?;
     assert_eq!(rt; gate.misses.load(Ordering::SeqCst), 0);
     assert_eq!(rt; gate.taken.load(Ordering::SeqCst), 1000);
     Ok(())

@@ -1,6 +1,5 @@
 //! The places and causes of faults, their texts and their statuses.
-use crate::SourceFault;
-use crate::fault::{At, Cause, MergeFault, Source};
+use sarif_merge::{At, Cause, MergeFault, Source, SourceFault};
 use sarif_records::Fault;
 use std::alloc::AllocError;
 use std::test::Fail;
@@ -68,22 +67,12 @@ fn causes_of_faults(rt: HostRuntime) -> Result<(), Fail> {
 
 #[test]
 fn want_of_memory_is_nowhere(rt: HostRuntime) {
-    let at = At::Whole(Source::Log(0));
-    let wanting = MergeFault::from(AllocError);
-    assert_eq!(rt;
-        MergeFault::found(at, Cause::from(SourceFault::OutOfMemory)),
-        wanting
-    );
-    assert_eq!(rt;
-        MergeFault::found(at, Cause::from(Fault::OutOfMemory)),
-        wanting
-    );
-    let failed = MergeFault::found(at, Cause::from(SourceFault::ReadFailed));
-    assert_eq!(rt;
-        failed,
-        MergeFault {
-            at,
-            cause: Cause::ReadFailed
-        }
-    );
+    let wanting = MergeFault {
+        at: At::Nowhere,
+        cause: Cause::OutOfMemory,
+    };
+    assert_eq!(rt; MergeFault::from(AllocError), wanting);
+    assert_eq!(rt; Cause::from(SourceFault::OutOfMemory), wanting.cause);
+    assert_eq!(rt; Cause::from(Fault::OutOfMemory), wanting.cause);
+    assert_eq!(rt; Cause::from(SourceFault::ReadFailed), Cause::ReadFailed);
 }

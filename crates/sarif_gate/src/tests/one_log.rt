@@ -3,7 +3,7 @@ use crate::tests::MERGED;
 use crate::tests::merging::{
     Given, NOTHING, Wanted, expect_log, expect_part, expect_runs, log_of, log_with, merge, one_log,
 };
-use crate::{Policy, Verdict};
+use sarif_merge::{Policy, Verdict};
 use sarif_records::{Level, State};
 use std::alloc::{AllocError, Global};
 use std::test::Fail;
