@@ -210,7 +210,8 @@ def many():
         [two],
         **refused("baseline 0: TooMany"),
     )
-    few = merging("many", "40 logs and 40 baselines where 12 files may be open", [ONE] * 40, [ONE] * 40)
+    title = "40 logs and 40 baselines where 12 files may be open"
+    few = merging("many", title, [ONE] * 40, [ONE] * 40)
     few.open_files = 12
     yield few
     results = [bare(600_000), bare(400_001)]

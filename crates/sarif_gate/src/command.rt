@@ -150,7 +150,9 @@ fn workers<'a>(alloc: Global) -> Arg<'a>
     Arg::new(alloc, WORKERS)
         .long("workers")
         .value_name("NUMBER")
-        .help("How many threads read results, 1 to 64; the merged log is the same for each number")
+        .help(
+            "How many threads work, 1 to 64, beside the main one; the merged log is the same for each number",
+        )
         .value_parser(value_parser!(u32).range(1..=64))
         .default_value("4")
 }

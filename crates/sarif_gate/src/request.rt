@@ -19,7 +19,7 @@ pub struct Request {
     pub out: Text,
     /// The day on which suppressions expire or not, as yyyymmdd.
     pub today: Option<u32>,
-    /// How many threads read results.
+    /// How many threads parse sources and judge results, beside the calling one.
     pub workers: u32,
     /// What the gate fails on.
     pub policy: Policy,

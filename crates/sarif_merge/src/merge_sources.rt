@@ -103,8 +103,8 @@ fn slice_of(bytes: &Option<Vec<u8>>) -> Option<&[u8]>
     }
 }
 
-/// Merges what was read. The sources are parsed by the workers and the calling thread, and each one's bytes are let go
-/// once it is parsed.
+/// Merges what was read. The logs and baselines are parsed by the calling thread and as many more as there are workers,
+/// and the bytes of each are let go once it is parsed.
 fn merge_bytes_read<G: Gate + Sync, T: Threads + Wait + Sync>(
     rt: &T,
     alloc: Global,

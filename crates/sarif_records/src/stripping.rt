@@ -30,6 +30,7 @@ pub fn strip_in_place(value: &mut Value)
     }
 }
 
+/// Strips each element of an array.
 #[cycle(strip)]
 #[tactic(auto, using(crate::proofs::Stripped::stripped_items_view, crate::proofs::Stripped::item_depth_at, std::proofs::lemmas::List::take_all))]
 pub(crate) fn strip_items(items: &mut Vec<Value>)

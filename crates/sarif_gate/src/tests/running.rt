@@ -263,9 +263,9 @@ fn a_write_that_fails_leaves_the_beginning(rt: HostRuntime) {
 }
 
 #[test]
-fn writes_that_fail_early_and_late(rt: HostRuntime) {
+fn a_write_may_fail_at_each_byte(rt: HostRuntime) {
     let request = Request::of_standard_streams(rt.alloc());
-    for room in [0, 1, 100, 400, MERGED.len().saturating_sub(1)] {
+    for room in 0..MERGED.len() {
         let rooms = Rooms { out: room, ..AMPLE };
         let ended = run(&rt, rt.alloc(), &request, Given::whole(LOG), rooms);
         assert_eq!(rt; ended.status, 3);
