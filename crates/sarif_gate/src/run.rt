@@ -52,8 +52,10 @@ pub fn run_request<R: Read, W: Write, S: Write, E: Write, T: Threads + Wait + Sy
         (summary_of (count_at merged.counts) «request».now.policy) }
     // 3 exactly where a read or a write of one of these failed.
     ensures failed { RisesIf (nat_eq result 3)
-        (failures (readers logs.old baselines.old suppressions.old) + faults_of out.old + faults_of say.old)
-        (failures (readers logs.new baselines.new suppressions.new) + faults_of out.new + faults_of say.new) }
+        (failures (readers logs.old baselines.old suppressions.old)
+        + faults_of out.old + faults_of say.old)
+        (failures (readers logs.new baselines.new suppressions.new)
+        + faults_of out.new + faults_of say.new) }
     // Where all sources were read and one of them has a fault, it answers 2.
     ensures faulty { (inputs : Inputs) → inputs.today ≡ «request».now.today
         → AllTell R.remaining (readers logs.old baselines.old suppressions.old)

@@ -1,5 +1,5 @@
 -- What reading all sources of a merge from readers does, and why it is refused.
-use Rattle.std.specs.Prelude.{◌≡◌, ℕ, ◌+◌, ◌<◌, List, [], ◌⊎◌, ⊤, Option, Some, None, IsSome, IfSome, length, take}
+use Rattle.std.specs.Prelude.{◌≡◌, ℕ, ◌+◌, ◌<◌, ◌≤◌, List, [], ◌⊎◌, ⊤, Option, Some, None, IsSome, IfSome, length, take}
 use Rattle.std.specs.Io.KnownBytes.{Appends}
 use Rattle.std.specs.List.{AllByRecursion}
 use Rattle.sarif_merge.specs.declared.counted.Counted.{Counted}
@@ -61,11 +61,15 @@ abbrev pub IsAtFault : {R : Type 0} → (R → Option (List ℕ)) → Readers R 
 IsAtFault remaining old new today fault =
     (inputs : Inputs) × (inputs.today ≡ today) × WereRead remaining old new inputs × (IsWanting fault ⊎ (first_fault inputs ≡ Some fault))
 
+-- neither logs nor baselines are too many
+abbrev pub AreFew : {R : Type 0} → Readers R → Type 0
+AreFew all = (length all.logs ≤ 1000) × (length all.baselines ≤ 1000)
+
 -- a refusal before anything is written: too many sources, else what ended reading, else the first fault of what was read
 abbrev pub IsRefused : {R : Type 0} → (R → Option (List ℕ)) → Readers R → Readers R → Option ℕ → MergeFault → Type 0
 IsRefused remaining old new today fault =
     IsTooMany (length old.logs) (length old.baselines) fault
-    ⊎ (HasStoppedAt remaining old new fault ⊎ IsAtFault remaining old new today fault)
+    ⊎ (AreFew old × (HasStoppedAt remaining old new fault ⊎ IsAtFault remaining old new today fault))
 
 -- all sources were read, and this is the merge of what was read
 abbrev pub IsMergedFrom : {R : Type 0} → (R → Option (List ℕ)) → Readers R → Readers R → Option ℕ → Policy → Merged → Type 0

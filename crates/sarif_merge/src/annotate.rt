@@ -63,7 +63,8 @@ pub(crate) fn annotate(
     list: Vec<Value>,
 ) -> Result<(), AllocError>
     ensures { OnOk result (members_view members.new.entries
-        ≡ annotated_members level state (items_view list.items) (members_view members.old.entries)) }
+        ≡ annotated_members level state (items_view list.items)
+        (members_view members.old.entries)) }
 {
     put(members, alloc, "suppressions", Value::Array(list))?;
     let level_text = Value::try_from_str(alloc, level.name())?;

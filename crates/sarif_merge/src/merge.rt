@@ -72,8 +72,9 @@ pub(crate) fn merge_read<G: Gate + Sync, R: Threads + Wait + Sync>(
     requires workers { (1 ≤ workers) × (workers ≤ 64) }
     requires read { (logs : List (List ℕ)) × (baselines : List (List ℕ))
         × AreRunsOf logs baselines runs }
-    ensures merge { (logs baselines : List (List ℕ)) → AreRunsOf logs baselines runs → IsMergeOf
-        (given logs baselines (option_map (λ b. b.now) suppressions.entry) today) policy.now result }
+    ensures merge { (logs baselines : List (List ℕ)) → AreRunsOf logs baselines runs
+        → IsMergeOf (given logs baselines (option_map (λ b. b.now) suppressions.entry) today)
+        policy.now result }
     ensures quiet { IsQuiet result }
 {
     let rules = read_file(alloc, suppressions, today)?;
@@ -106,7 +107,8 @@ pub fn merge_bytes<G: Gate + Sync, R: Threads + Wait + Sync>(
     // its run's order, with its level, its state and its suppressions.
     ensures inputs { let inputs = given (bytes_of logs.now) (bytes_of baselines.now)
         (option_map (λ b. b.now) suppressions.entry) today in
-        IfOk result (λ merged. (faults_of inputs ≡ []) × HoldsFirst (written_inputs inputs) merged.log) }
+        IfOk result (λ merged. (faults_of inputs ≡ [])
+        × HoldsFirst (written_inputs inputs) merged.log) }
     // After these stand just the unmatched results of the baselines, as absent, and nothing after the log.
     ensures states { let inputs = given (bytes_of logs.now) (bytes_of baselines.now)
         (option_map (λ b. b.now) suppressions.entry) today in

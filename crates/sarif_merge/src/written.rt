@@ -29,7 +29,8 @@ pub(crate) fn write_result(
 ) -> Result<(), AllocError>
     requires { total_of counts.old < 4294967295 }
     ensures written { OnOk result (members_view members.new.entries
-        ≡ annotated_members level state (items_view list.items) (members_view members.old.entries)) }
+        ≡ annotated_members level state (items_view list.items)
+        (members_view members.old.entries)) }
     ensures counted { OnOk result ((s : Stand) (l : Grade) (b : Bool) → count_at counts.new s l b
         ≡ count_at counts.old s l b
         + count_if (carries s l b (object (members_view members.new.entries))) 1) }

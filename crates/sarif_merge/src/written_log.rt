@@ -55,7 +55,8 @@ pub(crate) fn write_all(
     ensures runs { IfOk result (λ written. map view written.runs.items
         ≡ merged_runs (listing_of rules.now) records.now.current.items matched.now.states.items
         (map view current.items)
-        ++ absent_runs records.now.baseline.items matched.now.taken.items (map view baseline.items)) }
+        ++ absent_runs records.now.baseline.items matched.now.taken.items
+        (map view baseline.items)) }
     ensures counts { IfOk result (λ written. (s : Stand) (l : Grade) (b : Bool)
         → count_at written.counts s l b ≡ count_of (map view written.runs.items) s l b) }
     ensures unused { IfOk result
