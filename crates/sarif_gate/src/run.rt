@@ -9,7 +9,7 @@ ghost use Rattle.sarif_merge.specs.Faults.{faults_of as faults_among};
 ghost use Rattle.sarif_merge.specs.Inputs.{Inputs};
 ghost use Rattle.sarif_merge.specs.OptionalReader.{faults_if};
 ghost use Rattle.sarif_merge.specs.Summary.{summary_of};
-ghost use Rattle.sarif_merge.specs.WereRead.{readers, failures, AllTell, IsMergedFrom, WereRead};
+ghost use Rattle.sarif_merge.specs.WereRead.{readers, failures, AllTell, IsMergedFrom, NoNumberFalls, WereRead};
 ghost use Rattle.sarif_gate.specs.Status.{verdict_status};
 
 use crate::ending::{accept, refuse};
@@ -56,6 +56,10 @@ pub fn run_request<R: Read, W: Write, S: Write, E: Write, T: Threads + Wait + Sy
         + faults_of out.old + faults_of say.old)
         (failures (readers logs.new baselines.new suppressions.new)
         + faults_of out.new + faults_of say.new) }
+    // None of these numbers fell.
+    ensures risen { NoNumberFalls (readers logs.old baselines.old suppressions.old)
+        (readers logs.new baselines.new suppressions.new)
+        × (faults_of out.old ≤ faults_of out.new) × (faults_of say.old ≤ faults_of say.new) }
     // Where all sources were read and one of them has a fault, it answers 2.
     ensures faulty { (inputs : Inputs) → inputs.today ≡ «request».now.today
         → AllTell R.remaining (readers logs.old baselines.old suppressions.old)

@@ -1,10 +1,12 @@
 -- One reader more of a list of readers that are read in place.
-use Rattle.std.proofs.Common.{◌≡◌, ℕ, suc, ◌+◌, ◌<◌, List, [], ◌∷◌, ◌++◌, inl, inr, Option, take, drop, length, set, get_or, refl, subst, sym, ap, ◌∙◌, add-zero, add-one, arith}
+use Rattle.std.proofs.Common.{◌≡◌, ℕ, Bool, true, false, zero, suc, ◌+◌, ◌<◌, ◌≤◌, List, [], ◌∷◌, ◌++◌, inl, inr, Option, take, drop, length, set, get_or, refl, subst, sym, ap, ◌∙◌, add-zero, add-one, arith}
 use Rattle.std.proofs.lemmas.List.{get_or-drop, drop-drop, drop-set-lt, drop_more, set_split, take_more, take_more_set, take-append-drop, length-take-le}
 use Rattle.sarif_merge.specs.declared.counted.Counted.{Counted}
 use Rattle.sarif_merge.specs.declared.fault.MergeFault.{MergeFault}
 use Rattle.sarif_merge.specs.declared.fault.Source.{Source}
 use Rattle.sarif_merge.specs.AreRead.{IsRead, AreRead, HasStopped, StopsIn}
+use Rattle.sarif_merge.specs.Counted.{faults_of, RisesIf}
+use Rattle.sarif_merge.specs.Failing.{NoneFalls}
 
 pub same_at : {X : Type 0} (xs ys : List X) (i : ℕ) (d : X) → drop i xs ≡ drop i ys → get_or xs i d ≡ get_or ys i d
 same_at xs ys i d same =
@@ -53,6 +55,24 @@ stops_after remaining name n (p ∷ os) (v ∷ ws) (c ∷ bs) o w rest fault all
     let same : n + length (p ∷ os) ≡ n + 1 + length os = omega arith in
     let later : HasStopped remaining (name (n + 1 + length os)) o fault = rw (sym same) one in
     inr ((c, all.0), stops_after remaining name (n + 1) os ws bs o w rest fault all.1 later)
+
+-- a number that rises or stays doesn't fall
+pub no_fall : (failed : Bool) (old now : ℕ) → RisesIf failed old now → old ≤ now
+no_fall true old now rise = omega (arith, rise)
+no_fall false old now rise = omega (arith, rise)
+
+-- nor do the others where one of them was read
+pub none_falls_at : {R : Type 0} (os ws : List (Counted R)) (i : ℕ) (d w : Counted R) → i < length ws → NoneFalls os ws → faults_of (get_or ws i d) ≤ faults_of w → NoneFalls os (set ws i w)
+none_falls_at [] [] i d w within none more = absurd (omega (arith, within))
+none_falls_at [] (v ∷ ws) i d w within none more = absurd none
+none_falls_at (o ∷ os) [] i d w within none more = absurd none
+none_falls_at (o ∷ os) (v ∷ ws) zero d w within none more = (omega (arith, none.0, more), none.1)
+none_falls_at (o ∷ os) (v ∷ ws) (suc i) d w within none more = (none.0, none_falls_at os ws i d w (omega (arith, within)) none.1 more)
+
+-- nor at the beginning
+pub none_has_fallen : {R : Type 0} (os : List (Counted R)) → NoneFalls os os
+none_has_fallen [] = tt
+none_has_fallen (o ∷ os) = (omega arith, none_has_fallen os)
 
 -- reading ended at this one
 pub stops_at : {R : Type 0} (remaining : R → Option (List ℕ)) (name : ℕ → Source) (os ws : List (Counted R)) (bs : List (List ℕ)) (i : ℕ) (d w : Counted R) (fault : MergeFault)

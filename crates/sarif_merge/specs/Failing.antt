@@ -1,5 +1,5 @@
 -- Which refusals of a merge say that a read or a write failed, and how many of them did.
-use Rattle.std.specs.Prelude.{◌≡◌, ℕ, List, Bool, true, false, Result, Ok, Err, IfErr}
+use Rattle.std.specs.Prelude.{◌≡◌, ◌≤◌, ℕ, List, [], ◌∷◌, ⊤, Bool, true, false, Result, Ok, Err, IfErr}
 use Rattle.std.specs.List.{sum_by}
 use Rattle.sarif_merge.specs.declared.counted.Counted.{Counted}
 use Rattle.sarif_merge.specs.declared.fault.Cause.{Cause}
@@ -11,6 +11,13 @@ use Rattle.sarif_merge.specs.Fault.{status_of}
 -- how many calls of these readers failed, all together
 abbrev pub faults_in : {R : Type 0} → List (Counted R) → ℕ
 faults_in readers = sum_by faults_of readers
+
+-- of none of these readers did that number fall
+abbrev pub NoneFalls : {R : Type 0} → List (Counted R) → List (Counted R) → Type 0
+NoneFalls [] [] = ⊤
+NoneFalls [] (new ∷ news) = ⊥
+NoneFalls (old ∷ olds) [] = ⊥
+NoneFalls (old ∷ olds) (new ∷ news) = (faults_of old ≤ faults_of new) × NoneFalls olds news
 
 abbrev pub is_read_failed : Cause → Bool
 is_read_failed ReadFailed = true

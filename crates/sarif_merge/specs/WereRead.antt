@@ -9,7 +9,7 @@ use Rattle.sarif_merge.specs.declared.merged.Merged.{Merged}
 use Rattle.sarif_merge.specs.declared.policy.Policy.{Policy}
 use Rattle.sarif_merge.specs.AreRead.{IsRead, AreRead, HasStopped, StopsIn}
 use Rattle.sarif_merge.specs.Counted.{inner_of}
-use Rattle.sarif_merge.specs.Failing.{faults_in}
+use Rattle.sarif_merge.specs.Failing.{faults_in, NoneFalls}
 use Rattle.sarif_merge.specs.Faults.{IsTooMany, IsWanting, faults_of as faults_among, first_fault}
 use Rattle.sarif_merge.specs.Inputs.{Inputs}
 use Rattle.sarif_merge.specs.Merged.{IsMerged}
@@ -28,6 +28,12 @@ readers logs baselines suppressions = record { logs = logs; baselines = baseline
 -- how many calls of them failed
 abbrev pub failures : {R : Type 0} → Readers R → ℕ
 failures all = faults_in all.logs + (faults_in all.baselines + faults_if all.suppressions)
+
+-- of none of them did the number of failed calls fall
+pub record NoNumberFalls {R : Type 0} (old new : Readers R) : Type 0 where
+  pub logs : NoneFalls old.logs new.logs
+  pub baselines : NoneFalls old.baselines new.baselines
+  pub suppressions : faults_if old.suppressions ≤ faults_if new.suppressions
 
 -- a reader that may be there gave its bytes, where it is there
 abbrev pub IsReadIf : {R : Type 0} → (R → Option (List ℕ)) → Option (Counted R) → Option (Counted R) → Option (List ℕ) → Type 0

@@ -6,7 +6,7 @@ ghost use Rattle.sarif_merge.specs.Counted.{inner_of, faults_of, RisesIf};
 ghost use Rattle.sarif_merge.specs.Failing.{read_failed_in, write_failed_in, IsQuiet};
 ghost use Rattle.sarif_merge.specs.Merged.{given, bytes_of, IsMergeOf};
 ghost use Rattle.sarif_merge.specs.OptionalReader.{faults_if};
-ghost use Rattle.sarif_merge.specs.WereRead.{readers, failures, HasStoppedIf, HasStoppedAt, IsMergedFrom, IsPartlyWritten, IsReadIf, IsRefused, WereRead};
+ghost use Rattle.sarif_merge.specs.WereRead.{readers, failures, HasStoppedIf, HasStoppedAt, IsMergedFrom, IsPartlyWritten, IsReadIf, IsRefused, NoNumberFalls, WereRead};
 ghost use Rattle.sarif_merge.specs.declared.fault.At.TheVariants.{Whole};
 ghost use Rattle.sarif_merge.specs.declared.fault.Cause.TheVariants.{WriteFailed};
 ghost use Rattle.sarif_merge.specs.declared.fault.Source.TheVariants.{Output};
@@ -44,6 +44,7 @@ fn read_optional<R: Read>(
     ensures stopped { IfErr result (HasStoppedIf R.remaining reader.old) }
     ensures read_failed { RisesIf (read_failed_in result)
         (faults_if reader.old) (faults_if reader.new) }
+    ensures risen { faults_if reader.old ≤ faults_if reader.new }
     ensures unwritten { write_failed_in result ≡ false }
 {
     match reader {
@@ -81,6 +82,8 @@ fn read_sources<R: Read>(
     ensures read_failed { RisesIf (read_failed_in result)
         (failures (readers logs.old baselines.old suppressions.old))
         (failures (readers logs.new baselines.new suppressions.new)) }
+    ensures risen { NoNumberFalls (readers logs.old baselines.old suppressions.old)
+        (readers logs.new baselines.new suppressions.new) }
     ensures unwritten { write_failed_in result ≡ false }
 {
     let log_bytes = read_readers(alloc, SourceKind::Log, logs)?;
@@ -158,6 +161,8 @@ fn merge_readers<R: Read, G: Gate + Sync, T: Threads + Wait + Sync>(
     ensures read_failed { RisesIf (read_failed_in result)
         (failures (readers logs.old baselines.old suppressions.old))
         (failures (readers logs.new baselines.new suppressions.new)) }
+    ensures risen { NoNumberFalls (readers logs.old baselines.old suppressions.old)
+        (readers logs.new baselines.new suppressions.new) }
     ensures unwritten { write_failed_in result ≡ false }
 {
     check_numbers(logs.len(), baselines.len())?;
@@ -212,6 +217,8 @@ pub fn merge_to<R: Read, W: Write, G: Gate + Sync, T: Threads + Wait + Sync>(
     ensures read_failed { RisesIf (read_failed_in result)
         (failures (readers logs.old baselines.old suppressions.old))
         (failures (readers logs.new baselines.new suppressions.new)) }
+    ensures risen { NoNumberFalls (readers logs.old baselines.old suppressions.old)
+        (readers logs.new baselines.new suppressions.new) }
     ensures write_failed { RisesIf (write_failed_in result)
         (faults_of out.old) (faults_of out.new) }
 {

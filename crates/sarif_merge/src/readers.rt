@@ -3,7 +3,7 @@ ghost use Rattle.std.specs.Prelude.{◌≡◌, ◌≤◌, ◌<◌, ◌^◌, IfOk
 ghost use Rattle.std.specs.List.{All};
 ghost use Rattle.sarif_merge.specs.AreRead.{IsRead, AreRead, HasStopped, StopsIn};
 ghost use Rattle.sarif_merge.specs.Counted.{faults_of, RisesIf};
-ghost use Rattle.sarif_merge.specs.Failing.{faults_in, read_failed_in, write_failed_in};
+ghost use Rattle.sarif_merge.specs.Failing.{faults_in, NoneFalls, read_failed_in, write_failed_in};
 ghost use Rattle.sarif_merge.specs.SourceKind.{source_of};
 
 use crate::counted::Counted;
@@ -33,6 +33,7 @@ pub(crate) fn read_reader<R: Read>(
 }
 
 /// Reads the sources of a kind to their ends, in order; the first that fails ends it.
+#[tactic(auto, using(crate::proofs::ReadersRead::none_has_fallen))]
 pub(crate) fn read_readers<R: Read>(
     alloc: Global,
     kind: SourceKind,
@@ -47,6 +48,7 @@ pub(crate) fn read_readers<R: Read>(
         (λ fault. StopsIn R.remaining (source_of kind) 0 readers.old readers.new fault) }
     ensures read_failed { RisesIf (read_failed_in result)
         (faults_in readers.old) (faults_in readers.new) }
+    ensures risen { NoneFalls readers.old readers.new }
     ensures unwritten { write_failed_in result ≡ false }
 {
     let mut sources = Vec::new(alloc);

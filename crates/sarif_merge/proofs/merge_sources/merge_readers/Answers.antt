@@ -1,6 +1,7 @@
-use Rattle.std.proofs.Common.{◌≡◌, Err, inl, inr, refl, rules}
+use Rattle.std.proofs.Common.{◌≡◌, Err, arith, inl, inr, refl, rules}
 use Rattle.std.specs.Prelude.{option_map}
 use Rattle.sarif_merge.specs.Merged.{given, bytes_of}
+use Rattle.sarif_merge.proofs.ReadersRead.{none_has_fallen}
 use Rattle.sarif_merge.proofs.merge_sources.merge_readers.Goals as goal
 
 pub returns-in_err-check_numbers-clause-refused : goal.returns-in_err-check_numbers-clause-refused
@@ -30,3 +31,7 @@ returns-clause-merged g c =
     let bytes = c.in_ok-sources.sources in
     let inputs = given (bytes_of bytes.logs.items) (bytes_of bytes.baselines.items) (option_map (λ v. v.items) bytes.suppressions) c.args.today in
     (inputs, refl, c.in_ok-sources.ensures.read c.args.today, c.in_ok-merged.ensures.merge)
+
+pub returns-in_err-check_numbers-clause-risen : goal.returns-in_err-check_numbers-clause-risen
+returns-in_err-check_numbers-clause-risen g c =
+    record { logs = none_has_fallen c.args.logs.now; baselines = none_has_fallen c.args.baselines.now; suppressions = omega arith }

@@ -1,4 +1,4 @@
-use Rattle.std.proofs.Common.{◌≡◌, ◌<◌, ◌^◌, map, ◌++◌, [], ◌∷◌, get_or, subst, inl, refl, arith, ap, ◌∙◌}
+use Rattle.std.proofs.Common.{◌≡◌, ◌<◌, ◌^◌, map, ◌++◌, [], ◌∷◌, false, get_or, subst, inl, refl, arith, ap, ◌∙◌}
 use Rattle.std.proofs.lemmas.Grind.{common_steps}
 use Rattle.std.proofs.lemmas.List.{map-append}
 use Rattle.std.proofs.lemmas.List.Elements.{All-get_or}
@@ -6,7 +6,7 @@ use Rattle.std.proofs.lemmas.Result.{err_from_is_err_and}
 use Rattle.sarif_merge.specs.AreRead.{HasStopped}
 use Rattle.sarif_merge.specs.Counted.{faults_of}
 use Rattle.sarif_merge.specs.SourceKind.{source_of}
-use Rattle.sarif_merge.proofs.ReadersRead.{same_at, same_after, are_read_more, stops_at}
+use Rattle.sarif_merge.proofs.ReadersRead.{same_at, same_after, are_read_more, stops_at, no_fall, none_falls_at, none_has_fallen}
 use Rattle.sarif_merge.proofs.readers.read_readers.Goals as goal
 
 pub read_reader-requires : goal.read_reader-requires
@@ -37,6 +37,18 @@ returns-in_err-push-clause-stopped g c =
     let p = err_from_is_err_and c.from_residual-in_err-push.result c.from_residual-in_err-push.ensures.1 in
     rw (p.1, p.2) (stops_at g.R.Read.remaining (source_of c.args.kind) c.args.readers.now c.loop-number.readers bytes i d c.read_reader.new.reader _ (omega arith) (omega arith) c.loop-number.invariant.left c.loop-number.invariant.read (inl refl))
 
+pub returns-in_err-bytes-clause-risen : goal.returns-in_err-bytes-clause-risen
+returns-in_err-bytes-clause-risen g c =
+    let i = c.loop-number.number in
+    let d = c.index-readers-number.result in
+    none_falls_at c.args.readers.now c.loop-number.readers i d c.read_reader.new.reader (omega arith) c.loop-number.invariant.risen (no_fall _ _ _ c.in_err-bytes.ensures.read_failed)
+
+pub returns-in_err-push-clause-risen : goal.returns-in_err-push-clause-risen
+returns-in_err-push-clause-risen g c =
+    let i = c.loop-number.number in
+    let d = c.index-readers-number.result in
+    none_falls_at c.args.readers.now c.loop-number.readers i d c.read_reader.new.reader (omega arith) c.loop-number.invariant.risen (no_fall false _ _ c.in_ok-bytes.ensures.read_failed)
+
 pub loop-number-preserved : goal.loop-number-preserved
 loop-number-preserved g c =
     let i = c.loop-number.number in
@@ -55,4 +67,5 @@ loop-number-preserved g c =
       read = rw pushed more;
       number = grind (arith, common_steps);
       quiet = grind (arith, common_steps, c.in_ok-bytes.ensures.read_failed, c.loop-number.invariant.quiet);
+      risen = none_falls_at given now i d reader (omega arith) c.loop-number.invariant.risen (no_fall false _ _ c.in_ok-bytes.ensures.read_failed);
     }

@@ -1,6 +1,6 @@
 use Rattle.std.proofs.Common.{◌≡◌, length, map, take, drop}
 use Rattle.sarif_merge.specs.AreRead.{AreRead}
-use Rattle.sarif_merge.specs.Failing.{faults_in}
+use Rattle.sarif_merge.specs.Failing.{faults_in, NoneFalls}
 use Rattle.sarif_merge.proofs.readers.read_readers.Given as goal
 
 abbrev pub invariant-loop-number : goal.invariant-loop-number
@@ -9,4 +9,5 @@ invariant-loop-number g l = record {
   read : AreRead g.R.Read.remaining (take l.number l.fn.readers) (take l.number l.readers) (map (λ v. v.items) l.sources.items);
   number : length l.sources.items ≡ l.number;
   quiet : faults_in l.readers ≡ faults_in l.fn.readers;
+  risen : NoneFalls l.fn.readers l.readers;
 }
