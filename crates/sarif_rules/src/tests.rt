@@ -1,4 +1,4 @@
-//! The values of worked rows, and that each call succeeds with ample memory. A row is an answer and a run, whose first result
+//! Examples worked by hand, and that each call succeeds with ample memory. A row is an answer and a run, whose first result
 //! gives its descriptor, its level and its place, or a fault.
 use crate::{make_record, open_run};
 use sarif_records::{Fault, Kind, Level, Log, Place, RawRun, Record, read_log, read_parts};
