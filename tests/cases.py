@@ -7,7 +7,7 @@ all others have words that do.
 """
 
 import json
-from dataclasses import dataclass, field
+from dataclasses import dataclass, field, replace
 from pathlib import Path
 from typing import Callable, Optional
 
@@ -18,17 +18,23 @@ FULL = "/dev/full"
 
 @dataclass
 class Answer:
-    """What a program answered: its status, its two streams and the file that it was to write."""
+    """What a program answered: its status, its two streams and the file that it was to write, and what
+    was wrong in its folder."""
 
     status: int
     stdout: bytes
     stderr: bytes
     out: Optional[bytes]
+    looked: list = field(default_factory=list)
 
 
 @dataclass
 class Case:
-    """A command, and what it must answer; None stands for what isn't looked at."""
+    """A command, and what it must answer; None stands for what isn't looked at.
+
+    `prepare` makes what else stands in the folder, and what it answers is handed to `look`, which looks at
+    the folder afterwards. The words in `beside` are those of further programs that run at the same time.
+    """
 
     group: str
     name: str
@@ -42,7 +48,15 @@ class Case:
     out_name: str = "o"
     streams: dict = field(default_factory=dict)
     open_files: Optional[int] = None
+    file_size: Optional[int] = None
+    beside: list = field(default_factory=list)
+    prepare: Optional[Callable] = None
     check: Optional[Callable] = None
+    look: Optional[Callable] = None
+
+    def into(self, group):
+        """The same case in this group."""
+        return replace(self, group=group)
 
     def faults(self, answer):
         """What is wrong in an answer, a line each."""
@@ -56,7 +70,7 @@ class Case:
                 wrong.append(f"{name}: {difference(wanted, found)}")
         if self.check and not wrong:
             wrong += self.check(answer)
-        return wrong
+        return wrong + answer.looked
 
 
 def difference(wanted, found):

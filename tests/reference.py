@@ -617,6 +617,8 @@ class Request:
         if not self.logs or self.out is None:
             raise Usage(2)
         self.suppress, self.today = self.given.get("suppress"), self.given.get("today")
+        if self.suppress == self.out:
+            raise Usage(2)
         self.policy = Policy(self.given.get("fail-on", "error"), self.given.get("max", 0))
 
     def option(self, word, words):
@@ -673,11 +675,50 @@ def asked(request):
 
 
 def write_file(name, text):
+    """Writes a text whole, or leaves what stood under the name."""
     try:
-        with open(name, "wb") as file:
-            file.write(text.encode())
+        name = followed(name)
+        if is_as_is(name):
+            with open(name, "wb") as file:
+                file.write(text.encode())
+        else:
+            replace_file(name, text.encode())
     except OSError:
         raise Refused("output", "WriteFailed") from None
+
+
+def is_as_is(name):
+    """Whether a name is written as it is: what is no file, and names of the system's own."""
+    is_other = os.path.exists(name) and not os.path.isfile(name)
+    return is_other or name.startswith(("/dev/", "/proc/"))
+
+
+def followed(name):
+    """What the links of a name lead to."""
+    for _ in range(40):
+        if is_as_is(name) or not os.path.islink(name):
+            return name
+        name = os.path.join(os.path.dirname(name), os.readlink(name))
+    raise OSError("the links have no end")
+
+
+def replace_file(name, text):
+    """Writes a new file beside the old one, and gives it the old one's name and mode."""
+    mode = None
+    if os.path.isfile(name):
+        os.close(os.open(name, os.O_WRONLY))
+        mode = os.stat(name).st_mode & 0o777
+    beside = os.path.join(os.path.dirname(name), f".reference-{os.getpid()}")
+    try:
+        with open(beside, "xb") as file:
+            if mode is not None:
+                os.fchmod(file.fileno(), mode)
+            file.write(text)
+        os.rename(beside, name)
+    except OSError:
+        if os.path.exists(beside):
+            os.remove(beside)
+        raise
 
 
 def says(stream, text):

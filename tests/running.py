@@ -3,6 +3,7 @@
 import os
 import resource
 import shlex
+import signal
 import subprocess
 from pathlib import Path
 
@@ -30,23 +31,57 @@ def answer(command, case, folder):
     """Runs a case in a folder of its own."""
     for name, given in case.files.items():
         Path(folder, name).write_bytes(given)
+    kept = case.prepare(Path(folder)) if case.prepare else None
+    others = [started(command, words, case, folder) for words in case.beside]
+    found = ended(started(command, case.words, case, folder), case)
+    looked = [other for it in others if (other := wrong_beside(it, case))]
+    if case.look:
+        looked += case.look(Path(folder), kept)
+    out = Path(folder, case.out_name)
+    written = out.read_bytes() if out.is_file() else None
+    return Answer(*found, written, looked)
+
+
+def started(command, words, case, folder):
+    """The running program, with the streams that were opened for it."""
     streams = {name: subprocess.PIPE for name in ("stdin", "stdout", "stderr")}
-    for name, path in case.streams.items():
-        streams[name] = os.open(path, os.O_RDONLY if name == "stdin" else os.O_WRONLY)
+    opened = {
+        name: os.open(path, os.O_RDONLY if name == "stdin" else os.O_WRONLY)
+        for name, path in case.streams.items()
+    }
+    limit = lambda: limited(case)
+    ran = subprocess.Popen(
+        [*command, *words], cwd=folder, preexec_fn=limit, **{**streams, **opened}
+    )
+    for stream in opened.values():
+        os.close(stream)
+    return ran
+
+
+def limited(case):
+    """Sets the limits of a case. A write past the limit of a file's size fails, and doesn't end the program."""
+    limits = {resource.RLIMIT_NOFILE: case.open_files, resource.RLIMIT_FSIZE: case.file_size}
+    for name, most in limits.items():
+        if most is not None:
+            resource.setrlimit(name, (most, most))
+    signal.signal(signal.SIGXFSZ, signal.SIG_IGN)
+
+
+def ended(ran, case):
+    """The status and the streams of a program that ended."""
     given = {} if "stdin" in case.streams else {"input": case.stdin}
-    if case.open_files is not None:
-        most = (case.open_files, case.open_files)
-        streams["preexec_fn"] = lambda: resource.setrlimit(resource.RLIMIT_NOFILE, most)
-    ran = subprocess.Popen([*command, *case.words], cwd=folder, **streams)
     try:
         stdout, stderr = ran.communicate(timeout=SECONDS, **given)
     except subprocess.TimeoutExpired:
         ran.kill()
         ran.communicate()
-        return Answer(-1, b"", f"no end after {SECONDS} seconds".encode(), None)
-    finally:
-        for name in case.streams:
-            os.close(streams[name])
-    out = Path(folder, case.out_name)
-    written = out.read_bytes() if out.is_file() else None
-    return Answer(ran.returncode, stdout or b"", stderr or b"", written)
+        return -1, b"", f"no end after {SECONDS} seconds".encode()
+    return ran.returncode, stdout or b"", stderr or b""
+
+
+def wrong_beside(ran, case):
+    """What is wrong with a program that ran at the same time."""
+    status, _, stderr = ended(ran, case)
+    if status == case.status:
+        return None
+    return f"beside: status {status}, and not {case.status}; it said: {stderr[:300]!r}"

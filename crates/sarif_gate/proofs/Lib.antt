@@ -1,3 +1,5 @@
+pub mod Asked
+pub mod Ended
 pub mod Numbers
 pub mod Rows
 pub mod Told

@@ -1,14 +1,14 @@
 -- A refusal that is no failed read and no failed write has status 2.
-use Rattle.std.proofs.Common.{◌≡◌, ℕ, ◌≤◌, Bool, true, false, arith, refl}
-use Rattle.sarif_merge.specs.declared.fault.Cause.{Cause}
-use Rattle.sarif_merge.specs.declared.fault.Cause.TheVariants.{ReadFailed, WriteFailed}
-use Rattle.sarif_merge.specs.Counted.{RisesIf}
-use Rattle.sarif_merge.specs.Failing.{is_read_failed}
-use Rattle.sarif_merge.specs.Fault.{status_of}
+use Rattle.std.proofs.Common.{◌≡◌, ℕ, ◌≤◌, ◌+◌, Bool, true, false, nat_eq, arith, refl}
+use Rattle.sarif_sources.specs.declared.fault.Cause.{Cause}
+use Rattle.sarif_sources.specs.declared.fault.Cause.TheVariants.{ReadFailed, WriteFailed}
+use Rattle.sarif_sources.specs.Counted.{RisesIf}
+use Rattle.sarif_sources.specs.Failing.{is_read_failed, is_write_failed}
+use Rattle.sarif_sources.specs.Fault.{status_of}
 
-pub quiet_status : (cause : Cause) → is_read_failed cause ≡ false → (cause ≡ WriteFailed → ⊥) → status_of cause ≡ 2
+pub quiet_status : (cause : Cause) → is_read_failed cause ≡ false → is_write_failed cause ≡ false → status_of cause ≡ 2
 quiet_status ReadFailed read written = cc
-quiet_status WriteFailed read written = absurd (written refl)
+quiet_status WriteFailed read written = cc
 quiet_status _ read written = refl
 
 -- a number that rises or stays doesn't fall
@@ -20,3 +20,10 @@ no_fall false old new rise = omega (arith, rise)
 pub no_rise : (failed : Bool) (old new : ℕ) → RisesIf failed old new → new ≡ old → failed ≡ false
 no_rise true old new rise same = absurd (omega (arith, rise, same))
 no_rise false old new rise same = refl
+
+-- a refusal that is no failed write has status 3 just where a read failed
+pub refused_rise : (cause : Cause) (old new out say : ℕ) → is_write_failed cause ≡ false → RisesIf (is_read_failed cause) old new
+    → RisesIf (nat_eq (status_of cause) 3) (old + out + say) (new + out + say)
+refused_rise ReadFailed old new out say written rise = omega (arith, rise)
+refused_rise WriteFailed old new out say written rise = cc
+refused_rise _ old new out say written rise = omega (arith, rise)

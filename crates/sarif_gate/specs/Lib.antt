@@ -1,3 +1,5 @@
 pub mod Command
+pub mod Named
 pub mod Status
 pub mod Words
+pub mod Writing

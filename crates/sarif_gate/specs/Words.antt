@@ -1,13 +1,13 @@
 -- What the words of the command line ask for, and what is answered where they ask for nothing.
-use Rattle.std.specs.Prelude.{◌≡◌, ◌≢◌, ℕ, List, [], map, Option, Some, None, Result, Ok, Err, unwrap_or, option_and_then, codes, min, max, ◌<◌, ◌^◌, ⊤}
+use Rattle.std.specs.Prelude.{◌≡◌, ◌≢◌, ℕ, List, [], map, Option, Some, None, Result, Ok, Err, unwrap_or, option_and_then, codes, min, max, ◌<◌, ◌^◌, ◌⊎◌, ⊤}
 use Rattle.std.specs.Borrow.{Bor}
 use Rattle.std.specs.Str.Parse.{IsNumeral, digits_value, without_leading_plus}
-use Rattle.clap.specs.Words.{IsAmong, Row, Text, all_of, first_of, one_of, fault_of, matches_of}
+use Rattle.clap.specs.Words.{App, IsAmong, Row, Text, all_of, first_of, one_of, fault_of, matches_of}
 use Rattle.clap.specs.declared.error.kind.ErrorKind.{ErrorKind}
 use Rattle.clap.specs.declared.error.kind.ErrorKind.TheVariants as kind
 use Rattle.sarif_records.specs.declared.kinds.Level.{Level}
 use Rattle.sarif_records.specs.Level.{level_named}
-use Rattle.sarif_merge.specs.Policy.{default_policy}
+use Rattle.sarif_counts.specs.Policy.{default_policy}
 use Rattle.sarif_gate.specs.declared.words.WordsFault.{WordsFault}
 use Rattle.sarif_gate.specs.declared.words.WordsFault.TheVariants.{Usage, Help, OutOfMemory}
 use Rattle.sarif_gate.specs.declared.request.Request.{Request}
@@ -67,10 +67,24 @@ pub record AsksFor (rows : List Row) (request : Request) : Type 0 where
   pub states : request.policy.states ≡ default_policy.states
   pub max : IsReadOr default_policy.max (one_of (codes "max") rows) request.policy.max
 
+-- the merged log would take the place of the suppression file
+abbrev pub ReplacesSuppressions : List Row → Type 0
+ReplacesSuppressions rows = first_of (codes "suppress") rows ≡ Some (unwrap_or (first_of (codes "out") rows) [])
+
+-- nothing is wrong with the words by themselves, but with two names in them
+abbrev pub HaveOneName : App → List Text → Type 0
+HaveOneName app words = (fault_of app words ≡ []) × ReplacesSuppressions (matches_of app words)
+
+-- a fault that says so, for which memory may be wanting
+abbrev pub IsUsageOrWanting : WordsFault → Type 0
+IsUsageOrWanting (Usage text) = ⊤
+IsUsageOrWanting (Help text) = ⊥
+IsUsageOrWanting OutOfMemory = ⊤
+
 -- a fault tells what is wrong with the words, or that they ask for the help; memory may be wanting for any text
 abbrev pub IsFaultOf : List Text → WordsFault → Type 0
 IsFaultOf words (Usage text) = (levels : Bor (List (Bor Text))) × AreLevels levels
-    × ((k : ErrorKind) × IsAmong k (fault_of (program levels) words) × (k ≢ kind.DisplayHelp))
+    × (((k : ErrorKind) × IsAmong k (fault_of (program levels) words) × (k ≢ kind.DisplayHelp)) ⊎ HaveOneName (program levels) words)
 IsFaultOf words (Help text) = (levels : Bor (List (Bor Text))) × AreLevels levels
     × IsAmong kind.DisplayHelp (fault_of (program levels) words)
 IsFaultOf words OutOfMemory = ⊤
@@ -79,4 +93,5 @@ IsFaultOf words OutOfMemory = ⊤
 abbrev pub Answers : List Text → Result Request WordsFault → Type 0
 Answers words (Ok request) = (levels : Bor (List (Bor Text))) × AreLevels levels
     × (fault_of (program levels) words ≡ []) × AsksFor (matches_of (program levels) words) request
+    × ¬ ReplacesSuppressions (matches_of (program levels) words)
 Answers words (Err fault) = IsFaultOf words fault

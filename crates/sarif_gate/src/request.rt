@@ -1,10 +1,10 @@
 //! What one run of the program is asked to do.
-ghost use Rattle.std.specs.Prelude.{◌≡◌, ◌≤◌, None};
-ghost use Rattle.sarif_merge.specs.Policy.{default_policy};
+ghost use Rattle.std.specs.Prelude.{◌≡◌, ◌≤◌, IfOk, None};
+ghost use Rattle.sarif_counts.specs.Policy.{default_policy};
 
 use sarif_merge::Policy;
 use sarif_records::Text;
-use std::alloc::Global;
+use std::alloc::{AllocError, Global};
 
 /// What one run is asked to do. Sources are named as they were written, in the order of the words.
 #[derive(Debug, Drop)]
@@ -30,19 +30,19 @@ pub struct Request {
 impl Request {
     /// To merge one log from standard input to standard output, with one worker and the default policy. The
     /// standard streams have no names.
-    pub fn of_standard_streams(alloc: Global) -> Request
-        ensures workers { result.workers ≡ 1 }
-        ensures policy { result.policy ≡ default_policy }
-        ensures today { result.today ≡ None }
+    pub fn of_standard_streams(alloc: Global) -> Result<Request, AllocError>
+        ensures workers { IfOk result (λ request. request.workers ≡ 1) }
+        ensures policy { IfOk result (λ request. request.policy ≡ default_policy) }
+        ensures today { IfOk result (λ request. request.today ≡ None) }
     {
-        Request {
+        Ok(Request {
             logs: Vec::new(alloc),
             baselines: Vec::new(alloc),
             suppress: None,
-            out: Text::from(String::new(alloc)),
+            out: Text::from_string(String::new(alloc))?,
             today: None,
             workers: 1,
             policy: Policy::default(),
-        }
+        })
     }
 }

@@ -1,9 +1,9 @@
 //! Reading the words of the command line.
-ghost use Rattle.std.specs.Prelude.{◌≡◌, IfOk, map, string_bytes, option_and_then, codes};
+ghost use Rattle.std.specs.Prelude.{◌≡◌, ◌↔◌, IfOk, IsTrue, Some, map, string_bytes, option_and_then, codes};
 ghost use Rattle.clap.specs.Words.{kind_of, rows_of, found_of, first_of, one_of};
 ghost use Rattle.sarif_records.specs.Level.{level_named};
-ghost use Rattle.sarif_merge.specs.Policy.{default_policy};
-ghost use Rattle.sarif_gate.specs.Words.{words_status, Tells, AsksFor, Answers, fail_on_in, values_of, IsRead, IsReadOr};
+ghost use Rattle.sarif_counts.specs.Policy.{default_policy};
+ghost use Rattle.sarif_gate.specs.Words.{words_status, Tells, AsksFor, Answers, fail_on_in, values_of, IsRead, IsReadOr, IsUsageOrWanting};
 
 use crate::command::{BASELINE, FAIL_ON, LOG, MAX, OUT, SUPPRESS, TODAY, WORKERS, command};
 use crate::request::Request;
@@ -12,6 +12,13 @@ use clap::error::ErrorKind;
 use sarif_merge::Policy;
 use sarif_records::{Level, Text};
 use std::alloc::{AllocError, AllocFailed, Global};
+
+/// What is said where the merged log would take the place of the suppression file.
+const ONE_NAME: &str = "\
+error: --out and --suppress name one file, which the merged log would replace
+
+For more information, try '--help'.
+";
 
 /// Why the words make no request.
 #[derive(Debug, Drop)]
@@ -47,7 +54,8 @@ impl From<AllocError> for WordsFault {
     }
 }
 
-/// What the words after the program's name ask for. `Usage` where they are wrong, `Help` where they ask for it.
+/// What the words after the program's name ask for. `Usage` where they are wrong, also where the merged log would
+/// take the place of the suppression file; `Help` where they ask for it.
 pub fn read_words(alloc: Global, words: &[String]) -> Result<Request, WordsFault>
     ensures { Answers (map string_bytes words.now) result }
 {
@@ -55,9 +63,32 @@ pub fn read_words(alloc: Global, words: &[String]) -> Result<Request, WordsFault
     match command.try_get_matches_from(words) {
         Ok(matches) => {
             let request = request_of(alloc, &matches)?;
+            if replaces_suppressions(&request) {
+                return Err(one_name(alloc));
+            }
             Ok(request)
         }
         Err(error) => Err(fault_of(alloc, &error)),
+    }
+}
+
+/// Whether the merged log and the suppression file have one name.
+fn replaces_suppressions(request: &Request) -> bool
+    ensures { IsTrue result ↔ request.now.suppress ≡ Some request.now.out }
+{
+    match &request.suppress {
+        Some(name) => name.as_str() == request.out.as_str(),
+        None => false,
+    }
+}
+
+/// That they have.
+fn one_name(alloc: Global) -> WordsFault
+    ensures { IsUsageOrWanting result }
+{
+    match Text::copy_of(alloc, ONE_NAME) {
+        Ok(text) => WordsFault::Usage(text),
+        Err(_) => WordsFault::OutOfMemory,
     }
 }
 
@@ -157,9 +188,14 @@ fn fault_of(alloc: Global, error: &clap::Error) -> WordsFault
     if error.kind() == ErrorKind::OutOfMemory {
         return WordsFault::OutOfMemory;
     }
-    match error.to_string(alloc) {
-        Ok(text) if error.kind() == ErrorKind::DisplayHelp => WordsFault::Help(Text::from(text)),
-        Ok(text) => WordsFault::Usage(Text::from(text)),
+    match text_of(alloc, error) {
+        Ok(text) if error.kind() == ErrorKind::DisplayHelp => WordsFault::Help(text),
+        Ok(text) => WordsFault::Usage(text),
         Err(_) => WordsFault::OutOfMemory,
     }
+}
+
+/// What the parser of the words says of its answer.
+fn text_of(alloc: Global, error: &clap::Error) -> Result<Text, AllocError> {
+    Text::from_string(error.to_string(alloc)?)
 }

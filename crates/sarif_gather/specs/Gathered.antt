@@ -1,3 +1,4 @@
+-- For proofs inside this crate; no public clause speaks of it.
 -- What the calling thread has once all workers are joined.
 use Rattle.std.specs.Prelude.{◌≡◌, ℕ, false, List, Some, slice_get, length}
 use Rattle.sarif_gather.specs.declared.piece.Parcel.{Parcel}

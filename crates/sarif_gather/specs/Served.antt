@@ -1,3 +1,4 @@
+-- For proofs inside this crate; no public clause speaks of it.
 -- What a worker gives back.
 use Rattle.std.specs.Prelude.{◌≡◌, ℕ, true}
 use Rattle.std.specs.Bool.{OnFalse}

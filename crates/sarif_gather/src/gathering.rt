@@ -74,7 +74,7 @@ fn start_one<'s, E, W: Work + Sync, G: Gate + Sync, R: Threads + Wait + Sync>(
     rt: &'s R,
     alloc: Global,
     work: &'s W,
-    gate: &'s G,
+    observer: &'s G,
     deal: &'s Deal,
     mailbox: &'s Mailbox<Parcel<W::Item, W::Tail>>,
     post: Post<Parcel<W::Item, W::Tail>>,
@@ -101,7 +101,7 @@ fn start_one<'s, E, W: Work + Sync, G: Gate + Sync, R: Threads + Wait + Sync>(
             requires hand { IsHandOf deal.now hand × (drawn_by hand ≡ []) }
             ensures { IsServed (W.count work.entry.now) (W.item work.entry.now)
                 (W.end work.entry.now) mailbox.entry.now deal.entry.now (number_of post) result }
-        { serve(rt, alloc, work, gate, deal, mailbox, post, hand) },
+        { serve(rt, alloc, work, observer, deal, mailbox, post, hand) },
     );
     started.ok()
 }
@@ -112,7 +112,7 @@ fn start_all<'s, E, W: Work + Sync, G: Gate + Sync, R: Threads + Wait + Sync>(
     rt: &'s R,
     alloc: Global,
     work: &'s W,
-    gate: &'s G,
+    observer: &'s G,
     deal: &'s Deal,
     mailbox: &'s Mailbox<Parcel<W::Item, W::Tail>>,
     posts: Vec<Post<Parcel<W::Item, W::Tail>>>,
@@ -133,7 +133,7 @@ fn start_all<'s, E, W: Work + Sync, G: Gate + Sync, R: Threads + Wait + Sync>(
         let Some(hand) = hands.pop() else {
             unreachable!()
         };
-        let started = start_one(scope, rt, alloc, work, gate, deal, mailbox, post, hand);
+        let started = start_one(scope, rt, alloc, work, observer, deal, mailbox, post, hand);
         let Some(handle) = started else {
             break;
         };
@@ -163,7 +163,7 @@ fn gather_in<'s, E, W: Work + Sync, G: Gate + Sync, R: Threads + Wait + Sync>(
     rt: &'s R,
     alloc: Global,
     work: &'s W,
-    gate: &'s G,
+    observer: &'s G,
     deal: &'s Deal,
     mailbox: &'s Mailbox<Parcel<W::Item, W::Tail>>,
     posts: Vec<Post<Parcel<W::Item, W::Tail>>>,
@@ -182,9 +182,11 @@ fn gather_in<'s, E, W: Work + Sync, G: Gate + Sync, R: Threads + Wait + Sync>(
         mailbox.now deal.now collector (vec_len posts)) }
 {
     let workers = posts.len();
-    let handles = start_all(scope, rt, alloc, work, gate, deal, mailbox, posts, hands)?;
+    let handles = start_all(
+        scope, rt, alloc, work, observer, deal, mailbox, posts, hands,
+    )?;
     let started = handles.len();
-    let is_whole = receive(rt, mailbox, &mut desk, started, &mut collector, gate);
+    let is_whole = receive(rt, mailbox, &mut desk, started, &mut collector, observer);
     let Ok(backs) = thread::join_promised(rt, handles) else {
         return Err(GatherFault::OutOfMemory);
     };
@@ -206,7 +208,7 @@ fn gather_scoped<W: Work + Sync, G: Gate + Sync, R: Threads + Wait + Sync>(
     rt: &R,
     alloc: Global,
     work: &W,
-    gate: &G,
+    observer: &G,
     deal: &Deal,
     mailbox: &Mailbox<Parcel<W::Item, W::Tail>>,
     posts: Vec<Post<Parcel<W::Item, W::Tail>>>,
@@ -239,7 +241,7 @@ fn gather_scoped<W: Work + Sync, G: Gate + Sync, R: Threads + Wait + Sync>(
                 (W.end work.entry.now) mailbox.entry.now deal.entry.now collector (vec_len posts)) }
         {
             gather_in(
-                scope, rt, alloc, work, gate, deal, mailbox, posts, hands, desk, collector,
+                scope, rt, alloc, work, observer, deal, mailbox, posts, hands, desk, collector,
             )
         },
     )
@@ -275,7 +277,7 @@ pub fn gather<W: Work + Sync, G: Gate + Sync, R: Threads + Wait + Sync>(
     work: &W,
     workers: u32,
     room: u32,
-    gate: &G,
+    observer: &G,
 ) -> Result<Lists<W::Item, W::Tail>, GatherFault>
     requires workers { (1 ≤ workers) × (workers ≤ 64) }
     requires room { (1 ≤ room) × (room ≤ 4096) }
@@ -287,7 +289,7 @@ pub fn gather<W: Work + Sync, G: Gate + Sync, R: Threads + Wait + Sync>(
     let (deal, hands) = Deal::new(alloc, runs, workers)?;
     let (mailbox, posts, desk) = Mailbox::new(alloc, room, workers)?;
     let gathered = gather_scoped(
-        rt, alloc, work, gate, &deal, &mailbox, posts, hands, desk, collector,
+        rt, alloc, work, observer, &deal, &mailbox, posts, hands, desk, collector,
     )?;
     let Gathered {
         desk,

@@ -5,9 +5,11 @@ ghost use Rattle.sarif_gather.specs.Ends.{IsPostOf, IsDeskOf, AreNew, number_of,
 mod ends;
 mod rule;
 mod settling;
+mod waiting;
 
 use crate::mailbox::rule::{Delivery, Enlists, Sends, Takes, View};
 use crossbeam_queue::RuledArrayQueue;
+use crossbeam_utils::sync::EventCount;
 pub use ends::{Desk, Post};
 pub use settling::Settled;
 use std::alloc::{AllocError, Global};
@@ -20,6 +22,9 @@ pub(crate) type Line<P> = RuledArrayQueue<(u32, P), View<P>, Delivery>;
 pub struct Mailbox<P> {
     pub(crate) line: Line<P>,
     pub(crate) senders: u32,
+    // By these sleep the senders that wait for room, and the taker that waits for a parcel.
+    room: EventCount,
+    parcels: EventCount,
 }
 
 /// The mailbox was full. The parcel comes back.
@@ -44,10 +49,17 @@ impl<P: Drop> Mailbox<P> {
         for number in 0..senders {
             posts.push_reserved(Post::new(line.another::<Enlists>(&mut pass), number));
         }
-        Ok((Mailbox { line, senders }, posts, Desk::new(pass)))
+        let mailbox = Mailbox {
+            line,
+            senders,
+            room: EventCount::new(),
+            parcels: EventCount::new(),
+        };
+        Ok((mailbox, posts, Desk::new(pass)))
     }
 
-    /// Puts a parcel at the back. It comes back only where the mailbox was full.
+    /// Puts a parcel at the back, and wakes the taker if it sleeps. The parcel comes back only where
+    /// the mailbox was full.
     pub fn send<R: Wait>(&self, rt: &R, post: &mut Post<P>, parcel: P) -> Result<(), Full<P>>
         requires { IsPostOf self.now post.old }
         ensures post { IsPostOf self.now post.new × (number_of post.new ≡ number_of post.old) }
@@ -59,18 +71,26 @@ impl<P: Drop> Mailbox<P> {
             .line
             .push_as::<Sends, R>(rt, &mut post.pass, (post.number, parcel))
         {
-            Ok(()) => Ok(()),
+            Ok(()) => {
+                self.parcels.notify_one();
+                Ok(())
+            }
             Err((_, parcel)) => Err(Full { parcel }),
         }
     }
 
-    /// Takes the sender and the parcel at the front. None comes only where the mailbox was empty.
+    /// Takes the sender and the parcel at the front, and wakes a sender that sleeps for want of
+    /// room. None comes only where the mailbox was empty.
     pub fn take<R: Wait>(&self, rt: &R, desk: &mut Desk<P>) -> Option<(u32, P)>
         requires { IsDeskOf self.now desk.old }
         ensures desk { IsDeskOf self.now desk.new }
         ensures taken { MatchOption result (taken_by desk.new ≡ taken_by desk.old)
             (λ p. taken_by desk.new ≡ taken_by desk.old ++ p ∷ []) }
     {
-        self.line.pop_as::<Takes, R>(rt, &mut desk.pass)
+        let taken = self.line.pop_as::<Takes, R>(rt, &mut desk.pass);
+        if taken.is_some() {
+            self.room.notify_one();
+        }
+        taken
     }
 }

@@ -3,13 +3,14 @@ use Rattle.std.proofs.Common.{◌≡◌, ◌≢◌, ℕ, ◌<◌, zero, suc, Boo
 use Rattle.std.proofs.Math.ListN.{length-set}
 use Rattle.std.specs.Option.{option_map_or}
 use Rattle.std.proofs.lemmas.List.{length-replicate}
+use Rattle.std.proofs.lemmas.List.Sums.{fold-append}
 use Rattle.std.proofs.lemmas.Bool.{true≢false, cases_lt}
 use Rattle.std.proofs.lemmas.Bool.Decides.{eqb_tells}
 use Rattle.sarif_records.specs.declared.record.Record.{Record}
 use Rattle.sarif_match.specs.declared.tier.Tier.{Tier}
 use Rattle.sarif_match.specs.KeyParts.{KeyParts, same_parts}
 use Rattle.sarif_match.specs.Fits.{Fits}
-use Rattle.sarif_match.specs.Partners.{has_partner, is_taken, keyed_from, put_all, pairs_at, after_tier, partners_of}
+use Rattle.sarif_match.specs.Partners.{has_partner, is_taken, keyed_from, put_all, pairs_at, after_tier, partners_after, partners_of}
 use Rattle.sarif_match.specs.Paired.{key_at, rank, IsPairedAt, ArePartners}
 use Rattle.sarif_match.specs.Tiers.{tiers_of}
 use Rattle.sarif_match.proofs.FitsLemmas.{Fits-pairs_at}
@@ -147,6 +148,28 @@ module _ (current baseline : List Record) where
   pub are-partners : (i j : ℕ) → ArePartners current baseline i j → slice_index_or (partners_of current baseline) i None ≡ Some j
   are-partners i j h =
       ap (λ (ts : List Tier). slice_index_or (fold (after_tier current baseline) (replicate (length current) None) ts) i None) h.in_order ∙ all_keep h.before h.tier h.after (replicate (length current) None) i j (length-replicate (length current) None) h.paired
+
+  fold_counted : (tiers : List Tier) (partners : List (Option ℕ)) → length partners ≡ length current → length (fold (after_tier current baseline) partners tiers) ≡ length current
+  fold_counted [] partners counted = counted
+  fold_counted (t ∷ tiers) partners counted =
+      fold_counted tiers (after_tier current baseline partners t) (after_counted partners t counted)
+
+  after_counts : (before : List Tier) → length (partners_after current baseline before) ≡ length current
+  after_counts before =
+      fold_counted before (replicate (length current) None) (length-replicate (length current) None)
+
+  last_tier : (before : List Tier) (tier : Tier) (i : ℕ) → slice_index_or (partners_after current baseline (before ++ (tier ∷ []))) i None ≡ slice_index_or (after_tier current baseline (partners_after current baseline before) tier) i None
+  last_tier before tier i =
+      ap (λ (ps : List (Option ℕ)). slice_index_or ps i None) (fold-append (after_tier current baseline) (replicate (length current) None) before (tier ∷ []))
+
+  -- one tier adds just the results that are paired at it
+  pub tier-tells : (before : List Tier) (tier : Tier) (i j : ℕ) → slice_index_or (partners_after current baseline (before ++ (tier ∷ []))) i None ≡ Some j → (slice_index_or (partners_after current baseline before) i None ≡ Some j) ⊎ IsPairedAt current baseline (partners_after current baseline before) tier i j
+  tier-tells before tier i j found =
+      after_tells (partners_after current baseline before) tier i j (after_counts before) (sym (last_tier before tier i) ∙ found)
+
+  pub tier-adds : (before : List Tier) (tier : Tier) (i j : ℕ) → (slice_index_or (partners_after current baseline before) i None ≡ Some j) ⊎ IsPairedAt current baseline (partners_after current baseline before) tier i j → slice_index_or (partners_after current baseline (before ++ (tier ∷ []))) i None ≡ Some j
+  tier-adds before tier i j h =
+      last_tier before tier i ∙ after_keeps (partners_after current baseline before) tier i j (after_counts before) h
 
   -- no two have one partner
   abbrev IsOneToOne : List (Option ℕ) → Type 0

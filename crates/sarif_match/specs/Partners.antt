@@ -1,5 +1,5 @@
 -- Which baseline result each current result is paired with, tier by tier.
-use Rattle.std.specs.Prelude.{◌≡◌, ℕ, suc, List, [], ◌∷◌, Bool, false, not, Option, Some, None, ◌==◌, filter, fold, length, replicate, is_some, slice_index_or, slice_set}
+use Rattle.std.specs.Prelude.{ℕ, suc, List, [], ◌∷◌, Bool, false, not, Option, Some, None, ◌==◌, filter, fold, length, replicate, is_some, slice_index_or, slice_set}
 use Rattle.std.specs.List.{list_any}
 use Rattle.std.specs.Option.{option_map_or}
 use Rattle.sarif_records.specs.declared.record.Record.{Record}
@@ -59,7 +59,3 @@ module _ (current baseline : List Record) where
   -- the partner of each current result
   abbrev pub partners_of : List (Option ℕ)
   partners_of = partners_after (tiers_of current baseline)
-
-  -- baseline result j is nobody's partner
-  abbrev pub IsUnmatched : ℕ → Type 0
-  IsUnmatched j = is_taken partners_of j ≡ false

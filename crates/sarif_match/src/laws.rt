@@ -1,5 +1,5 @@
 //! Laws of tiers, keys, partners and states, each the contract of a function that does nothing.
-ghost use Rattle.std.specs.Prelude.{◌≡◌, ◌↔◌, ◌||◌, ℕ, List, Some, None, IsTrue, slice_index_or};
+ghost use Rattle.std.specs.Prelude.{◌≡◌, ◌↔◌, ◌⊎◌, ◌||◌, ◌∷◌, ◌++◌, [], ℕ, List, Some, None, IsTrue, slice_index_or};
 ghost use Rattle.std.specs.Ordering.{nat_cmp};
 ghost use Rattle.std.specs.Cmp.Lexicographic.{slice_cmp};
 ghost use Rattle.std.specs.List.Sorted.{IsStrictlySortedBy};
@@ -8,13 +8,11 @@ ghost use Rattle.sarif_records.specs.declared.kinds.State.TheVariants.{Unchanged
 ghost use Rattle.sarif_match.specs.declared.tier_key.Key.{Key};
 ghost use Rattle.sarif_match.specs.KeyParts.{parts_of};
 ghost use Rattle.sarif_match.specs.Queues.{same_key};
-ghost use Rattle.sarif_match.specs.Paired.{ArePartners};
-ghost use Rattle.sarif_match.specs.Partners.{partners_of};
+ghost use Rattle.sarif_match.specs.declared.tier.Tier.{Tier};
+ghost use Rattle.sarif_match.specs.Paired.{ArePartners, IsPairedAt};
+ghost use Rattle.sarif_match.specs.Partners.{partners_after, partners_of};
 ghost use Rattle.sarif_match.specs.State.{state_of, IsUnchanged};
 ghost use Rattle.sarif_match.specs.Tiers.{names_of, has_name, rising_names};
-
-use crate::matching::Matching;
-use sarif_records::Record;
 
 /// Two keys are equal exactly where they are of one tier and all their parts are equal.
 pub fn keys_are_equal_where_their_parts_are()
@@ -46,16 +44,12 @@ pub fn no_baseline_result_has_two_partners()
         slice_index_or (partners_of current baseline) k None ≡ Some j → i ≡ k }
 {}
 
-/// The partners depend on nothing but the two lists.
-pub fn partners_depend_on_the_two_lists_alone(
-    one: &Matching,
-    other: &Matching,
-    current: &[Record],
-    baseline: &[Record],
-)
-    requires one { one.now ≡ partners_of current.now baseline.now }
-    requires other { other.now ≡ partners_of current.now baseline.now }
-    ensures { one.now ≡ other.now }
+/// After a tier the partners are those before it and just the pairs of that tier.
+pub fn a_tier_adds_just_its_pairs()
+    ensures { (current baseline : List Record) (before : List Tier) (tier : Tier) (i j : ℕ) →
+        (slice_index_or (partners_after current baseline (before ++ tier ∷ [])) i None ≡ Some j)
+        ↔ ((slice_index_or (partners_after current baseline before) i None ≡ Some j)
+        ⊎ IsPairedAt current baseline (partners_after current baseline before) tier i j) }
 {}
 
 /// A result that has a partner is unchanged exactly where kind, effective level, message and place

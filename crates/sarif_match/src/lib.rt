@@ -16,7 +16,7 @@ mod tier_key;
 mod tier_list;
 
 pub use keys::key;
-pub use matching::{Matching, match_all};
+pub use matching::{Matching, match_all, match_all_with};
 pub use states::state;
 pub use tier::Tier;
 pub use tier_key::Key;

@@ -11,6 +11,7 @@ use crate::tier::Tier;
 use crate::tier_list::tiers;
 use sarif_records::Record;
 use std::alloc::{AllocError, Global};
+use std::hash::{BuildHasher, BuildHasherDefault, FoldHasher};
 use std::marker::Model;
 
 /// Which baseline result each current result is paired with. Contracts see the list of partners:
@@ -48,7 +49,8 @@ impl Matching {
 
 /// Pairs each current result with at most one baseline result, tier by tier. At each tier the
 /// results that are left over are paired where their keys are equal, the first with the first, the
-/// second with the second, and so on. Each list has at most 1,000,000 results.
+/// second with the second, and so on. Each list has at most 1,000,000 results. The tables have the
+/// seed of the standard hasher, which who writes a log may know: see `match_all_with`.
 pub fn match_all<'a>(
     alloc: Global,
     current: &'a [Record],
@@ -58,12 +60,28 @@ pub fn match_all<'a>(
     requires baseline { length baseline.now ≤ 1000000 }
     ensures { IfOk result (λ matching. matching ≡ partners_of current.now baseline.now) }
 {
+    let hasher = BuildHasherDefault::<FoldHasher>::new();
+    match_all_with(alloc, hasher, current, baseline)
+}
+
+/// The same by tables that hash with `hasher`, as a `RandomState`, whose seed no log can know. The
+/// partners are the same whatever it is.
+pub fn match_all_with<'a, S: BuildHasher + Copy>(
+    alloc: Global,
+    hasher: S,
+    current: &'a [Record],
+    baseline: &'a [Record],
+) -> Result<Matching, AllocError>
+    requires current { length current.now ≤ 1000000 }
+    requires baseline { length baseline.now ≤ 1000000 }
+    ensures { IfOk result (λ matching. matching ≡ partners_of current.now baseline.now) }
+{
     let mut progress = Progress::new(alloc, current.len(), baseline.len())?;
     let tiers = tiers(alloc, current, baseline)?;
-    let now = Side::new(alloc, current)?;
-    let before = Side::new(alloc, baseline)?;
+    let now = Side::new(alloc, hasher, current)?;
+    let before = Side::new(alloc, hasher, baseline)?;
     for tier in &tiers {
-        match_tier(alloc, &mut progress, tier, &now, &before)?;
+        match_tier(alloc, hasher, &mut progress, tier, &now, &before)?;
     }
     let Progress {
         partners,
@@ -74,12 +92,13 @@ pub fn match_all<'a>(
 }
 
 /// Pairs what is left over at one tier.
-fn match_tier<'a>(
+fn match_tier<'a, S: BuildHasher + Copy>(
     alloc: Global,
+    hasher: S,
     progress: &mut Progress,
     tier: &Tier,
-    current: &Side<'a>,
-    baseline: &Side<'a>,
+    current: &Side<'a, S>,
+    baseline: &Side<'a, S>,
 ) -> Result<(), AllocError>
     requires current { IsIndexed current.now }
     requires baseline { IsIndexed baseline.now }
@@ -93,7 +112,7 @@ fn match_tier<'a>(
 {
     let left = current.left_over(alloc, tier, &progress.paired)?;
     let free = baseline.left_over(alloc, tier, &progress.taken)?;
-    let pairs = pair_up(alloc, &left, &free)?;
+    let pairs = pair_up(alloc, hasher, &left, &free)?;
     progress.put_pairs(&pairs);
     Ok(())
 }

@@ -9,17 +9,19 @@ use crate::tier_key::Key;
 use indexmap::IndexMap;
 use sarif_records::{Record, Text};
 use std::alloc::{AllocError, Global};
+use std::hash::BuildHasher;
 
 /// For each fingerprint name the results that have it, with their numbers and keys, in order.
-pub(crate) fn by_name<'a>(
+pub(crate) fn by_name<'a, S: BuildHasher + Copy>(
     alloc: Global,
+    hasher: S,
     findings: &'a [Record],
-) -> Result<IndexMap<&'a Text, Vec<(u32, Key<'a>)>>, AllocError>
+) -> Result<IndexMap<&'a Text, Vec<(u32, Key<'a>)>, S>, AllocError>
     requires { length findings.now < 2 ^ 32 }
     ensures { IfOk result (λ named. (name : List ℕ) → with_parts (group_at named name)
         ≡ keyed_from (Fingerprint name) 0 findings.now) }
 {
-    let mut named = IndexMap::new(alloc);
+    let mut named = IndexMap::with_hasher(alloc, hasher);
     for (number, finding) in findings.iter().enumerate() {
         add_finding(alloc, &mut named, number as u32, finding)?;
     }
@@ -27,9 +29,9 @@ pub(crate) fn by_name<'a>(
 }
 
 /// Puts a result at the end of the group of each of its fingerprint names.
-fn add_finding<'a>(
+fn add_finding<'a, S: BuildHasher + Copy>(
     alloc: Global,
-    named: &mut IndexMap<&'a Text, Vec<(u32, Key<'a>)>>,
+    named: &mut IndexMap<&'a Text, Vec<(u32, Key<'a>)>, S>,
     number: u32,
     finding: &'a Record,
 ) -> Result<(), AllocError>
@@ -50,9 +52,9 @@ fn add_finding<'a>(
 }
 
 /// Puts a key at the end of a name's group. Of a result that has the name twice, the first counts.
-fn add_key<'a>(
+fn add_key<'a, S: BuildHasher + Copy>(
     alloc: Global,
-    named: &mut IndexMap<&'a Text, Vec<(u32, Key<'a>)>>,
+    named: &mut IndexMap<&'a Text, Vec<(u32, Key<'a>)>, S>,
     name: &'a Text,
     number: u32,
     key: Key<'a>,

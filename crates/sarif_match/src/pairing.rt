@@ -6,17 +6,19 @@ ghost use Rattle.sarif_match.specs.Queues.{same_key};
 use crate::queues::{queues_of, take_first};
 use crate::tier_key::Key;
 use std::alloc::{AllocError, Global};
+use std::hash::BuildHasher;
 
 /// Pairs each current result with the baseline result that has its key and stands behind as many
 /// others with that key. Both lists hold what is left over and has a key, in rising order.
-pub(crate) fn pair_up<'a>(
+pub(crate) fn pair_up<'a, S: BuildHasher + Copy>(
     alloc: Global,
+    hasher: S,
     current: &[(u32, Key<'a>)],
     baseline: &[(u32, Key<'a>)],
 ) -> Result<Vec<(u32, u32)>, AllocError>
     ensures { IfOk result (λ pairs. pairs.items ≡ pairs_from same_key [] current.now baseline.now) }
 {
-    let mut queues = queues_of(alloc, baseline)?;
+    let mut queues = queues_of(alloc, hasher, baseline)?;
     let mut pairs = Vec::new(alloc);
     for (number, key) in current {
         if let Some(partner) = take_first(&mut queues, key) {

@@ -8,16 +8,18 @@ use crate::tier_key::Key;
 use indexmap::IndexMap;
 use std::alloc::{AllocError, Global};
 use std::collections::VecDeque;
+use std::hash::BuildHasher;
 
 /// For each key the numbers of the results that have it, rising.
-pub(crate) fn queues_of<'a>(
+pub(crate) fn queues_of<'a, S: BuildHasher + Copy>(
     alloc: Global,
+    hasher: S,
     baseline: &[(u32, Key<'a>)],
-) -> Result<IndexMap<Key<'a>, VecDeque<u32>>, AllocError>
+) -> Result<IndexMap<Key<'a>, VecDeque<u32>, S>, AllocError>
     ensures { IfOk result (λ queues. (q : Key)
         → queue_at queues q ≡ places same_key q baseline.now) }
 {
-    let mut queues = IndexMap::new(alloc);
+    let mut queues = IndexMap::with_hasher(alloc, hasher);
     for (number, key) in baseline {
         add_last(alloc, &mut queues, *key, *number)?;
     }
@@ -25,9 +27,9 @@ pub(crate) fn queues_of<'a>(
 }
 
 /// Puts the number at the end of the key's queue.
-fn add_last<'a>(
+fn add_last<'a, S: BuildHasher + Copy>(
     alloc: Global,
-    queues: &mut IndexMap<Key<'a>, VecDeque<u32>>,
+    queues: &mut IndexMap<Key<'a>, VecDeque<u32>, S>,
     key: Key<'a>,
     number: u32,
 ) -> Result<(), AllocError>
@@ -47,8 +49,8 @@ fn add_last<'a>(
 }
 
 /// Takes the first number out of the key's queue.
-pub(crate) fn take_first<'a>(
-    queues: &mut IndexMap<Key<'a>, VecDeque<u32>>,
+pub(crate) fn take_first<'a, S: BuildHasher + Copy>(
+    queues: &mut IndexMap<Key<'a>, VecDeque<u32>, S>,
     key: &Key<'a>,
 ) -> Option<u32>
     ensures first { result ≡ slice_get (queue_at queues.old key.now) 0 }

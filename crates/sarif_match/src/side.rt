@@ -11,24 +11,29 @@ use crate::tier_key::Key;
 use indexmap::IndexMap;
 use sarif_records::{Record, Text};
 use std::alloc::{AllocError, Global};
+use std::hash::BuildHasher;
 
 /// The results of one side, with their index by fingerprint names.
 #[derive(Drop)]
-pub(crate) struct Side<'a> {
+pub(crate) struct Side<'a, S: BuildHasher + Copy> {
     pub(crate) findings: &'a [Record],
-    pub(crate) named: IndexMap<&'a Text, Vec<(u32, Key<'a>)>>,
+    pub(crate) named: IndexMap<&'a Text, Vec<(u32, Key<'a>)>, S>,
 }
 
-impl<'a> Side<'a> {
+impl<'a, S: BuildHasher + Copy> Side<'a, S> {
     ghost use Rattle.sarif_match.specs.Side.{IsIndexed};
 
     /// Indexes the results.
-    pub(crate) fn new(alloc: Global, findings: &'a [Record]) -> Result<Side<'a>, AllocError>
+    pub(crate) fn new(
+        alloc: Global,
+        hasher: S,
+        findings: &'a [Record],
+    ) -> Result<Side<'a, S>, AllocError>
         requires { length findings.now < 2 ^ 32 }
         ensures indexed { IfOk result IsIndexed }
         ensures findings { IfOk result (λ side. side.findings.now ≡ findings.now) }
     {
-        let named = by_name(alloc, findings)?;
+        let named = by_name(alloc, hasher, findings)?;
         Ok(Side { findings, named })
     }
 
@@ -52,9 +57,9 @@ impl<'a> Side<'a> {
 }
 
 /// The results that have a fingerprint with this name and no mark.
-fn unmarked_named<'a>(
+fn unmarked_named<'a, S: BuildHasher + Copy>(
     alloc: Global,
-    named: &IndexMap<&'a Text, Vec<(u32, Key<'a>)>>,
+    named: &IndexMap<&'a Text, Vec<(u32, Key<'a>)>, S>,
     name: &Text,
     marks: &[bool],
 ) -> Result<Vec<(u32, Key<'a>)>, AllocError>

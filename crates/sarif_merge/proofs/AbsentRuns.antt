@@ -8,7 +8,7 @@ use Rattle.serde_json.specs.declared.value.Value.{Value}
 use Rattle.sarif_records.specs.Run.{results_of, is_absent_result}
 use Rattle.sarif_records.specs.declared.record.Record.{Record}
 use Rattle.sarif_merge.specs.Annotated.{on_members}
-use Rattle.sarif_merge.specs.CountOf.{results_in}
+use Rattle.sarif_counts.specs.CountOf.{results_in}
 use Rattle.sarif_merge.specs.MergedRuns.{present, unmatched, if_any, absent_runs, bare, with_results}
 use Rattle.sarif_merge.proofs.RunResults.{put_results_found}
 use Rattle.sarif_merge.proofs.RunsWritten.{part_of, dropped_further}

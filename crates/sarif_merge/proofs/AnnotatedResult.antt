@@ -8,10 +8,10 @@ use Rattle.sarif_records.specs.declared.kinds.State.{State}
 use Rattle.sarif_records.specs.Level.{level_name}
 use Rattle.sarif_records.specs.State.{state_name}
 use Rattle.sarif_merge.specs.Annotated.{annotated_members}
-use Rattle.sarif_merge.specs.Counts.{same_state}
-use Rattle.sarif_merge.specs.CountOf.{carries, items_in, suppresses}
-use Rattle.sarif_merge.specs.Tally.{same_level, same_side}
-use Rattle.sarif_merge.proofs.Carried.{carries-written}
+use Rattle.sarif_counts.specs.Counts.{same_state}
+use Rattle.sarif_counts.specs.CountOf.{carries, items_in, suppresses}
+use Rattle.sarif_counts.specs.Tally.{same_level, same_side}
+use Rattle.sarif_counts.proofs.Carried.{carries-written}
 
 pub state_found : (level : Level) (state : State) (list : Items) (ms : Members) → get_member (codes "baselineState") (annotated_members level state list ms) ≡ Some (string (state_name state))
 state_found level state list ms = get_member-put (codes "baselineState") (string (state_name state)) (put (codes "level") (string (level_name level)) (put (codes "suppressions") (array list) ms))

@@ -3,19 +3,8 @@ use Rattle.std.proofs.Common.{◌≡◌, ◌⊎◌, inl, inr, Some, Result, Err,
 use Rattle.sarif_suppress.specs.File.{File}
 use Rattle.sarif_suppress.specs.declared.fault.SuppressFault.{SuppressFault}
 use Rattle.sarif_suppress.specs.declared.fault.SuppressFault.TheVariants.{NotJson, NotList, WrongVersion, BadEntry, EmptyMatch, TooMany, OutOfMemory, NeedsToday}
-use Rattle.sarif_merge.specs.Fault.{status_of}
-use Rattle.sarif_merge.specs.Faults.{first, fault_of_file, file_faults, IsWanting}
-
--- no read and no write failed
-pub quiet_file : (fault : SuppressFault) → status_of (fault_of_file fault).cause ≡ 2
-quiet_file NotJson = refl
-quiet_file NotList = refl
-quiet_file WrongVersion = refl
-quiet_file (BadEntry n) = refl
-quiet_file (EmptyMatch n) = refl
-quiet_file TooMany = refl
-quiet_file OutOfMemory = refl
-quiet_file (NeedsToday n) = refl
+use Rattle.sarif_sources.specs.Fault.{fault_of_file}
+use Rattle.sarif_merge.specs.Faults.{first, file_faults, IsWanting}
 
 is_first : (said : Result File SuppressFault) (fault : SuppressFault) → said ≡ Err fault → first (file_faults said) ≡ Some (fault_of_file fault)
 is_first said fault same = ap (λ r. first (file_faults r)) same

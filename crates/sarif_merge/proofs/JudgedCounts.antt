@@ -9,10 +9,10 @@ use Rattle.sarif_records.specs.declared.fault.Fault.{Fault}
 use Rattle.sarif_records.specs.declared.record.Record.{Record}
 use Rattle.sarif_records.specs.Run.{results_of, result_at, is_absent_result, results_total}
 use Rattle.sarif_rules.specs.Record.{record_of}
-use Rattle.sarif_merge.specs.declared.fault.At.{At}
-use Rattle.sarif_merge.specs.declared.fault.At.TheVariants.{Single}
-use Rattle.sarif_merge.specs.declared.fault.MergeFault.{MergeFault}
-use Rattle.sarif_merge.specs.declared.fault.Source.{Source}
+use Rattle.sarif_sources.specs.declared.fault.At.{At}
+use Rattle.sarif_sources.specs.declared.fault.At.TheVariants.{Single}
+use Rattle.sarif_sources.specs.declared.fault.MergeFault.{MergeFault}
+use Rattle.sarif_sources.specs.declared.fault.Source.{Source}
 use Rattle.sarif_merge.specs.declared.item.Item.{Item}
 use Rattle.sarif_merge.specs.declared.item.Item.TheVariants.{Skipped}
 use Rattle.sarif_merge.specs.Inputs.{Placed}

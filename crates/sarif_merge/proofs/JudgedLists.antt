@@ -13,11 +13,11 @@ use Rattle.sarif_gather.specs.declared.gathering.GatherFault.{GatherFault}
 use Rattle.sarif_gather.specs.declared.gathering.GatherFault.TheVariants.{NoWorker, OutOfMemory}
 use Rattle.sarif_gather.specs.Held.{Whole}
 use Rattle.sarif_gather.specs.Pieces.{lists_of}
-use Rattle.sarif_merge.specs.declared.fault.MergeFault.{MergeFault}
+use Rattle.sarif_sources.specs.declared.fault.MergeFault.{MergeFault}
 use Rattle.sarif_merge.specs.declared.item.Item.{Item}
 use Rattle.sarif_merge.specs.declared.item.Item.TheVariants.{Skipped}
 use Rattle.sarif_merge.specs.declared.placed.PlacedRun.{PlacedRun}
-use Rattle.sarif_merge.specs.Fault.{status_of}
+use Rattle.sarif_sources.specs.Fault.{status_of}
 use Rattle.sarif_merge.specs.Faults.{first, IsWanting}
 use Rattle.sarif_merge.specs.Inputs.{Placed}
 use Rattle.sarif_merge.specs.Judged.{no_run, placed_at, unless_fault, judged_count, judged, lists_in, records_within, wanting_of}

@@ -9,10 +9,10 @@ use Rattle.serde_json.specs.Written.{has_float}
 use Rattle.sarif_records.specs.Reading.{log_of}
 use Rattle.sarif_records.specs.Run.{results_total}
 use Rattle.sarif_suppress.specs.File.{File}
-use Rattle.sarif_merge.specs.declared.fault.MergeFault.{MergeFault}
-use Rattle.sarif_merge.specs.declared.fault.Source.TheVariants.{Log, Baseline}
+use Rattle.sarif_sources.specs.declared.fault.MergeFault.{MergeFault}
+use Rattle.sarif_sources.specs.declared.fault.Source.TheVariants.{Log, Baseline}
 use Rattle.sarif_merge.specs.declared.merged.Merged.{Merged}
-use Rattle.sarif_merge.specs.declared.policy.Policy.{Policy}
+use Rattle.sarif_counts.specs.declared.policy.Policy.{Policy}
 use Rattle.sarif_merge.specs.declared.sources.Runs.{Runs}
 use Rattle.sarif_merge.specs.AreSound.{AreSound}
 use Rattle.sarif_merge.specs.Faults.{faults_of, file_faults, file_or_none, first, number_faults}

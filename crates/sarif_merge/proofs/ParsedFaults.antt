@@ -2,9 +2,9 @@
 use Rattle.std.proofs.Common.{◌≡◌, ◌⊎◌, inl, inr, List, [], ◌∷◌, Some, refl, ap}
 use Rattle.sarif_records.specs.declared.fault.Fault.{Fault}
 use Rattle.sarif_records.specs.declared.fault.Fault.TheVariants.{NotJson, NotLog, WrongVersion, BadRun, ExternalProperties, BadRules, BadIndex, BadLevel, BadKind, BadGuid, BadFingerprint, BadLocation, BadSuppression, BadMember, AbsentInput, TooMany, OutOfMemory}
-use Rattle.sarif_merge.specs.declared.fault.At.{At}
-use Rattle.sarif_merge.specs.declared.fault.MergeFault.{MergeFault}
-use Rattle.sarif_merge.specs.Fault.{cause_of, fault_at}
+use Rattle.sarif_sources.specs.declared.fault.At.{At}
+use Rattle.sarif_sources.specs.declared.fault.MergeFault.{MergeFault}
+use Rattle.sarif_sources.specs.Fault.{cause_of, fault_at}
 use Rattle.sarif_merge.specs.Faults.{first, IsWanting}
 
 pub answered : (at : At) (fault : Fault) (faults : List MergeFault)

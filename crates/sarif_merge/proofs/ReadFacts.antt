@@ -12,16 +12,16 @@ use Rattle.sarif_records.specs.Reading.{log_of}
 use Rattle.sarif_records.specs.Run.{results_total}
 use Rattle.sarif_suppress.specs.File.{File}
 use Rattle.sarif_suppress.specs.Suppressing.{unused_of}
-use Rattle.sarif_merge.specs.declared.fault.MergeFault.{MergeFault}
-use Rattle.sarif_merge.specs.declared.fault.Source.{Source}
-use Rattle.sarif_merge.specs.declared.fault.Source.TheVariants.{Log, Baseline}
+use Rattle.sarif_sources.specs.declared.fault.MergeFault.{MergeFault}
+use Rattle.sarif_sources.specs.declared.fault.Source.{Source}
+use Rattle.sarif_sources.specs.declared.fault.Source.TheVariants.{Log, Baseline}
 use Rattle.sarif_merge.specs.declared.merged.Merged.{Merged}
-use Rattle.sarif_merge.specs.declared.policy.Policy.{Policy}
+use Rattle.sarif_counts.specs.declared.policy.Policy.{Policy}
 use Rattle.sarif_merge.specs.AreSound.{AreSound}
 use Rattle.sarif_merge.specs.Inputs.{Sourced, Placed, numbered, placed, placed_from, readable, runs_in}
 use Rattle.sarif_merge.specs.Judging.{records_of, skips}
-use Rattle.sarif_merge.specs.CountOf.{count_of}
-use Rattle.sarif_merge.specs.Gate.{gate_of}
+use Rattle.sarif_counts.specs.CountOf.{count_of}
+use Rattle.sarif_counts.specs.Gate.{gate_of}
 use Rattle.sarif_merge.specs.Merged.{HoldsFirst, IsMergedBy}
 use Rattle.sarif_merge.specs.MergedLog.{current_runs, data_of, leftover_runs, runs_by, runs_without_results}
 

@@ -8,7 +8,7 @@ use Rattle.sarif_records.specs.Run.{results_of, results_total, is_absent_result}
 use Rattle.sarif_records.specs.declared.kinds.State.{State}
 use Rattle.sarif_suppress.specs.File.{File}
 use Rattle.sarif_merge.specs.declared.merged.Merged.{Merged}
-use Rattle.sarif_merge.specs.declared.policy.Policy.{Policy}
+use Rattle.sarif_counts.specs.declared.policy.Policy.{Policy}
 use Rattle.sarif_merge.specs.AreSound.{AreSound}
 use Rattle.sarif_merge.specs.Inputs.{Placed}
 use Rattle.sarif_merge.specs.Judging.{faults_of_runs, records_of}

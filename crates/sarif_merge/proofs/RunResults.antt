@@ -6,7 +6,7 @@ use Rattle.std.specs.Ordering.{match_ordering}
 use Rattle.serde_json.specs.Data.{Data, array, object, Items, Members, no_members, member}
 use Rattle.serde_json.specs.Find.{get_member}
 use Rattle.serde_json.proofs.Views.{get_member-put}
-use Rattle.sarif_merge.specs.CountOf.{items_in, results_in}
+use Rattle.sarif_counts.specs.CountOf.{items_in, results_in}
 use Rattle.sarif_merge.specs.MergedRuns.{without, bare, with_results}
 
 -- a name that is taken out isn't found

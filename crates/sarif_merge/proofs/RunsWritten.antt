@@ -7,7 +7,7 @@ use Rattle.sarif_records.specs.Run.{results_of}
 use Rattle.sarif_records.specs.declared.kinds.Level.{Level}
 use Rattle.sarif_records.specs.declared.kinds.State.{State}
 use Rattle.sarif_records.specs.declared.record.Record.{Record}
-use Rattle.sarif_merge.specs.CountOf.{count_in, count_of, results_in}
+use Rattle.sarif_counts.specs.CountOf.{count_in, count_of, results_in}
 use Rattle.sarif_merge.specs.MergedRuns.{Listing, merged_run, merged_runs}
 
 -- what a run counts, after those before it

@@ -1,6 +1,6 @@
 -- What a refusal answers, where more faults are looked for after these.
 use Rattle.std.proofs.Common.{◌≡◌, List, [], ◌∷◌, ◌++◌, ◌⊎◌, inl, inr, Some}
-use Rattle.sarif_merge.specs.declared.fault.MergeFault.{MergeFault}
+use Rattle.sarif_sources.specs.declared.fault.MergeFault.{MergeFault}
 use Rattle.sarif_merge.specs.Faults.{first, IsWanting}
 
 first_stays : (xs ys : List MergeFault) (e : MergeFault) → first xs ≡ Some e → first (xs ++ ys) ≡ Some e

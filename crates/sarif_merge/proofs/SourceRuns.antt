@@ -5,7 +5,7 @@ use Rattle.serde_json.specs.Data.{Data}
 use Rattle.serde_json.specs.View.{view}
 use Rattle.serde_json.specs.declared.value.Value.{Value}
 use Rattle.sarif_records.specs.Run.{results_total}
-use Rattle.sarif_merge.specs.declared.fault.Source.{Source}
+use Rattle.sarif_sources.specs.declared.fault.Source.{Source}
 use Rattle.sarif_merge.specs.declared.placed.PlacedRun.{PlacedRun}
 use Rattle.sarif_merge.specs.Inputs.{Placed, placed_from}
 use Rattle.sarif_merge.specs.MergedLog.{data_of}

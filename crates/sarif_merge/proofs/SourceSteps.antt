@@ -3,8 +3,8 @@ use Rattle.std.proofs.Common.{◌≡◌, ℕ, ◌+◌, List, [], ◌∷◌, ◌+
 use Rattle.std.proofs.lemmas.List.{length-map, map-append}
 use Rattle.sarif_records.specs.Reading.{log_of}
 use Rattle.sarif_records.specs.Run.{results_total}
-use Rattle.sarif_merge.specs.declared.fault.MergeFault.{MergeFault}
-use Rattle.sarif_merge.specs.declared.fault.Source.{Source}
+use Rattle.sarif_sources.specs.declared.fault.MergeFault.{MergeFault}
+use Rattle.sarif_sources.specs.declared.fault.Source.{Source}
 use Rattle.sarif_merge.specs.declared.sources.Reading.{Reading}
 use Rattle.sarif_merge.specs.Inputs.{Placed, Sourced, numbered, placed, placed_from, readable, runs_in}
 use Rattle.sarif_merge.specs.Faults.{first, IsWanting}

@@ -8,7 +8,7 @@ use Rattle.serde_json.specs.Data.{Data}
 use Rattle.serde_json.specs.Written.{has_float}
 use Rattle.sarif_records.specs.declared.fault.ReadFault.{ReadFault}
 use Rattle.sarif_records.specs.Reading.{log_of}
-use Rattle.sarif_merge.specs.declared.fault.Source.{Source}
+use Rattle.sarif_sources.specs.declared.fault.Source.{Source}
 use Rattle.sarif_merge.specs.Inputs.{Placed, Sourced, placed, placed_from, readable, runs_in}
 use Rattle.sarif_merge.specs.MergedLog.{data_of}
 

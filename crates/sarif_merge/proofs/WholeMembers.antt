@@ -10,7 +10,7 @@ use Rattle.serde_json.specs.Written.{has_float, items_have_float, members_have_f
 use Rattle.sarif_records.specs.Members.{elements}
 use Rattle.sarif_records.specs.Run.{elements_or_none, results_of}
 use Rattle.sarif_merge.specs.Annotated.{on_members}
-use Rattle.sarif_merge.specs.CountOf.{items_in}
+use Rattle.sarif_counts.specs.CountOf.{items_in}
 use Rattle.sarif_merge.specs.MergedRuns.{without, bare, with_results}
 
 -- ---- what is put and what is left

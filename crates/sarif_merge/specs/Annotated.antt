@@ -7,7 +7,7 @@ use Rattle.sarif_records.specs.declared.kinds.Level.{Level}
 use Rattle.sarif_records.specs.declared.kinds.State.{State}
 use Rattle.sarif_records.specs.Level.{level_name}
 use Rattle.sarif_records.specs.State.{state_name}
-use Rattle.sarif_merge.specs.CountOf.{items_in}
+use Rattle.sarif_counts.specs.CountOf.{items_in}
 
 -- an object with its members changed; what is no object stays
 abbrev pub on_members : (Members → Members) → Data → Data

@@ -2,13 +2,12 @@
 use Rattle.std.specs.Prelude.{◌≡◌, ◌≤◌, ◌<◌, ℕ, nat_lt, List, [], ◌∷◌, ◌++◌, ◌⊎◌, length, Option, Some, None, Result, Ok, Err, if◌then◌else◌}
 use Rattle.sarif_suppress.specs.File.{File, file_of}
 use Rattle.sarif_suppress.specs.declared.fault.SuppressFault.{SuppressFault}
-use Rattle.sarif_suppress.specs.declared.fault.SuppressFault.TheVariants as file
-use Rattle.sarif_merge.specs.declared.fault.Source.{Source}
-use Rattle.sarif_merge.specs.declared.fault.Source.TheVariants.{Log, Baseline, Suppress}
-use Rattle.sarif_merge.specs.declared.fault.At.TheVariants.{Nowhere, Whole, Entry}
-use Rattle.sarif_merge.specs.declared.fault.Cause.TheVariants.{NotJson, NotList, WrongVersion, BadEntry, EmptyMatch, NeedsToday, TooMany, OutOfMemory, NoWorker}
-use Rattle.sarif_merge.specs.declared.fault.MergeFault.{MergeFault}
-use Rattle.sarif_merge.specs.Fault.{fault_at, out_of_memory}
+use Rattle.sarif_sources.specs.declared.fault.Source.{Source}
+use Rattle.sarif_sources.specs.declared.fault.Source.TheVariants.{Log, Baseline}
+use Rattle.sarif_sources.specs.declared.fault.At.TheVariants.{Nowhere, Whole}
+use Rattle.sarif_sources.specs.declared.fault.Cause.TheVariants.{TooMany, NoWorker}
+use Rattle.sarif_sources.specs.declared.fault.MergeFault.{MergeFault}
+use Rattle.sarif_sources.specs.Fault.{fault_at, fault_of_file, out_of_memory}
 use Rattle.sarif_merge.specs.Inputs.{Inputs, all_sources, all_runs}
 use Rattle.sarif_merge.specs.SourceFaults.{source_faults}
 use Rattle.sarif_merge.specs.Judging.{faults_of_runs}
@@ -23,17 +22,6 @@ abbrev pub IsTooMany : ℕ → ℕ → MergeFault → Type 0
 IsTooMany logs baselines fault =
     ((1000 < logs) × (fault ≡ record { at = Whole (Log 1000); cause = TooMany }))
     ⊎ ((logs ≤ 1000) × (1000 < baselines) × (fault ≡ record { at = Whole (Baseline 1000); cause = TooMany }))
-
--- a fault of the suppression file with its place
-abbrev pub fault_of_file : SuppressFault → MergeFault
-fault_of_file file.NotJson = fault_at (Whole Suppress) NotJson
-fault_of_file file.NotList = fault_at (Whole Suppress) NotList
-fault_of_file file.WrongVersion = fault_at (Whole Suppress) WrongVersion
-fault_of_file (file.BadEntry n) = fault_at (Entry n) BadEntry
-fault_of_file (file.EmptyMatch n) = fault_at (Entry n) EmptyMatch
-fault_of_file file.TooMany = fault_at (Whole Suppress) TooMany
-fault_of_file file.OutOfMemory = fault_at (Whole Suppress) OutOfMemory
-fault_of_file (file.NeedsToday n) = fault_at (Entry n) NeedsToday
 
 -- the suppression file, where there is one; without it there are no entries
 abbrev pub file_or_none : Option (List ℕ) → Option ℕ → Result File SuppressFault

@@ -13,10 +13,10 @@ use Rattle.sarif_gather.specs.declared.gathering.GatherFault.TheVariants.{NoWork
 use Rattle.sarif_gather.specs.Held.{Whole}
 use Rattle.sarif_gather.specs.Pieces.{whole_run}
 use Rattle.sarif_merge.specs.declared.item.Item.{Item}
-use Rattle.sarif_merge.specs.declared.fault.Source.TheVariants.{Output}
-use Rattle.sarif_merge.specs.declared.fault.MergeFault.{MergeFault}
+use Rattle.sarif_sources.specs.declared.fault.Source.TheVariants.{Output}
+use Rattle.sarif_sources.specs.declared.fault.MergeFault.{MergeFault}
 use Rattle.sarif_merge.specs.declared.judging.Opened.{Opened}
-use Rattle.sarif_merge.specs.Fault.{out_of_memory}
+use Rattle.sarif_sources.specs.Fault.{out_of_memory}
 use Rattle.sarif_merge.specs.Faults.{no_worker}
 use Rattle.sarif_merge.specs.Inputs.{Placed}
 use Rattle.sarif_merge.specs.Judging.{item_of, opening_fault, records_in}

@@ -8,12 +8,12 @@ use Rattle.sarif_rules.specs.Head.{head_of}
 use Rattle.sarif_rules.specs.Record.{record_of}
 use Rattle.sarif_merge.specs.declared.item.Item.{Item}
 use Rattle.sarif_merge.specs.declared.item.Item.TheVariants.{Sound, Bad, Skipped}
-use Rattle.sarif_merge.specs.declared.fault.Source.{Source}
-use Rattle.sarif_merge.specs.declared.fault.Source.TheVariants.{Log, Baseline, Suppress, Output}
-use Rattle.sarif_merge.specs.declared.fault.At.{At}
-use Rattle.sarif_merge.specs.declared.fault.At.TheVariants.{Run, Single}
-use Rattle.sarif_merge.specs.declared.fault.MergeFault.{MergeFault}
-use Rattle.sarif_merge.specs.Fault.{cause_of, fault_at}
+use Rattle.sarif_sources.specs.declared.fault.Source.{Source}
+use Rattle.sarif_sources.specs.declared.fault.Source.TheVariants.{Log, Baseline, Suppress, Output}
+use Rattle.sarif_sources.specs.declared.fault.At.{At}
+use Rattle.sarif_sources.specs.declared.fault.At.TheVariants.{Run, Single}
+use Rattle.sarif_sources.specs.declared.fault.MergeFault.{MergeFault}
+use Rattle.sarif_sources.specs.Fault.{cause_of, fault_at}
 use Rattle.sarif_merge.specs.Inputs.{Placed}
 
 -- whether results that are absent already are skipped: those of a baseline are

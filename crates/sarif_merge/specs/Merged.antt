@@ -9,19 +9,19 @@ use Rattle.sarif_records.specs.declared.kinds.State.{State}
 use Rattle.sarif_suppress.specs.File.{File}
 use Rattle.sarif_suppress.specs.Suppressing.{unused_of}
 use Rattle.sarif_records.specs.Run.{results_total}
-use Rattle.sarif_merge.specs.declared.fault.MergeFault.{MergeFault}
-use Rattle.sarif_merge.specs.declared.fault.Source.TheVariants.{Log}
+use Rattle.sarif_sources.specs.declared.fault.MergeFault.{MergeFault}
+use Rattle.sarif_sources.specs.declared.fault.Source.TheVariants.{Log}
 use Rattle.sarif_merge.specs.declared.merged.Merged.{Merged}
-use Rattle.sarif_merge.specs.declared.policy.Policy.{Policy}
+use Rattle.sarif_counts.specs.declared.policy.Policy.{Policy}
 use Rattle.sarif_merge.specs.declared.sources.Runs.{Runs}
-use Rattle.sarif_merge.specs.CountOf.{count_of}
-use Rattle.sarif_merge.specs.Counts.{count_at}
+use Rattle.sarif_counts.specs.CountOf.{count_of}
+use Rattle.sarif_counts.specs.Counts.{count_at}
 use Rattle.sarif_merge.specs.Faults.{IsWanting, faults_of, first_fault}
 use Rattle.sarif_merge.specs.Inputs.{Inputs, Placed, numbered, placed, input_runs, baseline_runs}
 use Rattle.sarif_merge.specs.Judging.{records_of}
 use Rattle.sarif_merge.specs.MergedLog.{current_runs, data_of, file_given, log_by, log_with, output_text, runs_by, runs_of, runs_without_results, unused_in, without_of}
 use Rattle.sarif_merge.specs.PlacedRun.{placed_of}
-use Rattle.sarif_merge.specs.Policy.{verdict_of}
+use Rattle.sarif_counts.specs.Policy.{verdict_of}
 use Rattle.sarif_merge.specs.ReadSoFar.{sources_of}
 use Rattle.sarif_merge.specs.SourceFaults.{source_faults}
 

@@ -13,10 +13,10 @@ use Rattle.sarif_suppress.specs.File.{File}
 use Rattle.sarif_suppress.specs.Suppressing.{unused_of}
 use Rattle.sarif_suppress.specs.Written.{suppressions_of}
 use Rattle.sarif_suppress.specs.declared.fault.SuppressFault.{SuppressFault}
-use Rattle.sarif_merge.specs.declared.policy.Policy.{Policy}
-use Rattle.sarif_merge.specs.CountOf.{count_of}
+use Rattle.sarif_counts.specs.declared.policy.Policy.{Policy}
+use Rattle.sarif_counts.specs.CountOf.{count_of}
 use Rattle.sarif_merge.specs.Faults.{file_or_none}
-use Rattle.sarif_merge.specs.Gate.{gate_of}
+use Rattle.sarif_counts.specs.Gate.{gate_of}
 use Rattle.sarif_merge.specs.Inputs.{Inputs, Placed, input_runs, baseline_runs}
 use Rattle.sarif_merge.specs.Judging.{records_of}
 use Rattle.sarif_merge.specs.MergedRuns.{Listing, merged_runs, absent_runs}

@@ -3,9 +3,9 @@ use Rattle.std.specs.Prelude.{◌≡◌, ℕ, ◌+◌, ◌≤◌, List, ◌++◌
 use Rattle.serde_json.specs.Data.{Data}
 use Rattle.sarif_records.specs.declared.fault.ReadFault.{ReadFault}
 use Rattle.sarif_records.specs.Run.{results_total}
-use Rattle.sarif_merge.specs.declared.fault.MergeFault.{MergeFault}
-use Rattle.sarif_merge.specs.declared.fault.Source.{Source}
-use Rattle.sarif_merge.specs.declared.fault.Source.TheVariants.{Log, Baseline}
+use Rattle.sarif_sources.specs.declared.fault.MergeFault.{MergeFault}
+use Rattle.sarif_sources.specs.declared.fault.Source.{Source}
+use Rattle.sarif_sources.specs.declared.fault.Source.TheVariants.{Log, Baseline}
 use Rattle.sarif_merge.specs.declared.sources.Reading.{Reading}
 use Rattle.sarif_merge.specs.Inputs.{Sourced, numbered, readable}
 use Rattle.sarif_merge.specs.MergedLog.{data_of}

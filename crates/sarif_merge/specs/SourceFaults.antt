@@ -4,12 +4,12 @@ use Rattle.serde_json.specs.Data.{Data}
 use Rattle.sarif_records.specs.declared.fault.ReadFault.{ReadFault}
 use Rattle.sarif_records.specs.Reading.{log_of}
 use Rattle.sarif_records.specs.Run.{results_total}
-use Rattle.sarif_merge.specs.declared.fault.Source.{Source}
-use Rattle.sarif_merge.specs.declared.fault.At.{At}
-use Rattle.sarif_merge.specs.declared.fault.At.TheVariants.{Whole, Run}
-use Rattle.sarif_merge.specs.declared.fault.Cause.TheVariants.{TooMany}
-use Rattle.sarif_merge.specs.declared.fault.MergeFault.{MergeFault}
-use Rattle.sarif_merge.specs.Fault.{cause_of, fault_at}
+use Rattle.sarif_sources.specs.declared.fault.Source.{Source}
+use Rattle.sarif_sources.specs.declared.fault.At.{At}
+use Rattle.sarif_sources.specs.declared.fault.At.TheVariants.{Whole, Run}
+use Rattle.sarif_sources.specs.declared.fault.Cause.TheVariants.{TooMany}
+use Rattle.sarif_sources.specs.declared.fault.MergeFault.{MergeFault}
+use Rattle.sarif_sources.specs.Fault.{cause_of, fault_at}
 use Rattle.sarif_merge.specs.Inputs.{Sourced, runs_in}
 
 -- where a fault of reading stands: at the run that it names, else at the whole source

@@ -3,12 +3,12 @@ ghost use Rattle.std.specs.Prelude.{◌≡◌, ◌<◌, ◌≤◌, ◌+◌, IfOk
 ghost use Rattle.serde_json.specs.View.{view, items_view};
 ghost use Rattle.sarif_records.specs.declared.kinds.Level.{Level as Grade};
 ghost use Rattle.sarif_records.specs.declared.kinds.State.{State as Stand};
-ghost use Rattle.sarif_merge.specs.CountOf.{count_in};
-ghost use Rattle.sarif_merge.specs.Counts.{count_at, total_of};
+ghost use Rattle.sarif_counts.specs.CountOf.{count_in};
+ghost use Rattle.sarif_counts.specs.Counts.{count_at, total_of};
 ghost use Rattle.sarif_merge.specs.MergedRuns.{present, unmatched};
 
-use crate::counts::Counts;
 use crate::written::write_absent;
+use sarif_counts::Counts;
 use sarif_records::{Record, is_marked_absent};
 use serde_json::Value;
 use std::alloc::{AllocError, Global};

@@ -8,14 +8,14 @@ ghost use Rattle.sarif_records.specs.Run.{results_of};
 ghost use Rattle.sarif_records.specs.declared.kinds.Level.{Level as Grade};
 ghost use Rattle.sarif_records.specs.declared.kinds.State.{State as Stand};
 ghost use Rattle.sarif_merge.specs.Annotated.{on_members};
-ghost use Rattle.sarif_merge.specs.CountOf.{count_of};
-ghost use Rattle.sarif_merge.specs.Counts.{count_at, total_of};
+ghost use Rattle.sarif_counts.specs.CountOf.{count_of};
+ghost use Rattle.sarif_counts.specs.Counts.{count_at, total_of};
 ghost use Rattle.sarif_merge.specs.MergedRuns.{present, unmatched, if_any, absent_runs};
 ghost use Rattle.sarif_merge.specs.MergedRuns.{bare, with_results};
 
 use crate::absent::keep_unmatched;
-use crate::counts::Counts;
 use crate::map_members::{put_results, take_results};
+use sarif_counts::Counts;
 use sarif_records::{RawRun, Record, is_marked_absent};
 use serde_json::{Map, Value};
 use std::alloc::{AllocError, Global};

@@ -4,8 +4,8 @@ ghost use Rattle.serde_json.specs.Data.{put as with_member, null};
 ghost use Rattle.serde_json.specs.Find.{get, get_member};
 ghost use Rattle.serde_json.specs.View.{view, items_of, items_view, members_view};
 ghost use Rattle.sarif_merge.specs.Annotated.{own_suppressions, annotated_members};
-ghost use Rattle.sarif_merge.specs.CountOf.{items_in};
-ghost use Rattle.sarif_merge.specs.CountOf.{suppresses, all_accepted, accepts};
+ghost use Rattle.sarif_counts.specs.CountOf.{items_in};
+ghost use Rattle.sarif_counts.specs.CountOf.{suppresses, all_accepted, accepts};
 
 use sarif_records::{Level, State, Status};
 use serde_json::{Map, Value, put};

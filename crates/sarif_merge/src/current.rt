@@ -9,14 +9,14 @@ ghost use Rattle.sarif_records.specs.declared.record.Record.{Record as Known};
 ghost use Rattle.sarif_suppress.specs.Marks.{marks_of};
 ghost use Rattle.sarif_suppress.specs.Written.{suppressions_of};
 ghost use Rattle.sarif_merge.specs.Annotated.{annotated_members, own_suppressions};
-ghost use Rattle.sarif_merge.specs.CountOf.{carries, count_in};
-ghost use Rattle.sarif_merge.specs.Counts.{count_at, total_of};
-ghost use Rattle.sarif_merge.specs.Policy.{count_if};
+ghost use Rattle.sarif_counts.specs.CountOf.{carries, count_in};
+ghost use Rattle.sarif_counts.specs.Counts.{count_at, total_of};
+ghost use Rattle.sarif_counts.specs.Policy.{count_if};
 ghost use Rattle.sarif_merge.specs.MergedRuns.{written, written_all};
 
 use crate::annotate::take_suppressions;
-use crate::counts::Counts;
 use crate::written::write_result;
+use sarif_counts::Counts;
 use sarif_records::{Record, State};
 use sarif_suppress::{Marks, Suppressions};
 use serde_json::{Map, Value};

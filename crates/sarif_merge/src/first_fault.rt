@@ -2,20 +2,20 @@
 ghost use Rattle.std.specs.Prelude.{◌≡◌, map, length, IfSome};
 ghost use Rattle.serde_json.specs.View.{view};
 ghost use Rattle.sarif_records.specs.Run.{results_of};
-ghost use Rattle.sarif_merge.specs.Fault.{status_of};
+ghost use Rattle.sarif_sources.specs.Fault.{status_of};
 ghost use Rattle.sarif_merge.specs.Faults.{first};
 ghost use Rattle.sarif_merge.specs.Judged.{judged};
 ghost use Rattle.sarif_merge.specs.Judging.{first_bad, run_faults, faults_of_runs};
 ghost use Rattle.sarif_merge.specs.PlacedRun.{placed_of};
 
-use crate::fault::{At, Cause, MergeFault};
 use crate::item::Item;
 use crate::placed::PlacedRun;
 use sarif_gather::Lists;
 use sarif_records::Fault;
+use sarif_sources::{At, Cause, MergeFault};
 
 /// The fault of the first bad result of a run.
-#[tactic(auto, using(crate::proofs::QuietFaults::quiet_fault))]
+#[tactic(auto, using(sarif_sources::proofs::QuietFaults::quiet_fault))]
 fn first_bad_result(placed: &PlacedRun, items: &[Item]) -> Option<MergeFault>
     requires { length items.now ≡ length (results_of (view placed.now.run)) }
     ensures first { result
@@ -32,7 +32,7 @@ fn first_bad_result(placed: &PlacedRun, items: &[Item]) -> Option<MergeFault>
 }
 
 /// The fault of opening a run, else that of its first bad result.
-#[tactic(auto, using(crate::proofs::QuietFaults::quiet_fault))]
+#[tactic(auto, using(sarif_sources::proofs::QuietFaults::quiet_fault))]
 fn fault_of_run(placed: &PlacedRun, items: &[Item], opening: &Option<Fault>) -> Option<MergeFault>
     requires { judged (placed_of placed.now) ≡ record { items = items.now; tail = opening.now } }
     ensures first { result ≡ first (run_faults (placed_of placed.now)) }

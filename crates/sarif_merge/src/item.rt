@@ -6,10 +6,10 @@ ghost use Rattle.sarif_rules.specs.Head.{head_of};
 ghost use Rattle.sarif_merge.specs.Judging.{skips, item_of};
 ghost use Rattle.sarif_merge.specs.PlacedRun.{placed_of};
 
-use crate::fault::Source;
 use crate::placed::PlacedRun;
 use sarif_records::{Fault, Record};
 use sarif_rules::{RunHead, make_record};
+use sarif_sources::Source;
 use std::alloc::{AllocError, Global};
 
 /// A result of a run as its worker found it.

@@ -9,11 +9,9 @@ ghost use Rattle.sarif_suppress.specs.File.{File};
 ghost use Rattle.sarif_merge.specs.Inputs.{Inputs};
 ghost use Rattle.sarif_merge.specs.MergedLog.{listing_of, runs_of};
 ghost use Rattle.sarif_merge.specs.MergedRuns.{absent_runs, merged_runs};
-ghost use Rattle.sarif_merge.specs.WereRead.{AllTell, Readers, WereRead};
 
 use sarif_records::read_runs_hold_no_fraction;
 use sarif_suppress::{object_holds_no_fraction, written_passes_where_its_parts_do};
-use std::io::Read;
 
 /// No number with a fraction comes in by writing runs.
 pub(crate) fn written_runs_hold_no_fraction()
@@ -35,10 +33,3 @@ pub(crate) fn merged_runs_hold_no_fraction()
     read_runs_hold_no_fraction();
     written_runs_hold_no_fraction();
 }
-
-/// Where readers tell what they have left, what was read of them to their ends is determined.
-pub fn sources_are_read_in_one_way<R: Read>()
-    ensures { (old new : Readers R) (one other : Inputs) → AllTell R.remaining old
-        → WereRead R.remaining old new one → WereRead R.remaining old new other
-        → one.today ≡ other.today → one ≡ other }
-{}

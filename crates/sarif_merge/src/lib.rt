@@ -1,17 +1,12 @@
-//! The merge of SARIF 2.1.0 logs: its counts, its gate, its faults, and how it reads and writes.
+//! The merge of SARIF 2.1.0 logs, from bytes or from readers into a writer.
 #![tactic(auto)]
 
 mod absent;
 mod absent_run;
 mod annotate;
-mod counted;
-mod counts;
 mod current;
-mod decision;
 mod elements_text;
-mod fault;
 mod first_fault;
-mod gate;
 mod item;
 mod judging;
 mod laws;
@@ -23,30 +18,20 @@ mod merge_sources;
 mod merged;
 mod merged_run;
 mod moved_text;
-mod output;
 mod parsing;
 mod placed;
-mod policy;
-mod readers;
 mod records;
-mod source;
 mod sources;
 mod suppression_file;
-mod table;
-mod tally;
 mod written;
 mod written_log;
 
-pub use counted::{Counted, Failed};
-pub use counts::Counts;
-pub use decision::{hits, verdict};
-pub use fault::{At, Cause, MergeFault, Source};
-pub use laws::sources_are_read_in_one_way;
 pub use merge::merge_bytes;
-pub use merge_sources::merge_to;
+pub use merge_sources::{merge_readers, merge_to};
 pub use merged::Merged;
-pub use output::write_out;
-pub use policy::{Policy, States, Verdict};
+pub use sarif_counts::{Counts, Policy, States, Verdict, hits, summary, verdict};
 pub use sarif_gather::{Gate, NoGate};
-pub use source::{SourceFault, read_source};
-pub use table::summary;
+pub use sarif_sources::{
+    At, Cause, Counted, Failed, MergeFault, Readers, ReadersFault, Source, SourceBytes,
+    SourceFault, read_source, sources_are_read_in_one_way, write_out,
+};

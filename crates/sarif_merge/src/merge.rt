@@ -1,25 +1,25 @@
 //! The merge of logs.
 ghost use Rattle.std.specs.Prelude.{◌≡◌, ◌≤◌, ◌⊎◌, ℕ, List, [], Some, take, drop, length, map, option_map, IfOk, IfErr};
 ghost use Rattle.sarif_merge.specs.AreSound.{AreSound};
-ghost use Rattle.sarif_merge.specs.Failing.{IsQuiet};
+ghost use Rattle.sarif_sources.specs.Failing.{IsQuiet};
 ghost use Rattle.sarif_merge.specs.Faults.{Answers, IsWanting, faults_of, first_fault};
 ghost use Rattle.sarif_merge.specs.Judging.{faults_of_runs};
 ghost use Rattle.sarif_merge.specs.Merged.{given, bytes_of, AreRunsOf, HasGate, HoldsFirst, IsMergedBy, IsMergeOf, written_inputs};
 ghost use Rattle.sarif_merge.specs.MergedLog.{output_text, runs_of, without_of, unused_in};
 ghost use Rattle.sarif_merge.specs.PlacedRun.{placed_of};
 
-use crate::fault::MergeFault;
 use crate::laws::written_runs_hold_no_fraction;
 use crate::matched::match_records;
 use crate::merged::Merged;
 use crate::placed::{apart, count_without};
-use crate::policy::Policy;
 use crate::records::judge;
 use crate::sources::{Runs, check_numbers, read_runs};
 use crate::suppression_file::read_file;
 use crate::written_log::{finish, write_all};
+use sarif_counts::Policy;
 use sarif_gather::Gate;
 use sarif_records::read_runs_hold_no_fraction;
+use sarif_sources::MergeFault;
 use sarif_suppress::Suppressions;
 use std::alloc::Global;
 use std::sync::Wait;

@@ -1,6 +1,5 @@
 //! What a merge gives.
-use crate::counts::Counts;
-use crate::policy::Verdict;
+use sarif_counts::{Counts, Verdict};
 use sarif_records::Text;
 
 /// A merged log, and what its gate says.

@@ -8,14 +8,14 @@ ghost use Rattle.sarif_records.specs.declared.kinds.State.{State as Stand};
 ghost use Rattle.sarif_records.specs.declared.record.Record.{Record as Known};
 ghost use Rattle.sarif_suppress.specs.Marks.{marks_of};
 ghost use Rattle.sarif_suppress.specs.Written.{suppressions_of};
-ghost use Rattle.sarif_merge.specs.CountOf.{count_in, count_of, results_in};
-ghost use Rattle.sarif_merge.specs.Counts.{count_at, total_of};
+ghost use Rattle.sarif_counts.specs.CountOf.{count_in, count_of, results_in};
+ghost use Rattle.sarif_counts.specs.Counts.{count_at, total_of};
 ghost use Rattle.sarif_merge.specs.MergedRuns.{written_all, annotated_items, merged_run};
 ghost use Rattle.sarif_merge.specs.MergedRuns.{merged_runs, with_results, own_results, bare};
 
-use crate::counts::Counts;
 use crate::current::write_results;
 use crate::map_members::{put_results, take_results};
+use sarif_counts::Counts;
 use sarif_records::{RawRun, Record, State};
 use sarif_suppress::{Marks, Suppressions};
 use serde_json::{Map, Value};

@@ -4,8 +4,8 @@ ghost use Rattle.serde_json.specs.View.{view};
 ghost use Rattle.sarif_merge.specs.MergedLog.{data_of, runs_without_results};
 ghost use Rattle.sarif_merge.specs.PlacedRun.{placed_of};
 
-use crate::fault::Source;
 use sarif_records::RawRun;
+use sarif_sources::Source;
 use std::alloc::{AllocError, Global};
 
 /// A run with the log or the baseline that it stands in, and its number there.

@@ -1,18 +1,18 @@
 //! The records of all runs, judged by workers.
 ghost use Rattle.std.specs.Prelude.{◌≡◌, ◌≤◌, ◌++◌, map, length, take, drop, IfOk, OnOk};
-ghost use Rattle.sarif_merge.specs.Failing.{IsQuiet};
+ghost use Rattle.sarif_sources.specs.Failing.{IsQuiet};
 ghost use Rattle.sarif_merge.specs.Faults.{Answers};
-ghost use Rattle.sarif_merge.specs.Judged.{lists_in, lists_from, records_within};
+ghost use Rattle.sarif_merge.specs.Judged.{lists_in, lists_from, records_within, wanting_of};
 ghost use Rattle.sarif_merge.specs.Judging.{records_in, records_of, faults_of_runs};
 ghost use Rattle.sarif_merge.specs.PlacedRun.{placed_of};
 
-use crate::fault::{At, Cause, MergeFault};
 use crate::first_fault::fault_of_runs;
 use crate::item::Item;
 use crate::judging::Judging;
 use crate::placed::PlacedRun;
 use sarif_gather::{Gate, GatherFault, Lists, gather};
 use sarif_records::{Fault, Record};
+use sarif_sources::{At, Cause, MergeFault};
 use std::alloc::{AllocError, Global};
 use std::sync::Wait;
 use std::thread::Threads;
@@ -96,19 +96,15 @@ fn into_records(
     Ok(Records { current, baseline })
 }
 
-impl From<GatherFault> for MergeFault {
-    ghost use Rattle.std.specs.Prelude.{◌≡◌};
-    ghost use Rattle.sarif_merge.specs.Judged.{wanting_of};
-
-    ghost from_gives = { λ fault refusal. refusal ≡ wanting_of fault };
-
-    fn from(fault: GatherFault) -> MergeFault {
-        let cause = match fault {
-            GatherFault::NoWorker => Cause::NoWorker,
-            GatherFault::OutOfMemory => Cause::OutOfMemory,
-        };
-        MergeFault::found(At::Nowhere, cause)
-    }
+/// The refusal for want of memory or of a thread.
+fn refusal_of(fault: GatherFault) -> MergeFault
+    ensures { result ≡ wanting_of fault }
+{
+    let cause = match fault {
+        GatherFault::NoWorker => Cause::NoWorker,
+        GatherFault::OutOfMemory => Cause::OutOfMemory,
+    };
+    MergeFault::found(At::Nowhere, cause)
 }
 
 /// Judges all runs by so many workers; the first `inputs` runs are the input runs.
@@ -135,7 +131,10 @@ pub(crate) fn judge<G: Gate + Sync, R: Threads + Wait + Sync>(
     ensures quiet { IsQuiet result }
 {
     let work = Judging { runs };
-    let lists = gather(rt, alloc, &work, workers, ROOM, gate)?;
+    let lists = match gather(rt, alloc, &work, workers, ROOM, gate) {
+        Ok(lists) => lists,
+        Err(fault) => return Err(refusal_of(fault)),
+    };
     if let Some(fault) = fault_of_runs(runs, &lists) {
         return Err(fault);
     }

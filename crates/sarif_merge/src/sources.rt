@@ -3,7 +3,7 @@ ghost use Rattle.std.specs.Prelude.{◌≡◌, ◌≤◌, ◌+◌, ◌++◌, [],
 ghost use Rattle.serde_json.specs.View.{view};
 ghost use Rattle.sarif_records.specs.Reading.{log_of};
 ghost use Rattle.sarif_records.specs.Run.{results_total};
-ghost use Rattle.sarif_merge.specs.Failing.{IsQuiet};
+ghost use Rattle.sarif_sources.specs.Failing.{IsQuiet};
 ghost use Rattle.sarif_merge.specs.Faults.{Answers, IsTooMany, number_faults};
 ghost use Rattle.sarif_merge.specs.Inputs.{numbered, placed, placed_from, readable};
 ghost use Rattle.sarif_merge.specs.MergedLog.{data_of};
@@ -11,36 +11,17 @@ ghost use Rattle.sarif_merge.specs.Parsed.{AreParsedFrom, IsParsedFrom};
 ghost use Rattle.sarif_merge.specs.PlacedRun.{placed_of};
 ghost use Rattle.sarif_merge.specs.ReadSoFar.{IsCounted, faults_with, sources_of};
 ghost use Rattle.sarif_merge.specs.SourceFaults.{reading_faults, limit_faults, source_faults};
-ghost use Rattle.sarif_merge.specs.SourceKind.{source_of};
+ghost use Rattle.sarif_sources.specs.SourceKind.{source_of};
 
-use crate::fault::{At, Cause, MergeFault, Source};
 use crate::parsing::{ParsedSources, parse, parse_sources};
 use crate::placed::PlacedRun;
 use sarif_records::{Log, MOST_RESULTS, MOST_RUNS, RawRun, ReadFault};
+use sarif_sources::{At, Cause, MergeFault, Source, SourceKind};
 use std::alloc::{AllocError, Global};
 use std::thread::Threads;
 
 /// How many sources of each kind a merge may have.
 const MOST_SOURCES: usize = 1_000;
-
-/// Whether a source is a log or a baseline.
-#[derive(Clone, Copy, Debug, PartialEq, Eq)]
-pub(crate) enum SourceKind {
-    Log,
-    Baseline,
-}
-
-impl SourceKind {
-    /// The source of this kind with that number.
-    pub(crate) fn source(self, number: u32) -> Source
-        ensures { result ≡ source_of self number }
-    {
-        match self {
-            SourceKind::Log => Source::Log(number),
-            SourceKind::Baseline => Source::Baseline(number),
-        }
-    }
-}
 
 /// The runs of all sources in order, the input runs first.
 #[derive(Drop)]
@@ -75,7 +56,7 @@ fn too_many(source: Source) -> MergeFault
 }
 
 /// The log that was parsed of a source, or its fault with its place.
-#[tactic(auto, using(crate::proofs::QuietFaults::quiet_fault))]
+#[tactic(auto, using(sarif_sources::proofs::QuietFaults::quiet_fault))]
 fn log_of_source(source: Source, parsed: Result<Log, ReadFault>) -> Result<Log, MergeFault>
     ensures runs { (bytes : List ℕ) → IsParsedFrom bytes parsed
         → IfOk result (λ log. log_of bytes ≡ Ok (map view log)) }

@@ -1,38 +1,14 @@
 //! Reading the suppression file of a merge.
 ghost use Rattle.std.specs.Prelude.{◌≡◌, Ok, IfOk, option_map};
-ghost use Rattle.sarif_merge.specs.Failing.{IsQuiet};
-ghost use Rattle.sarif_merge.specs.Faults.{Answers, fault_of_file, file_faults, file_or_none};
+ghost use Rattle.sarif_sources.specs.Failing.{IsQuiet};
+ghost use Rattle.sarif_merge.specs.Faults.{Answers, file_faults, file_or_none};
 
-use crate::fault::{At, Cause, MergeFault, Source};
-use sarif_suppress::{SuppressFault, Suppressions, read_rules};
+use sarif_sources::MergeFault;
+use sarif_suppress::{Suppressions, read_rules};
 use std::alloc::Global;
 
-impl From<SuppressFault> for MergeFault {
-    ghost from_gives = { λ fault found. found ≡ fault_of_file fault };
-
-    fn from(fault: SuppressFault) -> MergeFault {
-        let whole = At::Whole(Source::Suppress);
-        match fault {
-            SuppressFault::NotJson => MergeFault::found(whole, Cause::NotJson),
-            SuppressFault::NotList => MergeFault::found(whole, Cause::NotList),
-            SuppressFault::WrongVersion => MergeFault::found(whole, Cause::WrongVersion),
-            SuppressFault::BadEntry(number) => {
-                MergeFault::found(At::Entry(number), Cause::BadEntry)
-            }
-            SuppressFault::EmptyMatch(number) => {
-                MergeFault::found(At::Entry(number), Cause::EmptyMatch)
-            }
-            SuppressFault::TooMany => MergeFault::found(whole, Cause::TooMany),
-            SuppressFault::OutOfMemory => MergeFault::found(whole, Cause::OutOfMemory),
-            SuppressFault::NeedsToday(number) => {
-                MergeFault::found(At::Entry(number), Cause::NeedsToday)
-            }
-        }
-    }
-}
-
 /// The entries of the suppression file for that day, where there is one; without it there are none.
-#[tactic(auto, using(crate::proofs::FileAnswers::quiet_file, crate::proofs::FileAnswers::file_refused))]
+#[tactic(auto, using(sarif_sources::proofs::QuietFaults::quiet_file, crate::proofs::FileAnswers::file_refused))]
 pub(crate) fn read_file(
     alloc: Global,
     bytes: Option<&[u8]>,

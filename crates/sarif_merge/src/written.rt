@@ -8,12 +8,12 @@ ghost use Rattle.sarif_records.specs.declared.kinds.Level.{Level as Grade};
 ghost use Rattle.sarif_records.specs.declared.kinds.State.{State as Stand};
 ghost use Rattle.sarif_merge.specs.Annotated.{annotated_members, own_suppressions};
 ghost use Rattle.sarif_merge.specs.MergedRuns.{written};
-ghost use Rattle.sarif_merge.specs.CountOf.{carries};
-ghost use Rattle.sarif_merge.specs.Counts.{count_at, total_of};
-ghost use Rattle.sarif_merge.specs.Policy.{count_if};
+ghost use Rattle.sarif_counts.specs.CountOf.{carries};
+ghost use Rattle.sarif_counts.specs.Counts.{count_at, total_of};
+ghost use Rattle.sarif_counts.specs.Policy.{count_if};
 
 use crate::annotate::{annotate, is_suppressing, take_suppressions};
-use crate::counts::Counts;
+use sarif_counts::Counts;
 use sarif_records::{Level, Record, State};
 use serde_json::{Map, Value};
 use std::alloc::{AllocError, Global};

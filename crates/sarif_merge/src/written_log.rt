@@ -7,22 +7,19 @@ ghost use Rattle.sarif_records.specs.Run.{results_of, results_total};
 ghost use Rattle.sarif_records.specs.declared.kinds.Level.{Level as Grade};
 ghost use Rattle.sarif_records.specs.declared.kinds.State.{State as Stand};
 ghost use Rattle.sarif_suppress.specs.Suppressing.{unused_of};
-ghost use Rattle.sarif_merge.specs.CountOf.{count_of};
-ghost use Rattle.sarif_merge.specs.Counts.{count_at};
+ghost use Rattle.sarif_counts.specs.CountOf.{count_of};
+ghost use Rattle.sarif_counts.specs.Counts.{count_at};
 ghost use Rattle.sarif_merge.specs.Merged.{IsLogOf};
 ghost use Rattle.sarif_merge.specs.MergedLog.{listing_of, runs_without_results};
 ghost use Rattle.sarif_merge.specs.MergedRuns.{merged_runs, absent_runs, present};
 
 use crate::absent_run::write_absent_runs;
-use crate::counts::Counts;
-use crate::decision::verdict;
-use crate::gate::gate_value;
 use crate::log_text::log_text;
 use crate::matched::Matched;
 use crate::merged::Merged;
 use crate::merged_run::write_runs;
-use crate::policy::Policy;
 use crate::records::Records;
+use sarif_counts::{Counts, Policy, gate_value, verdict};
 use sarif_records::{RawRun, Text};
 use sarif_suppress::Suppressions;
 use serde_json::Value;
@@ -108,7 +105,7 @@ pub(crate) fn finish(
         unused,
     } = written;
     let gate = gate_value(alloc, &counts, policy, without, unused)?;
-    let log = Text::from(log_text(alloc, gate, runs)?);
+    let log = Text::from_string(log_text(alloc, gate, runs)?)?;
     let verdict = verdict(&counts, policy);
     Ok(Merged {
         log,

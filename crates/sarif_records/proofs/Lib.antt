@@ -7,3 +7,12 @@ pub mod NoFraction
 pub mod ReadEach
 pub mod Pairs
 pub mod WholeRuns
+pub mod Beside
+pub mod RunOf
+pub mod NodeValues
+pub mod ListResults
+pub mod IndexRun
+pub mod ListRuns
+pub mod IndexEach
+pub mod SameMembers
+pub mod ReadResults

@@ -55,7 +55,7 @@ stripped_runs (string s) = refl
 stripped_runs (array ds) = refl
 stripped_runs (object ms) = runs_whole (get_member (codes "runs") (stripped_members ms)) (found_whole (codes "runs") (stripped_members ms) (no_fraction_members ms))
 
-bind_ok : {A B E : Type 0} (r : Result A E) (f : A → Result B E) (y : B) → (r >>= f) ≡ Ok y → (x : A) × (r ≡ Ok x) × (f x ≡ Ok y)
+pub bind_ok : {A B E : Type 0} (r : Result A E) (f : A → Result B E) (y : B) → (r >>= f) ≡ Ok y → (x : A) × (r ≡ Ok x) × (f x ≡ Ok y)
 bind_ok (Ok x) f y h = (x, refl, h)
 bind_ok (Err e) f y h = cc
 

@@ -11,3 +11,7 @@ pub mod Guid
 pub mod Fingerprints
 pub mod Suppression
 pub mod OwnMembers
+pub mod Bare
+pub mod Listed
+pub mod Indexed
+pub mod IndexFault

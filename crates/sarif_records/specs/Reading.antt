@@ -1,10 +1,10 @@
 -- Reading a log: its stripped runs, or the first fault with the run that it names (SARIF 2.1.0, "sarifLog object",
 -- "run object", "tool object", "toolComponent object").
 use Rattle.std.specs.Prelude.{◌+◌, ℕ, ⊤, Bool, true, false, not, nat_lt, List, [], ◌∷◌, take, drop, length, Option, Some, None, Result, Ok, Err, codes, bytes_eq, is_some, option_map, option_and_then, unwrap_or, if◌then◌else◌}
-use Rattle.std.specs.Str.{is_utf8}
 use Rattle.serde_json.specs.Data.{Data, null, boolean, number, string, array, object, Members, no_members, member}
 use Rattle.serde_json.specs.Find.{get, as_str, as_array, as_object}
-use Rattle.serde_json.specs.Read.{read}
+use Rattle.json_index.specs.Indexed.{json_of}
+pub use Rattle.json_index.specs.Indexed.{json_of}
 use Rattle.sarif_records.specs.declared.fault.Fault.{Fault}
 use Rattle.sarif_records.specs.declared.fault.Fault.TheVariants.{NotJson, NotLog, WrongVersion, BadRun, ExternalProperties, TooMany}
 use Rattle.sarif_records.specs.declared.fault.ReadFault.{ReadFault}
@@ -15,10 +15,6 @@ use Rattle.sarif_records.specs.Stripping.{stripped}
 -- one leading byte order mark is dropped
 abbrev pub without_mark : List ℕ → List ℕ
 without_mark bytes = if bytes_eq (take 3 bytes) (239 ∷ 187 ∷ 191 ∷ []) then drop 3 bytes else bytes
-
--- the JSON value of UTF-8 bytes, nested at most 127 deep
-abbrev pub json_of : List ℕ → Option Data
-json_of bytes = if is_utf8 bytes then read bytes else None
 
 abbrev pub unless_fault : Bool → Fault → Result ⊤ Fault
 unless_fault passes fault = if passes then Ok tt else Err fault

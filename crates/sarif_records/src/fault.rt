@@ -1,6 +1,7 @@
 //! Why a log, a run or a result is refused.
 ghost use Rattle.std.specs.Prelude.{◌≡◌, None};
 
+use json_index::IndexFault;
 use std::alloc::{AllocError, AllocFailed};
 use thiserror::Error;
 
@@ -100,7 +101,7 @@ impl From<Fault> for ReadFault {
 impl From<AllocError> for ReadFault {
     ghost use Rattle.sarif_records.specs.declared.fault.Fault.TheVariants.{OutOfMemory};
 
-    ghost from_gives = { λ _ e. e.fault ≡ OutOfMemory };
+    ghost from_gives = { λ _ e. e ≡ record { run = None; fault = OutOfMemory } };
 
     fn from(_error: AllocError) -> ReadFault {
         ReadFault::from(Fault::OutOfMemory)
@@ -110,9 +111,22 @@ impl From<AllocError> for ReadFault {
 impl<T: Drop> From<AllocFailed<T>> for ReadFault {
     ghost use Rattle.sarif_records.specs.declared.fault.Fault.TheVariants.{OutOfMemory};
 
-    ghost from_gives = { λ _ e. e.fault ≡ OutOfMemory };
+    ghost from_gives = { λ _ e. e ≡ record { run = None; fault = OutOfMemory } };
 
     fn from(_error: AllocFailed<T>) -> ReadFault {
         ReadFault::from(Fault::OutOfMemory)
+    }
+}
+
+impl From<IndexFault> for ReadFault {
+    ghost use Rattle.sarif_records.specs.IndexFault.{read_fault_of};
+
+    ghost from_gives = { λ fault e. e ≡ read_fault_of fault };
+
+    fn from(fault: IndexFault) -> ReadFault {
+        match fault {
+            IndexFault::NotJson => ReadFault::from(Fault::NotJson),
+            IndexFault::OutOfMemory => ReadFault::from(Fault::OutOfMemory),
+        }
     }
 }

@@ -1,9 +1,14 @@
 //! Laws of reading, each the contract of a function that does nothing.
-ghost use Rattle.std.specs.Prelude.{◌≡◌, ℕ, List, Ok, false};
+ghost use Rattle.std.specs.Prelude.{◌≡◌, ℕ, List, Ok, false, is_some, codes};
 ghost use Rattle.std.specs.List.{list_any};
 ghost use Rattle.serde_json.specs.Data.{Data, object, Members};
 ghost use Rattle.serde_json.specs.Written.{has_float};
-ghost use Rattle.sarif_records.specs.Reading.{log_of};
+ghost use Rattle.serde_json.specs.Find.{get_member};
+ghost use Rattle.json_index.specs.Ordered.{AreMembersOrdered};
+ghost use Rattle.sarif_records.specs.Fingerprints.{pairs_among};
+ghost use Rattle.sarif_records.specs.Members.{member_at};
+ghost use Rattle.sarif_records.specs.Run.{results_array};
+ghost use Rattle.sarif_records.specs.Reading.{log_of, check_run};
 ghost use Rattle.sarif_records.specs.Stripping.{stripped};
 
 /// What is stripped and stands inside an object holds no number with a fraction.
@@ -20,4 +25,19 @@ pub fn stripping_twice_is_once()
 pub fn read_runs_hold_no_fraction()
     ensures { (bytes : List ℕ) (runs : List Data) → log_of bytes ≡ Ok runs
         → list_any has_float runs ≡ false }
+{}
+
+/// Two objects whose names have the same values give the same pairs, in whatever order their members
+/// stood in the text: in what is read, names rise.
+pub fn same_members_give_the_same_pairs()
+    ensures { (ms ns : Members) → AreMembersOrdered ms → AreMembersOrdered ns
+        → ((name : List ℕ) → get_member name ms ≡ get_member name ns)
+        → pairs_among ms ≡ pairs_among ns }
+{}
+
+/// A run that is read has results exactly where `results` is there and not null, and then it is an
+/// array of objects.
+pub fn runs_have_results_where_they_are_listed()
+    ensures { (run : Data) (before now : ℕ) → check_run before run ≡ Ok now
+        → is_some (results_array run) ≡ is_some (member_at (codes "results") run) }
 {}

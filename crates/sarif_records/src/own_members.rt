@@ -19,7 +19,7 @@ use crate::guid::read_guid;
 use crate::kinds::{Kind, Level};
 use crate::members::member_at;
 use crate::parts::Parts;
-use crate::run::RawRun;
+use crate::run::{RawRun, is_marked_absent};
 use fingerprints::read_fingerprints;
 use indexes::read_indexes;
 use location::read_location;
@@ -30,11 +30,10 @@ use suppressions::read_statuses;
 
 /// `AbsentInput` where the result is marked as absent (SARIF 2.1.0, result object, "baselineState
 /// property").
-fn check_is_present(run: &RawRun, seq: u32) -> Result<(), Fault>
-    requires { seq < length (results_of (seen run.now)) }
-    ensures { result ≡ check_present (result_at (seen run.now) seq) }
+fn check_is_present(result_value: &Value) -> Result<(), Fault>
+    ensures { result ≡ check_present (seen result_value.now) }
 {
-    if run.is_absent(seq) {
+    if is_marked_absent(result_value) {
         Err(Fault::AbsentInput)
     } else {
         Ok(())
@@ -83,8 +82,7 @@ fn read_correlation_guid(result_value: &Value) -> Result<Option<u128>, Fault>
     }
 }
 
-/// The own members of result `seq` of `run` (SARIF 2.1.0, "result object"), or its first fault in
-/// this order:
+/// The own members of a result (SARIF 2.1.0, "result object"), or its first fault in this order:
 ///
 /// 1. `AbsentInput` where `baselineState` is `absent`
 /// 2. `BadKind` for `kind`
@@ -98,14 +96,12 @@ fn read_correlation_guid(result_value: &Value) -> Result<Option<u128>, Fault>
 ///
 /// `OutOfMemory` may come in place of each of these but the first four.
 #[tactic(auto, unfolding(crate::specs::OwnMembers::parts_of))]
-pub fn read_parts(alloc: Global, run: &RawRun, seq: u32) -> Result<Parts, Fault>
-    requires { seq < length (results_of (seen run.now)) }
-    ensures ok { IfOk result (λ parts. parts_of (result_at (seen run.now) seq) ≡ Ok parts) }
+pub fn read_members(alloc: Global, result_value: &Value) -> Result<Parts, Fault>
+    ensures ok { IfOk result (λ parts. parts_of (seen result_value.now) ≡ Ok parts) }
     ensures err { IfErr result (λ fault. (fault ≡ OutOfMemory → ⊥)
-        → parts_of (result_at (seen run.now) seq) ≡ Err fault) }
+        → parts_of (seen result_value.now) ≡ Err fault) }
 {
-    check_is_present(run, seq)?;
-    let result_value = run.result(seq);
+    check_is_present(result_value)?;
     let kind = read_kind(result_value)?;
     let level = read_level(result_value)?;
     let guid = read_correlation_guid(result_value)?;
@@ -130,4 +126,15 @@ pub fn read_parts(alloc: Global, run: &RawRun, seq: u32) -> Result<Parts, Fault>
         partial: fingerprints.partial,
         held,
     })
+}
+
+/// The own members of result `seq` of `run`, counted from 0 (SARIF 2.1.0, run object, "results
+/// property"), or its first fault, as [`read_members`] gives them.
+pub fn read_parts(alloc: Global, run: &RawRun, seq: u32) -> Result<Parts, Fault>
+    requires { seq < length (results_of (seen run.now)) }
+    ensures ok { IfOk result (λ parts. parts_of (result_at (seen run.now) seq) ≡ Ok parts) }
+    ensures err { IfErr result (λ fault. (fault ≡ OutOfMemory → ⊥)
+        → parts_of (result_at (seen run.now) seq) ≡ Err fault) }
+{
+    read_members(alloc, run.result(seq))
 }

@@ -12,11 +12,15 @@ ghost use Rattle.sarif_records.specs.Stripping.{stripped};
 mod tests;
 
 use crate::fault::{Fault, ReadFault};
+use crate::filling::fill_each;
+use crate::indexing::index_log;
 use crate::log::Log;
 use crate::members::{member_at, objects_at};
 use crate::run::RawRun;
 use crate::stripping::strip_in_place;
 use crate::stripping_together::strip_log;
+use json::Scratch;
+use json_index::index_text;
 use serde_json::Value;
 use std::alloc::Global;
 use std::thread::Threads;
@@ -76,7 +80,7 @@ fn check_count(log: &Value) -> Result<(), Fault>
 }
 
 /// The run is an object with a tool that has a driver that has a name: else `BadRun`.
-fn check_tool(run: &Value) -> Result<(), Fault>
+pub(crate) fn check_tool(run: &Value) -> Result<(), Fault>
     ensures { result ≡ said.check_tool (view run.now) }
 {
     match driver_name(run) {
@@ -103,7 +107,7 @@ fn is_empty_object(value: &Value) -> bool
 }
 
 /// The run names no external property files: else `ExternalProperties`.
-fn check_external(run: &Value) -> Result<(), Fault>
+pub(crate) fn check_external(run: &Value) -> Result<(), Fault>
     ensures { result ≡ said.check_external (view run.now) }
 {
     match member_at(run, "externalPropertyFileReferences") {
@@ -257,19 +261,21 @@ fn log_of_value(alloc: Global, log: Value) -> Result<Log, ReadFault>
 }
 
 /// Reads a log (SARIF 2.1.0, "sarifLog object"): the JSON after one leading byte order mark,
-/// stripped, with the form of the log and of its runs. Want of memory is `OutOfMemory`; each other
-/// refusal is the first fault of the bytes, `NotJson`, `NotLog`, `WrongVersion` or `TooMany`
-/// without a run, `BadRun`, `ExternalProperties` or `TooMany` with the run's number.
-#[tactic(auto, unfolding(crate::specs::Reading::log_of))]
+/// stripped, with the form of the log and of its runs. Want of memory is `OutOfMemory`, without a
+/// run; each other refusal is the first fault of the bytes, `NotJson`, `NotLog`, `WrongVersion` or
+/// `TooMany` without a run, `BadRun`, `ExternalProperties` or `TooMany` with the run's number.
+#[tactic(auto, using(crate::proofs::Utf8::read_steps), unfolding(crate::specs::Reading::log_of))]
 pub fn read_log(alloc: Global, bytes: &[u8]) -> Result<Log, ReadFault>
     ensures ok { IfOk result (λ log. said.log_of bytes.now ≡ Ok (map view log)) }
     ensures few { IfOk result (λ log. results_total (map view log) ≤ 1000000) }
     ensures few_runs { IfOk result (λ log. length log ≤ 10000) }
     ensures err { IfErr result (λ e. ¬ (e.fault ≡ OutOfMemory) → said.log_of bytes.now ≡ Err e) }
+    ensures memory { IfErr result (λ e. e.fault ≡ OutOfMemory → e.run ≡ None) }
 {
-    let mut value = read_json(alloc, without_mark(bytes))?;
-    strip_in_place(&mut value);
-    log_of_value(alloc, value)
+    let mut scratch = Scratch::new(alloc);
+    let index = index_text(alloc, without_mark(bytes), &mut scratch)?;
+    let runs = index_log(alloc, &index)?;
+    Ok(Log::new(fill_each(alloc, runs)?))
 }
 
 /// Reads a log as [`read_log`] does, with the same refusals. At most `threads` threads strip it, the

@@ -86,7 +86,7 @@ impl RawRun {
     }
 
     /// Result `seq` of the run, counted from 0.
-    pub(crate) fn result(&self, seq: u32) -> &Value
+    pub fn result(&self, seq: u32) -> &Value
         requires { seq < length (results_of (seen self.now)) }
         ensures { seen result.now ≡ result_at (seen self.now) seq }
     {

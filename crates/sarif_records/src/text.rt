@@ -2,6 +2,7 @@
 ghost use Rattle.std.specs.Prelude.{◌≡◌, ℕ, List, Some, refl, bytes_eq, string_bytes};
 ghost use Rattle.std.specs.Prelude.{IfOk, option_map};
 ghost use Rattle.std.proofs.Common.{rules};
+ghost use Rattle.std.specs.Arc.{arc_str_bytes};
 ghost use Rattle.std.specs.Ordering.{nat_cmp};
 ghost use Rattle.std.specs.Hash as fed;
 ghost use Rattle.std.specs.Cmp.{partial_equiv_from_equiv};
@@ -15,17 +16,19 @@ use std::convert::AsStr;
 use std::fmt;
 use std::hash::{Hash, Hasher};
 use std::marker::Model;
+use std::sync::ArcStr;
 
-/// A text of a log. Contracts see its UTF-8 bytes.
+/// A text of a log, held once for all its clones, in whatever threads they are. Contracts see its
+/// UTF-8 bytes.
 #[derive(Drop)]
 pub struct Text {
-    content: String,
+    content: ArcStr,
 }
 
 impl Model for Text {
     ghost Value = { List ℕ };
 
-    ghost view = { λ t. string_bytes t.content };
+    ghost view = { λ t. arc_str_bytes t.content };
 }
 
 impl Text {
@@ -33,7 +36,15 @@ impl Text {
     pub fn copy_of(alloc: Global, text: &str) -> Result<Text, AllocError>
         ensures { IfOk result (λ t. t ≡ text.now) }
     {
-        let content = String::from_str(alloc, text)?;
+        let content = ArcStr::from_str(alloc, text)?;
+        Ok(Text { content })
+    }
+
+    /// The text that `text` is. Its bytes are not copied.
+    pub fn from_string(text: String) -> Result<Text, AllocError>
+        ensures { IfOk result (λ t. t ≡ string_bytes text) }
+    {
+        let content = ArcStr::from_string(text)?;
         Ok(Text { content })
     }
 
@@ -55,23 +66,6 @@ pub(crate) fn copy_if_there(alloc: Global, text: Option<&str>) -> Result<Option<
     }
 }
 
-impl From<String> for Text {
-    ghost from_gives = { λ s t. t ≡ string_bytes s };
-
-    fn from(content: String) -> Text {
-        Text { content }
-    }
-}
-
-impl From<Text> for String {
-    ghost from_gives = { λ t s. string_bytes s ≡ t };
-
-    fn from(text: Text) -> String {
-        let Text { content } = text;
-        content
-    }
-}
-
 impl AsStr for Text {
     ghost text = { λ t. t };
 
@@ -83,6 +77,7 @@ impl AsStr for Text {
 impl Clone for Text {
     ghost is_clone = { λ text copy. copy ≡ text };
 
+    /// Shares the text; no byte is copied.
     fn clone(&self) -> Result<Text, AllocError> {
         let content = self.content.clone()?;
         Ok(Text { content })

@@ -48,9 +48,12 @@ record_by head tool parts = do
     held = parts.held;
   })
 
+-- the record of a result of a run with that head and that tool, or its first fault
+unfoldable pub record_in : RunHead → List ℕ → Data → Result Record Fault
+record_in head tool result = parts_of result >>= record_by head tool
+
 -- the record of the result with that number, or the first fault
 unfoldable pub record_of : Data → ℕ → Result Record Fault
 record_of run seq = do
   head ← head_of run
-  parts ← parts_of (result_at run seq)
-  record_by head (tool_name run) parts
+  record_in head (tool_name run) (result_at run seq)

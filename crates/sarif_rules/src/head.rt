@@ -95,12 +95,11 @@ impl RunHead {
     ) -> Result<Text, AllocError>
         ensures { IfOk result (λ id. id ≡ rule_id_of self.now.components own descriptor) }
     {
-        if let Some(id) = own {
-            return Ok(id);
-        }
-        match self.rule(descriptor) {
-            Some(rule) => rule.id.clone(),
-            None => Text::copy_of(alloc, ""),
+        match (own, self.rule(descriptor)) {
+            (Some(id), Some(rule)) => share(id, &rule.id),
+            (Some(id), None) => Ok(id),
+            (None, Some(rule)) => rule.id.clone(),
+            (None, None) => Text::copy_of(alloc, ""),
         }
     }
 
@@ -147,7 +146,7 @@ impl RunHead {
         ensures { Gives result (place_by self.now.artifacts uri base artifact) }
     {
         if uri.is_some() {
-            return Ok(Place { uri, base });
+            return Ok(self.share_place(Place { uri, base }, artifact)?);
         }
         let Some(index) = artifact else {
             return Ok(Place {
@@ -161,6 +160,23 @@ impl RunHead {
         let uri = copied(&named.uri)?;
         let base = copied(&named.base)?;
         Ok(Place { uri, base })
+    }
+
+    // The place `own`, with the texts of the artifact where they are the same.
+    fn share_place(&self, own: Place, artifact: Option<u32>) -> Result<Place, AllocError>
+        ensures { IfOk result (λ place. place ≡ own) }
+    {
+        let held = match artifact {
+            Some(index) => self.artifacts.as_slice().get(index as usize),
+            None => None,
+        };
+        match held {
+            Some(held) => Ok(Place {
+                uri: share_if_there(own.uri, &held.uri)?,
+                base: share_if_there(own.base, &held.base)?,
+            }),
+            None => Ok(own),
+        }
     }
 }
 
@@ -184,7 +200,24 @@ fn first_level(
     }
 }
 
-// A copy of a text, where there is one.
+// The text `own`, as `held` where that is the same text, so that it is held once.
+fn share(own: Text, held: &Text) -> Result<Text, AllocError>
+    ensures { IfOk result (λ text. text ≡ own) }
+{
+    if own == *held { held.clone() } else { Ok(own) }
+}
+
+// The same for a text that may be absent.
+fn share_if_there(own: Option<Text>, held: &Option<Text>) -> Result<Option<Text>, AllocError>
+    ensures { IfOk result (λ text. text ≡ own) }
+{
+    match (own, held) {
+        (Some(own), Some(held)) => Ok(Some(share(own, held)?)),
+        (own, _) => Ok(own),
+    }
+}
+
+// A text, where there is one; it isn't copied.
 fn copied(text: &Option<Text>) -> Result<Option<Text>, AllocError>
     ensures { IfOk result (λ copy. copy ≡ text.now) }
 {

@@ -14,5 +14,5 @@ mod tests;
 pub use component::{Component, Rule};
 pub use head::RunHead;
 pub use invocation::{Invocation, Override};
-pub use making::make_record;
-pub use open::open_run;
+pub use making::{copy_tool_name, make_record, make_record_of};
+pub use open::{open_run, open_value};

@@ -5,19 +5,38 @@ ghost use Rattle.sarif_records.specs.declared.fault.Fault.TheVariants.{OutOfMemo
 ghost use Rattle.sarif_records.specs.Run.{results_of};
 ghost use Rattle.sarif_rules.specs.Reading.{Gives};
 ghost use Rattle.sarif_rules.specs.Head.{head_of};
-ghost use Rattle.sarif_rules.specs.Record.{tool_name, rule_id_of, record_by, record_of};
+ghost use Rattle.sarif_rules.specs.Record.{tool_name, rule_id_of, record_by, record_in, record_of};
 
 use crate::head::RunHead;
-use sarif_records::{Fault, Parts, RawRun, Record, Text, driver_name, read_parts};
+use sarif_records::{Fault, Parts, RawRun, Record, Text, driver_name, read_members};
 use serde_json::Value;
 use std::alloc::{AllocError, Global};
 
-/// Makes the record of result `seq` of a run, with the head that was opened from that run (SARIF
-/// 2.1.0, "result object").
+/// Makes the record of a result of a run with that head and that tool (SARIF 2.1.0, "result
+/// object").
 ///
-/// The faults are those of `read_parts`, and then `BadIndex` where the component, the rule, the
+/// The faults are those of `read_members`, and then `BadIndex` where the component, the rule, the
 /// invocation or, with no `uri`, the artifact is past its table. `OutOfMemory` may come in place of
 /// any of them.
+#[tactic(auto, unfolding(crate::specs::Record::record_in))]
+pub fn make_record_of(
+    alloc: Global,
+    head: &RunHead,
+    tool: &Text,
+    result_value: &Value,
+) -> Result<Record, Fault>
+    ensures ok { IfOk result
+        (λ made. record_in head.now tool.now (view result_value.now) ≡ Ok made) }
+    ensures err { IfErr result (λ fault. (fault ≡ OutOfMemory → ⊥)
+        → record_in head.now tool.now (view result_value.now) ≡ Err fault) }
+{
+    let parts = read_members(alloc, result_value)?;
+    let tool = tool.clone()?;
+    finish_record(alloc, head, tool, parts)
+}
+
+/// Makes the record of result `seq` of a run, with the head that was opened from that run, as
+/// [`make_record_of`] does with the name of the run's driver.
 #[tactic(auto, unfolding(crate::specs::Record::record_of))]
 pub fn make_record(alloc: Global, head: &RunHead, run: &RawRun, seq: u32) -> Result<Record, Fault>
     requires opened { head_of (view run.now) ≡ Ok head.now }
@@ -26,12 +45,13 @@ pub fn make_record(alloc: Global, head: &RunHead, run: &RawRun, seq: u32) -> Res
     ensures err { IfErr result (λ fault. (fault ≡ OutOfMemory → ⊥)
         → record_of (view run.now) seq ≡ Err fault) }
 {
-    let parts = read_parts(alloc, run, seq)?;
     let tool = copy_tool_name(alloc, run.value())?;
-    finish_record(alloc, head, tool, parts)
+    make_record_of(alloc, head, &tool, run.result(seq))
 }
 
-fn copy_tool_name(alloc: Global, run: &Value) -> Result<Text, AllocError>
+/// The name of the run's driver (SARIF 2.1.0, toolComponent object, "name property"); where there
+/// is none, the empty text.
+pub fn copy_tool_name(alloc: Global, run: &Value) -> Result<Text, AllocError>
     ensures { IfOk result (λ name. name ≡ tool_name (view run.now)) }
 {
     match driver_name(run) {

@@ -20,7 +20,8 @@ use sarif_records::{Fault, Place, RawRun, Sequence, Text};
 use serde_json::Value;
 use std::alloc::{AllocError, Global};
 
-/// Reads the rules, overrides and artifacts of a run.
+/// Reads the rules, overrides and artifacts of a run. Its results aren't looked at, and may be
+/// missing.
 ///
 /// The first of these that is wrong, in this order, is the fault:
 /// - of the driver and then of each extension (SARIF 2.1.0, "toolComponent object"), rule by rule,
@@ -31,12 +32,11 @@ use std::alloc::{AllocError, Global};
 ///
 /// `OutOfMemory` may come in place of any of them.
 #[tactic(auto, unfolding(crate::specs::Head::head_of))]
-pub fn open_run(alloc: Global, run: &RawRun) -> Result<RunHead, Fault>
+pub fn open_value(alloc: Global, run: &Value) -> Result<RunHead, Fault>
     ensures ok { IfOk result (λ head. head_of (view run.now) ≡ Ok head) }
     ensures err { IfErr result
         (λ fault. (fault ≡ OutOfMemory → ⊥) → head_of (view run.now) ≡ Err fault) }
 {
-    let run = run.value();
     let components = read_components(alloc, run)?;
     let artifacts = read_artifacts(alloc, run)?;
     let invocations = read_invocations(alloc, components.as_slice(), run)?;
@@ -45,6 +45,15 @@ pub fn open_run(alloc: Global, run: &RawRun) -> Result<RunHead, Fault>
         invocations,
         artifacts,
     })
+}
+
+/// Reads the rules, overrides and artifacts of a run that was read, as [`open_value`] does.
+pub fn open_run(alloc: Global, run: &RawRun) -> Result<RunHead, Fault>
+    ensures ok { IfOk result (λ head. head_of (view run.now) ≡ Ok head) }
+    ensures err { IfErr result
+        (λ fault. (fault ≡ OutOfMemory → ⊥) → head_of (view run.now) ≡ Err fault) }
+{
+    open_value(alloc, run.value())
 }
 
 #[tactic(auto, unfolding(crate::specs::Rules::components_of))]

@@ -4,3 +4,7 @@ pub mod JustTexts
 pub mod Marked
 pub mod Meaning
 pub mod ObjectTest
+pub mod ReadBack
+pub mod Among
+pub mod Rising
+pub mod Candidates

@@ -52,7 +52,7 @@ begins_means (Some wanted) (Some found) = (
       (bytes_eq-Decides wanted (take (length wanted) found)).1 (rw split (sym (take-append_seam wanted rest))),
 )
 
-pair_means : (a b : List ℕ × List ℕ) → Decides (is_pair a b) (a ≡ b)
+pub pair_means : (a b : List ℕ × List ℕ) → Decides (is_pair a b) (a ≡ b)
 pair_means a b =
     decides_by (is_pair a b) (λ h. pair_from a b h.0 h.1) (λ e. (ap (λ p. p.0) e, ap (λ p. p.1) e)) (and_means _ _ (bytes_eq-Decides a.0 b.0) (bytes_eq-Decides a.1 b.1))
   where

@@ -2,6 +2,7 @@ pub mod Matching
 pub mod Entries
 pub mod File
 pub mod Numbers
+pub mod Filing
 pub mod Table
 pub mod Suppressing
 pub mod Written

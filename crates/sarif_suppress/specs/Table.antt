@@ -1,25 +1,31 @@
--- The tables of the numbers of entries, by guid and by rule id.
-use Rattle.std.specs.Prelude.{◌≡◌, ℕ, ◌≤◌, Bool, List, [], length, nat_eq, bytes_eq}
+-- The tables of the numbers of entries, by what they are filed under.
+use Rattle.std.specs.Prelude.{◌≡◌, ℕ, Bool, List, [], nat_eq, bytes_eq}
 use Rattle.std.specs.Option.{option_map_or}
 use Rattle.std.specs.declared.alloc.Global.{Global}
 use Rattle.std.specs.declared.vec.Vec.{Vec}
-use Rattle.std.specs.declared.hash.FoldHasher.{FoldHasher}
-use Rattle.std.specs.declared.hash.BuildHasherDefault.{BuildHasherDefault}
 use Rattle.indexmap.specs.IndexMap.{IndexMap, get}
 use Rattle.sarif_suppress.specs.declared.entry.Entry.{Entry}
-use Rattle.sarif_suppress.specs.Numbers.{numbers_from, asks_for_guid, asks_for_rule, asks_for_neither}
+use Rattle.sarif_suppress.specs.declared.filing.PairCondition.TheVariants.{Full, Partial}
+use Rattle.sarif_suppress.specs.declared.filing.TextCondition.TheVariants.{Uri, RuleId, Tool}
+use Rattle.sarif_suppress.specs.declared.table.Table.{Table}
+use Rattle.sarif_suppress.specs.Filing.{asks_for_guid, asks_for_pair, asks_for_text, asks_for_none}
+use Rattle.sarif_suppress.specs.Matching.{is_pair}
+use Rattle.sarif_suppress.specs.Numbers.{numbers_from}
 
 -- a list of numbers for each key
-abbrev pub NumbersBy : Type 0 → Type 0
-NumbersBy K = IndexMap K (Vec ℕ Global) (BuildHasherDefault FoldHasher)
+abbrev pub NumbersBy : Type 0 → Type 0 → Type 0
+NumbersBy K S = IndexMap K (Vec ℕ Global) S
 
 -- the numbers that the table has for a key
-abbrev pub numbers_at : {K : Type 0} → (K → K → Bool) → NumbersBy K → K → List ℕ
+abbrev pub numbers_at : {K S : Type 0} → (K → K → Bool) → NumbersBy K S → K → List ℕ
 numbers_at eq table key = option_map_or (λ v. v.items) (get eq table key) []
 
--- an entry is filed under its guid, or else under its rule id, or else among the others
-pub record IsTable (entries : List Entry) (guids : NumbersBy ℕ) (rules : NumbersBy (List ℕ)) (others : List ℕ) : Type 0 where
-  pub few : length entries ≤ 10000
-  pub by_guid : (guid : ℕ) → numbers_at nat_eq guids guid ≡ numbers_from (asks_for_guid guid) 0 entries
-  pub by_rule : (rule : List ℕ) → numbers_at bytes_eq rules rule ≡ numbers_from (asks_for_rule rule) 0 entries
-  pub by_neither : others ≡ numbers_from asks_for_neither 0 entries
+-- each table has just the entries that are filed in it
+pub record IsTable {S H : Type 0} (entries : List Entry) (table : Table S H) : Type 0 where
+  pub guids : (guid : ℕ) → numbers_at nat_eq table.by_guid guid ≡ numbers_from (asks_for_guid guid) 0 entries
+  pub fulls : (pair : List ℕ × List ℕ) → numbers_at is_pair table.by_full pair ≡ numbers_from (asks_for_pair Full pair) 0 entries
+  pub partials : (pair : List ℕ × List ℕ) → numbers_at is_pair table.by_partial pair ≡ numbers_from (asks_for_pair Partial pair) 0 entries
+  pub uris : (uri : List ℕ) → numbers_at bytes_eq table.by_uri uri ≡ numbers_from (asks_for_text Uri uri) 0 entries
+  pub rules : (rule : List ℕ) → numbers_at bytes_eq table.by_rule rule ≡ numbers_from (asks_for_text RuleId rule) 0 entries
+  pub tools : (tool : List ℕ) → numbers_at bytes_eq table.by_tool tool ≡ numbers_from (asks_for_text Tool tool) 0 entries
+  pub rest : table.others.items ≡ numbers_from asks_for_none 0 entries

@@ -1,5 +1,6 @@
 //! What an entry asks of a result.
-ghost use Rattle.std.specs.Prelude.{◌≡◌};
+ghost use Rattle.std.specs.Prelude.{◌≡◌, ℕ, IfSome, drop, true};
+ghost use Rattle.std.specs.List.{list_any};
 ghost use Rattle.sarif_suppress.specs.Matching as said;
 
 use sarif_records::{Pairs, Record, Text};
@@ -69,11 +70,33 @@ fn is_guid(wanted: Option<u128>, found: Option<u128>) -> bool
     }
 }
 
-/// Whether each pair that is asked for stands among those found.
+/// What stands behind the pair, where it is there.
+fn behind<'a>(found: &'a [(Text, Text)], pair: &(Text, Text)) -> Option<&'a [(Text, Text)]>
+    ensures there { IfSome result (λ rest. list_any (λ p. said.is_pair p pair.now) found.now ≡ true) }
+    ensures end { IfSome result (λ rest. (n : ℕ) × (rest.now ≡ drop n found.now)) }
+{
+    for (at, own) in found.iter().enumerate() {
+        if own == pair {
+            return Some(&found[at + 1..]);
+        }
+    }
+    None
+}
+
+/// Whether each pair that is asked for stands among those found. Where both are in one order, as
+/// the members of objects are, this is one walk.
 fn are_among(wanted: &[(Text, Text)], found: &[(Text, Text)]) -> bool
     ensures { result ≡ said.are_among wanted.now found.now }
 {
-    wanted.iter().all(|pair| found.contains(pair))
+    let mut left = found;
+    for pair in wanted {
+        if let Some(rest) = behind(left, pair) {
+            left = rest;
+        } else if !found.contains(pair) {
+            return false;
+        }
+    }
+    true
 }
 
 impl Conditions {

@@ -1,14 +1,16 @@
 //! Laws of what is written, each the contract of a function that does nothing.
-ghost use Rattle.std.specs.Prelude.{◌≡◌, ◌&&◌, Bool, List, false};
+ghost use Rattle.std.specs.Prelude.{◌≡◌, ◌↔◌, ◌&&◌, Bool, List, Ok, IsTrue, false};
 ghost use Rattle.std.specs.List.{list_all};
 ghost use Rattle.serde_json.specs.Data.{Data};
 ghost use Rattle.serde_json.specs.Written.{has_float};
+ghost use Rattle.sarif_records.specs.Members.{read_each, result_map};
+ghost use Rattle.sarif_records.specs.Suppression.{status_of};
 ghost use Rattle.sarif_records.specs.declared.record.Record.{Record};
 ghost use Rattle.sarif_suppress.specs.declared.entry.Entry.{Entry};
 ghost use Rattle.sarif_suppress.specs.File.{File};
 ghost use Rattle.sarif_suppress.specs.Matching.{is_empty};
-ghost use Rattle.sarif_suppress.specs.Suppressing.{matching};
-ghost use Rattle.sarif_suppress.specs.Written.{object_of, suppressions_of};
+ghost use Rattle.sarif_suppress.specs.Suppressing.{matching, suppresses, is_suppressed};
+ghost use Rattle.sarif_suppress.specs.Written.{is_object_of, object_of, suppressions_of};
 
 /// A test holds of every suppression that is written just where it holds of every own one and of
 /// the object of every entry that matches. So the objects that aren't written again change no such
@@ -31,4 +33,21 @@ pub fn nothing_is_written_of_nothing()
 #[tactic(auto, using(crate::proofs::ObjectTest::object_float))]
 pub fn object_holds_no_fraction()
     ensures { (e : Entry) → has_float (object_of e) ≡ false }
+{}
+
+/// The test by which an entry's object is found among suppressions holds of that object and of no
+/// other value.
+#[tactic(auto, using(crate::proofs::ObjectTest::object_means))]
+pub fn just_its_object_is_an_entrys()
+    ensures { (e : Entry) (d : Data) → IsTrue (is_object_of e d) ↔ (d ≡ object_of e) }
+{}
+
+/// What a finished log says of a result: where its own suppressions have the statuses of its
+/// record, the statuses that are read of the written list suppress just where the result is
+/// suppressed.
+#[tactic(auto, using(crate::proofs::ReadBack::read_back))]
+pub fn written_suppressions_say_what_is_suppressed()
+    ensures { (own : List Data) (file : File) (r : Record) → read_each status_of own ≡ Ok r.held
+        → result_map suppresses (read_each status_of (suppressions_of own file r))
+        ≡ Ok (is_suppressed file r) }
 {}

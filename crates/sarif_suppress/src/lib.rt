@@ -5,6 +5,7 @@
 mod conditions;
 mod entry;
 mod fault;
+mod filing;
 mod laws;
 mod marks;
 mod object;
@@ -21,9 +22,10 @@ pub use conditions::Conditions;
 pub use entry::Entry;
 pub use fault::SuppressFault;
 pub use laws::{
-    nothing_is_written_of_nothing, object_holds_no_fraction, written_passes_where_its_parts_do,
+    just_its_object_is_an_entrys, nothing_is_written_of_nothing, object_holds_no_fraction,
+    written_passes_where_its_parts_do, written_suppressions_say_what_is_suppressed,
 };
 pub use marks::Marks;
-pub use read_file::read_rules;
+pub use read_file::{read_rules, read_rules_with};
 pub use suppressions::{Applied, Suppressions};
 pub use version::Version;

@@ -13,6 +13,7 @@ use crate::version::Version;
 use sarif_records::without_mark;
 use serde_json::Value;
 use std::alloc::Global;
+use std::hash::{BuildHasher, BuildHasherDefault, FoldHasher};
 
 /// The most entries of a file.
 const MOST_ENTRIES: usize = 10_000;
@@ -94,11 +95,12 @@ fn read_json(alloc: Global, bytes: &[u8]) -> Result<Value, SuppressFault>
 
 /// The file that a value stands for.
 #[tactic(auto, unfolding(crate::specs::File::file_of_value))]
-fn read_value(
+fn read_value<S: BuildHasher + Copy>(
     alloc: Global,
+    hasher: S,
     value: &Value,
     today: Option<u32>,
-) -> Result<Suppressions, SuppressFault>
+) -> Result<Suppressions<S>, SuppressFault>
     ensures ok { IfOk result (λ file. said.file_of_value today (view value.now) ≡ Ok file) }
     ensures err { IfErr result (λ fault. ¬ (fault ≡ SuppressFault.OutOfMemory)
         → said.file_of_value today (view value.now) ≡ Err fault) }
@@ -107,7 +109,7 @@ fn read_value(
     let version = check_version(value)?;
     check_count(values)?;
     let entries = read_entries(alloc, version, today, values)?;
-    Ok(Suppressions::new(alloc, entries, today)?)
+    Ok(Suppressions::new(alloc, hasher, entries, today)?)
 }
 
 /// Reads a suppression file, an object with `version` and `suppressions`; `docs/formats.md`
@@ -116,7 +118,6 @@ fn read_value(
 /// The checks are made in this order, and the first that fails is answered: `NotJson`, `NotList`,
 /// `WrongVersion`, `TooMany`, and then for each entry in turn `BadEntry`, `EmptyMatch` and
 /// `NeedsToday`. `OutOfMemory` may come instead where memory is wanting.
-#[tactic(auto, unfolding(crate::specs::File::file_of))]
 pub fn read_rules(
     alloc: Global,
     bytes: &[u8],
@@ -126,6 +127,23 @@ pub fn read_rules(
     ensures err { IfErr result (λ fault. ¬ (fault ≡ SuppressFault.OutOfMemory)
         → said.file_of bytes.now today ≡ Err fault) }
 {
+    let hasher = BuildHasherDefault::<FoldHasher>::new();
+    read_rules_with(alloc, hasher, bytes, today)
+}
+
+/// The same, by tables that hash with `hasher`, as a `RandomState`, whose seed no log can know. The
+/// answers are the same whatever it is.
+#[tactic(auto, unfolding(crate::specs::File::file_of))]
+pub fn read_rules_with<S: BuildHasher + Copy>(
+    alloc: Global,
+    hasher: S,
+    bytes: &[u8],
+    today: Option<u32>,
+) -> Result<Suppressions<S>, SuppressFault>
+    ensures ok { IfOk result (λ file. said.file_of bytes.now today ≡ Ok file) }
+    ensures err { IfErr result (λ fault. ¬ (fault ≡ SuppressFault.OutOfMemory)
+        → said.file_of bytes.now today ≡ Err fault) }
+{
     let value = read_json(alloc, without_mark(bytes))?;
-    read_value(alloc, &value, today)
+    read_value(alloc, hasher, &value, today)
 }

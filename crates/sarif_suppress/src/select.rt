@@ -1,90 +1,85 @@
 //! Which entries match a result, among those whose numbers the tables give.
-ghost use Rattle.std.specs.Prelude.{◌≡◌, ◌+◌, ◌<◌, ◌∷◌, ◌&&◌, [], false, filter, length, IfOk, IfNone, IfSome, if◌then◌else◌};
+ghost use Rattle.std.specs.Prelude.{◌≡◌, ◌≤◌, ◌&&◌, [], count_by, false, filter, length, not, IfOk, OnOk, if◌then◌else◌};
+ghost use Rattle.std.specs.BTreeSet.{insert_key, keys};
+ghost use Rattle.std.specs.Ordering.{nat_cmp};
 ghost use Rattle.std.specs.List.{list_all, list_any};
 ghost use Rattle.sarif_suppress.specs.Matching.{is_empty, matches};
-ghost use Rattle.sarif_suppress.specs.Numbers.{merged, passes_at};
+ghost use Rattle.sarif_suppress.specs.Numbers.{passes_at, with_numbers};
 ghost use Rattle.sarif_suppress.specs.Suppressing as said;
 
 use crate::entry::Entry;
 use sarif_records::{Record, Sequence, Status};
 use std::alloc::{AllocError, Global};
+use std::collections::BTreeSet;
 
-/// The least number of two rising lists, and what is left of both.
-fn take_least<'a>(left: &'a [u32], right: &'a [u32]) -> Option<(u32, &'a [u32], &'a [u32])>
-    ensures none { IfNone result (merged left.now right.now ≡ []) }
-    ensures least { IfSome result (λ t. merged left.now right.now ≡ t.0 ∷ merged t.1.now t.2.now) }
-    ensures fewer { IfSome result
-        (λ t. length t.1.now + length t.2.now < length left.now + length right.now) }
+/// Adds the number, if there is such an entry and it matches the result.
+fn add_if_matching(
+    found: &mut BTreeSet<u32>,
+    entries: &[Entry],
+    today: Option<u32>,
+    record: &Record,
+    number: u32,
+) -> Result<(), AllocError>
+    ensures { OnOk result (keys found.new
+        ≡ (if passes_at (λ e. matches today e «record».now) entries.now number
+        then insert_key nat_cmp (keys found.old) number else keys found.old)) }
 {
-    match (left, right) {
-        ([], []) => None,
-        ([n, rest @ ..], []) => Some((*n, rest, right)),
-        ([], [m, rest @ ..]) => Some((*m, left, rest)),
-        ([n, left_rest @ ..], [m, right_rest @ ..]) => {
-            if *n < *m {
-                Some((*n, left_rest, right))
-            } else {
-                Some((*m, left, right_rest))
-            }
+    if let Some(entry) = entries.get(number as usize) {
+        if entry.matches(today, record) {
+            found.insert(number)?;
         }
     }
+    Ok(())
 }
 
-/// The same of three rising lists.
-fn take_least_of_three<'a>(
-    first: &'a [u32],
-    second: &'a [u32],
-    third: &'a [u32],
-) -> Option<(u32, &'a [u32], &'a [u32], &'a [u32])>
-    ensures none { IfNone result (merged first.now (merged second.now third.now) ≡ []) }
-    ensures least { IfSome result (λ t. merged first.now (merged second.now third.now)
-        ≡ t.0 ∷ merged t.1.now (merged t.2.now t.3.now)) }
-    ensures fewer { IfSome result (λ t. length t.1.now + (length t.2.now + length t.3.now)
-        < length first.now + (length second.now + length third.now)) }
+/// Adds those of these numbers whose entries match the result.
+fn add_matching(
+    found: &mut BTreeSet<u32>,
+    entries: &[Entry],
+    today: Option<u32>,
+    record: &Record,
+    numbers: &[u32],
+) -> Result<(), AllocError>
+    ensures { OnOk result (keys found.new ≡ with_numbers (keys found.old)
+        (filter (passes_at (λ e. matches today e «record».now) entries.now) numbers.now)) }
 {
-    match (first, take_least(second, third)) {
-        ([], None) => None,
-        ([n, rest @ ..], None) => Some((*n, rest, second, third)),
-        ([], Some((m, second_rest, third_rest))) => Some((m, first, second_rest, third_rest)),
-        ([n, first_rest @ ..], Some((m, second_rest, third_rest))) => {
-            if *n < m {
-                Some((*n, first_rest, second, third))
-            } else {
-                Some((m, first, second_rest, third_rest))
-            }
-        }
+    for number in numbers {
+        add_if_matching(found, entries, today, record, *number)?;
     }
+    Ok(())
 }
 
-/// The numbers of three rising lists whose entries match the result.
+/// Those of these numbers whose entries match the result, rising, each once.
 pub(crate) fn select(
     alloc: Global,
     entries: &[Entry],
     today: Option<u32>,
     record: &Record,
-    by_guid: &[u32],
-    by_rule: &[u32],
-    others: &[u32],
+    numbers: &[u32],
 ) -> Result<Sequence<u32>, AllocError>
-    ensures { IfOk result (λ found. found
-        ≡ filter (passes_at (λ e. matches today e «record».now) entries.now)
-        (merged by_guid.now (merged by_rule.now others.now))) }
+    ensures { IfOk result (λ found. found ≡ with_numbers []
+        (filter (passes_at (λ e. matches today e «record».now) entries.now) numbers.now)) }
+{
+    let mut found = BTreeSet::new(alloc);
+    add_matching(&mut found, entries, today, record, numbers)?;
+    let rising = rising(alloc, &found)?;
+    sequence_of(alloc, &rising)
+}
+
+/// The numbers in order.
+fn rising(alloc: Global, numbers: &BTreeSet<u32>) -> Result<Vec<u32>, AllocError>
+    ensures { IfOk result (λ rising. rising.items ≡ keys numbers.now) }
+{
+    numbers.iter().copied().collect(alloc)
+}
+
+/// The same numbers as a sequence.
+fn sequence_of(alloc: Global, numbers: &[u32]) -> Result<Sequence<u32>, AllocError>
+    ensures { IfOk result (λ found. found ≡ numbers.now) }
 {
     let mut found = Sequence::new(alloc);
-    let mut first = by_guid;
-    let mut second = by_rule;
-    let mut third = others;
-    while let Some((number, first_rest, second_rest, third_rest)) = take_least_of_three(
-        first, second, third,
-    ) {
-        if let Some(entry) = entries.get(number as usize) {
-            if entry.matches(today, record) {
-                found.push(number)?;
-            }
-        }
-        first = first_rest;
-        second = second_rest;
-        third = third_rest;
+    for number in numbers {
+        found.push(*number)?;
     }
     Ok(found)
 }
@@ -139,8 +134,20 @@ pub(crate) fn do_suppress(held: &[Status], entries: &[Entry], numbers: &[u32]) -
 }
 
 /// Whether the entry matches one of the results on that day.
-pub(crate) fn is_used(entry: &Entry, today: Option<u32>, records: &[Record]) -> bool
+fn is_used(entry: &Entry, today: Option<u32>, records: &[Record]) -> bool
     ensures { result ≡ list_any (λ r. matches today entry.now r) records.now }
 {
     records.iter().any(|record| entry.matches(today, record))
+}
+
+/// How many entries match none of the results on that day.
+pub(crate) fn count_unused(entries: &[Entry], today: Option<u32>, records: &[Record]) -> usize
+    ensures few { result ≤ length entries.now }
+    ensures count { result ≡ count_by
+        (λ e. not (list_any (λ r. matches today e r) records.now)) entries.now }
+{
+    entries
+        .iter()
+        .filter(|entry| !is_used(entry, today, records))
+        .count()
 }

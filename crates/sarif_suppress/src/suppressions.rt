@@ -9,28 +9,25 @@ ghost use Rattle.sarif_suppress.specs.Suppressing.{matching_numbers, is_suppress
 use crate::entry::Entry;
 use crate::marks::Marks;
 use crate::object::{object_of, with_objects};
-use crate::select::{do_suppress, is_used, select};
-use crate::table::{
-    numbers_by_guid, numbers_by_rule, numbers_for, numbers_of_others, numbers_with_guid,
-};
-use indexmap::IndexMap;
-use sarif_records::{Record, Sequence, Text};
+use crate::select::{count_unused, do_suppress, select};
+use crate::table::Table;
+use sarif_records::{Record, Sequence};
 use serde_json::Value;
 use std::alloc::{AllocError, Global};
+use std::hash::{BuildHasher, BuildHasherDefault, FoldHasher};
 use std::marker::Model;
 
 /// The entries of a suppression file, on the day for which it was read. Contracts see the file: its
 /// entries in order, and the day.
 #[derive(Drop)]
-pub struct Suppressions {
+pub struct Suppressions<S: BuildHasher + Copy = BuildHasherDefault<FoldHasher>> {
     entries: Vec<Entry>,
     today: Option<u32>,
-    by_guid: IndexMap<u128, Vec<u32>>,
-    by_rule: IndexMap<Text, Vec<u32>>,
-    others: Vec<u32>,
+    table: Table<S>,
 }
 
-impl Model for Suppressions {
+impl<S: BuildHasher + Copy> Model for Suppressions<S> {
+    ghost use Rattle.std.specs.Prelude.{◌≤◌, length};
     ghost use Rattle.sarif_suppress.specs.File.{File};
     ghost use Rattle.sarif_suppress.specs.Table.{IsTable};
 
@@ -38,7 +35,7 @@ impl Model for Suppressions {
 
     ghost view = { λ s. record { entries = s.entries.items; today = s.today } };
 
-    ghost invariant = { λ s. IsTable s.entries.items s.by_guid s.by_rule s.others.items };
+    ghost invariant = { λ s. (length s.entries.items ≤ 10000) × IsTable s.entries.items s.table };
 }
 
 /// What a suppression file makes of a result.
@@ -51,24 +48,30 @@ pub struct Applied {
 }
 
 impl Suppressions {
+    /// No entries: what stands where there is no suppression file.
+    pub fn none(alloc: Global, today: Option<u32>) -> Result<Suppressions, AllocError>
+        ensures { IfOk result (λ s. s ≡ record { entries = []; today = today }) }
+    {
+        Suppressions::new(alloc, BuildHasherDefault::new(), Vec::new(alloc), today)
+    }
+}
+
+impl<S: BuildHasher + Copy> Suppressions<S> {
     /// At most 10,000 entries, with their tables.
     pub(crate) fn new(
         alloc: Global,
+        hasher: S,
         entries: Vec<Entry>,
         today: Option<u32>,
-    ) -> Result<Suppressions, AllocError>
+    ) -> Result<Suppressions<S>, AllocError>
         requires { length entries.items ≤ 10000 }
         ensures { IfOk result (λ s. s ≡ record { entries = entries.items; today = today }) }
     {
-        let by_guid = numbers_by_guid(alloc, &entries)?;
-        let by_rule = numbers_by_rule(alloc, &entries)?;
-        let others = numbers_of_others(alloc, &entries)?;
+        let table = Table::new(alloc, hasher, &entries)?;
         Ok(Suppressions {
             entries,
             today,
-            by_guid,
-            by_rule,
-            others,
+            table,
         })
     }
 
@@ -87,34 +90,16 @@ impl Suppressions {
         self.entries.is_empty()
     }
 
-    /// No entries: what stands where there is no suppression file.
-    pub fn none(alloc: Global, today: Option<u32>) -> Result<Suppressions, AllocError>
-        ensures { IfOk result (λ s. s ≡ record { entries = []; today = today }) }
-    {
-        Suppressions::new(alloc, Vec::new(alloc), today)
-    }
-
     /// Which entries match the result, and whether it is then suppressed (SARIF 2.1.0, result
     /// object, "suppressions property").
-    #[tactic(auto, using(crate::proofs::Numbered::selected, crate::proofs::Numbered::verdict))]
     pub fn apply(&self, alloc: Global, record: &Record) -> Result<Applied, AllocError>
         ensures entries { IfOk result
             (λ applied. applied.entries ≡ matching_numbers self.now «record».now) }
         ensures verdict { IfOk result
             (λ applied. applied.suppressed ≡ is_suppressed self.now «record».now) }
     {
-        let by_guid = numbers_with_guid(&self.by_guid, record.guid);
-        let by_rule = numbers_for(&self.by_rule, &record.rule_id);
-        let others = self.others.as_slice();
-        let entries = select(
-            alloc,
-            &self.entries,
-            self.today,
-            record,
-            by_guid,
-            by_rule,
-            others,
-        )?;
+        let numbers = self.table.candidates(alloc, record)?;
+        let entries = select(alloc, &self.entries, self.today, record, &numbers)?;
         let suppressed = do_suppress(record.held.as_slice(), &self.entries, entries.as_slice());
         Ok(Applied {
             entries,
@@ -126,10 +111,7 @@ impl Suppressions {
     pub fn unused(&self, records: &[Record]) -> u32
         ensures { result ≡ unused_of self.now records.now }
     {
-        self.entries
-            .iter()
-            .filter(|entry| !is_used(entry, self.today, records))
-            .count() as u32
+        count_unused(&self.entries, self.today, records) as u32
     }
 
     /// The object that is written for entry `n`, counted from 0: its `kind`, which is `external`,

@@ -1,21 +1,86 @@
 //! The numbers of the entries by what they ask for, so that a result meets only those that may
-//! match it. An entry is filed under its guid, where it names one, and else under its rule id,
-//! where it names one; the others are a list of their own.
+//! match it. Each entry is filed under the most telling of its conditions: its guid, else its first
+//! fingerprint, else its first partial fingerprint, else its uri, else its rule id, else its tool.
 ghost use Rattle.std.specs.Prelude.{◌≡◌, ◌≤◌, ◌++◌, ◌∷◌, [], List, ℕ, length, nat_eq, bytes_eq, IfOk, OnOk, if◌then◌else◌};
+ghost use Rattle.std.specs.List.{flat_map};
 ghost use Rattle.std.specs.Option.{option_map_or};
-ghost use Rattle.sarif_suppress.specs.Numbers.{numbers_from, asks_for_guid, asks_for_rule, asks_for_neither};
-ghost use Rattle.sarif_suppress.specs.Table.{numbers_at};
+ghost use Rattle.sarif_suppress.specs.Filing as said;
+ghost use Rattle.sarif_suppress.specs.Matching.{is_pair};
+ghost use Rattle.sarif_suppress.specs.Numbers.{numbers_from};
+ghost use Rattle.sarif_suppress.specs.Table.{IsTable, numbers_at};
 
 use crate::entry::Entry;
+use crate::filing::{PairCondition, TextCondition};
 use indexmap::IndexMap;
-use sarif_records::Text;
+use sarif_records::{Record, Text};
 use std::alloc::{AllocError, Global};
-use std::hash::Hash;
+use std::hash::{BuildHasher, Hash};
+
+/// The numbers of the entries, rising, by what each is filed under.
+#[derive(Drop)]
+pub(crate) struct Table<S: BuildHasher + Copy> {
+    by_guid: IndexMap<u128, Vec<u32>, S>,
+    by_full: IndexMap<(Text, Text), Vec<u32>, S>,
+    by_partial: IndexMap<(Text, Text), Vec<u32>, S>,
+    by_uri: IndexMap<Text, Vec<u32>, S>,
+    by_rule: IndexMap<Text, Vec<u32>, S>,
+    by_tool: IndexMap<Text, Vec<u32>, S>,
+    others: Vec<u32>,
+}
+
+impl<S: BuildHasher + Copy> Table<S> {
+    /// The tables of at most 10,000 entries.
+    pub(crate) fn new(alloc: Global, hasher: S, entries: &[Entry]) -> Result<Table<S>, AllocError>
+        requires { length entries.now ≤ 10000 }
+        ensures { IfOk result (IsTable entries.now) }
+    {
+        Ok(Table {
+            by_guid: numbers_by_guid(alloc, hasher, entries)?,
+            by_full: numbers_by_pair(alloc, hasher, entries, PairCondition::Full)?,
+            by_partial: numbers_by_pair(alloc, hasher, entries, PairCondition::Partial)?,
+            by_uri: numbers_by_text(alloc, hasher, entries, TextCondition::Uri)?,
+            by_rule: numbers_by_text(alloc, hasher, entries, TextCondition::RuleId)?,
+            by_tool: numbers_by_text(alloc, hasher, entries, TextCondition::Tool)?,
+            others: numbers_of_others(alloc, entries)?,
+        })
+    }
+
+    /// The numbers of the entries that may match the result, in no order.
+    pub(crate) fn candidates(&self, alloc: Global, record: &Record) -> Result<Vec<u32>, AllocError>
+        ensures { IfOk result (λ found. (entries : List Entry) → IsTable entries self.now
+            → found.items ≡ said.candidates entries «record».now) }
+    {
+        let mut found = Vec::new(alloc);
+        found.extend_from_slice(numbers_with_guid(&self.by_guid, record.guid))?;
+        add_with_pairs(&mut found, &self.by_full, record.full.as_slice())?;
+        add_with_pairs(&mut found, &self.by_partial, record.partial.as_slice())?;
+        found.extend_from_slice(numbers_with_text(&self.by_uri, &record.place.uri))?;
+        found.extend_from_slice(numbers_for(&self.by_rule, &record.rule_id))?;
+        found.extend_from_slice(numbers_for(&self.by_tool, &record.tool))?;
+        found.extend_from_slice(&self.others)?;
+        Ok(found)
+    }
+}
+
+/// Adds the numbers of the entries that are filed under one of these fingerprints.
+fn add_with_pairs<S: BuildHasher + Copy>(
+    found: &mut Vec<u32>,
+    table: &IndexMap<(Text, Text), Vec<u32>, S>,
+    pairs: &[(Text, Text)],
+) -> Result<(), AllocError>
+    ensures { OnOk result (found.new.items
+        ≡ found.old.items ++ flat_map (numbers_at is_pair table.now) pairs.now) }
+{
+    for pair in pairs {
+        found.extend_from_slice(numbers_for(table, pair))?;
+    }
+    Ok(())
+}
 
 /// Puts the number behind those that the table has for the key.
-fn add_number<K: Eq + Hash + Drop>(
+fn add_number<K: Eq + Hash + Drop, S: BuildHasher + Copy>(
     alloc: Global,
-    table: &mut IndexMap<K, Vec<u32>>,
+    table: &mut IndexMap<K, Vec<u32>, S>,
     key: K,
     number: u32,
 ) -> Result<(), AllocError>
@@ -33,15 +98,16 @@ fn add_number<K: Eq + Hash + Drop>(
 }
 
 /// For each guid the numbers of the entries that name it, rising.
-pub(crate) fn numbers_by_guid(
+fn numbers_by_guid<S: BuildHasher + Copy>(
     alloc: Global,
+    hasher: S,
     entries: &[Entry],
-) -> Result<IndexMap<u128, Vec<u32>>, AllocError>
+) -> Result<IndexMap<u128, Vec<u32>, S>, AllocError>
     requires { length entries.now ≤ 10000 }
     ensures { IfOk result (λ table. (q : ℕ)
-        → numbers_at nat_eq table q ≡ numbers_from (asks_for_guid q) 0 entries.now) }
+        → numbers_at nat_eq table q ≡ numbers_from (said.asks_for_guid q) 0 entries.now) }
 {
-    let mut table: IndexMap<u128, Vec<u32>> = IndexMap::new(alloc);
+    let mut table: IndexMap<u128, Vec<u32>, S> = IndexMap::with_hasher(alloc, hasher);
     for (number, entry) in entries.iter().enumerate() {
         if let Some(guid) = entry.conditions.guid {
             add_number(alloc, &mut table, guid, number as u32)?;
@@ -50,34 +116,56 @@ pub(crate) fn numbers_by_guid(
     Ok(table)
 }
 
-/// For each rule id the numbers of the entries that name it and no guid, rising.
-pub(crate) fn numbers_by_rule(
+/// For each fingerprint the numbers of the entries that are filed under it, rising.
+fn numbers_by_pair<S: BuildHasher + Copy>(
     alloc: Global,
+    hasher: S,
     entries: &[Entry],
-) -> Result<IndexMap<Text, Vec<u32>>, AllocError>
+    which: PairCondition,
+) -> Result<IndexMap<(Text, Text), Vec<u32>, S>, AllocError>
     requires { length entries.now ≤ 10000 }
-    ensures { IfOk result (λ table. (q : List ℕ)
-        → numbers_at bytes_eq table q ≡ numbers_from (asks_for_rule q) 0 entries.now) }
+    ensures { IfOk result (λ table. (q : List ℕ × List ℕ)
+        → numbers_at is_pair table q ≡ numbers_from (said.asks_for_pair which q) 0 entries.now) }
 {
-    let mut table: IndexMap<Text, Vec<u32>> = IndexMap::new(alloc);
+    let mut table: IndexMap<(Text, Text), Vec<u32>, S> = IndexMap::with_hasher(alloc, hasher);
     for (number, entry) in entries.iter().enumerate() {
-        if entry.conditions.guid.is_none() {
-            if let Some(rule) = &entry.conditions.rule_id {
-                add_number(alloc, &mut table, rule.clone()?, number as u32)?;
-            }
+        if let Some((name, value)) = entry.conditions.pair_key(which) {
+            let key = (name.clone()?, value.clone()?);
+            add_number(alloc, &mut table, key, number as u32)?;
         }
     }
     Ok(table)
 }
 
-/// The numbers of the entries that name neither a guid nor a rule id, rising.
-pub(crate) fn numbers_of_others(alloc: Global, entries: &[Entry]) -> Result<Vec<u32>, AllocError>
+/// For each text the numbers of the entries that are filed under it, rising.
+fn numbers_by_text<S: BuildHasher + Copy>(
+    alloc: Global,
+    hasher: S,
+    entries: &[Entry],
+    which: TextCondition,
+) -> Result<IndexMap<Text, Vec<u32>, S>, AllocError>
     requires { length entries.now ≤ 10000 }
-    ensures { IfOk result (λ numbers. numbers.items ≡ numbers_from asks_for_neither 0 entries.now) }
+    ensures { IfOk result (λ table. (q : List ℕ)
+        → numbers_at bytes_eq table q ≡ numbers_from (said.asks_for_text which q) 0 entries.now) }
+{
+    let mut table: IndexMap<Text, Vec<u32>, S> = IndexMap::with_hasher(alloc, hasher);
+    for (number, entry) in entries.iter().enumerate() {
+        if let Some(text) = entry.conditions.text_key(which) {
+            add_number(alloc, &mut table, text.clone()?, number as u32)?;
+        }
+    }
+    Ok(table)
+}
+
+/// The numbers of the entries that are filed nowhere, rising.
+fn numbers_of_others(alloc: Global, entries: &[Entry]) -> Result<Vec<u32>, AllocError>
+    requires { length entries.now ≤ 10000 }
+    ensures { IfOk result (λ numbers. numbers.items
+        ≡ numbers_from said.asks_for_none 0 entries.now) }
 {
     let mut numbers = Vec::new(alloc);
     for (number, entry) in entries.iter().enumerate() {
-        if entry.conditions.guid.is_none() && entry.conditions.rule_id.is_none() {
+        if entry.conditions.has_no_key() {
             numbers.push(number as u32)?;
         }
     }
@@ -85,7 +173,10 @@ pub(crate) fn numbers_of_others(alloc: Global, entries: &[Entry]) -> Result<Vec<
 }
 
 /// The numbers of the entries that are filed under `key`.
-pub(crate) fn numbers_for<'a, K: Eq + Hash>(table: &'a IndexMap<K, Vec<u32>>, key: &K) -> &'a [u32]
+fn numbers_for<'a, K: Eq + Hash, S: BuildHasher + Copy>(
+    table: &'a IndexMap<K, Vec<u32>, S>,
+    key: &K,
+) -> &'a [u32]
     ensures { result.now ≡ numbers_at K.eq table.now key.now }
 {
     match table.get(key) {
@@ -95,11 +186,27 @@ pub(crate) fn numbers_for<'a, K: Eq + Hash>(table: &'a IndexMap<K, Vec<u32>>, ke
 }
 
 /// The numbers of the entries that are filed under `guid`; without one there are none.
-pub(crate) fn numbers_with_guid(table: &IndexMap<u128, Vec<u32>>, guid: Option<u128>) -> &[u32]
+fn numbers_with_guid<S: BuildHasher + Copy>(
+    table: &IndexMap<u128, Vec<u32>, S>,
+    guid: Option<u128>,
+) -> &[u32]
     ensures { result.now ≡ option_map_or (numbers_at nat_eq table.now) guid [] }
 {
     match guid {
         Some(guid) => numbers_for(table, &guid),
+        None => &[],
+    }
+}
+
+/// The same of a text that may be absent.
+fn numbers_with_text<'a, S: BuildHasher + Copy>(
+    table: &'a IndexMap<Text, Vec<u32>, S>,
+    text: &Option<Text>,
+) -> &'a [u32]
+    ensures { result.now ≡ option_map_or (numbers_at bytes_eq table.now) text.now [] }
+{
+    match text {
+        Some(text) => numbers_for(table, text),
         None => &[],
     }
 }

@@ -99,6 +99,7 @@ fn wrong_words_are_usage(rt: HostRuntime) -> Result<(), Fail> {
         "a --out o --today 20250131 --today 20250131",
         "a --out o --verbose",
         "a --out",
+        "a --out o --suppress o",
     ] {
         match read(&rt, line)? {
             Err(fault) => {

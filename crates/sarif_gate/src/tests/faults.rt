@@ -1,5 +1,5 @@
 //! The places and causes of faults, their texts and their statuses.
-use sarif_merge::{At, Cause, MergeFault, Source, SourceFault};
+use sarif_merge::{At, Cause, MergeFault, ReadersFault, Source};
 use sarif_records::Fault;
 use std::alloc::AllocError;
 use std::test::Fail;
@@ -72,7 +72,29 @@ fn want_of_memory_is_nowhere(rt: HostRuntime) {
         cause: Cause::OutOfMemory,
     };
     assert_eq!(rt; MergeFault::from(AllocError), wanting);
-    assert_eq!(rt; Cause::from(SourceFault::OutOfMemory), wanting.cause);
+    assert_eq!(rt; MergeFault::from(ReadersFault::OutOfMemory), wanting);
     assert_eq!(rt; Cause::from(Fault::OutOfMemory), wanting.cause);
-    assert_eq!(rt; Cause::from(SourceFault::ReadFailed), Cause::ReadFailed);
+}
+
+#[test]
+fn sources_that_are_not_read(rt: HostRuntime) -> Result<(), Fail> {
+    for (fault, text, status) in [
+        (
+            ReadersFault::ReadFailed(Source::Suppress),
+            "suppressions: ReadFailed",
+            3,
+        ),
+        (
+            ReadersFault::TooLong(Source::Baseline(7)),
+            "baseline 7: TooLong",
+            2,
+        ),
+        (ReadersFault::OutOfMemory, "OutOfMemory", 2),
+    ] {
+        assert_eq!(rt; format!(in rt.alloc(); "{fault}")?.as_str(), text);
+        let refusal = MergeFault::from(fault);
+        assert_eq!(rt; format!(in rt.alloc(); "{refusal}")?.as_str(), text);
+        assert_eq!(rt; refusal.cause.status(), status);
+    }
+    Ok(())
 }

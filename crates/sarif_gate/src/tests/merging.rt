@@ -1,7 +1,7 @@
 //! Merging texts. A list of runs is written `lint: A M; b: `, so each run is a tool and its results,
 //! each by its name or by its own text, which has no blank.
 use sarif_merge::{
-    Counted, Gate, MergeFault, Merged, NoGate, Policy, Verdict, merge_bytes, merge_to,
+    Counted, Gate, MergeFault, Merged, NoGate, Policy, Readers, Verdict, merge_bytes, merge_to,
 };
 use std::alloc::{AllocError, Global};
 use std::process::Abort;
@@ -154,7 +154,7 @@ pub fn beside(alloc: Global, runs: &str, baseline_runs: &str) -> Result<Given, F
 pub fn merge_watched<G: Gate + Sync, R: Abort + AllocGlobal + Threads + Wait + Sync>(
     rt: &R,
     given: &Given,
-    gate: &G,
+    observer: &G,
 ) -> Result<Merged, MergeFault> {
     let workers = given.workers;
     assert!(rt; 1 <= workers && workers <= 64);
@@ -171,7 +171,7 @@ pub fn merge_watched<G: Gate + Sync, R: Abort + AllocGlobal + Threads + Wait + S
         &given.policy,
         given.today,
         workers,
-        gate,
+        observer,
     )
 }
 
@@ -180,21 +180,24 @@ pub fn write_watched<G: Gate + Sync, R: Abort + AllocGlobal + Threads + Wait + S
     rt: &R,
     log: &[u8],
     workers: u32,
-    gate: &G,
+    observer: &G,
 ) -> Result<Vec<u8>, MergeFault> {
     assert!(rt; 1 <= workers && workers <= 64);
     let mut taken = Vec::new(rt.alloc());
+    let mut readers = Readers {
+        logs: vec![in rt.alloc(); Counted::new(log)]?,
+        baselines: Vec::new(rt.alloc()),
+        suppressions: None,
+    };
     merge_to(
         rt,
         rt.alloc(),
-        &mut [Counted::new(log)],
-        &mut [],
-        &mut None,
+        &mut readers,
         &mut Counted::new(&mut taken),
         &Policy::default(),
         None,
         workers,
-        gate,
+        observer,
     )?;
     Ok(taken)
 }

@@ -3,7 +3,7 @@ use crate::tests::MERGED;
 use crate::tests::merging::{
     Given, NOTHING, Wanted, expect_log, expect_part, expect_runs, log_of, log_with, merge, one_log,
 };
-use sarif_merge::{Policy, Verdict};
+use sarif_merge::{Counted, NoGate, Policy, Readers, Verdict, merge_readers};
 use sarif_records::{Level, State};
 use std::alloc::{AllocError, Global};
 use std::test::Fail;
@@ -18,6 +18,21 @@ fn a_result_without_a_level_is_a_new_warning(rt: HostRuntime) -> Result<(), Fail
     assert_eq!(rt; merged.verdict, Verdict::Pass);
     assert_eq!(rt; merged.without, 0);
     assert_eq!(rt; merged.unused, 0);
+    Ok(())
+}
+
+#[test]
+fn a_log_that_a_reader_gives(rt: HostRuntime) -> Result<(), Fail> {
+    let log = log_of(rt.alloc(), "lint: M")?;
+    let mut readers = Readers {
+        logs: vec![in rt.alloc(); Counted::new(log.as_str().as_bytes())]?,
+        baselines: Vec::new(rt.alloc()),
+        suppressions: None,
+    };
+    let policy = Policy::default();
+    let merged = merge_readers(&rt, rt.alloc(), &mut readers, &policy, None, 1, &NoGate)?;
+    assert_eq!(rt; merged.log.as_str(), MERGED);
+    assert_eq!(rt; merged.verdict, Verdict::Pass);
     Ok(())
 }
 

@@ -3,12 +3,13 @@
 use crate::request::Request;
 use crate::run::run_request;
 use crate::tests::MERGED;
-use sarif_merge::Counted;
+use sarif_merge::{Counted, Readers};
 use sarif_records::Level;
-use std::alloc::Global;
+use std::alloc::{AllocError, Global};
 use std::cell::RefCell;
 use std::io::{self, Read, Write};
 use std::sync::Wait;
+use std::test::Fail;
 use std::thread::Threads;
 
 /// A log of one run with one result, which has a message alone.
@@ -104,7 +105,7 @@ impl<'a> Narrow<'a> {
 impl Write for Narrow<'_> {
     fn write(&mut self, buf: &[u8]) -> io::Result<usize> {
         let count = buf.len().min(self.piece).min(self.room);
-        if count == 0 {
+        if count == 0 && !buf.is_empty() {
             return Err(io::ErrorKind::Other.into());
         }
         match self.taken.try_borrow_mut() {
@@ -136,7 +137,12 @@ fn run<T: Threads + Wait + Sync>(
     request: &Request,
     log: Given,
     rooms: Rooms,
-) -> Ended {
+) -> Result<Ended, AllocError> {
+    let mut readers = Readers {
+        logs: vec![in alloc; Counted::new(log)]?,
+        baselines: Vec::new(alloc),
+        suppressions: None,
+    };
     let out = RefCell::new(Vec::new(alloc));
     let say = RefCell::new(Vec::new(alloc));
     let complain = RefCell::new(Vec::new(alloc));
@@ -144,19 +150,17 @@ fn run<T: Threads + Wait + Sync>(
         threads,
         alloc,
         request,
-        &mut [Counted::new(log)],
-        &mut [],
-        &mut None,
+        &mut readers,
         &mut Counted::new(Narrow::new(&out, rooms.piece, rooms.out)),
         &mut Counted::new(Narrow::new(&say, rooms.piece, rooms.say)),
         &mut Counted::new(Narrow::new(&complain, rooms.piece, rooms.complain)),
     );
-    Ended {
+    Ok(Ended {
         status,
         out: out.into_inner(),
         say: say.into_inner(),
         complain: complain.into_inner(),
-    }
+    })
 }
 
 /// Runs over one log with a baseline and a suppression file.
@@ -166,62 +170,68 @@ fn run_all<T: Threads + Wait + Sync>(
     log: Given,
     baseline: Given,
     suppressions: Given,
-) -> Ended {
+) -> Result<Ended, AllocError> {
+    let mut readers = Readers {
+        logs: vec![in alloc; Counted::new(log)]?,
+        baselines: vec![in alloc; Counted::new(baseline)]?,
+        suppressions: Some(Counted::new(suppressions)),
+    };
     let out = RefCell::new(Vec::new(alloc));
     let say = RefCell::new(Vec::new(alloc));
     let complain = RefCell::new(Vec::new(alloc));
     let status = run_request(
         threads,
         alloc,
-        &Request::of_standard_streams(alloc),
-        &mut [Counted::new(log)],
-        &mut [Counted::new(baseline)],
-        &mut Some(Counted::new(suppressions)),
+        &Request::of_standard_streams(alloc)?,
+        &mut readers,
         &mut Counted::new(Narrow::new(&out, AMPLE.piece, AMPLE.out)),
         &mut Counted::new(Narrow::new(&say, AMPLE.piece, AMPLE.say)),
         &mut Counted::new(Narrow::new(&complain, AMPLE.piece, AMPLE.complain)),
     );
-    Ended {
+    Ok(Ended {
         status,
         out: out.into_inner(),
         say: say.into_inner(),
         complain: complain.into_inner(),
-    }
+    })
 }
 
 #[test]
-fn one_new_warning_passes_a_gate_on_errors(rt: HostRuntime) {
-    let request = Request::of_standard_streams(rt.alloc());
-    let ended = run(&rt, rt.alloc(), &request, Given::whole(LOG), AMPLE);
+fn one_new_warning_passes_a_gate_on_errors(rt: HostRuntime) -> Result<(), Fail> {
+    let request = Request::of_standard_streams(rt.alloc())?;
+    let ended = run(&rt, rt.alloc(), &request, Given::whole(LOG), AMPLE)?;
     assert_eq!(rt; ended.status, 0);
     assert_eq!(rt; ended.out.as_slice(), MERGED.as_bytes());
     assert_eq!(rt; ended.say.as_slice(), SUMMARY.as_bytes());
     assert!(rt; ended.complain.is_empty());
+    Ok(())
 }
 
 #[test]
-fn a_gate_on_warnings_fails(rt: HostRuntime) {
-    let mut request = Request::of_standard_streams(rt.alloc());
+fn a_gate_on_warnings_fails(rt: HostRuntime) -> Result<(), Fail> {
+    let mut request = Request::of_standard_streams(rt.alloc())?;
     request.policy.fail_on = Level::Warning;
-    let ended = run(&rt, rt.alloc(), &request, Given::whole(LOG), AMPLE);
+    let ended = run(&rt, rt.alloc(), &request, Given::whole(LOG), AMPLE)?;
     assert_eq!(rt; ended.status, 1);
     assert!(rt; ended.say.ends_with(b"\ngate: fail, hits 1, max 0\n"));
+    Ok(())
 }
 
 #[test]
-fn a_gate_that_lets_one_warning_pass(rt: HostRuntime) {
-    let mut request = Request::of_standard_streams(rt.alloc());
+fn a_gate_that_lets_one_warning_pass(rt: HostRuntime) -> Result<(), Fail> {
+    let mut request = Request::of_standard_streams(rt.alloc())?;
     request.policy.fail_on = Level::Warning;
     request.policy.max = 1;
-    let ended = run(&rt, rt.alloc(), &request, Given::whole(LOG), AMPLE);
+    let ended = run(&rt, rt.alloc(), &request, Given::whole(LOG), AMPLE)?;
     assert_eq!(rt; ended.status, 0);
     assert!(rt; ended.say.ends_with(b"\ngate: pass, hits 1, max 1\n"));
+    Ok(())
 }
 
 #[test]
-fn a_second_read_that_fails(rt: HostRuntime) {
-    let request = Request::of_standard_streams(rt.alloc());
-    let ended = run(&rt, rt.alloc(), &request, Given::failing(1), AMPLE);
+fn a_second_read_that_fails(rt: HostRuntime) -> Result<(), Fail> {
+    let request = Request::of_standard_streams(rt.alloc())?;
+    let ended = run(&rt, rt.alloc(), &request, Given::failing(1), AMPLE)?;
     assert_eq!(rt; ended.status, 3);
     assert!(rt; ended.out.is_empty());
     assert!(rt; ended.say.is_empty());
@@ -229,14 +239,15 @@ fn a_second_read_that_fails(rt: HostRuntime) {
         ended.complain.as_slice(),
         b"sarif_gate: log 0: ReadFailed\n".as_slice()
     );
+    Ok(())
 }
 
 /// The log ends with the eleventh read, and one more is needed to see it.
 #[test]
-fn each_read_that_is_reached_may_fail(rt: HostRuntime) {
-    let request = Request::of_standard_streams(rt.alloc());
+fn each_read_that_is_reached_may_fail(rt: HostRuntime) -> Result<(), Fail> {
+    let request = Request::of_standard_streams(rt.alloc())?;
     for good in 0..12 {
-        let ended = run(&rt, rt.alloc(), &request, Given::failing(good), AMPLE);
+        let ended = run(&rt, rt.alloc(), &request, Given::failing(good), AMPLE)?;
         assert_eq!(rt; ended.status, 3);
         assert!(rt; ended.out.is_empty());
         assert_eq!(rt;
@@ -244,15 +255,16 @@ fn each_read_that_is_reached_may_fail(rt: HostRuntime) {
             b"sarif_gate: log 0: ReadFailed\n".as_slice()
         );
     }
-    let ended = run(&rt, rt.alloc(), &request, Given::failing(12), AMPLE);
+    let ended = run(&rt, rt.alloc(), &request, Given::failing(12), AMPLE)?;
     assert_eq!(rt; ended.status, 0);
+    Ok(())
 }
 
 #[test]
-fn a_write_that_fails_leaves_the_beginning(rt: HostRuntime) {
-    let request = Request::of_standard_streams(rt.alloc());
+fn a_write_that_fails_leaves_the_beginning(rt: HostRuntime) -> Result<(), Fail> {
+    let request = Request::of_standard_streams(rt.alloc())?;
     let rooms = Rooms { out: 10, ..AMPLE };
-    let ended = run(&rt, rt.alloc(), &request, Given::whole(LOG), rooms);
+    let ended = run(&rt, rt.alloc(), &request, Given::whole(LOG), rooms)?;
     assert_eq!(rt; ended.status, 3);
     assert_eq!(rt; ended.out.as_slice(), b"{\"properti".as_slice());
     assert!(rt; ended.say.is_empty());
@@ -260,71 +272,77 @@ fn a_write_that_fails_leaves_the_beginning(rt: HostRuntime) {
         ended.complain.as_slice(),
         b"sarif_gate: output: WriteFailed\n".as_slice()
     );
+    Ok(())
 }
 
 #[test]
-fn a_write_may_fail_at_each_byte(rt: HostRuntime) {
-    let request = Request::of_standard_streams(rt.alloc());
+fn a_write_may_fail_at_each_byte(rt: HostRuntime) -> Result<(), Fail> {
+    let request = Request::of_standard_streams(rt.alloc())?;
     for room in 0..MERGED.len() {
         let rooms = Rooms { out: room, ..AMPLE };
-        let ended = run(&rt, rt.alloc(), &request, Given::whole(LOG), rooms);
+        let ended = run(&rt, rt.alloc(), &request, Given::whole(LOG), rooms)?;
         assert_eq!(rt; ended.status, 3);
         assert_eq!(rt; ended.out.len(), room);
         assert!(rt; MERGED.as_bytes().starts_with(ended.out.as_slice()));
         assert!(rt; ended.say.is_empty());
     }
+    Ok(())
 }
 
 #[test]
-fn a_writer_that_takes_a_byte_at_a_time(rt: HostRuntime) {
-    let request = Request::of_standard_streams(rt.alloc());
+fn a_writer_that_takes_a_byte_at_a_time(rt: HostRuntime) -> Result<(), Fail> {
+    let request = Request::of_standard_streams(rt.alloc())?;
     let rooms = Rooms { piece: 1, ..AMPLE };
-    let ended = run(&rt, rt.alloc(), &request, Given::whole(LOG), rooms);
+    let ended = run(&rt, rt.alloc(), &request, Given::whole(LOG), rooms)?;
     assert_eq!(rt; ended.status, 0);
     assert_eq!(rt; ended.out.as_slice(), MERGED.as_bytes());
     assert_eq!(rt; ended.say.as_slice(), SUMMARY.as_bytes());
+    Ok(())
 }
 
 #[test]
-fn a_lost_summary_is_told_by_the_status(rt: HostRuntime) {
-    let request = Request::of_standard_streams(rt.alloc());
+fn a_lost_summary_is_told_by_the_status(rt: HostRuntime) -> Result<(), Fail> {
+    let request = Request::of_standard_streams(rt.alloc())?;
     let rooms = Rooms { say: 0, ..AMPLE };
-    let ended = run(&rt, rt.alloc(), &request, Given::whole(LOG), rooms);
+    let ended = run(&rt, rt.alloc(), &request, Given::whole(LOG), rooms)?;
     assert_eq!(rt; ended.status, 3);
     assert_eq!(rt; ended.out.as_slice(), MERGED.as_bytes());
+    Ok(())
 }
 
 #[test]
-fn a_lost_complaint_changes_no_status(rt: HostRuntime) {
-    let request = Request::of_standard_streams(rt.alloc());
+fn a_lost_complaint_changes_no_status(rt: HostRuntime) -> Result<(), Fail> {
+    let request = Request::of_standard_streams(rt.alloc())?;
     let rooms = Rooms {
         complain: 0,
         ..AMPLE
     };
-    let ended = run(&rt, rt.alloc(), &request, Given::whole("{}"), rooms);
+    let ended = run(&rt, rt.alloc(), &request, Given::whole("{}"), rooms)?;
     assert_eq!(rt; ended.status, 2);
     assert!(rt; ended.out.is_empty());
+    Ok(())
 }
 
 #[test]
-fn a_baseline_is_read_before_a_result_is_judged(rt: HostRuntime) {
+fn a_baseline_is_read_before_a_result_is_judged(rt: HostRuntime) -> Result<(), Fail> {
     let ended = run_all(
         &rt,
         rt.alloc(),
         Given::whole(BAD),
         Given::whole("{"),
         Given::whole("{}"),
-    );
+    )?;
     assert_eq!(rt; ended.status, 2);
     assert!(rt; ended.out.is_empty());
     assert_eq!(rt;
         ended.complain.as_slice(),
         b"sarif_gate: baseline 0: NotJson\n".as_slice()
     );
+    Ok(())
 }
 
 #[test]
-fn an_entry_without_a_condition_is_refused(rt: HostRuntime) {
+fn an_entry_without_a_condition_is_refused(rt: HostRuntime) -> Result<(), Fail> {
     let file = "{\"version\":1,\"suppressions\":[{}]}";
     let ended = run_all(
         &rt,
@@ -332,11 +350,41 @@ fn an_entry_without_a_condition_is_refused(rt: HostRuntime) {
         Given::whole(BAD),
         Given::whole(LOG),
         Given::whole(file),
-    );
+    )?;
     assert_eq!(rt; ended.status, 2);
     assert!(rt; ended.out.is_empty());
     assert_eq!(rt;
         ended.complain.as_slice(),
         b"sarif_gate: suppressions, entry 0: EmptyMatch\n".as_slice()
     );
+    Ok(())
+}
+
+#[test]
+fn a_failed_read_is_told_at_its_source(rt: HostRuntime) -> Result<(), Fail> {
+    let ended = run_all(
+        &rt,
+        rt.alloc(),
+        Given::whole(LOG),
+        Given::failing(1),
+        Given::whole("{}"),
+    )?;
+    assert_eq!(rt; ended.status, 3);
+    assert_eq!(rt;
+        ended.complain.as_slice(),
+        b"sarif_gate: baseline 0: ReadFailed\n".as_slice()
+    );
+    let ended = run_all(
+        &rt,
+        rt.alloc(),
+        Given::whole(LOG),
+        Given::whole(LOG),
+        Given::failing(1),
+    )?;
+    assert_eq!(rt; ended.status, 3);
+    assert_eq!(rt;
+        ended.complain.as_slice(),
+        b"sarif_gate: suppressions: ReadFailed\n".as_slice()
+    );
+    Ok(())
 }

@@ -68,18 +68,18 @@ impl Meeting {
 fn two_workers_meet(rt: HostRuntime) -> Result<(), Fail> {
     let mut given = one_log(rt.alloc(), "lint: A; lint: A")?;
     given.workers = 2;
-    let gate = Meeting::new();
-    merge_watched(&rt, &given, &gate)?;
-    assert_eq!(rt; gate.misses.load(Ordering::SeqCst), 0);
+    let observer = Meeting::new();
+    merge_watched(&rt, &given, &observer)?;
+    assert_eq!(rt; observer.misses.load(Ordering::SeqCst), 0);
     Ok(())
 }
 
 #[test]
 fn two_workers_meet_over_what_a_reader_gives(rt: HostRuntime) -> Result<(), Fail> {
     let log = log_of(rt.alloc(), "lint: A; lint: A")?;
-    let gate = Meeting::new();
-    let written = write_watched(&rt, log.as_str().as_bytes(), 2, &gate)?;
-    assert_eq!(rt; gate.misses.load(Ordering::SeqCst), 0);
+    let observer = Meeting::new();
+    let written = write_watched(&rt, log.as_str().as_bytes(), 2, &observer)?;
+    assert_eq!(rt; observer.misses.load(Ordering::SeqCst), 0);
     let given = one_log(rt.alloc(), "lint: A; lint: A")?;
     let merged = merge(&rt, &given)?;
     assert_eq!(rt; written.as_slice(), merged.log.as_str().as_bytes());
@@ -134,10 +134,10 @@ fn run_of_many(alloc: Global, times: u32) -> Result<String, AllocError> {
 fn room_bounds_what_waits(rt: HostRuntime) -> Result<(), Fail> {
     let runs = run_of_many(rt.alloc(), 1_000)?;
     let given = one_log(rt.alloc(), runs.as_str())?;
-    let gate = Room::new();
-    merge_watched(&rt, &given, &gate)?;
-    assert_eq!(rt; gate.misses.load(Ordering::SeqCst), 0);
-    assert_eq!(rt; gate.taken.load(Ordering::SeqCst), 1000);
+    let observer = Room::new();
+    merge_watched(&rt, &given, &observer)?;
+    assert_eq!(rt; observer.misses.load(Ordering::SeqCst), 0);
+    assert_eq!(rt; observer.taken.load(Ordering::SeqCst), 1000);
     Ok(())
 }
 
@@ -145,9 +145,9 @@ fn room_bounds_what_waits(rt: HostRuntime) -> Result<(), Fail> {
 fn room_bounds_what_waits_of_what_a_reader_gives(rt: HostRuntime) -> Result<(), Fail> {
     let runs = run_of_many(rt.alloc(), 1_000)?;
     let log = log_of(rt.alloc(), runs.as_str())?;
-    let gate = Room::new();
-    write_watched(&rt, log.as_str().as_bytes(), 1, &gate)?;
-    assert_eq!(rt; gate.misses.load(Ordering::SeqCst), 0);
-    assert_eq!(rt; gate.taken.load(Ordering::SeqCst), 1000);
+    let observer = Room::new();
+    write_watched(&rt, log.as_str().as_bytes(), 1, &observer)?;
+    assert_eq!(rt; observer.misses.load(Ordering::SeqCst), 0);
+    assert_eq!(rt; observer.taken.load(Ordering::SeqCst), 1000);
     Ok(())
 }

@@ -1,5 +1,5 @@
 //! The calling thread, which takes what the workers send.
-ghost use Rattle.std.specs.Prelude.{◌≡◌, [], OnOk};
+ghost use Rattle.std.specs.Prelude.{◌≡◌, [], true};
 ghost use Rattle.std.specs.Bool.{OnTrue};
 ghost use Rattle.sarif_gather.specs.Collecting.{with_piece, all_after};
 ghost use Rattle.sarif_gather.specs.Ends.{IsDeskOf, taken_by};
@@ -10,36 +10,38 @@ use crate::mailbox::{Desk, Mailbox};
 use crate::piece::{Parcel, Piece};
 use crate::work::Gate;
 use std::sync::Wait;
-use std::thread;
 
-// Gives a piece to the collector. False where there was no memory for it.
+// Gives a piece to the collector, unless one was lost before. False where the collector lacks it.
 fn take_in<T: Drop, C: Drop, G: Gate>(
     collector: &mut Collector<T, C>,
-    gate: &G,
+    observer: &G,
     piece: Piece<T, C>,
+    is_whole: bool,
 ) -> bool
-    ensures { OnTrue result (collector.new ≡ with_piece collector.old piece) }
+    ensures { OnTrue result ((is_whole ≡ true)
+        × (collector.new ≡ with_piece collector.old piece)) }
 {
     let item = match &piece {
         Piece::Item { run, seq, .. } => Some((*run, *seq)),
         Piece::Close { .. } => None,
     };
-    let is_taken = collector.accept(piece).is_ok();
+    let is_taken = is_whole && collector.accept(piece).is_ok();
     if let Some((run, seq)) = item {
-        gate.taken(run, seq);
+        observer.taken(run, seq);
     }
     is_taken
 }
 
 /// Takes parcels until each worker that was started has sent its end, and gives the pieces to the
-/// collector. False where a worker or the collector found no memory.
+/// collector. False where a worker or the collector found no memory; the pieces that come after
+/// that are dropped.
 pub fn receive<T: Drop, C: Drop, G: Gate, R: Wait>(
     rt: &R,
     mailbox: &Mailbox<Parcel<T, C>>,
     desk: &mut Desk<Parcel<T, C>>,
     started: usize,
     collector: &mut Collector<T, C>,
-    gate: &G,
+    observer: &G,
 ) -> bool
     requires { IsDeskOf mailbox.now desk.old × (taken_by desk.old ≡ []) }
     ensures desk { IsDeskOf mailbox.now desk.new }
@@ -53,15 +55,14 @@ pub fn receive<T: Drop, C: Drop, G: Gate, R: Wait>(
         if ended == started {
             return is_whole;
         }
-        match mailbox.take(rt, desk) {
-            Some((_, Parcel::Carry(piece))) => {
-                is_whole = take_in(collector, gate, piece) && is_whole;
+        match mailbox.take_next(rt, desk) {
+            (_, Parcel::Carry(piece)) => {
+                is_whole = take_in(collector, observer, piece, is_whole);
             }
-            Some((_, Parcel::End { short })) => {
+            (_, Parcel::End { short }) => {
                 ended += 1;
                 is_whole = is_whole && !short;
             }
-            None => thread::yield_now(),
         }
     }
     unreachable!()

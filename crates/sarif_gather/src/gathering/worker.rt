@@ -1,5 +1,5 @@
 //! A worker, which reads the runs that it draws and sends them piece by piece.
-ghost use Rattle.std.specs.Prelude.{◌≡◌, ◌<◌, true, [], ◌∷◌, ◌++◌, map, OnOk};
+ghost use Rattle.std.specs.Prelude.{◌≡◌, ◌<◌, true, [], ◌++◌, map, OnOk};
 ghost use Rattle.std.specs.Bool.{OnTrue, OnFalse};
 ghost use Rattle.sarif_gather.specs.declared.piece.Parcel.TheVariants.{Carry};
 ghost use Rattle.sarif_gather.specs.Ends.{IsPostOf, number_of, sent_by};
@@ -7,12 +7,11 @@ ghost use Rattle.sarif_gather.specs.Hands.{IsHandOf, drawn_by, is_marked, runs_o
 ghost use Rattle.sarif_gather.specs.Pieces.{pieces_of, pieces_of_runs, parcels_of};
 
 use crate::deal::{Deal, Hand};
-use crate::mailbox::{Full, Mailbox, Post};
+use crate::mailbox::{Mailbox, Post};
 use crate::piece::{Parcel, Piece};
 use crate::work::{Gate, Work};
 use std::alloc::{AllocError, Global};
 use std::sync::Wait;
-use std::thread;
 
 /// What a worker gives back. It is short where the worker found no memory for all of its work.
 #[derive(Drop)]
@@ -22,28 +21,12 @@ pub struct Back<P> {
     pub short: bool,
 }
 
-// Sends a parcel, and tries again where the mailbox is full.
-fn send_on<P: Drop, R: Wait>(rt: &R, mailbox: &Mailbox<P>, post: &mut Post<P>, mut parcel: P)
-    requires { IsPostOf mailbox.now post.old }
-    ensures post { IsPostOf mailbox.now post.new × (number_of post.new ≡ number_of post.old) }
-    ensures sent { sent_by post.new ≡ sent_by post.old ++ parcel ∷ [] }
-{
-    for _ in rt.forever() {
-        match mailbox.send(rt, post, parcel) {
-            Ok(()) => return,
-            Err(Full { parcel: back }) => parcel = back,
-        }
-        thread::yield_now();
-    }
-    unreachable!()
-}
-
 // Sends a run: its items in the order of their numbers, then its close.
 fn send_run<W: Work, G: Gate, R: Wait>(
     rt: &R,
     alloc: Global,
     work: &W,
-    gate: &G,
+    observer: &G,
     mailbox: &Mailbox<Parcel<W::Item, W::Tail>>,
     post: &mut Post<Parcel<W::Item, W::Tail>>,
     run: u32,
@@ -58,22 +41,12 @@ fn send_run<W: Work, G: Gate, R: Wait>(
     let head = work.start(alloc, run)?;
     let count = work.len(&head);
     for seq in 0..count {
-        gate.making(run, seq);
+        observer.making(run, seq);
         let body = work.make(alloc, &head, seq)?;
-        send_on(
-            rt,
-            mailbox,
-            post,
-            Parcel::Carry(Piece::Item { run, seq, body }),
-        );
+        mailbox.send_on(rt, post, Parcel::Carry(Piece::Item { run, seq, body }));
     }
     let tail = work.tail(head);
-    send_on(
-        rt,
-        mailbox,
-        post,
-        Parcel::Carry(Piece::Close { run, count, tail }),
-    );
+    mailbox.send_on(rt, post, Parcel::Carry(Piece::Close { run, count, tail }));
     Ok(())
 }
 
@@ -82,7 +55,7 @@ fn send_runs<W: Work, G: Gate, R: Wait>(
     rt: &R,
     alloc: Global,
     work: &W,
-    gate: &G,
+    observer: &G,
     deal: &Deal,
     mailbox: &Mailbox<Parcel<W::Item, W::Tail>>,
     post: &mut Post<Parcel<W::Item, W::Tail>>,
@@ -101,7 +74,7 @@ fn send_runs<W: Work, G: Gate, R: Wait>(
         let Some(run) = deal.draw(hand) else {
             return true;
         };
-        if send_run(rt, alloc, work, gate, mailbox, post, run).is_err() {
+        if send_run(rt, alloc, work, observer, mailbox, post, run).is_err() {
             return false;
         }
     }
@@ -113,7 +86,7 @@ pub fn serve<W: Work, G: Gate, R: Wait>(
     rt: &R,
     alloc: Global,
     work: &W,
-    gate: &G,
+    observer: &G,
     deal: &Deal,
     mailbox: &Mailbox<Parcel<W::Item, W::Tail>>,
     mut post: Post<Parcel<W::Item, W::Tail>>,
@@ -128,8 +101,10 @@ pub fn serve<W: Work, G: Gate, R: Wait>(
         ≡ parcels_of (W.count work.now) (W.item work.now) (W.end work.now)
         (drawn_by result.hand))) }
 {
-    let all = send_runs(rt, alloc, work, gate, deal, mailbox, &mut post, &mut hand);
-    send_on(rt, mailbox, &mut post, Parcel::End { short: !all });
+    let all = send_runs(
+        rt, alloc, work, observer, deal, mailbox, &mut post, &mut hand,
+    );
+    mailbox.send_on(rt, &mut post, Parcel::End { short: !all });
     Back {
         post,
         hand,

@@ -4,8 +4,10 @@ ghost use Rattle.std.specs.Prelude.{◌≡◌, ◌≤◌, ◌<◌, ◌+◌, ◌*
 use crate::{Gate, GatherFault, Lists, NoGate, Work, gather};
 use std::alloc::{AllocError, Global};
 use std::process::Abort;
+use std::sync::Wait;
 use std::sync::atomic::{AtomicU64, Ordering};
 use std::test::Fail;
+use std::thread::Threads;
 
 // How often a test looks at a flag before it notes a miss.
 const TURNS: u32 = 50_000_000;
@@ -14,6 +16,16 @@ const TURNS: u32 = 50_000_000;
 fn waits_for(flag: &AtomicU64) -> bool {
     for _ in 0..TURNS {
         if flag.load(Ordering::SeqCst) != 0 {
+            return true;
+        }
+    }
+    false
+}
+
+// True once two were counted.
+fn waits_for_two(count: &AtomicU64) -> bool {
+    for _ in 0..TURNS {
+        if count.load(Ordering::SeqCst) > 1 {
             return true;
         }
     }
@@ -132,25 +144,35 @@ fn want_of_memory_is_answered_once_all_workers_ended(rt: HostRuntime) -> Result<
     Ok(())
 }
 
-/// The worker of each run waits for the worker of the other.
+/// The worker of each run waits for the worker of the other. It counts the calls: of each run, and
+/// of all other items.
 #[derive(Drop)]
 struct Meeting {
-    started: [AtomicU64; 2],
+    made: [AtomicU64; 2],
+    taken: [AtomicU64; 2],
+    strays: AtomicU64,
     misses: AtomicU64,
 }
 
 impl Gate for Meeting {
-    fn making(&self, run: u32, _seq: u32) {
-        if run > 1 {
+    fn making(&self, run: u32, seq: u32) {
+        if run > 1 || seq > 0 {
+            self.strays.fetch_add(1, Ordering::SeqCst);
             return;
         }
-        self.started[run as usize].store(1, Ordering::SeqCst);
-        if !waits_for(&self.started[1 - run as usize]) {
+        self.made[run as usize].fetch_add(1, Ordering::SeqCst);
+        if !waits_for(&self.made[1 - run as usize]) {
             self.misses.store(1, Ordering::SeqCst);
         }
     }
 
-    fn taken(&self, _run: u32, _seq: u32) {}
+    fn taken(&self, run: u32, seq: u32) {
+        if run > 1 || seq > 0 {
+            self.strays.fetch_add(1, Ordering::SeqCst);
+            return;
+        }
+        self.taken[run as usize].fetch_add(1, Ordering::SeqCst);
+    }
 }
 
 #[test]
@@ -160,39 +182,58 @@ fn two_workers_meet(rt: HostRuntime) -> Result<(), Fail> {
         counts: &counts,
         lacking: None,
     };
-    let gate = Meeting {
-        started: [AtomicU64::new(0), AtomicU64::new(0)],
+    let observer = Meeting {
+        made: [AtomicU64::new(0), AtomicU64::new(0)],
+        taken: [AtomicU64::new(0), AtomicU64::new(0)],
+        strays: AtomicU64::new(0),
         misses: AtomicU64::new(0),
     };
-    let Ok(lists) = gather(&rt, rt.alloc(), &work, 2, 1, &gate) else {
+    let Ok(lists) = gather(&rt, rt.alloc(), &work, 2, 1, &observer) else {
         panic!(rt; "there are memory and threads")
     };
     assert_whole(&rt, &counts, &lists);
-    assert!(rt; gate.misses.load(Ordering::SeqCst) == 0);
+    assert!(rt; observer.misses.load(Ordering::SeqCst) == 0);
+    assert!(rt; observer.strays.load(Ordering::SeqCst) == 0);
+    for calls in observer.made.iter().chain(observer.taken.iter()) {
+        assert!(rt; calls.load(Ordering::SeqCst) == 1);
+    }
     Ok(())
 }
 
-/// Notes an item that is made while more than the room's parcels wait.
+/// Notes an item that is made while more than the room's parcels wait, and a call for an item that
+/// isn't the next of run 0.
 #[derive(Drop)]
 struct Room {
     room: u64,
+    made: AtomicU64,
     taken: AtomicU64,
     misses: AtomicU64,
+    strays: AtomicU64,
+}
+
+impl Room {
+    // Counts a call, and notes it where its item isn't the next.
+    fn note(&self, count: &AtomicU64, run: u32, seq: u32) {
+        if run != 0 || count.fetch_add(1, Ordering::SeqCst) != seq as u64 {
+            self.strays.store(1, Ordering::SeqCst);
+        }
+    }
 }
 
 impl Gate for Room {
-    fn making(&self, _run: u32, seq: u32) {
+    fn making(&self, run: u32, seq: u32) {
         let taken = self.taken.load(Ordering::SeqCst);
         if taken.wrapping_add(self.room).wrapping_add(1) < seq as u64 {
             self.misses.store(1, Ordering::SeqCst);
         }
+        self.note(&self.made, run, seq);
     }
 
-    fn taken(&self, _run: u32, seq: u32) {
+    fn taken(&self, run: u32, seq: u32) {
         if seq == 0 {
             waits_for(&self.misses);
         }
-        self.taken.fetch_add(1, Ordering::SeqCst);
+        self.note(&self.taken, run, seq);
     }
 }
 
@@ -203,24 +244,29 @@ fn room_bounds_what_waits(rt: HostRuntime) -> Result<(), Fail> {
         counts: &counts,
         lacking: None,
     };
-    let gate = Room {
+    let observer = Room {
         room: 1,
+        made: AtomicU64::new(0),
         taken: AtomicU64::new(0),
         misses: AtomicU64::new(0),
+        strays: AtomicU64::new(0),
     };
-    let Ok(lists) = gather(&rt, rt.alloc(), &work, 1, 1, &gate) else {
+    let Ok(lists) = gather(&rt, rt.alloc(), &work, 1, 1, &observer) else {
         panic!(rt; "there are memory and threads")
     };
     assert_whole(&rt, &counts, &lists);
-    assert!(rt; gate.misses.load(Ordering::SeqCst) == 0);
+    assert!(rt; observer.misses.load(Ordering::SeqCst) == 0);
+    assert!(rt; observer.strays.load(Ordering::SeqCst) == 0);
+    assert!(rt; observer.made.load(Ordering::SeqCst) == 100);
+    assert!(rt; observer.taken.load(Ordering::SeqCst) == 100);
     Ok(())
 }
 
-/// Three runs of one item. That of run 0 waits for those of runs 1 and 2.
+/// Three runs of one item. That of run `last` waits for those of the other two.
 #[derive(Clone, Copy)]
 struct Dealt<'a> {
-    second: &'a AtomicU64,
-    third: &'a AtomicU64,
+    last: u32,
+    made: &'a AtomicU64,
     misses: &'a AtomicU64,
 }
 
@@ -258,14 +304,10 @@ impl<'a> Work for Dealt<'a> {
     }
 
     fn make(&self, _alloc: Global, head: &u32, _seq: u32) -> Result<u32, AllocError> {
-        match *head {
-            1 => self.second.store(1, Ordering::SeqCst),
-            2 => self.third.store(1, Ordering::SeqCst),
-            _ => {
-                if !(waits_for(self.second) && waits_for(self.third)) {
-                    self.misses.store(1, Ordering::SeqCst);
-                }
-            }
+        if *head != self.last {
+            self.made.fetch_add(1, Ordering::SeqCst);
+        } else if !waits_for_two(self.made) {
+            self.misses.store(1, Ordering::SeqCst);
         }
         Ok(*head)
     }
@@ -273,19 +315,29 @@ impl<'a> Work for Dealt<'a> {
     fn tail(&self, _head: u32) {}
 }
 
-#[test]
-fn runs_are_dealt_as_workers_come_free(rt: HostRuntime) -> Result<(), Fail> {
-    let (second, third) = (AtomicU64::new(0), AtomicU64::new(0));
-    let misses = AtomicU64::new(0);
+// How often two workers missed one another, where the item of this run waits for the other two.
+fn misses_of<R: Threads + Wait + Abort + Sync>(rt: &R, alloc: Global, last: u32) -> u64 {
+    let (made, misses) = (AtomicU64::new(0), AtomicU64::new(0));
     let work = Dealt {
-        second: &second,
-        third: &third,
+        last,
+        made: &made,
         misses: &misses,
     };
-    let Ok(lists) = gather(&rt, rt.alloc(), &work, 2, 1, &NoGate) else {
+    let Ok(lists) = gather(rt, alloc, &work, 2, 1, &NoGate) else {
         panic!(rt; "there are memory and threads")
     };
     assert!(rt; lists.runs() == 3);
-    assert!(rt; misses.load(Ordering::SeqCst) == 0);
+    misses.load(Ordering::SeqCst)
+}
+
+#[test]
+fn runs_are_dealt_as_workers_come_free(rt: HostRuntime) -> Result<(), Fail> {
+    assert!(rt; misses_of(&rt, rt.alloc(), 0) == 0);
+    Ok(())
+}
+
+#[test]
+fn a_worker_that_waits_with_run_1_leaves_run_2_to_the_other(rt: HostRuntime) -> Result<(), Fail> {
+    assert!(rt; misses_of(&rt, rt.alloc(), 1) == 0);
     Ok(())
 }

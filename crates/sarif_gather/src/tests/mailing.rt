@@ -2,7 +2,7 @@
 ghost use Rattle.std.specs.Prelude.{◌≡◌, ◌≤◌, ◌<◌, ℕ, length, vec_len, All, IfOk, slice_index_or};
 ghost use Rattle.sarif_gather.specs.Ends.{IsPostOf, IsDeskOf, AreAllPosts, number_of};
 
-use crate::{Desk, Full, Mailbox, Parcel, Post};
+use crate::{Desk, Full, Mailbox, Parcel, Piece, Post};
 use std::alloc::{AllocError, Global};
 use std::sync::Wait;
 use std::test::Fail;
@@ -66,6 +66,40 @@ fn full_and_none_come_from_a_full_and_an_empty_mailbox(rt: HostRuntime) -> Resul
     Ok(())
 }
 
+#[test]
+fn settle_gives_what_is_left_front_first(rt: HostRuntime) -> Result<(), Fail> {
+    let (mailbox, mut posts, mut desk) = Mailbox::<Sent>::new(rt.alloc(), 4, 2)?;
+    let (Some(mut second), Some(mut first)) = (posts.pop(), posts.pop()) else {
+        panic!(rt; "there are two posts")
+    };
+    mailbox.send_on(&rt, &mut first, carry(0, 10));
+    mailbox.send_on(&rt, &mut second, carry(1, 20));
+    mailbox.send_on(&rt, &mut first, carry(0, 11));
+    assert_eq!(rt; mailbox.take_next(&rt, &mut desk), (0, carry(0, 10)));
+    mailbox.send_on(&rt, &mut second, carry(1, 21));
+    mailbox.send_on(&rt, &mut first, Parcel::End { short: false });
+    let back = both(rt.alloc(), &mailbox, first, second)?;
+    let Ok(settled) = mailbox.settle(&rt, rt.alloc(), desk, back) else {
+        panic!(rt; "there is memory for four parcels")
+    };
+    assert_eq!(rt;
+        settled.left.as_slice(),
+        [
+            (1, carry(1, 20)),
+            (0, carry(0, 11)),
+            (1, carry(1, 21)),
+            (0, Parcel::End { short: false }),
+        ]
+        .as_slice()
+    );
+    Ok(())
+}
+
+// A parcel with item 0 of a run.
+fn carry(run: u32, body: u8) -> Sent {
+    Parcel::Carry(Piece::Item { run, seq: 0, body })
+}
+
 // How many parcels each sender sends.
 const PARCELS: u32 = 1000;
 
@@ -86,28 +120,13 @@ impl Tally {
     }
 }
 
-// Sends a parcel, and tries again where the mailbox is full.
-fn send_on<R: Wait>(rt: &R, mailbox: &Mailbox<u32>, post: &mut Post<u32>, mut parcel: u32)
-    requires { IsPostOf mailbox.now post.old }
-    ensures { IsPostOf mailbox.now post.new × (number_of post.new ≡ number_of post.old) }
-{
-    for _ in rt.forever() {
-        match mailbox.send(rt, post, parcel) {
-            Ok(()) => return,
-            Err(Full { parcel: back }) => parcel = back,
-        }
-        thread::yield_now();
-    }
-    unreachable!()
-}
-
 // Sends numbered parcels.
 fn send_numbered<R: Wait>(rt: &R, mailbox: &Mailbox<u32>, post: &mut Post<u32>)
     requires { IsPostOf mailbox.now post.old }
     ensures { IsPostOf mailbox.now post.new × (number_of post.new ≡ number_of post.old) }
 {
     for number in 0..PARCELS {
-        send_on(rt, mailbox, post, number);
+        mailbox.send_on(rt, post, number);
     }
 }
 
@@ -150,7 +169,7 @@ fn take_most<R: Wait>(rt: &R, mailbox: &Mailbox<u32>, mut desk: Desk<u32>) -> (D
     (desk, tally)
 }
 
-// Waits for a parcel.
+// Tries until there is a parcel. The taker stops before the senders do, so it wakes them at each.
 fn take_next<R: Wait>(rt: &R, mailbox: &Mailbox<u32>, desk: &mut Desk<u32>) -> (u32, u32)
     requires { IsDeskOf mailbox.now desk.old }
     ensures { IsDeskOf mailbox.now desk.new }

@@ -2,10 +2,13 @@
 //! generator, and on long lists.
 use super::matched;
 use super::sketch::{A, Sketch, record, records};
-use crate::{Tier, key, state, tiers};
+use crate::{Matching, Tier, key, match_all_with, state, tiers};
 use sarif_records::{Record, State};
 use std::alloc::{AllocError, Global};
+use std::hash::RandomState;
+use std::io;
 use std::process::Abort;
+use std::random::RandomSource;
 use std::test::Fail;
 
 /// A generator of small numbers.
@@ -228,6 +231,49 @@ fn many_fingerprint_names_are_all_paired(rt: HostRuntime) -> Result<(), Fail> {
     let matching = matched(&rt, &current, &baseline)?;
     for i in 0..20_000u32 {
         assert_eq!(rt; matching.partner(i), Some(19_999 - i));
+    }
+    Ok(())
+}
+
+/// Random bytes that are all the same.
+#[derive(Drop)]
+struct Bytes(u8);
+
+impl RandomSource for Bytes {
+    fn fill_bytes(&self, buf: &mut [u8]) -> io::Result<()> {
+        buf.fill(self.0);
+        Ok(())
+    }
+}
+
+fn matched_with(
+    rt: &(impl Abort + AllocGlobal),
+    seed: RandomState,
+    current: &[Record],
+    baseline: &[Record],
+) -> Result<Matching, AllocError> {
+    assert!(rt; current.len() <= 1_000_000);
+    assert!(rt; baseline.len() <= 1_000_000);
+    match_all_with(rt.alloc(), seed, current, baseline)
+}
+
+#[test]
+fn any_seed_gives_the_same_partners(rt: HostRuntime) -> Result<(), Fail> {
+    let mut draw = Draw { seed: 20261123 };
+    for _ in 0..500 {
+        let current = draw.list(rt.alloc())?;
+        let baseline = draw.list(rt.alloc())?;
+        let wanted = plain_partners(rt.alloc(), &current, &baseline)?;
+        for byte in [0, 1, 129, 255] {
+            let seed = RandomState::new(&Bytes(byte))?;
+            let matching = matched_with(&rt, seed, &current, &baseline)?;
+            let mut number = 0u32;
+            for partner in &wanted {
+                let found = matching.partner(number).map(|j| j as usize);
+                assert_eq!(&rt; found, *partner);
+                number = number.saturating_add(1);
+            }
+        }
     }
     Ok(())
 }

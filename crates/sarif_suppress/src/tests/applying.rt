@@ -1,6 +1,6 @@
 use super::{expect_written, result_at, rules_of, with_own};
 use crate::{Marks, Suppressions};
-use sarif_records::{Record, Status};
+use sarif_records::{Record, Status, Text};
 use std::alloc::{AllocError, Global};
 use std::process::Abort;
 use std::test::Fail;
@@ -145,6 +145,55 @@ fn entries_are_found_by_guid_by_rule_and_by_neither(rt: HostRuntime) -> Result<(
     expect_entries(&rt, &rules, "R1", other, &[0, 2])?;
     expect_entries(&rt, &rules, "R1", None, &[0, 2])?;
     expect_entries(&rt, &rules, "R2", None, &[2])
+}
+
+#[test]
+fn entries_are_found_by_whatever_they_ask_for(rt: HostRuntime) -> Result<(), Fail> {
+    let entries = "{\"tool\":\"lint\"},\
+         {\"uriPrefix\":\"src/\"},\
+         {\"uri\":\"src/a.c\",\"ruleId\":\"R2\"},\
+         {\"fingerprints\":{\"f/v1\":\"x\",\"f/v2\":\"y\"}},\
+         {\"partialFingerprints\":{\"p/v1\":\"z\"},\"uri\":\"src/a.c\"},\
+         {\"uri\":\"src/a.c\"},\
+         {\"tool\":\"other\"},\
+         {\"fingerprints\":{\"f/v2\":\"y\"},\"tool\":\"lint\"}";
+    let rules = rules_of(rt.alloc(), 2, entries, None)?;
+    expect_found(
+        &rt,
+        &rules,
+        "src/a.c",
+        &[("f/v1", "x"), ("f/v2", "y")],
+        &[0, 1, 3, 5, 7],
+    )?;
+    expect_found(
+        &rt,
+        &rules,
+        "src/a.c",
+        &[("f/v1", "y"), ("f/v2", "y")],
+        &[0, 1, 5, 7],
+    )?;
+    expect_found(&rt, &rules, "src/b.c", &[("f/v1", "x")], &[0, 1])?;
+    expect_found(&rt, &rules, "lib/src/a.c", &[], &[0])
+}
+
+/// Asserts the entries that match a result of the rule `R1` at that uri, with these fingerprints.
+fn expect_found(
+    rt: &(impl Abort + AllocGlobal),
+    rules: &Suppressions,
+    uri: &str,
+    fingerprints: &[(&str, &str)],
+    wanted: &[u32],
+) -> Result<(), Fail> {
+    let mut finding = result_at(rt.alloc(), "R1", Some(uri))?;
+    for (name, value) in fingerprints {
+        finding.full.push((
+            Text::copy_of(rt.alloc(), name)?,
+            Text::copy_of(rt.alloc(), value)?,
+        ))?;
+    }
+    let applied = rules.apply(rt.alloc(), &finding)?;
+    assert!(rt; applied.entries.as_slice() == wanted);
+    Ok(())
 }
 
 /// Sets the marks of a result with that rule id.

@@ -8,7 +8,7 @@ use Rattle.sarif_match.proofs.FitsLemmas.{Fits-pairs_at, pairs_at-told}
 use Rattle.sarif_match.proofs.matching.match_tier.Goals as goal
 
 pub put_pairs-requires-clause-fits : goal.put_pairs-requires-clause-fits
-put_pairs-requires-clause-fits c =
+put_pairs-requires-clause-fits g c =
     let current = c.args.current.now.findings.now in
     let baseline = c.args.baseline.now.findings.now in
     let progress = c.args.progress.now in
@@ -19,7 +19,7 @@ put_pairs-requires-clause-fits c =
     subst (λ (m : ℕ). Fits m progress.partners.items c.deref-5.result.now) (sym c.requires.sound.taken_count) (subst (λ (ps : List (ℕ × ℕ)). Fits (length baseline) progress.partners.items ps) (sym told) (Fits-pairs_at current baseline progress.partners.items c.args.tier.now c.requires.sound.partner_count))
 
 pub returns-clause-paired : goal.returns-clause-paired
-returns-clause-paired c =
+returns-clause-paired g c =
     let current = c.args.current.now.findings.now in
     let baseline = c.args.baseline.now.findings.now in
     let progress = c.args.progress.now in

@@ -11,7 +11,7 @@ use Rattle.sarif_match.proofs.TableLemmas.{read-updated}
 use Rattle.sarif_match.proofs.named.add_key.Goals as goal
 
 pub returns-in-Some : goal.returns-in-Some
-returns-in-Some c = λ q.
+returns-in-Some g c = λ q.
     let query : Bor (List ℕ) = record { ref_ptr = (0, 0); now = q } in
     let put = λ (xs : List (ℕ × Key)). put_once c.args.number c.args.key xs in
     let found : get same_name c.args.named.now c.args.name ≡ Some c.in-Some.group.now = search rules in
@@ -20,7 +20,7 @@ returns-in-Some c = λ q.
     read-updated (on_texts_equal (λ (name : Bor (List ℕ)). name.now)) group_of put c.args.named.now (c.get_mut.follows.lender c.put_last.new.group) c.args.name query c.put_last.new.group (((c.get_mut.follows.holds c.put_last.new.group).3 there).0 query) (written ∙ sym (ap (λ (o : Option (Vec (ℕ × Key) Global)). put (group_of o)) found))
 
 pub returns : goal.returns
-returns c = λ q.
+returns g c = λ q.
     let query : Bor (List ℕ) = record { ref_ptr = (0, 0); now = q } in
     let put = λ (xs : List (ℕ × Key)). put_once c.args.number c.args.key xs in
     let same : c.get_mut.follows.lender-at-none ≡ c.args.named.now = search rules in

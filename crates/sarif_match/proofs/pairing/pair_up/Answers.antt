@@ -5,7 +5,7 @@ use Rattle.sarif_match.proofs.pairing.pair_up.Goals as goal
 use Rattle.sarif_match.proofs.pairing.pair_up.Goals.{in-Some+in_ok-push, in_default}
 
 pub loop-number-preserved : goal.loop-number-preserved
-loop-number-preserved c =
+loop-number-preserved g c =
     let e = c.loop-number-item.result in
     let at = c.loop-number.number-index in
     let new : c.match-take_first.pairs.items ≡ pushed c.loop-number.pairs.items e.0 c.take_first.result = elim c.match-take_first.branch [ in-Some+in_ok-push w ↦ search rules | in_default w ↦ search rules ] in

@@ -8,14 +8,14 @@ use Rattle.sarif_match.proofs.TableLemmas.{read-updated}
 use Rattle.sarif_match.proofs.queues.add_last.Goals as goal
 
 pub returns-in-Some : goal.returns-in-Some
-returns-in-Some c = λ q.
+returns-in-Some g c = λ q.
     let add = λ (xs : List ℕ). xs ++ (c.args.number ∷ []) in
     let found : get same_key c.args.queues.now c.args.key ≡ Some c.in-Some.queue.now = search rules in
     let there : IsSome (get same_key c.args.queues.now c.args.key) = search rules in
     read-updated laws-law items_of add c.args.queues.now (c.get_mut.follows.lender c.push_back.new.self) c.args.key q c.push_back.new.self (((c.get_mut.follows.holds c.push_back.new.self).3 there).0 q) (c.in_ok-push_back.ensures.items ∙ sym (ap (λ (o : Option (VecDeque ℕ Global)). add (items_of o)) found))
 
 pub returns : goal.returns
-returns c = λ q.
+returns g c = λ q.
     let add = λ (xs : List ℕ). xs ++ (c.args.number ∷ []) in
     let same : c.get_mut.follows.lender-at-none ≡ c.args.queues.now = search rules in
     let none : get same_key c.args.queues.now c.args.key ≡ None = search rules in

@@ -3,10 +3,10 @@ use Rattle.std.proofs.lemmas.List.{map-append}
 use Rattle.std.proofs.lemmas.Grind.{common_steps}
 use Rattle.serde_json.specs.View.{view, items_view}
 use Rattle.sarif_records.specs.Run.{is_absent_result}
-use Rattle.sarif_merge.specs.CountOf.{carries, count_in}
-use Rattle.sarif_merge.specs.Policy.{count_if}
+use Rattle.sarif_counts.specs.CountOf.{carries, count_in}
+use Rattle.sarif_counts.specs.Policy.{count_if}
 use Rattle.sarif_merge.specs.MergedRuns.{present, unmatched}
-use Rattle.sarif_merge.proofs.CountIn.{count_in_push}
+use Rattle.sarif_counts.proofs.CountIn.{count_in_push}
 use Rattle.sarif_merge.proofs.Unmatched.{unmatched_kept}
 use Rattle.sarif_merge.proofs.absent.keep_unmatched.Goals as goal
 

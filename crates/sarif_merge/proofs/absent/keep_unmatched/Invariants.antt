@@ -2,8 +2,8 @@ use Rattle.std.proofs.Common.{◌≡◌, ◌≤◌, ◌+◌, ◌++◌, Bool, map
 use Rattle.serde_json.specs.View.{view, items_view}
 use Rattle.sarif_records.specs.declared.kinds.Level.{Level}
 use Rattle.sarif_records.specs.declared.kinds.State.{State}
-use Rattle.sarif_merge.specs.CountOf.{count_in}
-use Rattle.sarif_merge.specs.Counts.{count_at, total_of}
+use Rattle.sarif_counts.specs.CountOf.{count_in}
+use Rattle.sarif_counts.specs.Counts.{count_at, total_of}
 use Rattle.sarif_merge.specs.MergedRuns.{present, unmatched}
 use Rattle.sarif_merge.proofs.absent.keep_unmatched.Given as goal
 

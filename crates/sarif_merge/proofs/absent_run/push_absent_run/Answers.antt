@@ -3,7 +3,7 @@ use Rattle.std.proofs.lemmas.List.{map-append}
 use Rattle.serde_json.specs.View.{view, items_view}
 use Rattle.sarif_records.specs.Run.{results_of}
 use Rattle.sarif_merge.specs.Annotated.{on_members}
-use Rattle.sarif_merge.specs.CountOf.{count_in, count_of, results_in}
+use Rattle.sarif_counts.specs.CountOf.{count_in, count_of, results_in}
 use Rattle.sarif_merge.specs.MergedRuns.{present, unmatched, bare}
 use Rattle.sarif_merge.proofs.AbsentRuns.{left_found}
 use Rattle.sarif_merge.proofs.RunsWritten.{count_of_push}

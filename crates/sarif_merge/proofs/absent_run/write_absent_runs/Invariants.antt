@@ -4,8 +4,8 @@ use Rattle.serde_json.specs.View.{view}
 use Rattle.sarif_records.specs.Run.{results_of}
 use Rattle.sarif_records.specs.declared.kinds.Level.{Level}
 use Rattle.sarif_records.specs.declared.kinds.State.{State}
-use Rattle.sarif_merge.specs.CountOf.{count_of}
-use Rattle.sarif_merge.specs.Counts.{count_at, total_of}
+use Rattle.sarif_counts.specs.CountOf.{count_of}
+use Rattle.sarif_counts.specs.Counts.{count_at, total_of}
 use Rattle.sarif_merge.specs.MergedRuns.{present, absent_runs}
 use Rattle.sarif_merge.proofs.absent_run.write_absent_runs.Given as goal
 

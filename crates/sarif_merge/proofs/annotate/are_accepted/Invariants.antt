@@ -1,6 +1,6 @@
 use Rattle.std.proofs.Common.{◌≡◌, map, drop}
 use Rattle.serde_json.specs.View.{view, items_of}
-use Rattle.sarif_merge.specs.CountOf.{all_accepted}
+use Rattle.sarif_counts.specs.CountOf.{all_accepted}
 use Rattle.sarif_merge.proofs.annotate.are_accepted.Given as goal
 
 abbrev pub invariant-loop-suppression : goal.invariant-loop-suppression

@@ -1,5 +1,5 @@
 use Rattle.std.proofs.Common.{rules, ◌∙◌}
-use Rattle.sarif_merge.proofs.Suppressed.{suppresses-not_empty}
+use Rattle.sarif_counts.proofs.Suppressed.{suppresses-not_empty}
 use Rattle.sarif_merge.proofs.annotate.is_suppressing.Goals as goal
 
 pub returns-then-not-is_empty : goal.returns-then-not-is_empty

@@ -5,9 +5,9 @@ use Rattle.serde_json.specs.View.{view, items_view}
 use Rattle.sarif_records.specs.declared.kinds.State.TheVariants.{New}
 use Rattle.sarif_suppress.specs.Marks.{marks_of}
 use Rattle.sarif_suppress.specs.Written.{suppressions_of}
-use Rattle.sarif_merge.specs.CountOf.{count_in}
+use Rattle.sarif_counts.specs.CountOf.{count_in}
 use Rattle.sarif_merge.specs.MergedRuns.{Listing, written, written_all}
-use Rattle.sarif_merge.proofs.CountIn.{count_in_push}
+use Rattle.sarif_counts.proofs.CountIn.{count_in_push}
 use Rattle.sarif_merge.proofs.WrittenMore.{written_more}
 use Rattle.sarif_merge.proofs.current.write_results.Goals as goal
 

@@ -6,8 +6,8 @@ use Rattle.sarif_records.specs.declared.kinds.State.{State}
 use Rattle.sarif_records.specs.declared.record.Record.{Record}
 use Rattle.sarif_suppress.specs.Marks.{marks_of}
 use Rattle.sarif_suppress.specs.Written.{suppressions_of}
-use Rattle.sarif_merge.specs.CountOf.{count_in}
-use Rattle.sarif_merge.specs.Counts.{count_at, total_of}
+use Rattle.sarif_counts.specs.CountOf.{count_in}
+use Rattle.sarif_counts.specs.Counts.{count_at, total_of}
 use Rattle.sarif_merge.specs.MergedRuns.{written_all}
 use Rattle.sarif_merge.proofs.current.write_results.Given as goal
 

@@ -1,5 +1,5 @@
 use Rattle.std.proofs.Common.{◌≡◌, drop}
-use Rattle.sarif_merge.specs.declared.fault.At.TheVariants.{Single}
+use Rattle.sarif_sources.specs.declared.fault.At.TheVariants.{Single}
 use Rattle.sarif_merge.specs.Judging.{first_bad}
 use Rattle.sarif_merge.proofs.first_fault.first_bad_result.Given as goal
 

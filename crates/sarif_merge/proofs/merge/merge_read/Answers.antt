@@ -1,4 +1,5 @@
-use Rattle.std.proofs.Common.{◌≡◌, Err, inl, inr, rules, sym, ap, subst, ◌∙◌}
+use Rattle.std.proofs.Common.{◌≡◌, Err, inl, inr, refl, rules, sym, ap, subst, ◌∙◌}
+use Rattle.std.proofs.lemmas.Result.{err_from_is_err_and}
 use Rattle.std.specs.Prelude.{option_map}
 use Rattle.sarif_merge.specs.Faults.{first}
 use Rattle.sarif_merge.specs.Merged.{given, IsMergeOf}
@@ -24,7 +25,8 @@ pub returns-in_err-merged-clause-merge : goal.returns-in_err-merged-clause-merge
 returns-in_err-merged-clause-merge g c = λ ls bs read.
     let file = option_map (λ b. b.now) c.args.suppressions in
     let fault = c.in_err-merged.field-0.0 in
-    let is : c.from_residual-in_err-merged.result ≡ Err fault = search rules in
+    let p = err_from_is_err_and c.from_residual-in_err-merged.result c.from_residual-in_err-merged.ensures.1 in
+    let is : c.from_residual-in_err-merged.result ≡ Err fault = rw (p.1, p.2) refl in
     let same = faults_are ls bs c.args.runs read file c.args.today c.in_ok-rules.ensures.faults in
     subst (λ r. IsMergeOf (given ls bs file c.args.today) c.args.policy.now r) (sym is)
     (elim c.in_err-merged.ensures.faults [ inl wants ↦ inl wants | inr found ↦ inr (ap first same ∙ found) ])
@@ -32,3 +34,8 @@ returns-in_err-merged-clause-merge g c = λ ls bs read.
 pub returns-clause-merge : goal.returns-clause-merge
 returns-clause-merge g c = λ ls bs read.
     merged_is ls bs c.args.runs read (option_map (λ b. b.now) c.args.suppressions) c.args.today c.in_ok-rules.rules c.args.policy.now c.in_ok-merged.merged c.in_ok-rules.ensures.read c.in_ok-merged.ensures.merged c.in_ok-merged.ensures.faults
+
+pub returns-in_err-merged-clause-quiet : goal.returns-in_err-merged-clause-quiet
+returns-in_err-merged-clause-quiet g c =
+    let p = err_from_is_err_and c.from_residual-in_err-merged.result c.from_residual-in_err-merged.ensures.1 in
+    rw (p.1, p.2) c.in_err-merged.ensures.quiet

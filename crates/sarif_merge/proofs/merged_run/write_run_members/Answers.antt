@@ -4,7 +4,7 @@ use Rattle.serde_json.specs.Data.{object}
 use Rattle.serde_json.specs.View.{view, items_of, items_view, members_view}
 use Rattle.sarif_records.specs.Run.{results_of, elements_or_none}
 use Rattle.sarif_suppress.specs.Written.{suppressions_of}
-use Rattle.sarif_merge.specs.CountOf.{count_in, results_in}
+use Rattle.sarif_counts.specs.CountOf.{count_in, results_in}
 use Rattle.sarif_merge.specs.MergedRuns.{Listing, own_results, written_all, annotated_items, with_results, bare}
 use Rattle.sarif_merge.proofs.PutAgain.{elements_items_of}
 use Rattle.sarif_merge.proofs.RunResults.{bare_results, put_results_found}

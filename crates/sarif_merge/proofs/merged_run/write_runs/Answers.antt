@@ -5,7 +5,7 @@ use Rattle.serde_json.specs.View.{view}
 use Rattle.sarif_records.specs.Run.{results_of, results_total}
 use Rattle.sarif_suppress.specs.Marks.{marks_of}
 use Rattle.sarif_suppress.specs.Written.{suppressions_of}
-use Rattle.sarif_merge.specs.CountOf.{count_in, count_of, results_in}
+use Rattle.sarif_counts.specs.CountOf.{count_in, count_of, results_in}
 use Rattle.sarif_merge.specs.MergedRuns.{Listing, merged_run, merged_runs}
 use Rattle.sarif_merge.proofs.RunsWritten.{count_of_push, merged_more, taken_further}
 use Rattle.sarif_merge.proofs.merged_run.write_runs.Goals as goal

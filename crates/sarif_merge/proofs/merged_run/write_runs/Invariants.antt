@@ -6,8 +6,8 @@ use Rattle.sarif_records.specs.declared.kinds.State.{State}
 use Rattle.sarif_records.specs.declared.record.Record.{Record}
 use Rattle.sarif_suppress.specs.Marks.{marks_of}
 use Rattle.sarif_suppress.specs.Written.{suppressions_of}
-use Rattle.sarif_merge.specs.CountOf.{count_of}
-use Rattle.sarif_merge.specs.Counts.{count_at, total_of}
+use Rattle.sarif_counts.specs.CountOf.{count_of}
+use Rattle.sarif_counts.specs.Counts.{count_at, total_of}
 use Rattle.sarif_merge.specs.MergedRuns.{merged_runs}
 use Rattle.sarif_merge.proofs.merged_run.write_runs.Given as goal
 

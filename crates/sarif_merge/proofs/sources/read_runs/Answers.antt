@@ -1,7 +1,7 @@
 use Rattle.std.proofs.Common.{rules, map, length, arith, ap, ◌∙◌, length-append}
 use Rattle.std.proofs.lemmas.List.{length-map}
 use Rattle.std.proofs.lemmas.Result.{err_from_is_err_and}
-use Rattle.sarif_merge.specs.declared.fault.Source.TheVariants.{Log, Baseline}
+use Rattle.sarif_sources.specs.declared.fault.Source.TheVariants.{Log, Baseline}
 use Rattle.sarif_merge.specs.Inputs.{numbered, placed}
 use Rattle.sarif_merge.specs.PlacedRun.{placed_of}
 use Rattle.sarif_merge.proofs.SourceSteps.{refused_by_logs, left_after_logs}

@@ -1,10 +1,10 @@
 use Rattle.std.proofs.Common.{rules, ◌≡◌, ◌+◌, ◌&&◌, sym, ap, ◌∙◌}
 use Rattle.serde_json.specs.Data.{object}
 use Rattle.serde_json.specs.View.{items_view, members_view}
-use Rattle.sarif_merge.specs.CountOf.{carries, suppresses}
-use Rattle.sarif_merge.specs.Counts.{count_at, same_state}
-use Rattle.sarif_merge.specs.Policy.{count_if}
-use Rattle.sarif_merge.specs.Tally.{same_level, same_side}
+use Rattle.sarif_counts.specs.CountOf.{carries, suppresses}
+use Rattle.sarif_counts.specs.Counts.{count_at, same_state}
+use Rattle.sarif_counts.specs.Policy.{count_if}
+use Rattle.sarif_counts.specs.Tally.{same_level, same_side}
 use Rattle.sarif_merge.proofs.AnnotatedResult.{carries-annotated}
 use Rattle.sarif_merge.proofs.written.write_result.Goals as goal
 

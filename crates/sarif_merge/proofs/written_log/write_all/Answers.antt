@@ -1,8 +1,8 @@
 use Rattle.std.proofs.Common.{map, arith, ap, ◌∙◌}
 use Rattle.std.proofs.lemmas.List.{map-append}
 use Rattle.serde_json.specs.View.{view}
-use Rattle.sarif_merge.specs.CountOf.{count_of}
-use Rattle.sarif_merge.proofs.CountAppend.{count_of-append}
+use Rattle.sarif_counts.specs.CountOf.{count_of}
+use Rattle.sarif_counts.proofs.CountAppend.{count_of-append}
 use Rattle.sarif_merge.proofs.written_log.write_all.Goals as goal
 
 pub returns-clause-counts : goal.returns-clause-counts

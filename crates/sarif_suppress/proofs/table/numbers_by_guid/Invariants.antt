@@ -1,9 +1,10 @@
 use Rattle.std.proofs.Common.{◌≡◌, ◌++◌, ℕ, drop, nat_eq}
-use Rattle.sarif_suppress.specs.Numbers.{numbers_from, asks_for_guid}
+use Rattle.sarif_suppress.specs.Filing.{asks_for_guid}
+use Rattle.sarif_suppress.specs.Numbers.{numbers_from}
 use Rattle.sarif_suppress.specs.Table.{numbers_at}
 use Rattle.sarif_suppress.proofs.table.numbers_by_guid.Given as goal
 
 -- for each guid the numbers so far, and then those of the entries that are left
 abbrev pub invariant-loop-number : goal.invariant-loop-number
-invariant-loop-number l =
+invariant-loop-number g l =
     (q : ℕ) → numbers_at nat_eq l.table q ++ numbers_from (asks_for_guid q) l.number (drop l.number l.entries) ≡ numbers_from (asks_for_guid q) 0 l.entries

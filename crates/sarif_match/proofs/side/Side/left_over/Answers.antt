@@ -6,5 +6,5 @@ use Rattle.sarif_match.proofs.NamedLemmas.{IfOk-with_parts}
 use Rattle.sarif_match.proofs.side.Side.left_over.Goals as goal
 
 pub returns-in-Fingerprint : goal.returns-in-Fingerprint
-returns-in-Fingerprint c =
+returns-in-Fingerprint g c =
     subst (λ (tier : Tier). IfOk c.unmarked_named.result (λ left. with_parts left.items ≡ unmarked c.args.marks.now (keyed_from tier 0 c.args.self.now.findings.now))) (sym c.in-Fingerprint.is) (IfOk-with_parts c.unmarked_named.result c.args.marks.now _ _ (c.requires.indexed c.in-Fingerprint.name) c.unmarked_named.ensures)

@@ -9,7 +9,7 @@ use Rattle.sarif_merge.specs.Parsed.{AreParsedFrom}
 use Rattle.sarif_merge.specs.PlacedRun.{placed_of}
 use Rattle.sarif_merge.specs.ReadSoFar.{faults_with}
 use Rattle.sarif_merge.specs.SourceFaults.{source_faults}
-use Rattle.sarif_merge.specs.SourceKind.{source_of}
+use Rattle.sarif_sources.specs.SourceKind.{source_of}
 use Rattle.sarif_merge.proofs.ParsedParts.{parsed_first, parsed_none}
 use Rattle.sarif_merge.proofs.SourceAnswers.{still_first}
 use Rattle.sarif_merge.proofs.SourceSteps.{source_step}

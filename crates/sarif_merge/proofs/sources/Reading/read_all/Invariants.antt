@@ -3,7 +3,7 @@ use Rattle.sarif_merge.specs.Inputs.{numbered, placed}
 use Rattle.sarif_merge.specs.PlacedRun.{placed_of}
 use Rattle.sarif_merge.specs.ReadSoFar.{IsCounted}
 use Rattle.sarif_merge.specs.SourceFaults.{source_faults}
-use Rattle.sarif_merge.specs.SourceKind.{source_of}
+use Rattle.sarif_sources.specs.SourceKind.{source_of}
 use Rattle.sarif_merge.proofs.sources.Reading.read_all.Given as goal
 
 abbrev pub invariant-loop-number : goal.invariant-loop-number

@@ -1,0 +1,19 @@
+-- What an indexed text holds: the value that its tokens begin with, as `serde_json` reads it.
+use Rattle.std.specs.Prelude.{◌≡◌, ℕ, List, Option, Some, None, option_and_then, unwrap_or, if◌then◌else◌}
+use Rattle.std.specs.Str.{is_utf8}
+use Rattle.json.specs.Token.{Token}
+use Rattle.json.specs.Json.{Json, value}
+use Rattle.serde_json.specs.Data.{Data, null}
+use Rattle.serde_json.specs.Read.{of_json, max_depth, read}
+
+-- the JSON value of UTF-8 bytes, nested at most 127 deep
+abbrev pub json_of : List ℕ → Option Data
+json_of bytes = if is_utf8 bytes then read bytes else None
+
+-- the value that the tokens begin with
+unfoldable pub data_of : List Token → Data
+data_of ts = unwrap_or (option_and_then (λ p. of_json p.0) (value max_depth ts)) null
+
+-- the tokens begin with a value that is read, nested at most 127 deep
+abbrev pub IsReadable : List Token → Type 0
+IsReadable ts = (j : Json) × (rest : List Token) × (d : Data) × (value max_depth ts ≡ Some (j, rest)) × (of_json j ≡ Some d)

@@ -1,0 +1,7 @@
+pub mod Indexed
+pub mod Stripping
+pub mod Without
+pub mod Ordered
+pub mod Walking
+pub mod Together
+pub mod Laws

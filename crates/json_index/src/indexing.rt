@@ -1,0 +1,78 @@
+//! The index of a whole text.
+ghost use Rattle.std.specs.Prelude.{◌≡◌, Some, None, IfOk, IfErr};
+ghost use Rattle.json_index.specs.Indexed.{json_of, data_of};
+ghost use Rattle.json_index.specs.Ordered.{IsOrdered};
+
+use crate::node::Node;
+use crate::readable::is_readable;
+use json::{Error, Scratch, Tape};
+use std::alloc::Global;
+use std::marker::Model;
+
+/// How deep the arrays and objects of a text may nest.
+const MAX_DEPTH: usize = 127;
+
+/// Why a text has no index.
+#[derive(Clone, Copy, Debug, PartialEq, Eq, Drop)]
+pub enum IndexFault {
+    /// It is no UTF-8, no JSON, nests deeper than 127, or holds a number too large for a float.
+    NotJson,
+    /// Memory ran out, or the text is longer than `json::MAX_LEN` bytes.
+    OutOfMemory,
+}
+
+/// A text that was indexed. Contracts see it as its tokens, of which `data_of` is the value.
+#[derive(Drop)]
+pub struct Index<'a> {
+    tape: Tape<'a>,
+}
+
+impl<'a> Model for Index<'a> {
+    ghost use Rattle.std.specs.Prelude.{List};
+    ghost use Rattle.json.specs.Token.{Token, tokens_code};
+    ghost use Rattle.json_index.specs.Indexed.{IsReadable};
+
+    ghost Value = { List Token };
+
+    ghost coded = { tokens_code };
+
+    ghost view = { λ a. a.tape };
+
+    ghost invariant = { λ a. IsReadable a.tape };
+}
+
+/// Indexes a text, whose strings and places `scratch` keeps.
+pub fn index_text<'a>(
+    alloc: Global,
+    bytes: &'a [u8],
+    scratch: &'a mut Scratch,
+) -> Result<Index<'a>, IndexFault>
+    ensures ok { IfOk result (λ found. json_of bytes.now ≡ Some (data_of found)) }
+    ensures ordered { IfOk result (λ found. IsOrdered (data_of found)) }
+    ensures err { IfErr result (λ e. e ≡ IndexFault.NotJson → json_of bytes.now ≡ None) }
+{
+    let Ok(text) = simdutf8::basic::from_utf8(bytes) else {
+        return Err(IndexFault::NotJson);
+    };
+    let tape = match Tape::parse(text, scratch, Vec::new(alloc)) {
+        Ok(tape) => tape,
+        Err(Error::Invalid) => return Err(IndexFault::NotJson),
+        Err(Error::OutOfMemory | Error::TooLong | Error::DuplicateKey) => {
+            return Err(IndexFault::OutOfMemory);
+        }
+    };
+    if !is_readable(&tape.root(), MAX_DEPTH) {
+        return Err(IndexFault::NotJson);
+    }
+    Ok(Index { tape })
+}
+
+impl<'a> Index<'a> {
+    /// The value of the whole text.
+    pub fn root(&self) -> Node<'_, 'a>
+        ensures value { result ≡ self.now }
+        ensures ordered { IsOrdered (data_of result) }
+    {
+        Node::new(self.tape.root())
+    }
+}

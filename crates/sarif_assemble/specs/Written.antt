@@ -1,0 +1,18 @@
+-- For the contract of the writing of the log; no public clause of the merge speaks of it.
+use Rattle.std.specs.Prelude.{◌≡◌, ◌+◌, Bool, List, ◌++◌, map}
+use Rattle.serde_json.specs.Data.{Data}
+use Rattle.serde_json.specs.Written.{compact_text}
+use Rattle.sarif_records.specs.declared.kinds.Level.{Level}
+use Rattle.sarif_records.specs.declared.kinds.State.{State}
+use Rattle.sarif_counts.specs.CountOf.{count_of}
+use Rattle.sarif_write.specs.declared.merged_text.Side.{Side}
+use Rattle.sarif_write.specs.Drafts.{tallied}
+use Rattle.sarif_write.specs.Side.{texts_of_left, texts_of_runs}
+
+-- the texts and the counts of the runs of logs, and of those left of baselines, are those of these runs
+pub record AreWritten (current baseline : Side) (runs : List Data) : Type 0 where
+  pub texts : map compact_text runs ≡ texts_of_runs current ++ texts_of_left baseline
+  pub counts : (state : State) (level : Level) (suppressed : Bool)
+      → tallied current.drafts.items current.states.items state level suppressed
+      + tallied baseline.drafts.items baseline.states.items state level suppressed
+      ≡ count_of runs state level suppressed

@@ -1,0 +1,16 @@
+//! How many results a merged log holds by baseline state, level and suppression; the policy of the
+//! gate, its verdict over these counts, and how both are written.
+#![tactic(auto)]
+
+mod counts;
+mod decision;
+mod gate;
+mod policy;
+mod table;
+mod tally;
+
+pub use counts::Counts;
+pub use decision::{hits, verdict};
+pub use gate::gate_value;
+pub use policy::{Policy, States, Verdict};
+pub use table::summary;

@@ -1,0 +1,79 @@
+//! What the gate fails on.
+ghost use Rattle.std.specs.Prelude.{◌≡◌};
+ghost use Rattle.sarif_counts.specs.Policy.{default_policy, is_listed, verdict_name};
+
+use sarif_records::{Level, State};
+
+/// Which baseline states the gate looks at.
+#[derive(Clone, Copy, Debug, PartialEq, Eq)]
+pub struct States {
+    /// Results of a baseline that no log has.
+    pub absent: bool,
+    /// Results that no baseline has: the state `new`.
+    pub fresh: bool,
+    pub unchanged: bool,
+    pub updated: bool,
+}
+
+impl States {
+    /// Whether the gate looks at results of this state.
+    pub(crate) fn lists(self, state: State) -> bool
+        ensures { result ≡ is_listed self state }
+    {
+        match state {
+            State::New => self.fresh,
+            State::Unchanged => self.unchanged,
+            State::Updated => self.updated,
+            State::Absent => self.absent,
+        }
+    }
+}
+
+/// When the gate fails: where more than `max` active results of the listed states are at least of
+/// level `fail_on`.
+#[derive(Clone, Copy, Debug, PartialEq, Eq)]
+pub struct Policy {
+    /// The least level that counts.
+    pub fail_on: Level,
+    /// The states that count.
+    pub states: States,
+    /// How many hits still pass.
+    pub max: u32,
+}
+
+impl Default for Policy {
+    ghost is_default = { λ policy. policy ≡ default_policy };
+
+    /// Fails on each new or updated result of level `error`.
+    fn default() -> Policy {
+        Policy {
+            fail_on: Level::Error,
+            states: States {
+                absent: false,
+                fresh: true,
+                unchanged: false,
+                updated: true,
+            },
+            max: 0,
+        }
+    }
+}
+
+/// What the gate says of a merged log.
+#[derive(Clone, Copy, Debug, PartialEq, Eq)]
+pub enum Verdict {
+    Pass,
+    Fail,
+}
+
+impl Verdict {
+    /// The text of this verdict.
+    pub fn name(self) -> &'static str
+        ensures { result.now ≡ verdict_name self }
+    {
+        match self {
+            Verdict::Pass => "pass",
+            Verdict::Fail => "fail",
+        }
+    }
+}

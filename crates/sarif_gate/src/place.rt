@@ -1,0 +1,68 @@
+//! Where an output goes, and under which name it is written until it is whole.
+use std::alloc::{AllocError, Global};
+use std::fs;
+use std::io::{self, ErrorKind};
+use std::path::{Path, PathBuf};
+use std::rt::Files;
+
+/// As many links are followed as the system follows.
+const LINKS: usize = 40;
+
+/// Where an output goes.
+#[derive(Drop)]
+pub enum Place {
+    /// A name of the system's own, which is written as it is.
+    System(PathBuf),
+    /// A name that isn't a link, and a name of a new file beside it.
+    Named { whole: PathBuf, new: PathBuf },
+    /// The links can't be followed to their end.
+    Lost(ErrorKind),
+}
+
+impl Place {
+    /// Follows the links of `name`; the name beside what they lead to has `number` in it. This looks at links
+    /// alone, and opens and changes nothing.
+    pub fn of<R: Files>(
+        files: &R,
+        alloc: Global,
+        name: &str,
+        number: u64,
+    ) -> Result<Place, AllocError> {
+        let mut whole = PathBuf::from_str(alloc, name)?;
+        for _ in 0..LINKS {
+            if is_of_system(whole.as_path()) {
+                return Ok(Place::System(whole));
+            }
+            match link_at(files, alloc, whole.as_path()) {
+                Ok(Some(target)) => whole.set_file_name(target.as_path().as_str())?,
+                Ok(None) => return Place::beside(alloc, whole, number),
+                Err(error) if error.kind() == ErrorKind::OutOfMemory => return Err(AllocError),
+                Err(error) => return Ok(Place::Lost(error.kind())),
+            }
+        }
+        Ok(Place::Lost(ErrorKind::FilesystemLoop))
+    }
+
+    /// A name that is no link, with a name beside it.
+    fn beside(alloc: Global, whole: PathBuf, number: u64) -> Result<Place, AllocError> {
+        let name = format!(in alloc; ".sarif_gate-{number:016x}")?;
+        let new = whole.as_path().with_file_name(alloc, name.as_str())?;
+        Ok(Place::Named { whole, new })
+    }
+}
+
+/// Whether a name is below a folder whose files are the system's devices and processes.
+fn is_of_system(path: Path<'_>) -> bool {
+    path.starts_with("/dev") || path.starts_with("/proc")
+}
+
+/// What a link names; nothing where no link stands.
+fn link_at<R: Files>(files: &R, alloc: Global, path: Path<'_>) -> io::Result<Option<PathBuf>> {
+    match fs::symlink_metadata(files, path) {
+        Ok(found) if found.is_symlink() => {
+            let target = files.read_link(alloc, path.as_str())?;
+            Ok(Some(target))
+        }
+        _ => Ok(None),
+    }
+}

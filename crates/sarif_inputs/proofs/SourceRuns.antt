@@ -1,0 +1,71 @@
+-- The runs that sources give, and how many results they have.
+use Rattle.std.proofs.Common.{◌≡◌, false, ℕ, ◌+◌, List, [], ◌∷◌, ◌++◌, map, length, refl, sym, ap, ◌∙◌, arith, add-zero, length-append}
+use Rattle.std.proofs.lemmas.List.{map-append, length-map}
+use Rattle.std.specs.List.{list_any}
+use Rattle.serde_json.specs.Written.{has_float}
+use Rattle.sarif_records.proofs.NoFraction.{neither}
+use Rattle.serde_json.specs.Data.{Data}
+use Rattle.sarif_records.specs.Indexed.{run_of}
+use Rattle.sarif_records.specs.declared.indexed_run.IndexedRun.{IndexedRun}
+use Rattle.sarif_records.specs.Run.{results_total}
+use Rattle.sarif_sources.specs.declared.fault.Source.{Source}
+use Rattle.sarif_judge.specs.declared.opened.OpenedRun.{OpenedRun}
+use Rattle.sarif_judge.specs.Placed.{Placed}
+use Rattle.sarif_inputs.specs.Inputs.{data_of, placed_from}
+use Rattle.sarif_judge.specs.Opened.{placed_of}
+
+placed_push : (source : Source) (n : ℕ) (ds : List Data) (d : Data)
+    → placed_from source n (ds ++ d ∷ []) ≡ placed_from source n ds ++ record { source = source; number = n + length ds; run = d } ∷ []
+placed_push source n [] d =
+    let one : Placed → List Placed = λ p. p ∷ [] in
+    ap (λ m. one (record { source = source; number = m; run = d })) (sym (add-zero n))
+placed_push source n (e ∷ ds) d =
+    let rest = placed_push source (n + 1) ds d in
+    let same : n + 1 + length ds ≡ n + length (e ∷ ds) = omega arith in
+    ap (λ ps. record { source = source; number = n; run = e } ∷ ps)
+    (rest ∙ ap (λ m. placed_from source (n + 1) ds ++ record { source = source; number = m; run = d } ∷ []) same)
+
+-- one run more of a source
+pub placed_more : (source : Source) (vs : List IndexedRun) (v : IndexedRun)
+    → placed_from source 0 (map run_of (vs ++ v ∷ [])) ≡ placed_from source 0 (map run_of vs) ++ record { source = source; number = length vs; run = run_of v } ∷ []
+placed_more source vs v =
+    let same : 0 + length (map run_of vs) ≡ length vs = omega (arith, length-map vs run_of) in
+    ap (placed_from source 0) (map-append run_of vs (v ∷ []))
+    ∙ placed_push source 0 (map run_of vs) (run_of v)
+    ∙ ap (λ m. placed_from source 0 (map run_of vs) ++ record { source = source; number = m; run = run_of v } ∷ []) same
+
+pub data_placed : (source : Source) (n : ℕ) (ds : List Data) → data_of (placed_from source n ds) ≡ ds
+data_placed source n [] = refl
+data_placed source n (d ∷ ds) = ap (λ es. d ∷ es) (data_placed source (n + 1) ds)
+
+pub length_placed : (source : Source) (n : ℕ) (ds : List Data) → length (placed_from source n ds) ≡ length ds
+length_placed source n [] = refl
+length_placed source n (d ∷ ds) = let rest = length_placed source (n + 1) ds in omega arith
+
+pub total_append : (ds es : List Data) → results_total (ds ++ es) ≡ results_total ds + results_total es
+total_append [] es = omega arith
+total_append (d ∷ ds) es = let rest = total_append ds es in omega arith
+
+-- the results of all runs, with those of one source more
+pub total_more : (ps : List Placed) (source : Source) (ds : List Data)
+    → results_total (data_of (ps ++ placed_from source 0 ds)) ≡ results_total (data_of ps) + results_total ds
+total_more ps source ds =
+    ap results_total (map-append (λ (p : Placed). p.run) ps (placed_from source 0 ds))
+    ∙ total_append (data_of ps) (data_of (placed_from source 0 ds))
+    ∙ ap (λ es. results_total (data_of ps) + results_total es) (data_placed source 0 ds)
+
+-- the same for the runs as the code holds them: how many there are, and their results
+pub counted_more : (old new : List OpenedRun) (source : Source) (ds : List Data)
+    → map placed_of new ≡ map placed_of old ++ placed_from source 0 ds
+    → (length new ≡ length old + length ds) × (results_total (data_of (map placed_of new)) ≡ results_total (data_of (map placed_of old)) + results_total ds)
+counted_more old new source ds same =
+    let long : length (map placed_of new) ≡ length (map placed_of old) + length ds =
+    ap length same ∙ length-append (map placed_of old) (placed_from source 0 ds) ∙ ap (λ n. length (map placed_of old) + n) (length_placed source 0 ds) in (
+      omega (arith, long, length-map new placed_of, length-map old placed_of),
+      ap (λ ps. results_total (data_of ps)) same ∙ total_more (map placed_of old) source ds,
+    )
+
+-- where none of some runs holds a number with a fraction, one of them holds none
+pub whole_at : (vs : List IndexedRun) (v : IndexedRun) (ws : List IndexedRun) → list_any has_float (map run_of (vs ++ v ∷ ws)) ≡ false → has_float (run_of v) ≡ false
+whole_at [] v ws h = (neither (has_float (run_of v)) (list_any has_float (map run_of ws)) h).0
+whole_at (w ∷ vs) v ws h = whole_at vs v ws (neither (has_float (run_of w)) (list_any has_float (map run_of (vs ++ v ∷ ws))) h).1

@@ -1,0 +1,6 @@
+pub mod Faults
+pub mod Inputs
+pub mod Parsed
+pub mod ReadSoFar
+pub mod Runs
+pub mod SourceFaults

@@ -1,0 +1,30 @@
+-- What was read of the sources so far, and the faults of one source more.
+use Rattle.std.specs.Prelude.{◌≡◌, ℕ, ◌+◌, ◌≤◌, List, ◌++◌, map, length, Result}
+use Rattle.serde_json.specs.Data.{Data}
+use Rattle.sarif_records.specs.declared.fault.ReadFault.{ReadFault}
+use Rattle.sarif_records.specs.Run.{results_total}
+use Rattle.sarif_sources.specs.declared.fault.MergeFault.{MergeFault}
+use Rattle.sarif_sources.specs.declared.fault.Source.{Source}
+use Rattle.sarif_sources.specs.declared.fault.Source.TheVariants.{Log, Baseline}
+use Rattle.sarif_inputs.specs.declared.sources.Reading.{Reading}
+use Rattle.sarif_inputs.specs.Inputs.{Sourced, numbered, readable}
+use Rattle.sarif_inputs.specs.Inputs.{data_of}
+use Rattle.sarif_judge.specs.Opened.{placed_of}
+use Rattle.sarif_inputs.specs.SourceFaults.{reading_faults, limit_faults}
+
+-- the runs and their results are within the limits, and the results are counted
+abbrev pub IsCounted : Reading → Type 0
+IsCounted reading =
+    (length reading.runs.items ≤ 10000)
+    × (reading.results ≤ 1000000)
+    × (reading.results ≡ results_total (data_of (map placed_of reading.runs.items)))
+
+-- the faults of a source that reads as this, after so many runs and results
+abbrev pub faults_with : Source → Result (List Data) ReadFault → ℕ → ℕ → List MergeFault
+faults_with source log runs results =
+    reading_faults source log
+    ++ limit_faults source (runs + length (readable log)) (results + results_total (readable log))
+
+-- the logs and then the baselines, by their bytes
+abbrev pub sources_of : List (List ℕ) → List (List ℕ) → List Sourced
+sources_of logs baselines = numbered Log 0 logs ++ numbered Baseline 0 baselines

@@ -1,0 +1,57 @@
+//! Indexing the sources of a merge, some of them at the same time.
+ghost use Rattle.std.specs.Prelude.{◌≡◌, ◌≤◌, ◌+◌, ◌++◌, IfOk, map, length};
+ghost use Rattle.json_index.specs.Together.{AreIndexed};
+ghost use Rattle.sarif_records.specs.Reading as said;
+
+use json::Scratch;
+use json_index::{Index, IndexFault, Job, index_texts};
+use sarif_records::without_mark;
+use std::alloc::{AllocError, Global};
+use std::thread::Threads;
+
+/// Adds a job for each of these sources, with a scratch of its own.
+fn add_jobs<'a>(
+    mut jobs: Vec<Job<'a>>,
+    sources: &'a [Vec<u8>],
+    scratches: &'a mut [Scratch],
+) -> Result<Vec<Job<'a>>, AllocError>
+    requires { length scratches.old ≡ length sources.now }
+    ensures { IfOk result (λ all. map (λ job. job.bytes.now) all.items
+        ≡ map (λ job. job.bytes.now) jobs.entry.items
+        ++ map said.without_mark (map (λ v. v.items) sources.now)) }
+{
+    let mut spare = scratches.iter_mut();
+    for bytes in sources {
+        // Each source has one.
+        let Some(scratch) = spare.next() else {
+            return Err(AllocError);
+        };
+        jobs.push(Job {
+            bytes: without_mark(bytes.as_slice()),
+            scratch,
+        })?;
+    }
+    Ok(jobs)
+}
+
+/// The indexes of all sources, the logs and then the baselines, each without its leading byte order
+/// mark. At most so many threads index them, this one among them; each source has a scratch of its
+/// own. `AllocError` where memory for the list is wanting; a source's own fault stands in the list.
+pub fn index_sources<'a, R: Threads + Sync>(
+    rt: &R,
+    alloc: Global,
+    logs: &'a [Vec<u8>],
+    baselines: &'a [Vec<u8>],
+    scratches: &'a mut [Scratch],
+    threads: u32,
+) -> Result<Vec<Result<Index<'a>, IndexFault>>, AllocError>
+    requires threads { 1 ≤ threads }
+    requires scratches { length scratches.old ≡ length logs.now + length baselines.now }
+    ensures { IfOk result (λ found. AreIndexed (map said.without_mark
+        (map (λ v. v.items) logs.now ++ map (λ v. v.items) baselines.now)) found.items) }
+{
+    let (first, second) = scratches.split_at_mut(logs.len());
+    let jobs = add_jobs(Vec::new(alloc), logs, first)?;
+    let all = add_jobs(jobs, baselines, second)?;
+    index_texts(rt, alloc, all, threads)
+}

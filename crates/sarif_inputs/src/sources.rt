@@ -1,0 +1,263 @@
+//! Opening the runs of all sources of a merge.
+ghost use Rattle.std.specs.Prelude.{◌≡◌, ◌≤◌, ◌+◌, ◌++◌, [], Ok, ℕ, List, map, length, false};
+ghost use Rattle.std.specs.Prelude.{OnOk, IfErr, IfOk};
+ghost use Rattle.std.specs.List.{list_any};
+ghost use Rattle.serde_json.specs.Written.{has_float};
+ghost use Rattle.json_index.specs.Together.{AreIndexed, IsIndexed};
+ghost use Rattle.sarif_records.specs.Indexed.{run_of};
+ghost use Rattle.sarif_records.specs.Reading.{log_of, without_mark};
+ghost use Rattle.sarif_records.specs.Run.{results_total};
+ghost use Rattle.sarif_sources.specs.Failing.{IsQuiet};
+ghost use Rattle.sarif_sources.specs.SourceKind.{source_of};
+ghost use Rattle.sarif_judge.specs.Opened.{placed_of};
+ghost use Rattle.sarif_inputs.specs.Faults.{Answers, IsTooMany, number_faults};
+ghost use Rattle.sarif_inputs.specs.Inputs.{data_of, numbered, placed, placed_from, readable};
+ghost use Rattle.sarif_inputs.specs.Parsed.{IsParsedFrom};
+ghost use Rattle.sarif_inputs.specs.ReadSoFar.{IsCounted, faults_with, sources_of};
+ghost use Rattle.sarif_inputs.specs.SourceFaults.{reading_faults, limit_faults, source_faults};
+
+use json_index::{Index, IndexFault};
+use sarif_judge::OpenedRun;
+use sarif_records::{
+    IndexedRun, MOST_RESULTS, MOST_RUNS, ReadFault, index_log, read_runs_hold_no_fraction,
+};
+use sarif_sources::{At, Cause, MergeFault, Source, SourceKind};
+use std::alloc::{AllocError, Global};
+
+/// How many sources of each kind a merge may have.
+const MOST_SOURCES: usize = 1_000;
+
+/// The runs of all sources in order, the input runs first.
+#[derive(Drop)]
+pub struct Runs<'t, 'a> {
+    pub all: Vec<OpenedRun<'t, 'a>>,
+    /// How many of them are input runs.
+    pub inputs: u32,
+}
+
+/// At most 1,000 logs and 1,000 baselines: else `TooMany` at the first past the limit.
+pub fn check_numbers(logs: usize, baselines: usize) -> Result<(), MergeFault>
+    ensures faults { (ls bs : List (List ℕ)) → length ls ≡ logs → length bs ≡ baselines
+        → Answers (number_faults Source.Log ls ++ number_faults Source.Baseline bs) result }
+    ensures too_many { IfErr result (IsTooMany logs baselines) }
+    ensures few_logs { OnOk result (logs ≤ 1000) }
+    ensures few_baselines { OnOk result (baselines ≤ 1000) }
+    ensures quiet { IsQuiet result }
+{
+    if logs > MOST_SOURCES {
+        return Err(too_many(Source::Log(1_000)));
+    }
+    if baselines > MOST_SOURCES {
+        return Err(too_many(Source::Baseline(1_000)));
+    }
+    Ok(())
+}
+
+fn too_many(source: Source) -> MergeFault
+    ensures { result ≡ record { at = At.Whole source; cause = Cause.TooMany } }
+{
+    MergeFault::found(At::Whole(source), Cause::TooMany)
+}
+
+/// The runs of the log of an index, or why it is no log.
+fn read_index<'t, 'a>(
+    alloc: Global,
+    index: &'t Result<Index<'a>, IndexFault>,
+) -> Result<Vec<IndexedRun<'t, 'a>>, ReadFault>
+    ensures { (bytes : List ℕ) → IsIndexed (without_mark bytes) index.now
+        → IsParsedFrom bytes result }
+{
+    match index {
+        Ok(found) => index_log(alloc, found),
+        Err(fault) => Err(ReadFault::from(*fault)),
+    }
+}
+
+/// The log that was read of a source, or its fault with its place.
+#[tactic(auto, using(sarif_sources::proofs::QuietFaults::quiet_fault))]
+fn log_of_source<'t, 'a>(
+    source: Source,
+    parsed: Result<Vec<IndexedRun<'t, 'a>>, ReadFault>,
+) -> Result<Vec<IndexedRun<'t, 'a>>, MergeFault>
+    ensures runs { (bytes : List ℕ) → IsParsedFrom bytes parsed.entry
+        → IfOk result (λ log. log_of bytes ≡ Ok (map run_of log.items)) }
+    ensures same { IfOk result (λ log. parsed.entry ≡ Ok log) }
+    ensures faults { (bytes : List ℕ) → IsParsedFrom bytes parsed.entry
+        → Answers (reading_faults source (log_of bytes)) result }
+    ensures quiet { IsQuiet result }
+{
+    match parsed {
+        Ok(log) => Ok(log),
+        Err(fault) => {
+            let at = match fault.run {
+                Some(run) => At::Run(source, run),
+                None => At::Whole(source),
+            };
+            Err(MergeFault::found(at, Cause::from(fault.fault)))
+        }
+    }
+}
+
+/// At most so many runs and results, with this source the last: else `TooMany` at it.
+fn check_limits(source: Source, runs: usize, results: u32) -> Result<(), MergeFault>
+    ensures faults { Answers (limit_faults source runs results) result }
+    ensures few_runs { OnOk result (runs ≤ 10000) }
+    ensures few_results { OnOk result (results ≤ 1000000) }
+    ensures quiet { IsQuiet result }
+{
+    if runs > MOST_RUNS || results as usize > MOST_RESULTS {
+        Err(too_many(source))
+    } else {
+        Ok(())
+    }
+}
+
+/// How many results the runs have.
+fn count_results(runs: &[IndexedRun<'_, '_>]) -> u32
+    requires { results_total (map run_of runs.now) ≤ 1000000 }
+    ensures count { result ≡ results_total (map run_of runs.now) }
+    ensures few { result ≤ 1000000 }
+{
+    let mut results = 0;
+    for run in runs {
+        results += run.len();
+    }
+    results
+}
+
+/// Opens the runs of a source, and adds them with their numbers.
+fn place_runs<'t, 'a>(
+    alloc: Global,
+    source: Source,
+    runs: Vec<IndexedRun<'t, 'a>>,
+    all: &mut Vec<OpenedRun<'t, 'a>>,
+) -> Result<(), AllocError>
+    requires few { length runs.items ≤ 10000 }
+    requires whole { list_any has_float (map run_of runs.items) ≡ false }
+    ensures { OnOk result (map placed_of all.new.items
+        ≡ map placed_of all.old.items ++ placed_from source 0 (map run_of runs.entry.items)) }
+{
+    let mut number = 0;
+    for run in runs {
+        let opened = OpenedRun::open(alloc, source, number, run)?;
+        all.push(opened)?;
+        number += 1;
+    }
+    Ok(())
+}
+
+/// What was read so far.
+#[derive(Drop)]
+struct Reading<'t, 'a> {
+    runs: Vec<OpenedRun<'t, 'a>>,
+    /// How many results the runs have.
+    results: u32,
+}
+
+impl<'t, 'a> Reading<'t, 'a> {
+    /// Nothing.
+    fn new(alloc: Global) -> Reading<'t, 'a>
+        ensures runs { result.runs.items ≡ [] }
+        ensures results { result.results ≡ 0 }
+    {
+        Reading {
+            runs: Vec::new(alloc),
+            results: 0,
+        }
+    }
+
+    /// Adds the runs of a source that was indexed.
+    fn add(
+        &mut self,
+        alloc: Global,
+        source: Source,
+        index: &'t Result<Index<'a>, IndexFault>,
+    ) -> Result<(), MergeFault>
+        requires counted { IsCounted self.old }
+        requires indexed { (bytes : List ℕ) × IsIndexed (without_mark bytes) index.now }
+        ensures runs { (bytes : List ℕ) → IsIndexed (without_mark bytes) index.now
+            → OnOk result (map placed_of self.new.runs.items
+            ≡ map placed_of self.old.runs.items
+            ++ placed_from source 0 (readable (log_of bytes))) }
+        ensures results { (bytes : List ℕ) → IsIndexed (without_mark bytes) index.now
+            → OnOk result (self.new.results
+            ≡ self.old.results + results_total (readable (log_of bytes))) }
+        ensures counted { OnOk result (IsCounted self.new) }
+        ensures faults { (bytes : List ℕ) → IsIndexed (without_mark bytes) index.now
+            → Answers (faults_with source (log_of bytes)
+            (length self.old.runs.items) self.old.results) result }
+        ensures quiet { IsQuiet result }
+    {
+        read_runs_hold_no_fraction();
+        let log = log_of_source(source, read_index(alloc, index))?;
+        let results = self.results + count_results(log.as_slice());
+        check_limits(source, self.runs.len() + log.len(), results)?;
+        place_runs(alloc, source, log, &mut self.runs)?;
+        self.results = results;
+        Ok(())
+    }
+
+    /// Adds the runs of the sources of a kind that were indexed, in order.
+    fn add_all(
+        &mut self,
+        alloc: Global,
+        kind: SourceKind,
+        indexes: &'t [Result<Index<'a>, IndexFault>],
+    ) -> Result<(), MergeFault>
+        requires few { length indexes.now ≤ 1000 }
+        requires counted { IsCounted self.old }
+        requires indexed { (sources : List (List ℕ))
+            × AreIndexed (map without_mark sources) indexes.now }
+        ensures runs { (sources : List (List ℕ))
+            → AreIndexed (map without_mark sources) indexes.now
+            → OnOk result (map placed_of self.new.runs.items
+            ≡ map placed_of self.old.runs.items
+            ++ placed (numbered (source_of kind) 0 sources)) }
+        ensures counted { OnOk result (IsCounted self.new) }
+        ensures faults { (sources : List (List ℕ))
+            → AreIndexed (map without_mark sources) indexes.now
+            → Answers (source_faults (length self.old.runs.items) self.old.results
+            (numbered (source_of kind) 0 sources)) result }
+        ensures quiet { IsQuiet result }
+    {
+        for (number, index) in indexes.iter().enumerate() {
+            self.add(alloc, kind.source(number as u32), index)?;
+        }
+        Ok(())
+    }
+}
+
+/// Opens the runs of the logs, which are the first so many of the indexes, and then those of the
+/// baselines. A refusal is the first fault of the sources in order: of reading one, or `TooMany` at
+/// the first with which there are more than 10,000 runs or 1,000,000 results; or `OutOfMemory`.
+pub fn open_sources<'t, 'a>(
+    alloc: Global,
+    indexes: &'t [Result<Index<'a>, IndexFault>],
+    logs: usize,
+) -> Result<Runs<'t, 'a>, MergeFault>
+    requires indexed { (ls : List (List ℕ)) × (bs : List (List ℕ)) × (length ls ≡ logs)
+        × (length ls ≤ 1000) × (length bs ≤ 1000)
+        × AreIndexed (map without_mark (ls ++ bs)) indexes.now }
+    ensures all { (ls bs : List (List ℕ)) → length ls ≡ logs
+        → AreIndexed (map without_mark (ls ++ bs)) indexes.now
+        → IfOk result (λ runs. map placed_of runs.all.items ≡ placed (sources_of ls bs)) }
+    ensures inputs { (ls bs : List (List ℕ)) → length ls ≡ logs
+        → AreIndexed (map without_mark (ls ++ bs)) indexes.now
+        → IfOk result (λ runs. runs.inputs ≡ length (placed (numbered Source.Log 0 ls))) }
+    ensures within { IfOk result (λ runs. runs.inputs ≤ length runs.all.items) }
+    ensures few { IfOk result (λ runs. length runs.all.items ≤ 10000) }
+    ensures few_results { IfOk result
+        (λ runs. results_total (data_of (map placed_of runs.all.items)) ≤ 1000000) }
+    ensures faults { (ls bs : List (List ℕ)) → length ls ≡ logs
+        → AreIndexed (map without_mark (ls ++ bs)) indexes.now
+        → Answers (source_faults 0 0 (sources_of ls bs)) result }
+    ensures quiet { IsQuiet result }
+{
+    let (first, second) = indexes.split_at(logs);
+    let mut reading = Reading::new(alloc);
+    reading.add_all(alloc, SourceKind::Log, first)?;
+    let inputs = reading.runs.len() as u32;
+    reading.add_all(alloc, SourceKind::Baseline, second)?;
+    let Reading { runs: all, .. } = reading;
+    Ok(Runs { all, inputs })
+}

@@ -1,0 +1,27 @@
+//! Reading the suppression file of a merge.
+ghost use Rattle.std.specs.Prelude.{◌≡◌, Ok, IfOk, option_map};
+ghost use Rattle.sarif_sources.specs.Failing.{IsQuiet};
+ghost use Rattle.sarif_inputs.specs.Faults.{Answers, file_faults, file_or_none};
+
+use sarif_sources::MergeFault;
+use sarif_suppress::{Suppressions, read_rules};
+use std::alloc::Global;
+
+/// The entries of the suppression file for that day, where there is one; without it there are none.
+#[tactic(auto, using(sarif_sources::proofs::QuietFaults::quiet_file, crate::proofs::FileAnswers::file_refused))]
+pub fn read_file(
+    alloc: Global,
+    bytes: Option<&[u8]>,
+    today: Option<u32>,
+) -> Result<Suppressions, MergeFault>
+    ensures read { IfOk result
+        (λ file. file_or_none (option_map (λ b. b.now) bytes.entry) today ≡ Ok file) }
+    ensures faults { Answers
+        (file_faults (file_or_none (option_map (λ b. b.now) bytes.entry) today)) result }
+    ensures quiet { IsQuiet result }
+{
+    match bytes {
+        Some(bytes) => Ok(read_rules(alloc, bytes, today)?),
+        None => Ok(Suppressions::none(alloc, today)?),
+    }
+}

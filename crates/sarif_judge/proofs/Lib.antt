@@ -1,0 +1,5 @@
+pub mod Places
+pub mod Shards
+pub mod WholeResults
+pub mod AllSpots
+pub mod SpotsWithin

@@ -1,0 +1,18 @@
+-- The outcomes in what is gathered of all shards. No public clause of the merge speaks of it.
+use Rattle.std.specs.Prelude.{ℕ, List, map, reverse, ⊤}
+use Rattle.std.specs.declared.vec.Vec.{Vec}
+use Rattle.std.specs.declared.alloc.Global.{Global}
+use Rattle.std.specs.List.{flat_map}
+use Rattle.sarif_gather.specs.Held.{Whole}
+use Rattle.sarif_judge.specs.declared.outcome.Outcome.{Outcome}
+
+-- one list of all
+abbrev pub within_shards : List (List Outcome) → List Outcome
+within_shards shards = flat_map (λ shard. shard) shards
+
+abbrev pub flattened : List (Whole (List Outcome) ⊤) → List Outcome
+flattened runs = flat_map (λ w. within_shards w.items) runs
+
+-- the same, where the runs are put upon each other so that the first is the last
+abbrev pub flattened_from : List (Vec (List Outcome) Global) → List Outcome
+flattened_from stack = flat_map within_shards (reverse (map (λ v. v.items) stack))

@@ -1,0 +1,40 @@
+-- What a worker makes of a result: its item, and its draft. No public clause of the merge speaks of drafts.
+use Rattle.std.specs.Prelude.{ℕ, Bool, true, false, List, map, length, Option, Some, None}
+use Rattle.std.specs.List.{flat_map, range_with_len}
+use Rattle.serde_json.specs.Data.{Data}
+use Rattle.sarif_records.specs.declared.record.Record.{Record}
+use Rattle.sarif_records.specs.Run.{results_of, result_at}
+use Rattle.sarif_suppress.specs.File.{File}
+use Rattle.sarif_suppress.specs.Written.{suppressions_of}
+use Rattle.sarif_write.specs.declared.draft.Draft.{Draft}
+use Rattle.sarif_write.specs.Drafts.{applied_of, draft_by, members_in, unapplied}
+use Rattle.sarif_judge.specs.declared.item.Item.{Item}
+use Rattle.sarif_judge.specs.declared.item.Item.TheVariants.{Sound, Bad, Skipped}
+use Rattle.sarif_judge.specs.declared.outcome.Outcome.{Outcome}
+use Rattle.sarif_judge.specs.Judging.{item_of, skips}
+use Rattle.sarif_judge.specs.Placed.{Placed}
+
+-- the draft of a result: of a baseline's (true) with its own suppressions, else with those that the file gives it too
+abbrev pub draft_in : File → Bool → Record → Data → Draft
+draft_in file true r d = draft_by (λ _ own. own) unapplied r (members_in d)
+draft_in file false r d = draft_by (λ r own. suppressions_of own file r) (applied_of file) r (members_in d)
+
+-- only a result that has a record has a draft
+abbrev pub draft_beside : File → Bool → Data → Item → Option Draft
+draft_beside file baseline d (Sound r) = Some (draft_in file baseline r d)
+draft_beside file baseline d (Bad fault) = None
+draft_beside file baseline d Skipped = None
+
+abbrev pub outcome_of : File → Placed → ℕ → Outcome
+outcome_of file p seq = record {
+  item = item_of p seq;
+  draft = draft_beside file (skips p.source) (result_at p.run seq) (item_of p seq);
+}
+
+-- the outcomes of a run's results, in order
+abbrev pub outcomes_of : File → Placed → List Outcome
+outcomes_of file p = map (outcome_of file p) (range_with_len 0 (length (results_of p.run)))
+
+-- those of these runs, in the order of runs and results
+abbrev pub all_outcomes : File → List Placed → List Outcome
+all_outcomes file runs = flat_map (outcomes_of file) runs

@@ -1,0 +1,89 @@
+//! The work of judging: each run of it is a shard of the results.
+ghost use Rattle.std.specs.Prelude.{◌≡◌, ◌≤◌, ◌<◌, ◌*◌, IfOk, map, length};
+ghost use Rattle.std.specs.List.{All};
+ghost use Rattle.sarif_judge.specs.Opened.{placed_of};
+ghost use Rattle.sarif_judge.specs.Spots.{outcome_at, IsSpotOf};
+
+use crate::opened::OpenedRun;
+use crate::outcome::{Outcome, judge_result};
+use crate::shard::Shard;
+use crate::spots::{Spot, chunk_of};
+use sarif_gather::Work;
+use sarif_suppress::Suppressions;
+use std::alloc::{AllocError, Global};
+
+/// The results to be judged, in shards of `size` places each.
+#[derive(Drop)]
+pub(crate) struct Judging<'w, 't: 'w, 'a: 't> {
+    pub(crate) runs: &'w [OpenedRun<'t, 'a>],
+    pub(crate) spots: &'w [Spot],
+    pub(crate) rules: &'w Suppressions,
+    pub(crate) size: usize,
+    pub(crate) shards: u32,
+    ghost within: { All (IsSpotOf (map placed_of runs.now)) spots.now },
+    ghost few: { shards ≤ 10000 },
+    ghost small: { size ≤ 1000001 },
+}
+
+/// Judges some results, in order.
+pub(crate) fn judge_spots(
+    alloc: Global,
+    runs: &[OpenedRun<'_, '_>],
+    spots: &[Spot],
+    rules: &Suppressions,
+) -> Result<Vec<Outcome>, AllocError>
+    requires within { All (IsSpotOf (map placed_of runs.now)) spots.now }
+    ensures { IfOk result (λ outcomes. outcomes.items
+        ≡ map (outcome_at rules.now (map placed_of runs.now)) spots.now) }
+{
+    let mut outcomes = Vec::with_capacity(alloc, spots.len())?;
+    for spot in spots {
+        outcomes.push(judge_result(alloc, &runs[spot.run as usize], spot.seq, rules)?)?;
+    }
+    Ok(outcomes)
+}
+
+impl<'w, 't: 'w, 'a: 't> Work for Judging<'w, 't, 'a> {
+    ghost use Rattle.std.specs.Prelude.{◌≡◌, map};
+    ghost use Rattle.sarif_judge.specs.Opened.{placed_of};
+    ghost use Rattle.sarif_judge.specs.Spots.{judged_shard};
+
+    type Head = u32;
+
+    type Item = Shard;
+
+    type Tail = ();
+
+    ghost run_count = { λ w. w.shards };
+
+    ghost count = { λ w run. 1 };
+
+    ghost item = { λ w run seq. judged_shard w.rules.now (map placed_of w.runs.now) w.size w.spots.now run };
+
+    ghost end = { λ w run. tt };
+
+    ghost IsHeadOf = { λ w run head. head ≡ run };
+
+    ghost few = { λ w. w.few };
+
+    fn runs(&self) -> u32 {
+        self.shards
+    }
+
+    fn start(&self, _alloc: Global, run: u32) -> Result<u32, AllocError> {
+        Ok(run)
+    }
+
+    fn len(&self, _head: &u32) -> u32 {
+        1
+    }
+
+    fn make(&self, alloc: Global, head: &u32, _seq: u32) -> Result<Shard, AllocError> {
+        let start = *head as usize * self.size;
+        let spots = chunk_of(self.spots, start, self.size);
+        let outcomes = judge_spots(alloc, self.runs, spots, self.rules)?;
+        Ok(Shard::new(outcomes))
+    }
+
+    fn tail(&self, _head: u32) {}
+}

@@ -1,0 +1,16 @@
+//! Judging results: the record of each result or its first fault, and its draft, made by workers.
+#![tactic(auto)]
+
+mod item;
+mod judging;
+mod opened;
+mod outcome;
+mod outcomes;
+mod shard;
+mod spots;
+
+pub use item::Item;
+pub use opened::OpenedRun;
+pub use outcome::Outcome;
+pub use outcomes::judge;
+pub use sarif_gather::{Gate, NoGate};

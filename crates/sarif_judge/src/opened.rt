@@ -1,0 +1,103 @@
+//! A run with what its results need of it.
+ghost use Rattle.std.specs.Prelude.{◌≡◌, ◌≤◌, false, is_some, length, IfOk};
+ghost use Rattle.serde_json.specs.View.{view};
+ghost use Rattle.serde_json.specs.Written.{has_float};
+ghost use Rattle.sarif_records.specs.Indexed.{run_of};
+ghost use Rattle.sarif_rules.specs.Head.{head_of};
+ghost use Rattle.sarif_rules.specs.Record.{tool_name};
+
+use sarif_records::{Fault, IndexedRun, Text};
+use sarif_rules::{RunHead, copy_tool_name, open_value};
+use sarif_sources::Source;
+use serde_json::Value;
+use std::alloc::{AllocError, Global};
+
+/// A run with the log or the baseline that it stands in, and what opening it gave: its head, or its
+/// fault (SARIF 2.1.0, "run object").
+#[derive(Drop)]
+pub struct OpenedRun<'t, 'a> {
+    pub source: Source,
+    /// Its number in its source, from 0.
+    pub number: u32,
+    pub(crate) run: IndexedRun<'t, 'a>,
+    pub(crate) tool: Text,
+    pub(crate) head: Result<RunHead, Fault>,
+    ghost tool_is: { tool ≡ tool_name (run_of run) },
+    ghost head_is: { head ≡ head_of (run_of run) },
+    ghost whole: { has_float (run_of run) ≡ false },
+}
+
+/// The head of a run, or its fault.
+fn open_head(alloc: Global, run: &Value) -> Result<Result<RunHead, Fault>, AllocError>
+    ensures { IfOk result (λ head. head ≡ head_of (view run.now)) }
+{
+    match open_value(alloc, run) {
+        Ok(head) => Ok(Ok(head)),
+        Err(Fault::OutOfMemory) => Err(AllocError),
+        Err(fault) => Ok(Err(fault)),
+    }
+}
+
+impl<'t, 'a> OpenedRun<'t, 'a> {
+    ghost use Rattle.sarif_judge.specs.Judging.{opening_fault};
+    ghost use Rattle.sarif_judge.specs.Opened.{placed_of};
+    ghost use Rattle.sarif_records.specs.Bare.{bare};
+    ghost use Rattle.sarif_records.specs.Run.{results_array, results_of};
+
+    /// Opens a run that holds no number with a fraction.
+    #[tactic(auto, using(sarif_rules::proofs::Beside::bare_head, sarif_rules::proofs::Beside::bare_tool_name))]
+    pub fn open(
+        alloc: Global,
+        source: Source,
+        number: u32,
+        run: IndexedRun<'t, 'a>,
+    ) -> Result<OpenedRun<'t, 'a>, AllocError>
+        requires whole { has_float (run_of run) ≡ false }
+        ensures placed { IfOk result (λ opened. placed_of opened
+            ≡ record { source = source; number = number; run = run_of run.entry }) }
+    {
+        let tool = copy_tool_name(alloc, run.bare())?;
+        let head = open_head(alloc, run.bare())?;
+        Ok(OpenedRun {
+            source,
+            number,
+            run,
+            tool,
+            head,
+        })
+    }
+
+    /// Why the run can't be opened, where that is so.
+    pub fn fault(&self) -> Option<Fault>
+        ensures { result ≡ opening_fault (placed_of self.now) }
+    {
+        match &self.head {
+            Ok(_) => None,
+            Err(fault) => Some(*fault),
+        }
+    }
+
+    /// How many results the run has, at most 1,000,000.
+    pub fn len(&self) -> u32
+        ensures count { result ≡ length (results_of (placed_of self.now).run) }
+        ensures few { result ≤ 1000000 }
+    {
+        self.run.len()
+    }
+
+    /// Whether the run has an array of results; where `results` is absent or null it has none.
+    pub fn has_results(&self) -> bool
+        ensures { result ≡ is_some (results_array (placed_of self.now).run) }
+    {
+        self.run.has_results()
+    }
+
+    /// The run without its results, taken out.
+    pub fn into_bare(self) -> Value
+        ensures value { view result ≡ bare (placed_of self.entry).run }
+        ensures whole { has_float (placed_of self.entry).run ≡ false }
+    {
+        let OpenedRun { run, .. } = self;
+        run.into_bare()
+    }
+}

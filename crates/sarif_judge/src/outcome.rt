@@ -1,0 +1,106 @@
+//! Judging one result.
+ghost use Rattle.std.specs.Prelude.{◌≡◌, ◌<◌, ℕ, false, length, IfOk};
+ghost use Rattle.serde_json.specs.View.{view};
+ghost use Rattle.serde_json.specs.Written.{has_float};
+ghost use Rattle.sarif_records.specs.Run.{results_of, result_at};
+ghost use Rattle.sarif_judge.specs.Judging.{item_of, skips};
+ghost use Rattle.sarif_judge.specs.Opened.{placed_of};
+ghost use Rattle.sarif_judge.specs.Outcomes.{draft_beside, outcome_of};
+ghost use Rattle.sarif_judge.specs.Found.{record_item};
+
+use crate::item::Item;
+use crate::opened::OpenedRun;
+use sarif_records::{Fault, is_marked_absent};
+use sarif_rules::make_record_of;
+use sarif_sources::Source;
+use sarif_suppress::Suppressions;
+use sarif_write::{Draft, draft_absent, draft_current};
+use serde_json::Value;
+use std::alloc::{AllocError, Global};
+
+/// What a worker made of a result.
+#[derive(Debug, Drop)]
+pub struct Outcome {
+    /// Its record, its first fault, or that it is skipped.
+    pub item: Item,
+    /// Its draft, where it has a record.
+    pub draft: Option<Draft>,
+}
+
+/// Whether results that are absent already are skipped: those of a baseline are.
+fn skips_absent(source: Source) -> bool
+    ensures { result ≡ skips source }
+{
+    matches!(source, Source::Baseline(_))
+}
+
+/// The record of a result of the run, or its first fault.
+fn read_record(alloc: Global, opened: &OpenedRun<'_, '_>, found: &Value) -> Result<Item, AllocError>
+    ensures { IfOk result
+        (λ item. item ≡ record_item (placed_of opened.now).run (view found.now)) }
+{
+    let head = match &opened.head {
+        Ok(head) => head,
+        Err(fault) => return Ok(Item::Bad(*fault)),
+    };
+    match make_record_of(alloc, head, &opened.tool, found) {
+        Ok(record) => Ok(Item::Sound(record)),
+        Err(Fault::OutOfMemory) => Err(AllocError),
+        Err(fault) => Ok(Item::Bad(fault)),
+    }
+}
+
+/// What is known of a result of the run before results are matched.
+#[tactic(auto, unfolding(sarif_rules::specs::Record::record_of))]
+fn judge_item(alloc: Global, opened: &OpenedRun<'_, '_>, found: &Value) -> Result<Item, AllocError>
+    ensures { (seq : ℕ) → view found.now ≡ result_at (placed_of opened.now).run seq
+        → IfOk result (λ item. item ≡ item_of (placed_of opened.now) seq) }
+{
+    if skips_absent(opened.source) && is_marked_absent(found) {
+        return Ok(Item::Skipped);
+    }
+    let item = read_record(alloc, opened, found)?;
+    Ok(item)
+}
+
+/// The draft of a result of a source, where it has a record.
+fn draft_result(
+    alloc: Global,
+    source: Source,
+    found: Value,
+    item: &Item,
+    rules: &Suppressions,
+) -> Result<Option<Draft>, AllocError>
+    requires whole { has_float (view found) ≡ false }
+    ensures { IfOk result
+        (λ draft. draft ≡ draft_beside rules.now (skips source) (view found) item.now) }
+{
+    match item {
+        Item::Sound(record) => {
+            if skips_absent(source) {
+                Ok(Some(draft_absent(alloc, found, record)?))
+            } else {
+                Ok(Some(draft_current(alloc, found, record, rules)?))
+            }
+        }
+        Item::Bad(_) | Item::Skipped => Ok(None),
+    }
+}
+
+/// Judges the result of a run with that number.
+#[tactic(auto, using(crate::proofs::WholeResults::result_whole))]
+pub(crate) fn judge_result(
+    alloc: Global,
+    opened: &OpenedRun<'_, '_>,
+    seq: u32,
+    rules: &Suppressions,
+) -> Result<Outcome, AllocError>
+    requires in_run { seq < length (results_of (placed_of opened.now).run) }
+    ensures { IfOk result
+        (λ outcome. outcome ≡ outcome_of rules.now (placed_of opened.now) seq) }
+{
+    let found = opened.run.result(alloc, seq)?;
+    let item = judge_item(alloc, opened, &found)?;
+    let draft = draft_result(alloc, opened.source, found, &item, rules)?;
+    Ok(Outcome { item, draft })
+}

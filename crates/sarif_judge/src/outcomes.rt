@@ -1,0 +1,91 @@
+//! The outcomes of all results, judged by workers.
+ghost use Rattle.std.specs.Prelude.{◌≡◌, ◌≤◌, ◌++◌, map, length, IfOk, OnOk};
+ghost use Rattle.std.specs.List.{flat_map};
+ghost use Rattle.sarif_records.specs.Run.{results_total};
+ghost use Rattle.sarif_judge.specs.Opened.{placed_of};
+ghost use Rattle.sarif_judge.specs.Outcomes.{all_outcomes};
+ghost use Rattle.sarif_judge.specs.Flattened.{flattened, flattened_from, within_shards};
+
+use crate::judging::Judging;
+use crate::opened::OpenedRun;
+use crate::outcome::Outcome;
+use crate::shard::Shard;
+use crate::spots::list_spots;
+use sarif_gather::{Gate, GatherFault, Lists, gather};
+use sarif_suppress::Suppressions;
+use std::alloc::{AllocError, Global};
+use std::sync::Wait;
+use std::thread::Threads;
+
+/// How many parcels wait at most for the calling thread.
+const ROOM: u32 = 256;
+
+/// How many shards there are for each worker: enough that all of them end at about the same time.
+const SHARDS_A_WORKER: usize = 16;
+
+/// The shards, the last one first.
+fn stacked(alloc: Global, mut lists: Lists<Shard, ()>) -> Result<Vec<Vec<Shard>>, AllocError>
+    ensures { IfOk result (λ stack. flattened_from stack.items ≡ flattened lists) }
+{
+    let mut stack = Vec::with_capacity(alloc, lists.runs() as usize)?;
+    while let Some((shards, _tail)) = lists.pop() {
+        stack.push(shards)?;
+    }
+    Ok(stack)
+}
+
+/// Moves the outcomes of some shards to the end of the others.
+fn append_shards(all: &mut Vec<Outcome>, shards: Vec<Shard>) -> Result<(), AllocError>
+    ensures { OnOk result (all.new.items ≡ all.old.items ++ within_shards shards.items) }
+{
+    for shard in shards {
+        let mut outcomes = shard.into_outcomes();
+        all.append(&mut outcomes)?;
+    }
+    Ok(())
+}
+
+/// Takes all off a stack, and gives their outcomes in one list.
+fn flatten(alloc: Global, mut stack: Vec<Vec<Shard>>) -> Result<Vec<Outcome>, AllocError>
+    ensures { IfOk result (λ all. all.items ≡ flattened_from stack.items) }
+{
+    let mut all = Vec::new(alloc);
+    while let Some(shards) = stack.pop() {
+        append_shards(&mut all, shards)?;
+    }
+    Ok(all)
+}
+
+/// Judges all results of these runs by so many workers: the item and the draft of each, in the order of runs
+/// and results, whichever worker was the first. `observer` looks on while shards are judged.
+///
+/// A refusal is `OutOfMemory`, or `NoWorker` where a thread can't be started.
+pub fn judge<G: Gate + Sync, R: Threads + Wait + Sync>(
+    rt: &R,
+    alloc: Global,
+    runs: &[OpenedRun<'_, '_>],
+    rules: &Suppressions,
+    workers: u32,
+    observer: &G,
+) -> Result<Vec<Outcome>, GatherFault>
+    requires workers { (1 ≤ workers) × (workers ≤ 64) }
+    requires few { length runs.now ≤ 10000 }
+    requires few_results { results_total (map (λ p. p.run) (map placed_of runs.now)) ≤ 1000000 }
+    ensures { IfOk result (λ outcomes. outcomes.items
+        ≡ all_outcomes rules.now (map placed_of runs.now)) }
+{
+    let spots = list_spots(alloc, runs)?;
+    let parts = workers as usize * SHARDS_A_WORKER;
+    let size = spots.len() / parts + 1;
+    let work = Judging {
+        runs,
+        spots: &spots,
+        rules,
+        size,
+        shards: (spots.len() / size + 1) as u32,
+    };
+    let lists = gather(rt, alloc, &work, workers, ROOM, observer)?;
+    let stack = stacked(alloc, lists)?;
+    let all = flatten(alloc, stack)?;
+    Ok(all)
+}

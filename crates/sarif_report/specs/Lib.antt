@@ -1,0 +1,13 @@
+pub mod CountRow
+pub mod Escaped
+pub mod Finding
+pub mod GithubReport
+pub mod Lookup
+pub mod MarkdownReport
+pub mod Message
+pub mod PathOf
+pub mod Reported
+pub mod Shown
+pub mod ShownLaws
+pub mod ShownSoFar
+pub mod TextReport

@@ -1,0 +1,89 @@
+//! Texts in which some characters are written in another way.
+ghost use Rattle.std.specs.Prelude.{◌≡◌, ◌++◌, OnOk, string_bytes};
+
+use std::alloc::{AllocError, Global};
+
+/// What a text is written for.
+#[derive(Clone, Copy, Debug, PartialEq, Eq)]
+pub(crate) enum Escaping {
+    /// The message of a workflow command.
+    Message,
+    /// A property of a workflow command.
+    Property,
+    /// Code within Markdown.
+    Markdown,
+}
+
+impl Escaping {
+    ghost use Rattle.sarif_report.specs.Escaped.{escaped_char, escaped, message_char, property_char};
+    ghost use Rattle.sarif_report.specs.Escaped.{markdown_char, is_mark};
+
+    fn push_message(text: &mut String, c: char) -> Result<(), AllocError>
+        ensures { OnOk result (string_bytes text.new ≡ string_bytes text.old ++ message_char c) }
+    {
+        match c {
+            '%' => text.push_str("%25")?,
+            _ => text.push(c)?,
+        }
+        Ok(())
+    }
+
+    fn push_property(text: &mut String, c: char) -> Result<(), AllocError>
+        ensures { OnOk result (string_bytes text.new ≡ string_bytes text.old ++ property_char c) }
+    {
+        match c {
+            '%' => text.push_str("%25")?,
+            ':' => text.push_str("%3A")?,
+            ',' => text.push_str("%2C")?,
+            _ => text.push(c)?,
+        }
+        Ok(())
+    }
+
+    fn is_mark(c: char) -> bool
+        ensures { result ≡ is_mark c }
+    {
+        matches!(c, '!'..='+' | '.' | ':'..='@' | '['..='`' | '{'..='~')
+    }
+
+    fn push_markdown(alloc: Global, text: &mut String, c: char) -> Result<(), AllocError>
+        ensures { OnOk result (string_bytes text.new ≡ string_bytes text.old ++ markdown_char c) }
+    {
+        if Escaping::is_mark(c) {
+            let number = c as u32;
+            let written = format!(in alloc; "&#{number};")?;
+            text.push_str(written.as_str())?;
+        } else {
+            text.push(c)?;
+        }
+        Ok(())
+    }
+
+    fn push_char(self, alloc: Global, text: &mut String, c: char) -> Result<(), AllocError>
+        ensures { OnOk result
+            (string_bytes text.new ≡ string_bytes text.old ++ escaped_char self c) }
+    {
+        match self {
+            Escaping::Message => Escaping::push_message(text, c)?,
+            Escaping::Property => Escaping::push_property(text, c)?,
+            Escaping::Markdown => Escaping::push_markdown(alloc, text, c)?,
+        }
+        Ok(())
+    }
+
+    /// Adds what is written for this text.
+    pub(crate) fn push_str(
+        self,
+        alloc: Global,
+        text: &mut String,
+        plain: &str,
+    ) -> Result<(), AllocError>
+        ensures { OnOk result
+            (string_bytes text.new ≡ string_bytes text.old ++ escaped self plain.now) }
+    {
+        for c in plain.chars() {
+            self.push_char(alloc, text, c)?;
+        }
+        Ok(())
+    }
+}

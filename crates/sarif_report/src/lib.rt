@@ -1,0 +1,26 @@
+//! Reports for people and review services over the finished merged log of a SARIF merge.
+#![tactic(auto)]
+
+mod escaping;
+mod finding;
+mod github_lines;
+mod laws;
+mod lookup;
+mod markdown_table;
+mod message;
+mod path;
+mod reported_results;
+mod reporting;
+mod shown_text;
+#[cfg(test)]
+mod tests;
+mod text_lines;
+
+pub use finding::Finding;
+pub use github_lines::github_report;
+pub use laws::{shown_signs_stand_apart, shown_texts_are_seen};
+pub use markdown_table::markdown_report;
+pub use reported_results::reported;
+pub use reporting::Reporting;
+pub use shown_text::{MOST_CHARACTERS, shown};
+pub use text_lines::text_report;

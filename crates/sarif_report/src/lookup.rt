@@ -1,0 +1,208 @@
+//! What a result of a merged log names: its rule and its place. A member of another kind than is looked for counts
+//! as absent.
+ghost use Rattle.std.specs.Prelude.{◌≡◌, map, option_map, option_and_then, find};
+ghost use Rattle.serde_json.specs.View.{view};
+ghost use Rattle.sarif_records.specs.Members.{first_of};
+ghost use Rattle.sarif_report.specs.Lookup as said;
+
+use serde_json::Value;
+
+/// The text `name` of an object.
+pub(crate) fn text_in<'a>(value: &'a Value, name: &str) -> Option<&'a str>
+    ensures { option_map (λ s. s.now) result ≡ said.text_in name.now (view value.now) }
+{
+    value.get(name)?.as_str()
+}
+
+/// The whole number `name` of an object, which is at least 0.
+pub(crate) fn number_in(value: &Value, name: &str) -> Option<u64>
+    ensures { result ≡ said.number_in name.now (view value.now) }
+{
+    value.get(name)?.as_u64()
+}
+
+/// The elements of the array `name` of an object.
+#[tactic(auto, using(sarif_records::proofs::Elements::elements_items_view))]
+pub(crate) fn elements_in<'a>(value: &'a Value, name: &str) -> &'a [Value]
+    ensures { map view result.now ≡ said.elements_in name.now (view value.now) }
+{
+    match value.get(name).and_then(Value::as_array) {
+        Some(items) => items.as_slice(),
+        None => &[],
+    }
+}
+
+/// The element `index` of the array `name` of an object.
+fn element_at<'a>(value: &'a Value, name: &str, index: u64) -> Option<&'a Value>
+    ensures { option_map (λ v. view v.now) result
+        ≡ said.element_at name.now (view value.now) index }
+{
+    elements_in(value, name).get(index as usize)
+}
+
+/// `ruleId`, else `rule.id`.
+pub(crate) fn own_rule_id(found: &Value) -> Option<&str>
+    ensures { option_map (λ s. s.now) result ≡ said.own_rule_id (view found.now) }
+{
+    match text_in(found, "ruleId") {
+        Some(id) => Some(id),
+        None => text_in(found.get("rule")?, "id"),
+    }
+}
+
+/// `rule.index`.
+fn index_of_rule(found: &Value) -> Option<u64>
+    ensures { result ≡ said.index_of_rule (view found.now) }
+{
+    number_in(found.get("rule")?, "index")
+}
+
+/// `rule.index`, else `ruleIndex`.
+fn rule_index(found: &Value) -> Option<u64>
+    ensures { result ≡ said.rule_index (view found.now) }
+{
+    match index_of_rule(found) {
+        Some(index) => Some(index),
+        None => number_in(found, "ruleIndex"),
+    }
+}
+
+/// `rule.toolComponent.index`.
+fn extension_index(found: &Value) -> Option<u64>
+    ensures { result ≡ said.extension_index (view found.now) }
+{
+    number_in(found.get("rule")?.get("toolComponent")?, "index")
+}
+
+/// The driver of a run's tool.
+pub(crate) fn driver_of(run: &Value) -> Option<&Value>
+    ensures { option_map (λ v. view v.now) result ≡ said.driver_of (view run.now) }
+{
+    run.get("tool")?.get("driver")
+}
+
+/// An extension of a run's tool.
+fn extension_at(run: &Value, index: u64) -> Option<&Value>
+    ensures { option_map (λ v. view v.now) result ≡ said.extension_at (view run.now) index }
+{
+    element_at(run.get("tool")?, "extensions", index)
+}
+
+/// The tool component that a result's rule is looked up in.
+pub(crate) fn component_of<'a>(run: &'a Value, found: &Value) -> Option<&'a Value>
+    ensures { option_map (λ v. view v.now) result
+        ≡ said.component_of (view run.now) (view found.now) }
+{
+    match extension_index(found) {
+        None => driver_of(run),
+        Some(index) => extension_at(run, index),
+    }
+}
+
+fn has_id(rule: &Value, id: &str) -> bool
+    ensures { result ≡ said.has_id id.now (view rule.now) }
+{
+    match text_in(rule, "id") {
+        Some(own) => id == own,
+        None => false,
+    }
+}
+
+/// The first rule with that id.
+fn rule_with_id<'a>(rules: &'a [Value], id: &str) -> Option<&'a Value>
+    ensures { option_map (λ v. view v.now) result ≡ find (said.has_id id.now) (map view rules.now) }
+{
+    for rule in rules {
+        if has_id(rule, id) {
+            return Some(rule);
+        }
+    }
+    None
+}
+
+/// The rule of a component that a result names.
+fn rule_in<'a>(found: &Value, component: &'a Value) -> Option<&'a Value>
+    ensures { option_map (λ v. view v.now) result
+        ≡ said.rule_in (view found.now) (view component.now) }
+{
+    match rule_index(found) {
+        Some(index) => element_at(component, "rules", index),
+        None => rule_with_id(elements_in(component, "rules"), own_rule_id(found)?),
+    }
+}
+
+/// The descriptor of a result of a run.
+pub(crate) fn descriptor_of<'a>(run: &'a Value, found: &Value) -> Option<&'a Value>
+    ensures { option_map (λ v. view v.now) result
+        ≡ said.descriptor_of (view run.now) (view found.now) }
+{
+    rule_in(found, component_of(run, found)?)
+}
+
+/// The id of the descriptor of a result of a run.
+fn descriptor_id<'a>(run: &'a Value, found: &Value) -> Option<&'a str>
+    ensures { option_map (λ s. s.now) result
+        ≡ said.descriptor_id (view run.now) (view found.now) }
+{
+    text_in(descriptor_of(run, found)?, "id")
+}
+
+/// The result's own rule id, else that of its descriptor, else the empty text.
+pub(crate) fn rule_id<'a>(run: &'a Value, found: &'a Value) -> &'a str
+    ensures { result.now ≡ said.rule_id (view run.now) (view found.now) }
+{
+    match own_rule_id(found) {
+        Some(id) => id,
+        None => match descriptor_id(run, found) {
+            Some(id) => id,
+            None => "",
+        },
+    }
+}
+
+/// `locations[0].physicalLocation`.
+fn physical_location(found: &Value) -> Option<&Value>
+    ensures { option_map (λ v. view v.now) result ≡ said.physical_location (view found.now) }
+{
+    match elements_in(found, "locations") {
+        [] => None,
+        [first, ..] => first.get("physicalLocation"),
+    }
+}
+
+/// `artifacts[index].location.uri`.
+fn artifact_uri(run: &Value, index: u64) -> Option<&str>
+    ensures { option_map (λ s. s.now) result ≡ said.artifact_uri (view run.now) index }
+{
+    text_in(element_at(run, "artifacts", index)?.get("location")?, "uri")
+}
+
+/// The uri of an artifact location, else that of the artifact whose index it has.
+fn location_uri<'a>(run: &'a Value, location: &'a Value) -> Option<&'a str>
+    ensures { option_map (λ s. s.now) result
+        ≡ said.location_uri (view run.now) (view location.now) }
+{
+    match text_in(location, "uri") {
+        Some(uri) => Some(uri),
+        None => artifact_uri(run, number_in(location, "index")?),
+    }
+}
+
+/// The uri of a result's place.
+pub(crate) fn uri_of<'a>(run: &'a Value, found: &'a Value) -> Option<&'a str>
+    ensures { option_map (λ s. s.now) result ≡ said.uri_of (view run.now) (view found.now) }
+{
+    location_uri(run, physical_location(found)?.get("artifactLocation")?)
+}
+
+/// A member of the region, as a line or a column: a whole number from 1 to 2^32 - 1.
+pub(crate) fn position_in(found: &Value, name: &str) -> Option<u32>
+    ensures { result ≡ said.position_in name.now (view found.now) }
+{
+    let number = number_in(physical_location(found)?.get("region")?, name)?;
+    if 1 <= number && number < 4_294_967_296 {
+        Some(number as u32)
+    } else {
+        None
+    }
+}

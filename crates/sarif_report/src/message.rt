@@ -1,0 +1,229 @@
+//! The message of a result, with its placeholders filled in as it is shown.
+ghost use Rattle.std.specs.Prelude.{◌≡◌, ◌∷◌, [], OnOk, IfOk, IfSome, ◌<◌, ◌≤◌, map, option_map, option_and_then, chars};
+ghost use Rattle.std.specs.Bool.{OnTrue};
+ghost use Rattle.serde_json.specs.View.{view};
+ghost use Rattle.sarif_report.specs.Message as said;
+ghost use Rattle.sarif_report.specs.ShownSoFar.{Takes, Writes};
+
+use crate::lookup::{component_of, descriptor_of, driver_of, elements_in, text_in};
+use crate::shown_text::ShownText;
+use serde_json::Value;
+use std::alloc::AllocError;
+
+/// The text of the member of that name of a table of message strings.
+fn string_named<'a>(value: &'a Value, table: &str, name: &str) -> Option<&'a str>
+    ensures { option_map (λ s. s.now) result
+        ≡ said.string_named table.now name.now (view value.now) }
+{
+    text_in(value.get(table)?.get(name)?, "text")
+}
+
+/// The component whose strings a result's message may be one of.
+fn strings_of<'a>(run: &'a Value, found: &Value) -> Option<&'a Value>
+    ensures { option_map (λ v. view v.now) result
+        ≡ said.strings_of (view run.now) (view found.now) }
+{
+    if descriptor_of(run, found).is_some() {
+        component_of(run, found)
+    } else {
+        driver_of(run)
+    }
+}
+
+/// The string of that name of the descriptor.
+fn own_string<'a>(run: &'a Value, found: &Value, name: &str) -> Option<&'a str>
+    ensures { option_map (λ s. s.now) result
+        ≡ said.own_string (view run.now) (view found.now) name.now }
+{
+    string_named(descriptor_of(run, found)?, "messageStrings", name)
+}
+
+/// The string of that name of the component.
+fn shared_string<'a>(run: &'a Value, found: &Value, name: &str) -> Option<&'a str>
+    ensures { option_map (λ s. s.now) result
+        ≡ said.shared_string (view run.now) (view found.now) name.now }
+{
+    string_named(strings_of(run, found)?, "globalMessageStrings", name)
+}
+
+/// The string of that name of the descriptor, else of the component.
+fn looked_up<'a>(run: &'a Value, found: &Value, name: &str) -> Option<&'a str>
+    ensures { option_map (λ s. s.now) result
+        ≡ said.looked_up (view run.now) (view found.now) name.now }
+{
+    match own_string(run, found, name) {
+        Some(text) => Some(text),
+        None => shared_string(run, found, name),
+    }
+}
+
+/// The message's own text, else the one that its id names.
+fn text_by<'a>(run: &'a Value, found: &Value, message: &'a Value) -> Option<&'a str>
+    ensures { option_map (λ s. s.now) result
+        ≡ said.text_by (view run.now) (view found.now) (view message.now) }
+{
+    match text_in(message, "text") {
+        Some(text) => Some(text),
+        None => looked_up(run, found, text_in(message, "id")?),
+    }
+}
+
+/// The message's text, where it has one.
+fn text_of<'a>(run: &'a Value, found: &'a Value) -> Option<&'a str>
+    ensures { option_map (λ s. s.now) result
+        ≡ said.text_of (view run.now) (view found.now) }
+{
+    text_by(run, found, found.get("message")?)
+}
+
+/// The message's text with its placeholders, or the empty text.
+fn message_text<'a>(run: &'a Value, found: &'a Value) -> &'a str
+    ensures { result.now ≡ said.message_text (view run.now) (view found.now) }
+{
+    match text_of(run, found) {
+        Some(text) => text,
+        None => "",
+    }
+}
+
+/// The arguments of a result's message.
+fn arguments_of(found: &Value) -> &[Value]
+    ensures { map view result.now ≡ said.arguments_of (view found.now) }
+{
+    match found.get("message") {
+        Some(message) => elements_in(message, "arguments"),
+        None => &[],
+    }
+}
+
+/// Whether a character is one more digit of an argument's number.
+fn takes_digit(number: u32, count: u32, c: char) -> bool
+    ensures said { result ≡ said.takes_digit number count c }
+    ensures low { OnTrue result (48 ≤ c) }
+    ensures high { OnTrue result (c ≤ 57) }
+    ensures room { OnTrue result (number < 100000000) }
+    ensures first { OnTrue result (0 < count → 0 < number) }
+{
+    c.is_ascii_digit() && number < 100_000_000 && (count == 0 || number != 0)
+}
+
+/// The number of an argument, which stands before the next `}`, and in how many digits.
+fn index_in(rest: &str) -> Option<(u32, u32)>
+    ensures few { IfSome result (λ p. p.1 ≤ 1000000000) }
+    ensures said { result ≡ said.index_from 0 0 (chars rest.now) }
+{
+    let mut number: u32 = 0;
+    let mut count: u32 = 0;
+    for c in rest.chars() {
+        if c == '}' {
+            return if count == 0 {
+                None
+            } else {
+                Some((number, count))
+            };
+        }
+        if !takes_digit(number, count, c) {
+            return None;
+        }
+        number = number * 10 + (c as u32 - 48);
+        count += 1;
+    }
+    None
+}
+
+/// The argument that is named after a `{`, and how many characters name it, the `}` too.
+fn argument_at<'a>(args: &'a [Value], rest: &str) -> Option<(&'a str, u32)>
+    ensures few { IfSome result (λ p. p.1 ≤ 1000000001) }
+    ensures said { option_map (λ p. (p.0.now, p.1)) result
+        ≡ said.argument_at (map view args.now) (chars rest.now) }
+{
+    let (number, count) = index_in(rest)?;
+    let text = args.get(number as usize)?.as_str()?;
+    Some((text, count + 1))
+}
+
+/// Whether this character stands first.
+fn begins_with(rest: &str, c: char) -> bool
+    ensures { result ≡ said.first_is c (chars rest.now) }
+{
+    match rest.chars().next() {
+        Some(first) => first == c,
+        None => false,
+    }
+}
+
+/// Shows what stands for a `{`, and tells how many of the characters after it are part of the same placeholder.
+fn push_argument(so_far: &mut ShownText, args: &[Value], rest: &str) -> Result<u32, AllocError>
+    ensures { IfOk result (λ more. Writes so_far.old so_far.new more
+        (said.argument_or_brace (said.argument_at (map view args.now) (chars rest.now)))) }
+{
+    match argument_at(args, rest) {
+        Some((text, more)) => {
+            so_far.push_str(text)?;
+            Ok(more)
+        }
+        None => {
+            so_far.push('{')?;
+            Ok(0)
+        }
+    }
+}
+
+/// Shows what stands for a character, and tells how many of those after it are part of the same placeholder.
+fn push_piece(
+    so_far: &mut ShownText,
+    args: &[Value],
+    c: char,
+    rest: &str,
+) -> Result<u32, AllocError>
+    ensures { IfOk result (λ more. Writes so_far.old so_far.new more
+        (said.piece_of (map view args.now) c (chars rest.now))) }
+{
+    if c == '{' && !begins_with(rest, '{') {
+        return push_argument(so_far, args, rest);
+    }
+    so_far.push(c)?;
+    if (c == '{' || c == '}') && begins_with(rest, c) {
+        return Ok(1);
+    }
+    Ok(0)
+}
+
+/// Shows a text with its placeholders filled in.
+fn push_filled(so_far: &mut ShownText, args: &[Value], text: &str) -> Result<(), AllocError>
+    ensures { OnOk result (Takes so_far.old so_far.new
+        (said.filled_from (map view args.now) 0 (chars text.now))) }
+{
+    let mut skip: u32 = 0;
+    let mut rest = text.chars();
+    while let Some(c) = rest.next() {
+        if so_far.is_full() {
+            return Ok(());
+        }
+        if skip > 0 {
+            skip -= 1;
+        } else {
+            skip = push_piece(so_far, args, c, rest.as_str())?;
+        }
+    }
+    Ok(())
+}
+
+/// Shows the message of a result of a run.
+pub(crate) fn push_message(
+    so_far: &mut ShownText,
+    run: &Value,
+    found: &Value,
+) -> Result<(), AllocError>
+    ensures { OnOk result
+        (Takes so_far.old so_far.new (said.message_of (view run.now) (view found.now))) }
+{
+    let text = message_text(run, found);
+    let args = arguments_of(found);
+    if args.is_empty() {
+        so_far.push_str(text)?;
+        return Ok(());
+    }
+    push_filled(so_far, args, text)?;
+    Ok(())
+}

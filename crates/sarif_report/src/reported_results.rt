@@ -1,0 +1,275 @@
+//! The results of a finished merged log that a report tells of.
+ghost use Rattle.std.specs.Prelude.{◌≡◌, ◌++◌, not, map, IfOk, OnOk, codes, chars, string_bytes};
+ghost use Rattle.sarif_report.specs.Lookup.{position_in as position_of};
+ghost use Rattle.sarif_report.specs.Message.{message_of};
+ghost use Rattle.sarif_report.specs.PathOf.{path_of};
+ghost use Rattle.serde_json.specs.Find.{get};
+ghost use Rattle.serde_json.specs.View.{view, items_of};
+ghost use Rattle.sarif_counts.specs.CountOf.{suppresses, all_accepted, accepts};
+ghost use Rattle.sarif_counts.specs.Policy.{is_listed, severity as rank};
+ghost use Rattle.sarif_report.specs.Shown.{shown as text_shown};
+ghost use Rattle.sarif_report.specs.Reported as said;
+
+use crate::finding::Finding;
+use crate::lookup::{elements_in, position_in, rule_id, text_in, uri_of};
+use crate::message::push_message;
+use crate::path::push_path;
+use crate::reporting::Reporting;
+use crate::shown_text::{ShownText, shown};
+use sarif_counts::States;
+use sarif_records::{Level, State, Status, Text, driver_name};
+use serde_json::Value;
+use std::alloc::{AllocError, Global};
+
+/// Whether a suppression's status is `accepted`, as it counts where it is absent.
+fn is_accepted(suppression: &Value) -> bool
+    ensures { result ≡ accepts (get (codes "status") (view suppression.now)) }
+{
+    match suppression.get("status") {
+        None | Some(Value::Null) => true,
+        Some(Value::String(text)) => match Status::from_name(text.as_str()) {
+            Some(Status::Accepted) => true,
+            _ => false,
+        },
+        Some(_) => false,
+    }
+}
+
+fn are_accepted(suppressions: &[Value]) -> bool
+    ensures { result ≡ all_accepted (items_of (map view suppressions.now)) }
+{
+    for suppression in suppressions {
+        if !is_accepted(suppression) {
+            return false;
+        }
+    }
+    true
+}
+
+/// Whether a result with these suppressions is suppressed: there is one, and all are accepted.
+fn is_suppressing(suppressions: &[Value]) -> bool
+    ensures { result ≡ suppresses (items_of (map view suppressions.now)) }
+{
+    !suppressions.is_empty() && are_accepted(suppressions)
+}
+
+/// Whether a result isn't suppressed.
+#[tactic(auto, using(crate::proofs::ReportedMore::items_in_array))]
+fn is_active(found: &Value) -> bool
+    ensures { result ≡ said.is_active (view found.now) }
+{
+    match found.get("suppressions").and_then(Value::as_array) {
+        Some(suppressions) => !is_suppressing(suppressions.as_slice()),
+        None => true,
+    }
+}
+
+fn lists(states: States, state: State) -> bool
+    ensures { result ≡ is_listed states state }
+{
+    match state {
+        State::New => states.fresh,
+        State::Unchanged => states.unchanged,
+        State::Updated => states.updated,
+        State::Absent => states.absent,
+    }
+}
+
+fn severity(level: Level) -> u8
+    ensures { result ≡ rank level }
+{
+    match level {
+        Level::NoLevel => 0,
+        Level::Note => 1,
+        Level::Warning => 2,
+        Level::Error => 3,
+    }
+}
+
+fn level_in(found: &Value) -> Option<Level>
+    ensures { result ≡ said.level_in (view found.now) }
+{
+    Level::from_name(text_in(found, "level")?)
+}
+
+fn state_in(found: &Value) -> Option<State>
+    ensures { result ≡ said.state_in (view found.now) }
+{
+    State::from_name(text_in(found, "baselineState")?)
+}
+
+/// What is shown of a text.
+fn shown_copy(alloc: Global, text: &str) -> Result<Text, AllocError>
+    ensures { IfOk result (λ t. t ≡ text_shown (chars text.now)) }
+{
+    let shown = shown(alloc, text)?;
+    let copy = Text::copy_of(alloc, shown.as_str())?;
+    Ok(copy)
+}
+
+fn tool_name(run: &Value) -> &str
+    ensures { result.now ≡ said.tool_in (view run.now) }
+{
+    match driver_name(run) {
+        Some(name) => name,
+        None => "",
+    }
+}
+
+/// What is shown of a result's message.
+fn shown_message(alloc: Global, run: &Value, found: &Value) -> Result<String, AllocError>
+    ensures { IfOk result (λ s. string_bytes s
+        ≡ text_shown (message_of (view run.now) (view found.now))) }
+{
+    let mut so_far = ShownText::new(alloc);
+    push_message(&mut so_far, run, found)?;
+    Ok(so_far.finish())
+}
+
+fn message_in(alloc: Global, run: &Value, found: &Value) -> Result<Text, AllocError>
+    ensures { IfOk result (λ t. t
+        ≡ said.or_no_message (text_shown (message_of (view run.now) (view found.now)))) }
+{
+    let message = shown_message(alloc, run, found)?;
+    if message.is_empty() {
+        return Text::copy_of(alloc, "(no message)");
+    }
+    Text::copy_of(alloc, message.as_str())
+}
+
+/// What is shown of a uri as a path.
+fn shown_uri(alloc: Global, root: &str, uri: &str) -> Result<String, AllocError>
+    ensures { IfOk result
+        (λ s. string_bytes s ≡ text_shown (chars (path_of root.now uri.now))) }
+{
+    let mut so_far = ShownText::new(alloc);
+    push_path(alloc, &mut so_far, root, uri)?;
+    Ok(so_far.finish())
+}
+
+fn shown_path(alloc: Global, root: &str, uri: &str) -> Result<Option<Text>, AllocError>
+    ensures { IfOk result (λ o. o ≡ said.shown_path root.now uri.now) }
+{
+    let path = shown_uri(alloc, root, uri)?;
+    if path.is_empty() {
+        return Ok(None);
+    }
+    let copy = Text::copy_of(alloc, path.as_str())?;
+    Ok(Some(copy))
+}
+
+fn path_in(
+    alloc: Global,
+    reporting: &Reporting,
+    run: &Value,
+    found: &Value,
+) -> Result<Option<Text>, AllocError>
+    ensures { IfOk result
+        (λ o. o ≡ said.path_in reporting.now (view run.now) (view found.now)) }
+{
+    match uri_of(run, found) {
+        None => Ok(None),
+        Some(uri) => shown_path(alloc, reporting.root.as_str(), uri),
+    }
+}
+
+/// A member of the region, where that which it is told beside is there.
+fn position_with<T>(beside: &Option<T>, found: &Value, name: &str) -> Option<u32>
+    ensures { result ≡ said.only_with beside.now (position_of name.now (view found.now)) }
+{
+    match beside {
+        None => None,
+        Some(_) => position_in(found, name),
+    }
+}
+
+/// What is told of a result.
+#[tactic(auto, unfolding(crate::specs::Reported::finding_of))]
+fn finding_of(
+    alloc: Global,
+    reporting: &Reporting,
+    run: &Value,
+    found: &Value,
+    level: Level,
+    state: State,
+) -> Result<Finding, AllocError>
+    ensures { IfOk result (λ finding. finding
+        ≡ said.finding_of reporting.now (view run.now) (view found.now) level state) }
+{
+    let tool = shown_copy(alloc, tool_name(run))?;
+    let rule = shown_copy(alloc, rule_id(run, found))?;
+    let message = message_in(alloc, run, found)?;
+    let path = path_in(alloc, reporting, run, found)?;
+    let line = position_with(&path, found, "startLine");
+    let column = position_with(&line, found, "startColumn");
+    let hit = severity(reporting.policy.fail_on) <= severity(level);
+    Ok(Finding {
+        tool,
+        rule,
+        level,
+        state,
+        message,
+        path,
+        line,
+        column,
+        hit,
+    })
+}
+
+/// What is told of a result, where it is reported.
+fn finding_if(
+    alloc: Global,
+    reporting: &Reporting,
+    run: &Value,
+    found: &Value,
+) -> Result<Option<Finding>, AllocError>
+    ensures { IfOk result
+        (λ o. o ≡ said.finding_if reporting.now (view run.now) (view found.now)) }
+{
+    let Some(level) = level_in(found) else {
+        return Ok(None);
+    };
+    let Some(state) = state_in(found) else {
+        return Ok(None);
+    };
+    if lists(reporting.policy.states, state) && is_active(found) {
+        let finding = finding_of(alloc, reporting, run, found, level, state)?;
+        return Ok(Some(finding));
+    }
+    Ok(None)
+}
+
+/// Adds the reported results of a run.
+fn push_reported(
+    alloc: Global,
+    findings: &mut Vec<Finding>,
+    reporting: &Reporting,
+    run: &Value,
+) -> Result<(), AllocError>
+    ensures { OnOk result (findings.new.items
+        ≡ findings.old.items ++ said.reported_in reporting.now (view run.now)) }
+{
+    for found in elements_in(run, "results") {
+        if let Some(finding) = finding_if(alloc, reporting, run, found)? {
+            findings.push(finding)?;
+        }
+    }
+    Ok(())
+}
+
+/// The results of a finished merged log that a report tells of, in the order of the log: the active ones whose
+/// baseline state is one of the policy's. Those are hits whose level is also at least that of the policy.
+pub fn reported(
+    alloc: Global,
+    reporting: &Reporting,
+    log: &Value,
+) -> Result<Vec<Finding>, AllocError>
+    ensures { IfOk result
+        (λ findings. findings.items ≡ said.reported_of reporting.now (view log.now)) }
+{
+    let mut findings = Vec::new(alloc);
+    for run in elements_in(log, "runs") {
+        push_reported(alloc, &mut findings, reporting, run)?;
+    }
+    Ok(findings)
+}

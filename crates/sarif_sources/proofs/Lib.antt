@@ -1,0 +1,3 @@
+pub mod QuietFaults
+pub mod ReadersRead
+pub mod ReadOnce

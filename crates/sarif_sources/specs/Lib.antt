@@ -1,0 +1,9 @@
+pub mod AreRead
+pub mod Counted
+pub mod Failing
+pub mod Fault
+pub mod FaultText
+pub mod OptionalReader
+pub mod Source
+pub mod SourceKind
+pub mod WereRead

@@ -1,9 +1,0 @@
-use Rattle.std.proofs.Common.{◌≡◌, ◌++◌, ℕ, List, drop, bytes_eq}
-use Rattle.sarif_suppress.specs.Numbers.{numbers_from, asks_for_rule}
-use Rattle.sarif_suppress.specs.Table.{numbers_at}
-use Rattle.sarif_suppress.proofs.table.numbers_by_rule.Given as goal
-
--- for each rule id the numbers so far, and then those of the entries that are left
-abbrev pub invariant-loop-number : goal.invariant-loop-number
-invariant-loop-number l =
-    (q : List ℕ) → numbers_at bytes_eq l.table q ++ numbers_from (asks_for_rule q) l.number (drop l.number l.entries) ≡ numbers_from (asks_for_rule q) 0 l.entries

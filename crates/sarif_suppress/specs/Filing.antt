@@ -1,0 +1,58 @@
+-- Where an entry is filed, so that a result meets only those that may match it: under the most telling of its conditions.
+use Rattle.std.specs.Prelude.{ℕ, Bool, false, ◌&&◌, ◌||◌, List, [], ◌++◌, Option, None, is_some, is_none, nat_eq, bytes_eq, slice_get, if◌then◌else◌}
+use Rattle.std.specs.List.{flat_map}
+use Rattle.std.specs.Option.{option_map_or}
+use Rattle.sarif_records.specs.declared.record.Record.{Record}
+use Rattle.sarif_suppress.specs.declared.conditions.Conditions.{Conditions}
+use Rattle.sarif_suppress.specs.declared.entry.Entry.{Entry}
+use Rattle.sarif_suppress.specs.declared.filing.TextCondition.{TextCondition}
+use Rattle.sarif_suppress.specs.declared.filing.TextCondition.TheVariants.{Uri, RuleId, Tool}
+use Rattle.sarif_suppress.specs.declared.filing.PairCondition.{PairCondition}
+use Rattle.sarif_suppress.specs.declared.filing.PairCondition.TheVariants.{Full, Partial}
+use Rattle.sarif_suppress.specs.Matching.{is_pair, is_empty}
+use Rattle.sarif_suppress.specs.Numbers.{numbers_from}
+
+-- neither a guid nor fingerprints are named
+abbrev pub is_unmarked : Conditions → Bool
+is_unmarked c = is_none c.guid && (is_empty c.full && is_empty c.partial)
+
+-- the first fingerprint that is named, where it is the most telling condition
+abbrev pub pair_key : PairCondition → Conditions → Option (List ℕ × List ℕ)
+pair_key Full c = if is_none c.guid then slice_get c.full 0 else None
+pair_key Partial c = if is_none c.guid && is_empty c.full then slice_get c.partial 0 else None
+
+-- neither a uri, nor a prefix of one, nor a rule id is named
+abbrev pub has_tool_alone : Conditions → Bool
+has_tool_alone c = is_none c.uri && (is_none c.rule_id && is_none c.uri_prefix)
+
+-- the text that is named, where it is the most telling condition
+abbrev pub text_key : TextCondition → Conditions → Option (List ℕ)
+text_key Uri c = if is_unmarked c then c.uri else None
+text_key RuleId c = if is_unmarked c && is_none c.uri then c.rule_id else None
+text_key Tool c =
+    if is_unmarked c && has_tool_alone c then c.tool else None
+
+-- none of these is
+abbrev pub has_no_key : Conditions → Bool
+has_no_key c =
+    is_unmarked c && (is_none c.uri && (is_none c.rule_id && (is_some c.uri_prefix || is_none c.tool)))
+
+-- the entry is filed under that guid, that fingerprint, that text, or nowhere
+abbrev pub asks_for_guid : ℕ → Entry → Bool
+asks_for_guid guid e = option_map_or (λ own. nat_eq own guid) e.conditions.guid false
+
+abbrev pub asks_for_pair : PairCondition → List ℕ × List ℕ → Entry → Bool
+asks_for_pair which pair e =
+    option_map_or (λ own. is_pair own pair) (pair_key which e.conditions) false
+
+abbrev pub asks_for_text : TextCondition → List ℕ → Entry → Bool
+asks_for_text which text e =
+    option_map_or (λ own. bytes_eq own text) (text_key which e.conditions) false
+
+abbrev pub asks_for_none : Entry → Bool
+asks_for_none e = has_no_key e.conditions
+
+-- the numbers of the entries that are filed under what a result has, and of those that are filed nowhere
+abbrev pub candidates : List Entry → Record → List ℕ
+candidates es r =
+    option_map_or (λ guid. numbers_from (asks_for_guid guid) 0 es) r.guid [] ++ (flat_map (λ pair. numbers_from (asks_for_pair Full pair) 0 es) r.full ++ (flat_map (λ pair. numbers_from (asks_for_pair Partial pair) 0 es) r.partial ++ (option_map_or (λ uri. numbers_from (asks_for_text Uri uri) 0 es) r.place.uri [] ++ (numbers_from (asks_for_text RuleId r.rule_id) 0 es ++ (numbers_from (asks_for_text Tool r.tool) 0 es ++ numbers_from asks_for_none 0 es)))))

@@ -1,0 +1,14 @@
+pub mod PutAgain
+pub mod WholeMembers
+pub mod WholeListing
+pub mod Drafted
+pub mod AnnotatedResult
+pub mod RunResults
+pub mod RunsWritten
+pub mod AbsentRuns
+pub mod Removed
+pub mod ResultTexts
+pub mod ResultCounts
+pub mod RunTexts
+pub mod RunCounts
+pub mod LogText
