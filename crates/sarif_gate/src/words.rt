@@ -9,7 +9,7 @@ use crate::command::{BASELINE, FAIL_ON, LOG, MAX, OUT, SUPPRESS, TODAY, WORKERS,
 use crate::request::Request;
 use clap::ArgMatches;
 use clap::error::ErrorKind;
-use sarif_merge::Policy;
+use sarif_merge::{Options, Policy};
 use sarif_records::{Level, Text};
 use std::alloc::{AllocError, AllocFailed, Global};
 
@@ -101,14 +101,17 @@ fn request_of(alloc: Global, matches: &ArgMatches<'_>) -> Result<Request, AllocE
     let baselines = names_of(alloc, matches, BASELINE)?;
     let suppress = name_of(alloc, matches, SUPPRESS)?;
     let out = Text::copy_of(alloc, matches.get_str(OUT).unwrap_or(""))?;
+    let options = Options {
+        policy: policy_of(matches),
+        today: number_of(matches, TODAY),
+        workers: number_of(matches, WORKERS).unwrap_or(1).clamp(1, 64),
+    };
     Ok(Request {
         logs,
         baselines,
         suppress,
         out,
-        today: number_of(matches, TODAY),
-        workers: number_of(matches, WORKERS).unwrap_or(1).clamp(1, 64),
-        policy: policy_of(matches),
+        options,
     })
 }
 

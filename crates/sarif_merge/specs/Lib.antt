@@ -1,15 +1,5 @@
-pub mod Annotated
-pub mod AreSound
-pub mod Faults
 pub mod FromReaders
-pub mod Inputs
-pub mod Inside
-pub mod Judged
-pub mod Judging
+pub mod Given
 pub mod Merged
 pub mod MergedLog
-pub mod MergedRuns
-pub mod Parsed
-pub mod PlacedRun
-pub mod ReadSoFar
-pub mod SourceFaults
+pub mod Wanting

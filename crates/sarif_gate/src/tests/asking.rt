@@ -30,17 +30,17 @@ fn defaults_stand_where_no_word_says_more(rt: HostRuntime) -> Result<(), Fail> {
     assert!(rt; request.baselines.is_empty());
     assert!(rt; request.suppress.is_none());
     assert!(rt; request.out.as_str() == "o");
-    assert_eq!(rt; request.today, None);
-    assert_eq!(rt; request.workers, 4);
-    assert_eq!(rt; request.policy.fail_on, Level::Error);
-    assert_eq!(rt; request.policy.max, 0);
+    assert_eq!(rt; request.options.today, None);
+    assert_eq!(rt; request.options.workers, 4);
+    assert_eq!(rt; request.options.policy.fail_on, Level::Error);
+    assert_eq!(rt; request.options.policy.max, 0);
     let states = States {
         absent: false,
         fresh: true,
         unchanged: false,
         updated: true,
     };
-    assert_eq!(rt; request.policy.states, states);
+    assert_eq!(rt; request.options.policy.states, states);
     Ok(())
 }
 
@@ -56,10 +56,10 @@ fn each_word_is_read(rt: HostRuntime) -> Result<(), Fail> {
     assert!(rt; request.baselines[0].as_str() == "b");
     assert!(rt; request.baselines[1].as_str() == "c");
     assert!(rt; request.suppress.is_some_and(|name| name.as_str() == "s"));
-    assert_eq!(rt; request.today, Some(20_250_131));
-    assert_eq!(rt; request.workers, 64);
-    assert_eq!(rt; request.policy.fail_on, Level::Note);
-    assert_eq!(rt; request.policy.max, 4_294_967_295);
+    assert_eq!(rt; request.options.today, Some(20_250_131));
+    assert_eq!(rt; request.options.workers, 64);
+    assert_eq!(rt; request.options.policy.fail_on, Level::Note);
+    assert_eq!(rt; request.options.policy.max, 4_294_967_295);
     Ok(())
 }
 

@@ -210,7 +210,7 @@ fn one_new_warning_passes_a_gate_on_errors(rt: HostRuntime) -> Result<(), Fail> 
 #[test]
 fn a_gate_on_warnings_fails(rt: HostRuntime) -> Result<(), Fail> {
     let mut request = Request::of_standard_streams(rt.alloc())?;
-    request.policy.fail_on = Level::Warning;
+    request.options.policy.fail_on = Level::Warning;
     let ended = run(&rt, rt.alloc(), &request, Given::whole(LOG), AMPLE)?;
     assert_eq!(rt; ended.status, 1);
     assert!(rt; ended.say.ends_with(b"\ngate: fail, hits 1, max 0\n"));
@@ -220,8 +220,8 @@ fn a_gate_on_warnings_fails(rt: HostRuntime) -> Result<(), Fail> {
 #[test]
 fn a_gate_that_lets_one_warning_pass(rt: HostRuntime) -> Result<(), Fail> {
     let mut request = Request::of_standard_streams(rt.alloc())?;
-    request.policy.fail_on = Level::Warning;
-    request.policy.max = 1;
+    request.options.policy.fail_on = Level::Warning;
+    request.options.policy.max = 1;
     let ended = run(&rt, rt.alloc(), &request, Given::whole(LOG), AMPLE)?;
     assert_eq!(rt; ended.status, 0);
     assert!(rt; ended.say.ends_with(b"\ngate: pass, hits 1, max 1\n"));
