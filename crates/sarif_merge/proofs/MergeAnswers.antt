@@ -1,10 +1,16 @@
 -- The merge of what was read, from the runs and the suppression file of it.
-use Rattle.std.proofs.Common.{◌≡◌, ℕ, ◌≤◌, ◌++◌, ◌⊎◌, inl, inr, List, [], ◌∷◌, Bool, true, false, Option, Some, Ok, length, map, arith, refl, sym, ap, subst, ◌∙◌}
+use Rattle.std.proofs.Common.{◌≡◌, ℕ, ◌≤◌, ◌++◌, ◌⊎◌, inl, inr, List, [], ◌∷◌, Bool, true, false, Option, Some, Result, Ok, length, map, arith, refl, sym, ap, subst, ◌∙◌}
 use Rattle.std.proofs.lemmas.List.{length-map}
 use Rattle.std.proofs.lemmas.List.Concat.{flat_map-append}
 use Rattle.std.specs.Prelude.{nat_lt}
 use Rattle.std.proofs.lemmas.Bool.Decides.{nat_tests}
 use Rattle.std.specs.List.{AllByRecursion}
+use Rattle.std.specs.declared.alloc.Global.{Global}
+use Rattle.std.specs.declared.vec.Vec.{Vec}
+use Rattle.json.specs.Token.{Token}
+use Rattle.json_index.specs.declared.indexing.IndexFault.{IndexFault}
+use Rattle.json_index.specs.Together.{AreIndexed}
+use Rattle.sarif_records.specs.Reading.{without_mark}
 use Rattle.sarif_records.specs.Run.{results_total}
 use Rattle.sarif_suppress.specs.File.{File}
 use Rattle.sarif_suppress.specs.Suppressing.{unused_of}
@@ -24,6 +30,7 @@ use Rattle.sarif_assemble.specs.Assembled.{IsMergedBy}
 use Rattle.sarif_assemble.specs.Judged.{placed_in, IsJudged}
 use Rattle.sarif_assemble.specs.LogBy.{data_of, current_runs, leftover_runs, runs_by, runs_without_results}
 use Rattle.sarif_inputs.specs.Faults.{Answers, IsWanting, faults_of, file_faults, file_or_none, first, number_faults}
+use Rattle.sarif_inputs.specs.Indexes.{AreIndexesOf}
 use Rattle.sarif_inputs.specs.Inputs.{numbered, placed}
 use Rattle.sarif_inputs.specs.ReadSoFar.{sources_of}
 use Rattle.sarif_inputs.specs.SourceFaults.{source_faults}
@@ -143,3 +150,16 @@ module _ (ls bs : List (List ℕ)) (few_ls : length ls ≤ 1000) (few_bs : lengt
           log = same.log;
           gate = same.gate;
         }
+
+-- ---- indexes
+
+-- the indexes of the sources as they are held
+pub are_indexes : (ls bs : List (Vec ℕ Global)) (indexes : List (Result (List Token) IndexFault)) (n : ℕ) → n ≡ length ls → length ls ≤ 1000 → length bs ≤ 1000
+    → AreIndexed (map without_mark (map (λ v. v.items) ls ++ map (λ v. v.items) bs)) indexes
+    → AreIndexesOf (map (λ v. v.items) ls) (map (λ v. v.items) bs) indexes n
+are_indexes ls bs indexes n count few_ls few_bs indexed = record {
+  count = length-map ls (λ v. v.items) ∙ sym count;
+  few_logs = omega (arith, few_ls, length-map ls (λ v. v.items));
+  few_baselines = omega (arith, few_bs, length-map bs (λ v. v.items));
+  indexed = indexed;
+}

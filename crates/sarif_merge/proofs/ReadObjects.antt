@@ -1,5 +1,5 @@
 -- The runs of a log that is read are objects, and so are their results.
-use Rattle.std.proofs.Common.{◌≡◌, ◌+◌, ℕ, Bool, true, List, [], ◌∷◌, ◌++◌, Option, Some, None, Result, Ok, Err, if◌then◌else◌, refl, sym, ap, ◌∙◌, subst, codes, option_and_then}
+use Rattle.std.proofs.Common.{◌≡◌, ◌+◌, ℕ, Bool, true, false, List, [], ◌∷◌, ◌++◌, Option, Some, None, Result, Ok, Err, if◌then◌else◌, refl, sym, ap, ◌∙◌, subst, codes, option_and_then}
 use Rattle.std.proofs.lemmas.List.{map-append}
 use Rattle.std.specs.Prelude.{⊤}
 use Rattle.std.specs.List.{AllByRecursion}
@@ -72,9 +72,6 @@ each_run n before (run ∷ runs) x h =
     let first = bind_ok (at_run n (check_run before run)) _ x h in
     (run_object run before first.0 (at_run_ok n (check_run before run) first.0 first.1), each_run (n + 1) first.0 runs x first.2)
 
-ok_same : {A E : Type 0} (x y : A) → Ok {E = E} x ≡ Ok y → x ≡ y
-ok_same x y h = cc
-
 log_objects : (bytes : List ℕ) (runs : List Data) → log_of bytes ≡ Ok runs → AllByRecursion IsRun runs
 unfolding log_of log_of_value
 log_objects bytes runs h =
@@ -82,7 +79,8 @@ log_objects bytes runs h =
     let d = stripped parsed.0 in
     let log = bind_ok (at_whole (check_log d)) _ runs parsed.2 in
     let each = bind_ok (check_each 0 0 (runs_of d)) _ runs log.2 in
-    subst (AllByRecursion IsRun) (ok_same (runs_of d) runs each.2) (each_run 0 0 (runs_of d) each.0 each.1)
+    let same : runs_of d ≡ runs = cc each.2 in
+    subst (AllByRecursion IsRun) same (each_run 0 0 (runs_of d) each.0 each.1)
 
 readable_objects : (bytes : List ℕ) (found : Result (List Data) ReadFault) → log_of bytes ≡ found → AllByRecursion IsRun (readable found)
 readable_objects bytes (Ok runs) is = log_objects bytes runs is

@@ -6,7 +6,7 @@ ghost use Rattle.sarif_assemble.specs.Assembled.{HasGate, IsMergedBy};
 ghost use Rattle.sarif_inputs.specs.Faults.{Answers, IsWanting, faults_of, first_fault};
 ghost use Rattle.sarif_inputs.specs.Inputs.{numbered, placed};
 ghost use Rattle.sarif_inputs.specs.Runs.{AreRunsOf};
-ghost use Rattle.sarif_sources.specs.declared.fault.Source.{TheVariants as source};
+ghost use Rattle.sarif_sources.specs.declared.fault.Source.TheVariants as source;
 ghost use Rattle.sarif_merge.specs.Given.{given, inputs_of};
 ghost use Rattle.sarif_merge.specs.Merged.{HoldsFirst, IsMergeOf};
 ghost use Rattle.sarif_merge.specs.MergedLog.{output_text, runs_of, without_of, unused_in, written_inputs};
