@@ -5,6 +5,7 @@ ghost use Rattle.sarif_counts.specs.Policy.{default_policy};
 use sarif_merge::{Options, Policy};
 use sarif_records::Text;
 use std::alloc::{AllocError, Global};
+use std::hash::RandomState;
 
 /// What one run is asked to do. Sources are named as they were written, in the order of the words.
 #[derive(Debug, Drop)]
@@ -24,7 +25,10 @@ pub struct Request {
 impl Request {
     /// To merge one log from standard input to standard output, with one worker and the default policy. The
     /// standard streams have no names.
-    pub fn of_standard_streams(alloc: Global) -> Result<Request, AllocError>
+    pub fn of_standard_streams(
+        alloc: Global,
+        seed: RandomState,
+    ) -> Result<Request, AllocError>
         ensures workers { IfOk result (λ request. request.options.workers ≡ 1) }
         ensures policy { IfOk result (λ request. request.options.policy ≡ default_policy) }
         ensures today { IfOk result (λ request. request.options.today ≡ None) }
@@ -38,6 +42,7 @@ impl Request {
                 policy: Policy::default(),
                 today: None,
                 workers: 1,
+                seed,
             },
         })
     }

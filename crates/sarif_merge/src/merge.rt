@@ -45,7 +45,7 @@ fn merge_runs<G: Gate + Sync, R: Threads + Wait + Sync>(
     let Runs { current, baseline } = runs;
     let now = judge_runs(rt, alloc, current, file, options.workers, observer)?;
     let before = judge_runs(rt, alloc, baseline, file, options.workers, observer)?;
-    let merged = assemble(alloc, now, before, file, &options.policy)?;
+    let merged = assemble(alloc, options.seed, now, before, file, &options.policy)?;
     Ok(merged)
 }
 
@@ -65,7 +65,7 @@ fn merge_read<G: Gate + Sync, R: Threads + Wait + Sync>(
         options.now.today) options.now.policy result }
     ensures quiet { IsQuiet result }
 {
-    let file = read_file(alloc, suppressions, options.today)?;
+    let file = read_file(alloc, options.seed, suppressions, options.today)?;
     let merged = merge_runs(rt, alloc, runs, &file, options, observer)?;
     Ok(merged)
 }

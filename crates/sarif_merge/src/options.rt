@@ -2,6 +2,7 @@
 ghost use Rattle.std.specs.Prelude.{◌≤◌};
 
 use sarif_counts::Policy;
+use std::hash::RandomState;
 
 /// What a merge is asked for, beside its sources.
 #[derive(Debug, Drop)]
@@ -12,6 +13,9 @@ pub struct Options {
     pub today: Option<u32>,
     /// How many threads index sources and judge results, beside the calling one: 1 to 64.
     pub workers: u32,
+    /// What the tables hash with whose keys come out of logs. No answer depends on it; where nobody can know it,
+    /// no log can make the tables slow.
+    pub seed: RandomState,
     pub ghost some_workers: { 1 ≤ workers },
     pub ghost few_workers: { workers ≤ 64 },
 }

@@ -2,6 +2,7 @@
 
 use crate::request::Request;
 use crate::words::{WordsFault, read_words};
+use crate::tests::merging::seed;
 use sarif_merge::States;
 use sarif_records::Level;
 use std::alloc::AllocError;
@@ -13,7 +14,7 @@ fn read(rt: &HostRuntime, line: &str) -> Result<Result<Request, WordsFault>, All
     for word in line.split(' ') {
         words.push(String::from_str(rt.alloc(), word)?)?;
     }
-    Ok(read_words(rt.alloc(), words.as_slice()))
+    Ok(read_words(rt.alloc(), seed()?, words.as_slice()))
 }
 
 /// What the words ask for; a refusal fails the test.

@@ -1,11 +1,15 @@
 //! Merging texts. A list of runs is written `lint: A M; b: `, so each run is a tool and its results,
 //! each by its name or by its own text, which has no blank.
+use crate::seed::seed_of;
 use sarif_merge::{
     Counted, Gate, MergeFault, Merged, NoGate, Options, Policy, Readers, SourceBytes, Verdict,
     merge_bytes, merge_to,
 };
 use std::alloc::{AllocError, Global};
+use std::hash::RandomState;
+use std::io;
 use std::process::Abort;
+use std::random::RandomSource;
 use std::sync::Wait;
 use std::test::Fail;
 use std::thread::Threads;
@@ -152,6 +156,21 @@ pub fn beside(alloc: Global, runs: &str, baseline_runs: &str) -> Result<Given, F
     Ok(given)
 }
 
+/// A system without random bytes.
+#[derive(Drop)]
+struct NoBytes;
+
+impl RandomSource for NoBytes {
+    fn fill_bytes(&self, _buf: &mut [u8]) -> io::Result<()> {
+        Err(io::ErrorKind::Other.into())
+    }
+}
+
+/// The seed of a run that has no random bytes.
+pub fn seed() -> Result<RandomState, AllocError> {
+    seed_of(&NoBytes).map_err(|_| AllocError)
+}
+
 pub fn merge_watched<G: Gate + Sync, R: Abort + AllocGlobal + Threads + Wait + Sync>(
     rt: &R,
     given: &Given,
@@ -163,6 +182,7 @@ pub fn merge_watched<G: Gate + Sync, R: Abort + AllocGlobal + Threads + Wait + S
         policy: given.policy,
         today: given.today,
         workers,
+        seed: seed()?,
     };
     merge_bytes(rt, rt.alloc(), &given.sources, &options, observer)
 }
@@ -185,6 +205,7 @@ pub fn write_watched<G: Gate + Sync, R: Abort + AllocGlobal + Threads + Wait + S
         policy: Policy::default(),
         today: None,
         workers,
+        seed: seed()?,
     };
     merge_to(
         rt,

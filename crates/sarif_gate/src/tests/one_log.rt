@@ -2,6 +2,7 @@
 use crate::tests::MERGED;
 use crate::tests::merging::{
     Given, NOTHING, Wanted, expect_log, expect_part, expect_runs, log_of, log_with, merge, one_log,
+    seed,
 };
 use sarif_merge::{Counted, NoGate, Options, Policy, Readers, Verdict, merge_readers};
 use sarif_records::{Level, State};
@@ -33,6 +34,7 @@ fn a_log_that_a_reader_gives(rt: HostRuntime) -> Result<(), Fail> {
         policy: Policy::default(),
         today: None,
         workers: 1,
+        seed: seed()?,
     };
     let merged = merge_readers(&rt, rt.alloc(), &mut readers, &options, &NoGate)?;
     assert_eq!(rt; merged.log.as_str(), MERGED);
