@@ -70,12 +70,12 @@ fn ends_of_the_ranges_are_taken(rt: HostRuntime) -> Result<(), Fail> {
         &rt,
         "a --out o --today 10000101 --workers 1 --max 0 --fail-on none",
     )?;
-    assert_eq!(rt; least.today, Some(10_000_101));
-    assert_eq!(rt; least.workers, 1);
-    assert_eq!(rt; least.policy.fail_on, Level::NoLevel);
+    assert_eq!(rt; least.options.today, Some(10_000_101));
+    assert_eq!(rt; least.options.workers, 1);
+    assert_eq!(rt; least.options.policy.fail_on, Level::NoLevel);
     let most = accepted(&rt, "a --out o --today 99991231 --fail-on warning")?;
-    assert_eq!(rt; most.today, Some(99_991_231));
-    assert_eq!(rt; most.policy.fail_on, Level::Warning);
+    assert_eq!(rt; most.options.today, Some(99_991_231));
+    assert_eq!(rt; most.options.policy.fail_on, Level::Warning);
     Ok(())
 }
 
