@@ -57,7 +57,8 @@ pub fn run_request<R: Read, W: Write, S: Write, E: Write, T: Threads + Wait + Sy
     ensures untouched { result ≡ 2 → out.new ≡ out.old }
     // None of these numbers fell.
     ensures risen { NoNumberFalls readers.old readers.new
-        × (failed_calls out.old ≤ failed_calls out.new) × (failed_calls say.old ≤ failed_calls say.new) }
+        × (failed_calls out.old ≤ failed_calls out.new)
+        × (failed_calls say.old ≤ failed_calls say.new) }
     // Where all sources were read and one of them has a fault, it answers 2.
     ensures faulty { (contents : SourceContents) → AllTell R.remaining readers.old
         → WereRead R.remaining readers.old readers.new contents
