@@ -1,3 +1,4 @@
+pub mod GitlabMore
 pub mod MessageMore
 pub mod PathMore
 pub mod ReportedMore

@@ -2,6 +2,8 @@ pub mod CountRow
 pub mod Escaped
 pub mod Finding
 pub mod GithubReport
+pub mod GitlabParts
+pub mod GitlabReport
 pub mod Lookup
 pub mod MarkdownReport
 pub mod Message

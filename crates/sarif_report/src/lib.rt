@@ -4,6 +4,7 @@
 mod escaping;
 mod finding;
 mod github_lines;
+mod gitlab_array;
 mod laws;
 mod lookup;
 mod markdown_table;
@@ -18,6 +19,7 @@ mod text_lines;
 
 pub use finding::Finding;
 pub use github_lines::github_report;
+pub use gitlab_array::gitlab_report;
 pub use laws::{shown_signs_stand_apart, shown_texts_are_seen};
 pub use markdown_table::markdown_report;
 pub use reported_results::reported;
