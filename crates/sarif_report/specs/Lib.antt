@@ -4,6 +4,9 @@ pub mod Finding
 pub mod GithubReport
 pub mod GitlabParts
 pub mod GitlabReport
+pub mod HtmlFixed
+pub mod HtmlReport
+pub mod HtmlStyle
 pub mod Lookup
 pub mod MarkdownReport
 pub mod Message

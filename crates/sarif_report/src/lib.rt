@@ -1,10 +1,13 @@
 //! Reports for people and review services over the finished merged log of a SARIF merge.
 #![tactic(auto)]
 
+mod count_row;
 mod escaping;
 mod finding;
 mod github_lines;
 mod gitlab_array;
+mod html_fixed;
+mod html_page;
 mod laws;
 mod lookup;
 mod markdown_table;
@@ -20,6 +23,7 @@ mod text_lines;
 pub use finding::Finding;
 pub use github_lines::github_report;
 pub use gitlab_array::gitlab_report;
+pub use html_page::html_report;
 pub use laws::{shown_signs_stand_apart, shown_texts_are_seen};
 pub use markdown_table::markdown_report;
 pub use reported_results::reported;
