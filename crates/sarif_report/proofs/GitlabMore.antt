@@ -1,5 +1,5 @@
 -- The report for GitLab, put together from its parts.
-use Rattle.std.proofs.Common.{◌≡◌, ◌<◌, ◌≤◌, ◌==◌, ◌^◌, ℕ, Bool, true, false, ◌&&◌, not, List, [], ◌∷◌, ◌++◌, length, take, drop, Option, Some, None, codes, bytes_eq, decimal, unwrap_or, refl, sym, ap, ap₂, cond, ◌∙◌, append_assoc, arith}
+use Rattle.std.proofs.Common.{◌≡◌, ◌<◌, ◌^◌, ℕ, Bool, true, false, List, [], ◌∷◌, ◌++◌, length, take, drop, Option, Some, None, codes, bytes_eq, refl, sym, ap, ap₂, cond, ◌∙◌, append_assoc, arith}
 use Rattle.std.specs.List.{count_by}
 use Rattle.std.proofs.Common.{◌+◌, get_or, if◌then◌else◌}
 use Rattle.std.proofs.lemmas.Bool.{and_parts, and_from}
@@ -9,7 +9,6 @@ use Rattle.std.proofs.lemmas.List.Sums.{sum_by-cons, count_by-le-length, count_b
 use Rattle.json.specs.Print.{quoted, escape}
 use Rattle.json.specs.Text.{content, plain}
 use Rattle.json.proofs.Printed.Strings.{content-escape}
-use Rattle.serde_json.specs.Data.{array}
 use Rattle.serde_json.specs.Written.{compact_text, items_text, comma_if}
 use Rattle.serde_json.proofs.OnLiterals.{serde_json_on_literals}
 use Rattle.sarif_report.specs.declared.finding.Finding.{Finding}
@@ -81,7 +80,7 @@ identity_cut f g r s e =
     )
 
 -- results that are alike have one identity
-alike_identity : (f g : Finding) → are_alike f g ≡ true → identity_of f ≡ identity_of g
+pub alike_identity : (f g : Finding) → are_alike f g ≡ true → identity_of f ≡ identity_of g
 unfolding identity_of
 alike_identity f g h =
     let tool = and_parts _ _ h in
@@ -118,7 +117,7 @@ count_by-same p q same (g ∷ gs) =
     sum_by-cons (λ x. cond (p x) 1 0) g gs ∙ ap₂ (λ b n. cond b 1 0 + n) (same g) (count_by-same p q same gs)
     ∙ sym (sum_by-cons (λ x. cond (q x) 1 0) g gs)
 
-rank_told : (f : Finding) (fs : List Finding) → rank_among fs f ≡ count_by (λ g. bytes_eq (identity_of f) (identity_of g)) fs
+pub rank_told : (f : Finding) (fs : List Finding) → rank_among fs f ≡ count_by (λ g. bytes_eq (identity_of f) (identity_of g)) fs
 rank_told f fs = count_by-same (are_alike f) (λ g. bytes_eq (identity_of f) (identity_of g)) (identity_tells f) fs
 
 pub few_counted : (q : List ℕ) (fs : List Finding) (i n : ℕ) → n ≡ count_by (λ f. bytes_eq q (identity_of f)) (take i fs) → i < length fs → i < 2 ^ 63 → n < 2 ^ 63

@@ -1,4 +1,9 @@
+pub mod EscapedApart
 pub mod GitlabMore
+pub mod HashedApart
+pub mod HighBytes
+pub mod HitsCounted
+pub mod HitsReported
 pub mod MessageMore
 pub mod PathMore
 pub mod ReportedMore

@@ -1,6 +1,18 @@
 //! Laws of reports, each the contract of a function that does nothing. A log is written by strangers, so these hold of
 //! any text.
-ghost use Rattle.std.specs.Prelude.{◌≡◌, ℕ, List, true, false};
+ghost use Rattle.std.specs.Prelude.{◌≡◌, ◌<◌, ◌^◌, ℕ, List, true, false, bytes_eq, length};
+ghost use Rattle.std.specs.List.{IsDistinct, count_by};
+ghost use Rattle.serde_json.specs.Data.{Data};
+ghost use Rattle.sarif_records.specs.Reading.{runs_of};
+ghost use Rattle.sarif_counts.specs.Policy.{hits_of};
+ghost use Rattle.sarif_counts.specs.CountOf.{count_of};
+ghost use Rattle.sarif_report.specs.declared.finding.Finding.{Finding};
+ghost use Rattle.sarif_report.specs.declared.escaping.Escaping.TheVariants.{Markdown, Page};
+ghost use Rattle.sarif_report.specs.Escaped.{escaped};
+ghost use Rattle.sarif_report.specs.EscapedLaws.{has_no_mark, is_element_text};
+ghost use Rattle.sarif_report.specs.GitlabReport.{hashed_texts};
+ghost use Rattle.sarif_report.specs.declared.reporting.Reporting.{Reporting};
+ghost use Rattle.sarif_report.specs.Reported.{reported_of};
 ghost use Rattle.sarif_report.specs.Shown.{shown_chars};
 ghost use Rattle.sarif_report.specs.ShownLaws.{are_seen, has_two_signs};
 
@@ -12,4 +24,29 @@ pub fn shown_texts_are_seen()
 /// Nowhere in what is shown of a text do two `#` stand together.
 pub fn shown_signs_stand_apart()
     ensures { (cs : List ℕ) → has_two_signs false (shown_chars cs) ≡ false }
+{}
+
+/// What stands of a text in a page has no `<`, `>`, `"` and `'`, and each `&` of it begins an entity: no text makes a
+/// tag or an attribute.
+pub fn page_texts_hold_no_markup()
+    ensures { (text : List ℕ) → is_element_text (escaped Page text) ≡ true }
+{}
+
+/// Each mark of what stands of a text in Markdown is part of a `&#N;`: no text makes a cell, a link, an emphasis or a
+/// tag.
+pub fn markdown_texts_hold_no_mark()
+    ensures { (text : List ℕ) → has_no_mark (escaped Markdown text) ≡ true }
+{}
+
+/// The texts that fingerprints are made of differ from each other, also where results are alike. So the fingerprints
+/// of a report do, where SHA-256 doesn't collide.
+pub fn hashed_texts_differ()
+    ensures { (findings : List Finding) → length findings < 2 ^ 64
+        → IsDistinct bytes_eq (hashed_texts findings) }
+{}
+
+/// Of the reported results of a finished log as many are hits as the gate counts.
+pub fn reported_hits_are_counted()
+    ensures { (reporting : Reporting) (log : Data) → count_by (λ f. f.hit) (reported_of reporting log)
+        ≡ hits_of (count_of (runs_of log)) reporting.policy }
 {}

@@ -24,7 +24,10 @@ pub use finding::Finding;
 pub use github_lines::github_report;
 pub use gitlab_array::gitlab_report;
 pub use html_page::html_report;
-pub use laws::{shown_signs_stand_apart, shown_texts_are_seen};
+pub use laws::{
+    hashed_texts_differ, markdown_texts_hold_no_mark, page_texts_hold_no_markup,
+    reported_hits_are_counted, shown_signs_stand_apart, shown_texts_are_seen,
+};
 pub use markdown_table::markdown_report;
 pub use reported_results::reported;
 pub use reporting::Reporting;

@@ -1,4 +1,4 @@
-use Rattle.std.proofs.Common.{◌++◌, codes, ◌∙◌, ap, append_assoc}
+use Rattle.std.proofs.Common.{◌++◌, codes, ◌∙◌}
 use Rattle.sarif_report.specs.GitlabParts.{quoted_text, rule_text, location_text, severity_text}
 use Rattle.sarif_report.proofs.GitlabMore.{quality_parts, joined, joined_before}
 use Rattle.sarif_report.proofs.gitlab_array.push_quality.Goals as goal
