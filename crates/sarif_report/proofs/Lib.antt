@@ -1,4 +1,6 @@
+pub mod CharsBack
 pub mod EscapedApart
+pub mod GithubApart
 pub mod GitlabMore
 pub mod HashedApart
 pub mod HighBytes
@@ -9,4 +11,6 @@ pub mod PathMore
 pub mod ReportedMore
 pub mod SeenMore
 pub mod ShownMore
+pub mod TextApart
+pub mod ToldFindings
 pub mod EscapedMore

@@ -2,6 +2,7 @@ pub mod CountRow
 pub mod Escaped
 pub mod EscapedLaws
 pub mod Finding
+pub mod GithubLaws
 pub mod GithubReport
 pub mod GitlabParts
 pub mod GitlabReport
@@ -16,4 +17,5 @@ pub mod Reported
 pub mod Shown
 pub mod ShownLaws
 pub mod ShownSoFar
+pub mod TextLaws
 pub mod TextReport

@@ -1,6 +1,6 @@
 //! Laws of reports, each the contract of a function that does nothing. A log is written by strangers, so these hold of
 //! any text.
-ghost use Rattle.std.specs.Prelude.{◌≡◌, ◌<◌, ◌^◌, ℕ, List, true, false, bytes_eq, length};
+ghost use Rattle.std.specs.Prelude.{◌≡◌, ◌<◌, ◌==◌, ◌^◌, ℕ, List, true, false, bytes_eq, length};
 ghost use Rattle.std.specs.List.{IsDistinct, count_by};
 ghost use Rattle.serde_json.specs.Data.{Data};
 ghost use Rattle.sarif_records.specs.Reading.{runs_of};
@@ -10,11 +10,15 @@ ghost use Rattle.sarif_report.specs.declared.finding.Finding.{Finding};
 ghost use Rattle.sarif_report.specs.declared.escaping.Escaping.TheVariants.{Markdown, Page};
 ghost use Rattle.sarif_report.specs.Escaped.{escaped};
 ghost use Rattle.sarif_report.specs.EscapedLaws.{has_no_mark, is_element_text};
+ghost use Rattle.sarif_report.specs.GithubLaws.{are_commands};
+ghost use Rattle.sarif_report.specs.GithubReport.{github_of};
 ghost use Rattle.sarif_report.specs.GitlabReport.{hashed_texts};
 ghost use Rattle.sarif_report.specs.declared.reporting.Reporting.{Reporting};
 ghost use Rattle.sarif_report.specs.Reported.{reported_of};
 ghost use Rattle.sarif_report.specs.Shown.{shown_chars};
 ghost use Rattle.sarif_report.specs.ShownLaws.{are_seen, has_two_signs};
+ghost use Rattle.sarif_report.specs.TextLaws.{IsTextOfLines};
+ghost use Rattle.sarif_report.specs.TextReport.{text_of};
 
 /// No character of what is shown of a text is a control character, a separator of lines, or one that hides or steers.
 pub fn shown_texts_are_seen()
@@ -49,4 +53,21 @@ pub fn hashed_texts_differ()
 pub fn reported_hits_are_counted()
     ensures { (reporting : Reporting) (log : Data) → count_by (λ f. f.hit) (reported_of reporting log)
         ≡ hits_of (count_of (runs_of log)) reporting.policy }
+{}
+
+/// The text report of a log has just as many lines as there are reported results, no control character beside their
+/// ends, no line that begins with a colon, and nowhere two `#` together.
+pub fn text_reports_have_a_line_a_result()
+    ensures { (reporting : Reporting) (log : Data) →
+        IsTextOfLines (length (reported_of reporting log)) (text_of (reported_of reporting log)) }
+{}
+
+/// Each line of the report for GitHub Actions begins with one of its three commands, and there are as many lines as
+/// reported results: no log gives the build service a command of its own.
+pub fn github_lines_begin_with_commands()
+    ensures commands { (reporting : Reporting) (log : Data) →
+        are_commands true (github_of (reported_of reporting log)) ≡ true }
+    ensures lines { (reporting : Reporting) (log : Data) →
+        count_by (λ b. b == 10) (github_of (reported_of reporting log))
+        ≡ length (reported_of reporting log) }
 {}
