@@ -209,3 +209,100 @@ fn a_page_without_results_has_no_table_of_them(rt: HostRuntime) -> Result<(), Fa
     assert!(rt; !page.contains("data-level=\"error\" data-state"));
     Ok(())
 }
+
+/// So many results that are alike.
+fn many(alloc: Global, count: u32) -> Result<Vec<Finding>, Fail> {
+    let mut findings = Vec::new(alloc);
+    for _ in 0..count {
+        findings.push(Finding {
+            tool: Text::copy_of(alloc, "T")?,
+            rule: Text::copy_of(alloc, "R")?,
+            level: Level::Warning,
+            state: State::New,
+            message: Text::copy_of(alloc, "m")?,
+            path: Some(Text::copy_of(alloc, "a|b.c")?),
+            line: None,
+            column: None,
+            help: None,
+            hit: false,
+        })?;
+    }
+    Ok(findings)
+}
+
+#[test]
+fn two_hundred_results_stand_in_the_markdown_table(rt: HostRuntime) -> Result<(), Fail> {
+    let alloc = rt.alloc();
+    let policy = Policy::default();
+    let others = "\n\n1 more results are in the merged log.\n";
+    let all = markdown_report(alloc, &Counts::new(), &policy, many(alloc, 200)?.as_slice())?;
+    assert!(rt; !all.contains("more results"));
+    let more = markdown_report(alloc, &Counts::new(), &policy, many(alloc, 201)?.as_slice())?;
+    assert!(rt; more.ends_with(others));
+    assert_eq!(rt; more.len(), all.len() + others.len() - 1);
+    Ok(())
+}
+
+#[test]
+fn ten_thousand_results_stand_in_the_page(rt: HostRuntime) -> Result<(), Fail> {
+    let alloc = rt.alloc();
+    let policy = Policy::default();
+    let others = "<p>1 more results are in the merged log.</p>\n";
+    let all = html_report(
+        alloc,
+        &Counts::new(),
+        &policy,
+        many(alloc, 10_000)?.as_slice(),
+    )?;
+    assert!(rt; !all.contains("more results"));
+    let more = html_report(
+        alloc,
+        &Counts::new(),
+        &policy,
+        many(alloc, 10_001)?.as_slice(),
+    )?;
+    assert!(rt; more.contains(others));
+    assert_eq!(rt; more.len(), all.len() + others.len());
+    Ok(())
+}
+
+/// A log that would write lines, commands and cells.
+const FORGING: &str = r#"{"runs":[{"results":[
+{"baselineState":"new","level":"error","locations":[{"physicalLocation":{"artifactLocation":{"uri":" :%0A::error::a,b|c@d%E2%80%AE##[e].c"},"region":{"startColumn":3,"startLine":4294967295}}}],"message":{"text":"a\r\n::set-output name=x::y\u001b[31m | @team `z` ##vso[x] 100%"},"ruleId":"R|1\n"},
+{"baselineState":"new","level":"none","locations":[{"physicalLocation":{"artifactLocation":{"uri":"a%zz.c"},"region":{"startColumn":3,"startLine":0}}}],"message":{"id":"none"},"ruleId":""}
+],"tool":{"driver":{"name":"T,:%"}}}],"version":"2.1.0"}"#;
+
+const FORGING_TEXT: &str = "\
+./ : ::error::a,b|c@d # #[e].c:4294967295:3: error: a  ::set-output name=x::y [31m | @team `z` # #vso[x] 100% [R|1 ] (T,:%, new)
+a%zz.c: none: (no message) (T,:%, new)
+";
+
+const FORGING_GITHUB: &str = "\
+::error file= %3A %3A%3Aerror%3A%3Aa%2Cb|c@d # #[e].c,line=4294967295,col=3,title=R|1  (T%2C%3A%25)::a  ::set-output name=x::y [31m | @team `z` # #vso[x] 100%25
+::notice file=a%25zz.c,title=T%2C%3A%25::(no message)
+";
+
+const FORGING_ROW: &str =
+    "| yes | error | <code>&#46;/ &#58; &#58;&#58;error&#58;&#58;a,b&#124;c&#64;d &#35; &#35;&#91;e&#93;&#46;c&#58;4294967295&#58;3</code> | <code>R&#124;1 </code> | <code>a  &#58;&#58;set-output name&#61;x&#58;&#58;y &#91;31m &#124; &#64;team &#96;z&#96; &#35; &#35;vso&#91;x&#93; 100&#37;</code> | <code>T,&#58;&#37;</code> | new |\n";
+
+#[test]
+fn no_log_writes_a_line_a_command_or_a_cell(rt: HostRuntime) -> Result<(), Fail> {
+    let alloc = rt.alloc();
+    let findings = findings_in(alloc, FORGING)?;
+    assert_eq!(rt;
+        text_report(alloc, findings.as_slice())?.as_str(),
+        FORGING_TEXT
+    );
+    assert_eq!(rt;
+        github_report(alloc, findings.as_slice())?.as_str(),
+        FORGING_GITHUB
+    );
+    let markdown = markdown_report(
+        alloc,
+        &Counts::new(),
+        &Policy::default(),
+        findings.as_slice(),
+    )?;
+    assert!(rt; markdown.contains(FORGING_ROW));
+    Ok(())
+}
