@@ -85,7 +85,7 @@ decimal_digits n small =
     (λ k ds _ h. digits_more ds (48 + k % 10) h (last_digit (k % 10) (remainder k)))
     n small
 
-mark_small : (c : ℕ) → is_mark c ≡ true → c < 2 ^ 64
+pub mark_small : (c : ℕ) → is_mark c ≡ true → c < 2 ^ 64
 mark_small c mark = grind (arith, nat_tests, mark)
 
 mark_by : (b : Bool) (c : ℕ) (rest : List ℕ) → is_mark c ≡ b → has_no_mark rest ≡ true

@@ -9,7 +9,9 @@ pub mod HitsReported
 pub mod MessageMore
 pub mod PathMore
 pub mod ReportedMore
+pub mod RowsApart
 pub mod SeenMore
+pub mod SeenTexts
 pub mod ShownMore
 pub mod TextApart
 pub mod ToldFindings

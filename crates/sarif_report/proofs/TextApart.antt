@@ -127,7 +127,7 @@ WithinText n text = (cs : List ℕ) × (encode_utf8_all cs ≡ text) × Within n
 abbrev AnywhereText : ℕ → List ℕ → Type 0
 AnywhereText n text = (cs : List ℕ) × (encode_utf8_all cs ≡ text) × Anywhere n cs
 
-plain_bytes : (ws : List ℕ) → list_all is_plain ws ≡ true → encode_utf8_all ws ≡ ws
+pub plain_bytes : (ws : List ℕ) → list_all is_plain ws ≡ true → encode_utf8_all ws ≡ ws
 plain_bytes [] h = refl
 plain_bytes (w ∷ ws) h =
     let parts = and_parts (is_plain w) (list_all is_plain ws) h in

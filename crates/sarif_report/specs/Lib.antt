@@ -10,6 +10,7 @@ pub mod HtmlFixed
 pub mod HtmlReport
 pub mod HtmlStyle
 pub mod Lookup
+pub mod MarkdownLaws
 pub mod MarkdownReport
 pub mod Message
 pub mod PathOf

@@ -1,6 +1,7 @@
 //! Laws of reports, each the contract of a function that does nothing. A log is written by strangers, so these hold of
 //! any text.
-ghost use Rattle.std.specs.Prelude.{◌≡◌, ◌<◌, ◌==◌, ◌^◌, ℕ, List, true, false, bytes_eq, length};
+ghost use Rattle.std.specs.Prelude.{◌≡◌, ◌<◌, ◌==◌, ◌^◌, ℕ, List, true, false, bytes_eq};
+ghost use Rattle.std.specs.Prelude.{flat_map, length, take};
 ghost use Rattle.std.specs.List.{IsDistinct, count_by};
 ghost use Rattle.serde_json.specs.Data.{Data};
 ghost use Rattle.sarif_records.specs.Reading.{runs_of};
@@ -14,6 +15,8 @@ ghost use Rattle.sarif_report.specs.GithubLaws.{are_commands};
 ghost use Rattle.sarif_report.specs.GithubReport.{github_of};
 ghost use Rattle.sarif_report.specs.GitlabReport.{hashed_texts};
 ghost use Rattle.sarif_report.specs.declared.reporting.Reporting.{Reporting};
+ghost use Rattle.sarif_report.specs.MarkdownLaws.{have_bars};
+ghost use Rattle.sarif_report.specs.MarkdownReport.{result_row};
 ghost use Rattle.sarif_report.specs.Reported.{reported_of};
 ghost use Rattle.sarif_report.specs.Shown.{shown_chars};
 ghost use Rattle.sarif_report.specs.ShownLaws.{are_seen, has_two_signs};
@@ -51,7 +54,8 @@ pub fn hashed_texts_differ()
 
 /// Of the reported results of a finished log as many are hits as the gate counts.
 pub fn reported_hits_are_counted()
-    ensures { (reporting : Reporting) (log : Data) → count_by (λ f. f.hit) (reported_of reporting log)
+    ensures { (reporting : Reporting) (log : Data) →
+        count_by (λ f. f.hit) (reported_of reporting log)
         ≡ hits_of (count_of (runs_of log)) reporting.policy }
 {}
 
@@ -70,4 +74,14 @@ pub fn github_lines_begin_with_commands()
     ensures lines { (reporting : Reporting) (log : Data) →
         count_by (λ b. b == 10) (github_of (reported_of reporting log))
         ≡ length (reported_of reporting log) }
+{}
+
+/// In Markdown the table of results has a line a row, and each of its lines has eight bars: no log makes a line or a
+/// cell of its own.
+pub fn markdown_rows_have_their_cells()
+    ensures bars { (reporting : Reporting) (log : Data) →
+        have_bars 8 0 (flat_map result_row (take 200 (reported_of reporting log))) ≡ true }
+    ensures lines { (reporting : Reporting) (log : Data) →
+        count_by (λ b. b == 10) (flat_map result_row (take 200 (reported_of reporting log)))
+        ≡ length (take 200 (reported_of reporting log)) }
 {}
