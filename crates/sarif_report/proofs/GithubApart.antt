@@ -1,5 +1,5 @@
 -- The report for GitHub Actions, line by line.
-use Rattle.std.proofs.Common.{◌≡◌, ◌<◌, ◌≤◌, ◌^◌, ◌+◌, ◌==◌, ◌++◌, ℕ, Bool, true, false, not, ◌&&◌, ◌||◌, List, [], ◌∷◌, Option, Some, None, IfSome, codes, chars, decimal, length, if◌then◌else◌, refl, sym, ap, ◌∙◌, cond, append_assoc, subst, arith}
+use Rattle.std.proofs.Common.{◌≡◌, ◌<◌, ◌^◌, ◌+◌, ◌==◌, ◌++◌, ℕ, Bool, true, false, not, ◌&&◌, List, [], ◌∷◌, Option, Some, None, IfSome, codes, chars, decimal, length, if◌then◌else◌, refl, sym, ap, ◌∙◌, cond, append_assoc, subst, arith}
 use Rattle.std.specs.Prelude.{encode_utf8_all, flat_map, nat_lt}
 use Rattle.std.specs.Char.{encode_utf8}
 use Rattle.std.specs.List.{AllByRecursion, count_by, list_all}
@@ -13,8 +13,8 @@ use Rattle.sarif_report.specs.declared.reporting.Reporting.{Reporting}
 use Rattle.sarif_report.specs.declared.escaping.Escaping.{Escaping}
 use Rattle.sarif_report.specs.declared.escaping.Escaping.TheVariants.{Message, Property}
 use Rattle.sarif_report.specs.Escaped.{escaped, escaped_char, message_char, property_char}
-use Rattle.sarif_report.specs.GithubReport.{github_of, github_line, command_of, file_property, number_property, title, position_of, title_and_message}
-use Rattle.sarif_report.specs.GithubLaws.{are_commands, begins_command}
+use Rattle.sarif_report.specs.GithubReport.{github_of, github_line, command_of, file_property, number_property, title}
+use Rattle.sarif_report.specs.GithubLaws.{are_commands}
 use Rattle.sarif_report.specs.Reported.{reported_of}
 use Rattle.sarif_report.specs.Shown.{shown_chars}
 use Rattle.sarif_report.specs.ShownLaws.{is_seen, are_seen}

@@ -1,3 +1,4 @@
+pub mod ArrayRead
 pub mod CharsBack
 pub mod EscapedApart
 pub mod GithubApart

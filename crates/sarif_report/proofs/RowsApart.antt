@@ -1,5 +1,5 @@
 -- The table of results in Markdown, row by row.
-use Rattle.std.proofs.Common.{◌≡◌, ◌<◌, ◌≤◌, ◌^◌, ◌+◌, ◌==◌, ◌++◌, ℕ, Bool, true, false, not, ◌&&◌, ◌||◌, List, [], ◌∷◌, codes, decimal, length, flat_map, encode_utf8, if◌then◌else◌, refl, sym, ap, ◌∙◌, cond, append_assoc, subst, arith, take}
+use Rattle.std.proofs.Common.{◌≡◌, ◌+◌, ◌==◌, ◌++◌, ℕ, Bool, true, false, not, ◌&&◌, List, [], ◌∷◌, codes, decimal, length, flat_map, encode_utf8, if◌then◌else◌, refl, sym, ap, ◌∙◌, cond, append_assoc, subst, arith, take}
 use Rattle.std.specs.List.{AllByRecursion, count_by, list_all}
 use Rattle.std.specs.Char.{is_ascii_digit}
 use Rattle.std.proofs.lemmas.Bool.{and_parts, and_from, false_from_ne_true, eqb-true, true≢false}

@@ -1,9 +1,9 @@
 -- The text report, line by line.
-use Rattle.std.proofs.Common.{◌≡◌, ◌<◌, ◌≤◌, ◌^◌, ◌+◌, ◌%◌, ◌==◌, ◌++◌, ℕ, zero, suc, Bool, true, false, not, ◌&&◌, ◌||◌, List, [], ◌∷◌, Option, Some, None, IfSome, codes, decimal, length, if◌then◌else◌, refl, sym, ap, ap₂, ◌∙◌, cond, append_assoc, subst, arith}
-use Rattle.std.specs.Prelude.{encode_utf8_all, flat_map, nat_lt}
+use Rattle.std.proofs.Common.{◌≡◌, ◌<◌, ◌^◌, ◌+◌, ◌%◌, ◌==◌, ◌++◌, ℕ, zero, suc, Bool, true, false, not, ◌&&◌, ◌||◌, List, [], ◌∷◌, Option, Some, None, IfSome, codes, decimal, length, if◌then◌else◌, refl, sym, ap, ap₂, ◌∙◌, cond, append_assoc, subst, arith}
+use Rattle.std.specs.Prelude.{encode_utf8_all, nat_lt}
 use Rattle.std.specs.Char.{encode_utf8}
 use Rattle.std.specs.List.{AllByRecursion, count_by, list_all}
-use Rattle.std.proofs.lemmas.Bool.{and_parts, and_from, or_from, or_parts, false_from_ne_true, eqb-true, eq-eqb, true≢false, ltb-true}
+use Rattle.std.proofs.lemmas.Bool.{and_parts, and_from, or_from, or_parts, false_from_ne_true, eqb-true, true≢false, ltb-true}
 use Rattle.std.proofs.lemmas.List.Sums.{sum_by-cons}
 use Rattle.std.proofs.lemmas.Str.{encodes-append, encode_ascii}
 use Rattle.std.proofs.lemmas.Fmt.{decimal_by_steps}
@@ -18,9 +18,9 @@ use Rattle.sarif_report.specs.declared.finding.Finding.{Finding}
 use Rattle.sarif_report.specs.declared.reporting.Reporting.{Reporting}
 use Rattle.sarif_report.specs.Finding.{place_of, place, place_path, numbered, begins_with_colon}
 use Rattle.sarif_report.specs.Reported.{reported_of}
-use Rattle.sarif_report.specs.Shown.{shown, shown_chars}
+use Rattle.sarif_report.specs.Shown.{shown_chars}
 use Rattle.sarif_report.specs.ShownLaws.{is_seen, are_seen, has_two_signs}
-use Rattle.sarif_report.specs.TextReport.{text_of, text_line, bracketed, level_and_message, tool_and_state}
+use Rattle.sarif_report.specs.TextReport.{text_of, text_line, bracketed}
 use Rattle.sarif_report.specs.TextLaws.{has_colon_line, AreLines, IsTextOfLines}
 use Rattle.sarif_report.proofs.SeenMore.{shown_seen, shown_apart}
 use Rattle.sarif_report.proofs.ToldFindings.{IsShown, IsPath, IsTold, all_told}

@@ -1,5 +1,5 @@
 -- What is told of a result is shown.
-use Rattle.std.proofs.Common.{◌≡◌, ◌<◌, ◌≤◌, ◌^◌, ◌++◌, ℕ, Bool, true, false, ◌&&◌, List, [], ◌∷◌, Option, Some, None, IfSome, codes, chars, if◌then◌else◌, refl, sym, ap, ◌∙◌, arith}
+use Rattle.std.proofs.Common.{◌≡◌, ◌<◌, ◌^◌, ◌++◌, ℕ, Bool, true, false, ◌&&◌, List, [], ◌∷◌, Option, Some, None, IfSome, codes, if◌then◌else◌, refl, arith}
 use Rattle.std.specs.Prelude.{option_and_then, flat_map, nat_le, nat_lt}
 use Rattle.std.specs.Char.{encode_utf8}
 use Rattle.std.specs.List.{AllByRecursion, filter_map, cons_option}
@@ -11,7 +11,7 @@ use Rattle.sarif_records.specs.declared.kinds.State.{State}
 use Rattle.sarif_report.specs.declared.finding.Finding.{Finding}
 use Rattle.sarif_report.specs.declared.reporting.Reporting.{Reporting}
 use Rattle.sarif_report.specs.Lookup.{elements_in, position_number, position_in, number_in, physical_location, uri_of}
-use Rattle.sarif_report.specs.Shown.{shown, shown_chars, kept}
+use Rattle.sarif_report.specs.Shown.{shown, kept}
 use Rattle.sarif_report.specs.Reported.{reported_of, reported_in, finding_if, finding_by, finding_of, or_no_message, none_if_empty, shown_path, only_with, is_reported, level_in, state_in, path_in, line_in}
 
 abbrev pub IsShown : List ℕ → Type 0

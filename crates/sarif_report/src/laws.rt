@@ -1,9 +1,11 @@
 //! Laws of reports, each the contract of a function that does nothing. A log is written by strangers, so these hold of
 //! any text.
-ghost use Rattle.std.specs.Prelude.{◌≡◌, ◌<◌, ◌==◌, ◌^◌, ℕ, List, true, false, bytes_eq};
+ghost use Rattle.std.specs.Prelude.{◌≡◌, ◌<◌, ◌==◌, ◌^◌, ℕ, List, true, false, [], Some, bytes_eq};
 ghost use Rattle.std.specs.Prelude.{flat_map, length, take};
 ghost use Rattle.std.specs.List.{IsDistinct, count_by};
-ghost use Rattle.serde_json.specs.Data.{Data};
+ghost use Rattle.json.specs.Json.{document};
+ghost use Rattle.serde_json.specs.Data.{Data, array};
+ghost use Rattle.serde_json.specs.Written.{outline};
 ghost use Rattle.sarif_records.specs.Reading.{runs_of};
 ghost use Rattle.sarif_counts.specs.Policy.{hits_of};
 ghost use Rattle.sarif_counts.specs.CountOf.{count_of};
@@ -13,7 +15,7 @@ ghost use Rattle.sarif_report.specs.Escaped.{escaped};
 ghost use Rattle.sarif_report.specs.EscapedLaws.{has_no_mark, is_element_text};
 ghost use Rattle.sarif_report.specs.GithubLaws.{are_commands};
 ghost use Rattle.sarif_report.specs.GithubReport.{github_of};
-ghost use Rattle.sarif_report.specs.GitlabReport.{hashed_texts};
+ghost use Rattle.sarif_report.specs.GitlabReport.{gitlab_of, hashed_texts, items_after};
 ghost use Rattle.sarif_report.specs.declared.reporting.Reporting.{Reporting};
 ghost use Rattle.sarif_report.specs.MarkdownLaws.{have_bars};
 ghost use Rattle.sarif_report.specs.MarkdownReport.{result_row};
@@ -84,4 +86,11 @@ pub fn markdown_rows_have_their_cells()
     ensures lines { (reporting : Reporting) (log : Data) →
         count_by (λ b. b == 10) (flat_map result_row (take 200 (reported_of reporting log)))
         ≡ length (take 200 (reported_of reporting log)) }
+{}
+
+/// Read as JSON, the report for GitLab is the array of its objects, whatever their texts hold: no log makes an object
+/// or a member of its own.
+pub fn gitlab_reports_read_back()
+    ensures { (reporting : Reporting) (log : Data) → document (gitlab_of (reported_of reporting log))
+        ≡ Some (outline (array (items_after [] (reported_of reporting log)))) }
 {}
