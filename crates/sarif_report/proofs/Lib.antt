@@ -14,6 +14,7 @@ pub mod RowsApart
 pub mod SeenMore
 pub mod SeenTexts
 pub mod ShownMore
+pub mod TagsCounted
 pub mod TextApart
 pub mod ToldFindings
 pub mod EscapedMore

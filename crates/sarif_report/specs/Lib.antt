@@ -7,6 +7,7 @@ pub mod GithubReport
 pub mod GitlabParts
 pub mod GitlabReport
 pub mod HtmlFixed
+pub mod HtmlLaws
 pub mod HtmlReport
 pub mod HtmlStyle
 pub mod Lookup

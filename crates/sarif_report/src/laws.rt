@@ -1,8 +1,8 @@
 //! Laws of reports, each the contract of a function that does nothing. A log is written by strangers, so these hold of
 //! any text.
-ghost use Rattle.std.specs.Prelude.{◌≡◌, ◌<◌, ◌==◌, ◌^◌, ℕ, List, true, false, [], Some, bytes_eq};
+ghost use Rattle.std.specs.Prelude.{◌≡◌, ◌<◌, ◌==◌, ◌^◌, ℕ, List, true, false, [], Some, None, bytes_eq};
 ghost use Rattle.std.specs.Prelude.{flat_map, length, take};
-ghost use Rattle.std.specs.List.{IsDistinct, count_by};
+ghost use Rattle.std.specs.List.{IsDistinct, count_by, sum_by};
 ghost use Rattle.json.specs.Json.{document};
 ghost use Rattle.serde_json.specs.Data.{Data, array};
 ghost use Rattle.serde_json.specs.Written.{outline};
@@ -17,6 +17,8 @@ ghost use Rattle.sarif_report.specs.GithubLaws.{are_commands};
 ghost use Rattle.sarif_report.specs.GithubReport.{github_of};
 ghost use Rattle.sarif_report.specs.GitlabReport.{gitlab_of, hashed_texts, items_after};
 ghost use Rattle.sarif_report.specs.declared.reporting.Reporting.{Reporting};
+ghost use Rattle.sarif_report.specs.HtmlLaws.{row_tags, tags_in};
+ghost use Rattle.sarif_report.specs.HtmlReport.{rows_below};
 ghost use Rattle.sarif_report.specs.MarkdownLaws.{have_bars};
 ghost use Rattle.sarif_report.specs.MarkdownReport.{result_row};
 ghost use Rattle.sarif_report.specs.Reported.{reported_of};
@@ -93,4 +95,10 @@ pub fn markdown_rows_have_their_cells()
 pub fn gitlab_reports_read_back()
     ensures { (reporting : Reporting) (log : Data) → document (gitlab_of (reported_of reporting log))
         ≡ Some (outline (array (items_after [] (reported_of reporting log)))) }
+{}
+
+/// Each row of a page has its own tags, whatever the texts of its result hold: no log makes a tag or a cell of its own.
+pub fn page_rows_have_their_tags()
+    ensures { (findings : List Finding) → tags_in (rows_below None findings)
+        ≡ sum_by row_tags findings }
 {}
