@@ -3,10 +3,12 @@
 
 mod first_fault;
 mod judged;
+mod laws;
 mod merge;
 mod merge_sources;
 mod options;
 
+pub use laws::merged_runs_hold_no_fraction;
 pub use merge::merge_bytes;
 pub use merge_sources::{merge_readers, merge_to};
 pub use options::Options;

@@ -1,0 +1,36 @@
+//! Laws of what is written, each the contract of a function that does nothing.
+ghost use Rattle.std.specs.Prelude.{◌≡◌, Bool, List, false};
+ghost use Rattle.std.specs.List.{list_any};
+ghost use Rattle.serde_json.specs.Data.{Data};
+ghost use Rattle.serde_json.specs.Written.{has_float};
+ghost use Rattle.sarif_records.specs.declared.kinds.State.{State};
+ghost use Rattle.sarif_records.specs.declared.record.Record.{Record};
+ghost use Rattle.sarif_suppress.specs.File.{File};
+ghost use Rattle.sarif_write.specs.MergedRuns.{absent_runs, merged_runs};
+ghost use Rattle.sarif_assemble.specs.LogBy.{listing_of};
+ghost use Rattle.sarif_inputs.specs.Inputs.{Inputs};
+ghost use Rattle.sarif_merge.specs.MergedLog.{runs_of};
+
+use sarif_records::read_runs_hold_no_fraction;
+use sarif_suppress::{object_holds_no_fraction, written_passes_where_its_parts_do};
+
+/// No number with a fraction comes in by writing runs.
+fn written_runs_hold_no_fraction()
+    ensures current { (file : File) (rs : List Record) (states : List State) (runs : List Data)
+        → list_any has_float runs ≡ false
+        → list_any has_float (merged_runs (listing_of file) rs states runs) ≡ false }
+    ensures baseline { (rs : List Record) (taken : List Bool) (runs : List Data)
+        → list_any has_float runs ≡ false
+        → list_any has_float (absent_runs rs taken runs) ≡ false }
+{
+    object_holds_no_fraction();
+    written_passes_where_its_parts_do();
+}
+
+/// The runs of a merged log hold no number with a fraction, whatever its inputs.
+pub fn merged_runs_hold_no_fraction()
+    ensures { (inputs : Inputs) → list_any has_float (runs_of inputs) ≡ false }
+{
+    read_runs_hold_no_fraction();
+    written_runs_hold_no_fraction();
+}
