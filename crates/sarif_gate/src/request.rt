@@ -25,10 +25,7 @@ pub struct Request {
 impl Request {
     /// To merge one log from standard input to standard output, with one worker and the default policy. The
     /// standard streams have no names.
-    pub fn of_standard_streams(
-        alloc: Global,
-        seed: RandomState,
-    ) -> Result<Request, AllocError>
+    pub fn of_standard_streams(alloc: Global, seed: RandomState) -> Result<Request, AllocError>
         ensures workers { IfOk result (λ request. request.options.workers ≡ 1) }
         ensures policy { IfOk result (λ request. request.options.policy ≡ default_policy) }
         ensures today { IfOk result (λ request. request.options.today ≡ None) }

@@ -57,11 +57,7 @@ impl From<AllocError> for WordsFault {
 
 /// What the words after the program's name ask for. `Usage` where they are wrong, also where the merged log would
 /// take the place of the suppression file; `Help` where they ask for it. The tables of the merge hash with `seed`.
-pub fn read_words(
-    alloc: Global,
-    seed: RandomState,
-    words: &[String],
-) -> Result<Request, WordsFault>
+pub fn read_words(alloc: Global, seed: RandomState, words: &[String]) -> Result<Request, WordsFault>
     ensures { Answers (map string_bytes words.now) result }
 {
     let command = command(alloc)?;

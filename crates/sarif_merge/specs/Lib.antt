@@ -2,4 +2,5 @@ pub mod FromReaders
 pub mod Given
 pub mod Merged
 pub mod MergedLog
+pub mod OwnResult
 pub mod Wanting

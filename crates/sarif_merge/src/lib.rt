@@ -8,7 +8,7 @@ mod merge;
 mod merge_sources;
 mod options;
 
-pub use laws::merged_runs_hold_no_fraction;
+pub use laws::{each_result_is_written_as_its_own, merged_runs_hold_no_fraction};
 pub use merge::merge_bytes;
 pub use merge_sources::{merge_readers, merge_to};
 pub use options::Options;

@@ -49,11 +49,7 @@ pub struct Applied {
 
 impl<S: BuildHasher + Copy> Suppressions<S> {
     /// No entries: what stands where there is no suppression file.
-    pub fn none(
-        alloc: Global,
-        hasher: S,
-        today: Option<u32>,
-    ) -> Result<Suppressions<S>, AllocError>
+    pub fn none(alloc: Global, hasher: S, today: Option<u32>) -> Result<Suppressions<S>, AllocError>
         ensures { IfOk result (λ s. s ≡ record { entries = []; today = today }) }
     {
         Suppressions::new(alloc, hasher, Vec::new(alloc), today)

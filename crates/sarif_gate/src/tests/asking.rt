@@ -1,8 +1,8 @@
 //! Which words ask for what.
 
 use crate::request::Request;
-use crate::words::{WordsFault, read_words};
 use crate::tests::merging::seed;
+use crate::words::{WordsFault, read_words};
 use sarif_merge::States;
 use sarif_records::Level;
 use std::alloc::AllocError;

@@ -197,12 +197,7 @@ fn expect_found(
 }
 
 /// Sets the marks of a result with that rule id.
-fn mark(
-    alloc: Global,
-    rules: &Plain,
-    marks: &mut Marks,
-    rule_id: &str,
-) -> Result<(), AllocError> {
+fn mark(alloc: Global, rules: &Plain, marks: &mut Marks, rule_id: &str) -> Result<(), AllocError> {
     let finding = result_at(alloc, rule_id, None)?;
     let applied = rules.apply(alloc, &finding)?;
     marks.set(&applied);

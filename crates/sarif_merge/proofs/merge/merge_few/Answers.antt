@@ -12,9 +12,12 @@ open_sources-requires g c =
     let ls = c.as_slice-logs.result.now in
     let bs = c.as_slice-baselines.result.now in
     let few_logs = subst (λ xs. length xs ≤ 1000) (sym c.as_slice-logs.ensures.value) c.requires.few_logs in
-    let few_baselines = subst (λ xs. length xs ≤ 1000) (sym c.as_slice-baselines.ensures.value) c.requires.few_baselines in
-    (map (λ v. v.items) ls, map (λ v. v.items) bs, are_indexes ls bs c.deref.result.now (length ls) refl few_logs few_baselines
-    (subst (λ found. AreIndexed (map without_mark (map (λ v. v.items) ls ++ map (λ v. v.items) bs)) found) (sym c.deref.ensures.value) c.in_ok-indexes.ensures))
+    let few_baselines = subst (λ xs. length xs ≤ 1000) (sym c.as_slice-baselines.ensures.value) c.requires.few_baselines in (
+      map (λ v. v.items) ls,
+      map (λ v. v.items) bs,
+      are_indexes ls bs c.deref.result.now (length ls) refl few_logs few_baselines
+          (subst (λ found. AreIndexed (map without_mark (map (λ v. v.items) ls ++ map (λ v. v.items) bs)) found) (sym c.deref.ensures.value) c.in_ok-indexes.ensures),
+    )
 
 pub returns-clause-merge : goal.returns-clause-merge
 returns-clause-merge g c =
