@@ -20,7 +20,8 @@ fn index_in_turn<'a>(
     alloc: Global,
     jobs: Vec<Job<'a>>,
 ) -> Result<Vec<Result<Index<'a>, IndexFault>>, AllocError>
-    ensures { IfOk result (λ found. AreIndexed (map (λ job. job.bytes.now) jobs.entry.items) found.items) }
+    ensures { IfOk result
+        (λ found. AreIndexed (map (λ job. job.bytes.now) jobs.entry.items) found.items) }
 {
     let mut found = Vec::with_capacity(alloc, jobs.len())?;
     for job in jobs {
@@ -39,7 +40,8 @@ pub fn index_texts<'a, R: Threads + Sync>(
     threads: u32,
 ) -> Result<Vec<Result<Index<'a>, IndexFault>>, AllocError>
     requires { 1 ≤ threads }
-    ensures { IfOk result (λ found. AreIndexed (map (λ job. job.bytes.now) jobs.entry.items) found.items) }
+    ensures { IfOk result
+        (λ found. AreIndexed (map (λ job. job.bytes.now) jobs.entry.items) found.items) }
 {
     if threads < 2 || jobs.len() < 2 {
         return index_in_turn(alloc, jobs);

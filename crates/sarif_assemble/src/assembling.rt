@@ -15,10 +15,12 @@ use sarif_counts::Policy;
 use sarif_suppress::Suppressions;
 use sarif_write::{Side, count_without};
 use std::alloc::{AllocError, Global};
+use std::hash::RandomState;
 
 /// Matches the results of two halves, counts them and writes their log.
 fn assemble_halves(
     alloc: Global,
+    seed: RandomState,
     current: Half,
     baseline: Half,
     file: &Suppressions,
@@ -30,7 +32,7 @@ fn assemble_halves(
         → AreHalves file.now now before current baseline
         → IsMergedBy file.now now before policy.now merged) }
 {
-    let Matched { states, left } = match_records(alloc, &current.records, &baseline.records)?;
+    let Matched { states, left } = match_records(alloc, seed, &current.records, &baseline.records)?;
     let without = count_without(&current.parts);
     let unused = count_unused(alloc, file, &current.drafts)?;
     let current = Side {
@@ -49,9 +51,11 @@ fn assemble_halves(
 
 /// The merged log of runs of logs and of runs of baselines, in which nothing is at fault: each current result
 /// with its level, its baseline state and its suppressions, and the unmatched results of the baselines as absent
-/// (SARIF 2.1.0, "baselineState property"). An error is want of memory.
+/// (SARIF 2.1.0, "baselineState property"). They are found by tables that hash with `seed`, on which no answer
+/// depends. An error is want of memory.
 pub fn assemble(
     alloc: Global,
+    seed: RandomState,
     current: Judged<'_, '_>,
     baseline: Judged<'_, '_>,
     file: &Suppressions,
@@ -64,6 +68,6 @@ pub fn assemble(
 {
     let current = current_half(alloc, current)?;
     let baseline = baseline_half(alloc, baseline)?;
-    let merged = assemble_halves(alloc, current, baseline, file, policy)?;
+    let merged = assemble_halves(alloc, seed, current, baseline, file, policy)?;
     Ok(merged)
 }

@@ -6,9 +6,10 @@ ghost use Rattle.sarif_match.specs.Partners.{is_taken};
 ghost use Rattle.sarif_match.specs.State.{state_of};
 ghost use Rattle.sarif_assemble.specs.LogBy.{partner_in, states_from, states_of, taken_of};
 
-use sarif_match::{Matching, match_all, state};
+use sarif_match::{Matching, match_all_with, state};
 use sarif_records::{Record, State};
 use std::alloc::{AllocError, Global};
+use std::hash::RandomState;
 
 /// The baseline state of each current result, and that of each baseline result where no current one is paired
 /// with it.
@@ -88,9 +89,10 @@ fn each_left(alloc: Global, taken: &[bool]) -> Result<Vec<Option<State>>, AllocE
     Ok(left)
 }
 
-/// Matches the results of all logs with those of all baselines.
+/// Matches the results of all logs with those of all baselines, by tables that hash with `seed`.
 pub(crate) fn match_records(
     alloc: Global,
+    seed: RandomState,
     current: &[Record],
     baseline: &[Record],
 ) -> Result<Matched, AllocError>
@@ -101,7 +103,7 @@ pub(crate) fn match_records(
     ensures left { IfOk result
         (λ matched. matched.left.items ≡ map unless_taken (taken_of current.now baseline.now)) }
 {
-    let matching = match_all(alloc, current, baseline)?;
+    let matching = match_all_with(alloc, seed, current, baseline)?;
     let states = list_states(alloc, current, baseline, &matching)?;
     let taken = list_taken(alloc, baseline.len() as u32, &matching)?;
     let states = each_there(alloc, &states)?;

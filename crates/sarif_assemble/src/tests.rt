@@ -3,6 +3,7 @@ use crate::{Judged, assemble};
 use sarif_counts::{Policy, Verdict};
 use sarif_records::{Level, State};
 use sarif_suppress::Suppressions;
+use std::hash::RandomState;
 use std::test::Fail;
 
 const LOG: &str = "{\"properties\":{\"gate\":{\"counts\":{\
@@ -25,8 +26,9 @@ fn without_runs_the_log_holds_its_gate(rt: HostRuntime) -> Result<(), Fail> {
         runs: Vec::new(alloc),
         outcomes: Vec::new(alloc),
     };
-    let file = Suppressions::none(alloc, None)?;
-    let merged = assemble(alloc, current, baseline, &file, &Policy::default())?;
+    let seed = RandomState::new(&rt)?;
+    let file = Suppressions::none(alloc, seed, None)?;
+    let merged = assemble(alloc, seed, current, baseline, &file, &Policy::default())?;
     assert_eq!(rt; merged.log.as_str(), LOG);
     assert!(rt; merged.verdict == Verdict::Pass);
     assert_eq!(rt; merged.counts.get(State::New, Level::Error, false), 0);

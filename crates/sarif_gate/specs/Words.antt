@@ -61,11 +61,11 @@ pub record AsksFor (rows : List Row) (request : Request) : Type 0 where
   pub baselines : request.baselines.items ≡ values_of (codes "baseline") rows
   pub suppress : request.suppress ≡ first_of (codes "suppress") rows
   pub out : request.out ≡ unwrap_or (first_of (codes "out") rows) []
-  pub today : IsRead (one_of (codes "today") rows) request.today
-  pub workers : (n : ℕ) × IsReadOr 1 (one_of (codes "workers") rows) n × (request.workers ≡ in_range n)
-  pub fail_on : request.policy.fail_on ≡ fail_on_in rows
-  pub states : request.policy.states ≡ default_policy.states
-  pub max : IsReadOr default_policy.max (one_of (codes "max") rows) request.policy.max
+  pub today : IsRead (one_of (codes "today") rows) request.options.today
+  pub workers : (n : ℕ) × IsReadOr 1 (one_of (codes "workers") rows) n × (request.options.workers ≡ in_range n)
+  pub fail_on : request.options.policy.fail_on ≡ fail_on_in rows
+  pub states : request.options.policy.states ≡ default_policy.states
+  pub max : IsReadOr default_policy.max (one_of (codes "max") rows) request.options.policy.max
 
 -- the merged log would take the place of the suppression file
 abbrev pub ReplacesSuppressions : List Row → Type 0

@@ -18,6 +18,7 @@ mod output;
 mod place;
 mod request;
 mod run;
+mod seed;
 mod words;
 
 use complaint::complain_of;
@@ -28,7 +29,9 @@ use request::Request;
 use run::run_request;
 use sarif_merge::{Counted, MergeFault, Readers};
 use sarif_records::Text;
+use seed::seed_of;
 use std::alloc::AllocError;
+use std::hash::RandomState;
 use std::process::{self, ExitCode};
 use std::random::RandomSource;
 use std::sync::Wait;
@@ -37,9 +40,9 @@ use std::{env, io};
 use words::{WordsFault, read_words};
 
 fn main(rt: HostRuntime) -> ExitCode {
-    let status = match words_of(&rt) {
-        Ok(words) if words.is_empty() => status_of(&rt, run_streams(&rt, &rt)),
-        Ok(words) => run_words(&rt, &rt, words.as_slice()),
+    let status = match asked_of(&rt) {
+        Ok((words, seed)) if words.is_empty() => status_of(&rt, run_streams(&rt, &rt, seed)),
+        Ok((words, seed)) => run_words(&rt, &rt, seed, words.as_slice()),
         Err(error) => {
             tell_unread(&rt, &error);
             2
@@ -48,19 +51,23 @@ fn main(rt: HostRuntime) -> ExitCode {
     ExitCode::from(status)
 }
 
-/// The words after the program's name.
-fn words_of(rt: &HostRuntime) -> io::Result<Vec<String>> {
+/// The words after the program's name, and what the tables hash with.
+fn asked_of(rt: &HostRuntime) -> io::Result<(Vec<String>, RandomState)> {
     let mut words = env::args(rt)?;
     let _program = words.next();
     let words = words.collect(rt.alloc())?;
-    Ok(words)
+    Ok((words, seed_of(rt)?))
 }
 
 /// Merges one log from standard input to standard output, and says on standard error how it went.
-fn run_streams<T: Threads + Wait + Sync>(rt: &HostRuntime, threads: &T) -> Result<u8, AllocError>
+fn run_streams<T: Threads + Wait + Sync>(
+    rt: &HostRuntime,
+    threads: &T,
+    seed: RandomState,
+) -> Result<u8, AllocError>
     ensures known { IfOk result (λ status. status ≤ 3) }
 {
-    let request = Request::of_standard_streams(rt.alloc())?;
+    let request = Request::of_standard_streams(rt.alloc(), seed)?;
     let mut readers = Readers {
         logs: vec![in rt.alloc(); Counted::new(rt.stdin())]?,
         baselines: Vec::new(rt.alloc()),
@@ -97,13 +104,18 @@ fn status_of(rt: &HostRuntime, ended: Result<u8, AllocError>) -> u8
 }
 
 /// Does what the words ask for.
-fn run_words<T: Threads + Wait + Sync>(rt: &HostRuntime, threads: &T, words: &[String]) -> u8
+fn run_words<T: Threads + Wait + Sync>(
+    rt: &HostRuntime,
+    threads: &T,
+    seed: RandomState,
+    words: &[String],
+) -> u8
     // Where the words make no request, the status is that of their fault, or of want of memory.
     ensures told { (asked : Result Asked Mistake) × Answers (map string_bytes words.now) asked
         × IfErr asked (λ fault. result ≡ words_status fault) }
     ensures known { result ≤ 3 }
 {
-    match read_words(rt.alloc(), words) {
+    match read_words(rt.alloc(), seed, words) {
         Ok(request) => status_of(rt, run_files(rt, threads, &request)),
         Err(fault) => {
             tell(rt, &fault);

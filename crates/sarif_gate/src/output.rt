@@ -148,7 +148,8 @@ impl<R: Files> Write for OutputFile<'_, R, R::File> {
         ensures bytes { Keeps None None }
         ensures place { self.new.place.now ≡ self.old.place.now }
         // Where nothing was written, nothing is opened, and that is fine.
-        ensures unopened { self.old.writing ≡ Unopened → IsOk result × (self.new.writing ≡ Unopened) }
+        ensures unopened { self.old.writing ≡ Unopened
+            → IsOk result × (self.new.writing ≡ Unopened) }
     {
         match &mut self.writing {
             Writing::AsIs(file) => file.flush(),

@@ -2,13 +2,14 @@
 ghost use Rattle.std.specs.Prelude.{◌≡◌, [], ◌<◌, ◌≤◌, ◌+◌, ◌^◌, nat_eq};
 ghost use Rattle.std.specs.List.{All};
 ghost use Rattle.std.specs.Io.KnownBytes.{Appends};
-ghost use Rattle.sarif_merge.specs.declared.merged.Merged.{Merged as Outcome};
+ghost use Rattle.sarif_assemble.specs.declared.merged.Merged.{Merged as Outcome};
 ghost use Rattle.sarif_sources.specs.Counted.{inner_of, failed_calls, RisesIf};
 ghost use Rattle.sarif_counts.specs.Counts.{count_at};
-ghost use Rattle.sarif_merge.specs.Faults.{faults_of};
+ghost use Rattle.sarif_inputs.specs.Faults.{faults_of};
 ghost use Rattle.sarif_sources.specs.OptionalReader.{failed_calls_if};
 ghost use Rattle.sarif_counts.specs.Summary.{summary_of};
-ghost use Rattle.sarif_merge.specs.FromReaders.{given_by, IsMergedFrom};
+ghost use Rattle.sarif_merge.specs.FromReaders.{IsMergedFrom};
+ghost use Rattle.sarif_merge.specs.Given.{given_by};
 ghost use Rattle.sarif_sources.specs.WereRead.{failures, AllTell, NoNumberFalls, SourceContents, WereRead};
 ghost use Rattle.sarif_gate.specs.Status.{verdict_status};
 
@@ -44,10 +45,10 @@ pub fn run_request<R: Read, W: Write, S: Write, E: Write, T: Threads + Wait + Sy
     // verdict pass, and 1 with fail.
     ensures accepted { result < 2 → (merged : Outcome) × (result ≡ verdict_status merged.verdict)
         × IsMergedFrom R.remaining readers.old readers.new
-        «request».now.today «request».now.policy merged
+        «request».now.options.today «request».now.options.policy merged
         × Appends (W.contents (inner_of out.old)) (W.contents (inner_of out.new)) merged.log
         × Appends (S.contents (inner_of say.old)) (S.contents (inner_of say.new))
-        (summary_of (count_at merged.counts) «request».now.policy) }
+        (summary_of (count_at merged.counts) «request».now.options.policy) }
     // 3 exactly where a read or a write of one of these failed.
     ensures failed { RisesIf (nat_eq result 3)
         (failures readers.old + failed_calls out.old + failed_calls say.old)
@@ -56,25 +57,17 @@ pub fn run_request<R: Read, W: Write, S: Write, E: Write, T: Threads + Wait + Sy
     ensures untouched { result ≡ 2 → out.new ≡ out.old }
     // None of these numbers fell.
     ensures risen { NoNumberFalls readers.old readers.new
-        × (failed_calls out.old ≤ failed_calls out.new) × (failed_calls say.old ≤ failed_calls say.new) }
+        × (failed_calls out.old ≤ failed_calls out.new)
+        × (failed_calls say.old ≤ failed_calls say.new) }
     // Where all sources were read and one of them has a fault, it answers 2.
     ensures faulty { (contents : SourceContents) → AllTell R.remaining readers.old
         → WereRead R.remaining readers.old readers.new contents
-        → (faults_of (given_by contents «request».now.today) ≡ [] → ⊥) → result ≡ 2 }
+        → (faults_of (given_by contents «request».now.options.today) ≡ [] → ⊥) → result ≡ 2 }
     ensures known { result ≤ 3 }
 {
     sources_are_read_in_one_way::<R>();
-    let merged = merge_readers(
-        rt,
-        alloc,
-        readers,
-        &request.policy,
-        request.today,
-        request.workers,
-        &NoGate,
-    );
-    match merged {
-        Ok(merged) => accept(alloc, &merged, &request.policy, out, say, complain),
+    match merge_readers(rt, alloc, readers, &request.options, &NoGate) {
+        Ok(merged) => accept(alloc, &merged, &request.options.policy, out, say, complain),
         Err(fault) => refuse(complain, fault),
     }
 }

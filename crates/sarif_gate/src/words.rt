@@ -9,9 +9,10 @@ use crate::command::{BASELINE, FAIL_ON, LOG, MAX, OUT, SUPPRESS, TODAY, WORKERS,
 use crate::request::Request;
 use clap::ArgMatches;
 use clap::error::ErrorKind;
-use sarif_merge::Policy;
+use sarif_merge::{Options, Policy};
 use sarif_records::{Level, Text};
 use std::alloc::{AllocError, AllocFailed, Global};
+use std::hash::RandomState;
 
 /// What is said where the merged log would take the place of the suppression file.
 const ONE_NAME: &str = "\
@@ -55,14 +56,14 @@ impl From<AllocError> for WordsFault {
 }
 
 /// What the words after the program's name ask for. `Usage` where they are wrong, also where the merged log would
-/// take the place of the suppression file; `Help` where they ask for it.
-pub fn read_words(alloc: Global, words: &[String]) -> Result<Request, WordsFault>
+/// take the place of the suppression file; `Help` where they ask for it. The tables of the merge hash with `seed`.
+pub fn read_words(alloc: Global, seed: RandomState, words: &[String]) -> Result<Request, WordsFault>
     ensures { Answers (map string_bytes words.now) result }
 {
     let command = command(alloc)?;
     match command.try_get_matches_from(words) {
         Ok(matches) => {
-            let request = request_of(alloc, &matches)?;
+            let request = request_of(alloc, seed, &matches)?;
             if replaces_suppressions(&request) {
                 return Err(one_name(alloc));
             }
@@ -94,21 +95,29 @@ fn one_name(alloc: Global) -> WordsFault
 
 /// What was asked for. The ranges of the numbers were checked with the words.
 #[tactic(auto, using(crate::proofs::Rows::first_in_rows))]
-fn request_of(alloc: Global, matches: &ArgMatches<'_>) -> Result<Request, AllocError>
+fn request_of(
+    alloc: Global,
+    seed: RandomState,
+    matches: &ArgMatches<'_>,
+) -> Result<Request, AllocError>
     ensures { IfOk result (AsksFor (rows_of (found_of matches.now))) }
 {
     let logs = names_of(alloc, matches, LOG)?;
     let baselines = names_of(alloc, matches, BASELINE)?;
     let suppress = name_of(alloc, matches, SUPPRESS)?;
     let out = Text::copy_of(alloc, matches.get_str(OUT).unwrap_or(""))?;
+    let options = Options {
+        policy: policy_of(matches),
+        today: number_of(matches, TODAY),
+        workers: number_of(matches, WORKERS).unwrap_or(1).clamp(1, 64),
+        seed,
+    };
     Ok(Request {
         logs,
         baselines,
         suppress,
         out,
-        today: number_of(matches, TODAY),
-        workers: number_of(matches, WORKERS).unwrap_or(1).clamp(1, 64),
-        policy: policy_of(matches),
+        options,
     })
 }
 

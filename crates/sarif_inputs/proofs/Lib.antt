@@ -6,3 +6,4 @@ pub mod FileAnswers
 pub mod ParsedFaults
 pub mod IndexedParts
 pub mod ReadIndexes
+pub mod OpenedParts

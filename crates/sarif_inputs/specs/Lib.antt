@@ -1,4 +1,5 @@
 pub mod Faults
+pub mod Indexes
 pub mod Inputs
 pub mod Parsed
 pub mod ReadSoFar

@@ -12,8 +12,10 @@ ghost use Rattle.sarif_sources.specs.SourceKind.{source_of};
 ghost use Rattle.sarif_judge.specs.Opened.{placed_of};
 ghost use Rattle.sarif_inputs.specs.Faults.{Answers, IsTooMany, number_faults};
 ghost use Rattle.sarif_inputs.specs.Inputs.{data_of, numbered, placed, placed_from, readable};
+ghost use Rattle.sarif_inputs.specs.Indexes.{AreIndexesOf};
 ghost use Rattle.sarif_inputs.specs.Parsed.{IsParsedFrom};
 ghost use Rattle.sarif_inputs.specs.ReadSoFar.{IsCounted, faults_with, sources_of};
+ghost use Rattle.sarif_inputs.specs.Runs.{AreRunsOf};
 ghost use Rattle.sarif_inputs.specs.SourceFaults.{reading_faults, limit_faults, source_faults};
 
 use json_index::{Index, IndexFault};
@@ -27,12 +29,19 @@ use std::alloc::{AllocError, Global};
 /// How many sources of each kind a merge may have.
 const MOST_SOURCES: usize = 1_000;
 
-/// The runs of all sources in order, the input runs first.
+/// The runs of the logs and those of the baselines, each in order.
 #[derive(Drop)]
 pub struct Runs<'t, 'a> {
-    pub all: Vec<OpenedRun<'t, 'a>>,
-    /// How many of them are input runs.
-    pub inputs: u32,
+    pub current: Vec<OpenedRun<'t, 'a>>,
+    pub baseline: Vec<OpenedRun<'t, 'a>>,
+}
+
+/// The runs of all sources in order, those of the logs first.
+#[derive(Drop)]
+struct AllRuns<'t, 'a> {
+    all: Vec<OpenedRun<'t, 'a>>,
+    /// How many of them are those of logs.
+    inputs: u32,
 }
 
 /// At most 1,000 logs and 1,000 baselines: else `TooMany` at the first past the limit.
@@ -227,29 +236,21 @@ impl<'t, 'a> Reading<'t, 'a> {
     }
 }
 
-/// Opens the runs of the logs, which are the first so many of the indexes, and then those of the
-/// baselines. A refusal is the first fault of the sources in order: of reading one, or `TooMany` at
-/// the first with which there are more than 10,000 runs or 1,000,000 results; or `OutOfMemory`.
-pub fn open_sources<'t, 'a>(
+/// The runs of all sources, whose indexes are those of so many logs and then those of the baselines.
+fn open_all<'t, 'a>(
     alloc: Global,
     indexes: &'t [Result<Index<'a>, IndexFault>],
     logs: usize,
-) -> Result<Runs<'t, 'a>, MergeFault>
-    requires indexed { (ls : List (List ℕ)) × (bs : List (List ℕ)) × (length ls ≡ logs)
-        × (length ls ≤ 1000) × (length bs ≤ 1000)
-        × AreIndexed (map without_mark (ls ++ bs)) indexes.now }
-    ensures all { (ls bs : List (List ℕ)) → length ls ≡ logs
-        → AreIndexed (map without_mark (ls ++ bs)) indexes.now
+) -> Result<AllRuns<'t, 'a>, MergeFault>
+    requires { (ls : List (List ℕ)) × (bs : List (List ℕ)) × AreIndexesOf ls bs indexes.now logs }
+    ensures all { (ls bs : List (List ℕ)) → AreIndexesOf ls bs indexes.now logs
         → IfOk result (λ runs. map placed_of runs.all.items ≡ placed (sources_of ls bs)) }
-    ensures inputs { (ls bs : List (List ℕ)) → length ls ≡ logs
-        → AreIndexed (map without_mark (ls ++ bs)) indexes.now
+    ensures inputs { (ls bs : List (List ℕ)) → AreIndexesOf ls bs indexes.now logs
         → IfOk result (λ runs. runs.inputs ≡ length (placed (numbered Source.Log 0 ls))) }
-    ensures within { IfOk result (λ runs. runs.inputs ≤ length runs.all.items) }
     ensures few { IfOk result (λ runs. length runs.all.items ≤ 10000) }
     ensures few_results { IfOk result
         (λ runs. results_total (data_of (map placed_of runs.all.items)) ≤ 1000000) }
-    ensures faults { (ls bs : List (List ℕ)) → length ls ≡ logs
-        → AreIndexed (map without_mark (ls ++ bs)) indexes.now
+    ensures faults { (ls bs : List (List ℕ)) → AreIndexesOf ls bs indexes.now logs
         → Answers (source_faults 0 0 (sources_of ls bs)) result }
     ensures quiet { IsQuiet result }
 {
@@ -259,5 +260,26 @@ pub fn open_sources<'t, 'a>(
     let inputs = reading.runs.len() as u32;
     reading.add_all(alloc, SourceKind::Baseline, second)?;
     let Reading { runs: all, .. } = reading;
-    Ok(Runs { all, inputs })
+    Ok(AllRuns { all, inputs })
+}
+
+/// Opens the runs of the logs, which are the first so many of the indexes, and those of the baselines.
+/// A refusal is the first fault of the sources in order: of reading one, or `TooMany` at the first with
+/// which there are more than 10,000 runs or 1,000,000 results; or `OutOfMemory`.
+pub fn open_sources<'t, 'a>(
+    alloc: Global,
+    indexes: &'t [Result<Index<'a>, IndexFault>],
+    logs: usize,
+) -> Result<Runs<'t, 'a>, MergeFault>
+    requires { (ls : List (List ℕ)) × (bs : List (List ℕ)) × AreIndexesOf ls bs indexes.now logs }
+    ensures runs { (ls bs : List (List ℕ)) → AreIndexesOf ls bs indexes.now logs
+        → IfOk result (AreRunsOf ls bs) }
+    ensures faults { (ls bs : List (List ℕ)) → AreIndexesOf ls bs indexes.now logs
+        → Answers (source_faults 0 0 (sources_of ls bs)) result }
+    ensures quiet { IsQuiet result }
+{
+    let AllRuns { all, inputs } = open_all(alloc, indexes, logs)?;
+    let mut current = all;
+    let baseline = current.split_off(inputs as usize)?;
+    Ok(Runs { current, baseline })
 }

@@ -4,13 +4,16 @@ ghost use Rattle.sarif_sources.specs.Failing.{IsQuiet};
 ghost use Rattle.sarif_inputs.specs.Faults.{Answers, file_faults, file_or_none};
 
 use sarif_sources::MergeFault;
-use sarif_suppress::{Suppressions, read_rules};
+use sarif_suppress::{Suppressions, read_rules_with};
 use std::alloc::Global;
+use std::hash::RandomState;
 
 /// The entries of the suppression file for that day, where there is one; without it there are none.
+/// Their tables hash with `seed`, on which no answer depends.
 #[tactic(auto, using(sarif_sources::proofs::QuietFaults::quiet_file, crate::proofs::FileAnswers::file_refused))]
 pub fn read_file(
     alloc: Global,
+    seed: RandomState,
     bytes: Option<&[u8]>,
     today: Option<u32>,
 ) -> Result<Suppressions, MergeFault>
@@ -21,7 +24,7 @@ pub fn read_file(
     ensures quiet { IsQuiet result }
 {
     match bytes {
-        Some(bytes) => Ok(read_rules(alloc, bytes, today)?),
-        None => Ok(Suppressions::none(alloc, today)?),
+        Some(bytes) => Ok(read_rules_with(alloc, seed, bytes, today)?),
+        None => Ok(Suppressions::none(alloc, seed, today)?),
     }
 }

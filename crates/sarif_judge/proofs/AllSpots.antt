@@ -42,3 +42,7 @@ shards_enough n size shards pos is =
 
 pub product_fits : (k size : ℕ) → k < 10000 → size ≤ 1000001 → k * size < 2 ^ 64
 product_fits k size few small = let h = mul-add-lt k (size + 1) 0 10000 few (omega arith) in let e = mul-suc k size in omega (arith, h, e, small)
+
+pub none_long : (spots : List Spot) → length spots ≡ 0 → spots ≡ []
+none_long [] none = refl
+none_long (spot ∷ spots) none = absurd (omega (arith, none))

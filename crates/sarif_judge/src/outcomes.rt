@@ -75,6 +75,9 @@ pub fn judge<G: Gate + Sync, R: Threads + Wait + Sync>(
         ≡ all_outcomes rules.now (map placed_of runs.now)) }
 {
     let spots = list_spots(alloc, runs)?;
+    if spots.is_empty() {
+        return Ok(Vec::new(alloc));
+    }
     let parts = workers as usize * SHARDS_A_WORKER;
     let size = spots.len() / parts + 1;
     let work = Judging {

@@ -13,3 +13,4 @@ pub mod PairedLemmas
 pub mod LawLemmas
 pub mod StateLemmas
 pub mod SortedLemmas
+pub mod NoBaseline

@@ -32,6 +32,20 @@ impl Model for Matching {
 }
 
 impl Matching {
+    /// The partners and marks of a matching that is done.
+    fn of(progress: Progress) -> Matching
+        requires { IsSound (length progress.partners.items)
+            (length progress.taken.items) progress }
+        ensures { result ≡ progress.partners.items }
+    {
+        let Progress {
+            partners,
+            taken,
+            ..
+        } = progress;
+        Matching { partners, taken }
+    }
+
     /// The partner of current result `i`, if it has one. Past the last result there is none.
     pub fn partner(&self, i: u32) -> Option<u32>
         ensures { result ≡ slice_index_or self.now i None }
@@ -65,7 +79,7 @@ pub fn match_all<'a>(
 }
 
 /// The same by tables that hash with `hasher`, as a `RandomState`, whose seed no log can know. The
-/// partners are the same whatever it is.
+/// partners are the same whatever it is. Without a baseline no table is made.
 pub fn match_all_with<'a, S: BuildHasher + Copy>(
     alloc: Global,
     hasher: S,
@@ -77,18 +91,16 @@ pub fn match_all_with<'a, S: BuildHasher + Copy>(
     ensures { IfOk result (λ matching. matching ≡ partners_of current.now baseline.now) }
 {
     let mut progress = Progress::new(alloc, current.len(), baseline.len())?;
+    if baseline.is_empty() {
+        return Ok(Matching::of(progress));
+    }
     let tiers = tiers(alloc, current, baseline)?;
     let now = Side::new(alloc, hasher, current)?;
     let before = Side::new(alloc, hasher, baseline)?;
     for tier in &tiers {
         match_tier(alloc, hasher, &mut progress, tier, &now, &before)?;
     }
-    let Progress {
-        partners,
-        taken,
-        ..
-    } = progress;
-    Ok(Matching { partners, taken })
+    Ok(Matching::of(progress))
 }
 
 /// Pairs what is left over at one tier.

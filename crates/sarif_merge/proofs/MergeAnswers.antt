@@ -1,29 +1,102 @@
 -- The merge of what was read, from the runs and the suppression file of it.
-use Rattle.std.proofs.Common.{◌≡◌, ℕ, ◌≤◌, ◌++◌, List, [], ◌∷◌, false, Option, Some, Ok, take, drop, length, map, arith, refl, sym, ap, subst, ◌∙◌}
-use Rattle.std.proofs.lemmas.List.{length-map, length-append}
+use Rattle.std.proofs.Common.{◌≡◌, ℕ, ◌≤◌, ◌++◌, ◌⊎◌, inl, inr, List, [], ◌∷◌, Bool, true, false, Option, Some, Result, Ok, length, map, arith, refl, sym, ap, subst, ◌∙◌}
+use Rattle.std.proofs.lemmas.List.{length-map}
+use Rattle.std.proofs.lemmas.List.Concat.{flat_map-append}
 use Rattle.std.specs.Prelude.{nat_lt}
 use Rattle.std.proofs.lemmas.Bool.Decides.{nat_tests}
-use Rattle.std.specs.List.{list_any}
-use Rattle.serde_json.specs.Data.{Data}
-use Rattle.serde_json.specs.Written.{has_float}
-use Rattle.sarif_records.specs.Reading.{log_of}
+use Rattle.std.specs.List.{AllByRecursion}
+use Rattle.std.specs.declared.alloc.Global.{Global}
+use Rattle.std.specs.declared.vec.Vec.{Vec}
+use Rattle.json.specs.Token.{Token}
+use Rattle.json_index.specs.declared.indexing.IndexFault.{IndexFault}
+use Rattle.json_index.specs.Together.{AreIndexed}
+use Rattle.sarif_records.specs.Reading.{without_mark}
 use Rattle.sarif_records.specs.Run.{results_total}
 use Rattle.sarif_suppress.specs.File.{File}
+use Rattle.sarif_suppress.specs.Suppressing.{unused_of}
 use Rattle.sarif_sources.specs.declared.fault.MergeFault.{MergeFault}
 use Rattle.sarif_sources.specs.declared.fault.Source.TheVariants.{Log, Baseline}
-use Rattle.sarif_merge.specs.declared.merged.Merged.{Merged}
 use Rattle.sarif_counts.specs.declared.policy.Policy.{Policy}
-use Rattle.sarif_merge.specs.declared.sources.Runs.{Runs}
-use Rattle.sarif_merge.specs.AreSound.{AreSound}
-use Rattle.sarif_merge.specs.Faults.{faults_of, file_faults, file_or_none, first, number_faults}
-use Rattle.sarif_merge.specs.Inputs.{numbered, placed}
-use Rattle.sarif_merge.specs.Judging.{faults_of_runs}
-use Rattle.sarif_merge.specs.Merged.{given, AreRunsOf, IsMerged, IsMergedBy}
-use Rattle.sarif_merge.specs.MergedLog.{data_of, file_in}
-use Rattle.sarif_merge.specs.PlacedRun.{placed_of}
-use Rattle.sarif_merge.specs.ReadSoFar.{sources_of}
-use Rattle.sarif_merge.specs.SourceFaults.{source_faults}
-use Rattle.sarif_merge.proofs.ReadFacts.{sound_runs, front, back, same_sound, same_merge, nothing_before, begins, placed-append}
+use Rattle.sarif_counts.specs.CountOf.{count_of}
+use Rattle.sarif_counts.specs.Gate.{gate_of}
+use Rattle.sarif_write.specs.Drafts.{IsRun}
+use Rattle.sarif_judge.specs.Judging.{faults_of_runs, records_of, run_faults, skips}
+use Rattle.sarif_judge.specs.Opened.{placed_of}
+use Rattle.sarif_judge.specs.Outcomes.{all_outcomes}
+use Rattle.sarif_judge.specs.Placed.{Placed}
+use Rattle.sarif_assemble.specs.declared.judged.Judged.{Judged}
+use Rattle.sarif_assemble.specs.declared.merged.Merged.{Merged}
+use Rattle.sarif_assemble.specs.Assembled.{IsMergedBy}
+use Rattle.sarif_assemble.specs.Judged.{placed_in, IsJudged}
+use Rattle.sarif_assemble.specs.LogBy.{data_of, current_runs, leftover_runs, runs_by, runs_without_results}
+use Rattle.sarif_inputs.specs.Faults.{Answers, IsWanting, faults_of, file_faults, file_or_none, first, number_faults}
+use Rattle.sarif_inputs.specs.Indexes.{AreIndexesOf}
+use Rattle.sarif_inputs.specs.Inputs.{numbered, placed}
+use Rattle.sarif_inputs.specs.ReadSoFar.{sources_of}
+use Rattle.sarif_inputs.specs.SourceFaults.{source_faults}
+use Rattle.sarif_inputs.proofs.ReadFacts.{log_sides, baseline_sides, nothing_before}
+use Rattle.sarif_inputs.proofs.SourceAnswers.{still_first}
+use Rattle.sarif_merge.specs.Given.{given}
+use Rattle.sarif_merge.specs.Merged.{HoldsFirst, IsMerged}
+use Rattle.sarif_merge.specs.MergedLog.{file_in}
+use Rattle.sarif_merge.proofs.ReadObjects.{objects_in}
+
+-- ---- what is assembled
+
+-- the runs of logs, judged
+pub judged_logs : (file : File) (ls : List (List ℕ)) (judged : Judged)
+    → placed_in judged ≡ placed (numbered Log 0 ls)
+    → judged.outcomes.items ≡ all_outcomes file (placed_in judged)
+    → faults_of_runs (placed_in judged) ≡ []
+    → length (placed_in judged) ≤ 10000
+    → results_total (data_of (placed_in judged)) ≤ 1000000
+    → IsJudged file false judged
+judged_logs file ls judged same outcomes none few few_results = record {
+  outcomes = outcomes;
+  faultless = none;
+  sources = subst (AllByRecursion (λ p. skips p.source ≡ false)) (sym same) (log_sides 0 ls);
+  objects = subst (λ ps. AllByRecursion IsRun (data_of ps)) (sym same) (objects_in (numbered Log 0 ls));
+  few_runs = few;
+  few_results = few_results;
+}
+
+-- the runs of baselines, judged
+pub judged_baselines : (file : File) (bs : List (List ℕ)) (judged : Judged)
+    → placed_in judged ≡ placed (numbered Baseline 0 bs)
+    → judged.outcomes.items ≡ all_outcomes file (placed_in judged)
+    → faults_of_runs (placed_in judged) ≡ []
+    → length (placed_in judged) ≤ 10000
+    → results_total (data_of (placed_in judged)) ≤ 1000000
+    → IsJudged file true judged
+judged_baselines file bs judged same outcomes none few few_results = record {
+  outcomes = outcomes;
+  faultless = none;
+  sources = subst (AllByRecursion (λ p. skips p.source ≡ true)) (sym same) (baseline_sides 0 bs);
+  objects = subst (λ ps. AllByRecursion IsRun (data_of ps)) (sym same) (objects_in (numbered Baseline 0 bs));
+  few_runs = few;
+  few_results = few_results;
+}
+
+pub same_merge : (file : File) (now before xs ys : List Placed) (policy : Policy) (merged : Merged)
+    → IsMergedBy file now before policy merged → now ≡ xs → before ≡ ys → IsMergedBy file xs ys policy merged
+same_merge file now before xs ys policy merged h e f =
+    subst (λ k. IsMergedBy file xs k policy merged) f (subst (λ k. IsMergedBy file k before policy merged) e h)
+
+-- ---- the faults of the runs of logs, and then of those of baselines
+
+faults_apart : (xs ys : List Placed) → faults_of_runs (xs ++ ys) ≡ faults_of_runs xs ++ faults_of_runs ys
+faults_apart xs ys = flat_map-append run_faults xs ys
+
+pub refused_by_first : (xs ys : List Placed) (fault : MergeFault)
+    → IsWanting fault ⊎ (first (faults_of_runs xs) ≡ Some fault)
+    → IsWanting fault ⊎ (first (faults_of_runs (xs ++ ys)) ≡ Some fault)
+refused_by_first xs ys fault refused =
+    subst (λ faults. IsWanting fault ⊎ (first faults ≡ Some fault)) (sym (faults_apart xs ys)) (still_first (faults_of_runs xs) (faults_of_runs ys) fault refused)
+
+pub left_after_first : (xs ys : List Placed) → faults_of_runs xs ≡ [] → faults_of_runs (xs ++ ys) ≡ faults_of_runs ys
+left_after_first xs ys none = faults_apart xs ys ∙ ap (λ faults. faults ++ faults_of_runs ys) none
+
+-- ---- the faults of all inputs
 
 -- within the limits no number of sources is a fault
 few_sources : (ls : List (List ℕ)) → length ls ≤ 1000 → number_faults Log ls ≡ []
@@ -36,46 +109,57 @@ first_of : (xs ys : List MergeFault) (fault : MergeFault) → first xs ≡ Some 
 first_of [] ys fault h = cc
 first_of (x ∷ xs) ys fault h = h
 
-module _ (ls bs : List (List ℕ)) (runs : Runs) (read : AreRunsOf ls bs runs) where
-  now : take runs.inputs (map placed_of runs.all.items) ≡ placed (numbered Log 0 ls)
-  now = front (map placed_of runs.all.items) runs.inputs (numbered Log 0 ls) (numbered Baseline 0 bs) read.all read.inputs
+module _ (ls bs : List (List ℕ)) (few_ls : length ls ≤ 1000) (few_bs : length bs ≤ 1000) (file : Option (List ℕ)) (today : Option ℕ) where
+  within : number_faults Log ls ++ number_faults Baseline bs ≡ []
+  within = ap (λ x. x ++ number_faults Baseline bs) (few_sources ls few_ls) ∙ few_baselines bs few_bs
 
-  before : drop runs.inputs (map placed_of runs.all.items) ≡ placed (numbered Baseline 0 bs)
-  before = back (map placed_of runs.all.items) runs.inputs (numbered Log 0 ls) (numbered Baseline 0 bs) read.all read.inputs
+  -- a refusal by the sources
+  pub source_first : (fault : MergeFault) → first (source_faults 0 0 (sources_of ls bs)) ≡ Some fault → first (faults_of (given ls bs file today)) ≡ Some fault
+  source_first fault is =
+      let sources = source_faults 0 0 (sources_of ls bs) in
+      let later = file_faults (file_or_none file today) ++ faults_of_runs (placed (numbered Log 0 ls) ++ placed (numbered Baseline 0 bs)) in
+      ap first (nothing_before (number_faults Log ls) (number_faults Baseline bs) [] [] (sources ++ later) within refl refl) ∙ first_of sources later fault is
 
-  pub inputs_within : runs.inputs ≤ length runs.all.items
-  inputs_within =
-      let both = placed-append (numbered Log 0 ls) (numbered Baseline 0 bs) in
-      let whole = ap length read.all ∙ (ap length both ∙ length-append (placed (numbered Log 0 ls)) (placed (numbered Baseline 0 bs))) in
-      omega (arith, whole, read.inputs, length-map runs.all.items placed_of)
-
-  pub sound_parts : ((bytes : List ℕ) (found : List Data) → log_of bytes ≡ Ok found → list_any has_float found ≡ false) → AreSound (take runs.inputs (map placed_of runs.all.items)) (drop runs.inputs (map placed_of runs.all.items))
-  sound_parts law =
-      let few = subst (λ k. k ≤ 10000) (sym (length-map runs.all.items placed_of) ∙ ap length read.all) read.few in
-      let results = subst (λ ps. results_total (data_of ps) ≤ 1000000) read.all read.few_results in
-      same_sound (take runs.inputs (map placed_of runs.all.items)) (drop runs.inputs (map placed_of runs.all.items)) (placed (numbered Log 0 ls)) (placed (numbered Baseline 0 bs)) (sound_runs law ls bs few results) now before
-
-  module _ (file : Option (List ℕ)) (today : Option ℕ) where
-    -- where reading and the suppression file have no fault, the faults are those of the runs
-    pub faults_are : file_faults (file_or_none file today) ≡ [] → faults_of (given ls bs file today) ≡ faults_of_runs (map placed_of runs.all.items)
-    faults_are sound =
-        nothing_before (number_faults Log ls) (number_faults Baseline bs) (source_faults 0 0 (sources_of ls bs)) (file_faults (file_or_none file today)) (faults_of_runs (placed (numbered Log 0 ls) ++ placed (numbered Baseline 0 bs)))
-        (ap (λ x. x ++ number_faults Baseline bs) (few_sources ls read.few_logs) ∙ few_baselines bs read.few_baselines) read.faultless sound
-        ∙ ap faults_of_runs (sym (read.all ∙ placed-append (numbered Log 0 ls) (numbered Baseline 0 bs)))
-
+  module _ (sources : source_faults 0 0 (sources_of ls bs) ≡ []) where
     -- where reading has no fault, the first is that of the suppression file
     pub file_first : (fault : MergeFault) → first (file_faults (file_or_none file today)) ≡ Some fault → first (faults_of (given ls bs file today)) ≡ Some fault
     file_first fault is =
-        ap first (nothing_before (number_faults Log ls) (number_faults Baseline bs) (source_faults 0 0 (sources_of ls bs)) [] (file_faults (file_or_none file today) ++ faults_of_runs (placed (numbered Log 0 ls) ++ placed (numbered Baseline 0 bs)))
-        (ap (λ x. x ++ number_faults Baseline bs) (few_sources ls read.few_logs) ∙ few_baselines bs read.few_baselines) read.faultless refl)
-        ∙ first_of (file_faults (file_or_none file today)) (faults_of_runs (placed (numbered Log 0 ls) ++ placed (numbered Baseline 0 bs))) fault is
+        let runs = faults_of_runs (placed (numbered Log 0 ls) ++ placed (numbered Baseline 0 bs)) in
+        let files = file_faults (file_or_none file today) in
+        ap first (nothing_before (number_faults Log ls) (number_faults Baseline bs) (source_faults 0 0 (sources_of ls bs)) [] (files ++ runs) within sources refl)
+        ∙ first_of files runs fault is
 
-    pub merged_is : (entries : File) (policy : Policy) (merged : Merged) → file_or_none file today ≡ Ok entries → IsMergedBy entries (take runs.inputs (map placed_of runs.all.items)) (drop runs.inputs (map placed_of runs.all.items)) policy merged → faults_of_runs (map placed_of runs.all.items) ≡ [] → IsMerged (given ls bs file today) policy merged
+    -- where reading and the suppression file have no fault, the faults are those of the runs
+    pub faults_are : file_faults (file_or_none file today) ≡ [] → faults_of (given ls bs file today) ≡ faults_of_runs (placed (numbered Log 0 ls) ++ placed (numbered Baseline 0 bs))
+    faults_are sound =
+        nothing_before (number_faults Log ls) (number_faults Baseline bs) (source_faults 0 0 (sources_of ls bs)) (file_faults (file_or_none file today)) (faults_of_runs (placed (numbered Log 0 ls) ++ placed (numbered Baseline 0 bs)))
+        within sources sound
+
+    pub merged_is : (entries : File) (policy : Policy) (merged : Merged) → file_or_none file today ≡ Ok entries
+        → IsMergedBy entries (placed (numbered Log 0 ls)) (placed (numbered Baseline 0 bs)) policy merged
+        → faults_of_runs (placed (numbered Log 0 ls) ++ placed (numbered Baseline 0 bs)) ≡ []
+        → IsMerged (given ls bs file today) policy merged
     merged_is entries policy merged is h none =
-        let same = same_merge entries (file_in (file_or_none file today)) (take runs.inputs (map placed_of runs.all.items)) (drop runs.inputs (map placed_of runs.all.items)) (placed (numbered Log 0 ls)) (placed (numbered Baseline 0 bs)) policy merged h (sym (ap file_in is)) now before in
+        let logs = placed (numbered Log 0 ls) in
+        let baselines = placed (numbered Baseline 0 bs) in
+        let entered = file_in (file_or_none file today) in
+        let same = subst (λ f. IsMergedBy f logs baselines policy merged) (sym (ap file_in is)) h in
         record {
           faultless = faults_are (ap file_faults is) ∙ none;
-          begins = begins (file_in (file_or_none file today)) (placed (numbered Log 0 ls)) (placed (numbered Baseline 0 bs)) policy merged same;
+          begins = (gate_of (count_of (runs_by entered logs baselines)) policy (runs_without_results (data_of logs)) (unused_of entered (records_of logs)), leftover_runs logs baselines, same.log);
           log = same.log;
           gate = same.gate;
         }
+
+-- ---- indexes
+
+-- the indexes of the sources as they are held
+pub are_indexes : (ls bs : List (Vec ℕ Global)) (indexes : List (Result (List Token) IndexFault)) (n : ℕ) → n ≡ length ls → length ls ≤ 1000 → length bs ≤ 1000
+    → AreIndexed (map without_mark (map (λ v. v.items) ls ++ map (λ v. v.items) bs)) indexes
+    → AreIndexesOf (map (λ v. v.items) ls) (map (λ v. v.items) bs) indexes n
+are_indexes ls bs indexes n count few_ls few_bs indexed = record {
+  count = length-map ls (λ v. v.items) ∙ sym count;
+  few_logs = omega (arith, few_ls, length-map ls (λ v. v.items));
+  few_baselines = omega (arith, few_bs, length-map bs (λ v. v.items));
+  indexed = indexed;
+}

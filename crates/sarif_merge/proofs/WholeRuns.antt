@@ -14,10 +14,10 @@ use Rattle.sarif_records.specs.Level.{level_name}
 use Rattle.sarif_records.specs.State.{state_name}
 use Rattle.sarif_records.specs.Members.{elements}
 use Rattle.sarif_records.specs.Run.{results_of, is_absent_result}
-use Rattle.sarif_merge.specs.Annotated.{annotated_members, own_suppressions}
-use Rattle.sarif_merge.specs.MergedRuns.{Listing, written, written_all, annotated_items, own_results, with_results, bare, merged_run, merged_runs, present, keep_if, unmatched, with_absent, if_any, absent_runs}
-use Rattle.sarif_merge.proofs.LogNumbers.{items_whole}
-use Rattle.sarif_merge.proofs.WholeMembers.{put_whole, bare_whole, on_members_whole, list_float, found_whole, items_in_whole, array_whole, elements_whole, results_whole, with_results_whole}
+use Rattle.sarif_write.specs.Annotated.{annotated_members, own_suppressions}
+use Rattle.sarif_write.specs.MergedRuns.{Listing, written, written_all, annotated_items, own_results, with_results, bare, merged_run, merged_runs, present, keep_if, unmatched, with_absent, if_any, absent_runs}
+use Rattle.sarif_write.proofs.WholeListing.{items_whole}
+use Rattle.sarif_write.proofs.WholeMembers.{put_whole, bare_whole, on_members_whole, list_float, found_whole, items_in_whole, array_whole, elements_whole, results_whole, with_results_whole}
 
 both : (d : Data) (ds : List Data) → has_float d ≡ false → list_any has_float ds ≡ false → list_any has_float (d ∷ ds) ≡ false
 both d ds of_d of_ds = rw (of_d, of_ds)

@@ -7,15 +7,11 @@ use Rattle.sarif_sources.specs.declared.readers.ReadersFault.{ReadersFault}
 use Rattle.sarif_sources.specs.Fault.{fault_of_readers}
 use Rattle.sarif_sources.specs.WereRead.{SourceContents, HasStoppedAt, WereRead}
 use Rattle.sarif_counts.specs.declared.policy.Policy.{Policy}
-use Rattle.sarif_merge.specs.declared.merged.Merged.{Merged}
-use Rattle.sarif_merge.specs.Faults.{IsTooMany, IsWanting, faults_of, first_fault}
-use Rattle.sarif_merge.specs.Inputs.{Inputs}
-use Rattle.sarif_merge.specs.Merged.{given, IsMerged}
+use Rattle.sarif_assemble.specs.declared.merged.Merged.{Merged}
+use Rattle.sarif_inputs.specs.Faults.{IsTooMany, IsWanting, faults_of, first_fault}
+use Rattle.sarif_merge.specs.Given.{given_by}
+use Rattle.sarif_merge.specs.Merged.{IsMerged}
 use Rattle.sarif_merge.specs.MergedLog.{output_text}
-
--- what is given as these bytes on this day
-abbrev pub given_by : SourceContents → Option ℕ → Inputs
-given_by contents today = given contents.logs contents.baselines contents.suppressions today
 
 -- reading ended at one of the sources, and the refusal says so
 abbrev pub IsStopped : {R : Type 0} → (R → Option (List ℕ)) → Readers R → Readers R → MergeFault → Type 0

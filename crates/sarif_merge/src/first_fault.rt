@@ -1,30 +1,25 @@
 //! The first fault of runs and results, in their order.
-ghost use Rattle.std.specs.Prelude.{◌≡◌, map, length, IfSome};
-ghost use Rattle.serde_json.specs.View.{view};
-ghost use Rattle.sarif_records.specs.Run.{results_of};
+ghost use Rattle.std.specs.Prelude.{◌≡◌, ◌≤◌, map, length, IfSome};
+ghost use Rattle.std.specs.List.{flat_map};
+ghost use Rattle.sarif_judge.specs.Judging.{first_bad, run_faults, faults_of_runs, items_of};
+ghost use Rattle.sarif_judge.specs.Opened.{placed_of};
 ghost use Rattle.sarif_sources.specs.Fault.{status_of};
-ghost use Rattle.sarif_merge.specs.Faults.{first};
-ghost use Rattle.sarif_merge.specs.Judged.{judged};
-ghost use Rattle.sarif_merge.specs.Judging.{first_bad, run_faults, faults_of_runs};
-ghost use Rattle.sarif_merge.specs.PlacedRun.{placed_of};
+ghost use Rattle.sarif_inputs.specs.Faults.{first};
 
-use crate::item::Item;
-use crate::placed::PlacedRun;
-use sarif_gather::Lists;
-use sarif_records::Fault;
+use sarif_judge::{Item, OpenedRun, Outcome};
 use sarif_sources::{At, Cause, MergeFault};
 
 /// The fault of the first bad result of a run.
 #[tactic(auto, using(sarif_sources::proofs::QuietFaults::quiet_fault))]
-fn first_bad_result(placed: &PlacedRun, items: &[Item]) -> Option<MergeFault>
-    requires { length items.now ≡ length (results_of (view placed.now.run)) }
-    ensures first { result
-        ≡ first (first_bad (At.Single placed.now.source placed.now.number) 0 items.now) }
+fn first_bad_result(run: &OpenedRun<'_, '_>, outcomes: &[Outcome]) -> Option<MergeFault>
+    requires { length outcomes.now ≤ 1000000 }
+    ensures first { result ≡ first (first_bad (At.Single run.now.source run.now.number) 0
+        (map (λ o. o.item) outcomes.now)) }
     ensures quiet { IfSome result (λ fault. status_of fault.cause ≡ 2) }
 {
-    for seq in 0..placed.run.len() {
-        if let Item::Bad(fault) = &items[seq as usize] {
-            let at = At::Single(placed.source, placed.number, seq);
+    for (seq, outcome) in outcomes.iter().enumerate() {
+        if let Item::Bad(fault) = &outcome.item {
+            let at = At::Single(run.source, run.number, seq as u32);
             return Some(MergeFault::found(at, Cause::from(*fault)));
         }
     }
@@ -33,35 +28,37 @@ fn first_bad_result(placed: &PlacedRun, items: &[Item]) -> Option<MergeFault>
 
 /// The fault of opening a run, else that of its first bad result.
 #[tactic(auto, using(sarif_sources::proofs::QuietFaults::quiet_fault))]
-fn fault_of_run(placed: &PlacedRun, items: &[Item], opening: &Option<Fault>) -> Option<MergeFault>
-    requires { judged (placed_of placed.now) ≡ record { items = items.now; tail = opening.now } }
-    ensures first { result ≡ first (run_faults (placed_of placed.now)) }
+fn fault_of_run(run: &OpenedRun<'_, '_>, outcomes: &[Outcome]) -> Option<MergeFault>
+    requires few { length outcomes.now ≤ 1000000 }
+    requires judged { map (λ o. o.item) outcomes.now ≡ items_of (placed_of run.now) }
+    ensures first { result ≡ first (run_faults (placed_of run.now)) }
     ensures quiet { IfSome result (λ fault. status_of fault.cause ≡ 2) }
 {
-    match opening {
+    match run.fault() {
         Some(fault) => {
-            let at = At::Run(placed.source, placed.number);
-            Some(MergeFault::found(at, Cause::from(*fault)))
+            let at = At::Run(run.source, run.number);
+            Some(MergeFault::found(at, Cause::from(fault)))
         }
-        None => first_bad_result(placed, items),
+        None => first_bad_result(run, outcomes),
     }
 }
 
-/// The first fault of the runs in order, whichever of them was judged first.
+/// The first fault of the runs in order, whichever of their results was judged first.
 pub(crate) fn fault_of_runs(
-    runs: &[PlacedRun],
-    lists: &Lists<Item, Option<Fault>>,
+    runs: &[OpenedRun<'_, '_>],
+    mut outcomes: &[Outcome],
 ) -> Option<MergeFault>
-    requires { lists.now ≡ map judged (map placed_of runs.now) }
+    requires { map (λ o. o.item) outcomes.now ≡ flat_map items_of (map placed_of runs.now) }
     ensures first { result ≡ first (faults_of_runs (map placed_of runs.now)) }
     ensures quiet { IfSome result (λ fault. status_of fault.cause ≡ 2) }
 {
-    for run in 0..lists.runs() {
-        let placed = &runs[run as usize];
-        let found = fault_of_run(placed, lists.items(run), lists.tail(run));
+    for run in runs {
+        let (these, later) = outcomes.split_at(run.len() as usize);
+        let found = fault_of_run(run, these);
         if found.is_some() {
             return found;
         }
+        outcomes = later;
     }
     None
 }

@@ -1,20 +1,25 @@
 //! Laws of what is written, each the contract of a function that does nothing.
-ghost use Rattle.std.specs.Prelude.{◌≡◌, Bool, List, false};
+ghost use Rattle.std.specs.Prelude.{◌≡◌, ◌<◌, ℕ, Bool, List, [], false, length, Ok};
 ghost use Rattle.std.specs.List.{list_any};
 ghost use Rattle.serde_json.specs.Data.{Data};
 ghost use Rattle.serde_json.specs.Written.{has_float};
 ghost use Rattle.sarif_records.specs.declared.kinds.State.{State};
 ghost use Rattle.sarif_records.specs.declared.record.Record.{Record};
+ghost use Rattle.sarif_records.specs.Run.{result_at, results_of};
+ghost use Rattle.sarif_rules.specs.Record.{record_of};
 ghost use Rattle.sarif_suppress.specs.File.{File};
-ghost use Rattle.sarif_merge.specs.Inputs.{Inputs};
-ghost use Rattle.sarif_merge.specs.MergedLog.{listing_of, runs_of};
-ghost use Rattle.sarif_merge.specs.MergedRuns.{absent_runs, merged_runs};
+ghost use Rattle.sarif_write.specs.MergedRuns.{absent_runs, merged_runs};
+ghost use Rattle.sarif_assemble.specs.LogBy.{listing_of};
+ghost use Rattle.sarif_inputs.specs.Faults.{faults_of};
+ghost use Rattle.sarif_inputs.specs.Inputs.{Inputs, input_runs};
+ghost use Rattle.sarif_merge.specs.MergedLog.{runs_of, written_inputs};
+ghost use Rattle.sarif_merge.specs.OwnResult.{IsResult, place_of, run_at, written_by, written_run};
 
 use sarif_records::read_runs_hold_no_fraction;
 use sarif_suppress::{object_holds_no_fraction, written_passes_where_its_parts_do};
 
 /// No number with a fraction comes in by writing runs.
-pub(crate) fn written_runs_hold_no_fraction()
+fn written_runs_hold_no_fraction()
     ensures current { (file : File) (rs : List Record) (states : List State) (runs : List Data)
         → list_any has_float runs ≡ false
         → list_any has_float (merged_runs (listing_of file) rs states runs) ≡ false }
@@ -27,9 +32,21 @@ pub(crate) fn written_runs_hold_no_fraction()
 }
 
 /// The runs of a merged log hold no number with a fraction, whatever its inputs.
-pub(crate) fn merged_runs_hold_no_fraction()
+pub fn merged_runs_hold_no_fraction()
     ensures { (inputs : Inputs) → list_any has_float (runs_of inputs) ≡ false }
 {
     read_runs_hold_no_fraction();
     written_runs_hold_no_fraction();
 }
+
+/// Each input run is written in its place, with as many results as it has; and each of them in its
+/// place, with its own record, its own baseline state and its own suppressions.
+pub fn each_result_is_written_as_its_own()
+    ensures runs { (inputs : Inputs) → length (written_inputs inputs) ≡ length (input_runs inputs) }
+    ensures results { (inputs : Inputs) (k : ℕ) → k < length (input_runs inputs)
+        → length (results_of (written_run inputs k)) ≡ length (results_of (run_at inputs k)) }
+    ensures own { (inputs : Inputs) (k seq : ℕ) → faults_of inputs ≡ [] → IsResult inputs k seq
+        → (r : Record) × (record_of (run_at inputs k) seq ≡ Ok r)
+        × (result_at (written_run inputs k) seq
+        ≡ written_by inputs r (place_of inputs k seq) (result_at (run_at inputs k) seq)) }
+{}

@@ -1,67 +1,26 @@
 //! The merge from readers into a writer.
-ghost use Rattle.std.specs.Prelude.{◌≡◌, ◌≤◌, ◌<◌, ◌^◌, false, length, option_map, IfOk, IfErr};
+ghost use Rattle.std.specs.Prelude.{◌≡◌, ◌≤◌, ◌<◌, ◌^◌, false, IfOk, IfErr};
 ghost use Rattle.std.specs.List.{All};
 ghost use Rattle.std.specs.Io.KnownBytes.{Appends};
 ghost use Rattle.sarif_sources.specs.Counted.{inner_of, failed_calls, RisesIf};
-ghost use Rattle.sarif_sources.specs.Failing.{read_failed_in, write_failed_in, IsQuiet};
-ghost use Rattle.sarif_merge.specs.Merged.{IsMergeOf};
+ghost use Rattle.sarif_sources.specs.Failing.{read_failed_in, write_failed_in};
 ghost use Rattle.sarif_sources.specs.OptionalReader.{failed_calls_if};
-ghost use Rattle.sarif_merge.specs.FromReaders.{given_by, IsMergedFrom, IsPartlyWritten, IsRefused};
-ghost use Rattle.sarif_sources.specs.WereRead.{contents_of, failures, NoNumberFalls};
+ghost use Rattle.sarif_merge.specs.FromReaders.{IsMergedFrom, IsPartlyWritten, IsRefused};
+ghost use Rattle.sarif_sources.specs.WereRead.{failures, NoNumberFalls};
 ghost use Rattle.sarif_sources.specs.declared.fault.At.TheVariants.{Whole};
 ghost use Rattle.sarif_sources.specs.declared.fault.Cause.TheVariants.{WriteFailed};
 ghost use Rattle.sarif_sources.specs.declared.fault.Source.TheVariants.{Output};
 
-use crate::merge::merge_read;
-use crate::merged::Merged;
-use crate::sources::{check_numbers, read_owned_runs};
-use sarif_counts::Policy;
+use crate::merge::merge_few;
+use crate::options::Options;
+use sarif_assemble::Merged;
 use sarif_gather::Gate;
-use sarif_sources::{
-    At, Cause, Counted, MergeFault, Readers, Source, SourceBytes, read_sources, write_out,
-};
+use sarif_inputs::check_numbers;
+use sarif_sources::{At, Cause, Counted, MergeFault, Readers, Source, read_sources, write_out};
 use std::alloc::Global;
 use std::io::{Read, Write};
 use std::sync::Wait;
 use std::thread::Threads;
-
-/// The bytes that may be there.
-fn slice_of(bytes: &Option<Vec<u8>>) -> Option<&[u8]>
-    ensures { option_map (λ b. b.now) result ≡ option_map (λ v. v.items) bytes.now }
-{
-    match bytes {
-        Some(bytes) => Some(bytes.as_slice()),
-        None => None,
-    }
-}
-
-/// Merges what was read. The logs and baselines are parsed by the calling thread and as many more as there are workers,
-/// and the bytes of each are let go once it is parsed.
-fn merge_bytes_read<G: Gate + Sync, T: Threads + Wait + Sync>(
-    rt: &T,
-    alloc: Global,
-    sources: SourceBytes,
-    policy: &Policy,
-    today: Option<u32>,
-    workers: u32,
-    gate: &G,
-) -> Result<Merged, MergeFault>
-    requires workers { (1 ≤ workers) × (workers ≤ 64) }
-    requires few_logs { length sources.logs.items ≤ 1000 }
-    requires few_baselines { length sources.baselines.items ≤ 1000 }
-    ensures merge { IsMergeOf (given_by (contents_of sources) today) policy.now result }
-    ensures quiet { IsQuiet result }
-{
-    let SourceBytes {
-        logs,
-        baselines,
-        suppressions,
-    } = sources;
-    let runs = read_owned_runs(rt, alloc, logs, baselines, workers + 1)?;
-    let file = slice_of(&suppressions);
-    let merged = merge_read(rt, alloc, runs, file, policy, today, workers, gate)?;
-    Ok(merged)
-}
 
 /// Merges logs and baselines from readers, as [`merge_bytes`](crate::merge_bytes) does with bytes: reads all sources, the
 /// logs, the baselines and the suppression file, then merges what was read, and writes nothing.
@@ -74,19 +33,17 @@ pub fn merge_readers<R: Read, G: Gate + Sync, T: Threads + Wait + Sync>(
     rt: &T,
     alloc: Global,
     readers: &mut Readers<R>,
-    policy: &Policy,
-    today: Option<u32>,
-    workers: u32,
-    gate: &G,
+    options: &Options,
+    observer: &G,
 ) -> Result<Merged, MergeFault>
-    requires workers { (1 ≤ workers) × (workers ≤ 64) }
     requires logs { All (λ reader. failed_calls reader < 2 ^ 63) readers.old.logs.items }
     requires baselines { All (λ reader. failed_calls reader < 2 ^ 63) readers.old.baselines.items }
     requires suppressions { failed_calls_if readers.old.suppressions < 2 ^ 63 }
     // Ok comes only where all sources were read and nothing is at fault in them; it is the merge of these.
     ensures merged { IfOk result
-        (IsMergedFrom R.remaining readers.old readers.new today policy.now) }
-    ensures refused { IfErr result (IsRefused R.remaining readers.old readers.new today) }
+        (IsMergedFrom R.remaining readers.old readers.new options.now.today options.now.policy) }
+    ensures refused { IfErr result
+        (IsRefused R.remaining readers.old readers.new options.now.today) }
     // A failed read is answered as such, and only one.
     ensures read_failed { RisesIf (read_failed_in result)
         (failures readers.old) (failures readers.new) }
@@ -95,7 +52,7 @@ pub fn merge_readers<R: Read, G: Gate + Sync, T: Threads + Wait + Sync>(
 {
     check_numbers(readers.logs.len(), readers.baselines.len())?;
     let sources = read_sources(alloc, readers)?;
-    let merged = merge_bytes_read(rt, alloc, sources, policy, today, workers, gate)?;
+    let merged = merge_few(rt, alloc, &sources, options, observer)?;
     Ok(merged)
 }
 
@@ -108,30 +65,27 @@ pub fn merge_to<R: Read, W: Write, G: Gate + Sync, T: Threads + Wait + Sync>(
     alloc: Global,
     readers: &mut Readers<R>,
     out: &mut Counted<W>,
-    policy: &Policy,
-    today: Option<u32>,
-    workers: u32,
-    gate: &G,
+    options: &Options,
+    observer: &G,
 ) -> Result<Merged, MergeFault>
-    requires workers { (1 ≤ workers) × (workers ≤ 64) }
     requires logs { All (λ reader. failed_calls reader < 2 ^ 63) readers.old.logs.items }
     requires baselines { All (λ reader. failed_calls reader < 2 ^ 63) readers.old.baselines.items }
     requires suppressions { failed_calls_if readers.old.suppressions < 2 ^ 63 }
     requires writes { failed_calls out.old < 2 ^ 63 }
     // Ok comes only where all sources were read and nothing is at fault in them; it is the merge of these.
     ensures merged { IfOk result
-        (IsMergedFrom R.remaining readers.old readers.new today policy.now) }
+        (IsMergedFrom R.remaining readers.old readers.new options.now.today options.now.policy) }
     // The text was written, and nothing else.
     ensures written { IfOk result (λ merged. Appends (W.contents (inner_of out.old))
         (W.contents (inner_of out.new)) merged.log) }
     // A refusal before writing, and its cause.
     ensures refused { IfErr result (λ fault. (fault.cause ≡ WriteFailed → ⊥) → IsRefused R.remaining
-        readers.old readers.new today fault) }
+        readers.old readers.new options.now.today fault) }
     ensures untouched { IfErr result
         (λ fault. (fault.cause ≡ WriteFailed → ⊥) → out.new ≡ out.old) }
     // A refusal while writing.
     ensures part { IfErr result (λ fault. fault.cause ≡ WriteFailed → IsPartlyWritten R.remaining
-        readers.old readers.new today policy.now
+        readers.old readers.new options.now.today options.now.policy
         (W.contents (inner_of out.old)) (W.contents (inner_of out.new))) }
     ensures place { IfErr result (λ fault. fault.cause ≡ WriteFailed → fault.at ≡ Whole Output) }
     ensures read_failed { RisesIf (read_failed_in result)
@@ -140,7 +94,7 @@ pub fn merge_to<R: Read, W: Write, G: Gate + Sync, T: Threads + Wait + Sync>(
     ensures write_failed { RisesIf (write_failed_in result)
         (failed_calls out.old) (failed_calls out.new) }
 {
-    let merged = merge_readers(rt, alloc, readers, policy, today, workers, gate)?;
+    let merged = merge_readers(rt, alloc, readers, options, observer)?;
     match write_out(out, merged.log.as_str().as_bytes()) {
         Ok(()) => Ok(merged),
         Err(_) => Err(MergeFault::found(At::Whole(Source::Output), Cause::WriteFailed)),

@@ -1,12 +1,9 @@
 -- The check of all runs, one run at a time.
-use Rattle.std.proofs.Common.{◌≡◌, ◌+◌, ◌++◌, ℕ, List, [], ◌∷◌, map, length, arith, Some, Ok, Err, refl, sym, ap}
+use Rattle.std.proofs.Common.{◌≡◌, ◌+◌, ℕ, List, [], ◌∷◌, Some, Ok, Err, refl, sym, ap}
 use Rattle.serde_json.specs.Data.{Data}
 use Rattle.sarif_records.specs.declared.fault.Fault.{Fault}
 use Rattle.sarif_records.specs.Members.{◌>>=◌}
-use Rattle.serde_json.specs.declared.value.Value.{Value}
-use Rattle.serde_json.specs.View.{view}
 use Rattle.sarif_records.specs.Reading.{at_run, check_run, check_each}
-use Rattle.sarif_records.specs.Run.{results_of, results_total}
 
 pub goes_on : (n before now : ℕ) (run : Data) (runs : List Data) → Ok now ≡ check_run before run → check_each (n + 1) now runs ≡ check_each n before (run ∷ runs)
 unfolding check_each
@@ -19,8 +16,3 @@ stops n before fault run runs is = sym (ap (λ r. at_run n r >>= λ m. check_eac
 pub at_end : (n before : ℕ) → check_each n before [] ≡ Ok tt
 unfolding check_each
 at_end n before = refl
-
-pub results_total_push : (vs : List Value) (v : Value) → results_total (map view (vs ++ v ∷ [])) ≡ results_total (map view vs) + length (results_of (view v))
-results_total_push [] v = omega arith
-results_total_push (w ∷ vs) v =
-    let rest : results_total (map view (vs ++ v ∷ [])) ≡ results_total (map view vs) + length (results_of (view v)) = results_total_push vs v in omega (arith, rest)

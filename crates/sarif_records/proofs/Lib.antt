@@ -1,6 +1,5 @@
 pub mod Elements
 pub mod Stripped
-pub mod StrippedEach
 pub mod Utf8
 pub mod CheckEach
 pub mod NoFraction

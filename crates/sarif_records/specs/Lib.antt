@@ -3,7 +3,6 @@ pub mod Level
 pub mod State
 pub mod Status
 pub mod Stripping
-pub mod StrippingTogether
 pub mod Members
 pub mod Reading
 pub mod Run

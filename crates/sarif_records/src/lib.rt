@@ -22,7 +22,6 @@ mod record;
 mod run;
 mod sequence;
 mod stripping;
-mod stripping_together;
 mod text;
 
 pub use fault::{Fault, ReadFault};
@@ -39,7 +38,7 @@ pub use message::Message;
 pub use own_members::{read_members, read_parts};
 pub use parts::Parts;
 pub use place::Place;
-pub use reading::{MOST_RESULTS, MOST_RUNS, driver_name, read_log, read_log_with, without_mark};
+pub use reading::{MOST_RESULTS, MOST_RUNS, driver_name, read_log, without_mark};
 pub use record::Record;
 pub use run::{RawRun, is_marked_absent};
 pub use sequence::{Pairs, Sequence};

@@ -36,7 +36,7 @@ pub fn strip_in_place(value: &mut Value)
 /// Strips each element of an array.
 #[cycle(strip)]
 #[tactic(auto, using(crate::proofs::Stripped::stripped_items_view, crate::proofs::Stripped::item_depth_at, std::proofs::lemmas::List::take_all))]
-pub(crate) fn strip_items(items: &mut Vec<Value>)
+fn strip_items(items: &mut Vec<Value>)
     ensures { map view items.new.items ≡ map (λ v. stripped (view v)) items.old.items }
 {
     for item in items.iter_mut() {
@@ -66,7 +66,7 @@ fn strip_members(members: &mut Map<String, Value>)
 
 /// Whether this is a number that isn't whole, or an array that holds one directly or within arrays.
 #[cycle(fractions)]
-pub(crate) fn is_fractional_value(value: &Value) -> bool
+fn is_fractional_value(value: &Value) -> bool
     ensures { result ≡ is_fractional (view value.now) }
 {
     match value {

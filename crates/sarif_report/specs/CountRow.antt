@@ -4,7 +4,7 @@ use Rattle.std.specs.Fmt.{decimal}
 use Rattle.sarif_records.specs.declared.kinds.Level.{Level}
 use Rattle.sarif_records.specs.declared.kinds.Level.TheVariants.{NoLevel, Note, Warning, Error}
 use Rattle.sarif_counts.specs.Summary.{suppressed_of}
-use Rattle.sarif_report.specs.declared.markdown_table.Row.{Row}
+use Rattle.sarif_report.specs.declared.count_row.Row.{Row}
 
 -- a state's active results by level, and its suppressed ones
 abbrev pub numbers_of : (Level → Bool → ℕ) → Row

@@ -3,7 +3,7 @@ use Rattle.std.specs.Prelude.{ℕ, Bool, ◌||◌, List, ◌==◌, ◌++◌, cod
 use Rattle.std.specs.Fmt.{decimal}
 use Rattle.sarif_report.specs.Shown.{is_between}
 use Rattle.sarif_report.specs.declared.escaping.Escaping.{Escaping}
-use Rattle.sarif_report.specs.declared.escaping.Escaping.TheVariants.{Message, Property, Markdown}
+use Rattle.sarif_report.specs.declared.escaping.Escaping.TheVariants.{Message, Property, Markdown, Page}
 
 -- a character of a workflow command's message
 abbrev pub message_char : ℕ → List ℕ
@@ -22,10 +22,17 @@ is_mark c = is_between 33 43 c || c == 46 || is_between 58 64 c || is_between 91
 abbrev pub markdown_char : ℕ → List ℕ
 markdown_char c = if is_mark c then codes "&#" ++ (decimal c ++ codes ";") else encode_utf8 c
 
+-- a character of an element's text, or of an attribute in quotes
+abbrev pub page_char : ℕ → List ℕ
+page_char c =
+    if c == 38 then codes "&amp;" else (if c == 60 then codes "&lt;" else (if c == 62 then codes "&gt;" else (
+    if c == 34 then codes "&quot;" else (if c == 39 then codes "&#39;" else encode_utf8 c))))
+
 abbrev pub escaped_char : Escaping → ℕ → List ℕ
 escaped_char Message c = message_char c
 escaped_char Property c = property_char c
 escaped_char Markdown c = markdown_char c
+escaped_char Page c = page_char c
 
 -- a text, character by character
 unfoldable pub escaped : Escaping → List ℕ → List ℕ

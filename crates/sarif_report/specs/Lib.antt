@@ -1,8 +1,17 @@
 pub mod CountRow
 pub mod Escaped
+pub mod EscapedLaws
 pub mod Finding
+pub mod GithubLaws
 pub mod GithubReport
+pub mod GitlabParts
+pub mod GitlabReport
+pub mod HtmlFixed
+pub mod HtmlLaws
+pub mod HtmlReport
+pub mod HtmlStyle
 pub mod Lookup
+pub mod MarkdownLaws
 pub mod MarkdownReport
 pub mod Message
 pub mod PathOf
@@ -10,4 +19,5 @@ pub mod Reported
 pub mod Shown
 pub mod ShownLaws
 pub mod ShownSoFar
+pub mod TextLaws
 pub mod TextReport

@@ -76,6 +76,10 @@ abbrev pub rule_id : Data → Data → List ℕ
 rule_id run result =
     unwrap_or (option_or (own_rule_id result) (descriptor_id run result)) []
 
+-- the address of a page on the rule
+abbrev pub help_uri : Data → Data → Option (List ℕ)
+help_uri run result = option_and_then (text_in (codes "helpUri")) (descriptor_of run result)
+
 -- ---- the place
 
 -- `locations[0].physicalLocation`

@@ -1,7 +1,7 @@
 -- The results of a finished merged log that a report tells of, in the order of the log: the active ones whose
 -- baseline state the policy lists.
-use Rattle.std.specs.Prelude.{ℕ, Bool, not, ◌&&◌, List, [], ◌∷◌, Option, Some, None, codes, chars, flat_map, option_and_then, unwrap_or, if◌then◌else◌}
-use Rattle.std.specs.List.{filter_map}
+use Rattle.std.specs.Prelude.{ℕ, Bool, not, ◌&&◌, ◌||◌, nat_eq, bytes_eq, List, [], ◌∷◌, Option, Some, None, codes, chars, flat_map, option_and_then, unwrap_or, if◌then◌else◌}
+use Rattle.std.specs.List.{filter_map, starts_with}
 use Rattle.serde_json.specs.Data.{Data}
 use Rattle.sarif_records.specs.declared.kinds.Level.{Level}
 use Rattle.sarif_records.specs.declared.kinds.State.{State}
@@ -12,7 +12,7 @@ use Rattle.sarif_counts.specs.Policy.{is_listed, is_at_least}
 use Rattle.sarif_counts.specs.CountOf.{suppressions_in, suppresses}
 use Rattle.sarif_report.specs.declared.finding.Finding.{Finding}
 use Rattle.sarif_report.specs.declared.reporting.Reporting.{Reporting}
-use Rattle.sarif_report.specs.Lookup.{text_in, elements_in, rule_id, uri_of, position_in}
+use Rattle.sarif_report.specs.Lookup.{text_in, elements_in, rule_id, help_uri, uri_of, position_in}
 use Rattle.sarif_report.specs.Message.{message_of}
 use Rattle.sarif_report.specs.PathOf.{path_of}
 use Rattle.sarif_report.specs.Shown.{shown}
@@ -55,6 +55,17 @@ line_in reporting run result = only_with (path_in reporting run result) (positio
 abbrev pub column_in : Reporting → Data → Data → Option ℕ
 column_in reporting run result = only_with (line_in reporting run result) (position_in (codes "startColumn") result)
 
+-- whether an address is one of the web, all of whose characters are shown
+abbrev pub is_link : List ℕ → Bool
+is_link uri =
+    (starts_with nat_eq uri (codes "https://") || starts_with nat_eq uri (codes "http://")) && bytes_eq (shown (chars uri)) uri
+
+abbrev pub link_of : List ℕ → Option (List ℕ)
+link_of uri = if is_link uri then Some uri else None
+
+abbrev pub help_in : Data → Data → Option (List ℕ)
+help_in run result = option_and_then link_of (help_uri run result)
+
 abbrev pub tool_in : Data → List ℕ
 tool_in run = unwrap_or (driver_name run) []
 
@@ -69,6 +80,7 @@ finding_of reporting run result level state = record {
   path = path_in reporting run result;
   line = line_in reporting run result;
   column = column_in reporting run result;
+  help = help_in run result;
   hit = is_at_least reporting.policy.fail_on level;
 }
 

@@ -12,11 +12,13 @@ pub(crate) enum Escaping {
     Property,
     /// Code within Markdown.
     Markdown,
+    /// The text of an element of a page, or of an attribute.
+    Page,
 }
 
 impl Escaping {
     ghost use Rattle.sarif_report.specs.Escaped.{escaped_char, escaped, message_char, property_char};
-    ghost use Rattle.sarif_report.specs.Escaped.{markdown_char, is_mark};
+    ghost use Rattle.sarif_report.specs.Escaped.{markdown_char, is_mark, page_char};
 
     fn push_message(text: &mut String, c: char) -> Result<(), AllocError>
         ensures { OnOk result (string_bytes text.new ≡ string_bytes text.old ++ message_char c) }
@@ -59,6 +61,20 @@ impl Escaping {
         Ok(())
     }
 
+    fn push_page(text: &mut String, c: char) -> Result<(), AllocError>
+        ensures { OnOk result (string_bytes text.new ≡ string_bytes text.old ++ page_char c) }
+    {
+        match c {
+            '&' => text.push_str("&amp;")?,
+            '<' => text.push_str("&lt;")?,
+            '>' => text.push_str("&gt;")?,
+            '"' => text.push_str("&quot;")?,
+            '\'' => text.push_str("&#39;")?,
+            _ => text.push(c)?,
+        }
+        Ok(())
+    }
+
     fn push_char(self, alloc: Global, text: &mut String, c: char) -> Result<(), AllocError>
         ensures { OnOk result
             (string_bytes text.new ≡ string_bytes text.old ++ escaped_char self c) }
@@ -67,6 +83,7 @@ impl Escaping {
             Escaping::Message => Escaping::push_message(text, c)?,
             Escaping::Property => Escaping::push_property(text, c)?,
             Escaping::Markdown => Escaping::push_markdown(alloc, text, c)?,
+            Escaping::Page => Escaping::push_page(text, c)?,
         }
         Ok(())
     }

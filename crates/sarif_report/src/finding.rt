@@ -19,6 +19,8 @@ pub struct Finding {
     pub path: Option<Text>,
     pub line: Option<u32>,
     pub column: Option<u32>,
+    /// The address of a page on the rule, as it is in the log.
+    pub help: Option<Text>,
     /// Whether the gate counts it.
     pub hit: bool,
 }

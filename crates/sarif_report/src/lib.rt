@@ -1,9 +1,13 @@
 //! Reports for people and review services over the finished merged log of a SARIF merge.
 #![tactic(auto)]
 
+mod count_row;
 mod escaping;
 mod finding;
 mod github_lines;
+mod gitlab_array;
+mod html_fixed;
+mod html_page;
 mod laws;
 mod lookup;
 mod markdown_table;
@@ -18,7 +22,14 @@ mod text_lines;
 
 pub use finding::Finding;
 pub use github_lines::github_report;
-pub use laws::{shown_signs_stand_apart, shown_texts_are_seen};
+pub use gitlab_array::gitlab_report;
+pub use html_page::html_report;
+pub use laws::{
+    github_lines_begin_with_commands, gitlab_reports_read_back, hashed_texts_differ,
+    markdown_rows_have_their_cells, markdown_texts_hold_no_mark, page_rows_have_their_tags,
+    page_texts_hold_no_markup, reported_hits_are_counted, shown_signs_stand_apart,
+    shown_texts_are_seen, text_reports_have_a_line_a_result,
+};
 pub use markdown_table::markdown_report;
 pub use reported_results::reported;
 pub use reporting::Reporting;

@@ -160,6 +160,13 @@ pub(crate) fn rule_id<'a>(run: &'a Value, found: &'a Value) -> &'a str
     }
 }
 
+/// The address of a page on the rule.
+pub(crate) fn help_uri<'a>(run: &'a Value, found: &Value) -> Option<&'a str>
+    ensures { option_map (λ s. s.now) result ≡ said.help_uri (view run.now) (view found.now) }
+{
+    text_in(descriptor_of(run, found)?, "helpUri")
+}
+
 /// `locations[0].physicalLocation`.
 fn physical_location(found: &Value) -> Option<&Value>
     ensures { option_map (λ v. view v.now) result ≡ said.physical_location (view found.now) }

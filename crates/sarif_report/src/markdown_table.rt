@@ -1,15 +1,15 @@
 //! The report for job summaries and comments on a change.
 ghost use Rattle.std.specs.Prelude.{◌≡◌, ◌++◌, IfOk, OnOk, flat_map, take, string_bytes};
 ghost use Rattle.sarif_counts.specs.Counts.{count_at};
-ghost use Rattle.sarif_counts.specs.Summary.{suppressed_of};
 ghost use Rattle.sarif_report.specs.Finding.{place_of};
-ghost use Rattle.sarif_report.specs.CountRow.{row_begin, row_end, numbers_of};
+ghost use Rattle.sarif_report.specs.CountRow.{row_begin, row_end};
 ghost use Rattle.sarif_report.specs.MarkdownReport as said;
 
+use crate::count_row::row_numbers;
 use crate::escaping::Escaping;
 use crate::finding::{Finding, push_place};
 use sarif_counts::{Counts, Policy, Verdict, hits, verdict};
-use sarif_records::{Level, State};
+use sarif_records::State;
 use std::alloc::{AllocError, Global};
 
 /// How many results stand in the table.
@@ -41,26 +41,6 @@ fn heading(alloc: Global, verdict: Verdict, hits: u32, max: u32) -> Result<Strin
     format!(in alloc; "## Gate: {word}, {hits} hits, {max} allowed\n\n")
 }
 
-/// All suppressed results of a state.
-fn suppressed(counts: &Counts, state: State) -> u64
-    ensures { result ≡ suppressed_of (count_at counts.now state) }
-{
-    u64::from(counts.get(state, Level::Error, true))
-        + u64::from(counts.get(state, Level::Warning, true))
-        + u64::from(counts.get(state, Level::Note, true))
-        + u64::from(counts.get(state, Level::NoLevel, true))
-}
-
-/// The numbers of one state's row.
-#[derive(Drop)]
-struct Row {
-    error: u32,
-    warning: u32,
-    note: u32,
-    none: u32,
-    suppressed: u64,
-}
-
 /// A state's name and its active errors and warnings.
 fn row_begin(alloc: Global, name: &str, error: u32, warning: u32) -> Result<String, AllocError>
     ensures { IfOk result (λ s. string_bytes s ≡ row_begin name.now error warning) }
@@ -73,19 +53,6 @@ fn row_end(alloc: Global, note: u32, none: u32, hidden: u64) -> Result<String, A
     ensures { IfOk result (λ s. string_bytes s ≡ row_end note none hidden) }
 {
     format!(in alloc; "{note} | {none} | {hidden} |\n")
-}
-
-/// The numbers of one state.
-fn row_numbers(counts: &Counts, state: State) -> Row
-    ensures { result ≡ numbers_of (count_at counts.now state) }
-{
-    Row {
-        error: counts.get(state, Level::Error, false),
-        warning: counts.get(state, Level::Warning, false),
-        note: counts.get(state, Level::Note, false),
-        none: counts.get(state, Level::NoLevel, false),
-        suppressed: suppressed(counts, state),
-    }
 }
 
 /// Adds the row of one state.

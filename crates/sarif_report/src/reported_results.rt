@@ -11,7 +11,7 @@ ghost use Rattle.sarif_report.specs.Shown.{shown as text_shown};
 ghost use Rattle.sarif_report.specs.Reported as said;
 
 use crate::finding::Finding;
-use crate::lookup::{elements_in, position_in, rule_id, text_in, uri_of};
+use crate::lookup::{elements_in, help_uri, position_in, rule_id, text_in, uri_of};
 use crate::message::push_message;
 use crate::path::push_path;
 use crate::reporting::Reporting;
@@ -105,6 +105,30 @@ fn shown_copy(alloc: Global, text: &str) -> Result<Text, AllocError>
     let shown = shown(alloc, text)?;
     let copy = Text::copy_of(alloc, shown.as_str())?;
     Ok(copy)
+}
+
+/// Whether an address is one of the web, all of whose characters are shown.
+fn is_link(alloc: Global, uri: &str) -> Result<bool, AllocError>
+    ensures { IfOk result (λ b. b ≡ said.is_link uri.now) }
+{
+    if uri.starts_with("https://") || uri.starts_with("http://") {
+        let shown = shown(alloc, uri)?;
+        return Ok(shown.as_str() == uri);
+    }
+    Ok(false)
+}
+
+/// The address of a page on a result's rule, where it can be a link.
+fn help_in(alloc: Global, run: &Value, found: &Value) -> Result<Option<Text>, AllocError>
+    ensures { IfOk result (λ o. o ≡ said.help_in (view run.now) (view found.now)) }
+{
+    let Some(uri) = help_uri(run, found) else {
+        return Ok(None);
+    };
+    if is_link(alloc, uri)? {
+        return Ok(Some(Text::copy_of(alloc, uri)?));
+    }
+    Ok(None)
 }
 
 fn tool_name(run: &Value) -> &str
@@ -202,6 +226,7 @@ fn finding_of(
     let path = path_in(alloc, reporting, run, found)?;
     let line = position_with(&path, found, "startLine");
     let column = position_with(&line, found, "startColumn");
+    let help = help_in(alloc, run, found)?;
     let hit = severity(reporting.policy.fail_on) <= severity(level);
     Ok(Finding {
         tool,
@@ -212,6 +237,7 @@ fn finding_of(
         path,
         line,
         column,
+        help,
         hit,
     })
 }

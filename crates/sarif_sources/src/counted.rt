@@ -54,7 +54,8 @@ impl<R: Read> Counted<R> {
         ensures bound { ReadsAtMost result buf.new }
         ensures bytes { ReadConsumes (R.remaining (inner_of self.old))
             (R.remaining (inner_of self.new)) result buf.new }
-        ensures counted { RisesIf (has_failed result) (failed_calls self.old) (failed_calls self.new) }
+        ensures counted { RisesIf (has_failed result)
+            (failed_calls self.old) (failed_calls self.new) }
     {
         match self.inner.read(buf) {
             Ok(n) => Ok(n),
@@ -72,7 +73,8 @@ impl<W: Write> Counted<W> {
         ensures some { IfOk result (λ n. 0 < length buf.now → 0 < n) }
         ensures bytes { WriteAppends (W.contents (inner_of self.old))
             (W.contents (inner_of self.new)) result buf.now }
-        ensures counted { RisesIf (has_failed result) (failed_calls self.old) (failed_calls self.new) }
+        ensures counted { RisesIf (has_failed result)
+            (failed_calls self.old) (failed_calls self.new) }
     {
         match self.inner.write(buf) {
             Ok(n) if n > 0 || buf.is_empty() => Ok(n),

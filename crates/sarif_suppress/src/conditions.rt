@@ -72,7 +72,8 @@ fn is_guid(wanted: Option<u128>, found: Option<u128>) -> bool
 
 /// What stands behind the pair, where it is there.
 fn behind<'a>(found: &'a [(Text, Text)], pair: &(Text, Text)) -> Option<&'a [(Text, Text)]>
-    ensures there { IfSome result (λ rest. list_any (λ p. said.is_pair p pair.now) found.now ≡ true) }
+    ensures there { IfSome result
+        (λ rest. list_any (λ p. said.is_pair p pair.now) found.now ≡ true) }
     ensures end { IfSome result (λ rest. (n : ℕ) × (rest.now ≡ drop n found.now)) }
 {
     for (at, own) in found.iter().enumerate() {

@@ -122,7 +122,7 @@ pub fn read_rules(
     alloc: Global,
     bytes: &[u8],
     today: Option<u32>,
-) -> Result<Suppressions, SuppressFault>
+) -> Result<Suppressions<BuildHasherDefault<FoldHasher>>, SuppressFault>
     ensures ok { IfOk result (λ file. said.file_of bytes.now today ≡ Ok file) }
     ensures err { IfErr result (λ fault. ¬ (fault ≡ SuppressFault.OutOfMemory)
         → said.file_of bytes.now today ≡ Err fault) }

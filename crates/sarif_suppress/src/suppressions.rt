@@ -14,13 +14,13 @@ use crate::table::Table;
 use sarif_records::{Record, Sequence};
 use serde_json::Value;
 use std::alloc::{AllocError, Global};
-use std::hash::{BuildHasher, BuildHasherDefault, FoldHasher};
+use std::hash::{BuildHasher, RandomState};
 use std::marker::Model;
 
 /// The entries of a suppression file, on the day for which it was read. Contracts see the file: its
-/// entries in order, and the day.
+/// entries in order, and the day, whatever the hasher of its tables.
 #[derive(Drop)]
-pub struct Suppressions<S: BuildHasher + Copy = BuildHasherDefault<FoldHasher>> {
+pub struct Suppressions<S: BuildHasher + Copy = RandomState> {
     entries: Vec<Entry>,
     today: Option<u32>,
     table: Table<S>,
@@ -47,16 +47,14 @@ pub struct Applied {
     pub suppressed: bool,
 }
 
-impl Suppressions {
+impl<S: BuildHasher + Copy> Suppressions<S> {
     /// No entries: what stands where there is no suppression file.
-    pub fn none(alloc: Global, today: Option<u32>) -> Result<Suppressions, AllocError>
+    pub fn none(alloc: Global, hasher: S, today: Option<u32>) -> Result<Suppressions<S>, AllocError>
         ensures { IfOk result (λ s. s ≡ record { entries = []; today = today }) }
     {
-        Suppressions::new(alloc, BuildHasherDefault::new(), Vec::new(alloc), today)
+        Suppressions::new(alloc, hasher, Vec::new(alloc), today)
     }
-}
 
-impl<S: BuildHasher + Copy> Suppressions<S> {
     /// At most 10,000 entries, with their tables.
     pub(crate) fn new(
         alloc: Global,

@@ -8,8 +8,12 @@ use crate::{SuppressFault, Suppressions, read_rules};
 use sarif_records::{Kind, Level, Message, Place, Record, Sequence, Status, Text};
 use serde_json::Value;
 use std::alloc::{AllocError, Global};
+use std::hash::{BuildHasherDefault, FoldHasher};
 use std::process::Abort;
 use std::test::Fail;
+
+/// A suppression file by the standard hasher.
+type Plain = Suppressions<BuildHasherDefault<FoldHasher>>;
 
 /// A copy of a text that may be absent.
 fn text_of(alloc: Global, text: Option<&str>) -> Result<Option<Text>, AllocError> {
@@ -54,7 +58,7 @@ fn rules_of(
     version: u32,
     entries: &str,
     today: Option<u32>,
-) -> Result<Suppressions, SuppressFault> {
+) -> Result<Plain, SuppressFault> {
     let text = format!(in alloc; "{{\"version\":{version},\"suppressions\":[{entries}]}}")?;
     read_rules(alloc, text.as_str().as_bytes(), today)
 }
@@ -113,7 +117,7 @@ fn array_of(alloc: Global, text: &str) -> Vec<Value> {
 /// suppressed.
 fn expect_written(
     rt: &(impl Abort + AllocGlobal),
-    rules: &Suppressions,
+    rules: &Plain,
     finding: &Record,
     own: &str,
     wanted: (&str, bool),

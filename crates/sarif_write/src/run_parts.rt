@@ -21,7 +21,8 @@ pub struct RunParts {
 
 /// Takes the member `name` out.
 fn drop_member(members: &mut Map<String, Value>, name: &str)
-    ensures { members_view members.new.entries ≡ without name.now (members_view members.old.entries) }
+    ensures { members_view members.new.entries
+        ≡ without name.now (members_view members.old.entries) }
 {
     let _ = members.remove(name);
 }

@@ -1,6 +1,7 @@
 //! Which words ask for what.
 
 use crate::request::Request;
+use crate::tests::merging::seed;
 use crate::words::{WordsFault, read_words};
 use sarif_merge::States;
 use sarif_records::Level;
@@ -13,7 +14,7 @@ fn read(rt: &HostRuntime, line: &str) -> Result<Result<Request, WordsFault>, All
     for word in line.split(' ') {
         words.push(String::from_str(rt.alloc(), word)?)?;
     }
-    Ok(read_words(rt.alloc(), words.as_slice()))
+    Ok(read_words(rt.alloc(), seed()?, words.as_slice()))
 }
 
 /// What the words ask for; a refusal fails the test.
@@ -30,17 +31,17 @@ fn defaults_stand_where_no_word_says_more(rt: HostRuntime) -> Result<(), Fail> {
     assert!(rt; request.baselines.is_empty());
     assert!(rt; request.suppress.is_none());
     assert!(rt; request.out.as_str() == "o");
-    assert_eq!(rt; request.today, None);
-    assert_eq!(rt; request.workers, 4);
-    assert_eq!(rt; request.policy.fail_on, Level::Error);
-    assert_eq!(rt; request.policy.max, 0);
+    assert_eq!(rt; request.options.today, None);
+    assert_eq!(rt; request.options.workers, 4);
+    assert_eq!(rt; request.options.policy.fail_on, Level::Error);
+    assert_eq!(rt; request.options.policy.max, 0);
     let states = States {
         absent: false,
         fresh: true,
         unchanged: false,
         updated: true,
     };
-    assert_eq!(rt; request.policy.states, states);
+    assert_eq!(rt; request.options.policy.states, states);
     Ok(())
 }
 
@@ -56,10 +57,10 @@ fn each_word_is_read(rt: HostRuntime) -> Result<(), Fail> {
     assert!(rt; request.baselines[0].as_str() == "b");
     assert!(rt; request.baselines[1].as_str() == "c");
     assert!(rt; request.suppress.is_some_and(|name| name.as_str() == "s"));
-    assert_eq!(rt; request.today, Some(20_250_131));
-    assert_eq!(rt; request.workers, 64);
-    assert_eq!(rt; request.policy.fail_on, Level::Note);
-    assert_eq!(rt; request.policy.max, 4_294_967_295);
+    assert_eq!(rt; request.options.today, Some(20_250_131));
+    assert_eq!(rt; request.options.workers, 64);
+    assert_eq!(rt; request.options.policy.fail_on, Level::Note);
+    assert_eq!(rt; request.options.policy.max, 4_294_967_295);
     Ok(())
 }
 
@@ -69,12 +70,12 @@ fn ends_of_the_ranges_are_taken(rt: HostRuntime) -> Result<(), Fail> {
         &rt,
         "a --out o --today 10000101 --workers 1 --max 0 --fail-on none",
     )?;
-    assert_eq!(rt; least.today, Some(10_000_101));
-    assert_eq!(rt; least.workers, 1);
-    assert_eq!(rt; least.policy.fail_on, Level::NoLevel);
+    assert_eq!(rt; least.options.today, Some(10_000_101));
+    assert_eq!(rt; least.options.workers, 1);
+    assert_eq!(rt; least.options.policy.fail_on, Level::NoLevel);
     let most = accepted(&rt, "a --out o --today 99991231 --fail-on warning")?;
-    assert_eq!(rt; most.today, Some(99_991_231));
-    assert_eq!(rt; most.policy.fail_on, Level::Warning);
+    assert_eq!(rt; most.options.today, Some(99_991_231));
+    assert_eq!(rt; most.options.policy.fail_on, Level::Warning);
     Ok(())
 }
 

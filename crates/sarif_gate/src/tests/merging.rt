@@ -1,10 +1,15 @@
 //! Merging texts. A list of runs is written `lint: A M; b: `, so each run is a tool and its results,
 //! each by its name or by its own text, which has no blank.
+use crate::seed::seed_of;
 use sarif_merge::{
-    Counted, Gate, MergeFault, Merged, NoGate, Policy, Readers, Verdict, merge_bytes, merge_to,
+    Counted, Gate, MergeFault, Merged, NoGate, Options, Policy, Readers, SourceBytes, Verdict,
+    merge_bytes, merge_to,
 };
 use std::alloc::{AllocError, Global};
+use std::hash::RandomState;
+use std::io;
 use std::process::Abort;
+use std::random::RandomSource;
 use std::sync::Wait;
 use std::test::Fail;
 use std::thread::Threads;
@@ -92,9 +97,7 @@ pub fn log_of(alloc: Global, runs: &str) -> Result<String, Fail> {
 /// What a merge is given.
 #[derive(Drop)]
 pub struct Given {
-    logs: Vec<Vec<u8>>,
-    baselines: Vec<Vec<u8>>,
-    entries: Option<Vec<u8>>,
+    sources: SourceBytes,
     pub policy: Policy,
     pub today: Option<u32>,
     pub workers: u32,
@@ -104,9 +107,11 @@ impl Given {
     /// Nothing, to one worker; the policy is the default.
     pub fn new(alloc: Global) -> Given {
         Given {
-            logs: Vec::new(alloc),
-            baselines: Vec::new(alloc),
-            entries: None,
+            sources: SourceBytes {
+                logs: Vec::new(alloc),
+                baselines: Vec::new(alloc),
+                suppressions: None,
+            },
             policy: Policy::default(),
             today: None,
             workers: 1,
@@ -116,21 +121,21 @@ impl Given {
     /// One more log, as it stands.
     pub fn log(&mut self, alloc: Global, text: &str) -> Result<(), AllocError> {
         let bytes = text.as_bytes().to_vec(alloc)?;
-        self.logs.push(bytes)?;
+        self.sources.logs.push(bytes)?;
         Ok(())
     }
 
     /// One more baseline, as it stands.
     pub fn baseline(&mut self, alloc: Global, text: &str) -> Result<(), AllocError> {
         let bytes = text.as_bytes().to_vec(alloc)?;
-        self.baselines.push(bytes)?;
+        self.sources.baselines.push(bytes)?;
         Ok(())
     }
 
     /// A suppression file of this version with these entries.
     pub fn entries(&mut self, alloc: Global, version: u8, list: &str) -> Result<(), AllocError> {
         let text = format!(in alloc; "{{\"version\":{version},\"suppressions\":[{list}]}}")?;
-        self.entries = Some(text.as_bytes().to_vec(alloc)?);
+        self.sources.suppressions = Some(text.as_bytes().to_vec(alloc)?);
         Ok(())
     }
 }
@@ -151,6 +156,21 @@ pub fn beside(alloc: Global, runs: &str, baseline_runs: &str) -> Result<Given, F
     Ok(given)
 }
 
+/// A system without random bytes.
+#[derive(Drop)]
+struct NoBytes;
+
+impl RandomSource for NoBytes {
+    fn fill_bytes(&self, _buf: &mut [u8]) -> io::Result<()> {
+        Err(io::ErrorKind::Other.into())
+    }
+}
+
+/// The seed of a run that has no random bytes.
+pub fn seed() -> Result<RandomState, AllocError> {
+    seed_of(&NoBytes).map_err(|_| AllocError)
+}
+
 pub fn merge_watched<G: Gate + Sync, R: Abort + AllocGlobal + Threads + Wait + Sync>(
     rt: &R,
     given: &Given,
@@ -158,21 +178,13 @@ pub fn merge_watched<G: Gate + Sync, R: Abort + AllocGlobal + Threads + Wait + S
 ) -> Result<Merged, MergeFault> {
     let workers = given.workers;
     assert!(rt; 1 <= workers && workers <= 64);
-    let entries = match &given.entries {
-        Some(bytes) => Some(bytes.as_slice()),
-        None => None,
-    };
-    merge_bytes(
-        rt,
-        rt.alloc(),
-        &given.logs,
-        &given.baselines,
-        entries,
-        &given.policy,
-        given.today,
+    let options = Options {
+        policy: given.policy,
+        today: given.today,
         workers,
-        observer,
-    )
+        seed: seed()?,
+    };
+    merge_bytes(rt, rt.alloc(), &given.sources, &options, observer)
 }
 
 /// The same of one log, from a reader into a writer that holds what it took.
@@ -189,14 +201,18 @@ pub fn write_watched<G: Gate + Sync, R: Abort + AllocGlobal + Threads + Wait + S
         baselines: Vec::new(rt.alloc()),
         suppressions: None,
     };
+    let options = Options {
+        policy: Policy::default(),
+        today: None,
+        workers,
+        seed: seed()?,
+    };
     merge_to(
         rt,
         rt.alloc(),
         &mut readers,
         &mut Counted::new(&mut taken),
-        &Policy::default(),
-        None,
-        workers,
+        &options,
         observer,
     )?;
     Ok(taken)

@@ -2,8 +2,9 @@
 use crate::tests::MERGED;
 use crate::tests::merging::{
     Given, NOTHING, Wanted, expect_log, expect_part, expect_runs, log_of, log_with, merge, one_log,
+    seed,
 };
-use sarif_merge::{Counted, NoGate, Policy, Readers, Verdict, merge_readers};
+use sarif_merge::{Counted, NoGate, Options, Policy, Readers, Verdict, merge_readers};
 use sarif_records::{Level, State};
 use std::alloc::{AllocError, Global};
 use std::test::Fail;
@@ -29,8 +30,13 @@ fn a_log_that_a_reader_gives(rt: HostRuntime) -> Result<(), Fail> {
         baselines: Vec::new(rt.alloc()),
         suppressions: None,
     };
-    let policy = Policy::default();
-    let merged = merge_readers(&rt, rt.alloc(), &mut readers, &policy, None, 1, &NoGate)?;
+    let options = Options {
+        policy: Policy::default(),
+        today: None,
+        workers: 1,
+        seed: seed()?,
+    };
+    let merged = merge_readers(&rt, rt.alloc(), &mut readers, &options, &NoGate)?;
     assert_eq!(rt; merged.log.as_str(), MERGED);
     assert_eq!(rt; merged.verdict, Verdict::Pass);
     Ok(())

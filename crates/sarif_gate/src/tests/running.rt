@@ -3,6 +3,7 @@
 use crate::request::Request;
 use crate::run::run_request;
 use crate::tests::MERGED;
+use crate::tests::merging::seed;
 use sarif_merge::{Counted, Readers};
 use sarif_records::Level;
 use std::alloc::{AllocError, Global};
@@ -182,7 +183,7 @@ fn run_all<T: Threads + Wait + Sync>(
     let status = run_request(
         threads,
         alloc,
-        &Request::of_standard_streams(alloc)?,
+        &Request::of_standard_streams(alloc, seed()?)?,
         &mut readers,
         &mut Counted::new(Narrow::new(&out, AMPLE.piece, AMPLE.out)),
         &mut Counted::new(Narrow::new(&say, AMPLE.piece, AMPLE.say)),
@@ -198,7 +199,7 @@ fn run_all<T: Threads + Wait + Sync>(
 
 #[test]
 fn one_new_warning_passes_a_gate_on_errors(rt: HostRuntime) -> Result<(), Fail> {
-    let request = Request::of_standard_streams(rt.alloc())?;
+    let request = Request::of_standard_streams(rt.alloc(), seed()?)?;
     let ended = run(&rt, rt.alloc(), &request, Given::whole(LOG), AMPLE)?;
     assert_eq!(rt; ended.status, 0);
     assert_eq!(rt; ended.out.as_slice(), MERGED.as_bytes());
@@ -209,8 +210,8 @@ fn one_new_warning_passes_a_gate_on_errors(rt: HostRuntime) -> Result<(), Fail> 
 
 #[test]
 fn a_gate_on_warnings_fails(rt: HostRuntime) -> Result<(), Fail> {
-    let mut request = Request::of_standard_streams(rt.alloc())?;
-    request.policy.fail_on = Level::Warning;
+    let mut request = Request::of_standard_streams(rt.alloc(), seed()?)?;
+    request.options.policy.fail_on = Level::Warning;
     let ended = run(&rt, rt.alloc(), &request, Given::whole(LOG), AMPLE)?;
     assert_eq!(rt; ended.status, 1);
     assert!(rt; ended.say.ends_with(b"\ngate: fail, hits 1, max 0\n"));
@@ -219,9 +220,9 @@ fn a_gate_on_warnings_fails(rt: HostRuntime) -> Result<(), Fail> {
 
 #[test]
 fn a_gate_that_lets_one_warning_pass(rt: HostRuntime) -> Result<(), Fail> {
-    let mut request = Request::of_standard_streams(rt.alloc())?;
-    request.policy.fail_on = Level::Warning;
-    request.policy.max = 1;
+    let mut request = Request::of_standard_streams(rt.alloc(), seed()?)?;
+    request.options.policy.fail_on = Level::Warning;
+    request.options.policy.max = 1;
     let ended = run(&rt, rt.alloc(), &request, Given::whole(LOG), AMPLE)?;
     assert_eq!(rt; ended.status, 0);
     assert!(rt; ended.say.ends_with(b"\ngate: pass, hits 1, max 1\n"));
@@ -230,7 +231,7 @@ fn a_gate_that_lets_one_warning_pass(rt: HostRuntime) -> Result<(), Fail> {
 
 #[test]
 fn a_second_read_that_fails(rt: HostRuntime) -> Result<(), Fail> {
-    let request = Request::of_standard_streams(rt.alloc())?;
+    let request = Request::of_standard_streams(rt.alloc(), seed()?)?;
     let ended = run(&rt, rt.alloc(), &request, Given::failing(1), AMPLE)?;
     assert_eq!(rt; ended.status, 3);
     assert!(rt; ended.out.is_empty());
@@ -245,7 +246,7 @@ fn a_second_read_that_fails(rt: HostRuntime) -> Result<(), Fail> {
 /// The log ends with the eleventh read, and one more is needed to see it.
 #[test]
 fn each_read_that_is_reached_may_fail(rt: HostRuntime) -> Result<(), Fail> {
-    let request = Request::of_standard_streams(rt.alloc())?;
+    let request = Request::of_standard_streams(rt.alloc(), seed()?)?;
     for good in 0..12 {
         let ended = run(&rt, rt.alloc(), &request, Given::failing(good), AMPLE)?;
         assert_eq!(rt; ended.status, 3);
@@ -262,7 +263,7 @@ fn each_read_that_is_reached_may_fail(rt: HostRuntime) -> Result<(), Fail> {
 
 #[test]
 fn a_write_that_fails_leaves_the_beginning(rt: HostRuntime) -> Result<(), Fail> {
-    let request = Request::of_standard_streams(rt.alloc())?;
+    let request = Request::of_standard_streams(rt.alloc(), seed()?)?;
     let rooms = Rooms { out: 10, ..AMPLE };
     let ended = run(&rt, rt.alloc(), &request, Given::whole(LOG), rooms)?;
     assert_eq!(rt; ended.status, 3);
@@ -277,7 +278,7 @@ fn a_write_that_fails_leaves_the_beginning(rt: HostRuntime) -> Result<(), Fail> 
 
 #[test]
 fn a_write_may_fail_at_each_byte(rt: HostRuntime) -> Result<(), Fail> {
-    let request = Request::of_standard_streams(rt.alloc())?;
+    let request = Request::of_standard_streams(rt.alloc(), seed()?)?;
     for room in 0..MERGED.len() {
         let rooms = Rooms { out: room, ..AMPLE };
         let ended = run(&rt, rt.alloc(), &request, Given::whole(LOG), rooms)?;
@@ -291,7 +292,7 @@ fn a_write_may_fail_at_each_byte(rt: HostRuntime) -> Result<(), Fail> {
 
 #[test]
 fn a_writer_that_takes_a_byte_at_a_time(rt: HostRuntime) -> Result<(), Fail> {
-    let request = Request::of_standard_streams(rt.alloc())?;
+    let request = Request::of_standard_streams(rt.alloc(), seed()?)?;
     let rooms = Rooms { piece: 1, ..AMPLE };
     let ended = run(&rt, rt.alloc(), &request, Given::whole(LOG), rooms)?;
     assert_eq!(rt; ended.status, 0);
@@ -302,7 +303,7 @@ fn a_writer_that_takes_a_byte_at_a_time(rt: HostRuntime) -> Result<(), Fail> {
 
 #[test]
 fn a_lost_summary_is_told_by_the_status(rt: HostRuntime) -> Result<(), Fail> {
-    let request = Request::of_standard_streams(rt.alloc())?;
+    let request = Request::of_standard_streams(rt.alloc(), seed()?)?;
     let rooms = Rooms { say: 0, ..AMPLE };
     let ended = run(&rt, rt.alloc(), &request, Given::whole(LOG), rooms)?;
     assert_eq!(rt; ended.status, 3);
@@ -312,7 +313,7 @@ fn a_lost_summary_is_told_by_the_status(rt: HostRuntime) -> Result<(), Fail> {
 
 #[test]
 fn a_lost_complaint_changes_no_status(rt: HostRuntime) -> Result<(), Fail> {
-    let request = Request::of_standard_streams(rt.alloc())?;
+    let request = Request::of_standard_streams(rt.alloc(), seed()?)?;
     let rooms = Rooms {
         complain: 0,
         ..AMPLE

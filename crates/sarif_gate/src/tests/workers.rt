@@ -1,4 +1,4 @@
-//! That workers give the same log and work at once, and that what they found doesn't pile up.
+//! That workers give the same log, work at once, and judge each shard of the results once.
 use crate::tests::merging::{
     NOTHING, Wanted, expect_log, log_of, merge, merge_watched, one_log, write_watched,
 };
@@ -34,7 +34,7 @@ fn waits_for(flag: &AtomicU64) -> bool {
     false
 }
 
-/// The worker of each run waits for the worker of the other.
+/// The worker of each of the first two shards waits for the worker of the other.
 #[derive(Drop)]
 struct Meeting {
     started: [AtomicU64; 2],
@@ -86,38 +86,51 @@ fn two_workers_meet_over_what_a_reader_gives(rt: HostRuntime) -> Result<(), Fail
     Ok(())
 }
 
-/// Notes an item that is made while more than the room's parcels wait.
+/// Notes of which shards it heard, each by its bit, and how often.
 #[derive(Drop)]
-struct Room {
-    room: u64,
-    taken: AtomicU64,
-    misses: AtomicU64,
+struct Heard {
+    shards: AtomicU64,
+    times: AtomicU64,
 }
 
-impl Gate for Room {
-    fn making(&self, _run: u32, seq: u32) {
-        let taken = self.taken.load(Ordering::SeqCst);
-        if taken.wrapping_add(self.room).wrapping_add(1) < u64::from(seq) {
-            self.misses.store(1, Ordering::SeqCst);
+impl Heard {
+    fn new() -> Heard {
+        Heard {
+            shards: AtomicU64::new(0),
+            times: AtomicU64::new(0),
         }
     }
 
-    fn taken(&self, _run: u32, seq: u32) {
-        if seq == 0 {
-            waits_for(&self.misses);
+    fn hear(&self, shard: u32) {
+        if shard < 64 {
+            self.shards.fetch_or(1 << shard, Ordering::SeqCst);
         }
-        self.taken.fetch_add(1, Ordering::SeqCst);
+        self.times.fetch_add(1, Ordering::SeqCst);
+    }
+
+    fn shards(&self) -> u64 {
+        self.shards.load(Ordering::SeqCst)
+    }
+
+    fn times(&self) -> u64 {
+        self.times.load(Ordering::SeqCst)
     }
 }
 
-impl Room {
-    /// That of the merge.
-    fn new() -> Room {
-        Room {
-            room: 256,
-            taken: AtomicU64::new(0),
-            misses: AtomicU64::new(0),
-        }
+/// Looks on while shards of results are judged and taken.
+#[derive(Drop)]
+struct Onlooker {
+    made: Heard,
+    taken: Heard,
+}
+
+impl Gate for Onlooker {
+    fn making(&self, run: u32, _seq: u32) {
+        self.made.hear(run);
+    }
+
+    fn taken(&self, run: u32, _seq: u32) {
+        self.taken.hear(run);
     }
 }
 
@@ -130,24 +143,30 @@ fn run_of_many(alloc: Global, times: u32) -> Result<String, AllocError> {
     Ok(runs)
 }
 
+/// 1,000 results of one run are 16 shards to one worker: 63 results each, and 55 in the last.
 #[test]
-fn room_bounds_what_waits(rt: HostRuntime) -> Result<(), Fail> {
+fn each_shard_is_judged_and_taken_once(rt: HostRuntime) -> Result<(), Fail> {
     let runs = run_of_many(rt.alloc(), 1_000)?;
     let given = one_log(rt.alloc(), runs.as_str())?;
-    let observer = Room::new();
+    let observer = Onlooker {
+        made: Heard::new(),
+        taken: Heard::new(),
+    };
     merge_watched(&rt, &given, &observer)?;
-    assert_eq!(rt; observer.misses.load(Ordering::SeqCst), 0);
-    assert_eq!(rt; observer.taken.load(Ordering::SeqCst), 1000);
+    assert_eq!(rt; observer.made.shards(), 0xffff);
+    assert_eq!(rt; observer.made.times(), 16);
+    assert_eq!(rt; observer.taken.shards(), 0xffff);
+    assert_eq!(rt; observer.taken.times(), 16);
     Ok(())
 }
 
+/// The results of one run are shared out, so that a log of one run keeps many workers busy.
 #[test]
-fn room_bounds_what_waits_of_what_a_reader_gives(rt: HostRuntime) -> Result<(), Fail> {
-    let runs = run_of_many(rt.alloc(), 1_000)?;
-    let log = log_of(rt.alloc(), runs.as_str())?;
-    let observer = Room::new();
-    write_watched(&rt, log.as_str().as_bytes(), 1, &observer)?;
+fn results_of_one_run_are_shared_out(rt: HostRuntime) -> Result<(), Fail> {
+    let mut given = one_log(rt.alloc(), "lint: A A")?;
+    given.workers = 2;
+    let observer = Meeting::new();
+    merge_watched(&rt, &given, &observer)?;
     assert_eq!(rt; observer.misses.load(Ordering::SeqCst), 0);
-    assert_eq!(rt; observer.taken.load(Ordering::SeqCst), 1000);
     Ok(())
 }

@@ -1,5 +1,5 @@
-use super::{expect_written, result_at, rules_of, with_own};
-use crate::{Marks, Suppressions};
+use super::{Plain, expect_written, result_at, rules_of, with_own};
+use crate::Marks;
 use sarif_records::{Record, Status, Text};
 use std::alloc::{AllocError, Global};
 use std::process::Abort;
@@ -69,7 +69,7 @@ fn equal_objects_are_written_once(rt: HostRuntime) -> Result<(), Fail> {
 /// Asserts that after these own suppressions the object of the entry is written.
 fn expect_kept(
     rt: &(impl Abort + AllocGlobal),
-    rules: &Suppressions,
+    rules: &Plain,
     finding: &Record,
     own: &str,
 ) -> Result<(), Fail> {
@@ -119,7 +119,7 @@ fn entries_are_applied_in_file_order(rt: HostRuntime) -> Result<(), Fail> {
 /// Asserts which entries match a result at the place `a.c` with that rule id and guid.
 fn expect_entries(
     rt: &(impl Abort + AllocGlobal),
-    rules: &Suppressions,
+    rules: &Plain,
     rule_id: &str,
     guid: Option<u128>,
     wanted: &[u32],
@@ -179,7 +179,7 @@ fn entries_are_found_by_whatever_they_ask_for(rt: HostRuntime) -> Result<(), Fai
 /// Asserts the entries that match a result of the rule `R1` at that uri, with these fingerprints.
 fn expect_found(
     rt: &(impl Abort + AllocGlobal),
-    rules: &Suppressions,
+    rules: &Plain,
     uri: &str,
     fingerprints: &[(&str, &str)],
     wanted: &[u32],
@@ -197,12 +197,7 @@ fn expect_found(
 }
 
 /// Sets the marks of a result with that rule id.
-fn mark(
-    alloc: Global,
-    rules: &Suppressions,
-    marks: &mut Marks,
-    rule_id: &str,
-) -> Result<(), AllocError> {
+fn mark(alloc: Global, rules: &Plain, marks: &mut Marks, rule_id: &str) -> Result<(), AllocError> {
     let finding = result_at(alloc, rule_id, None)?;
     let applied = rules.apply(alloc, &finding)?;
     marks.set(&applied);

@@ -1,6 +1,6 @@
 use Rattle.std.proofs.Common.{ap, nat_eq, subst, sym, ◌∙◌, ◌+◌}
-use Rattle.sarif_merge.specs.Faults.{faults_of}
-use Rattle.sarif_merge.specs.FromReaders.{given_by}
+use Rattle.sarif_inputs.specs.Faults.{faults_of}
+use Rattle.sarif_merge.specs.Given.{given_by}
 use Rattle.sarif_sources.proofs.ReadersRead.{were_read_quiet}
 use Rattle.sarif_sources.specs.Counted.{failed_calls, RisesIf}
 use Rattle.sarif_sources.specs.WereRead.{failures}
@@ -15,7 +15,7 @@ pub returns-in-Ok-clause-faulty : goal.returns-in-Ok-clause-faulty
 returns-in-Ok-clause-faulty g c = λ contents tell read faulty.
     let from = c.in-Ok.ensures.merged in
     let same = c.sources_are_read_in_one_way.ensures _ _ contents from.0 tell read from.1 in
-    absurd (faulty (ap (λ x. faults_of (given_by x c.args.request.now.today)) same ∙ from.2.faultless))
+    absurd (faulty (ap (λ x. faults_of (given_by x c.args.request.now.options.today)) same ∙ from.2.faultless))
 
 pub returns-in-Err-clause-faulty : goal.returns-in-Err-clause-faulty
 returns-in-Err-clause-faulty g c = λ contents tell read faulty.
@@ -27,7 +27,7 @@ returns-in-Err-clause-faulty g c = λ contents tell read faulty.
 pub returns-in-Err-clause-failed : goal.returns-in-Err-clause-failed
 returns-in-Err-clause-failed g c =
     let before = failures c.args.readers.now in
-    let after = failures c.merge_readers-merged.new.readers in
+    let after = failures c.merge_readers.new.readers in
     let out = failed_calls c.args.out.now in
     let say = failed_calls c.args.say.now in
     subst (λ status. RisesIf (nat_eq status 3) (before + out + say) (after + out + say)) (sym c.refuse.ensures)

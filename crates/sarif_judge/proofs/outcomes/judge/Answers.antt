@@ -1,9 +1,9 @@
-use Rattle.std.proofs.Common.{rules, ◌≡◌, ◌<◌, ◌≤◌, ◌+◌, ◌*◌, ◌/◌, length, map, ap, ◌∙◌, sym, refl, subst, arith}
+use Rattle.std.proofs.Common.{rules, ◌≡◌, ◌<◌, ◌≤◌, ◌+◌, ◌*◌, ◌/◌, [], length, map, ap, ◌∙◌, sym, refl, subst, arith}
 use Rattle.std.specs.List.{All}
 use Rattle.sarif_judge.specs.Opened.{placed_of}
 use Rattle.sarif_judge.specs.Outcomes.{all_outcomes}
 use Rattle.sarif_judge.specs.Spots.{outcome_at, spots_from, IsSpotOf}
-use Rattle.sarif_judge.proofs.AllSpots.{spots_count, shard_size, shard_count, shards_enough}
+use Rattle.sarif_judge.proofs.AllSpots.{none_long, spots_count, shard_size, shard_count, shards_enough}
 use Rattle.sarif_judge.proofs.Places.{outcomes_at_spots}
 use Rattle.sarif_judge.proofs.Shards.{all_parts}
 use Rattle.sarif_judge.proofs.SpotsWithin.{spots_within}
@@ -44,3 +44,11 @@ returns g c =
     ∙ all_parts c.args.rules.now ps size shards c.deref.result.now c.in_ok-lists.lists c.in_ok-lists.ensures enough
     ∙ ap (map (outcome_at c.args.rules.now ps)) are
     ∙ outcomes_at_spots c.args.rules.now ps
+
+pub returns-then-is_empty : goal.returns-then-is_empty
+returns-then-is_empty g c =
+    let ps = map placed_of c.args.runs.now in
+    let spots = c.in_ok-spots.spots.items in
+    let short : length spots ≡ 0 = search rules in
+    let new : c.new.result.items ≡ [] = search rules in
+    new ∙ ap (map (outcome_at c.args.rules.now ps)) (sym (none_long spots short) ∙ c.in_ok-spots.ensures) ∙ outcomes_at_spots c.args.rules.now ps

@@ -1,0 +1,19 @@
+-- What a merge is given.
+use Rattle.std.specs.Prelude.{ℕ, List, Option}
+use Rattle.sarif_sources.specs.declared.readers.SourceBytes.{SourceBytes}
+use Rattle.sarif_sources.specs.WereRead.{SourceContents, contents_of}
+use Rattle.sarif_inputs.specs.Inputs.{Inputs}
+use Rattle.sarif_merge.specs.declared.options.Options.{Options}
+
+-- what is given as these bytes
+abbrev pub given : List (List ℕ) → List (List ℕ) → Option (List ℕ) → Option ℕ → Inputs
+given logs baselines suppressions today =
+    record { logs = logs; baselines = baselines; suppressions = suppressions; today = today }
+
+-- the same on a day
+abbrev pub given_by : SourceContents → Option ℕ → Inputs
+given_by contents today = given contents.logs contents.baselines contents.suppressions today
+
+-- the inputs of a merge of these sources
+abbrev pub inputs_of : SourceBytes → Options → Inputs
+inputs_of sources options = given_by (contents_of sources) options.today

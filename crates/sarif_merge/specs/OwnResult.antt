@@ -1,0 +1,44 @@
+-- A result of an input run, and what is written for it.
+use Rattle.std.specs.Prelude.{ℕ, ◌+◌, ◌<◌, List, Option, None, length, slice_index_or, take}
+use Rattle.serde_json.specs.Data.{Data, null}
+use Rattle.sarif_records.specs.declared.record.Record.{Record}
+use Rattle.sarif_records.specs.Run.{results_of, results_total}
+use Rattle.sarif_match.specs.Partners.{partners_of}
+use Rattle.sarif_match.specs.State.{state_of}
+use Rattle.sarif_judge.specs.Judging.{records_of}
+use Rattle.sarif_write.specs.MergedRuns.{written}
+use Rattle.sarif_assemble.specs.LogBy.{data_of, listing_of, partner_in}
+use Rattle.sarif_inputs.specs.Inputs.{Inputs, input_runs, baseline_runs}
+use Rattle.sarif_merge.specs.MergedLog.{current_of, file_given, written_inputs}
+
+-- input run k, as it was read
+abbrev pub run_at : Inputs → ℕ → Data
+run_at inputs k = slice_index_or (data_of (input_runs inputs)) k null
+
+-- input run k, as it is written
+abbrev pub written_run : Inputs → ℕ → Data
+written_run inputs k = slice_index_or (written_inputs inputs) k null
+
+-- there is an input run k, and it has a result seq
+abbrev pub IsResult : Inputs → ℕ → ℕ → Type 0
+IsResult inputs k seq =
+    (k < length (input_runs inputs)) × (seq < length (results_of (run_at inputs k)))
+
+-- the number of result seq of input run k among the results of all input runs
+abbrev pub place_of : Inputs → ℕ → ℕ → ℕ
+place_of inputs k seq = results_total (take k (data_of (input_runs inputs))) + seq
+
+abbrev pub baseline_of : Inputs → List Record
+baseline_of inputs = records_of (baseline_runs inputs)
+
+-- the partner in the baseline of the current result with that number, where it has one
+abbrev pub partner_at : Inputs → ℕ → Option Record
+partner_at inputs place =
+    let partners = partners_of (current_of inputs) (baseline_of inputs) in
+    partner_in (baseline_of inputs) (slice_index_or partners place None)
+
+-- the current result with that number, as it is written: with the level of this record, the baseline state of the
+-- record beside its partner, and its own suppressions with those that the suppression file adds
+abbrev pub written_by : Inputs → Record → ℕ → Data → Data
+written_by inputs r place result =
+    written (listing_of (file_given inputs)) r (state_of r (partner_at inputs place)) result
