@@ -93,7 +93,8 @@ pub fn markdown_rows_have_their_cells()
 /// Read as JSON, the report for GitLab is the array of its objects, whatever their texts hold: no log makes an object
 /// or a member of its own.
 pub fn gitlab_reports_read_back()
-    ensures { (reporting : Reporting) (log : Data) → document (gitlab_of (reported_of reporting log))
+    ensures { (reporting : Reporting) (log : Data)
+        → document (gitlab_of (reported_of reporting log))
         ≡ Some (outline (array (items_after [] (reported_of reporting log)))) }
 {}
 
