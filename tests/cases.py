@@ -34,6 +34,7 @@ class Case:
 
     `prepare` makes what else stands in the folder, and what it answers is handed to `look`, which looks at
     the folder afterwards. The words in `beside` are those of further programs that run at the same time.
+    Where root runs a case of `is_nobody`, the program runs as nobody, whom modes forbid what they say.
     """
 
     group: str
@@ -49,6 +50,8 @@ class Case:
     streams: dict = field(default_factory=dict)
     open_files: Optional[int] = None
     file_size: Optional[int] = None
+    seconds: int = 60
+    is_nobody: bool = False
     beside: list = field(default_factory=list)
     prepare: Optional[Callable] = None
     check: Optional[Callable] = None

@@ -11,7 +11,7 @@ from cases import Answer
 
 ROOT = Path(__file__).resolve().parent.parent
 PROGRAM = ROOT / "crates/sarif_gate/out/sarif_gate"
-SECONDS = 60
+NOBODY = 65_534
 
 
 def program(given=None):
@@ -29,6 +29,8 @@ def program(given=None):
 
 def answer(command, case, folder):
     """Runs a case in a folder of its own."""
+    if case.is_nobody:
+        Path(folder).chmod(0o777)
     for name, given in case.files.items():
         Path(folder, name).write_bytes(given)
     kept = case.prepare(Path(folder)) if case.prepare else None
@@ -59,11 +61,15 @@ def started(command, words, case, folder):
 
 
 def limited(case):
-    """Sets the limits of a case. A write past the limit of a file's size fails, and doesn't end the program."""
+    """Sets the limits and the user of a case. A write past the limit of a file's size fails, and doesn't end the program."""
     limits = {resource.RLIMIT_NOFILE: case.open_files, resource.RLIMIT_FSIZE: case.file_size}
     for name, most in limits.items():
         if most is not None:
             resource.setrlimit(name, (most, most))
+    if case.is_nobody and os.geteuid() == 0:
+        os.setgroups([])
+        os.setgid(NOBODY)
+        os.setuid(NOBODY)
     signal.signal(signal.SIGXFSZ, signal.SIG_IGN)
 
 
@@ -71,11 +77,11 @@ def ended(ran, case):
     """The status and the streams of a program that ended."""
     given = {} if "stdin" in case.streams else {"input": case.stdin}
     try:
-        stdout, stderr = ran.communicate(timeout=SECONDS, **given)
+        stdout, stderr = ran.communicate(timeout=case.seconds, **given)
     except subprocess.TimeoutExpired:
         ran.kill()
         ran.communicate()
-        return -1, b"", f"no end after {SECONDS} seconds".encode()
+        return -1, b"", f"no end after {case.seconds} seconds".encode()
     return ran.returncode, stdout or b"", stderr or b""
 
 

@@ -4,3 +4,4 @@ pub mod Numbers
 pub mod Rows
 pub mod Told
 pub mod Quiet
+pub mod Written

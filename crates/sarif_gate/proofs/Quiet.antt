@@ -22,8 +22,8 @@ no_rise true old new rise same = absurd (omega (arith, rise, same))
 no_rise false old new rise same = refl
 
 -- a refusal that is no failed write has status 3 just where a read failed
-pub refused_rise : (cause : Cause) (old new out say : ℕ) → is_write_failed cause ≡ false → RisesIf (is_read_failed cause) old new
-    → RisesIf (nat_eq (status_of cause) 3) (old + out + say) (new + out + say)
-refused_rise ReadFailed old new out say written rise = omega (arith, rise)
-refused_rise WriteFailed old new out say written rise = cc
-refused_rise _ old new out say written rise = omega (arith, rise)
+pub refused_rise : (cause : Cause) (old new written : ℕ) → is_write_failed cause ≡ false → RisesIf (is_read_failed cause) old new
+    → RisesIf (nat_eq (status_of cause) 3) (old + written) (new + written)
+refused_rise ReadFailed old new written quiet rise = omega (arith, rise)
+refused_rise WriteFailed old new written quiet rise = cc
+refused_rise _ old new written quiet rise = omega (arith, rise)

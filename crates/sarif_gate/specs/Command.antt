@@ -3,7 +3,7 @@ use Rattle.std.specs.Prelude.{◌≡◌, List, [], ◌∷◌, map, true, Some, p
 use Rattle.std.specs.Borrow.{Bor}
 use Rattle.clap.specs.Words.{App, Rule, Text, new_app, new_rule, with_rule}
 use Rattle.clap.specs.Simple.{on_top}
-use Rattle.clap.specs.declared.builder.action.ArgAction.TheVariants.{Append}
+use Rattle.clap.specs.declared.builder.action.ArgAction.TheVariants.{Append, SetTrue}
 use Rattle.clap.specs.declared.builder.value_parser.ValueParser.TheVariants.{Signed, Names}
 
 -- a word with one value: `--name VALUE`
@@ -41,20 +41,43 @@ workers_rule = record (option_rule (codes "workers")) {
   defaults = codes "4" ∷ [];
 }
 
+-- a word with no value: `--explain`
+abbrev pub explain_rule : Rule
+explain_rule = record (new_rule (codes "explain")) { long = Some (codes "explain"); action = Some SetTrue }
+
 -- the names of the levels, as `--fail-on` takes them
 abbrev pub level_texts : List Text
 level_texts = codes "error" ∷ codes "warning" ∷ codes "note" ∷ codes "none" ∷ []
 
-abbrev pub start : App
-start = on_top (λ s. record s { no_binary_name = true }) (new_app (codes "sarif_gate"))
+-- a reference to the names of the levels
+abbrev pub AreLevels : Bor (List (Bor Text)) → Type 0
+AreLevels levels = map (λ level. level.now) levels.now ≡ level_texts
 
--- all words; `levels` refers to the names of the levels
-unfoldable pub program : Bor (List (Bor Text)) → App
-program levels =
+-- a command with a version, whose words begin with no name of the program
+abbrev pub start : App
+start = on_top (λ s. record s { no_binary_name = true; has_version = true }) (new_app (codes "sarif_gate"))
+
+-- the words for the merge; `levels` refers to the names of the levels
+abbrev pub merging : Bor (List (Bor Text)) → App
+merging levels =
     with_rule (with_rule (with_rule (with_rule (with_rule (with_rule (with_rule (with_rule start
     log_rule) out_rule) baseline_rule) suppress_rule) today_rule) (fail_on_rule levels)) max_rule) workers_rule
 
--- a command that understands just these words
+-- and those for reports and explanations
+abbrev pub reporting : App → App
+reporting app =
+    with_rule (with_rule (with_rule (with_rule (with_rule (with_rule (with_rule app
+    (option_rule (codes "text"))) (option_rule (codes "github"))) (option_rule (codes "markdown")))
+    (option_rule (codes "gitlab"))) (option_rule (codes "html"))) (option_rule (codes "root"))) explain_rule
+
+-- all words
+unfoldable pub program : Bor (List (Bor Text)) → App
+program levels = reporting (merging levels)
+
+-- a command that understands just the words for the merge
+abbrev pub IsMerging : App → Type 0
+IsMerging app = (levels : Bor (List (Bor Text))) × AreLevels levels × (app ≡ merging levels)
+
+-- a command that understands just all words
 abbrev pub IsProgram : App → Type 0
-IsProgram app = (levels : Bor (List (Bor Text)))
-    × (map (λ level. level.now) levels.now ≡ level_texts) × (app ≡ program levels)
+IsProgram app = (levels : Bor (List (Bor Text))) × AreLevels levels × (app ≡ program levels)

@@ -1,5 +1,9 @@
 pub mod Command
+pub mod ForReport
+pub mod Kept
 pub mod Named
+pub mod Names
+pub mod Reports
 pub mod Status
 pub mod Words
 pub mod Writing

@@ -1,22 +1,65 @@
-//! The line that tells why a merge was refused.
-ghost use Rattle.std.specs.Prelude.{◌<◌, ◌^◌};
+//! The line that tells what stopped a run.
+ghost use Rattle.std.specs.Prelude.{◌≡◌, ◌<◌, ◌^◌, Some};
 ghost use Rattle.sarif_sources.specs.Counted.{failed_calls};
 
 use sarif_merge::{Counted, MergeFault, write_out};
+use sarif_report::Report;
+use std::fmt;
 use std::io::{Cursor, Write};
 
 /// More bytes than any line has: two words, three numbers of ten digits and the longest cause.
 const LINE: usize = 160;
 
-/// Writes `sarif_gate: ` and the fault's text as one line, without memory. Where the line isn't taken,
-/// nothing more can be told.
-pub fn complain_of<E: Write>(complain: &mut Counted<E>, fault: &MergeFault)
-    requires { failed_calls complain.old < 2 ^ 63 }
-{
-    let mut line = Cursor::new([0u8; LINE]);
-    if writeln!(line, "sarif_gate: {fault}").is_ok() {
-        let length = LINE.min(line.position() as usize);
-        let text = line.into_inner();
-        let _ = write_out(complain, &text[..length]);
+/// What stopped a run.
+#[derive(Clone, Copy, Debug, PartialEq, Eq)]
+pub enum Complaint {
+    /// The merge was refused, or the merged log was not written.
+    Fault(MergeFault),
+    /// A report was not written.
+    Lost(Report),
+}
+
+impl fmt::Display for Complaint {
+    fn fmt<W: fmt::Write>(&self, f: &mut fmt::Formatter<W>) -> fmt::Result {
+        match self {
+            Complaint::Fault(fault) => write!(f, "{fault}"),
+            Complaint::Lost(report) => write!(f, "{} report: WriteFailed", report.name()),
+        }
+    }
+}
+
+/// Where complaints go, and the last of them.
+#[derive(Debug, Drop)]
+pub struct Complaints<E> {
+    pub out: Counted<E>,
+    pub last: Option<Complaint>,
+}
+
+impl<E> Complaints<E> {
+    /// Nothing was complained of.
+    pub fn new(out: E) -> Complaints<E>
+        ensures none { failed_calls result.out ≡ 0 }
+    {
+        Complaints {
+            out: Counted::new(out),
+            last: None,
+        }
+    }
+}
+
+impl<E: Write> Complaints<E> {
+    /// Writes `sarif_gate: ` and the complaint as one line, without memory. Where the line isn't taken,
+    /// nothing more can be told.
+    pub fn complain(&mut self, complaint: Complaint)
+        requires { failed_calls self.old.out < 2 ^ 63 }
+        ensures last { self.new.last ≡ Some complaint }
+    {
+        self.last = Some(complaint);
+        let mut line = Cursor::new([0u8; LINE]);
+        if writeln!(line, "sarif_gate: {complaint}").is_ok() {
+            let length = LINE.min(line.position() as usize);
+            let text = line.into_inner();
+            let _ = write_out(&mut self.out, &text[..length]);
+        }
     }
 }

@@ -1,16 +1,21 @@
 //! How a run ends: what is told, and with which exit status.
-ghost use Rattle.std.specs.Prelude.{◌≡◌, ◌<◌, ◌≤◌, ◌+◌, ◌^◌, OnOk, is_err, nat_eq};
+ghost use Rattle.std.specs.Prelude.{◌≡◌, ◌<◌, ◌≤◌, ◌^◌, Some, nat_eq};
 ghost use Rattle.std.specs.Io.KnownBytes.{Appends};
 ghost use Rattle.sarif_sources.specs.Counted.{inner_of, failed_calls, RisesIf};
 ghost use Rattle.sarif_counts.specs.Counts.{count_at};
 ghost use Rattle.sarif_sources.specs.Fault.{status_of};
 ghost use Rattle.sarif_counts.specs.Summary.{summary_of};
+ghost use Rattle.sarif_gate.specs.Reports.{AreWritten, HaveRoom, report_for};
 ghost use Rattle.sarif_gate.specs.Status.{verdict_status};
+ghost use Rattle.sarif_gate.specs.Writing.{writer_failures};
+ghost use Rattle.sarif_gate.specs.declared.complaint.Complaint.TheVariants.{Fault};
 
-use crate::complaint::complain_of;
-use sarif_merge::{
-    At, Cause, Counted, Failed, MergeFault, Merged, Policy, Source, Verdict, summary, write_out,
-};
+use crate::complaint::{Complaint, Complaints};
+use crate::request::Request;
+use crate::telling::texts_of;
+use crate::writers::Writers;
+use crate::writing::{Lost, put_all};
+use sarif_merge::{At, Cause, MergeFault, Merged, Source, Verdict};
 use std::alloc::Global;
 use std::io::Write;
 
@@ -25,75 +30,66 @@ fn status_of_verdict(verdict: Verdict) -> u8
 }
 
 /// Tells why the merge was refused: the status.
-pub fn refuse<E: Write>(complain: &mut Counted<E>, fault: MergeFault) -> u8
-    requires { failed_calls complain.old < 2 ^ 63 }
-    ensures { result ≡ status_of fault.cause }
+pub fn refuse<E: Write>(complaints: &mut Complaints<E>, fault: MergeFault) -> u8
+    requires { failed_calls complaints.old.out < 2 ^ 63 }
+    ensures status { result ≡ status_of fault.cause }
+    ensures told { complaints.new.last ≡ Some (Fault fault) }
 {
-    complain_of(complain, &fault);
+    complaints.complain(Complaint::Fault(fault));
     fault.cause.status()
 }
 
-/// Writes a text whole, and then no bytes, which ends it: the writer commits what it took.
-#[tactic(auto, using(crate::proofs::Ended::ended))]
-fn put_out<W: Write>(out: &mut Counted<W>, text: &[u8]) -> Result<(), Failed>
-    requires { failed_calls out.old < 2 ^ 63 }
-    ensures whole { OnOk result (Appends (W.contents (inner_of out.old))
-        (W.contents (inner_of out.new)) text.now) }
-    ensures counted { RisesIf (is_err result) (failed_calls out.old) (failed_calls out.new) }
+/// Tells what was not written: the status. A lost summary is told by the status alone.
+fn tell_lost<E: Write>(complaints: &mut Complaints<E>, lost: Lost) -> u8
+    requires { failed_calls complaints.old.out < 2 ^ 63 }
+    ensures { result ≡ 3 }
 {
-    match write_out(out, text) {
-        Ok(()) => {
-            out.write(b"")?;
-            Ok(())
+    match lost {
+        Lost::Log => {
+            let fault = MergeFault {
+                at: At::Whole(Source::Output),
+                cause: Cause::WriteFailed,
+            };
+            complaints.complain(Complaint::Fault(fault));
         }
-        Err(_) => Err(Failed),
+        Lost::Report(report) => complaints.complain(Complaint::Lost(report)),
+        Lost::Summary => {}
     }
+    3
 }
 
-/// Writes an accepted merge: its log to `out`, and then its summary to `say`, which is made before the
-/// first write. The status is that of the verdict, or 3 where one of them was not written, or 2 where memory
-/// for the summary was wanting, and then nothing was written.
-pub fn accept<W: Write, S: Write, E: Write>(
+/// Writes an accepted merge: its log, then the reports that there are writers for, and then its summary, all of
+/// which are made before the first write. The status is that of the verdict, or 3 where one of them was not
+/// written, or 2 where memory was wanting, and then nothing was written.
+pub fn accept<W: Write, S: Write, P: Write, E: Write>(
     alloc: Global,
     merged: &Merged,
-    policy: &Policy,
-    out: &mut Counted<W>,
-    say: &mut Counted<S>,
-    complain: &mut Counted<E>,
+    request: &Request,
+    writers: &mut Writers<W, S, P>,
+    complaints: &mut Complaints<E>,
 ) -> u8
-    requires out { failed_calls out.old < 2 ^ 63 }
-    requires say { failed_calls say.old < 2 ^ 63 }
-    requires complain { failed_calls complain.old < 2 ^ 63 }
+    requires out { failed_calls writers.old.out < 2 ^ 63 }
+    requires reports { HaveRoom writers.old.reports }
+    requires say { failed_calls writers.old.say < 2 ^ 63 }
+    requires complain { failed_calls complaints.old.out < 2 ^ 63 }
     ensures status { result < 2 → result ≡ verdict_status merged.now.verdict }
-    ensures written { result < 2 → Appends (W.contents (inner_of out.old))
-        (W.contents (inner_of out.new)) merged.now.log }
-    ensures said { result < 2 → Appends (S.contents (inner_of say.old))
-        (S.contents (inner_of say.new)) (summary_of (count_at merged.now.counts) policy.now) }
-    ensures untouched { result ≡ 2 → out.new ≡ out.old }
-    ensures failed { RisesIf (nat_eq result 3) (failed_calls out.old + failed_calls say.old)
-        (failed_calls out.new + failed_calls say.new) }
-    ensures out_risen { failed_calls out.old ≤ failed_calls out.new }
-    ensures say_risen { failed_calls say.old ≤ failed_calls say.new }
+    ensures written { result < 2 → Appends (W.contents (inner_of writers.old.out))
+        (W.contents (inner_of writers.new.out)) merged.now.log }
+    ensures reported { result < 2 → AreWritten P.contents (report_for request.now merged.now)
+        writers.old.reports writers.new.reports }
+    ensures said { result < 2 → Appends (S.contents (inner_of writers.old.say))
+        (S.contents (inner_of writers.new.say))
+        (summary_of (count_at merged.now.counts) request.now.options.policy) }
+    ensures untouched { result ≡ 2 → writers.new ≡ writers.old }
+    ensures failed { RisesIf (nat_eq result 3)
+        (writer_failures writers.old) (writer_failures writers.new) }
     ensures known { result ≤ 3 }
 {
-    match summary(alloc, &merged.counts, policy) {
-        Ok(text) => match put_out(out, merged.log.as_str().as_bytes()) {
-            Ok(()) => match write_out(say, text.as_bytes()) {
-                Ok(()) => status_of_verdict(merged.verdict),
-                Err(_) => 3,
-            },
-            Err(_) => refuse(complain, lost_output()),
+    match texts_of(alloc, merged, request, &writers.reports) {
+        Ok(texts) => match put_all(writers, &merged.log, &texts) {
+            Ok(()) => status_of_verdict(merged.verdict),
+            Err(lost) => tell_lost(complaints, lost),
         },
-        Err(error) => refuse(complain, MergeFault::from(error)),
-    }
-}
-
-/// The merged log was not written.
-fn lost_output() -> MergeFault
-    ensures { status_of result.cause ≡ 3 }
-{
-    MergeFault {
-        at: At::Whole(Source::Output),
-        cause: Cause::WriteFailed,
+        Err(error) => refuse(complaints, MergeFault::from(error)),
     }
 }

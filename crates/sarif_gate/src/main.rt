@@ -1,47 +1,52 @@
 //! Merges SARIF 2.1.0 logs, and fails where too many new or updated results are left.
 #![tactic(auto)]
 
-ghost use Rattle.std.specs.Prelude.{◌≡◌, ◌≤◌, IfOk, IfErr, Result, length, map, option_map, string_bytes};
-ghost use Rattle.std.specs.List.{All};
-ghost use Rattle.sarif_sources.specs.Counted.{failed_calls};
-ghost use Rattle.sarif_sources.specs.OptionalReader.{failed_calls_if};
-ghost use Rattle.sarif_gate.specs.Named.{name_of, names_of};
+ghost use Rattle.std.specs.Prelude.{◌≡◌, ◌≤◌, IfOk, IfErr, Result, map, string_bytes};
 ghost use Rattle.sarif_gate.specs.Words.{Answers, words_status};
 ghost use Rattle.sarif_gate.specs.declared.request.Request.{Request as Asked};
 ghost use Rattle.sarif_gate.specs.declared.words.WordsFault.{WordsFault as Mistake};
 
+mod clash;
 mod command;
 mod complaint;
 mod ending;
+mod explaining;
 mod files;
+mod input;
+mod kept;
 mod output;
+mod outputs;
 mod place;
+mod reports;
 mod request;
 mod run;
 mod seed;
+mod sources;
+mod target;
+mod telling;
 mod words;
+mod writers;
+mod writing;
 
-use complaint::complain_of;
-use files::InputFile;
-use output::OutputFile;
-use place::Place;
+use complaint::{Complaint, Complaints};
+use explaining::Ended;
+use outputs::outputs_of;
 use request::Request;
 use run::run_request;
-use sarif_merge::{Counted, MergeFault, Readers};
-use sarif_records::Text;
+use sarif_merge::MergeFault;
 use seed::seed_of;
+use sources::sources_of;
 use std::alloc::AllocError;
 use std::hash::RandomState;
-use std::process::{self, ExitCode};
-use std::random::RandomSource;
+use std::process::ExitCode;
 use std::sync::Wait;
 use std::thread::Threads;
 use std::{env, io};
 use words::{WordsFault, read_words};
 
 fn main(rt: HostRuntime) -> ExitCode {
-    let status = match asked_of(&rt) {
-        Ok((words, seed)) if words.is_empty() => status_of(&rt, run_streams(&rt, &rt, seed)),
+    let status = match words_of(&rt) {
+        Ok((words, seed)) if words.is_empty() => run_streams(&rt, &rt, seed),
         Ok((words, seed)) => run_words(&rt, &rt, seed, words.as_slice()),
         Err(error) => {
             tell_unread(&rt, &error);
@@ -52,7 +57,7 @@ fn main(rt: HostRuntime) -> ExitCode {
 }
 
 /// The words after the program's name, and what the tables hash with.
-fn asked_of(rt: &HostRuntime) -> io::Result<(Vec<String>, RandomState)> {
+fn words_of(rt: &HostRuntime) -> io::Result<(Vec<String>, RandomState)> {
     let mut words = env::args(rt)?;
     let _program = words.next();
     let words = words.collect(rt.alloc())?;
@@ -60,46 +65,12 @@ fn asked_of(rt: &HostRuntime) -> io::Result<(Vec<String>, RandomState)> {
 }
 
 /// Merges one log from standard input to standard output, and says on standard error how it went.
-fn run_streams<T: Threads + Wait + Sync>(
-    rt: &HostRuntime,
-    threads: &T,
-    seed: RandomState,
-) -> Result<u8, AllocError>
-    ensures known { IfOk result (λ status. status ≤ 3) }
-{
-    let request = Request::of_standard_streams(rt.alloc(), seed)?;
-    let mut readers = Readers {
-        logs: vec![in rt.alloc(); Counted::new(rt.stdin())]?,
-        baselines: Vec::new(rt.alloc()),
-        suppressions: None,
-    };
-    let mut out = Counted::new(rt.stdout());
-    let mut say = Counted::new(rt.stderr());
-    let mut complain = Counted::new(rt.stderr());
-    Ok(run_request(
-        threads,
-        rt.alloc(),
-        &request,
-        &mut readers,
-        &mut out,
-        &mut say,
-        &mut complain,
-    ))
-}
-
-/// The status of a run. Where memory was wanting for its readers, that is told, and answered.
-fn status_of(rt: &HostRuntime, ended: Result<u8, AllocError>) -> u8
-    requires { IfOk ended (λ status. status ≤ 3) }
+fn run_streams<T: Threads + Wait + Sync>(rt: &HostRuntime, threads: &T, seed: RandomState) -> u8
     ensures known { result ≤ 3 }
 {
-    match ended {
-        Ok(status) => status,
-        Err(error) => {
-            let mut complain = Counted::new(rt.stderr());
-            let fault = MergeFault::from(error);
-            complain_of(&mut complain, &fault);
-            fault.cause.status()
-        }
+    match Request::of_standard_streams(rt.alloc(), seed) {
+        Ok(request) => status_of(rt, merge_named(rt, threads, &request)),
+        Err(error) => status_of(rt, Err(error)),
     }
 }
 
@@ -116,7 +87,7 @@ fn run_words<T: Threads + Wait + Sync>(
     ensures known { result ≤ 3 }
 {
     match read_words(rt.alloc(), seed, words) {
-        Ok(request) => status_of(rt, run_files(rt, threads, &request)),
+        Ok(request) => status_of(rt, merge_named(rt, threads, &request)),
         Err(fault) => {
             tell(rt, &fault);
             fault.status()
@@ -124,81 +95,49 @@ fn run_words<T: Threads + Wait + Sync>(
     }
 }
 
-/// Merges the files that are named.
-fn run_files<'a, T: Threads + Wait + Sync>(
-    rt: &'a HostRuntime,
+/// The status of a run. Where memory was wanting for its sources and outputs, that is told, and answered.
+fn status_of(rt: &HostRuntime, ended: Result<u8, AllocError>) -> u8
+    requires { IfOk ended (λ status. status ≤ 3) }
+    ensures known { result ≤ 3 }
+{
+    match ended {
+        Ok(status) => status,
+        Err(error) => {
+            let fault = MergeFault::from(error);
+            Complaints::new(rt.stderr()).complain(Complaint::Fault(fault));
+            fault.cause.status()
+        }
+    }
+}
+
+/// Merges the sources that are named into the outputs that are named.
+fn merge_named<T: Threads + Wait + Sync>(
+    rt: &HostRuntime,
     threads: &T,
-    request: &'a Request,
+    request: &Request,
 ) -> Result<u8, AllocError>
     ensures known { IfOk result (λ status. status ≤ 3) }
 {
     let mut readers = sources_of(rt, request)?;
-    let place = Place::of(rt, rt.alloc(), request.out.as_str(), number_of(rt))?;
-    let mut out = Counted::new(OutputFile::new(rt, &place));
-    let mut say = Counted::new(rt.stdout());
-    let mut complain = Counted::new(rt.stderr());
-    Ok(run_request(
+    let mut writers = outputs_of(rt, request)?;
+    let mut complaints = Complaints::new(rt.stderr());
+    let status = run_request(
         threads,
         rt.alloc(),
         request,
         &mut readers,
-        &mut out,
-        &mut say,
-        &mut complain,
-    ))
-}
-
-/// A number that hardly any other run has, for the name of a new file.
-fn number_of(rt: &HostRuntime) -> u64 {
-    let mut bytes = [0u8; 8];
-    match rt.fill_bytes(&mut bytes) {
-        Ok(()) => u64::from_le_bytes(bytes),
-        Err(_) => u64::from(process::id(rt.process())),
+        &mut writers,
+        &mut complaints,
+    );
+    if let (true, Some(complaint)) = (request.explain, complaints.last) {
+        let ended = Ended {
+            request,
+            readers: &readers,
+            writers: &writers,
+        };
+        ended.explain(rt, complaint);
     }
-}
-
-/// The files that a request names, none of them opened.
-fn sources_of<'a>(
-    rt: &'a HostRuntime,
-    request: &'a Request,
-) -> Result<Readers<InputFile<'a, HostRuntime>>, AllocError>
-    // Each name stands in the list that the request has it in.
-    ensures logs { IfOk result
-        (λ sources. names_of sources.logs.items ≡ «request».now.logs.items) }
-    ensures baselines { IfOk result
-        (λ sources. names_of sources.baselines.items ≡ «request».now.baselines.items) }
-    ensures suppressions { IfOk result
-        (λ sources. option_map name_of sources.suppressions ≡ «request».now.suppress) }
-    ensures fresh { IfOk result (λ sources. All (λ input. failed_calls input ≡ 0) sources.logs.items
-        × All (λ input. failed_calls input ≡ 0) sources.baselines.items
-        × (failed_calls_if sources.suppressions ≡ 0)) }
-{
-    let logs = inputs_of(rt, &request.logs)?;
-    let baselines = inputs_of(rt, &request.baselines)?;
-    let suppressions = match &request.suppress {
-        Some(name) => Some(Counted::new(InputFile::new(rt, name.as_str()))),
-        None => None,
-    };
-    Ok(Readers {
-        logs,
-        baselines,
-        suppressions,
-    })
-}
-
-/// The files of these names, in order, none of them opened.
-fn inputs_of<'a>(
-    rt: &'a HostRuntime,
-    names: &'a Vec<Text>,
-) -> Result<Vec<Counted<InputFile<'a, HostRuntime>>>, AllocError>
-    ensures names { IfOk result (λ v. names_of v.items ≡ names.now.items) }
-    ensures fresh { IfOk result (λ v. All (λ input. failed_calls input ≡ 0) v.items) }
-{
-    let mut inputs = Vec::new(rt.alloc());
-    for name in names {
-        inputs.push(Counted::new(InputFile::new(rt, name.as_str())))?;
-    }
-    Ok(inputs)
+    Ok(status)
 }
 
 /// Prints the help on standard output, and what is wrong with the words on standard error.

@@ -34,14 +34,14 @@ enum Writing<F> {
 #[derive(Drop)]
 pub struct OutputFile<'a, R, F> {
     files: &'a R,
-    place: &'a Place,
+    place: Place,
     writing: Writing<F>,
 }
 
 impl<'a, R, F> OutputFile<'a, R, F> {
     /// Opens nothing yet: nothing is known of `R` here by which it could.
-    pub fn new(files: &'a R, place: &'a Place) -> OutputFile<'a, R, F>
-        ensures place { result.place.now ≡ place.now }
+    pub fn new(files: &'a R, place: Place) -> OutputFile<'a, R, F>
+        ensures place { result.place ≡ place }
         ensures unopened { result.writing ≡ Unopened }
     {
         OutputFile {
@@ -53,25 +53,28 @@ impl<'a, R, F> OutputFile<'a, R, F> {
 }
 
 impl<R: Files> OutputFile<'_, R, R::File> {
-    /// Puts a text that was taken whole under its name. It fails where the new file can't be synced or renamed,
-    /// or a write failed before; then the old file stands.
+    /// Puts a text that was taken whole under its name; a text of no bytes makes an empty file. It fails where the
+    /// new file can't be made, synced or renamed, or a write failed before; then the old file stands.
     pub fn commit(&mut self) -> io::Result<()>
-        ensures place { self.new.place.now ≡ self.old.place.now }
+        ensures place { self.new.place ≡ self.old.place }
         ensures over { self.new.writing ≡ Over }
         // What was given up is never committed, nor anything twice.
         ensures once { self.old.writing ≡ Over → IsErr result }
-        ensures unopened { self.old.writing ≡ Unopened → IsOk result }
     {
-        match self.leave() {
-            Writing::Unopened | Writing::AsIs(_) => Ok(()),
-            Writing::Beside(file) => finish(self.files, self.place, &file),
-            Writing::Over => Err(ErrorKind::Other.into()),
+        let taken = match self.leave() {
+            Writing::Unopened => start(self.files, &self.place)?,
+            Writing::Over => return Err(ErrorKind::Other.into()),
+            taken => taken,
+        };
+        match taken {
+            Writing::Beside(file) => finish(self.files, &self.place, &file),
+            _ => Ok(()),
         }
     }
 
     /// How far the output was; it is over.
     fn leave(&mut self) -> Writing<R::File>
-        ensures place { self.new.place.now ≡ self.old.place.now }
+        ensures place { self.new.place ≡ self.old.place }
         ensures was { result ≡ self.old.writing }
         ensures over { self.new.writing ≡ Over }
     {
@@ -80,18 +83,18 @@ impl<R: Files> OutputFile<'_, R, R::File> {
 
     /// Lets the text go: no new file is left.
     fn give_up(&mut self)
-        ensures place { self.new.place.now ≡ self.old.place.now }
+        ensures place { self.new.place ≡ self.old.place }
         ensures over { self.new.writing ≡ Over }
     {
         if let Writing::Beside(_) = self.leave() {
-            remove_new(self.files, self.place);
+            remove_new(self.files, &self.place);
         }
     }
 
     /// Hands bytes to the open file.
     fn take(&mut self, buf: &[u8]) -> io::Result<usize>
         ensures bound { WritesAtMost result buf.now }
-        ensures place { self.new.place.now ≡ self.old.place.now }
+        ensures place { self.new.place ≡ self.old.place }
         ensures open { OnOk result (IsSome (file_of self.new.writing)) }
         ensures over { self.old.writing ≡ Over → self.new.writing ≡ Over }
         ensures spent { self.old.writing ≡ Over → IsErr result }
@@ -100,7 +103,7 @@ impl<R: Files> OutputFile<'_, R, R::File> {
             → WriteAppends (R.File.contents before) (R.File.contents after) result buf.now }
     {
         if matches!(self.writing, Writing::Unopened) {
-            self.writing = start(self.files, self.place)?;
+            self.writing = start(self.files, &self.place)?;
         }
         match &mut self.writing {
             Writing::AsIs(file) => file.write(buf),
@@ -114,7 +117,7 @@ impl<R: Files> Write for OutputFile<'_, R, R::File> {
     fn write(&mut self, buf: &[u8]) -> io::Result<usize>
         ensures bound { WritesAtMost result buf.now }
         ensures bytes { WriteAppends None None result buf.now }
-        ensures place { self.new.place.now ≡ self.old.place.now }
+        ensures place { self.new.place ≡ self.old.place }
         // Bytes are taken by an open file alone.
         ensures open { IfOk result (λ n. 0 < n → IsSome (file_of self.new.writing)) }
         // What is handed on is what the file took.
@@ -146,7 +149,7 @@ impl<R: Files> Write for OutputFile<'_, R, R::File> {
 
     fn flush(&mut self) -> io::Result<()>
         ensures bytes { Keeps None None }
-        ensures place { self.new.place.now ≡ self.old.place.now }
+        ensures place { self.new.place ≡ self.old.place }
         // Where nothing was written, nothing is opened, and that is fine.
         ensures unopened { self.old.writing ≡ Unopened
             → IsOk result × (self.new.writing ≡ Unopened) }

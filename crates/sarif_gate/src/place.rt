@@ -56,13 +56,15 @@ fn is_of_system(path: Path<'_>) -> bool {
     path.starts_with("/dev") || path.starts_with("/proc")
 }
 
-/// What a link names; nothing where no link stands.
+/// What a link names; nothing where no link stands. Where that can't be told it is an error.
 fn link_at<R: Files>(files: &R, alloc: Global, path: Path<'_>) -> io::Result<Option<PathBuf>> {
     match fs::symlink_metadata(files, path) {
         Ok(found) if found.is_symlink() => {
             let target = files.read_link(alloc, path.as_str())?;
             Ok(Some(target))
         }
-        _ => Ok(None),
+        Ok(_) => Ok(None),
+        Err(error) if error.kind() == ErrorKind::NotFound => Ok(None),
+        Err(error) => Err(error),
     }
 }

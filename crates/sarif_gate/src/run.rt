@@ -11,54 +11,59 @@ ghost use Rattle.sarif_counts.specs.Summary.{summary_of};
 ghost use Rattle.sarif_merge.specs.FromReaders.{IsMergedFrom};
 ghost use Rattle.sarif_merge.specs.Given.{given_by};
 ghost use Rattle.sarif_sources.specs.WereRead.{failures, AllTell, NoNumberFalls, SourceContents, WereRead};
+ghost use Rattle.sarif_gate.specs.Reports.{AreWritten, HaveRoom, report_for};
 ghost use Rattle.sarif_gate.specs.Status.{verdict_status};
+ghost use Rattle.sarif_gate.specs.Writing.{writer_failures};
 
+use crate::complaint::Complaints;
 use crate::ending::{accept, refuse};
 use crate::request::Request;
-use sarif_merge::{Counted, NoGate, Readers, merge_readers, sources_are_read_in_one_way};
+use crate::writers::Writers;
+use sarif_merge::{NoGate, Readers, merge_readers, sources_are_read_in_one_way};
 use std::alloc::Global;
 use std::io::{Read, Write};
 use std::sync::Wait;
 use std::thread::Threads;
 
-/// Merges what the readers give into `out`, writes the summary to `say`, or the fault to `complain`: the
-/// program's exit status. It is 0 where the gate passes and 1 where it fails, 3 where a read, a write of the
-/// merged log or the writing of the summary failed, and 2 where the merge was refused for another reason or
-/// memory was wanting, and then nothing was written. Where `complain` doesn't take the fault, the status is
-/// the same.
-pub fn run_request<R: Read, W: Write, S: Write, E: Write, T: Threads + Wait + Sync>(
+/// Merges what the readers give, and writes the merged log, then the reports that there are writers for, and then
+/// the summary; or it complains of what stopped it: the program's exit status. It is 0 where the gate passes and 1
+/// where it fails, 3 where a read or a write failed, and 2 where the merge was refused for another reason or memory
+/// was wanting, and then nothing was written. Where the complaint isn't taken, the status is the same.
+pub fn run_request<R: Read, W: Write, S: Write, P: Write, E: Write, T: Threads + Wait + Sync>(
     rt: &T,
     alloc: Global,
     request: &Request,
     readers: &mut Readers<R>,
-    out: &mut Counted<W>,
-    say: &mut Counted<S>,
-    complain: &mut Counted<E>,
+    writers: &mut Writers<W, S, P>,
+    complaints: &mut Complaints<E>,
 ) -> u8
     requires logs { All (λ reader. failed_calls reader < 2 ^ 63) readers.old.logs.items }
     requires baselines { All (λ reader. failed_calls reader < 2 ^ 63) readers.old.baselines.items }
     requires suppressions { failed_calls_if readers.old.suppressions < 2 ^ 63 }
-    requires writes { failed_calls out.old < 2 ^ 63 }
-    requires says { failed_calls say.old < 2 ^ 63 }
-    requires complains { failed_calls complain.old < 2 ^ 63 }
-    // 0 or 1 only where `out` got the merged log of what was read, and `say` got its summary; 0 with the
-    // verdict pass, and 1 with fail.
+    requires writes { failed_calls writers.old.out < 2 ^ 63 }
+    requires reports { HaveRoom writers.old.reports }
+    requires says { failed_calls writers.old.say < 2 ^ 63 }
+    requires complains { failed_calls complaints.old.out < 2 ^ 63 }
+    // 0 or 1 only where `out` got the merged log of what was read, each writer of a report got the report of
+    // this log, and `say` got its summary; 0 with the verdict pass, and 1 with fail.
     ensures accepted { result < 2 → (merged : Outcome) × (result ≡ verdict_status merged.verdict)
         × IsMergedFrom R.remaining readers.old readers.new
         «request».now.options.today «request».now.options.policy merged
-        × Appends (W.contents (inner_of out.old)) (W.contents (inner_of out.new)) merged.log
-        × Appends (S.contents (inner_of say.old)) (S.contents (inner_of say.new))
+        × Appends (W.contents (inner_of writers.old.out))
+        (W.contents (inner_of writers.new.out)) merged.log
+        × AreWritten P.contents (report_for «request».now merged)
+        writers.old.reports writers.new.reports
+        × Appends (S.contents (inner_of writers.old.say)) (S.contents (inner_of writers.new.say))
         (summary_of (count_at merged.counts) «request».now.options.policy) }
     // 3 exactly where a read or a write of one of these failed.
     ensures failed { RisesIf (nat_eq result 3)
-        (failures readers.old + failed_calls out.old + failed_calls say.old)
-        (failures readers.new + failed_calls out.new + failed_calls say.new) }
+        (failures readers.old + writer_failures writers.old)
+        (failures readers.new + writer_failures writers.new) }
     // A merge that is refused writes nothing.
-    ensures untouched { result ≡ 2 → out.new ≡ out.old }
+    ensures untouched { result ≡ 2 → writers.new ≡ writers.old }
     // None of these numbers fell.
     ensures risen { NoNumberFalls readers.old readers.new
-        × (failed_calls out.old ≤ failed_calls out.new)
-        × (failed_calls say.old ≤ failed_calls say.new) }
+        × (writer_failures writers.old ≤ writer_failures writers.new) }
     // Where all sources were read and one of them has a fault, it answers 2.
     ensures faulty { (contents : SourceContents) → AllTell R.remaining readers.old
         → WereRead R.remaining readers.old readers.new contents
@@ -67,7 +72,7 @@ pub fn run_request<R: Read, W: Write, S: Write, E: Write, T: Threads + Wait + Sy
 {
     sources_are_read_in_one_way::<R>();
     match merge_readers(rt, alloc, readers, &request.options, &NoGate) {
-        Ok(merged) => accept(alloc, &merged, &request.options.policy, out, say, complain),
-        Err(fault) => refuse(complain, fault),
+        Ok(merged) => accept(alloc, &merged, request, writers, complaints),
+        Err(fault) => refuse(complaints, fault),
     }
 }

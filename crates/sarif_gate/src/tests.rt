@@ -1,18 +1,27 @@
-//! Rows worked by hand through the merge's calls and the program's, the texts that no contract says,
-//! how readers and writers of other kinds are used, and what no clause can say: that workers overlap,
-//! and the bound on what waits.
+//! Rows worked by hand through the program's calls.
+use crate::seed::seed_of;
+use std::alloc::AllocError;
+use std::hash::RandomState;
+use std::io;
+use std::random::RandomSource;
 
 mod asking;
-mod baselines;
-mod counting;
-mod faults;
-mod merging;
-mod one_log;
-mod reading;
-mod refusing;
 mod running;
-mod suppressing;
-mod workers;
+
+/// A system without random bytes.
+#[derive(Drop)]
+struct NoBytes;
+
+impl RandomSource for NoBytes {
+    fn fill_bytes(&self, _buf: &mut [u8]) -> io::Result<()> {
+        Err(io::ErrorKind::Other.into())
+    }
+}
+
+/// The seed of a run that has no random bytes.
+fn seed() -> Result<RandomState, AllocError> {
+    seed_of(&NoBytes).map_err(|_| AllocError)
+}
 
 /// The log of one result without a level, merged: it counts as a new warning.
 const MERGED: &str = "{\"properties\":{\"gate\":{\"counts\":{\

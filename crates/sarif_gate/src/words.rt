@@ -1,11 +1,17 @@
 //! Reading the words of the command line.
-ghost use Rattle.std.specs.Prelude.{◌≡◌, ◌↔◌, IfOk, IsTrue, Some, map, string_bytes, option_and_then, codes};
+ghost use Rattle.std.specs.Prelude.{◌≡◌, ◌↔◌, IfOk, IsTrue, [], map, unwrap_or, string_bytes, option_and_then, codes};
 ghost use Rattle.clap.specs.Words.{kind_of, rows_of, found_of, first_of, one_of};
 ghost use Rattle.sarif_records.specs.Level.{level_named};
 ghost use Rattle.sarif_counts.specs.Policy.{default_policy};
-ghost use Rattle.sarif_gate.specs.Words.{words_status, Tells, AsksFor, Answers, fail_on_in, values_of, IsRead, IsReadOr, IsUsageOrWanting};
+ghost use Rattle.sarif_gate.specs.Words.{words_status, Tells, IsAsked, AsksFor, Answers, IsRead, IsReadOr, IsUsageOrWanting};
+ghost use Rattle.sarif_gate.specs.Words.{fail_on_in, is_set, reports_in, values_of};
 
-use crate::command::{BASELINE, FAIL_ON, LOG, MAX, OUT, SUPPRESS, TODAY, WORKERS, command};
+use crate::clash::{Clash, clash_of};
+use crate::command::{
+    BASELINE, EXPLAIN, FAIL_ON, GITHUB, GITLAB, HTML, LOG, MARKDOWN, MAX, OUT, ROOT, SUPPRESS,
+    TEXT, TODAY, WORKERS, command,
+};
+use crate::reports::Reports;
 use crate::request::Request;
 use clap::ArgMatches;
 use clap::error::ErrorKind;
@@ -14,26 +20,19 @@ use sarif_records::{Level, Text};
 use std::alloc::{AllocError, AllocFailed, Global};
 use std::hash::RandomState;
 
-/// What is said where the merged log would take the place of the suppression file.
-const ONE_NAME: &str = "\
-error: --out and --suppress name one file, which the merged log would replace
-
-For more information, try '--help'.
-";
-
 /// Why the words make no request.
 #[derive(Debug, Drop)]
 pub enum WordsFault {
     /// The words are wrong: the text says how.
     Usage(Text),
-    /// The help was asked for: the text is the help.
+    /// The help or the version was asked for: the text is that.
     Help(Text),
     /// Memory was wanting.
     OutOfMemory,
 }
 
 impl WordsFault {
-    /// The program's exit status: 0 where the help was asked for, else 2.
+    /// The program's exit status: 0 where the help or the version was asked for, else 2.
     pub fn status(&self) -> u8
         ensures { result ≡ words_status self.now }
     {
@@ -55,8 +54,8 @@ impl From<AllocError> for WordsFault {
     }
 }
 
-/// What the words after the program's name ask for. `Usage` where they are wrong, also where the merged log would
-/// take the place of the suppression file; `Help` where they ask for it. The tables of the merge hash with `seed`.
+/// What the words after the program's name ask for. `Usage` where they are wrong, also where names among them can't
+/// stand together; `Help` where they ask for the help or the version. The tables of the merge hash with `seed`.
 pub fn read_words(alloc: Global, seed: RandomState, words: &[String]) -> Result<Request, WordsFault>
     ensures { Answers (map string_bytes words.now) result }
 {
@@ -64,8 +63,8 @@ pub fn read_words(alloc: Global, seed: RandomState, words: &[String]) -> Result<
     match command.try_get_matches_from(words) {
         Ok(matches) => {
             let request = request_of(alloc, seed, &matches)?;
-            if replaces_suppressions(&request) {
-                return Err(one_name(alloc));
+            if let Some(clash) = clash_of(&request) {
+                return Err(usage_of(alloc, clash));
             }
             Ok(request)
         }
@@ -73,24 +72,21 @@ pub fn read_words(alloc: Global, seed: RandomState, words: &[String]) -> Result<
     }
 }
 
-/// Whether the merged log and the suppression file have one name.
-fn replaces_suppressions(request: &Request) -> bool
-    ensures { IsTrue result ↔ request.now.suppress ≡ Some request.now.out }
-{
-    match &request.suppress {
-        Some(name) => name.as_str() == request.out.as_str(),
-        None => false,
-    }
-}
-
-/// That they have.
-fn one_name(alloc: Global) -> WordsFault
+/// That names can't stand together, told as the parser tells a mistake.
+fn usage_of(alloc: Global, clash: Clash) -> WordsFault
     ensures { IsUsageOrWanting result }
 {
-    match Text::copy_of(alloc, ONE_NAME) {
+    match told_of(alloc, clash) {
         Ok(text) => WordsFault::Usage(text),
         Err(_) => WordsFault::OutOfMemory,
     }
+}
+
+/// The text of it.
+fn told_of(alloc: Global, clash: Clash) -> Result<Text, AllocError> {
+    let sentence = clash.sentence();
+    let text = format!(in alloc; "error: {sentence}\n\nFor more information, try '--help'.\n")?;
+    Text::from_string(text)
 }
 
 /// What was asked for. The ranges of the numbers were checked with the words.
@@ -105,7 +101,9 @@ fn request_of(
     let logs = names_of(alloc, matches, LOG)?;
     let baselines = names_of(alloc, matches, BASELINE)?;
     let suppress = name_of(alloc, matches, SUPPRESS)?;
-    let out = Text::copy_of(alloc, matches.get_str(OUT).unwrap_or(""))?;
+    let out = text_in(alloc, matches, OUT)?;
+    let reports = reports_of(alloc, matches)?;
+    let root = text_in(alloc, matches, ROOT)?;
     let options = Options {
         policy: policy_of(matches),
         today: number_of(matches, TODAY),
@@ -117,6 +115,9 @@ fn request_of(
         baselines,
         suppress,
         out,
+        reports,
+        root,
+        explain: is_set(matches, EXPLAIN),
         options,
     })
 }
@@ -153,6 +154,39 @@ fn name_of(alloc: Global, matches: &ArgMatches<'_>, id: &str) -> Result<Option<T
             Ok(Some(name))
         }
         None => Ok(None),
+    }
+}
+
+/// That value, and the empty text where there is none.
+#[tactic(auto, using(crate::proofs::Rows::first_in_rows))]
+fn text_in(alloc: Global, matches: &ArgMatches<'_>, id: &str) -> Result<Text, AllocError>
+    ensures { IfOk result
+        (λ text. text ≡ unwrap_or (first_of id.now (rows_of (found_of matches.now))) []) }
+{
+    Text::copy_of(alloc, matches.get_str(id).unwrap_or(""))
+}
+
+/// The names of the reports that are asked for.
+fn reports_of(alloc: Global, matches: &ArgMatches<'_>) -> Result<Reports<Text>, AllocError>
+    ensures { IfOk result (λ reports. reports ≡ reports_in (rows_of (found_of matches.now))) }
+{
+    Ok(Reports {
+        text: name_of(alloc, matches, TEXT)?,
+        github: name_of(alloc, matches, GITHUB)?,
+        markdown: name_of(alloc, matches, MARKDOWN)?,
+        gitlab: name_of(alloc, matches, GITLAB)?,
+        html: name_of(alloc, matches, HTML)?,
+    })
+}
+
+/// Whether a word with no value stands there.
+#[tactic(auto, using(crate::proofs::Rows::first_in_rows))]
+fn is_set(matches: &ArgMatches<'_>, id: &str) -> bool
+    ensures { result ≡ is_set id.now (rows_of (found_of matches.now)) }
+{
+    match matches.get_str(id) {
+        Some(text) => text == "true",
+        None => false,
     }
 }
 
@@ -198,10 +232,17 @@ fn fault_of(alloc: Global, error: &clap::Error) -> WordsFault
         return WordsFault::OutOfMemory;
     }
     match text_of(alloc, error) {
-        Ok(text) if error.kind() == ErrorKind::DisplayHelp => WordsFault::Help(text),
+        Ok(text) if is_asked(error.kind()) => WordsFault::Help(text),
         Ok(text) => WordsFault::Usage(text),
         Err(_) => WordsFault::OutOfMemory,
     }
+}
+
+/// Whether that is no mistake: the words ask for the help or for the version.
+fn is_asked(kind: ErrorKind) -> bool
+    ensures { IsTrue result ↔ IsAsked kind }
+{
+    kind == ErrorKind::DisplayHelp || kind == ErrorKind::DisplayVersion
 }
 
 /// What the parser of the words says of its answer.

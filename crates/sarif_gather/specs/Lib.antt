@@ -1,4 +1,5 @@
 pub mod Arriving
+pub mod Begun
 pub mod Claims
 pub mod Collecting
 pub mod Delivery

@@ -2,18 +2,20 @@
 ghost use Rattle.std.specs.Prelude.{◌≡◌, ◌≤◌, ◌<◌, ℕ, [], Some, slice_get, map, vec_len};
 ghost use Rattle.std.specs.Prelude.{IfOk, IfSome};
 ghost use Rattle.std.specs.List.{list_any};
-ghost use Rattle.sarif_gather.specs.Ends.{IsPostOf, IsDeskOf, IsNewPost};
-ghost use Rattle.sarif_gather.specs.Ends.{number_of, sent_by, taken_by};
-ghost use Rattle.sarif_gather.specs.Hands.{IsHandOf, drawn_by, runs_of};
+ghost use Rattle.sarif_gather.specs.Begun.{AreNewcomers};
+ghost use Rattle.sarif_gather.specs.Ends.{IsPostOf, IsNewPost, number_of, sent_by};
+ghost use Rattle.sarif_gather.specs.Hands.{IsHandOf, drawn_by};
 ghost use Rattle.sarif_gather.specs.Served.{IsServed};
 ghost use Rattle.sarif_gather.specs.Gathered.{IsGathered};
 ghost use Rattle.sarif_gather.specs.Pieces.{lists_of};
 
+mod crew;
 mod receiving;
 mod worker;
 
 use crate::collector::Collector;
 use crate::deal::{Deal, Hand};
+use crate::gathering::crew::{Crew, Workplace};
 use crate::gathering::receiving::receive;
 use crate::gathering::worker::{Back, serve};
 use crate::lists::Lists;
@@ -45,27 +47,24 @@ impl From<AllocError> for GatherFault {
 }
 
 /// What a started worker owes: the service of this worker.
-struct Service<'a, W: Work> {
-    work: &'a W,
-    deal: &'a Deal,
-    mailbox: &'a Mailbox<Parcel<W::Item, W::Tail>>,
+struct Service<'a, W: Work, G> {
+    place: &'a Workplace<'a, W, G>,
     worker: u32,
 }
 
-impl<'a, W: Work> Drop for Service<'a, W> {
+impl<'a, W: Work, G> Drop for Service<'a, W, G> {
     fn drop(self) {
         let Service {
-            work: _,
-            deal: _,
-            mailbox: _,
+            place: _,
             worker: _,
         } = self;
     }
 }
 
-impl<'a, W: Work> Promise<Back<Parcel<W::Item, W::Tail>>> for Service<'a, W> {
-    ghost kept_by = { λ p back. IsServed (W.count p.work.now) (W.item p.work.now) (W.end p.work.now)
-        p.mailbox.now p.deal.now p.worker back };
+impl<'a, W: Work, G> Promise<Back<Parcel<W::Item, W::Tail>>> for Service<'a, W, G> {
+    ghost kept_by = { λ p back. let place = p.place.now in let work = place.work.now in
+        IsServed (W.count work) (W.item work) (W.end work)
+        place.mailbox.now place.deal.now p.worker back };
 }
 
 // Starts one worker. None where no thread could be started.
@@ -73,35 +72,26 @@ fn start_one<'s, E, W: Work + Sync, G: Gate + Sync, R: Threads + Wait + Sync>(
     scope: &Scope<'s, E>,
     rt: &'s R,
     alloc: Global,
-    work: &'s W,
-    observer: &'s G,
-    deal: &'s Deal,
-    mailbox: &'s Mailbox<Parcel<W::Item, W::Tail>>,
+    place: &'s Workplace<'s, W, G>,
     post: Post<Parcel<W::Item, W::Tail>>,
     hand: Hand,
-) -> Option<PromisedHandle<Back<Parcel<W::Item, W::Tail>>, Service<'s, W>>>
-    requires deal { runs_of deal.now ≡ W.run_count work.now }
-    requires post { IsPostOf mailbox.now post × (sent_by post ≡ []) }
-    requires hand { IsHandOf deal.now hand × (drawn_by hand ≡ []) }
-    ensures { IfSome result (λ h. (h.promise.work.now ≡ work.now) × (h.promise.deal.now ≡ deal.now)
-        × (h.promise.mailbox.now ≡ mailbox.now) × (h.promise.worker ≡ number_of post)) }
+) -> Option<PromisedHandle<Back<Parcel<W::Item, W::Tail>>, Service<'s, W, G>>>
+    requires post { IsPostOf place.now.mailbox.now post × (sent_by post ≡ []) }
+    requires hand { IsHandOf place.now.deal.now hand × (drawn_by hand ≡ []) }
+    ensures { IfSome result (λ h. (h.promise.place.now ≡ place.now)
+        × (h.promise.worker ≡ number_of post)) }
 {
     let worker = post.number;
-    let service = Service {
-        work,
-        deal,
-        mailbox,
-        worker,
-    };
+    let service = Service { place, worker };
     let started = scope.spawn_with(
         service,
         move || -> Back<Parcel<W::Item, W::Tail>>
-            requires deal { runs_of deal.now ≡ W.run_count work.now }
-            requires post { IsPostOf mailbox.now post × (sent_by post ≡ []) }
-            requires hand { IsHandOf deal.now hand × (drawn_by hand ≡ []) }
-            ensures { IsServed (W.count work.entry.now) (W.item work.entry.now)
-                (W.end work.entry.now) mailbox.entry.now deal.entry.now (number_of post) result }
-        { serve(rt, alloc, work, observer, deal, mailbox, post, hand) },
+            requires post { IsPostOf place.now.mailbox.now post × (sent_by post ≡ []) }
+            requires hand { IsHandOf place.now.deal.now hand × (drawn_by hand ≡ []) }
+            ensures { let work = place.entry.now.work.now in
+                IsServed (W.count work) (W.item work) (W.end work)
+                place.entry.now.mailbox.now place.entry.now.deal.now (number_of post) result }
+        { serve(rt, alloc, place, post, hand) },
     );
     started.ok()
 }
@@ -111,29 +101,24 @@ fn start_all<'s, E, W: Work + Sync, G: Gate + Sync, R: Threads + Wait + Sync>(
     scope: &Scope<'s, E>,
     rt: &'s R,
     alloc: Global,
-    work: &'s W,
-    observer: &'s G,
-    deal: &'s Deal,
-    mailbox: &'s Mailbox<Parcel<W::Item, W::Tail>>,
+    place: &'s Workplace<'s, W, G>,
     posts: Vec<Post<Parcel<W::Item, W::Tail>>>,
     mut hands: Vec<Hand>,
-) -> Result<Vec<PromisedHandle<Back<Parcel<W::Item, W::Tail>>, Service<'s, W>>>, AllocError>
-    requires deal { runs_of deal.now ≡ W.run_count work.now }
+) -> Result<Vec<PromisedHandle<Back<Parcel<W::Item, W::Tail>>, Service<'s, W, G>>>, AllocError>
     requires posts { (i : ℕ) (post : _) → slice_get posts.items i ≡ Some post
-        → IsNewPost mailbox.now i post }
+        → IsNewPost place.now.mailbox.now i post }
     requires hands { (i : ℕ) (hand : _) → slice_get hands.items i ≡ Some hand
-        → IsHandOf deal.now hand × (drawn_by hand ≡ []) }
+        → IsHandOf place.now.deal.now hand × (drawn_by hand ≡ []) }
     requires count { vec_len hands ≡ vec_len posts }
     ensures each { IfOk result (λ v. (k : ℕ) (h : _) → slice_get v.items k ≡ Some h
-        → (h.promise.work.now ≡ work.now) × (h.promise.deal.now ≡ deal.now)
-        × (h.promise.mailbox.now ≡ mailbox.now) × (h.promise.worker ≡ k)) }
+        → (h.promise.place.now ≡ place.now) × (h.promise.worker ≡ k)) }
 {
     let mut handles = Vec::with_capacity(alloc, posts.len())?;
     for post in posts {
         let Some(hand) = hands.pop() else {
             unreachable!()
         };
-        let started = start_one(scope, rt, alloc, work, observer, deal, mailbox, post, hand);
+        let started = start_one(scope, rt, alloc, place, post, hand);
         let Some(handle) = started else {
             break;
         };
@@ -162,30 +147,24 @@ fn gather_in<'s, E, W: Work + Sync, G: Gate + Sync, R: Threads + Wait + Sync>(
     scope: &Scope<'s, E>,
     rt: &'s R,
     alloc: Global,
-    work: &'s W,
-    observer: &'s G,
-    deal: &'s Deal,
-    mailbox: &'s Mailbox<Parcel<W::Item, W::Tail>>,
-    posts: Vec<Post<Parcel<W::Item, W::Tail>>>,
-    hands: Vec<Hand>,
-    mut desk: Desk<Parcel<W::Item, W::Tail>>,
-    mut collector: Collector<W::Item, W::Tail>,
+    place: &'s Workplace<'s, W, G>,
+    crew: Crew<W::Item, W::Tail>,
 ) -> Result<Gathered<W::Item, W::Tail>, GatherFault>
-    requires deal { runs_of deal.now ≡ W.run_count work.now }
-    requires posts { (i : ℕ) (post : _) → slice_get posts.items i ≡ Some post
-        → IsNewPost mailbox.now i post }
-    requires hands { (i : ℕ) (hand : _) → slice_get hands.items i ≡ Some hand
-        → IsHandOf deal.now hand × (drawn_by hand ≡ []) }
-    requires count { vec_len hands ≡ vec_len posts }
-    requires desk { IsDeskOf mailbox.now desk × (taken_by desk ≡ []) }
-    ensures { IfOk result (IsGathered (W.count work.now) (W.item work.now) (W.end work.now)
-        mailbox.now deal.now collector (vec_len posts)) }
+    requires { AreNewcomers place.now.mailbox.now place.now.deal.now crew }
+    ensures { let work = place.now.work.now in
+        IfOk result (IsGathered (W.count work) (W.item work) (W.end work)
+        place.now.mailbox.now place.now.deal.now crew.collector (vec_len crew.posts)) }
 {
+    let Crew {
+        posts,
+        hands,
+        mut desk,
+        mut collector,
+    } = crew;
     let workers = posts.len();
-    let handles = start_all(
-        scope, rt, alloc, work, observer, deal, mailbox, posts, hands,
-    )?;
+    let handles = start_all(scope, rt, alloc, place, posts, hands)?;
     let started = handles.len();
+    let (mailbox, observer) = (place.mailbox, place.observer);
     let is_whole = receive(rt, mailbox, &mut desk, started, &mut collector, observer);
     let Ok(backs) = thread::join_promised(rt, handles) else {
         return Err(GatherFault::OutOfMemory);
@@ -207,43 +186,24 @@ fn gather_in<'s, E, W: Work + Sync, G: Gate + Sync, R: Threads + Wait + Sync>(
 fn gather_scoped<W: Work + Sync, G: Gate + Sync, R: Threads + Wait + Sync>(
     rt: &R,
     alloc: Global,
-    work: &W,
-    observer: &G,
-    deal: &Deal,
-    mailbox: &Mailbox<Parcel<W::Item, W::Tail>>,
-    posts: Vec<Post<Parcel<W::Item, W::Tail>>>,
-    hands: Vec<Hand>,
-    desk: Desk<Parcel<W::Item, W::Tail>>,
-    collector: Collector<W::Item, W::Tail>,
+    place: &Workplace<W, G>,
+    crew: Crew<W::Item, W::Tail>,
 ) -> Result<Gathered<W::Item, W::Tail>, GatherFault>
-    requires deal { runs_of deal.now ≡ W.run_count work.now }
-    requires posts { (i : ℕ) (post : _) → slice_get posts.items i ≡ Some post
-        → IsNewPost mailbox.now i post }
-    requires hands { (i : ℕ) (hand : _) → slice_get hands.items i ≡ Some hand
-        → IsHandOf deal.now hand × (drawn_by hand ≡ []) }
-    requires count { vec_len hands ≡ vec_len posts }
-    requires desk { IsDeskOf mailbox.now desk × (taken_by desk ≡ []) }
-    ensures { IfOk result (IsGathered (W.count work.now) (W.item work.now) (W.end work.now)
-        mailbox.now deal.now collector (vec_len posts)) }
+    requires { AreNewcomers place.now.mailbox.now place.now.deal.now crew }
+    ensures { let work = place.now.work.now in
+        IfOk result (IsGathered (W.count work) (W.item work) (W.end work)
+        place.now.mailbox.now place.now.deal.now crew.collector (vec_len crew.posts)) }
 {
     thread::scope(
         thread::scope_env(),
         rt,
         move |scope| -> Result<Gathered<W::Item, W::Tail>, GatherFault>
-            requires deal { runs_of deal.now ≡ W.run_count work.now }
-            requires posts { (i : ℕ) (post : _) → slice_get posts.items i ≡ Some post
-                → IsNewPost mailbox.now i post }
-            requires hands { (i : ℕ) (hand : _) → slice_get hands.items i ≡ Some hand
-                → IsHandOf deal.now hand × (drawn_by hand ≡ []) }
-            requires count { vec_len hands ≡ vec_len posts }
-            requires desk { IsDeskOf mailbox.now desk × (taken_by desk ≡ []) }
-            ensures { IfOk result (IsGathered (W.count work.entry.now) (W.item work.entry.now)
-                (W.end work.entry.now) mailbox.entry.now deal.entry.now collector (vec_len posts)) }
-        {
-            gather_in(
-                scope, rt, alloc, work, observer, deal, mailbox, posts, hands, desk, collector,
-            )
-        },
+            requires { AreNewcomers place.now.mailbox.now place.now.deal.now crew }
+            ensures { let work = place.entry.now.work.now in
+                IfOk result (IsGathered (W.count work) (W.item work) (W.end work)
+                place.entry.now.mailbox.now place.entry.now.deal.now
+                crew.collector (vec_len crew.posts)) }
+        { gather_in(scope, rt, alloc, place, crew) },
     )
 }
 
@@ -288,9 +248,20 @@ pub fn gather<W: Work + Sync, G: Gate + Sync, R: Threads + Wait + Sync>(
     let collector = Collector::new(alloc, runs)?;
     let (deal, hands) = Deal::new(alloc, runs, workers)?;
     let (mailbox, posts, desk) = Mailbox::new(alloc, room, workers)?;
-    let gathered = gather_scoped(
-        rt, alloc, work, observer, &deal, &mailbox, posts, hands, desk, collector,
-    )?;
+    let place = Workplace {
+        work,
+        observer,
+        deal: &deal,
+        mailbox: &mailbox,
+    };
+    let crew = Crew {
+        posts,
+        hands,
+        desk,
+        collector,
+    };
+    let gathered = gather_scoped(rt, alloc, &place, crew)?;
+    drop(place);
     let Gathered {
         desk,
         collector,

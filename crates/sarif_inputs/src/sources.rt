@@ -25,6 +25,7 @@ use sarif_records::{
 };
 use sarif_sources::{At, Cause, MergeFault, Source, SourceKind};
 use std::alloc::{AllocError, Global};
+use std::hash::RandomState;
 
 /// How many sources of each kind a merge may have.
 const MOST_SOURCES: usize = 1_000;
@@ -137,6 +138,7 @@ fn count_results(runs: &[IndexedRun<'_, '_>]) -> u32
 /// Opens the runs of a source, and adds them with their numbers.
 fn place_runs<'t, 'a>(
     alloc: Global,
+    seed: RandomState,
     source: Source,
     runs: Vec<IndexedRun<'t, 'a>>,
     all: &mut Vec<OpenedRun<'t, 'a>>,
@@ -148,7 +150,7 @@ fn place_runs<'t, 'a>(
 {
     let mut number = 0;
     for run in runs {
-        let opened = OpenedRun::open(alloc, source, number, run)?;
+        let opened = OpenedRun::open(alloc, seed, source, number, run)?;
         all.push(opened)?;
         number += 1;
     }
@@ -179,6 +181,7 @@ impl<'t, 'a> Reading<'t, 'a> {
     fn add(
         &mut self,
         alloc: Global,
+        seed: RandomState,
         source: Source,
         index: &'t Result<Index<'a>, IndexFault>,
     ) -> Result<(), MergeFault>
@@ -201,7 +204,7 @@ impl<'t, 'a> Reading<'t, 'a> {
         let log = log_of_source(source, read_index(alloc, index))?;
         let results = self.results + count_results(log.as_slice());
         check_limits(source, self.runs.len() + log.len(), results)?;
-        place_runs(alloc, source, log, &mut self.runs)?;
+        place_runs(alloc, seed, source, log, &mut self.runs)?;
         self.results = results;
         Ok(())
     }
@@ -210,6 +213,7 @@ impl<'t, 'a> Reading<'t, 'a> {
     fn add_all(
         &mut self,
         alloc: Global,
+        seed: RandomState,
         kind: SourceKind,
         indexes: &'t [Result<Index<'a>, IndexFault>],
     ) -> Result<(), MergeFault>
@@ -230,7 +234,7 @@ impl<'t, 'a> Reading<'t, 'a> {
         ensures quiet { IsQuiet result }
     {
         for (number, index) in indexes.iter().enumerate() {
-            self.add(alloc, kind.source(number as u32), index)?;
+            self.add(alloc, seed, kind.source(number as u32), index)?;
         }
         Ok(())
     }
@@ -239,6 +243,7 @@ impl<'t, 'a> Reading<'t, 'a> {
 /// The runs of all sources, whose indexes are those of so many logs and then those of the baselines.
 fn open_all<'t, 'a>(
     alloc: Global,
+    seed: RandomState,
     indexes: &'t [Result<Index<'a>, IndexFault>],
     logs: usize,
 ) -> Result<AllRuns<'t, 'a>, MergeFault>
@@ -256,18 +261,20 @@ fn open_all<'t, 'a>(
 {
     let (first, second) = indexes.split_at(logs);
     let mut reading = Reading::new(alloc);
-    reading.add_all(alloc, SourceKind::Log, first)?;
+    reading.add_all(alloc, seed, SourceKind::Log, first)?;
     let inputs = reading.runs.len() as u32;
-    reading.add_all(alloc, SourceKind::Baseline, second)?;
+    reading.add_all(alloc, seed, SourceKind::Baseline, second)?;
     let Reading { runs: all, .. } = reading;
     Ok(AllRuns { all, inputs })
 }
 
 /// Opens the runs of the logs, which are the first so many of the indexes, and those of the baselines.
 /// A refusal is the first fault of the sources in order: of reading one, or `TooMany` at the first with
-/// which there are more than 10,000 runs or 1,000,000 results; or `OutOfMemory`.
+/// which there are more than 10,000 runs or 1,000,000 results; or `OutOfMemory`. The tables of their rules and
+/// overrides hash with `seed`, on which no answer depends.
 pub fn open_sources<'t, 'a>(
     alloc: Global,
+    seed: RandomState,
     indexes: &'t [Result<Index<'a>, IndexFault>],
     logs: usize,
 ) -> Result<Runs<'t, 'a>, MergeFault>
@@ -278,7 +285,7 @@ pub fn open_sources<'t, 'a>(
         → Answers (source_faults 0 0 (sources_of ls bs)) result }
     ensures quiet { IsQuiet result }
 {
-    let AllRuns { all, inputs } = open_all(alloc, indexes, logs)?;
+    let AllRuns { all, inputs } = open_all(alloc, seed, indexes, logs)?;
     let mut current = all;
     let baseline = current.split_off(inputs as usize)?;
     Ok(Runs { current, baseline })

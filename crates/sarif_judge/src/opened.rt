@@ -11,6 +11,7 @@ use sarif_rules::{RunHead, copy_tool_name, open_value};
 use sarif_sources::Source;
 use serde_json::Value;
 use std::alloc::{AllocError, Global};
+use std::hash::RandomState;
 
 /// A run with the log or the baseline that it stands in, and what opening it gave: its head, or its
 /// fault (SARIF 2.1.0, "run object").
@@ -28,10 +29,14 @@ pub struct OpenedRun<'t, 'a> {
 }
 
 /// The head of a run, or its fault.
-fn open_head(alloc: Global, run: &Value) -> Result<Result<RunHead, Fault>, AllocError>
+fn open_head(
+    alloc: Global,
+    seed: RandomState,
+    run: &Value,
+) -> Result<Result<RunHead, Fault>, AllocError>
     ensures { IfOk result (λ head. head ≡ head_of (view run.now)) }
 {
-    match open_value(alloc, run) {
+    match open_value(alloc, seed, run) {
         Ok(head) => Ok(Ok(head)),
         Err(Fault::OutOfMemory) => Err(AllocError),
         Err(fault) => Ok(Err(fault)),
@@ -44,10 +49,12 @@ impl<'t, 'a> OpenedRun<'t, 'a> {
     ghost use Rattle.sarif_records.specs.Bare.{bare};
     ghost use Rattle.sarif_records.specs.Run.{results_array, results_of};
 
-    /// Opens a run that holds no number with a fraction.
+    /// Opens a run that holds no number with a fraction. The tables of its head hash with `seed`, on which no
+    /// answer depends.
     #[tactic(auto, using(sarif_rules::proofs::Beside::bare_head, sarif_rules::proofs::Beside::bare_tool_name))]
     pub fn open(
         alloc: Global,
+        seed: RandomState,
         source: Source,
         number: u32,
         run: IndexedRun<'t, 'a>,
@@ -57,7 +64,7 @@ impl<'t, 'a> OpenedRun<'t, 'a> {
             ≡ record { source = source; number = number; run = run_of run.entry }) }
     {
         let tool = copy_tool_name(alloc, run.bare())?;
-        let head = open_head(alloc, run.bare())?;
+        let head = open_head(alloc, seed, run.bare())?;
         Ok(OpenedRun {
             source,
             number,

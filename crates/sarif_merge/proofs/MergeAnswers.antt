@@ -1,5 +1,5 @@
 -- The merge of what was read, from the runs and the suppression file of it.
-use Rattle.std.proofs.Common.{◌≡◌, ℕ, ◌≤◌, ◌++◌, ◌⊎◌, inl, inr, List, [], ◌∷◌, Bool, true, false, Option, Some, Result, Ok, length, map, arith, refl, sym, ap, subst, ◌∙◌}
+use Rattle.std.proofs.Common.{◌≡◌, ℕ, ◌≤◌, ◌++◌, ◌⊎◌, List, [], ◌∷◌, true, false, Option, Some, Result, Ok, length, map, arith, refl, sym, ap, subst, ◌∙◌}
 use Rattle.std.proofs.lemmas.List.{length-map}
 use Rattle.std.proofs.lemmas.List.Concat.{flat_map-append}
 use Rattle.std.specs.Prelude.{nat_lt}
@@ -21,15 +21,14 @@ use Rattle.sarif_counts.specs.CountOf.{count_of}
 use Rattle.sarif_counts.specs.Gate.{gate_of}
 use Rattle.sarif_write.specs.Drafts.{IsRun}
 use Rattle.sarif_judge.specs.Judging.{faults_of_runs, records_of, run_faults, skips}
-use Rattle.sarif_judge.specs.Opened.{placed_of}
 use Rattle.sarif_judge.specs.Outcomes.{all_outcomes}
 use Rattle.sarif_judge.specs.Placed.{Placed}
 use Rattle.sarif_assemble.specs.declared.judged.Judged.{Judged}
 use Rattle.sarif_assemble.specs.declared.merged.Merged.{Merged}
 use Rattle.sarif_assemble.specs.Assembled.{IsMergedBy}
 use Rattle.sarif_assemble.specs.Judged.{placed_in, IsJudged}
-use Rattle.sarif_assemble.specs.LogBy.{data_of, current_runs, leftover_runs, runs_by, runs_without_results}
-use Rattle.sarif_inputs.specs.Faults.{Answers, IsWanting, faults_of, file_faults, file_or_none, first, number_faults}
+use Rattle.sarif_assemble.specs.LogBy.{data_of, leftover_runs, runs_by, runs_without_results}
+use Rattle.sarif_inputs.specs.Faults.{IsWanting, faults_of, file_faults, file_or_none, first, number_faults}
 use Rattle.sarif_inputs.specs.Indexes.{AreIndexesOf}
 use Rattle.sarif_inputs.specs.Inputs.{numbered, placed}
 use Rattle.sarif_inputs.specs.ReadSoFar.{sources_of}
@@ -37,7 +36,7 @@ use Rattle.sarif_inputs.specs.SourceFaults.{source_faults}
 use Rattle.sarif_inputs.proofs.ReadFacts.{log_sides, baseline_sides, nothing_before}
 use Rattle.sarif_inputs.proofs.SourceAnswers.{still_first}
 use Rattle.sarif_merge.specs.Given.{given}
-use Rattle.sarif_merge.specs.Merged.{HoldsFirst, IsMerged}
+use Rattle.sarif_merge.specs.Merged.{IsMerged}
 use Rattle.sarif_merge.specs.MergedLog.{file_in}
 use Rattle.sarif_merge.proofs.ReadObjects.{objects_in}
 

@@ -10,7 +10,7 @@ use Rattle.sarif_records.specs.declared.fault.Fault.TheVariants.{BadRun, NotJson
 use Rattle.sarif_records.specs.declared.fault.ReadFault.{ReadFault}
 use Rattle.sarif_records.specs.Members.{◌>>=◌, are_objects, elements, elements_of, if_objects, of_kind, unless_null}
 use Rattle.sarif_records.specs.Reading.{at_run, at_whole, check_each, check_external, check_log, check_results, check_run, check_tool, json_of, log_of, log_of_value, ok_or, runs_of, without_mark}
-use Rattle.sarif_records.specs.Run.{elements_or_none, results_of}
+use Rattle.sarif_records.specs.Run.{elements_or_none}
 use Rattle.sarif_records.specs.Stripping.{stripped}
 use Rattle.sarif_records.proofs.WholeRuns.{bind_ok}
 use Rattle.sarif_write.specs.Drafts.{IsObject, IsRun}

@@ -109,7 +109,7 @@ pub(crate) fn merge_few<G: Gate + Sync, R: Threads + Wait + Sync>(
     let mut scratches = make_scratches(alloc, logs.len() + baselines.len())?;
     let threads = options.workers + 1;
     let indexes = index_sources(rt, alloc, logs, baselines, &mut scratches, threads)?;
-    let runs = open_sources(alloc, &indexes, logs.len())?;
+    let runs = open_sources(alloc, options.seed, &indexes, logs.len())?;
     let file = slice_of(&sources.suppressions);
     let merged = merge_read(rt, alloc, runs, file, options, observer)?;
     Ok(merged)

@@ -7,6 +7,7 @@ pub mod HashedApart
 pub mod HighBytes
 pub mod HitsCounted
 pub mod HitsReported
+pub mod IndexedElements
 pub mod MessageMore
 pub mod PathMore
 pub mod ReportedMore
@@ -16,5 +17,6 @@ pub mod SeenTexts
 pub mod ShownMore
 pub mod TagsCounted
 pub mod TextApart
+pub mod ToldBare
 pub mod ToldFindings
 pub mod EscapedMore

@@ -13,30 +13,33 @@ style =
     codes ":root{--error:#ff8a80;--warning:#e3b341;--note:#79c0ff;--none:#9da7b1;--pass:#56d364}\n" ++ (
     codes "}\n" ++ (
     codes "*{box-sizing:border-box}\n" ++ (
-    codes "body{margin:0;background:var(--page);color:var(--text);font:16px/1.5 system-ui,sans-serif}\n" ++ (
-    codes "main{max-width:90rem;margin:0 auto;padding:1.5rem 1rem}\n" ++ (
-    codes "h1{margin:0;font-size:2rem;line-height:1.2}\n" ++ (
+    codes "body{margin:0;background:var(--page);color:var(--text);font:1rem/1.5 system-ui,sans-serif}\n" ++ (
+    codes "main{max-width:100rem;margin:0 auto;padding:2rem 1.5rem}\n" ++ (
+    codes "h1{margin:0;padding-left:1rem;border-left:.5rem solid;font-size:2rem;line-height:1.2}\n" ++ (
     codes "h1.pass{color:var(--pass)}\n" ++ (
     codes "h1.fail{color:var(--error)}\n" ++ (
-    codes "p{margin:.25rem 0 1.5rem;color:var(--dim)}\n" ++ (
+    codes "p{margin:.5rem 0 1.5rem;color:var(--dim)}\n" ++ (
+    codes "h1+p{padding-left:1.5rem}\n" ++ (
     codes "a{color:inherit}\n" ++ (
     codes "code{font:.875em/1.5 ui-monospace,monospace;overflow-wrap:anywhere}\n" ++ (
-    codes "table{border-collapse:collapse;margin:0 0 1.5rem}\n" ++ (
-    codes "caption{padding:.25rem 0;text-align:left;font-weight:600}\n" ++ (
-    codes "th,td{padding:.375rem .625rem;border-bottom:1px solid var(--line);text-align:left;vertical-align:top}\n" ++ (
+    codes "table{border-collapse:separate;border-spacing:0;margin:0 0 1.5rem}\n" ++ (
+    codes "caption{padding:.5rem 0;text-align:left;font-size:1.125rem;font-weight:600}\n" ++ (
+    codes "th,td{padding:.375rem .75rem;text-align:left;vertical-align:top}\n" ++ (
     codes "thead th{background:var(--soft);font-weight:600}\n" ++ (
+    codes ".counts{font-size:.875rem}\n" ++ (
     codes ".counts td,.counts thead th+th{text-align:right;font-variant-numeric:tabular-nums}\n" ++ (
-    codes "fieldset{display:inline-block;margin:0 .5rem 1rem 0;padding:.25rem .75rem;border:1px solid var(--line)}\n" ++ (
-    codes "legend{color:var(--dim)}\n" ++ (
-    codes "label{margin-right:.75rem;white-space:nowrap}\n" ++ (
+    codes ".counts tbody th{font-weight:400}\n" ++ (
+    codes ".counts tbody th,.counts td{padding-block:.25rem;border-bottom:1px solid var(--line)}\n" ++ (
+    codes "fieldset{display:inline-block;margin:0 .5rem .75rem 0;padding:0 .75rem .25rem}\n" ++ (
+    codes "fieldset{border:1px solid var(--line);border-radius:.5rem}\n" ++ (
+    codes "legend{padding:0 .25rem;color:var(--dim);font-size:.875rem}\n" ++ (
+    codes "label{display:inline-block;margin-right:.75rem;padding:.125rem 0;white-space:nowrap}\n" ++ (
     codes ".results{width:100%}\n" ++ (
-    codes ".results td:nth-child(5){overflow-wrap:anywhere;min-width:16rem}\n" ++ (
-    codes ".results tr.again td{border-top-color:transparent}\n" ++ (
     codes ".results tr.again td:nth-child(3){color:var(--dim)}\n" ++ (
-    codes ".results tr:not(.again) td{border-top:2px solid var(--line)}\n" ++ (
-    codes "[data-hit=\"yes\"] td:first-child{border-left:.375rem solid var(--error);font-weight:700}\n" ++ (
-    codes "[data-hit=\"no\"] td:first-child{border-left:.375rem solid transparent;color:var(--dim)}\n" ++ (
-    codes "td:nth-child(2),td:nth-child(7){white-space:nowrap}\n" ++ (
+    codes ".results td{overflow-wrap:anywhere}\n" ++ (
+    codes ".results td:nth-child(-n+2),.results td:nth-child(7){white-space:nowrap}\n" ++ (
+    codes "[data-hit=\"yes\"] td:first-child{font-weight:700}\n" ++ (
+    codes "[data-hit=\"no\"] td:first-child{color:var(--dim)}\n" ++ (
     codes "[data-level=\"error\"] td:nth-child(2){color:var(--error);font-weight:700}\n" ++ (
     codes "[data-level=\"warning\"] td:nth-child(2){color:var(--warning);font-weight:600}\n" ++ (
     codes "[data-level=\"note\"] td:nth-child(2){color:var(--note)}\n" ++ (
@@ -44,6 +47,37 @@ style =
     codes "[data-state=\"new\"] td:nth-child(7){font-weight:600}\n" ++ (
     codes "[data-state=\"unchanged\"] td:nth-child(7){font-style:italic}\n" ++ (
     codes "[data-state=\"absent\"] td:nth-child(7){text-decoration:line-through}\n" ++ (
+    codes "@media (min-width:56rem){\n" ++ (
+    codes ".results thead th{position:sticky;top:0}\n" ++ (
+    codes ".results td{border-top:1px solid var(--line)}\n" ++ (
+    codes ".results tr.again td{border-top-style:dotted}\n" ++ (
+    codes ".results tr.again td:nth-child(-n+3){border-top-color:transparent}\n" ++ (
+    codes ".results td:nth-child(3){width:22%;min-width:14rem}\n" ++ (
+    codes ".results td:nth-child(4){width:16%;min-width:7rem}\n" ++ (
+    codes ".results td:nth-child(5){min-width:18rem}\n" ++ (
+    codes ".results td:nth-child(6){min-width:5rem}\n" ++ (
+    codes "[data-hit=\"yes\"] td:first-child{box-shadow:inset .375rem 0 var(--error)}\n" ++ (
+    codes "}\n" ++ (
+    codes "@media (max-width:56rem){\n" ++ (
+    codes "main{padding:1rem;overflow-x:auto}\n" ++ (
+    codes ".counts{width:100%;font-size:.75rem}\n" ++ (
+    codes ".counts th,.counts td{padding-inline:.25rem}\n" ++ (
+    codes "fieldset{display:block;margin-right:0}\n" ++ (
+    codes ".results,.results caption,.results tbody,.results td{display:block}\n" ++ (
+    codes ".results thead{position:absolute;width:1px;height:1px;overflow:hidden;clip-path:inset(50%)}\n" ++ (
+    codes ".results tr{display:grid;grid-template-columns:auto auto 1fr auto;gap:.125rem .75rem}\n" ++ (
+    codes ".results tr{padding:.625rem 0 .625rem .875rem;border-top:1px solid var(--line)}\n" ++ (
+    codes ".results tr.again{border-top-style:dotted}\n" ++ (
+    codes ".results tr[data-hit=\"yes\"]{box-shadow:inset .375rem 0 var(--error)}\n" ++ (
+    codes ".results td{padding:0}\n" ++ (
+    codes ".results td:first-child::before{content:\"hit: \"}\n" ++ (
+    codes ".results td:nth-child(3),.results td:nth-child(5){grid-column:1/-1}\n" ++ (
+    codes ".results td:nth-child(3){grid-row:2}\n" ++ (
+    codes ".results td:nth-child(5){grid-row:3}\n" ++ (
+    codes ".results td:nth-child(4){grid-area:4/1/5/4}\n" ++ (
+    codes ".results td:nth-child(6){grid-area:4/4;text-align:right}\n" ++ (
+    codes ".results td:nth-child(7){grid-area:1/4;text-align:right}\n" ++ (
+    codes "}\n" ++ (
     codes "main:has(#hits:checked) [data-hit=\"no\"]{display:none}\n" ++ (
     codes "main:has(#error:not(:checked)) [data-level=\"error\"]{display:none}\n" ++ (
     codes "main:has(#warning:not(:checked)) [data-level=\"warning\"]{display:none}\n" ++ (
@@ -53,15 +87,12 @@ style =
     codes "main:has(#unchanged:not(:checked)) [data-state=\"unchanged\"]{display:none}\n" ++ (
     codes "main:has(#updated:not(:checked)) [data-state=\"updated\"]{display:none}\n" ++ (
     codes "main:has(#absent:not(:checked)) [data-state=\"absent\"]{display:none}\n" ++ (
-    codes "@media (max-width:48rem){\n" ++ (
-    codes ".results thead{position:absolute;clip-path:inset(50%)}\n" ++ (
-    codes ".results tr{display:block;padding:.5rem 0}\n" ++ (
-    codes ".results td{display:inline;border:0;padding:.125rem .375rem}\n" ++ (
-    codes ".results td:nth-child(3),.results td:nth-child(5){display:block;min-width:0}\n" ++ (
-    codes "}\n" ++ (
     codes "@media print{\n" ++ (
-    codes ":root{--page:#fff;--text:#000;--line:#999;--dim:#333}\n" ++ (
+    codes ":root{--page:#fff;--soft:#fff;--line:#999;--text:#000;--dim:#333}\n" ++ (
+    codes ":root{--error:#000;--warning:#000;--note:#000;--none:#000;--pass:#000}\n" ++ (
+    codes "main{max-width:none;padding:0}\n" ++ (
     codes "fieldset{display:none}\n" ++ (
     codes "tr{break-inside:avoid}\n" ++ (
+    codes ".results thead th{position:static}\n" ++ (
     codes "}\n" ++ (
-    codes "</style>\n")))))))))))))))))))))))))))))))))))))))))))))))))))))))))))
+    codes "</style>\n"))))))))))))))))))))))))))))))))))))))))))))))))))))))))))))))))))))))))))))))))))))))))))

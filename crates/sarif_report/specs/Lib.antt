@@ -15,6 +15,8 @@ pub mod MarkdownLaws
 pub mod MarkdownReport
 pub mod Message
 pub mod PathOf
+pub mod ReadBack
+pub mod Report
 pub mod Reported
 pub mod Shown
 pub mod ShownLaws

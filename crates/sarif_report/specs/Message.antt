@@ -1,7 +1,8 @@
 -- The message of a result (SARIF 2.1.0, "Messages with placeholders", "Message string lookup"). Texts are their
 -- characters here.
-use Rattle.std.specs.Prelude.{ℕ, zero, suc, ◌+◌, ◌-◌, ◌*◌, Bool, false, not, ◌&&◌, ◌||◌, ◌==◌, nat_lt, List, [], ◌∷◌, ◌++◌, Option, Some, None, codes, chars, slice_get, option_map, option_and_then, unwrap_or, is_some, if◌then◌else◌}
+use Rattle.std.specs.Prelude.{ℕ, zero, suc, ◌+◌, ◌-◌, ◌*◌, Bool, false, not, ◌&&◌, ◌||◌, ◌==◌, nat_lt, List, [], ◌∷◌, ◌++◌, Option, Some, None, codes, chars, slice_get, option_and_then, unwrap_or, is_some, if◌then◌else◌}
 use Rattle.std.specs.Char.{is_ascii_digit}
+use Rattle.std.specs.Fmt.{decimal}
 use Rattle.std.specs.Option.{option_or}
 use Rattle.serde_json.specs.Data.{Data}
 use Rattle.serde_json.specs.Find.{get, as_str}
@@ -59,27 +60,31 @@ index_from n count (c ∷ cs) =
     if c == 125 then (if count == 0 then None else Some (n, count)) else (
     if takes_digit n count c then index_from (n * 10 + (c - 48)) (count + 1) cs else None)
 
--- the argument of that number, and how many characters name it, the `}` too
-abbrev pub argument_by : List Data → ℕ × ℕ → Option (List ℕ × ℕ)
-argument_by args index = option_map (λ text. (text, index.1 + 1)) (option_and_then as_str (slice_get args index.0))
+-- the placeholder of that number, as it stands in a text
+abbrev pub placeholder : ℕ → List ℕ
+placeholder n = codes "{" ++ (decimal n ++ codes "}")
 
--- the argument that is named after a `{`
-abbrev pub argument_at : List Data → List ℕ → Option (List ℕ × ℕ)
-argument_at args cs = option_and_then (argument_by args) (index_from 0 0 cs)
+abbrev pub argument_at : List Data → ℕ → Option (List ℕ)
+argument_at args n = option_and_then as_str (slice_get args n)
+
+-- the argument of that number; where no text has it, the placeholder stays whole
+abbrev pub argument_or_placeholder : List Data → ℕ → List ℕ
+argument_or_placeholder args n = unwrap_or (argument_at args n) (placeholder n)
 
 abbrev pub first_is : ℕ → List ℕ → Bool
 first_is c [] = false
 first_is c (d ∷ ds) = d == c
 
--- an argument, or a `{` that stays
-abbrev pub argument_or_brace : Option (List ℕ × ℕ) → List ℕ × ℕ
-argument_or_brace None = (123 ∷ [], 0)
-argument_or_brace (Some found) = (chars found.0, found.1)
+-- what is written for a `{` with such a number after it, and how many characters name it, the `}` too; with no such
+-- number the `{` stays alone
+abbrev pub written_for : List Data → Option (ℕ × ℕ) → List ℕ × ℕ
+written_for args None = (123 ∷ [], 0)
+written_for args (Some index) = (chars (argument_or_placeholder args index.0), index.1 + 1)
 
 -- what is written for a character, and how many of those after it are part of the same placeholder
 abbrev pub piece_of : List Data → ℕ → List ℕ → List ℕ × ℕ
 piece_of args c cs =
-    if c == 123 && not (first_is 123 cs) then argument_or_brace (argument_at args cs) else (
+    if c == 123 && not (first_is 123 cs) then written_for args (index_from 0 0 cs) else (
     if (c == 123 || c == 125) && first_is c cs then (c ∷ [], 1) else (c ∷ [], 0))
 
 -- the text with its placeholders filled in, from left to right; the first `skip` characters are read already

@@ -42,30 +42,33 @@ pub(crate) fn style() -> &'static str
 :root{--error:#ff8a80;--warning:#e3b341;--note:#79c0ff;--none:#9da7b1;--pass:#56d364}
 }
 *{box-sizing:border-box}
-body{margin:0;background:var(--page);color:var(--text);font:16px/1.5 system-ui,sans-serif}
-main{max-width:90rem;margin:0 auto;padding:1.5rem 1rem}
-h1{margin:0;font-size:2rem;line-height:1.2}
+body{margin:0;background:var(--page);color:var(--text);font:1rem/1.5 system-ui,sans-serif}
+main{max-width:100rem;margin:0 auto;padding:2rem 1.5rem}
+h1{margin:0;padding-left:1rem;border-left:.5rem solid;font-size:2rem;line-height:1.2}
 h1.pass{color:var(--pass)}
 h1.fail{color:var(--error)}
-p{margin:.25rem 0 1.5rem;color:var(--dim)}
+p{margin:.5rem 0 1.5rem;color:var(--dim)}
+h1+p{padding-left:1.5rem}
 a{color:inherit}
 code{font:.875em/1.5 ui-monospace,monospace;overflow-wrap:anywhere}
-table{border-collapse:collapse;margin:0 0 1.5rem}
-caption{padding:.25rem 0;text-align:left;font-weight:600}
-th,td{padding:.375rem .625rem;border-bottom:1px solid var(--line);text-align:left;vertical-align:top}
+table{border-collapse:separate;border-spacing:0;margin:0 0 1.5rem}
+caption{padding:.5rem 0;text-align:left;font-size:1.125rem;font-weight:600}
+th,td{padding:.375rem .75rem;text-align:left;vertical-align:top}
 thead th{background:var(--soft);font-weight:600}
+.counts{font-size:.875rem}
 .counts td,.counts thead th+th{text-align:right;font-variant-numeric:tabular-nums}
-fieldset{display:inline-block;margin:0 .5rem 1rem 0;padding:.25rem .75rem;border:1px solid var(--line)}
-legend{color:var(--dim)}
-label{margin-right:.75rem;white-space:nowrap}
+.counts tbody th{font-weight:400}
+.counts tbody th,.counts td{padding-block:.25rem;border-bottom:1px solid var(--line)}
+fieldset{display:inline-block;margin:0 .5rem .75rem 0;padding:0 .75rem .25rem}
+fieldset{border:1px solid var(--line);border-radius:.5rem}
+legend{padding:0 .25rem;color:var(--dim);font-size:.875rem}
+label{display:inline-block;margin-right:.75rem;padding:.125rem 0;white-space:nowrap}
 .results{width:100%}
-.results td:nth-child(5){overflow-wrap:anywhere;min-width:16rem}
-.results tr.again td{border-top-color:transparent}
 .results tr.again td:nth-child(3){color:var(--dim)}
-.results tr:not(.again) td{border-top:2px solid var(--line)}
-[data-hit=\"yes\"] td:first-child{border-left:.375rem solid var(--error);font-weight:700}
-[data-hit=\"no\"] td:first-child{border-left:.375rem solid transparent;color:var(--dim)}
-td:nth-child(2),td:nth-child(7){white-space:nowrap}
+.results td{overflow-wrap:anywhere}
+.results td:nth-child(-n+2),.results td:nth-child(7){white-space:nowrap}
+[data-hit=\"yes\"] td:first-child{font-weight:700}
+[data-hit=\"no\"] td:first-child{color:var(--dim)}
 [data-level=\"error\"] td:nth-child(2){color:var(--error);font-weight:700}
 [data-level=\"warning\"] td:nth-child(2){color:var(--warning);font-weight:600}
 [data-level=\"note\"] td:nth-child(2){color:var(--note)}
@@ -73,6 +76,37 @@ td:nth-child(2),td:nth-child(7){white-space:nowrap}
 [data-state=\"new\"] td:nth-child(7){font-weight:600}
 [data-state=\"unchanged\"] td:nth-child(7){font-style:italic}
 [data-state=\"absent\"] td:nth-child(7){text-decoration:line-through}
+@media (min-width:56rem){
+.results thead th{position:sticky;top:0}
+.results td{border-top:1px solid var(--line)}
+.results tr.again td{border-top-style:dotted}
+.results tr.again td:nth-child(-n+3){border-top-color:transparent}
+.results td:nth-child(3){width:22%;min-width:14rem}
+.results td:nth-child(4){width:16%;min-width:7rem}
+.results td:nth-child(5){min-width:18rem}
+.results td:nth-child(6){min-width:5rem}
+[data-hit=\"yes\"] td:first-child{box-shadow:inset .375rem 0 var(--error)}
+}
+@media (max-width:56rem){
+main{padding:1rem;overflow-x:auto}
+.counts{width:100%;font-size:.75rem}
+.counts th,.counts td{padding-inline:.25rem}
+fieldset{display:block;margin-right:0}
+.results,.results caption,.results tbody,.results td{display:block}
+.results thead{position:absolute;width:1px;height:1px;overflow:hidden;clip-path:inset(50%)}
+.results tr{display:grid;grid-template-columns:auto auto 1fr auto;gap:.125rem .75rem}
+.results tr{padding:.625rem 0 .625rem .875rem;border-top:1px solid var(--line)}
+.results tr.again{border-top-style:dotted}
+.results tr[data-hit=\"yes\"]{box-shadow:inset .375rem 0 var(--error)}
+.results td{padding:0}
+.results td:first-child::before{content:\"hit: \"}
+.results td:nth-child(3),.results td:nth-child(5){grid-column:1/-1}
+.results td:nth-child(3){grid-row:2}
+.results td:nth-child(5){grid-row:3}
+.results td:nth-child(4){grid-area:4/1/5/4}
+.results td:nth-child(6){grid-area:4/4;text-align:right}
+.results td:nth-child(7){grid-area:1/4;text-align:right}
+}
 main:has(#hits:checked) [data-hit=\"no\"]{display:none}
 main:has(#error:not(:checked)) [data-level=\"error\"]{display:none}
 main:has(#warning:not(:checked)) [data-level=\"warning\"]{display:none}
@@ -82,16 +116,13 @@ main:has(#new:not(:checked)) [data-state=\"new\"]{display:none}
 main:has(#unchanged:not(:checked)) [data-state=\"unchanged\"]{display:none}
 main:has(#updated:not(:checked)) [data-state=\"updated\"]{display:none}
 main:has(#absent:not(:checked)) [data-state=\"absent\"]{display:none}
-@media (max-width:48rem){
-.results thead{position:absolute;clip-path:inset(50%)}
-.results tr{display:block;padding:.5rem 0}
-.results td{display:inline;border:0;padding:.125rem .375rem}
-.results td:nth-child(3),.results td:nth-child(5){display:block;min-width:0}
-}
 @media print{
-:root{--page:#fff;--text:#000;--line:#999;--dim:#333}
+:root{--page:#fff;--soft:#fff;--line:#999;--text:#000;--dim:#333}
+:root{--error:#000;--warning:#000;--note:#000;--none:#000;--pass:#000}
+main{max-width:none;padding:0}
 fieldset{display:none}
 tr{break-inside:avoid}
+.results thead th{position:static}
 }
 </style>
 "

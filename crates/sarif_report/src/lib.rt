@@ -8,11 +8,14 @@ mod github_lines;
 mod gitlab_array;
 mod html_fixed;
 mod html_page;
+mod indexed;
 mod laws;
 mod lookup;
 mod markdown_table;
 mod message;
 mod path;
+mod read_back;
+mod report;
 mod reported_results;
 mod reporting;
 mod shown_text;
@@ -31,7 +34,8 @@ pub use laws::{
     shown_texts_are_seen, text_reports_have_a_line_a_result,
 };
 pub use markdown_table::markdown_report;
-pub use reported_results::reported;
+pub use read_back::reported;
+pub use report::{Report, report_text};
 pub use reporting::Reporting;
 pub use shown_text::{MOST_CHARACTERS, shown};
 pub use text_lines::text_report;

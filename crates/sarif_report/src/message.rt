@@ -8,7 +8,7 @@ ghost use Rattle.sarif_report.specs.ShownSoFar.{Takes, Writes};
 use crate::lookup::{component_of, descriptor_of, driver_of, elements_in, text_in};
 use crate::shown_text::ShownText;
 use serde_json::Value;
-use std::alloc::AllocError;
+use std::alloc::{AllocError, Global};
 
 /// The text of the member of that name of a table of message strings.
 fn string_named<'a>(value: &'a Value, table: &str, name: &str) -> Option<&'a str>
@@ -131,15 +131,11 @@ fn index_in(rest: &str) -> Option<(u32, u32)>
     None
 }
 
-/// The argument that is named after a `{`, and how many characters name it, the `}` too.
-fn argument_at<'a>(args: &'a [Value], rest: &str) -> Option<(&'a str, u32)>
-    ensures few { IfSome result (λ p. p.1 ≤ 1000000001) }
-    ensures said { option_map (λ p. (p.0.now, p.1)) result
-        ≡ said.argument_at (map view args.now) (chars rest.now) }
+/// The argument of that number, where it is a text.
+fn argument_at<'a>(args: &'a [Value], number: u32) -> Option<&'a str>
+    ensures { option_map (λ s. s.now) result ≡ said.argument_at (map view args.now) number }
 {
-    let (number, count) = index_in(rest)?;
-    let text = args.get(number as usize)?.as_str()?;
-    Some((text, count + 1))
+    args.get(number as usize)?.as_str()
 }
 
 /// Whether this character stands first.
@@ -152,15 +148,40 @@ fn begins_with(rest: &str, c: char) -> bool
     }
 }
 
-/// Shows what stands for a `{`, and tells how many of the characters after it are part of the same placeholder.
-fn push_argument(so_far: &mut ShownText, args: &[Value], rest: &str) -> Result<u32, AllocError>
-    ensures { IfOk result (λ more. Writes so_far.old so_far.new more
-        (said.argument_or_brace (said.argument_at (map view args.now) (chars rest.now)))) }
+/// Shows the argument of that number, or the placeholder as it stands where no text has that number.
+fn push_argument(
+    alloc: Global,
+    so_far: &mut ShownText,
+    args: &[Value],
+    number: u32,
+) -> Result<(), AllocError>
+    ensures { OnOk result (Takes so_far.old so_far.new
+        (chars (said.argument_or_placeholder (map view args.now) number))) }
 {
-    match argument_at(args, rest) {
-        Some((text, more)) => {
-            so_far.push_str(text)?;
-            Ok(more)
+    match argument_at(args, number) {
+        Some(text) => so_far.push_str(text)?,
+        None => {
+            let placeholder = format!(in alloc; "{{{number}}}")?;
+            so_far.push_str(placeholder.as_str())?;
+        }
+    }
+    Ok(())
+}
+
+/// Shows what stands for a `{`, and tells how many of the characters after it are part of the same placeholder.
+fn push_brace(
+    alloc: Global,
+    so_far: &mut ShownText,
+    args: &[Value],
+    rest: &str,
+) -> Result<u32, AllocError>
+    ensures { IfOk result (λ more. Writes so_far.old so_far.new more
+        (said.written_for (map view args.now) (said.index_from 0 0 (chars rest.now)))) }
+{
+    match index_in(rest) {
+        Some((number, count)) => {
+            push_argument(alloc, so_far, args, number)?;
+            Ok(count + 1)
         }
         None => {
             so_far.push('{')?;
@@ -171,6 +192,7 @@ fn push_argument(so_far: &mut ShownText, args: &[Value], rest: &str) -> Result<u
 
 /// Shows what stands for a character, and tells how many of those after it are part of the same placeholder.
 fn push_piece(
+    alloc: Global,
     so_far: &mut ShownText,
     args: &[Value],
     c: char,
@@ -180,7 +202,7 @@ fn push_piece(
         (said.piece_of (map view args.now) c (chars rest.now))) }
 {
     if c == '{' && !begins_with(rest, '{') {
-        return push_argument(so_far, args, rest);
+        return push_brace(alloc, so_far, args, rest);
     }
     so_far.push(c)?;
     if (c == '{' || c == '}') && begins_with(rest, c) {
@@ -190,7 +212,12 @@ fn push_piece(
 }
 
 /// Shows a text with its placeholders filled in.
-fn push_filled(so_far: &mut ShownText, args: &[Value], text: &str) -> Result<(), AllocError>
+fn push_filled(
+    alloc: Global,
+    so_far: &mut ShownText,
+    args: &[Value],
+    text: &str,
+) -> Result<(), AllocError>
     ensures { OnOk result (Takes so_far.old so_far.new
         (said.filled_from (map view args.now) 0 (chars text.now))) }
 {
@@ -203,7 +230,7 @@ fn push_filled(so_far: &mut ShownText, args: &[Value], text: &str) -> Result<(),
         if skip > 0 {
             skip -= 1;
         } else {
-            skip = push_piece(so_far, args, c, rest.as_str())?;
+            skip = push_piece(alloc, so_far, args, c, rest.as_str())?;
         }
     }
     Ok(())
@@ -211,6 +238,7 @@ fn push_filled(so_far: &mut ShownText, args: &[Value], text: &str) -> Result<(),
 
 /// Shows the message of a result of a run.
 pub(crate) fn push_message(
+    alloc: Global,
     so_far: &mut ShownText,
     run: &Value,
     found: &Value,
@@ -224,6 +252,6 @@ pub(crate) fn push_message(
         so_far.push_str(text)?;
         return Ok(());
     }
-    push_filled(so_far, args, text)?;
+    push_filled(alloc, so_far, args, text)?;
     Ok(())
 }

@@ -1,5 +1,5 @@
-//! The results of a finished merged log that a report tells of.
-ghost use Rattle.std.specs.Prelude.{◌≡◌, ◌++◌, not, map, IfOk, OnOk, codes, chars, string_bytes};
+//! What is told of a result of a finished merged log, where it is reported.
+ghost use Rattle.std.specs.Prelude.{◌≡◌, not, map, IfOk, codes, chars, string_bytes};
 ghost use Rattle.sarif_report.specs.Lookup.{position_in as position_of};
 ghost use Rattle.sarif_report.specs.Message.{message_of};
 ghost use Rattle.sarif_report.specs.PathOf.{path_of};
@@ -11,7 +11,7 @@ ghost use Rattle.sarif_report.specs.Shown.{shown as text_shown};
 ghost use Rattle.sarif_report.specs.Reported as said;
 
 use crate::finding::Finding;
-use crate::lookup::{elements_in, help_uri, position_in, rule_id, text_in, uri_of};
+use crate::lookup::{help_uri, position_in, rule_id, text_in, uri_of};
 use crate::message::push_message;
 use crate::path::push_path;
 use crate::reporting::Reporting;
@@ -146,7 +146,7 @@ fn shown_message(alloc: Global, run: &Value, found: &Value) -> Result<String, Al
         ≡ text_shown (message_of (view run.now) (view found.now))) }
 {
     let mut so_far = ShownText::new(alloc);
-    push_message(&mut so_far, run, found)?;
+    push_message(alloc, &mut so_far, run, found)?;
     Ok(so_far.finish())
 }
 
@@ -243,7 +243,7 @@ fn finding_of(
 }
 
 /// What is told of a result, where it is reported.
-fn finding_if(
+pub(crate) fn finding_if(
     alloc: Global,
     reporting: &Reporting,
     run: &Value,
@@ -263,39 +263,4 @@ fn finding_if(
         return Ok(Some(finding));
     }
     Ok(None)
-}
-
-/// Adds the reported results of a run.
-fn push_reported(
-    alloc: Global,
-    findings: &mut Vec<Finding>,
-    reporting: &Reporting,
-    run: &Value,
-) -> Result<(), AllocError>
-    ensures { OnOk result (findings.new.items
-        ≡ findings.old.items ++ said.reported_in reporting.now (view run.now)) }
-{
-    for found in elements_in(run, "results") {
-        if let Some(finding) = finding_if(alloc, reporting, run, found)? {
-            findings.push(finding)?;
-        }
-    }
-    Ok(())
-}
-
-/// The results of a finished merged log that a report tells of, in the order of the log: the active ones whose
-/// baseline state is one of the policy's. Those are hits whose level is also at least that of the policy.
-pub fn reported(
-    alloc: Global,
-    reporting: &Reporting,
-    log: &Value,
-) -> Result<Vec<Finding>, AllocError>
-    ensures { IfOk result
-        (λ findings. findings.items ≡ said.reported_of reporting.now (view log.now)) }
-{
-    let mut findings = Vec::new(alloc);
-    for run in elements_in(log, "runs") {
-        push_reported(alloc, &mut findings, reporting, run)?;
-    }
-    Ok(findings)
 }

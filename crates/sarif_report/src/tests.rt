@@ -1,12 +1,11 @@
 //! The worked examples of the reports.
 use crate::{
-    Finding, Reporting, github_report, gitlab_report, html_report, markdown_report, reported,
-    shown, text_report,
+    Finding, Report, Reporting, github_report, gitlab_report, html_report, markdown_report,
+    report_text, reported, shown, text_report,
 };
 use sarif_counts::{Counts, Policy};
 use sarif_records::{Level, State, Text};
-use serde_json::Value;
-use std::alloc::Global;
+use std::alloc::{AllocError, Global};
 use std::test::Fail;
 
 const LOG: &str = r#"{"properties":{},"runs":[{"results":[
@@ -76,12 +75,11 @@ const HOSTILE_ROWS: [&str; 6] = [
 ];
 
 fn findings_in(alloc: Global, text: &str) -> Result<Vec<Finding>, Fail> {
-    let log = Value::from_str(alloc, text)?;
     let reporting = Reporting {
         policy: Policy::default(),
         root: Text::copy_of(alloc, "file:///b/")?,
     };
-    Ok(reported(alloc, &reporting, &log)?)
+    Ok(reported(alloc, &reporting, text.as_bytes())?)
 }
 
 fn findings_of(alloc: Global) -> Result<Vec<Finding>, Fail> {
@@ -120,6 +118,33 @@ fn a_thousand_characters_are_kept(rt: HostRuntime) -> Result<(), Fail> {
     Ok(())
 }
 
+/// A log with one result, whose message has these arguments and this text.
+fn log_with(alloc: Global, arguments: &str, text: &str) -> Result<String, AllocError> {
+    let message = format!(in alloc; "{{\"arguments\":{arguments},\"text\":\"{text}\"}}")?;
+    let state = "\"baselineState\":\"new\",\"level\":\"note\"";
+    format!(in alloc; "{{\"runs\":[{{\"results\":[{{{state},\"message\":{message}}}]}}]}}")
+}
+
+#[test]
+fn a_placeholder_without_its_argument_stays_whole(rt: HostRuntime) -> Result<(), Fail> {
+    let alloc = rt.alloc();
+    for (arguments, text, wanted) in [
+        ("[\"a\"]", "{9}}", "{9}}"),
+        ("[\"a\"]", "{0}}", "a}"),
+        ("[\"a\"]", "{{0}}", "{0}"),
+        ("[\"a\"]", "{1}", "{1}"),
+        ("[\"a\"]", "{-1}}", "{-1}"),
+        ("[\"a\"]", "{01}", "{01}"),
+        ("[7,\"b\"]", "{0}}}} {1}}}", "{0}}} b}"),
+    ] {
+        let log = log_with(alloc, arguments, text)?;
+        let findings = findings_in(alloc, log.as_str())?;
+        assert_eq!(rt; findings.len(), 1);
+        assert_eq!(rt; findings[0].message.as_str(), wanted);
+    }
+    Ok(())
+}
+
 #[test]
 fn active_results_of_listed_states_are_reported(rt: HostRuntime) -> Result<(), Fail> {
     let findings = findings_of(rt.alloc())?;
@@ -127,6 +152,39 @@ fn active_results_of_listed_states_are_reported(rt: HostRuntime) -> Result<(), F
     assert!(rt; !findings[0].hit);
     assert!(rt; findings[1].hit);
     assert!(rt; !findings[2].hit);
+    Ok(())
+}
+
+#[test]
+fn nothing_is_reported_of_what_is_no_log(rt: HostRuntime) -> Result<(), Fail> {
+    let alloc = rt.alloc();
+    for text in ["", "{", "null", "[]", "{\"runs\":{}}", "{\"runs\":[1,{}]}"] {
+        assert_eq!(rt; findings_in(alloc, text)?.len(), 0);
+    }
+    Ok(())
+}
+
+#[test]
+fn a_report_is_picked_by_its_name(rt: HostRuntime) -> Result<(), Fail> {
+    let alloc = rt.alloc();
+    let findings = findings_of(alloc)?;
+    let counts = Counts::new();
+    let policy = Policy::default();
+    for (report, word, piece) in [
+        (Report::Text, "text", TEXT),
+        (Report::Github, "github", GITHUB),
+        (
+            Report::Markdown,
+            "markdown",
+            "## Gate: pass, 0 hits, 0 allowed\n",
+        ),
+        (Report::Gitlab, "gitlab", GITLAB),
+        (Report::Html, "html", "<title>Gate: pass</title>"),
+    ] {
+        assert_eq!(rt; report.name(), word);
+        let text = report_text(alloc, report, &counts, &policy, findings.as_slice())?;
+        assert!(rt; text.contains(piece));
+    }
     Ok(())
 }
 

@@ -7,6 +7,7 @@ ghost use Rattle.sarif_rules.specs.Rules.{first_with_id};
 use indexmap::IndexMap;
 use sarif_records::{Level, Text};
 use std::alloc::{AllocError, Global};
+use std::hash::RandomState;
 use std::marker::Model;
 
 /// A rule (SARIF 2.1.0, "reportingDescriptor object").
@@ -24,7 +25,7 @@ pub struct Rule {
 pub struct Component {
     rules: Vec<Rule>,
     // The first place of each id.
-    first: IndexMap<String, usize>,
+    first: IndexMap<String, usize, RandomState>,
 }
 
 impl Model for Component {
@@ -42,11 +43,15 @@ impl Model for Component {
 }
 
 impl Component {
-    /// The component with these rules.
-    pub(crate) fn new(alloc: Global, rules: Vec<Rule>) -> Result<Component, AllocError>
+    /// The component with these rules, whose table hashes with `seed`.
+    pub(crate) fn new(
+        alloc: Global,
+        seed: RandomState,
+        rules: Vec<Rule>,
+    ) -> Result<Component, AllocError>
         ensures { IfOk result (λ component. component ≡ rules.items) }
     {
-        let first = first_places(alloc, rules.as_slice())?;
+        let first = first_places(alloc, seed, rules.as_slice())?;
         Ok(Component { rules, first })
     }
 
@@ -68,7 +73,7 @@ impl Component {
 // Puts the place at an id that has none yet.
 fn add_first(
     alloc: Global,
-    table: &mut IndexMap<String, usize>,
+    table: &mut IndexMap<String, usize, RandomState>,
     id: &str,
     place: usize,
 ) -> Result<(), AllocError>
@@ -83,11 +88,15 @@ fn add_first(
 }
 
 // The table of the first place of each id.
-fn first_places(alloc: Global, rules: &[Rule]) -> Result<IndexMap<String, usize>, AllocError>
+fn first_places(
+    alloc: Global,
+    seed: RandomState,
+    rules: &[Rule],
+) -> Result<IndexMap<String, usize, RandomState>, AllocError>
     ensures { IfOk result (λ table. (q : List ℕ)
         → get_by_text table q ≡ first_with_id q rules.now) }
 {
-    let mut table: IndexMap<String, usize> = IndexMap::new(alloc);
+    let mut table: IndexMap<String, usize, RandomState> = IndexMap::with_hasher(alloc, seed);
     for (place, rule) in rules.iter().enumerate() {
         add_first(alloc, &mut table, rule.id.as_str(), place)?;
     }

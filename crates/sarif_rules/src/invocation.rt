@@ -9,6 +9,7 @@ ghost use Rattle.sarif_rules.specs.Level.{overriding_level};
 use indexmap::IndexMap;
 use sarif_records::Level;
 use std::alloc::{AllocError, Global};
+use std::hash::RandomState;
 use std::marker::Model;
 
 /// An override of a rule's configuration (SARIF 2.1.0, "configurationOverride object").
@@ -26,7 +27,7 @@ pub struct Override {
 pub struct Invocation {
     overrides: Vec<Override>,
     // The first place of each descriptor.
-    first: IndexMap<(usize, usize), usize>,
+    first: IndexMap<(usize, usize), usize, RandomState>,
 }
 
 impl Model for Invocation {
@@ -44,11 +45,15 @@ impl Model for Invocation {
 }
 
 impl Invocation {
-    /// The invocation with these overrides.
-    pub(crate) fn new(alloc: Global, overrides: Vec<Override>) -> Result<Invocation, AllocError>
+    /// The invocation with these overrides, whose table hashes with `seed`.
+    pub(crate) fn new(
+        alloc: Global,
+        seed: RandomState,
+        overrides: Vec<Override>,
+    ) -> Result<Invocation, AllocError>
         ensures { IfOk result (λ invocation. invocation ≡ overrides.items) }
     {
-        let first = first_places(alloc, overrides.as_slice())?;
+        let first = first_places(alloc, seed, overrides.as_slice())?;
         Ok(Invocation { overrides, first })
     }
 
@@ -66,7 +71,7 @@ impl Invocation {
 
 // Puts the place at a descriptor that has none yet.
 fn add_first(
-    table: &mut IndexMap<(usize, usize), usize>,
+    table: &mut IndexMap<(usize, usize), usize, RandomState>,
     descriptor: (usize, usize),
     place: usize,
 ) -> Result<(), AllocError>
@@ -82,12 +87,15 @@ fn add_first(
 // The table of the first place of each descriptor.
 fn first_places(
     alloc: Global,
+    seed: RandomState,
     overrides: &[Override],
-) -> Result<IndexMap<(usize, usize), usize>, AllocError>
+) -> Result<IndexMap<(usize, usize), usize, RandomState>, AllocError>
     ensures { IfOk result (λ table. (q : ℕ × ℕ)
         → get is_same_descriptor table q ≡ first_for q overrides.now) }
 {
-    let mut table: IndexMap<(usize, usize), usize> = IndexMap::new(alloc);
+    let mut table: IndexMap<(usize, usize), usize, RandomState> = IndexMap::with_hasher(
+        alloc, seed,
+    );
     for (place, entry) in overrides.iter().enumerate() {
         if let Some(descriptor) = entry.descriptor {
             add_first(&mut table, descriptor, place)?;

@@ -19,6 +19,7 @@ use sarif_records::members::{
 use sarif_records::{Fault, Place, RawRun, Sequence, Text};
 use serde_json::Value;
 use std::alloc::{AllocError, Global};
+use std::hash::RandomState;
 
 /// Reads the rules, overrides and artifacts of a run. Its results aren't looked at, and may be
 /// missing.
@@ -30,16 +31,17 @@ use std::alloc::{AllocError, Global};
 /// - of the invocations `BadMember`, and then override by override `BadMember`, `BadIndex`,
 ///   `BadLevel`.
 ///
-/// `OutOfMemory` may come in place of any of them.
+/// `OutOfMemory` may come in place of any of them. The head's tables hash with `seed`, which no log can know; no
+/// answer depends on it.
 #[tactic(auto, unfolding(crate::specs::Head::head_of))]
-pub fn open_value(alloc: Global, run: &Value) -> Result<RunHead, Fault>
+pub fn open_value(alloc: Global, seed: RandomState, run: &Value) -> Result<RunHead, Fault>
     ensures ok { IfOk result (λ head. head_of (view run.now) ≡ Ok head) }
     ensures err { IfErr result
         (λ fault. (fault ≡ OutOfMemory → ⊥) → head_of (view run.now) ≡ Err fault) }
 {
-    let components = read_components(alloc, run)?;
+    let components = read_components(alloc, seed, run)?;
     let artifacts = read_artifacts(alloc, run)?;
-    let invocations = read_invocations(alloc, components.as_slice(), run)?;
+    let invocations = read_invocations(alloc, seed, components.as_slice(), run)?;
     Ok(RunHead {
         components,
         invocations,
@@ -48,23 +50,27 @@ pub fn open_value(alloc: Global, run: &Value) -> Result<RunHead, Fault>
 }
 
 /// Reads the rules, overrides and artifacts of a run that was read, as [`open_value`] does.
-pub fn open_run(alloc: Global, run: &RawRun) -> Result<RunHead, Fault>
+pub fn open_run(alloc: Global, seed: RandomState, run: &RawRun) -> Result<RunHead, Fault>
     ensures ok { IfOk result (λ head. head_of (view run.now) ≡ Ok head) }
     ensures err { IfErr result
         (λ fault. (fault ≡ OutOfMemory → ⊥) → head_of (view run.now) ≡ Err fault) }
 {
-    open_value(alloc, run.value())
+    open_value(alloc, seed, run.value())
 }
 
 #[tactic(auto, unfolding(crate::specs::Rules::components_of))]
-fn read_components(alloc: Global, run: &Value) -> Result<Sequence<Component>, Fault>
+fn read_components(
+    alloc: Global,
+    seed: RandomState,
+    run: &Value,
+) -> Result<Sequence<Component>, Fault>
     ensures { Gives result (components_of (view run.now)) }
 {
     let extensions = objects_within(run.get("tool"), "extensions", Fault::BadRules)?;
-    let driver = read_driver(alloc, driver_of(run))?;
+    let driver = read_driver(alloc, seed, driver_of(run))?;
     let mut components = Sequence::new(alloc);
     components.push(driver)?;
-    read_extensions(alloc, components, extensions)
+    read_extensions(alloc, seed, components, extensions)
 }
 
 fn driver_of(run: &Value) -> Option<&Value>
@@ -73,37 +79,38 @@ fn driver_of(run: &Value) -> Option<&Value>
     run.get("tool")?.get("driver")
 }
 
-fn read_driver(alloc: Global, driver: Option<&Value>) -> Result<Component, Fault>
+fn read_driver(alloc: Global, seed: RandomState, driver: Option<&Value>) -> Result<Component, Fault>
     ensures { Gives result (list_if_there rules_of (option_map (λ v. view v.now) driver.entry)) }
 {
     match driver {
-        Some(driver) => read_component(alloc, driver),
-        None => Ok(Component::new(alloc, Vec::new(alloc))?),
+        Some(driver) => read_component(alloc, seed, driver),
+        None => Ok(Component::new(alloc, seed, Vec::new(alloc))?),
     }
 }
 
 // Puts the extensions behind the components so far.
 fn read_extensions(
     alloc: Global,
+    seed: RandomState,
     mut components: Sequence<Component>,
     extensions: &[Value],
 ) -> Result<Sequence<Component>, Fault>
     ensures { Gives result (before components (read_each rules_of (map view extensions.now))) }
 {
     for extension in extensions {
-        let component = read_component(alloc, extension)?;
+        let component = read_component(alloc, seed, extension)?;
         components.push(component)?;
     }
     Ok(components)
 }
 
 #[tactic(auto, unfolding(crate::specs::Rules::rules_of))]
-fn read_component(alloc: Global, component: &Value) -> Result<Component, Fault>
+fn read_component(alloc: Global, seed: RandomState, component: &Value) -> Result<Component, Fault>
     ensures { Gives result (rules_of (view component.now)) }
 {
     let rules = elements_at(component, "rules", Fault::BadRules)?;
     let rules = read_rules(alloc, rules)?;
-    Ok(Component::new(alloc, rules)?)
+    Ok(Component::new(alloc, seed, rules)?)
 }
 
 fn read_rules(alloc: Global, values: &[Value]) -> Result<Vec<Rule>, Fault>
@@ -175,6 +182,7 @@ fn copy_if_there(alloc: Global, text: Option<&str>) -> Result<Option<Text>, Allo
 #[tactic(auto, unfolding(crate::specs::Overrides::invocations_of))]
 fn read_invocations(
     alloc: Global,
+    seed: RandomState,
     components: &[Component],
     run: &Value,
 ) -> Result<Sequence<Invocation>, Fault>
@@ -182,7 +190,7 @@ fn read_invocations(
 {
     let invocations = objects_at(run, "invocations", Fault::BadMember)?;
     let lists = override_lists(alloc, invocations)?;
-    read_lists(alloc, components, lists.as_slice())
+    read_lists(alloc, seed, components, lists.as_slice())
 }
 
 // The overrides of each invocation, as they stand.
@@ -202,6 +210,7 @@ fn override_lists<'a>(alloc: Global, invocations: &'a [Value]) -> Result<Vec<&'a
 
 fn read_lists(
     alloc: Global,
+    seed: RandomState,
     components: &[Component],
     lists: &[&[Value]],
 ) -> Result<Sequence<Invocation>, Fault>
@@ -211,7 +220,7 @@ fn read_lists(
     let mut invocations = Sequence::new(alloc);
     for list in lists {
         let overrides = read_overrides(alloc, components, list)?;
-        let invocation = Invocation::new(alloc, overrides)?;
+        let invocation = Invocation::new(alloc, seed, overrides)?;
         invocations.push(invocation)?;
     }
     Ok(invocations)

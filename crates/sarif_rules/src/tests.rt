@@ -3,6 +3,9 @@
 use crate::{make_record, open_run};
 use sarif_records::{Fault, Kind, Level, Log, Place, RawRun, Record, read_log, read_parts};
 use std::alloc::{AllocError, Global};
+use std::hash::RandomState;
+use std::io;
+use std::random::RandomSource;
 use std::test::Fail;
 
 #[derive(Drop)]
@@ -18,8 +21,8 @@ fn read_run(alloc: Global, run: &str) -> Result<Log, Fail> {
     Ok(log)
 }
 
-fn answer_of(alloc: Global, run: &RawRun) -> Result<Answer, Fault> {
-    let head = open_run(alloc, run)?;
+fn answer_of(alloc: Global, seed: RandomState, run: &RawRun) -> Result<Answer, Fault> {
+    let head = open_run(alloc, seed, run)?;
     if run.len() == 0 {
         return Err(Fault::NotLog);
     }
@@ -44,22 +47,36 @@ fn words_of(alloc: Global, answer: &Answer) -> Result<String, AllocError> {
     }
 }
 
-fn answer_in_words(alloc: Global, run: &RawRun) -> Result<String, AllocError> {
-    match answer_of(alloc, run) {
+fn answer_in_words(alloc: Global, seed: RandomState, run: &RawRun) -> Result<String, AllocError> {
+    match answer_of(alloc, seed, run) {
         Ok(answer) => words_of(alloc, &answer),
         Err(fault) => format!(in alloc; "{fault}"),
     }
 }
 
-// The first row that gives another answer, with that answer.
+/// Random bytes that are all the same.
+#[derive(Drop)]
+struct Bytes(u8);
+
+impl RandomSource for Bytes {
+    fn fill_bytes(&self, buf: &mut [u8]) -> io::Result<()> {
+        buf.fill(self.0);
+        Ok(())
+    }
+}
+
+// The first row that gives another answer with one of some seeds, with that answer.
 fn wrong_row(alloc: Global, rows: &str) -> Result<Option<String>, Fail> {
     for row in rows.lines() {
         let (wanted, run) = row.split_once('|').ok_or("no bar")?;
         let log = read_run(alloc, run)?;
         let first = log.runs().first().ok_or("no run")?;
-        let answer = answer_in_words(alloc, first)?;
-        if answer.as_str() != wanted {
-            return Ok(Some(format!(in alloc; "{answer}|{run}")?));
+        for byte in [0, 1, 255] {
+            let seed = RandomState::new(&Bytes(byte))?;
+            let answer = answer_in_words(alloc, seed, first)?;
+            if answer.as_str() != wanted {
+                return Ok(Some(format!(in alloc; "{answer}|{run}")?));
+            }
         }
     }
     Ok(None)
@@ -71,7 +88,8 @@ fn record_holds_what_the_result_and_its_run_say(rt: HostRuntime) -> Result<(), F
         r#"{"tool":{"driver":{"name":"lint","rules":[{"id":"R1"}]}},"results":[{"ruleIndex":0,"kind":"open","message":{"text":"m","arguments":["x"]},"correlationGuid":"0f14d0ab-9605-4a62-a9e4-5ed26688389b","fingerprints":{"f":"1"},"suppressions":[{"kind":"inSource"}]}]}"#;
     let log = read_run(rt.alloc(), run)?;
     let first = log.runs().first().ok_or("no run")?;
-    let made = record_of(rt.alloc(), first).ok().ok_or("no record")?;
+    let seed = RandomState::new(&rt)?;
+    let made = record_of(rt.alloc(), seed, first).ok().ok_or("no record")?;
     assert_eq!(rt; made.tool.as_str(), "lint");
     assert_eq!(rt; made.rule_id.as_str(), "R1");
     assert_eq!(rt; made.kind, Kind::Undecided);
@@ -87,8 +105,8 @@ fn record_holds_what_the_result_and_its_run_say(rt: HostRuntime) -> Result<(), F
     Ok(())
 }
 
-fn record_of(alloc: Global, run: &RawRun) -> Result<Record, Fault> {
-    let head = open_run(alloc, run)?;
+fn record_of(alloc: Global, seed: RandomState, run: &RawRun) -> Result<Record, Fault> {
+    let head = open_run(alloc, seed, run)?;
     if run.len() == 0 {
         return Err(Fault::NotLog);
     }

@@ -28,6 +28,13 @@ impl<D> Counted<D> {
         Counted { inner, faults: 0 }
     }
 
+    /// What is counted.
+    pub fn inner(&self) -> &D
+        ensures { result.now ≡ inner_of self.now }
+    {
+        &self.inner
+    }
+
     /// How many calls failed.
     pub fn faults(&self) -> u64
         ensures { result ≡ failed_calls self.now }

@@ -1,10 +1,10 @@
 //! Which words ask for what.
 
 use crate::request::Request;
-use crate::tests::merging::seed;
+use crate::tests::seed;
 use crate::words::{WordsFault, read_words};
 use sarif_merge::States;
-use sarif_records::Level;
+use sarif_records::{Level, Text};
 use std::alloc::AllocError;
 use std::test::Fail;
 
@@ -31,6 +31,13 @@ fn defaults_stand_where_no_word_says_more(rt: HostRuntime) -> Result<(), Fail> {
     assert!(rt; request.baselines.is_empty());
     assert!(rt; request.suppress.is_none());
     assert!(rt; request.out.as_str() == "o");
+    assert!(rt; request.reports.text.is_none());
+    assert!(rt; request.reports.github.is_none());
+    assert!(rt; request.reports.markdown.is_none());
+    assert!(rt; request.reports.gitlab.is_none());
+    assert!(rt; request.reports.html.is_none());
+    assert!(rt; request.root.as_str() == "");
+    assert!(rt; !request.explain);
     assert_eq!(rt; request.options.today, None);
     assert_eq!(rt; request.options.workers, 4);
     assert_eq!(rt; request.options.policy.fail_on, Level::Error);
@@ -62,6 +69,30 @@ fn each_word_is_read(rt: HostRuntime) -> Result<(), Fail> {
     assert_eq!(rt; request.options.policy.fail_on, Level::Note);
     assert_eq!(rt; request.options.policy.max, 4_294_967_295);
     Ok(())
+}
+
+#[test]
+fn each_word_on_reports_is_read(rt: HostRuntime) -> Result<(), Fail> {
+    let line = "a --text t --github=g --markdown m --root file:///builds/app/ --gitlab - --html h \
+        --explain --out o";
+    let request = accepted(&rt, line)?;
+    let reports = &request.reports;
+    assert!(rt; is_named(&reports.text, "t"));
+    assert!(rt; is_named(&reports.github, "g"));
+    assert!(rt; is_named(&reports.markdown, "m"));
+    assert!(rt; is_named(&reports.gitlab, "-"));
+    assert!(rt; is_named(&reports.html, "h"));
+    assert!(rt; request.root.as_str() == "file:///builds/app/");
+    assert!(rt; request.explain);
+    Ok(())
+}
+
+/// Whether there is this name.
+fn is_named(found: &Option<Text>, name: &str) -> bool {
+    match found {
+        Some(found) => found.as_str() == name,
+        None => false,
+    }
 }
 
 #[test]
@@ -100,12 +131,98 @@ fn wrong_words_are_usage(rt: HostRuntime) -> Result<(), Fail> {
         "a --out o --today 20250131 --today 20250131",
         "a --out o --verbose",
         "a --out",
-        "a --out o --suppress o",
+        "a --out o --text t --text u",
+        "a --out o --github g --github h",
+        "a --out o --markdown m --markdown n",
+        "a --out o --gitlab g --gitlab h",
+        "a --out o --html h --html i",
+        "a --out o --root r --root s",
+        "a --out o --explain --explain",
+        "a --out o --explain=true",
+        "a --out o --text",
     ] {
         match read(&rt, line)? {
             Err(fault) => {
                 assert!(rt; matches!(fault, WordsFault::Usage(_)), "{line}");
                 assert_eq!(rt; fault.status(), 2);
+            }
+            Ok(_) => panic!(rt; "{line}"),
+        }
+    }
+    Ok(())
+}
+
+#[test]
+fn names_that_clash_are_usage(rt: HostRuntime) -> Result<(), Fail> {
+    for (line, told) in [
+        ("a --out o --suppress o", "the suppression file"),
+        ("a --out - --suppress -", "the suppression file"),
+        ("a --out o --html s --suppress s", "the suppression file"),
+        ("a --out o --text - --suppress -", "the suppression file"),
+        ("a --out o --text o", "two outputs"),
+        ("a --out o --html o", "two outputs"),
+        ("a --out - --github -", "two outputs"),
+        ("a --out o --text t --github t", "two outputs"),
+        ("a --out o --gitlab p --html p", "two outputs"),
+        ("a --out o --markdown - --html -", "two outputs"),
+        ("a b --out o --text b", "a log or of a baseline"),
+        ("a --out o --baseline b --html b", "a log or of a baseline"),
+        ("- - --out o", "standard input"),
+        ("- a - --out o", "standard input"),
+    ] {
+        match read(&rt, line)? {
+            Err(WordsFault::Usage(text)) => {
+                assert!(rt; text.as_str().starts_with("error: "), "{line}");
+                assert!(rt; text.as_str().contains(told), "{line}");
+                let end = "\n\nFor more information, try '--help'.\n";
+                assert!(rt; text.as_str().ends_with(end), "{line}");
+            }
+            _ => panic!(rt; "{line}"),
+        }
+    }
+    Ok(())
+}
+
+#[test]
+fn names_that_may_stand_together_do(rt: HostRuntime) -> Result<(), Fail> {
+    for line in [
+        // A log, or a baseline, is replaced by the merged log.
+        "a --out a",
+        "a --baseline b --out b",
+        // A log stands twice.
+        "a a --out o",
+        // Standard input, standard output and files of that name.
+        "- --out -",
+        "- --out o --github -",
+        "a --baseline - --out o --text -",
+        "- --suppress - --out o",
+        "a --baseline - --baseline - --out o",
+        // A name is compared byte for byte.
+        "a --out o --text ./o",
+        "a --out o --text O",
+        // The root is no name.
+        "a --out o --text t --root t",
+    ] {
+        match read(&rt, line)? {
+            Ok(_) => {}
+            Err(_) => panic!(rt; "{line}"),
+        }
+    }
+    Ok(())
+}
+
+#[test]
+fn the_version_is_no_mistake(rt: HostRuntime) -> Result<(), Fail> {
+    for line in [
+        "--version",
+        "-V",
+        "a --out o --version",
+        "a --version --out",
+    ] {
+        match read(&rt, line)? {
+            Err(fault) => {
+                assert_eq!(rt; fault.status(), 0, "{line}");
+                assert!(rt; text_of(&fault) == "sarif_gate 1.0.0\n", "{line}");
             }
             Ok(_) => panic!(rt; "{line}"),
         }
@@ -127,7 +244,7 @@ fn help_is_no_mistake(rt: HostRuntime) -> Result<(), Fail> {
     Ok(())
 }
 
-/// The help.
+/// The help, or the version.
 fn text_of(fault: &WordsFault) -> &str {
     match fault {
         WordsFault::Help(text) => text.as_str(),

@@ -1,9 +1,11 @@
 //! What is written, said and complained of, and with which status.
 
+use crate::complaint::Complaints;
+use crate::reports::Reports;
 use crate::request::Request;
 use crate::run::run_request;
-use crate::tests::MERGED;
-use crate::tests::merging::seed;
+use crate::tests::{MERGED, seed};
+use crate::writers::Writers;
 use sarif_merge::{Counted, Readers};
 use sarif_records::Level;
 use std::alloc::{AllocError, Global};
@@ -147,15 +149,22 @@ fn run<T: Threads + Wait + Sync>(
     let out = RefCell::new(Vec::new(alloc));
     let say = RefCell::new(Vec::new(alloc));
     let complain = RefCell::new(Vec::new(alloc));
+    let mut writers: Writers<Narrow<'_>, Narrow<'_>, Narrow<'_>> = Writers {
+        out: Counted::new(Narrow::new(&out, rooms.piece, rooms.out)),
+        reports: Reports::none(),
+        say: Counted::new(Narrow::new(&say, rooms.piece, rooms.say)),
+    };
+    let mut complaints = Complaints::new(Narrow::new(&complain, rooms.piece, rooms.complain));
     let status = run_request(
         threads,
         alloc,
         request,
         &mut readers,
-        &mut Counted::new(Narrow::new(&out, rooms.piece, rooms.out)),
-        &mut Counted::new(Narrow::new(&say, rooms.piece, rooms.say)),
-        &mut Counted::new(Narrow::new(&complain, rooms.piece, rooms.complain)),
+        &mut writers,
+        &mut complaints,
     );
+    drop(writers);
+    drop(complaints);
     Ok(Ended {
         status,
         out: out.into_inner(),
@@ -177,18 +186,26 @@ fn run_all<T: Threads + Wait + Sync>(
         baselines: vec![in alloc; Counted::new(baseline)]?,
         suppressions: Some(Counted::new(suppressions)),
     };
+    let request = Request::of_standard_streams(alloc, seed()?)?;
     let out = RefCell::new(Vec::new(alloc));
     let say = RefCell::new(Vec::new(alloc));
     let complain = RefCell::new(Vec::new(alloc));
+    let mut writers: Writers<Narrow<'_>, Narrow<'_>, Narrow<'_>> = Writers {
+        out: Counted::new(Narrow::new(&out, AMPLE.piece, AMPLE.out)),
+        reports: Reports::none(),
+        say: Counted::new(Narrow::new(&say, AMPLE.piece, AMPLE.say)),
+    };
+    let mut complaints = Complaints::new(Narrow::new(&complain, AMPLE.piece, AMPLE.complain));
     let status = run_request(
         threads,
         alloc,
-        &Request::of_standard_streams(alloc, seed()?)?,
+        &request,
         &mut readers,
-        &mut Counted::new(Narrow::new(&out, AMPLE.piece, AMPLE.out)),
-        &mut Counted::new(Narrow::new(&say, AMPLE.piece, AMPLE.say)),
-        &mut Counted::new(Narrow::new(&complain, AMPLE.piece, AMPLE.complain)),
+        &mut writers,
+        &mut complaints,
     );
+    drop(writers);
+    drop(complaints);
     Ok(Ended {
         status,
         out: out.into_inner(),

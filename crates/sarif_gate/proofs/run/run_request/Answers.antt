@@ -2,14 +2,15 @@ use Rattle.std.proofs.Common.{ap, nat_eq, subst, sym, ◌∙◌, ◌+◌}
 use Rattle.sarif_inputs.specs.Faults.{faults_of}
 use Rattle.sarif_merge.specs.Given.{given_by}
 use Rattle.sarif_sources.proofs.ReadersRead.{were_read_quiet}
-use Rattle.sarif_sources.specs.Counted.{failed_calls, RisesIf}
+use Rattle.sarif_sources.specs.Counted.{RisesIf}
 use Rattle.sarif_sources.specs.WereRead.{failures}
+use Rattle.sarif_gate.specs.Writing.{writer_failures}
 use Rattle.sarif_gate.proofs.Quiet.{quiet_status, no_rise, refused_rise}
 use Rattle.sarif_gate.proofs.run.run_request.Goals as goal
 
 pub returns-in-Ok-clause-accepted : goal.returns-in-Ok-clause-accepted
 returns-in-Ok-clause-accepted g c =
-    λ low. (c.in-Ok.merged, c.accept.ensures.status low, c.in-Ok.ensures.merged, c.accept.ensures.written low, c.accept.ensures.said low)
+    λ low. (c.in-Ok.merged, c.accept.ensures.status low, c.in-Ok.ensures.merged, c.accept.ensures.written low, c.accept.ensures.reported low, c.accept.ensures.said low)
 
 pub returns-in-Ok-clause-faulty : goal.returns-in-Ok-clause-faulty
 returns-in-Ok-clause-faulty g c = λ contents tell read faulty.
@@ -21,14 +22,13 @@ pub returns-in-Err-clause-faulty : goal.returns-in-Err-clause-faulty
 returns-in-Err-clause-faulty g c = λ contents tell read faulty.
     let fault = c.in-Err.fault in
     let calm = were_read_quiet g.R.Read.remaining _ _ contents read in
-    c.refuse.ensures
+    c.refuse.ensures.status
     ∙ quiet_status fault.cause (no_rise _ _ _ c.in-Err.ensures.read_failed calm) c.in-Err.ensures.unwritten
 
 pub returns-in-Err-clause-failed : goal.returns-in-Err-clause-failed
 returns-in-Err-clause-failed g c =
     let before = failures c.args.readers.now in
     let after = failures c.merge_readers.new.readers in
-    let out = failed_calls c.args.out.now in
-    let say = failed_calls c.args.say.now in
-    subst (λ status. RisesIf (nat_eq status 3) (before + out + say) (after + out + say)) (sym c.refuse.ensures)
-    (refused_rise c.in-Err.fault.cause before after out say c.in-Err.ensures.unwritten c.in-Err.ensures.read_failed)
+    let written = writer_failures c.args.writers.now in
+    subst (λ status. RisesIf (nat_eq status 3) (before + written) (after + written)) (sym c.refuse.ensures.status)
+    (refused_rise c.in-Err.fault.cause before after written c.in-Err.ensures.unwritten c.in-Err.ensures.read_failed)

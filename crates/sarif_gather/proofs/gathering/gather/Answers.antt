@@ -22,8 +22,14 @@ settle-requires-2 g c =
     let now = gathered_at _ _ _ _ _ _ _ _ _ _ c.in_ok-gathered.ensures (c.in_ok-collector.ensures ∙ ap (λ n. replicate n empty_run) c.runs-runs.ensures) (c.in_ok-mailbox.posts.ok.0 ∙ c.in_ok-mailbox.ensures.count) in
     subst (λ (l : List Hand). AreAllHands c.in_ok-deal.deal l) (sym c.in_ok-posts.ensures.1) (all_hands _ _ _ _ _ _ _ _ now c.in_ok-deal.ensures.hands_are)
 
-pub gather_scoped-requires-clause-hands : goal.gather_scoped-requires-clause-hands
-gather_scoped-requires-clause-hands g c κs within = λ i hand at. (c.in_ok-deal.ensures.all_of.each i hand at, (c.in_ok-deal.ensures.fresh i hand at).0)
+pub gather_scoped-requires-after_bounds : goal.gather_scoped-requires-after_bounds
+gather_scoped-requires-after_bounds g c κs within = record {
+  posts = c.in_ok-mailbox.ensures.each;
+  hands = λ i hand at. (c.in_ok-deal.ensures.all_of.each i hand at, (c.in_ok-deal.ensures.fresh i hand at).0);
+  count = c.in_ok-deal.ensures.all_of.count ∙ c.in_ok-deal.ensures.hands_are ∙ sym c.in_ok-mailbox.ensures.count;
+  desk = c.in_ok-mailbox.ensures.desk_is;
+  taken = c.in_ok-mailbox.ensures.taken;
+}
 
 pub unreachable-requires : goal.unreachable-requires
 unreachable-requires g c =

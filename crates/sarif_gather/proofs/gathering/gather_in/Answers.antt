@@ -3,8 +3,6 @@ use Rattle.std.specs.Prelude.{slice_get}
 use Rattle.std.specs.List.{list_any}
 use Rattle.std.proofs.lemmas.Option.{slice_get_within, slice_get_read, get_or_from_slice_get}
 use Rattle.sarif_gather.specs.declared.piece.Parcel.{Parcel}
-use Rattle.sarif_gather.specs.declared.mailbox.Mailbox.{Mailbox}
-use Rattle.sarif_gather.specs.declared.deal.state.Deal.{Deal}
 use Rattle.sarif_gather.specs.declared.gathering.worker.Back.{Back}
 use Rattle.sarif_gather.specs.Served.{IsServed}
 use Rattle.sarif_gather.proofs.Places.{none_passes}
@@ -16,7 +14,7 @@ returns g c =
     let handles = c.in_ok-handles.handles.items in
     let started = c.if-started-workers.false in
     let P : Type 0 = Parcel g.row.W-Item.Denot g.row.W-Tail.Denot in
-    let F : g.row.W.Denot → Deal → Mailbox P → ℕ → Back P → Type 0 = λ w d m k b. IsServed (g.W.Work.count w) (g.W.Work.item w) (g.W.Work.end w) m d k b in
+    let place = c.args.place.now in
     let short : (k : ℕ) (back : Back P) → slice_get backs k ≡ Some back → back.short ≡ false = λ k back at.
     none_passes (λ b. b.short) backs (ap (λ l. list_any (λ (b : Back P). b.short) l) (sym c.as_slice.ensures.value) ∙ sym c.is_short.ensures ∙ c.if-is_short.false) k back at in
     record {
@@ -30,9 +28,9 @@ returns g c =
           let keeps = (c.in-Ok.ensures.each k back (omega (arith, lt))).1 in
           let made = c.in_ok-handles.ensures.each k keeps.handle (slice_get_read handles (length handles) k keeps.handle refl lt keeps.handle_is) in
           let p = keeps.handle.promise in
-          let one = subst (λ w. F w p.deal.now p.mailbox.now p.worker (get_or backs k back)) made.0 keeps.kept in
-          let two = subst (λ d. F c.args.work.now d p.mailbox.now p.worker (get_or backs k back)) made.1 one in
-          let three = subst (λ m. F c.args.work.now c.args.deal.now m p.worker (get_or backs k back)) made.2 two in
-          let four = subst (λ n. F c.args.work.now c.args.deal.now c.args.mailbox.now n (get_or backs k back)) made.3 three in
-          (subst (λ b. F c.args.work.now c.args.deal.now c.args.mailbox.now k b) (get_or_from_slice_get backs k back back at) four, short k back at);
+          let here = subst (λ q. IsServed (g.W.Work.count q.work.now) (g.W.Work.item q.work.now) (g.W.Work.end q.work.now) q.mailbox.now q.deal.now p.worker (get_or backs k back)) made.0 keeps.kept in
+          let one = subst (λ n. IsServed (g.W.Work.count place.work.now) (g.W.Work.item place.work.now) (g.W.Work.end place.work.now) place.mailbox.now place.deal.now n (get_or backs k back)) made.1 here in (
+            subst (λ b. IsServed (g.W.Work.count place.work.now) (g.W.Work.item place.work.now) (g.W.Work.end place.work.now) place.mailbox.now place.deal.now k b) (get_or_from_slice_get backs k back back at) one,
+            short k back at,
+          );
     }

@@ -10,26 +10,14 @@ scoped-requires g c =
     let r = c.requires in
     record {
       at = λ a. (
-        r.deal,
+        r,
         (
-          r.posts,
-          (
-            r.hands,
-            (
-              r.count,
-              (
-                r.desk,
-                (
-                  record { owned = b.send-W-Head.owned; leaving = λ k. Quiet-if (k (of_param 3)) unseen unseen (λ x w. tt) (λ x w. tt) },
-                  record { owned = b.send-W-Item.owned; leaving = λ k. Quiet-if (k (of_param 4)) unseen unseen (λ x w. tt) (λ x w. tt) },
-                  record { owned = b.send-W-Tail.owned; leaving = λ k. Quiet-if (k (of_param 5)) unseen unseen (λ x w. tt) (λ x w. tt) },
-                  search (sendable, b.sync-W),
-                  search (sendable, b.sync-G),
-                  search (sendable, b.sync-R),
-                ),
-              ),
-            ),
-          ),
+          record { owned = b.send-W-Head.owned; leaving = λ k. Quiet-if (k (of_param 3)) unseen unseen (λ x w. tt) (λ x w. tt) },
+          record { owned = b.send-W-Item.owned; leaving = λ k. Quiet-if (k (of_param 4)) unseen unseen (λ x w. tt) (λ x w. tt) },
+          record { owned = b.send-W-Tail.owned; leaving = λ k. Quiet-if (k (of_param 5)) unseen unseen (λ x w. tt) (λ x w. tt) },
+          search (sendable, b.sync-W),
+          search (sendable, b.sync-G),
+          search (sendable, b.sync-R),
         ),
       );
     }

@@ -26,14 +26,12 @@ loop-post-preserved g c =
       omega arith,
       omega arith,
       omega arith,
-      λ i p at. subst (λ n. IsNewPost c.args.mailbox.now n p) (omega (arith, longer)) (was.5 (suc i) p (ap (λ l. slice_get l (suc i)) steps ∙ at)),
+      λ i p at. subst (λ n. IsNewPost c.args.place.now.mailbox.now n p) (omega (arith, longer)) (was.5 (suc i) p (ap (λ l. slice_get l (suc i)) steps ∙ at)),
       λ i hand at. was.6 i hand (ap (λ l. slice_get l i) c.in-Some-pop.ensures.items ∙ slice_get_longer c.pop.new.self.items (c.in-Some-pop.hand ∷ []) i hand at),
       λ k h at. ⊎_elim (λ e. was.7 k h e)
           (λ e. (
-            ap (λ q. q.promise.work.now) (sym e.1) ∙ made.0,
-            ap (λ q. q.promise.deal.now) (sym e.1) ∙ made.1,
-            ap (λ q. q.promise.mailbox.now) (sym e.1) ∙ made.2,
-            ap (λ q. q.promise.worker) (sym e.1) ∙ made.3 ∙ mine.number ∙ omega (arith, e.0, was.2),
+            ap (λ q. q.promise.place.now) (sym e.1) ∙ made.0,
+            ap (λ q. q.promise.worker) (sym e.1) ∙ made.1 ∙ mine.number ∙ omega (arith, e.0, was.2),
           ))
           (slice_get_push c.loop-post.handles.items c.in-Some-started.handle k h (ap (λ l. slice_get l k) (sym c.push_reserved.ensures.items) ∙ at)),
     )

@@ -10,6 +10,6 @@ abbrev pub invariant-loop-post : goal.invariant-loop-post
 invariant-loop-post g l =
     (goal.iterator-loop-post g).can_next l.post-iterator × (goal.iterator-loop-post g).is_finite l.post-iterator × (vec_len l.handles ≡ length l.yielded)
     × (vec_len l.hands ≡ length (into_iter_items l.post-iterator)) × (vec_len l.handles + length (into_iter_items l.post-iterator) ≤ vec_capacity l.handles)
-    × ((i : ℕ) (post : _) → slice_get (into_iter_items l.post-iterator) i ≡ Some post → IsNewPost l.mailbox (length l.yielded + i) post)
-    × ((i : ℕ) (hand : _) → slice_get l.hands.items i ≡ Some hand → IsHandOf l.deal hand × (drawn_by hand ≡ []))
-    × ((k : ℕ) (h : _) → slice_get l.handles.items k ≡ Some h → (h.promise.work.now ≡ l.work) × (h.promise.deal.now ≡ l.deal) × (h.promise.mailbox.now ≡ l.mailbox) × (h.promise.worker ≡ k))
+    × ((i : ℕ) (post : _) → slice_get (into_iter_items l.post-iterator) i ≡ Some post → IsNewPost l.place.mailbox.now (length l.yielded + i) post)
+    × ((i : ℕ) (hand : _) → slice_get l.hands.items i ≡ Some hand → IsHandOf l.place.deal.now hand × (drawn_by hand ≡ []))
+    × ((k : ℕ) (h : _) → slice_get l.handles.items k ≡ Some h → (h.promise.place.now ≡ l.place) × (h.promise.worker ≡ k))

@@ -1,4 +1,4 @@
-use Rattle.std.proofs.Common.{◌≡◌, ◌≤◌, ◌++◌, ℕ, List, Vec, Global, refl, map, length, sym, subst}
+use Rattle.std.proofs.Common.{◌≤◌, ◌++◌, ℕ, List, Vec, Global, refl, map, length, sym, subst}
 use Rattle.std.specs.Prelude.{option_map}
 use Rattle.json_index.specs.Together.{AreIndexed}
 use Rattle.sarif_records.specs.Reading.{without_mark}

@@ -7,5 +7,5 @@ use Rattle.sarif_gather.proofs.gathering.worker.send_run.Given as goal
 
 abbrev pub invariant-loop-seq : goal.invariant-loop-seq
 invariant-loop-seq g l =
-    IsPostOf l.mailbox l.post × (number_of l.post ≡ number_of l.fn.post)
-    × (sent_by l.post ≡ sent_by l.fn.post ++ map Carry (map (λ seq. Item l.run seq (g.W.Work.item l.work l.run seq)) (range_with_len 0 l.seq)))
+    IsPostOf l.place.mailbox.now l.post × (number_of l.post ≡ number_of l.fn.post)
+    × (sent_by l.post ≡ sent_by l.fn.post ++ map Carry (map (λ seq. Item l.run seq (g.W.Work.item l.place.work.now l.run seq)) (range_with_len 0 l.seq)))

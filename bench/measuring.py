@@ -1,0 +1,45 @@
+"""Running a program once, and what that took."""
+
+import os
+import tempfile
+import time
+from dataclasses import dataclass
+from pathlib import Path
+
+WORK = Path(__file__).resolve().parent / "work"
+
+
+@dataclass
+class Run:
+    """What one run of a program took."""
+
+    wall: float
+    processor: float
+    peak: int
+
+
+def measure(words, given, out):
+    """Runs the words with the file `given` as standard input, its output going to `out`."""
+    with tempfile.TemporaryFile() as said:
+        ran, status = spawned(words, given or os.devnull, out, said.fileno())
+        if os.waitstatus_to_exitcode(status) not in (0, 1):
+            said.seek(0)
+            text = said.read(300).decode(errors="replace").strip()
+            raise SystemExit(f"{' '.join(words)[:200]} ended badly: {text}")
+    return ran
+
+
+def spawned(words, given, out, said):
+    """Runs the words with these as standard streams: what it took, and how it ended."""
+    flags = os.O_WRONLY | os.O_CREAT | os.O_TRUNC
+    streams = [os.open(given, os.O_RDONLY), os.open(out, flags, 0o644)]
+    actions = [
+        (os.POSIX_SPAWN_DUP2, stream, number) for number, stream in enumerate([*streams, said])
+    ]
+    begin = time.monotonic()
+    child = os.posix_spawn(words[0], words, os.environ, file_actions=actions)
+    _, status, used = os.wait4(child, 0)
+    wall = time.monotonic() - begin
+    for stream in streams:
+        os.close(stream)
+    return Run(wall, used.ru_utime + used.ru_stime, used.ru_maxrss * 1024), status

@@ -1,0 +1,414 @@
+"""Inputs that could cost more than their bytes, each beside a harmless one of the same size.
+
+A shape makes both of a number: the costly input and its twin, which has as many results and nearly
+the same length. What many results share in the one stands in a member that isn't read in the other;
+what asks for much work in the one asks for little in the other.
+"""
+
+import json
+from dataclasses import dataclass, field
+from typing import Optional
+
+LONG = "n" * 100_000
+# Names that begin so, and go on with eight digits and this end, have one hash in the kit's tables
+# where their seed is its default.
+SAME_HASH = "p9zdi529cnqp5de7tP_z'E{$", "/v1/v1/v1/v1/v1/"
+OTHER_HASH = "another-beginning-of-it_", "/v1/v1/v1/v1/v1/"
+
+
+@dataclass
+class Input:
+    """What a merge is given."""
+
+    logs: list
+    baselines: list = field(default_factory=list)
+    suppress: Optional[str] = None
+    workers: int = 1
+
+    def files(self, folder):
+        """Writes the files: the words that merge them."""
+        words = ["--workers", str(self.workers), "--today", "20250131"]
+        for number, text in enumerate(self.baselines):
+            words += ["--baseline", put(folder / f"baseline{number}", text)]
+        if self.suppress is not None:
+            words += ["--suppress", put(folder / "suppressions", self.suppress)]
+        return [*words, *(put(folder / f"log{n}", text) for n, text in enumerate(self.logs))]
+
+    def bytes(self):
+        return sum(map(len, [*self.logs, *self.baselines, self.suppress or ""]))
+
+
+def put(path, text):
+    path.write_text(text, encoding="utf-8")
+    return str(path)
+
+
+def compact(value):
+    return json.dumps(value, ensure_ascii=False, separators=(",", ":"))
+
+
+def log(*runs):
+    return compact({"version": "2.1.0", "runs": list(runs)})
+
+
+def run(results, driver=None, **members):
+    return {"tool": {"driver": {"name": "t", **(driver or {})}}, "results": results, **members}
+
+
+def entries(found):
+    return compact({"version": 2, "suppressions": found})
+
+
+def message(text="m", **members):
+    return {"message": {"text": text}, **members}
+
+
+def at(uri):
+    return {"locations": [{"physicalLocation": {"artifactLocation": {"uri": uri}}}]}
+
+
+def placed(**location):
+    return {"locations": [{"physicalLocation": {"artifactLocation": location}}]}
+
+
+# ---- A long text that many results share
+
+
+def tool_name(count):
+    for driver in ({"name": LONG}, {"fullName": LONG}):
+        yield Input([log(run([{}] * count, driver))])
+
+
+def rule_id(count):
+    for rule in ({"id": LONG}, {"id": "R", "name": LONG}):
+        yield Input([log(run([{"ruleIndex": 0}] * count, {"rules": [rule]}))])
+
+
+def artifact_uri(count):
+    for location in ({"uri": LONG}, {"uri": "u", "x": LONG}):
+        artifacts = [{"location": location}]
+        yield Input([log(run([placed(index=0)] * count, artifacts=artifacts))])
+
+
+def artifact_base(count):
+    for location in ({"uri": "u", "uriBaseId": LONG}, {"uri": "u", "x": LONG}):
+        artifacts = [{"location": location}]
+        yield Input([log(run([placed(index=0)] * count, artifacts=artifacts))])
+
+
+def shared_texts(count):
+    """The three at once, in a log and a baseline."""
+    for name, other in (("id", "name"), ("name", "id")):
+        rule = {name: LONG, other: "R"}
+        driver = {"name": LONG if name == "id" else "t", "rules": [rule]}
+        driver["x"] = "t" if name == "id" else LONG
+        text = log(run([{"ruleIndex": 0}] * count, driver))
+        yield Input([text], [text])
+
+
+def tool_and_names(count):
+    for driver in ({"name": LONG}, {"fullName": LONG}):
+        names = [{f"f{i}/v1": f"{side}{i}" for i in range(count)} for side in "ab"]
+        now, before = (log(run([message(fingerprints=it)], driver)) for it in names)
+        yield Input([now], [before])
+
+
+# ---- Names that collide
+
+
+def hashed(number, parts):
+    return f"{parts[0]}{number:08}{parts[1]}"
+
+
+def colliding_names(count):
+    for parts in (SAME_HASH, OTHER_HASH):
+        names = [hashed(i, parts) for i in range(count)]
+        results = [message(fingerprints={it: "x"}) for it in names]
+        yield Input([log(run(results))], [log(run(results[::-1]))])
+
+
+def colliding_rules(count):
+    for parts in (SAME_HASH, OTHER_HASH):
+        names = [hashed(i, parts) for i in range(count)]
+        rules = [{"id": it} for it in names]
+        yield Input([log(run([{"ruleId": it} for it in names], {"rules": rules}))])
+
+
+def colliding_entries(count):
+    for parts in (SAME_HASH, OTHER_HASH):
+        names = [hashed(i, parts) for i in range(count)]
+        found = entries([{"ruleId": it} for it in names])
+        yield Input([log(run([{"ruleId": it} for it in names]))], suppress=found)
+
+
+# ---- Entries and suppressions
+
+
+def entry_of_names(count):
+    names = {f"f{i}/v1": f"{i}" for i in range(count)}
+    for member in ("fingerprints", "other_prints"):
+        result = message(**{member: names})
+        yield Input([log(run([result]))], suppress=entries([{"fingerprints": names}]))
+
+
+def own_suppressions(count):
+    own = [{"kind": "inSource"}] * count
+    for rule in "RX":
+        found = [{"ruleId": rule, "justification": f"{i}"} for i in range(count // 100)]
+        yield Input([log(run([message(ruleId="R", suppressions=own)]))], suppress=entries(found))
+
+
+def equal_objects(count):
+    for justification in (lambda i: "same", lambda i: f"{i:04}"):
+        found = [{"ruleId": "R", "justification": justification(i)} for i in range(count // 100)]
+        yield Input([log(run([{"ruleId": "R"}] * (count // 100)))], suppress=entries(found))
+
+
+def entries_by(condition, guid="00000000-0000-0000-0000-{:012}"):
+    """Five results an entry, entries that match none by this condition, beside as many by guid."""
+
+    def make(count):
+        results = [
+            message(
+                ruleId=f"R{i % 50}",
+                fingerprints={"f/v1": f"{i}"},
+                partialFingerprints={"p/v1": f"{i}"},
+                **at(f"src/{i}.c"),
+            )
+            for i in range(count * 5)
+        ]
+        text = log(run(results))
+        yield Input([text], suppress=entries([condition(i) for i in range(count)]))
+        found = [{"guid": guid.format(i)} for i in range(count)]
+        yield Input([text], suppress=entries(found))
+
+    return make
+
+
+# ---- Parts of a run
+
+
+def overrides_of_nothing(count):
+    """Overrides that name no rule that there is, beside overrides of the rules."""
+    rules = [{"id": f"R{i}"} for i in range(count)]
+    results = [{"ruleIndex": i, "provenance": {"invocationIndex": 0}} for i in range(count)]
+    for letter in "XR":
+        overrides = [
+            {"descriptor": {"id": f"{letter}{i}"}, "configuration": {"level": "note"}}
+            for i in range(count)
+        ]
+        invocations = [{"executionSuccessful": True, "ruleConfigurationOverrides": overrides}]
+        yield Input([log(run(results, {"rules": rules}, invocations=invocations))])
+
+
+def overrides_of_one(count):
+    """Overrides of one rule, of which the first counts, beside one of each rule."""
+    rules = [{"id": f"R{i}"} for i in range(count)]
+    for is_one in (True, False):
+        results = [
+            {"ruleIndex": 0 if is_one else i, "provenance": {"invocationIndex": 0}}
+            for i in range(count)
+        ]
+        overrides = [
+            {"descriptor": {"index": 0 if is_one else i}, "configuration": {"level": "note"}}
+            for i in range(count)
+        ]
+        invocations = [{"executionSuccessful": True, "ruleConfigurationOverrides": overrides}]
+        yield Input([log(run(results, {"rules": rules}, invocations=invocations))])
+
+
+def invocations(count):
+    """An invocation a result, beside one of all."""
+    found = [{"executionSuccessful": True}] * count
+    for is_one in (False, True):
+        results = [{"provenance": {"invocationIndex": 0 if is_one else i}} for i in range(count)]
+        yield Input([log(run(results, invocations=found))])
+
+
+def extensions(count):
+    """A component a result, beside one of all."""
+    driver = {"name": "t", "rules": []}
+    found = [{"name": f"e{i}", "rules": [{"id": "R"}]} for i in range(count)]
+    for is_one in (False, True):
+        results = [
+            {"rule": {"index": 0, "toolComponent": {"index": 0 if is_one else i}}}
+            for i in range(count)
+        ]
+        given = {"tool": {"driver": driver, "extensions": found}, "results": results}
+        yield Input([log(given)])
+
+
+def equal_rules(count):
+    """Rules of one id, of which the first is found, beside rules of different ids."""
+    for is_one in (True, False):
+        names = ["R00000" if is_one else f"R{i:05}" for i in range(count)]
+        rules = [{"id": it} for it in names]
+        yield Input([log(run([{"ruleId": it} for it in names], {"rules": rules}))])
+
+
+# ---- Matching
+
+
+def equal_results(count):
+    """Equal results on both sides, beside different ones."""
+    for is_one in (True, False):
+        text = log(run([message(f"{0 if is_one else i:06}", ruleId="R") for i in range(count)]))
+        yield Input([text], [text])
+
+
+def equal_prints(count):
+    """Results of one fingerprint and different messages, beside a fingerprint each."""
+    for is_one in (True, False):
+        sides = [
+            log(
+                run(
+                    [
+                        message(
+                            f"{side}{i:06}",
+                            partialFingerprints={"p/v1": f"{0 if is_one else i:06}"},
+                            **at(f"{side}{i}.c"),
+                        )
+                        for i in range(count)
+                    ]
+                )
+            )
+            for side in "ab"
+        ]
+        yield Input(sides[:1], sides[1:])
+
+
+def many_names(count):
+    """Fingerprints that are all in conflict, beside ones that agree."""
+    for other in "ba":
+        sides = [
+            log(
+                run(
+                    [
+                        message(
+                            fingerprints={f"f{i % 300}/v1": f"{side}{i}", "g/v1": f"{i // 300}"}
+                        )
+                        for i in range(count)
+                    ]
+                )
+            )
+            for side in ("a", other)
+        ]
+        yield Input(sides[:1], sides[1:])
+
+
+def arguments(count):
+    """A message of many arguments on both sides, beside a list that isn't read."""
+    words = [f"{i}" for i in range(count)]
+    for result in (
+        {"message": {"id": "m", "arguments": words}},
+        {"message": {"id": "m", "argumentx": words}},
+    ):
+        text = log(run([result]))
+        yield Input([text], [text])
+
+
+# ---- JSON
+
+
+def fractions(count):
+    """Numbers with a fraction, which are dropped with their members, beside whole ones."""
+    for number in (1.5, 125):
+        yield Input([log(run([message(properties={f"m{i}": number for i in range(count)})]))])
+
+
+def fractions_in_lists(count):
+    """The same in lists."""
+    for number in (1.5, 125):
+        yield Input([log(run([message(properties={"m": [[number]] * count})]))])
+
+
+def reversed_members(count):
+    """Members against the order of their names, beside ones in it."""
+    for order in (-1, 1):
+        members = {f"m{i:06}": i for i in range(count)[::order]}
+        yield Input([log(run([message(properties=members)]))])
+
+
+def repeated_members(count):
+    """Members of one name, of which the last counts, beside members of different names."""
+    for is_one in (True, False):
+        members = ",".join(f'"m{0 if is_one else i:06}":{i}' for i in range(count))
+        text = log(run([message(properties={"x": 0})]))
+        yield Input([text.replace('"x":0', members)])
+
+
+def depth(count):
+    """Values nested 115 deep, beside lists of as many brackets."""
+    for value in ("[" * 115 + "]" * 115, "[" + "[]," * 76 + "]"):
+        value = value.replace(",]", "]")
+        text = log(run([message(properties={"x": 0})] * (count // 115)))
+        yield Input([text.replace('"x":0', f'"x":{value}')])
+
+
+def escapes(count):
+    """A text of escapes, beside one of plain characters."""
+    for text in ("\\u0001", "\\\\\\n\\t"):
+        whole = log(run([message("TEXT")])).replace("TEXT", text * count)
+        yield Input([whole])
+
+
+# ---- Runs and sources
+
+
+def runs_by_64(count):
+    """Runs of one result by 64 workers, beside one."""
+    text = log(*[run([{}]) for _ in range(count)])
+    for workers in (64, 1):
+        yield Input([text], workers=workers)
+
+
+def sources(count):
+    """Logs of a run each, beside one log of as many runs."""
+    yield Input([log(run([{}] * 20))] * count)
+    yield Input([log(*[run([{}] * 20)] * count)])
+
+
+# A maker of a costly input and its twin, and the size at which they are measured.
+SHAPES = {
+    # Tool names, rule ids, uris and their bases of 100,000 bytes, which many results share.
+    "tool_name": (tool_name, 20_000),
+    "rule_id": (rule_id, 20_000),
+    "artifact_uri": (artifact_uri, 20_000),
+    "artifact_base": (artifact_base, 20_000),
+    "shared_texts": (shared_texts, 20_000),
+    "tool_and_names": (tool_and_names, 20_000),
+    # Names of one hash.
+    "colliding_names": (colliding_names, 20_000),
+    "colliding_rules": (colliding_rules, 20_000),
+    "colliding_entries": (colliding_entries, 10_000),
+    # Entries, by the one condition that they name.
+    "entry_of_names": (entry_of_names, 20_000),
+    "own_suppressions": (own_suppressions, 100_000),
+    "equal_objects": (equal_objects, 50_000),
+    "entries_uri": (entries_by(lambda i: {"uri": f"srx/{i}.c"}), 10_000),
+    "entries_prefix": (entries_by(lambda i: {"uriPrefix": f"src/{i}.cc"}), 10_000),
+    "entries_fingerprint": (entries_by(lambda i: {"fingerprints": {"f/v1": f"x{i}"}}), 10_000),
+    "entries_partial": (entries_by(lambda i: {"partialFingerprints": {"p/v1": f"x{i}"}}), 10_000),
+    "entries_tool": (entries_by(lambda i: {"tool": f"u{i}"}), 10_000),
+    "entries_rule_and_uri": (
+        entries_by(lambda i: {"ruleId": f"R{i % 50}", "uri": f"srx/{i}.c"}),
+        10_000,
+    ),
+    "overrides_of_nothing": (overrides_of_nothing, 20_000),
+    "overrides_of_one": (overrides_of_one, 20_000),
+    "invocations": (invocations, 20_000),
+    "extensions": (extensions, 20_000),
+    "equal_rules": (equal_rules, 20_000),
+    "equal_results": (equal_results, 20_000),
+    "equal_prints": (equal_prints, 20_000),
+    "many_names": (many_names, 20_000),
+    "arguments": (arguments, 100_000),
+    "fractions": (fractions, 100_000),
+    "fractions_in_lists": (fractions_in_lists, 200_000),
+    "reversed_members": (reversed_members, 100_000),
+    "repeated_members": (repeated_members, 100_000),
+    "depth": (depth, 1_000_000),
+    "escapes": (escapes, 500_000),
+    "runs_by_64": (runs_by_64, 10_000),
+    "sources": (sources, 1_000),
+}

@@ -1,0 +1,2 @@
+pub mod EscapedMore
+pub mod ShortenedMore

@@ -1,0 +1,294 @@
+//! Which members are looked at for which cause, in the order in which a merge looks at them: the tables.
+use crate::wanted::Wanted;
+use sarif_sources::Cause;
+
+/// Whether a member may be absent.
+#[derive(Clone, Copy, Debug, PartialEq, Eq)]
+pub(crate) enum Need {
+    /// It may be absent or null.
+    May,
+    /// It must be there.
+    Must,
+}
+
+use Need::{May, Must};
+
+/// A value, by the names of the members on the way to it, and what is wanted of it.
+#[derive(Clone, Copy)]
+pub(crate) struct Check(pub &'static [&'static str], pub Need, pub Wanted);
+
+const NOT_LOG: &[Check] = &[
+    Check(&[], Must, Wanted::Log),
+    Check(&["runs"], Must, Wanted::Runs),
+];
+
+const LOG_VERSION: &[Check] = &[Check(&["version"], Must, Wanted::LogVersion)];
+
+const MANY_RUNS: &[Check] = &[Check(&["runs"], May, Wanted::FewRuns)];
+
+/// The checks of a whole log.
+pub(crate) fn log_checks(cause: Cause) -> &'static [Check] {
+    match cause {
+        Cause::NotLog => NOT_LOG,
+        Cause::WrongVersion => LOG_VERSION,
+        Cause::TooMany => MANY_RUNS,
+        _ => &[],
+    }
+}
+
+const NOT_LIST: &[Check] = &[
+    Check(&[], Must, Wanted::Entries),
+    Check(&["suppressions"], Must, Wanted::Array),
+];
+
+const FILE_VERSION: &[Check] = &[Check(&["version"], Must, Wanted::FileVersion)];
+
+const MANY_ENTRIES: &[Check] = &[Check(&["suppressions"], May, Wanted::FewEntries)];
+
+/// The checks of the whole suppression file.
+pub(crate) fn file_checks(cause: Cause) -> &'static [Check] {
+    match cause {
+        Cause::NotList => NOT_LIST,
+        Cause::WrongVersion => FILE_VERSION,
+        Cause::TooMany => MANY_ENTRIES,
+        _ => &[],
+    }
+}
+
+const BAD_RUN: &[Check] = &[
+    Check(&[], Must, Wanted::Run),
+    Check(&["tool"], Must, Wanted::Object),
+    Check(&["tool", "driver"], Must, Wanted::Object),
+    Check(&["tool", "driver", "name"], Must, Wanted::Text),
+    Check(&["results"], May, Wanted::Objects),
+];
+
+const EXTERNAL: &[Check] = &[Check(&["externalPropertyFileReferences"], May, Wanted::NoFiles)];
+
+const MANY_RESULTS: &[Check] = &[Check(&["results"], May, Wanted::FewResults)];
+
+const BAD_EXTENSIONS: &[Check] = &[Check(&["tool", "extensions"], May, Wanted::Objects)];
+
+const BAD_ARTIFACTS: &[Check] = &[Check(&["artifacts"], May, Wanted::Objects)];
+
+const BAD_INVOCATIONS: &[Check] = &[Check(&["invocations"], May, Wanted::Objects)];
+
+/// The checks of a run's own members.
+pub(crate) fn run_checks(cause: Cause) -> &'static [Check] {
+    match cause {
+        Cause::BadRun => BAD_RUN,
+        Cause::ExternalProperties => EXTERNAL,
+        Cause::TooMany => MANY_RESULTS,
+        Cause::BadRules => BAD_EXTENSIONS,
+        Cause::BadLocation => BAD_ARTIFACTS,
+        Cause::BadMember => BAD_INVOCATIONS,
+        _ => &[],
+    }
+}
+
+const RULES: &[Check] = &[Check(&["rules"], May, Wanted::Array)];
+
+/// The checks of the driver, and of each extension.
+pub(crate) fn component_checks(cause: Cause) -> &'static [Check] {
+    match cause {
+        Cause::BadRules => RULES,
+        _ => &[],
+    }
+}
+
+const BAD_RULE: &[Check] = &[
+    Check(&[], Must, Wanted::Object),
+    Check(&["id"], Must, Wanted::Text),
+    Check(&["defaultConfiguration"], May, Wanted::Object),
+];
+
+const DEFAULT_LEVEL: &[Check] = &[Check(&["defaultConfiguration", "level"], May, Wanted::Level)];
+
+/// The checks of each rule.
+pub(crate) fn rule_checks(cause: Cause) -> &'static [Check] {
+    match cause {
+        Cause::BadRules => BAD_RULE,
+        Cause::BadLevel => DEFAULT_LEVEL,
+        _ => &[],
+    }
+}
+
+const BAD_ARTIFACT: &[Check] = &[
+    Check(&["location"], May, Wanted::Object),
+    Check(&["location", "uri"], May, Wanted::Text),
+    Check(&["location", "uriBaseId"], May, Wanted::Text),
+];
+
+/// The checks of each artifact.
+pub(crate) fn artifact_checks(cause: Cause) -> &'static [Check] {
+    match cause {
+        Cause::BadLocation => BAD_ARTIFACT,
+        _ => &[],
+    }
+}
+
+const OVERRIDES: &[Check] = &[Check(&["ruleConfigurationOverrides"], May, Wanted::Objects)];
+
+/// The checks of each invocation.
+pub(crate) fn invocation_checks(cause: Cause) -> &'static [Check] {
+    match cause {
+        Cause::BadMember => OVERRIDES,
+        _ => &[],
+    }
+}
+
+const BAD_OVERRIDE: &[Check] = &[
+    Check(&["descriptor"], May, Wanted::Object),
+    Check(&["descriptor", "id"], May, Wanted::Text),
+    Check(&["descriptor", "toolComponent"], May, Wanted::Object),
+    Check(&["configuration"], May, Wanted::Object),
+];
+
+const OVERRIDE_INDEXES: &[Check] = &[
+    Check(&["descriptor", "index"], May, Wanted::Index),
+    Check(
+        &["descriptor", "toolComponent", "index"],
+        May,
+        Wanted::Index,
+    ),
+];
+
+const OVERRIDE_LEVEL: &[Check] = &[Check(&["configuration", "level"], May, Wanted::Level)];
+
+/// The checks of each override.
+pub(crate) fn override_checks(cause: Cause) -> &'static [Check] {
+    match cause {
+        Cause::BadMember => BAD_OVERRIDE,
+        Cause::BadIndex => OVERRIDE_INDEXES,
+        Cause::BadLevel => OVERRIDE_LEVEL,
+        _ => &[],
+    }
+}
+
+const ABSENT: &[Check] = &[Check(&["baselineState"], May, Wanted::Present)];
+
+const KIND: &[Check] = &[Check(&["kind"], May, Wanted::Kind)];
+
+const LEVEL: &[Check] = &[Check(&["level"], May, Wanted::Level)];
+
+const GUID: &[Check] = &[Check(&["correlationGuid"], May, Wanted::Guid)];
+
+const FINGERPRINTS: &[Check] = &[
+    Check(&["fingerprints"], May, Wanted::TextMap),
+    Check(&["partialFingerprints"], May, Wanted::TextMap),
+];
+
+const SUPPRESSIONS: &[Check] = &[Check(&["suppressions"], May, Wanted::Objects)];
+
+const MEMBERS: &[Check] = &[
+    Check(&["message"], May, Wanted::Object),
+    Check(&["message", "text"], May, Wanted::Text),
+    Check(&["message", "id"], May, Wanted::Text),
+    Check(&["message", "arguments"], May, Wanted::Texts),
+    Check(&["ruleId"], May, Wanted::Text),
+    Check(&["rule"], May, Wanted::Object),
+    Check(&["rule", "id"], May, Wanted::Text),
+    Check(&["rule", "toolComponent"], May, Wanted::Object),
+    Check(&["provenance"], May, Wanted::Object),
+];
+
+const INDEXES: &[Check] = &[
+    Check(&["ruleIndex"], May, Wanted::Index),
+    Check(&["rule", "index"], May, Wanted::Index),
+    Check(&["rule", "toolComponent", "index"], May, Wanted::Index),
+    Check(&["provenance", "invocationIndex"], May, Wanted::Index),
+];
+
+const LOCATIONS: &[Check] = &[Check(&["locations"], May, Wanted::Array)];
+
+/// The checks of a result's own members.
+pub(crate) fn result_checks(cause: Cause) -> &'static [Check] {
+    match cause {
+        Cause::AbsentInput => ABSENT,
+        Cause::BadKind => KIND,
+        Cause::BadLevel => LEVEL,
+        Cause::BadGuid => GUID,
+        Cause::BadFingerprint => FINGERPRINTS,
+        Cause::BadSuppression => SUPPRESSIONS,
+        Cause::BadMember => MEMBERS,
+        Cause::BadIndex => INDEXES,
+        Cause::BadLocation => LOCATIONS,
+        _ => &[],
+    }
+}
+
+const SUPPRESSION: &[Check] = &[
+    Check(&["kind"], Must, Wanted::SuppressionKind),
+    Check(&["status"], May, Wanted::Status),
+];
+
+/// The checks of each suppression of a result.
+pub(crate) fn suppression_checks(cause: Cause) -> &'static [Check] {
+    match cause {
+        Cause::BadSuppression => SUPPRESSION,
+        _ => &[],
+    }
+}
+
+const LOCATION: &[Check] = &[
+    Check(&[], Must, Wanted::Object),
+    Check(&["physicalLocation"], May, Wanted::Object),
+    Check(
+        &["physicalLocation", "artifactLocation"],
+        May,
+        Wanted::Object,
+    ),
+    Check(
+        &["physicalLocation", "artifactLocation", "uri"],
+        May,
+        Wanted::Text,
+    ),
+    Check(
+        &["physicalLocation", "artifactLocation", "uriBaseId"],
+        May,
+        Wanted::Text,
+    ),
+];
+
+const LOCATION_INDEX: &[Check] = &[Check(
+    &["physicalLocation", "artifactLocation", "index"],
+    May,
+    Wanted::Index,
+)];
+
+/// The checks of a result's first location.
+pub(crate) fn location_checks(cause: Cause) -> &'static [Check] {
+    match cause {
+        Cause::BadLocation => LOCATION,
+        Cause::BadIndex => LOCATION_INDEX,
+        _ => &[],
+    }
+}
+
+const ENTRY_MEMBERS: &[Check] = &[
+    Check(&[], Must, Wanted::Entry),
+    Check(&["tool"], May, Wanted::Text),
+    Check(&["ruleId"], May, Wanted::Text),
+    Check(&["uri"], May, Wanted::Text),
+    Check(&["uriPrefix"], May, Wanted::Text),
+    Check(&["guid"], May, Wanted::Guid),
+    Check(&["fingerprints"], May, Wanted::TextMap),
+    Check(&["partialFingerprints"], May, Wanted::TextMap),
+    Check(&["expires"], May, Wanted::Day),
+    Check(&["status"], May, Wanted::Status),
+    Check(&["justification"], May, Wanted::Text),
+];
+
+const EMPTY_MATCH: &[Check] = &[Check(&[], Must, Wanted::Condition)];
+
+const TODAY: &[Check] = &[Check(&["expires"], May, Wanted::Today)];
+
+/// The checks of an entry of the suppression file, of which the names of its members are known.
+pub(crate) fn entry_checks(cause: Cause) -> &'static [Check] {
+    match cause {
+        Cause::BadEntry => ENTRY_MEMBERS,
+        Cause::EmptyMatch => EMPTY_MATCH,
+        Cause::NeedsToday => TODAY,
+        _ => &[],
+    }
+}

@@ -1,0 +1,131 @@
+//! The explanation of a fault.
+use crate::advice::advice_on;
+use crate::lines::{push_line, push_number, shortened};
+use crate::misfit::Misfit;
+use crate::whole::{misfit_of, wanted_by};
+use sarif_records::without_mark;
+use sarif_sources::{Cause, MergeFault};
+use serde_json::{Error, Value};
+use std::alloc::{AllocError, Global};
+
+/// What is known of the source that a fault is in.
+#[derive(Clone, Copy, Debug)]
+pub struct FaultSource<'a> {
+    /// The name of the file, as it stands among the words; empty where there is none.
+    pub file: &'a str,
+    /// What was read of it.
+    pub bytes: &'a [u8],
+    /// What the system said of the last call that failed.
+    pub system: Option<&'a str>,
+}
+
+/// Adds what was found: the text of the value, or that there is nothing.
+fn push_found(alloc: Global, lines: &mut String, misfit: &Misfit<'_>) -> Result<(), AllocError> {
+    match misfit.missing {
+        Some(_) => push_line(alloc, lines, "found", "nothing"),
+        None => {
+            let whole = misfit.place.value.to_string(alloc)?;
+            let text = shortened(alloc, whole.as_str())?;
+            push_line(alloc, lines, "found", text.as_str())
+        }
+    }
+}
+
+/// Adds what is wanted, and of which member, where that one is wanting.
+fn push_wanted(alloc: Global, lines: &mut String, misfit: &Misfit<'_>) -> Result<(), AllocError> {
+    let sentence = misfit.wanted.sentence();
+    match misfit.missing {
+        Some(name) => {
+            let text = format!(in alloc; "the member {name}, {sentence}")?;
+            push_line(alloc, lines, "wanted", text.as_str())
+        }
+        None => push_line(alloc, lines, "wanted", sentence),
+    }
+}
+
+/// Adds what is at fault in the source.
+fn push_misfit(alloc: Global, lines: &mut String, misfit: &Misfit<'_>) -> Result<(), AllocError> {
+    push_line(alloc, lines, "where", misfit.place.pointer.as_str())?;
+    push_found(alloc, lines, misfit)?;
+    push_wanted(alloc, lines, misfit)
+}
+
+/// Adds where the reading of JSON stopped, if that is the fault, and what is wanted.
+fn push_stop(
+    alloc: Global,
+    lines: &mut String,
+    fault: &MergeFault,
+    error: &Error,
+) -> Result<(), AllocError> {
+    if error.is_memory() {
+        return Err(AllocError);
+    }
+    if fault.cause == Cause::NotJson {
+        push_number(alloc, lines, "line", error.line())?;
+        push_number(alloc, lines, "column", error.column())?;
+    }
+    push_line(alloc, lines, "wanted", wanted_by(fault).sentence())
+}
+
+/// Whether what is at fault stands in the bytes of the source.
+fn is_in_bytes(cause: Cause) -> bool {
+    !matches!(
+        cause,
+        Cause::TooLong
+            | Cause::ReadFailed
+            | Cause::WriteFailed
+            | Cause::OutOfMemory
+            | Cause::NoWorker
+    )
+}
+
+/// Adds where the fault stands, what was found there, and what is wanted.
+fn push_spot(
+    alloc: Global,
+    lines: &mut String,
+    fault: &MergeFault,
+    bytes: &[u8],
+) -> Result<(), AllocError> {
+    if !is_in_bytes(fault.cause) {
+        return push_line(alloc, lines, "wanted", wanted_by(fault).sentence());
+    }
+    match Value::from_slice(alloc, without_mark(bytes)) {
+        Ok(value) => push_misfit(alloc, lines, &misfit_of(alloc, &value, fault)?),
+        Err(error) => push_stop(alloc, lines, fault, &error),
+    }
+}
+
+/// Adds what the system said of a read or a write that failed.
+fn push_system(
+    alloc: Global,
+    lines: &mut String,
+    cause: Cause,
+    system: Option<&str>,
+) -> Result<(), AllocError> {
+    match (cause, system) {
+        (Cause::ReadFailed | Cause::WriteFailed, Some(said)) => {
+            push_line(alloc, lines, "system", said)
+        }
+        _ => Ok(()),
+    }
+}
+
+/// The lines of an explanation, each two spaces, a name, a colon, a space, a text and a newline. Those that are known
+/// of stand in this order: `file`; `where`, a JSON pointer (RFC 6901) to the value at fault or, where a member is
+/// wanting, to the object that should hold it; `line` and `column`, where the reading of JSON stopped; `found`, the
+/// beginning of the value's compact text, or `nothing`; `wanted`; `system`; `advice`. Texts are shown as those of a
+/// log are in reports.
+pub fn explanation(
+    alloc: Global,
+    fault: &MergeFault,
+    source: &FaultSource<'_>,
+) -> Result<String, AllocError> {
+    let mut lines = String::new(alloc);
+    if !source.file.is_empty() {
+        push_line(alloc, &mut lines, "file", source.file)?;
+    }
+    push_spot(alloc, &mut lines, fault, source.bytes)?;
+    push_system(alloc, &mut lines, fault.cause, source.system)?;
+    push_line(alloc, &mut lines, "advice", advice_on(fault.cause))?;
+    Ok(lines)
+}

@@ -1,0 +1,86 @@
+//! Which values are as they are wanted.
+use crate::wanted::Wanted;
+use sarif_records::{Kind, Level, Status, read_guid};
+use serde_json::Value;
+
+/// Whether the number is a day yyyymmdd of the years 1000 to 9999, of a month 1 to 12 and a day 1 to 31.
+fn is_day(number: u64) -> bool {
+    let month = number / 100 % 100;
+    let day = number % 100;
+    matches!(number, 10_000_101..=99_991_231) && matches!(month, 1..=12) && matches!(day, 1..=31)
+}
+
+/// Whether a text is one of those that are wanted.
+fn is_wanted_text(wanted: Wanted, text: &str) -> bool {
+    match wanted {
+        Wanted::LogVersion => text == "2.1.0",
+        Wanted::Level => Level::from_name(text).is_some(),
+        Wanted::Kind => Kind::from_name(text).is_some(),
+        Wanted::Guid => read_guid(text).is_some(),
+        Wanted::SuppressionKind => text == "inSource" || text == "external",
+        Wanted::Status => Status::from_name(text).is_some(),
+        Wanted::Present => text != "absent",
+        Wanted::Text | Wanted::TextOrNull => true,
+        _ => false,
+    }
+}
+
+/// Whether a whole number is one of those that are wanted.
+fn is_wanted_number(wanted: Wanted, number: i64) -> bool {
+    match wanted {
+        Wanted::Index => matches!(number, -1..=4_294_967_295),
+        Wanted::FileVersion => number == 1 || number == 2,
+        Wanted::Day => match u64::try_from(number) {
+            Ok(day) => is_day(day),
+            Err(_) => false,
+        },
+        _ => false,
+    }
+}
+
+impl Wanted {
+    /// Whether an object is wanted, whatever its members are.
+    fn is_object(self) -> bool {
+        matches!(
+            self,
+            Wanted::Log
+                | Wanted::Run
+                | Wanted::Object
+                | Wanted::TextMap
+                | Wanted::Entries
+                | Wanted::Entry
+        )
+    }
+
+    /// Whether the value is one that is wanted. Of arrays and maps of wanted elements the kind alone is looked at;
+    /// where a value is at fault for what it is in its place, as one past a limit, none is wanted.
+    pub(crate) fn fits(self, value: &Value) -> bool {
+        match value {
+            Value::Null => matches!(self, Wanted::Runs | Wanted::TextOrNull),
+            Value::Bool(_) => false,
+            Value::Number(number) => match number.as_i64() {
+                Some(number) => is_wanted_number(self, number),
+                None => false,
+            },
+            Value::String(text) => is_wanted_text(self, text.as_str()),
+            Value::Array(_) => matches!(
+                self,
+                Wanted::Runs | Wanted::Array | Wanted::Objects | Wanted::Texts
+            ),
+            Value::Object(members) => match self {
+                Wanted::NoFiles => members.is_empty(),
+                _ => self.is_object(),
+            },
+        }
+    }
+
+    /// What is wanted of each element, or of each member's value.
+    pub(crate) fn of_each(self) -> Option<Wanted> {
+        match self {
+            Wanted::Objects => Some(Wanted::Object),
+            Wanted::Texts => Some(Wanted::Text),
+            Wanted::TextMap => Some(Wanted::TextOrNull),
+            _ => None,
+        }
+    }
+}

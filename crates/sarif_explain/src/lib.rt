@@ -1,0 +1,22 @@
+//! What is told of a fault beside its line: where it stands in its source, what was found there, what is wanted, and
+//! what to do.
+#![tactic(auto)]
+
+mod advice;
+mod checks;
+mod entry;
+mod explaining;
+mod fitting;
+mod lines;
+mod misfit;
+mod past_table;
+mod place;
+mod pointer;
+mod run;
+mod single;
+#[cfg(test)]
+mod tests;
+mod wanted;
+mod whole;
+
+pub use explaining::{FaultSource, explanation};

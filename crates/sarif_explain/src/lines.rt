@@ -1,0 +1,56 @@
+//! The lines of an explanation.
+ghost use Rattle.std.specs.Prelude.{◌≡◌, ◌++◌, IfOk, OnOk, chars, string_bytes};
+ghost use Rattle.sarif_explain.specs.Lines as said;
+
+use sarif_report::shown;
+use std::alloc::{AllocError, Global};
+
+/// The most characters that are shown of a value.
+const MOST_OF_A_VALUE: u32 = 80;
+
+/// Adds a line: two spaces, the name, a colon, a space, what is shown of the text, a newline.
+pub(crate) fn push_line(
+    alloc: Global,
+    lines: &mut String,
+    name: &str,
+    text: &str,
+) -> Result<(), AllocError>
+    ensures { OnOk result
+        (string_bytes lines.new ≡ string_bytes lines.old ++ said.line_of name.now text.now) }
+{
+    let shown_text = shown(alloc, text)?;
+    lines.push_str("  ")?;
+    lines.push_str(name)?;
+    lines.push_str(": ")?;
+    lines.push_str(shown_text.as_str())?;
+    lines.push_str("\n")?;
+    Ok(())
+}
+
+/// Adds a line with a number.
+pub(crate) fn push_number(
+    alloc: Global,
+    lines: &mut String,
+    name: &str,
+    number: usize,
+) -> Result<(), AllocError> {
+    let text = format!(in alloc; "{number}")?;
+    push_line(alloc, lines, name, text.as_str())
+}
+
+/// The first 80 characters of a text, and `...` where there are more.
+pub(crate) fn shortened(alloc: Global, text: &str) -> Result<String, AllocError>
+    ensures { IfOk result (λ s. string_bytes s ≡ said.shortened 80 (chars text.now)) }
+{
+    let mut kept = String::new(alloc);
+    let mut room = MOST_OF_A_VALUE;
+    for c in text.chars() {
+        if room == 0 {
+            kept.push_str("...")?;
+            return Ok(kept);
+        }
+        kept.push(c)?;
+        room -= 1;
+    }
+    Ok(kept)
+}

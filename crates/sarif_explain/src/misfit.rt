@@ -1,0 +1,124 @@
+//! The first value that isn't as it is wanted.
+use crate::checks::{Check, Need};
+use crate::place::{Place, find, is_dropped};
+use crate::wanted::Wanted;
+use serde_json::Value;
+use std::alloc::{AllocError, Global};
+
+/// A value that isn't as it is wanted, or an object in which a member is wanting.
+#[derive(Drop)]
+pub(crate) struct Misfit<'a> {
+    pub place: Place<'a>,
+    /// The name of the member that is wanting there.
+    pub missing: Option<&'static str>,
+    pub wanted: Wanted,
+}
+
+/// The first misfit, where there is one.
+pub(crate) type Found<'a> = Result<Option<Misfit<'a>>, AllocError>;
+
+impl<'a> Misfit<'a> {
+    /// The value of this place.
+    pub(crate) fn at(place: Place<'a>, wanted: Wanted) -> Misfit<'a> {
+        Misfit {
+            place,
+            missing: None,
+            wanted,
+        }
+    }
+}
+
+/// Whether a member that is there passes. One that counts as absent passes where it may be absent.
+fn passes(stripped: bool, need: Need, wanted: Wanted, value: &Value) -> bool {
+    let dropped = stripped && is_dropped(value);
+    match need {
+        Need::May => dropped || value.is_null() || wanted.fits(value),
+        Need::Must => !dropped && wanted.fits(value),
+    }
+}
+
+/// The first element or member that isn't as each of them is wanted.
+fn misfit_inside<'a>(alloc: Global, place: &Place<'a>, wanted: Wanted) -> Found<'a> {
+    match place.value {
+        Value::Array(items) => {
+            for (index, item) in items.iter().enumerate() {
+                if !wanted.fits(item) {
+                    let place = place.element(alloc, index, item)?;
+                    return Ok(Some(Misfit::at(place, wanted)));
+                }
+            }
+            Ok(None)
+        }
+        Value::Object(members) => {
+            for (name, member) in members.iter() {
+                if !wanted.fits(member) {
+                    let place = place.member(alloc, name.as_str(), member)?;
+                    return Ok(Some(Misfit::at(place, wanted)));
+                }
+            }
+            Ok(None)
+        }
+        _ => Ok(None),
+    }
+}
+
+/// What is at fault where the member of the check isn't there: the object that should hold it.
+fn misfit_without<'a>(alloc: Global, place: &Place<'a>, check: &Check) -> Found<'a> {
+    let Check(way, need, wanted) = *check;
+    match (need, way) {
+        (Need::Must, [within @ .., name]) => Ok(Some(Misfit {
+            place: place.along(alloc, within)?,
+            missing: Some(*name),
+            wanted,
+        })),
+        _ => Ok(None),
+    }
+}
+
+/// What is at fault by one check.
+fn misfit_by<'a>(alloc: Global, place: &Place<'a>, check: &Check) -> Found<'a> {
+    let Check(way, need, wanted) = *check;
+    let Some(value) = find(place.value, way) else {
+        return misfit_without(alloc, place, check);
+    };
+    if !passes(place.stripped, need, wanted, value) {
+        return Ok(Some(Misfit::at(place.along(alloc, way)?, wanted)));
+    }
+    match wanted.of_each() {
+        Some(each) if !(place.stripped && is_dropped(value)) => {
+            misfit_inside(alloc, &place.along(alloc, way)?, each)
+        }
+        _ => Ok(None),
+    }
+}
+
+/// What is at fault by the first of these checks that a member of the place doesn't pass.
+pub(crate) fn misfit_in<'a>(alloc: Global, place: &Place<'a>, checks: &[Check]) -> Found<'a> {
+    for check in checks {
+        let found = misfit_by(alloc, place, check)?;
+        if found.is_some() {
+            return Ok(found);
+        }
+    }
+    Ok(None)
+}
+
+/// The same in the first such element of the array at the end of the way.
+pub(crate) fn misfit_in_each<'a>(
+    alloc: Global,
+    place: &Place<'a>,
+    way: &[&str],
+    checks: &[Check],
+) -> Found<'a> {
+    if checks.is_empty() {
+        return Ok(None);
+    }
+    let list = place.along(alloc, way)?;
+    for (index, item) in place.elements(way).iter().enumerate() {
+        let found = misfit_in(alloc, &list.element(alloc, index, item)?, checks)?;
+        if found.is_some() {
+            return Ok(found);
+        }
+    }
+    Ok(None)
+}

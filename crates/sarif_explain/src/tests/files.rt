@@ -1,0 +1,138 @@
+//! Faults of the suppression file.
+use super::check;
+use sarif_sources::{At, Cause, Source};
+use std::test::Fail;
+
+const FILE: At = At::Whole(Source::Suppress);
+
+#[test]
+fn a_file_has_a_version_and_a_list_within_the_limit(rt: HostRuntime) -> Result<(), Fail> {
+    for (cause, text, wanted) in [
+        (
+            Cause::NotJson,
+            "{]",
+            r#"  file: found.sarif
+  line: 1
+  column: 2
+  wanted: JSON in UTF-8, nested at most 127 deep
+  advice: see whether what wrote the file ended well and wrote it to its end
+"#,
+        ),
+        (
+            Cause::NotList,
+            r#"{"version":1}"#,
+            r#"  file: found.sarif
+  where: 
+  found: nothing
+  wanted: the member suppressions, an array
+  advice: give the file the array suppressions, and see that it is the right one
+"#,
+        ),
+        (
+            Cause::WrongVersion,
+            r#"{"version":1.0,"suppressions":[]}"#,
+            r#"  file: found.sarif
+  where: /version
+  found: 1.0
+  wanted: the number 1 or 2, without a fraction
+  advice: have the file written in a version that is read
+"#,
+        ),
+        (
+            Cause::TooMany,
+            r#"{"version":1,"suppressions":[]}"#,
+            r#"  file: found.sarif
+  where: /suppressions
+  found: []
+  wanted: at most 10000 entries
+  advice: split the analysis, or drop what is not needed
+"#,
+        ),
+    ] {
+        check(&rt, rt.alloc(), FILE, cause, text, wanted)?;
+    }
+    Ok(())
+}
+
+#[test]
+fn an_entry_has_the_members_of_its_version(rt: HostRuntime) -> Result<(), Fail> {
+    for (text, wanted) in [
+        (
+            r#"{"version":1,"suppressions":[7]}"#,
+            r#"  file: found.sarif
+  where: /suppressions/0
+  found: 7
+  wanted: an object of the members that its version has
+  advice: mend the entry, or hold the file to its JSON Schema
+"#,
+        ),
+        (
+            r#"{"version":1,"suppressions":[{"tool":1,"uriPrefix":null}]}"#,
+            r#"  file: found.sarif
+  where: /suppressions/0/uriPrefix
+  found: null
+  wanted: in version 1 no members but tool, ruleId, uri, guid, fingerprints, partialFingerprints, status and justification
+  advice: mend the entry, or hold the file to its JSON Schema
+"#,
+        ),
+        (
+            r#"{"version":2,"suppressions":[{"tool":"lint","until":20251231}]}"#,
+            r#"  file: found.sarif
+  where: /suppressions/0/until
+  found: 20251231
+  wanted: no members but tool, ruleId, uri, uriPrefix, guid, fingerprints, partialFingerprints, expires, status and justification
+  advice: mend the entry, or hold the file to its JSON Schema
+"#,
+        ),
+        (
+            r#"{"version":2,"suppressions":[{"tool":1.5}]}"#,
+            r#"  file: found.sarif
+  where: /suppressions/0/tool
+  found: 1.5
+  wanted: a text
+  advice: mend the entry, or hold the file to its JSON Schema
+"#,
+        ),
+        (
+            r#"{"version":2,"suppressions":[{"tool":"lint","expires":20251301}]}"#,
+            r#"  file: found.sarif
+  where: /suppressions/0/expires
+  found: 20251301
+  wanted: a day as the number YYYYMMDD, from 10000101 to 99991231
+  advice: mend the entry, or hold the file to its JSON Schema
+"#,
+        ),
+    ] {
+        check(&rt, rt.alloc(), At::Entry(0), Cause::BadEntry, text, wanted)?;
+    }
+    Ok(())
+}
+
+#[test]
+fn an_entry_names_a_condition_and_may_need_the_day(rt: HostRuntime) -> Result<(), Fail> {
+    for (cause, text, wanted) in [
+        (
+            Cause::EmptyMatch,
+            r#"{"version":2,"suppressions":[{"tool":"lint"},{"fingerprints":{"a":null}}]}"#,
+            r#"  file: found.sarif
+  where: /suppressions/1
+  found: {"fingerprints":{"a":null}}
+  wanted: one of tool, ruleId, uri, uriPrefix, guid, fingerprints and partialFingerprints at least
+  advice: name a condition, since else every result would be suppressed
+"#,
+        ),
+        (
+            Cause::NeedsToday,
+            r#"{"version":2,"suppressions":[{"tool":"lint"},{"uri":"a.c","expires":20251231}]}"#,
+            r#"  file: found.sarif
+  where: /suppressions/1/expires
+  found: 20251231
+  wanted: the day of today, since the entry has a last day
+  advice: add --today with the day as YYYYMMDD
+"#,
+        ),
+    ] {
+        check(&rt, rt.alloc(), At::Entry(1), cause, text, wanted)?;
+    }
+    Ok(())
+}

@@ -1,0 +1,268 @@
+//! Faults of runs.
+use super::check;
+use sarif_sources::{At, Cause, Source};
+use std::alloc::Global;
+use std::process::Abort;
+use std::test::Fail;
+
+const RUN: At = At::Run(Source::Log(0), 0);
+
+/// That this is explained of a log with one run.
+fn check_run(
+    rt: &impl Abort,
+    alloc: Global,
+    cause: Cause,
+    run: &str,
+    wanted: &str,
+) -> Result<(), Fail> {
+    let log = format!(in alloc; "{{\"version\":\"2.1.0\",\"runs\":[{run}]}}")?;
+    check(rt, alloc, RUN, cause, log.as_str(), wanted)
+}
+
+#[test]
+fn a_run_has_a_tool_with_a_named_driver(rt: HostRuntime) -> Result<(), Fail> {
+    for (run, wanted) in [
+        (
+            "7",
+            r#"  file: found.sarif
+  where: /runs/0
+  found: 7
+  wanted: an object with a tool, its driver and its name
+  advice: report it to the makers of the analyser, or mend the run
+"#,
+        ),
+        (
+            r#"{"results":[]}"#,
+            r#"  file: found.sarif
+  where: /runs/0
+  found: nothing
+  wanted: the member tool, an object
+  advice: report it to the makers of the analyser, or mend the run
+"#,
+        ),
+        (
+            r#"{"tool":null}"#,
+            r#"  file: found.sarif
+  where: /runs/0/tool
+  found: null
+  wanted: an object
+  advice: report it to the makers of the analyser, or mend the run
+"#,
+        ),
+        (
+            r#"{"tool":{"driver":"lint"}}"#,
+            r#"  file: found.sarif
+  where: /runs/0/tool/driver
+  found: "lint"
+  wanted: an object
+  advice: report it to the makers of the analyser, or mend the run
+"#,
+        ),
+        (
+            r#"{"tool":{"driver":{}}}"#,
+            r#"  file: found.sarif
+  where: /runs/0/tool/driver
+  found: nothing
+  wanted: the member name, a text
+  advice: report it to the makers of the analyser, or mend the run
+"#,
+        ),
+    ] {
+        check_run(&rt, rt.alloc(), Cause::BadRun, run, wanted)?;
+    }
+    Ok(())
+}
+
+#[test]
+fn results_are_objects(rt: HostRuntime) -> Result<(), Fail> {
+    for (run, wanted) in [
+        (
+            r#"{"tool":{"driver":{"name":"t"}},"results":{}}"#,
+            r#"  file: found.sarif
+  where: /runs/0/results
+  found: {}
+  wanted: an array of objects
+  advice: report it to the makers of the analyser, or mend the run
+"#,
+        ),
+        (
+            r#"{"tool":{"driver":{"name":"t"}},"results":[{},"r"]}"#,
+            r#"  file: found.sarif
+  where: /runs/0/results/1
+  found: "r"
+  wanted: an object
+  advice: report it to the makers of the analyser, or mend the run
+"#,
+        ),
+    ] {
+        check_run(&rt, rt.alloc(), Cause::BadRun, run, wanted)?;
+    }
+    Ok(())
+}
+
+#[test]
+fn a_run_stands_in_one_log_and_within_the_limits(rt: HostRuntime) -> Result<(), Fail> {
+    for (cause, run, wanted) in [
+        (
+            Cause::ExternalProperties,
+            r#"{"tool":{"driver":{"name":"t"}},"externalPropertyFileReferences":{"results":[]}}"#,
+            r#"  file: found.sarif
+  where: /runs/0/externalPropertyFileReferences
+  found: {"results":[]}
+  wanted: an empty object, or no such member
+  advice: let the analyser write everything into the log
+"#,
+        ),
+        (
+            Cause::TooMany,
+            r#"{"tool":{"driver":{"name":"t"}},"results":[]}"#,
+            r#"  file: found.sarif
+  where: /runs/0/results
+  found: []
+  wanted: at most 1000000 results
+  advice: split the analysis, or drop what is not needed
+"#,
+        ),
+    ] {
+        check_run(&rt, rt.alloc(), cause, run, wanted)?;
+    }
+    Ok(())
+}
+
+#[test]
+fn rules_are_objects_with_an_id(rt: HostRuntime) -> Result<(), Fail> {
+    for (run, wanted) in [
+        (
+            r#"{"tool":{"driver":{"name":"t"},"extensions":[1]}}"#,
+            r#"  file: found.sarif
+  where: /runs/0/tool/extensions/0
+  found: 1
+  wanted: an object
+  advice: report it to the makers of the analyser, or mend the run
+"#,
+        ),
+        (
+            r#"{"tool":{"driver":{"name":"t","rules":"R1"}}}"#,
+            r#"  file: found.sarif
+  where: /runs/0/tool/driver/rules
+  found: "R1"
+  wanted: an array
+  advice: report it to the makers of the analyser, or mend the run
+"#,
+        ),
+        (
+            r#"{"tool":{"driver":{"name":"t","rules":[{"id":"R1"},{"name":"R2"},null]}}}"#,
+            r#"  file: found.sarif
+  where: /runs/0/tool/driver/rules/1
+  found: nothing
+  wanted: the member id, a text
+  advice: report it to the makers of the analyser, or mend the run
+"#,
+        ),
+        (
+            r#"{"tool":{"driver":{"name":"t"},"extensions":[{},{"rules":[null]}]}}"#,
+            r#"  file: found.sarif
+  where: /runs/0/tool/extensions/1/rules/0
+  found: null
+  wanted: an object
+  advice: report it to the makers of the analyser, or mend the run
+"#,
+        ),
+    ] {
+        check_run(&rt, rt.alloc(), Cause::BadRules, run, wanted)?;
+    }
+    Ok(())
+}
+
+#[test]
+fn levels_of_a_run_are_of_the_four(rt: HostRuntime) -> Result<(), Fail> {
+    for (run, wanted) in [
+        (
+            r#"{"tool":{"driver":{"name":"t","rules":[{"id":"R1","defaultConfiguration":{"level":"high"}}]}}}"#,
+            r#"  file: found.sarif
+  where: /runs/0/tool/driver/rules/0/defaultConfiguration/level
+  found: "high"
+  wanted: error, warning, note or none
+  advice: report it to the makers of the analyser, or drop the member
+"#,
+        ),
+        (
+            r#"{"tool":{"driver":{"name":"t"}},"invocations":[{},{"ruleConfigurationOverrides":[{"configuration":{"level":3}}]}]}"#,
+            r#"  file: found.sarif
+  where: /runs/0/invocations/1/ruleConfigurationOverrides/0/configuration/level
+  found: 3
+  wanted: error, warning, note or none
+  advice: report it to the makers of the analyser, or drop the member
+"#,
+        ),
+    ] {
+        check_run(&rt, rt.alloc(), Cause::BadLevel, run, wanted)?;
+    }
+    Ok(())
+}
+
+#[test]
+fn artifacts_and_overrides_are_of_their_kinds(rt: HostRuntime) -> Result<(), Fail> {
+    for (cause, run, wanted) in [
+        (
+            Cause::BadLocation,
+            r#"{"tool":{"driver":{"name":"t"}},"artifacts":[{},{"location":{"uri":1}}]}"#,
+            r#"  file: found.sarif
+  where: /runs/0/artifacts/1/location/uri
+  found: 1
+  wanted: a text
+  advice: report it to the makers of the analyser, or drop the member
+"#,
+        ),
+        (
+            Cause::BadMember,
+            r#"{"tool":{"driver":{"name":"t"}},"invocations":[{"ruleConfigurationOverrides":[{"descriptor":1}]},{"ruleConfigurationOverrides":{}}]}"#,
+            r#"  file: found.sarif
+  where: /runs/0/invocations/1/ruleConfigurationOverrides
+  found: {}
+  wanted: an array of objects
+  advice: report it to the makers of the analyser, or drop the member
+"#,
+        ),
+        (
+            Cause::BadMember,
+            r#"{"tool":{"driver":{"name":"t"}},"invocations":[{"ruleConfigurationOverrides":[{"descriptor":1}]}]}"#,
+            r#"  file: found.sarif
+  where: /runs/0/invocations/0/ruleConfigurationOverrides/0/descriptor
+  found: 1
+  wanted: an object
+  advice: report it to the makers of the analyser, or drop the member
+"#,
+        ),
+    ] {
+        check_run(&rt, rt.alloc(), cause, run, wanted)?;
+    }
+    Ok(())
+}
+
+#[test]
+fn indexes_of_overrides_are_within_their_tables(rt: HostRuntime) -> Result<(), Fail> {
+    for (run, wanted) in [
+        (
+            r#"{"tool":{"driver":{"name":"t"}},"invocations":[{"ruleConfigurationOverrides":[{"descriptor":{"index":0}},{"descriptor":{"index":-2}}]}]}"#,
+            r#"  file: found.sarif
+  where: /runs/0/invocations/0/ruleConfigurationOverrides/0/descriptor/index
+  found: 0
+  wanted: the index of one of the rules of the component, or -1
+  advice: report it to the makers of the analyser, or drop the member
+"#,
+        ),
+        (
+            r#"{"tool":{"driver":{"name":"t"}},"invocations":[{"ruleConfigurationOverrides":[{"descriptor":{"index":-1,"toolComponent":{"index":"0"}}}]}]}"#,
+            r#"  file: found.sarif
+  where: /runs/0/invocations/0/ruleConfigurationOverrides/0/descriptor/toolComponent/index
+  found: "0"
+  wanted: a whole number from -1 to 4294967295
+  advice: report it to the makers of the analyser, or drop the member
+"#,
+        ),
+    ] {
+        check_run(&rt, rt.alloc(), Cause::BadIndex, run, wanted)?;
+    }
+    Ok(())
+}

@@ -1,9 +1,0 @@
-use Rattle.std.proofs.Common.{◌≡◌, take}
-use Rattle.std.specs.List.{All}
-use Rattle.sarif_sources.specs.Counted.{failed_calls}
-use Rattle.sarif_gate.specs.Named.{names_of}
-use Rattle.sarif_gate.proofs.inputs_of.Given as goal
-
-abbrev pub invariant-loop-name : goal.invariant-loop-name
-invariant-loop-name l =
-    All (λ input. failed_calls input ≡ 0) l.inputs.items × (names_of l.inputs.items ≡ take l.name-index l.names.items)

@@ -1,0 +1,9 @@
+use Rattle.std.proofs.Common.{◌≡◌, take}
+use Rattle.std.specs.List.{All}
+use Rattle.sarif_sources.specs.Counted.{failed_calls}
+use Rattle.sarif_gate.specs.Named.{names_of}
+use Rattle.sarif_gate.proofs.sources.logs_of.Given as goal
+
+abbrev pub invariant-loop-name : goal.invariant-loop-name
+invariant-loop-name l =
+    All (λ input. failed_calls input ≡ 0) l.logs.items × (names_of l.logs.items ≡ take l.name-index l.names.items)

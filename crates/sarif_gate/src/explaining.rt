@@ -1,0 +1,136 @@
+//! Explaining on standard error what stopped a run.
+use crate::complaint::Complaint;
+use crate::kept::Kept;
+use crate::outputs::Outputs;
+use crate::request::Request;
+use crate::sources::Source as Reading;
+use sarif_explain::{FaultSource, explanation};
+use sarif_merge::{At, Cause, Counted, MergeFault, Readers, Source};
+use sarif_records::Text;
+use sarif_report::Report;
+use std::alloc::{AllocError, Global};
+use std::io;
+
+/// What a run was asked for, and what it read and wrote.
+#[derive(Clone, Copy)]
+pub struct Ended<'a, 'b> {
+    pub request: &'b Request,
+    pub readers: &'b Readers<Reading<'a>>,
+    pub writers: &'b Outputs<'a>,
+}
+
+impl Ended<'_, '_> {
+    /// Writes the explanation of a complaint. Where memory is wanting for it, nothing is written.
+    pub fn explain(&self, rt: &HostRuntime, complaint: Complaint) {
+        let explained = match complaint {
+            Complaint::Fault(fault) => self.explained(rt.alloc(), &fault),
+            Complaint::Lost(report) => self.lost(rt.alloc(), report),
+        };
+        if let Ok(lines) = explained {
+            let lines = lines.as_str();
+            let _ = eprint!(rt; "{lines}");
+        }
+    }
+
+    /// The explanation of a fault, by the source that it's in.
+    fn explained(&self, alloc: Global, fault: &MergeFault) -> Result<String, AllocError> {
+        let request = self.request;
+        let readers = self.readers;
+        match source_of(fault) {
+            Some(Source::Log(number)) => {
+                let number = number as usize;
+                of_kept(
+                    alloc,
+                    fault,
+                    request.logs.get(number),
+                    readers.logs.get(number),
+                )
+            }
+            Some(Source::Baseline(number)) => {
+                let number = number as usize;
+                let name = request.baselines.get(number);
+                of_kept(alloc, fault, name, readers.baselines.get(number))
+            }
+            Some(Source::Suppress) => {
+                let name = request.suppress.as_ref();
+                of_kept(alloc, fault, name, readers.suppressions.as_ref())
+            }
+            Some(Source::Output) => {
+                of_kept(alloc, fault, Some(&request.out), Some(&self.writers.out))
+            }
+            None => of_source(alloc, fault, "", &[], None),
+        }
+    }
+
+    /// The explanation of a report that was not written.
+    fn lost(&self, alloc: Global, report: Report) -> Result<String, AllocError> {
+        let fault = MergeFault {
+            at: At::Whole(Source::Output),
+            cause: Cause::WriteFailed,
+        };
+        let name = self.request.reports.get(report);
+        of_kept(alloc, &fault, name, self.writers.reports.get(report))
+    }
+}
+
+/// The source that a fault is in.
+fn source_of(fault: &MergeFault) -> Option<Source> {
+    match fault.at {
+        At::Nowhere => None,
+        At::Whole(source) | At::Run(source, _) | At::Single(source, _, _) => Some(source),
+        At::Entry(_) => Some(Source::Suppress),
+    }
+}
+
+/// The explanation of a fault in a source of this name, by what was kept of it.
+fn of_kept<'a, D>(
+    alloc: Global,
+    fault: &MergeFault,
+    name: Option<&'a Text>,
+    source: Option<&'a Counted<Kept<D>>>,
+) -> Result<String, AllocError> {
+    let file = match name {
+        Some(name) => name.as_str(),
+        None => "",
+    };
+    match source {
+        Some(source) => {
+            let kept = source.inner();
+            of_source(alloc, fault, file, kept.bytes(), kept.error())
+        }
+        None => of_source(alloc, fault, file, &[], None),
+    }
+}
+
+/// The explanation of a fault in a source of this name, which gave these bytes and failed with this error.
+fn of_source(
+    alloc: Global,
+    fault: &MergeFault,
+    file: &str,
+    bytes: &[u8],
+    error: Option<io::Error>,
+) -> Result<String, AllocError> {
+    match error {
+        Some(error) => {
+            let system = error.to_string(alloc)?;
+            by_system(alloc, fault, file, bytes, Some(system.as_str()))
+        }
+        None => by_system(alloc, fault, file, bytes, None),
+    }
+}
+
+/// The explanation of a fault in a source of this name, which gave these bytes and of which the system said this.
+fn by_system<'a>(
+    alloc: Global,
+    fault: &MergeFault,
+    file: &'a str,
+    bytes: &'a [u8],
+    system: Option<&'a str>,
+) -> Result<String, AllocError> {
+    let source = FaultSource {
+        file,
+        bytes,
+        system,
+    };
+    explanation(alloc, fault, &source)
+}

@@ -1,0 +1,27 @@
+//! Rows worked by hand through the merge's calls, the texts that no contract says, how readers and
+//! writers of other kinds are used, and what no clause can say: that workers overlap, and the bound
+//! on what waits.
+
+mod baselines;
+mod counting;
+mod faults;
+mod merging;
+mod one_log;
+mod reading;
+mod refusing;
+mod seeds;
+mod suppressing;
+mod workers;
+
+/// The log of one result without a level, merged: it counts as a new warning.
+const MERGED: &str = "{\"properties\":{\"gate\":{\"counts\":{\
+    \"absent\":{\"active\":[0,0,0,0],\"suppressed\":[0,0,0,0]},\
+    \"new\":{\"active\":[0,1,0,0],\"suppressed\":[0,0,0,0]},\
+    \"unchanged\":{\"active\":[0,0,0,0],\"suppressed\":[0,0,0,0]},\
+    \"updated\":{\"active\":[0,0,0,0],\"suppressed\":[0,0,0,0]}},\
+    \"failOn\":\"error\",\"hits\":0,\"max\":0,\"runsWithoutResults\":0,\
+    \"states\":[\"new\",\"updated\"],\"unusedSuppressions\":0,\"verdict\":\"pass\"}},\
+    \"runs\":[{\"results\":[{\"baselineState\":\"new\",\"level\":\"warning\",\
+    \"message\":{\"text\":\"m\"},\"suppressions\":[]}],\
+    \"tool\":{\"driver\":{\"name\":\"lint\"}}}],\
+    \"version\":\"2.1.0\"}";

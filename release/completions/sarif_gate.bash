@@ -1,0 +1,31 @@
+# Completions of sarif_gate for bash: source this file, or put it into the folder of completions
+# as sarif_gate.
+
+_sarif_gate() {
+    local word=${COMP_WORDS[COMP_CWORD]} before=${COMP_WORDS[COMP_CWORD - 1]}
+    # readline takes = for a word of its own, as in --max=3
+    if [[ $word == = ]]; then
+        word=
+    elif [[ $before == = ]]; then
+        before=${COMP_WORDS[COMP_CWORD - 2]}
+    fi
+    COMPREPLY=()
+    case $before in
+    --fail-on)
+        mapfile -t COMPREPLY < <(compgen -W 'error warning note none' -- "$word")
+        return
+        ;;
+    --today | --max | --workers | --root)
+        return
+        ;;
+    esac
+    if [[ $word == -* ]]; then
+        mapfile -t COMPREPLY < <(compgen -W '--out --baseline --suppress --today --fail-on --max --workers
+            --text --github --markdown --gitlab --html --root --explain --help --version -h -V' -- "$word")
+        return
+    fi
+    compopt -o filenames 2>/dev/null
+    mapfile -t COMPREPLY < <(compgen -f -- "$word")
+}
+
+complete -F _sarif_gate sarif_gate

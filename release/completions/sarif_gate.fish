@@ -1,0 +1,18 @@
+# Completions of sarif_gate for fish: put this file into a folder of $fish_complete_path.
+
+complete -c sarif_gate -l out -r -F -d 'Where the merged log is written'
+complete -c sarif_gate -l baseline -r -F -d 'A log of known results'
+complete -c sarif_gate -l suppress -r -F -d 'Findings that are accepted'
+complete -c sarif_gate -l today -x -d 'The day, as 20250131'
+complete -c sarif_gate -l fail-on -x -a 'error warning note none' -d 'The least level that counts'
+complete -c sarif_gate -l max -x -d 'How many hits still pass'
+complete -c sarif_gate -l workers -x -d 'How many threads work, 1 to 64'
+complete -c sarif_gate -l text -r -F -d 'A line for each reported result'
+complete -c sarif_gate -l github -r -F -d 'Workflow commands of GitHub Actions'
+complete -c sarif_gate -l markdown -r -F -d 'The verdict, the counts and a table'
+complete -c sarif_gate -l gitlab -r -F -d 'A code quality report of GitLab'
+complete -c sarif_gate -l html -r -F -d 'A page'
+complete -c sarif_gate -l root -x -d 'What is left out where a path begins with it'
+complete -c sarif_gate -l explain -d 'Say more of a fault'
+complete -c sarif_gate -s h -l help -d 'Print the help'
+complete -c sarif_gate -s V -l version -d 'Print the version'

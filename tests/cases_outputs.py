@@ -1,0 +1,417 @@
+"""Cases of the words for reports: files, standard streams, what can't be written, explanations."""
+
+import re
+import stat
+
+from cases import *
+from cases_reports import KINDS, every_report, report_faults
+from page_reader import page_faults
+from reference_reports import Policy, Reports
+
+OLD = b"what stood there"
+OF_ONE = Reports(json.loads(ONE_MERGED), Policy())
+BAD = log(run("lint", plain(correlationGuid="x")))
+NONE = log(run("lint"))
+NONE_MERGED = merged(gate(), written("lint"))
+
+
+def one(name, words, **wanted):
+    """Words on a file `a` that holds one warning."""
+    files = {"a": ONE, **wanted.pop("files", {})}
+    return Case(wanted.pop("group", "words"), name, list(words), files=files, **wanted)
+
+
+def holds(wanted, absent=(), reports=OF_ONE):
+    """Looks that these files hold these bytes, or the report of a kind, and no other is there."""
+
+    def look(folder, kept):
+        wrong = []
+        for name, it in wanted.items():
+            if isinstance(it, bytes):
+                found = (folder / name).read_bytes() if (folder / name).is_file() else None
+                wrong += [f"{name}: {difference(it, found)}"] * (found != it)
+            else:
+                faults = report_faults(folder / name, it[0], reports)
+                wrong += [f"{name}: {fault}" for fault in faults]
+        found = {it.name for it in folder.iterdir()}
+        more = sorted(found - set(wanted))
+        return wrong + [f"there are also {more}"] * bool(more)
+
+    return look
+
+
+def reported(*kinds):
+    """The files of these reports, for `holds`."""
+    return {kind: [kind] for kind in kinds}
+
+
+# ---- Streams
+
+
+def spoken(kind):
+    """Checks that a report stands on standard output, and the summary after it."""
+
+    def check(answer):
+        if not answer.stdout.endswith(ONE_SUMMARY):
+            return ["the summary isn't last"]
+        said = answer.stdout[: -len(ONE_SUMMARY)]
+        if kind == "html":
+            return page_faults(said, OF_ONE)
+        wanted = getattr(OF_ONE, kind)()
+        return [difference(wanted, said)] * (said != wanted)
+
+    return check
+
+
+def streams():
+    base = {"a": ONE, "o": ONE_MERGED}
+    for kind in KINDS:
+        words = [f"--{kind}", "-", "--out", "o", "a"]
+        given = {"check": spoken(kind), "look": holds(base), "stderr": b""}
+        yield one(f"--{kind} - is standard output", words, **given)
+        words = [f"--{kind}={kind}", "--out", "-", "a"]
+        yield one(
+            f"--out - and --{kind}",
+            words,
+            stdout=ONE_MERGED,
+            stderr=ONE_SUMMARY,
+            look=holds({"a": ONE, **reported(kind)}),
+        )
+    both = {"stdout": ONE_MERGED, "stderr": ONE_SUMMARY}
+    yield one("--out - alone", ["--out", "-", "a"], look=holds({"a": ONE}), **both)
+    given = {"stdin": ONE, "files": {"a": b"{"}, "stdout": ONE_SUMMARY}
+    yield one("- is a log", ["--out", "o", "-"], out=ONE_MERGED, **given)
+    words = ["--text", "-", "--out", "o", "-"]
+    yield one("--text - beside a log -", words, stdin=ONE, check=spoken("text"))
+    yield one("a log - and --out -", ["--out", "-", "-"], stdin=ONE, **both)
+    two = merged(gate(new=[0, 2, 0, 0]), *[written("lint", marked("new", **plain()))] * 2)
+    yield one("- among other logs", ["--out", "o", "a", "-"], stdin=ONE, out=two)
+    result = marked("unchanged", **plain())
+    again = merged(gate(unchanged=[0, 1, 0, 0]), written("lint", result))
+    named = {"files": {"-": ONE}, "out": again}
+    yield one("--baseline - is a file's name", ["--baseline", "-", "--out", "o", "a"], **named)
+    entries = rules({"tool": "lint"})
+    held = [{"kind": "external", "status": "accepted"}]
+    result = marked("new", suppressions=held, **plain())
+    quiet = merged(gate(suppressed={"new": [0, 1, 0, 0]}), written("lint", result))
+    named = {"files": {"-": entries}, "out": quiet}
+    yield one("--suppress - is a file's name", ["--suppress", "-", "--out", "o", "a"], **named)
+    words = ["--text", "./-", "--out", "o", "a"]
+    yield one("./- is a file", words, look=holds({**base, "-": ["text"]}))
+    yield one(
+        "a log - that is faulty",
+        ["--out", "o", "a", "-"],
+        stdin=b"{",
+        look=holds({"a": ONE}),
+        **refused("log 1: NotJson"),
+    )
+
+
+# ---- Words that are refused
+
+
+def wrong(name, words, files=()):
+    """Words that are bad usage: nothing is written."""
+    given = {"b": OLD, "s": OLD, **dict.fromkeys(files, OLD)}
+    return one(
+        f"{name}: {' '.join(words)}",
+        words,
+        files=given,
+        status=2,
+        stdout=b"",
+        look=holds({"a": ONE, **given}),
+        check=lambda answer: ["nothing stands on standard error"] * (not answer.stderr),
+    )
+
+
+def clashes():
+    for kind in KINDS:
+        word = f"--{kind}"
+        yield wrong("a log's name", [word, "a", "--out", "o", "a"])
+        yield wrong("a second log's name", [word, "b", "--out", "o", "a", "b"])
+        yield wrong("a baseline's name", [word, "b", "--baseline", "b", "--out", "o", "a"])
+        more = ["--baseline", "a", "--baseline", "b"]
+        yield wrong("a second baseline's name", [word, "b", *more, "--out", "o", "a"])
+        words = [word, "s", "--suppress", "s", "--out", "o", "a"]
+        yield wrong("the suppression file's name", words)
+        yield wrong("the output's name", [word, "o", "--out", "o", "a"])
+        yield wrong("the output's name, where a file stands", [word, "o", "--out", "o", "a"], ["o"])
+        yield wrong("two for standard output", [word, "-", "--out", "-", "a"])
+        yield wrong("twice", [word, "p", word, "q", "--out", "o", "a"])
+        yield wrong("no file", ["--out", "o", "a", word])
+    for number, kind in enumerate(KINDS):
+        for other in KINDS[number + 1 :]:
+            words = [f"--{other}", "p", f"--{kind}", "p", "--out", "o", "a"]
+            yield wrong("one name for two reports", words)
+            yield wrong("two for standard output", ["-" if it == "p" else it for it in words])
+    yield wrong("standard input twice", ["--out", "o", "-", "-"])
+    yield wrong("standard input thrice", ["--out", "o", "-", "a", "-", "-"])
+    yield wrong("a root twice", ["--root", "a", "--root", "b", "--out", "o", "a"])
+    yield wrong("explained twice", ["--explain", "--explain", "--out", "o", "a"])
+    yield wrong("a report and no output", ["--text", "t", "a"])
+    yield wrong("a report and no log", ["--text", "t", "--out", "o"])
+    base = {"a": ONE, "o": ONE_MERGED}
+    other = ["--text", "./a.txt", "--out", "o", "a"]
+    yield one("a name of its own", other, look=holds({**base, "a.txt": ["text"]}))
+    yield one("--out may replace a log", ["--out", "a", "a"], look=holds({"a": ONE_MERGED}))
+
+
+def versions():
+    for word in ("--version", "-V"):
+        yield Case("words", f"{word} tells the version", [word], stderr=b"", check=tells_version)
+    yield Case("words", "the help names the words", ["--help"], stderr=b"", check=names_words)
+    words = ["--out", "o", "a", "-V"]
+    yield one("--version among others", words, check=tells_version, look=holds({"a": ONE}))
+
+
+def tells_version(answer):
+    is_told = re.fullmatch(rb"sarif_gate [0-9]+\.[0-9]+\.[0-9]+\n", answer.stdout)
+    return [f"it says {answer.stdout[:60]!r}"] * (not is_told)
+
+
+def names_words(answer):
+    words = [*(f"--{kind}" for kind in KINDS), "--root", "--explain", "--version", "-V"]
+    return [f"the help doesn't name {it}" for it in words if it.encode() not in answer.stdout]
+
+
+# ---- What is written when
+
+
+def failing(number, name, file, old=False, **more):
+    """The report of this number goes into a file that can't be written, the others into theirs."""
+    kind = KINDS[number]
+    words = [word for it in KINDS for word in (f"--{it}", file if it == kind else it)]
+    olds = dict.fromkeys(KINDS, OLD) if old else {}
+    stand = {"a": ONE, "o": ONE_MERGED, **olds, **reported(*KINDS[:number])}
+    return one(
+        f"{kind} into {name}" + ", where others stand" * old,
+        [*words, "--out", "o", "a"],
+        files=olds,
+        group="writing",
+        look=holds(stand),
+        **{**refused(f"{kind} report: WriteFailed"), **more},
+    )
+
+
+def failures():
+    for number in range(len(KINDS)):
+        for old in (False, True):
+            yield failing(number, "a folder that isn't there", "none/p", old)
+            yield failing(number, "a full device", FULL, old)
+            yield failing(number, "a folder", ".", old)
+        full = {"streams": {"stdout": FULL}, "stdout": None}
+        yield failing(number, "a full standard output", "-", **full)
+    words = [*every_report(), "--out", "none/o", "a"]
+    none = {"group": "writing", "look": holds({"a": ONE}), **refused("output: WriteFailed")}
+    yield one("the output fails", words, **none)
+    words = [*every_report(), "--out", "-", "a"]
+    yield one("standard output fails", words, **{**none, "stdout": None}, streams={"stdout": FULL})
+    whole = {"a": ONE, "o": ONE_MERGED, **reported(*KINDS)}
+    yield one(
+        "the summary alone fails",
+        [*every_report(), "--out", "o", "a"],
+        group="writing",
+        status=3,
+        streams={"stdout": FULL},
+        look=holds(whole),
+    )
+    yield one(
+        "a page past the limit of a file's size",
+        [*every_report(), "--out", "o", "a"],
+        files={"html": OLD},
+        group="writing",
+        file_size=2_000,
+        look=holds({"a": ONE, "o": ONE_MERGED, **reported(*KINDS[:4]), "html": OLD}),
+        **refused("html report: WriteFailed"),
+    )
+
+
+def refusals():
+    olds = dict.fromkeys(KINDS, OLD)
+    for name, bad, fault in (
+        ("a log that isn't JSON", b"{", "log 0: NotJson"),
+        ("a bad result", BAD, "log 0, run 0, result 0: BadGuid"),
+    ):
+        for files in ({}, olds):
+            yield one(
+                f"{name} leaves {'old' if files else 'no'} reports",
+                [*every_report(), "--out", "o", "a"],
+                files={**files, "a": bad},
+                group="writing",
+                look=holds({**files, "a": bad}),
+                **refused(fault),
+            )
+    yield one(
+        "a log that can't be read leaves no reports",
+        [*every_report(), "--out", "o", "b"],
+        group="writing",
+        look=holds({"a": ONE}),
+        **refused("log 0: ReadFailed"),
+    )
+
+
+def empty():
+    none = Reports(json.loads(NONE_MERGED), Policy())
+    wanted = {"a": NONE, "o": NONE_MERGED, **reported(*KINDS)}
+    for old in ({}, dict.fromkeys(KINDS, OLD)):
+        yield one(
+            f"nothing reported makes {'old files empty' if old else 'empty files'}",
+            [*every_report(), "--out", "o", "a"],
+            files={"a": NONE, **old},
+            group="writing",
+            look=holds(wanted, reports=none),
+        )
+    names = (b"new       ", b"unchanged ", b"updated   ", b"absent    ")
+    summary = HEADING + b"".join(it + ZERO for it in names) + b"gate: pass, hits 0, max 0\n"
+    for kind in ("text", "github"):
+        words = [f"--{kind}", "-", "--out", "o", "a"]
+        given = {"files": {"a": NONE}, "group": "writing", "stdout": summary}
+        yield one(f"nothing reported by --{kind} -", words, **given)
+
+
+def kept_modes():
+    whole = {"a": ONE, "o": ONE_MERGED, **reported(*KINDS)}
+
+    def prepare(folder):
+        for kind in KINDS:
+            (folder / kind).write_bytes(OLD)
+            (folder / kind).chmod(0o640)
+
+    def look(folder, kept):
+        modes = {stat.S_IMODE((folder / kind).stat().st_mode) for kind in KINDS}
+        return holds(whole)(folder, kept) + [f"the modes {modes}"] * (modes != {0o640})
+
+    words, group = [*every_report(), "--out", "o", "a"], "writing"
+    yield one("the mode of an old report is kept", words, group=group, prepare=prepare, look=look)
+
+    def link(folder):
+        (folder / "text").symlink_to("t")
+
+    def still_links(folder, kept):
+        wrong = ["the link was replaced"] * (not (folder / "text").is_symlink())
+        return wrong + holds({**whole, "t": ["text"]})(folder, kept)
+
+    yield one("a link is followed", words, group="writing", prepare=link, look=still_links)
+    words = ["--text", "/dev/stdout", "--html", "/dev/null", "--out", "o", "a"]
+    yield one("devices are written as they are", words, group="writing", check=spoken("text"))
+    yield one(
+        "a failing gate writes all reports",
+        ["--fail-on", "warning", *every_report(), "--out", "o", "a"],
+        group="writing",
+        status=1,
+        look=lambda folder, kept: [
+            f"{kind} wasn't written" for kind in KINDS if not (folder / kind).is_file()
+        ],
+    )
+
+
+# ---- Explanations
+
+NAMES = ("file", "where", "line", "column", "found", "wanted", "system", "advice")
+
+
+def explains(fault, **wanted):
+    """Checks the fault line, and that lines of known names follow it in order, with these texts."""
+
+    def check(answer):
+        lines = answer.stderr.decode().split("\n")
+        wrong = [f"the fault line is {lines[0]!r}"] * (lines[0] != f"sarif_gate: {fault}")
+        wrong += ["the last line isn't ended"] * (lines[-1] != "")
+        told = [re.fullmatch(r"  ([a-z]+): (.*)", it) for it in lines[1:-1]]
+        if not all(told) or not told:
+            return wrong + [f"the lines are {lines[1:]}"]
+        names = [it.group(1) for it in told]
+        wrong += [f"the names are {names}"] * (names != [it for it in NAMES if it in names])
+        found = {it.group(1): it.group(2) for it in told}
+        for name, text in wanted.items():
+            is_told = name in found if text is True else found.get(name) == text
+            wrong += [f"{name} is {found.get(name)!r}, and not {text!r}"] * (not is_told)
+        return wrong
+
+    return check
+
+
+def explained(name, files, fault, words=("--out", "o", "a"), **wanted):
+    status = refused(fault)["status"]
+    check = explains(fault, **wanted)
+    words = ["--explain", *words]
+    return one(name, words, group="explain", files=files, status=status, stdout=b"", check=check)
+
+
+def explanations():
+    eight = [plain() for _ in range(7)] + [plain(correlationGuid="x")]
+    bad = log(run("lint", *eight))
+    place = "log 0, run 0, result 7: BadGuid"
+    lines = [
+        f"sarif_gate: {place}",
+        "  file: found.sarif",
+        "  where: /runs/0/results/7/correlationGuid",
+        '  found: "x"',
+        "  wanted: a GUID, as 0f14d0ab-9605-4a62-a9e4-5ed26688389b",
+        "  advice: report it to the makers of the analyser, or drop the member",
+        "",
+    ]
+    given = {"group": "explain", "files": {"found.sarif": bad}, "status": 2, "stdout": b""}
+    words = ["--out", "o", "found.sarif"]
+    told = "\n".join(lines).encode()
+    yield one("a bad guid", ["--explain", *words], stderr=told, **given)
+    yield one("the same, not explained", words, stderr=line(place), **given)
+    evil = plain(correlationGuid="x\n\x1b[31m##\u202e")
+    yield explained(
+        "a value that tries to write lines",
+        {"a": log(run("lint", evil))},
+        "log 0, run 0, result 0: BadGuid",
+        found='"x\\n\\u001b[31m# # "',
+    )
+    yield explained(
+        "a long value",
+        {"a": log(run("lint", plain(correlationGuid="x" * 200)))},
+        "log 0, run 0, result 0: BadGuid",
+        found='"' + "x" * 79 + "...",
+    )
+    yield explained(
+        "a member that is wanting",
+        {"a": log({})},
+        "log 0, run 0: BadRun",
+        file="a",
+        where="/runs/0",
+        found="nothing",
+        wanted=True,
+        advice=True,
+    )
+    where = {"line": "2", "column": True, "file": "a", "wanted": True, "advice": True}
+    yield explained("text that isn't JSON", {"a": b'{"a":\n [1, 2 3]}'}, "log 0: NotJson", **where)
+    named = ["--out", "o", "a", "b\nb"]
+    yield explained(
+        "a file that isn't there",
+        {},
+        "log 1: ReadFailed",
+        named,
+        file="b b",
+        system=True,
+        advice=True,
+    )
+    yield explained(
+        "an output that can't be written",
+        {},
+        "output: WriteFailed",
+        ["--out", "none/o", "a"],
+        file="none/o",
+        system=True,
+    )
+    yield explained(
+        "a report that can't be written",
+        {},
+        "text report: WriteFailed",
+        ["--text", "none/t", "--out", "o", "a"],
+        file="none/t",
+        system=True,
+    )
+    words = ["--explain", "--out", "o", "a"]
+    given = {"out": ONE_MERGED, "stdout": ONE_SUMMARY, "stderr": b""}
+    yield one("nothing to explain", words, group="explain", **given)
+
+
+def cases():
+    for part in (streams, clashes, versions, failures, refusals, empty, kept_modes, explanations):
+        yield from part()

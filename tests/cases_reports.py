@@ -1,0 +1,200 @@
+"""Cases of the five reports: what each says of a merged log, held to the reference."""
+
+import json
+import random
+from dataclasses import dataclass, field
+from functools import cached_property
+
+import hostile_logs as hostile
+import reference
+from cases import *
+from page_reader import page_faults
+from reference_reports import Policy, Reports
+
+KINDS = ("text", "github", "markdown", "gitlab", "html")
+ROOT_FOLDER = "file:///src/"
+
+
+@dataclass
+class Reporting(Case):
+    """A merge that is asked for all five reports."""
+
+    policy: Policy = field(default_factory=Policy)
+    logs: list = field(default_factory=list)
+    baselines: list = field(default_factory=list)
+    suppress: Optional[bytes] = None
+    kept: Optional[str] = None
+
+    def __post_init__(self):
+        self.look, self.seconds = self.compare, 600
+        self.files = {f"log{number}": given for number, given in enumerate(self.logs)}
+        for number, given in enumerate(self.baselines):
+            self.files[f"baseline{number}"] = given
+            self.words = [*self.words, "--baseline", f"baseline{number}"]
+        if self.suppress is not None:
+            self.files["rules"] = self.suppress
+            self.words = [*self.words, "--suppress", "rules"]
+        self.words = [*self.words, *self.of_policy(), *every_report(), "--out", "o"]
+        self.words += [f"log{number}" for number in range(len(self.logs))]
+
+    def of_policy(self):
+        words = ["--fail-on", self.policy.fail_on, "--max", str(self.policy.max)]
+        return words + ["--root", self.policy.root] * bool(self.policy.root)
+
+    @cached_property
+    def merge(self):
+        policy = reference.Policy(self.policy.fail_on, self.policy.max)
+        return reference.Merge(self.logs, self.baselines, self.suppress, policy)
+
+    @cached_property
+    def reports(self):
+        return Reports(json.loads(self.merge.text()), self.policy)
+
+    def compare(self, folder, kept):
+        return [
+            f"{kind}: {fault}"
+            for kind in KINDS
+            for fault in report_faults(folder / kind, kind, self.reports)
+        ] + (self.beside_kept(folder) if self.kept else [])
+
+    def beside_kept(self, folder):
+        """Whether the reports are those that are kept with the examples."""
+        found = {kind: (folder / kind).read_bytes() for kind in KINDS if (folder / kind).is_file()}
+        return [
+            f"{kind}, beside {kept_name(self.kept, kind)}: {difference(wanted, found.get(kind))}"
+            for kind in KINDS
+            if (wanted := example(f"reports/{kept_name(self.kept, kind)}")) != found.get(kind)
+        ]
+
+    def faults(self, answer):
+        self.status = self.merge.status()
+        self.stdout, self.stderr = self.merge.summary().encode(), b""
+        self.out = self.merge.text().encode()
+        return super().faults(answer)
+
+
+ENDINGS = dict(zip(KINDS, ("txt", "github.txt", "md", "gitlab.json", "html")))
+
+
+def kept_name(name, kind):
+    return f"{name}.{ENDINGS[kind]}"
+
+
+def every_report():
+    """Words for all reports, each into a file of its name."""
+    return [word for kind in KINDS for word in (f"--{kind}", kind)]
+
+
+def report_faults(file, kind, reports):
+    """What is wrong with one report in a file."""
+    if not file.is_file():
+        return ["it wasn't written"]
+    found = file.read_bytes()
+    if kind == "html":
+        return page_faults(found, reports)
+    wanted = getattr(reports, kind)()
+    return [difference(wanted, found)] * (found != wanted)
+
+
+# ---- Examples
+
+BANDIT, CLANG = "bandit-django-forms.sarif", "clang-lua-lstate.sarif"
+BEFORE = ("bandit-django-forms-2.2.28.sarif", "clang-lua-lstate-5.3.6.sarif")
+ACCEPTED = rules({"ruleId": "B308", "justification": "looked at"}, {"uri": "file:///src/lstate.c"})
+
+
+def of_examples(name, logs, baselines=(), **given):
+    read = lambda names: [example(it) for it in names]
+    return Reporting("examples", name, logs=read(logs), baselines=read(baselines), **given)
+
+
+def kept():
+    """The merges whose reports stand in examples/reports."""
+    for name, given in KEPT:
+        yield of_examples(f"{name}, as it is kept", kept=name, **given)
+
+
+def examples():
+    yield from kept()
+    for fail_on in ("error", "warning", "note", "none"):
+        for most, root in ((0, ""), (3, "django/"), (17, ROOT_FOLDER)):
+            policy = Policy(fail_on, most, root=root)
+            title = f"from {fail_on}, {most} allowed, without {root!r}"
+            yield of_examples(f"two logs {title}", [CLANG, BANDIT], policy=policy)
+            yield of_examples(f"with baselines {title}", [BANDIT, CLANG], BEFORE, policy=policy)
+            yield of_examples(
+                f"with baselines and suppressions {title}",
+                [BANDIT, CLANG],
+                BEFORE[:1],
+                policy=policy,
+                suppress=ACCEPTED,
+            )
+
+
+ROOTED = Policy(root=ROOT_FOLDER)
+KEPT = [
+    ("bandit-django-forms", {"logs": [BANDIT], "policy": Policy("warning")}),
+    ("clang-lua-lstate", {"logs": [CLANG], "policy": Policy("warning", 10, root=ROOT_FOLDER)}),
+    ("both-with-baselines", {"logs": [BANDIT, CLANG], "baselines": BEFORE, "policy": ROOTED}),
+]
+
+
+# ---- Hostile logs
+
+
+def strange(name, given, **more):
+    logs = given if isinstance(given, list) else [given]
+    return Reporting("hostile", name, logs=logs, **more)
+
+
+def hostile_logs():
+    for text in hostile.TEXTS:
+        seen = repr(text if len(text) < 40 else f"{text[:20]}.. of {len(text)}")
+        yield strange(f"{seen} everywhere", hostile.everywhere(text))
+    parts = (
+        ("each uri", hostile.placed()),
+        ("each address of a page", hostile.linked()),
+        ("each line and column", hostile.numbered()),
+        ("each way to a message", hostile.spoken()),
+        ("results that look alike", hostile.alike()),
+        ("each level and kind", hostile.levelled()),
+    )
+    for name, given in parts:
+        yield strange(name, given)
+        for fail_on in ("warning", "none"):
+            policy = Policy(fail_on, 5, root=ROOT_FOLDER)
+            yield strange(f"{name}, from {fail_on}", given, policy=policy)
+    for root in ("file:///", "file:///src", "a", "%", "a b", "\u00e9", "a.c", ":a", "x" * 2_000):
+        policy = Policy(root=root)
+        yield strange(f"each uri without {root[:20]!r}", hostile.placed(), policy=policy)
+    level, alike = hostile.levelled(), hostile.alike()
+    other = {"uri": "open.c", "status": "underReview"}
+    given = {"baselines": [level], "suppress": rules({"ruleId": "none"}, {"uri": "pass.c"}, other)}
+    yield strange("suppressions and a baseline", [level, alike], **given)
+    yield strange("a log beside itself", [alike], baselines=[alike, hostile.placed()])
+
+
+def many():
+    for count in (0, 1, 199, 200, 201, 202, 10_000, 10_001, 10_203):
+        policy = Policy("warning", count // 2)
+        yield Reporting("many", f"{count} results", logs=[hostile.many(count)], policy=policy)
+
+
+def drawn(seed, count):
+    """So many drawn logs."""
+    for number in range(count):
+        rng = random.Random(f"reports {seed} {number}")
+        makes = hostile.Drawn(rng)
+        logs = [makes.log() for _ in range(rng.choice([1, 1, 2]))]
+        before = [logs[0]] * (rng.random() < 0.2) + [makes.log()] * (rng.random() < 0.2)
+        root = rng.choice(["", "", ROOT_FOLDER, "a", "%", "./"])
+        level = rng.choice(["error", "warning", "note", "none"])
+        policy = Policy(level, rng.choice([0, 1, 4]), root=root)
+        name = f"seed {seed}, number {number}"
+        yield Reporting("drawn", name, logs=logs, baselines=before, policy=policy)
+
+
+def cases(seed=1, count=200):
+    for part in (examples, hostile_logs, many):
+        yield from part()
+    yield from drawn(seed, count)

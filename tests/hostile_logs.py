@@ -1,0 +1,344 @@
+"""Logs whose texts try to break out of a report: lines, commands, tags, cells, unseen marks."""
+
+from cases import log, run
+from reference_reports import HIDDEN
+
+LINES = [
+    "first\nsecond",
+    "first\r\nsecond\rthird",
+    "\n::error ::owned",
+    "a\u2028b\u2029c",
+    "\x0b\x0c\x85",
+    "\t",
+]
+COMMANDS = [
+    "::error ::owned",
+    "::set-output name=x::y",
+    "::stop-commands::x",
+    "##[error]owned",
+    "##vso[task.setvariable variable=a]b",
+    "#",
+    "##",
+    "###",
+    "a##b###c####",
+    "#\u200b#",
+    "#\n#",
+]
+TERMINAL = ["\x1b[31mred\x1b[0m", "\x1b]0;title\x07", "\x00\x01\x1f\x7f\x80\x9f", "\b\b\b"]
+TAGS = [
+    "<script>alert(1)</script>",
+    "</td></tr></table><h1>owned</h1>",
+    "<!-- ",
+    " -->",
+    "<style>*{display:none}</style>",
+    "<img src=x onerror=alert(1)>",
+    "]]>",
+    "&lt;&amp;&quot;&#60;&bogus;&",
+    "\"'`<>&",
+    "' onclick='alert(1)",
+    '" onclick="alert(1)',
+]
+MARKUP = [
+    "| a | b |",
+    "\\| \\",
+    "@everyone #1 !1 GH-1 owner/repo#1",
+    "[x](http://example.org) ![x](http://example.org/x.png)",
+    "**b** _i_ ~~s~~ `c` ``",
+    "</code><code>",
+    "$x$ $$y$$",
+    "- [ ] task",
+    ":tada:",
+    "https://example.org www.example.org",
+]
+DIRECTIONS = ["\u202eabc\u202c", "a\u2066b\u2069c", "\u200f\u061ca", "\ufeffa\u200b\u00ad"]
+ESCAPES = ["%", "%%", "100%", "%0A%0D%25%3A%2C", "a%2", "%zz", "file=a,line=1", ":,", "a:b,c%"]
+BRACES = ["{", "}", "{{", "}}", "{{0}}", "{{{0}}}", "{0}", "{1}", "{00}", "{01}", "{ 0}", "{0"]
+BRACES += ["0}", "{-1}", "{9}}", "{{9}", "}{0}{", "{0}{1}{2}", "{4294967296}", "{\u0660}", "{}"]
+BRACES += ["{18446744073709551616}", "{0}}", "{{{9}}}"]
+EDGES = ["", " ", ":", " :a", "./:a", "-", "\\", "\u00e9", "\U0001f600", "e\u0301", "\uffff", "/"]
+LONG = [
+    "a" * 999,
+    "a" * 1_000,
+    "a" * 1_001,
+    "\u00e9" * 1_000,
+    "\U0001f600" * 1_001,
+    "#" * 500,
+    "#" * 501,
+    "a" * 998 + "##",
+    "a" * 999 + "##",
+    "a" * 1_000 + "##",
+    "\n" * 1_001,
+    "&" * 1_001,
+    "%" * 5_000,
+]
+ENDS = ["[" + "".join(map(chr, sorted({max(0, a - 1), a, b, b + 1}))) + "]" for a, b in HIDDEN]
+TEXTS = LINES + COMMANDS + TERMINAL + TAGS + MARKUP + DIRECTIONS
+TEXTS += ESCAPES + BRACES + EDGES + LONG + ENDS
+URIS = [
+    "a.c",
+    "a%20b.c",
+    "a%0Ab.c",
+    "a%0ab%23%23c",
+    "%c3%a9.c",
+    "%C3%A9.c",
+    "%c3.c",
+    "%ff%fe",
+    "a%00b",
+    "%e2%80%ae.c",
+    "%f0%9f%98%80",
+    "%ed%a0%80",
+    "a%2",
+    "a%",
+    "%%20",
+    "%zz%20",
+    "a%25%20",
+    ":a.c",
+    "  :a.c",
+    "%3Aa.c",
+    "%20:a.c",
+    "%0a:a.c",
+    "./:a.c",
+    "::error ::owned",
+    "file:///src/a.c",
+    "file:///src/",
+    "file:///src/:a.c",
+    "file:///src",
+    "file:///SRC/a.c",
+    "file:///sr%63/a.c",
+    "FILE:///src/a.c",
+    "src/../a.c",
+    "C:\\a.c",
+    " ",
+    "",
+]
+LINKS = [
+    "https://example.org/R1",
+    "http://example.org/R1?a=1&b='2'",
+    'https://example.org/"onclick="x',
+    "https://",
+    "http://",
+    "HTTPS://example.org",
+    "https:/example.org",
+    "ftp://example.org",
+    "javascript:alert(1)//https://",
+    "//example.org",
+    " https://example.org",
+    "https://example.org/a\nb",
+    "https://example.org/\u202e",
+    "https://example.org/##a",
+    "https://example.org/<b>",
+    "https://example.org/" + "a" * 980,
+    "https://example.org/" + "a" * 981,
+    "",
+    None,
+    1,
+    ["https://example.org"],
+]
+NUMBERS = [0, 1, -1, 4_294_967_295, 4_294_967_296, 2**64 - 1, -(2**63), True, None, "1", [1], {}]
+OTHERS = [None, True, 0, "", "text", [], {}, [None], {"text": 1}, {"text": None}, {"text": ["a"]}]
+
+
+def named(text, uri="a.c", **members):
+    """A result with this message at a uri."""
+    place = {"artifactLocation": {"uri": uri}, "region": {"startLine": 3, "startColumn": 5}}
+    return {"message": {"text": text}, "locations": [{"physicalLocation": place}], **members}
+
+
+def everywhere(text):
+    """A log that holds a text wherever a report reads one."""
+    strings = {text: {"text": text}}
+    rules = [{"id": text, "helpUri": f"https://example.org/{text}", "messageStrings": strings}]
+    results = [
+        named(text, text, ruleIndex=0),
+        named(text, text, ruleId=text, level="error"),
+        {"message": {"id": text, "arguments": [text, text]}, "ruleIndex": 0},
+        {"message": {"text": "{0} and {1}", "arguments": [text, text]}, "level": "note"},
+        {"message": {"text": text, "arguments": [text]}, "kind": "pass"},
+    ]
+    driver = {"name": text, "rules": rules}
+    return log({"tool": {"driver": driver}, "results": results})
+
+
+def placed():
+    """A log with each uri, by itself and by way of an artifact."""
+    artifacts = [{"location": {"uri": uri}} for uri in URIS]
+    places = [{"artifactLocation": {"index": number}} for number in range(len(URIS))]
+    by_index = [{"locations": [{"physicalLocation": it}]} for it in places]
+    return log(run("lint", *[named("m", uri) for uri in URIS], *by_index, artifacts=artifacts))
+
+
+def linked():
+    """A log with each address of a rule's page."""
+    rules = [{"id": f"R{number}", "helpUri": link} for number, link in enumerate(LINKS)]
+    rules += [{"id": "", "helpUri": LINKS[0]}, {"id": "R", "name": "no page"}]
+    results = [named("m", ruleIndex=number) for number in range(len(rules))]
+    return log({"tool": {"driver": {"name": "lint", "rules": rules}}, "results": results})
+
+
+def numbered():
+    """A log with each line and column."""
+    regions = [{"startLine": line, "startColumn": 5} for line in NUMBERS]
+    regions += [{"startLine": 3, "startColumn": column} for column in NUMBERS]
+    regions += [{"startColumn": 5}, {"startLine": 3}, {}, None, [], "3"]
+    places = [{"artifactLocation": {"uri": "a.c"}, "region": it} for it in regions]
+    places += [{"region": {"startLine": 3}}]
+    places += [{"artifactLocation": {"uri": ""}, "region": {"startLine": 3}}]
+    return log(run("lint", *[{"locations": [{"physicalLocation": it}]} for it in places]))
+
+
+def spoken():
+    """A log whose messages are looked up in each way, past members of other kinds."""
+    strings = {"own": {"text": "own {0}"}, "both": {"text": "rule's"}, "": {"text": "empty"}}
+    strings |= {"odd": 1, "deep": {"text": [1]}}
+    shared = {"both": {"text": "component's"}, "global": {"text": "global {0} {{"}}
+    shared |= {"odd": {"text": "odd"}, "deep": {}}
+    other = {"global": {"text": "extension's"}, "far": {"text": "far"}}
+    rules = [{"id": "R1", "messageStrings": strings}, {"id": "R2", "messageStrings": 1}]
+    rules.append({"id": "R3"})
+    driver = {"name": "lint", "rules": rules, "globalMessageStrings": shared}
+    extensions = [
+        {"name": "more", "rules": [{"id": "R1"}], "globalMessageStrings": other},
+        {"name": "none", "globalMessageStrings": []},
+    ]
+    references = [{}, {"ruleIndex": 0}, {"ruleIndex": 1}, {"ruleId": "R3"}, {"ruleId": "R1/a"}]
+    references += [{"rule": {"index": 0, "toolComponent": {"index": number}}} for number in (0, -1)]
+    references += [{"rule": {"id": "R1", "toolComponent": {"index": number}}} for number in (0, 1)]
+    messages = [{"id": it} for it in ("own", "both", "odd", "deep", "global", "far", "", "nowhere")]
+    messages += [{"id": "own", "text": it} for it in ("", None, "both")] + [{}]
+    messages += [{**it, "arguments": ["x"]} for it in messages]
+    messages.append({"id": "own", "arguments": []})
+    results = [{"message": it, **reference} for reference in references for it in messages]
+    results += [{}, {"message": None}]
+    return log({"tool": {"driver": driver, "extensions": extensions}, "results": results})
+
+
+def alike():
+    """A log with results that show the same, some of them only once they are shown."""
+    texts = ["a", "a", "a\n", "a ", "a", "b", "a" * 1_001, "a" * 1_002, "", "(no message)"]
+    results = [named(text, uri) for text in texts for uri in ("a.c", "a.c", "%61.c", "", "a\nc")]
+    messages = [{"text": text} for text in texts]
+    results += [{"message": it, "ruleId": rule} for it in messages for rule in ("", "R", "R")]
+    return log(run("lint", *results), run("lint", *results[:5]), run("flint", *results[:5]))
+
+
+def levelled():
+    """A log with each level and kind, some suppressed."""
+    results = []
+    for level in ("error", "warning", "note", "none", None):
+        for kind in ("fail", "pass", "open", "informational", "notApplicable", "review"):
+            held = [{"kind": "inSource"}] if kind == "review" else []
+            held += [{"kind": "external", "status": "rejected"}] if level == "note" else []
+            given = {"level": level, "kind": kind, "suppressions": held}
+            results.append(named(f"{level} {kind}", f"{kind}.c", **given))
+    return log(run("lint", *results))
+
+
+def many(count):
+    """A log of so many results over a few files."""
+    levels = ("error", "warning", "note", "none")
+    results = [named(f"m{it}", f"{it // 3}.c", level=levels[it % 4]) for it in range(count)]
+    return log(run("lint", *results))
+
+
+# ---- Drawn logs
+
+
+class Drawn:
+    """A maker of logs that a merge accepts; `rng` decides."""
+
+    def __init__(self, rng):
+        self.rng = rng
+
+    def chance(self, part):
+        return self.rng.random() < part
+
+    def text(self):
+        """One of the texts, or some in a row, none so long that all are."""
+        if self.chance(0.5):
+            return self.rng.choice(TEXTS)
+        return "".join(self.rng.choice(TEXTS)[:60] for _ in range(self.rng.randint(1, 5)))
+
+    def members(self, *given):
+        return {name: made() for name, part, made in given if self.chance(part)}
+
+    def any(self, values):
+        return lambda: self.rng.choice(values)
+
+    def strings(self):
+        if self.chance(0.1):
+            return self.rng.choice(OTHERS)
+        names = ("i", "j", "")
+        odd = lambda: self.rng.choice(OTHERS)
+        return {
+            name: {"text": self.text()} if self.chance(0.8) else odd()
+            for name in names
+            if self.chance(0.6)
+        }
+
+    def rule(self):
+        return {
+            "id": self.rng.choice(["R1", "R2", "", self.text()]),
+            **self.members(
+                ("helpUri", 0.6, self.any([*LINKS, "https://example.org/" + self.text()])),
+                ("messageStrings", 0.6, self.strings),
+                ("defaultConfiguration", 0.3, self.any([{"level": "error"}, {"level": "note"}])),
+            ),
+        }
+
+    def component(self):
+        rules = [self.rule() for _ in range(self.rng.randint(0, 3))]
+        shared = self.members(("globalMessageStrings", 0.5, self.strings))
+        return {"name": self.rng.choice(["lint", self.text()]), "rules": rules, **shared}
+
+    def message(self):
+        return self.members(
+            ("text", 0.6, self.text),
+            ("id", 0.5, self.any(["i", "j", "", "k"])),
+            ("arguments", 0.5, lambda: [self.text() for _ in range(self.rng.randint(0, 3))]),
+        )
+
+    def place(self, artifacts):
+        uri = lambda: self.rng.choice([*URIS, self.text()])
+        index = [("index", 0.4, lambda: self.rng.randrange(-1, artifacts))]
+        artifact = self.members(("uri", 0.7, uri), ("uriBaseId", 0.1, lambda: "S"), *index)
+        numbers = self.any([*NUMBERS, 1, 2, 77])
+        region = self.members(("startLine", 0.9, numbers), ("startColumn", 0.8, numbers))
+        region = self.rng.choice(OTHERS) if self.chance(0.05) else region
+        physical = {"artifactLocation": artifact, "region": region}
+        return [{"physicalLocation": physical}] if self.chance(0.95) else []
+
+    def reference(self, components):
+        number = self.rng.randrange(len(components))
+        rules = components[number]["rules"]
+        index = lambda: self.rng.randrange(-1, len(rules))
+        rule = self.members(("id", 0.4, self.any(["R1", "R2"])), ("index", 0.5, index))
+        if number:
+            rule["toolComponent"] = {"index": number - 1}
+        else:
+            rule |= self.members(("toolComponent", 0.1, lambda: {"index": -1}))
+        return {"rule": rule, **self.members(("ruleId", 0.3, self.any(["R1", "", self.text()])))}
+
+    def result(self, components, artifacts):
+        held = [{"kind": "inSource", "status": self.rng.choice(["accepted", "rejected"])}]
+        return {
+            **self.members(
+                ("message", 0.9, self.message),
+                ("locations", 0.8, lambda: self.place(artifacts)),
+                ("level", 0.5, self.any(["error", "warning", "note", "none"])),
+                ("kind", 0.1, self.any(["pass", "fail"])),
+                ("suppressions", 0.2, lambda: held),
+            ),
+            **self.reference(components),
+        }
+
+    def run(self):
+        components = [self.component() for _ in range(self.rng.randint(1, 3))]
+        artifacts = [{"location": {"uri": self.text()}} for _ in range(self.rng.randint(0, 3))]
+        size = self.rng.choice([0, 1, 3, 8])
+        results = [self.result(components, len(artifacts)) for _ in range(size)]
+        tool = {"driver": components[0], "extensions": components[1:]}
+        results = results * self.rng.choice([1, 1, 2])
+        return {"tool": tool, "artifacts": artifacts, "results": results}
+
+    def log(self):
+        return log(*[self.run() for _ in range(self.rng.randint(1, 3))])

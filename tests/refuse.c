@@ -1,0 +1,194 @@
+/* Preloaded before a program, this counts its calls of one kind, and refuses some of them.
+
+   REFUSE_KIND    memory: requests for memory (malloc, calloc, realloc, aligned_alloc, posix_memalign);
+                  files: open, read, write, writev, fsync, fchmod, statx, readlink, rename, unlink
+   REFUSE_FIRST   the first call that is refused, counted from 1; 0 or nothing: none
+   REFUSE_LAST    the last one; nothing: the first alone
+   REFUSE_SIGNAL  in place of the refusal the program gets this signal
+   REFUSE_SHORT   each read and write moves one byte
+   REFUSE_NOTE    a file of 16 bytes, in which stand how many calls were made and how many refused
+
+   It counts from its own start, so neither the loader's requests nor those of libraries before it. It is for
+   x86-64 Linux and glibc, and includes nothing, since the kit's clang comes with no headers. */
+
+typedef unsigned long size;
+
+enum kind { NOTHING, MEMORY, FILES };
+
+enum error { IO_ERROR = 5, OUT_OF_MEMORY = 12, NO_ACCESS = 13, NO_SPACE = 28 };
+
+/* Numbers of the system's calls. */
+enum call {
+    READ = 0,
+    WRITE = 1,
+    OPEN = 2,
+    CLOSE = 3,
+    WRITEV = 20,
+    PAUSE = 34,
+    GETPID = 39,
+    KILL = 62,
+    FSYNC = 74,
+    RENAME = 82,
+    UNLINK = 87,
+    READLINK = 89,
+    FCHMOD = 91,
+    STATX = 332,
+};
+
+struct part {
+    void *bytes;
+    size count;
+};
+
+struct note {
+    long made;
+    long refused;
+};
+
+int *__errno_location(void);
+void _exit(int status);
+char *getenv(const char *name);
+long atol(const char *text);
+void *mmap(void *at, size count, int access, int flags, int file, long offset);
+long syscall(long call, ...);
+
+/* The C library's own functions, below the names that this file takes. */
+void *__libc_malloc(size count);
+void *__libc_calloc(size items, size count);
+void *__libc_realloc(void *old, size count);
+void *__libc_memalign(size alignment, size count);
+
+static struct note own_note;
+static struct note *note = &own_note;
+static enum kind counted = NOTHING;
+static long first, last, signal_number, is_short;
+
+static long number(const char *name, long otherwise) {
+    const char *text = getenv(name);
+    return text && *text ? atol(text) : otherwise;
+}
+
+/* The note in a file, shared, so that it can be read whatever becomes of the program. */
+static struct note *note_in(const char *name) {
+    const int read_and_write = 2, both = 3, shared = 1;
+    long file = syscall(OPEN, name, read_and_write, 0);
+    struct note *found = mmap(0, sizeof(struct note), both, shared, (int)file, 0);
+    if (file < 0 || found == (void *)-1)
+        _exit(125);
+    syscall(CLOSE, file);
+    return found;
+}
+
+__attribute__((constructor)) static void start(void) {
+    const char *kind = getenv("REFUSE_KIND"), *name = getenv("REFUSE_NOTE");
+    first = number("REFUSE_FIRST", 0);
+    last = number("REFUSE_LAST", first);
+    signal_number = number("REFUSE_SIGNAL", 0);
+    is_short = number("REFUSE_SHORT", 0);
+    if (name)
+        note = note_in(name);
+    if (kind)
+        counted = *kind == 'm' ? MEMORY : FILES;
+}
+
+/* Counts a call: whether it is to be refused. */
+static int refuses(enum kind kind) {
+    if (kind != counted)
+        return 0;
+    long made = __atomic_add_fetch(&note->made, 1, __ATOMIC_SEQ_CST);
+    if (first == 0 || made < first || made > last)
+        return 0;
+    __atomic_add_fetch(&note->refused, 1, __ATOMIC_SEQ_CST);
+    if (signal_number)
+        syscall(KILL, syscall(GETPID), signal_number);
+    while (signal_number)
+        syscall(PAUSE);
+    return 1;
+}
+
+static int fails(enum error error) {
+    *__errno_location() = error;
+    return -1;
+}
+
+static void *no_memory(void) {
+    fails(OUT_OF_MEMORY);
+    return 0;
+}
+
+void *malloc(size count) {
+    return refuses(MEMORY) ? no_memory() : __libc_malloc(count);
+}
+
+void *calloc(size items, size count) {
+    return refuses(MEMORY) ? no_memory() : __libc_calloc(items, count);
+}
+
+void *realloc(void *old, size count) {
+    return refuses(MEMORY) ? no_memory() : __libc_realloc(old, count);
+}
+
+void *aligned_alloc(size alignment, size count) {
+    return refuses(MEMORY) ? no_memory() : __libc_memalign(alignment, count);
+}
+
+int posix_memalign(void **place, size alignment, size count) {
+    void *made = refuses(MEMORY) ? 0 : __libc_memalign(alignment, count);
+    if (!made)
+        return OUT_OF_MEMORY;
+    *place = made;
+    return 0;
+}
+
+/* The mode, which stands there only where a file may be made, is handed on in any case. */
+int open(const char *path, int flags, unsigned mode) {
+    return refuses(FILES) ? fails(NO_ACCESS) : (int)syscall(OPEN, path, flags, mode);
+}
+
+/* How many of these bytes are moved at once. */
+static size moved(size count) {
+    return is_short && count > 1 ? 1 : count;
+}
+
+long read(int file, void *bytes, size count) {
+    return refuses(FILES) ? fails(IO_ERROR) : syscall(READ, file, bytes, moved(count));
+}
+
+long write(int file, const void *bytes, size count) {
+    return refuses(FILES) ? fails(NO_SPACE) : syscall(WRITE, file, bytes, moved(count));
+}
+
+long writev(int file, const struct part *parts, int count) {
+    if (refuses(FILES))
+        return fails(NO_SPACE);
+    for (int at = 0; is_short && at < count; at++)
+        if (parts[at].count > 0)
+            return syscall(WRITE, file, parts[at].bytes, 1L);
+    return syscall(WRITEV, file, parts, count);
+}
+
+int fsync(int file) {
+    return refuses(FILES) ? fails(IO_ERROR) : (int)syscall(FSYNC, file);
+}
+
+int fchmod(int file, unsigned mode) {
+    return refuses(FILES) ? fails(IO_ERROR) : (int)syscall(FCHMOD, file, mode);
+}
+
+int statx(int folder, const char *path, int flags, unsigned wanted, void *found) {
+    if (refuses(FILES))
+        return fails(IO_ERROR);
+    return (int)syscall(STATX, folder, path, flags, wanted, found);
+}
+
+long readlink(const char *path, char *bytes, size count) {
+    return refuses(FILES) ? fails(IO_ERROR) : syscall(READLINK, path, bytes, count);
+}
+
+int rename(const char *from, const char *to) {
+    return refuses(FILES) ? fails(IO_ERROR) : (int)syscall(RENAME, from, to);
+}
+
+int unlink(const char *path) {
+    return refuses(FILES) ? fails(IO_ERROR) : (int)syscall(UNLINK, path);
+}
