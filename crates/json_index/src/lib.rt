@@ -8,8 +8,6 @@ mod making;
 mod node;
 mod number;
 mod readable;
-#[cfg(test)]
-mod tests;
 mod together;
 mod walking;
 

@@ -2,8 +2,6 @@
 #![tactic(auto)]
 
 mod around;
-#[cfg(test)]
-mod tests;
 mod text;
 
 pub use around::{Around, text_around};

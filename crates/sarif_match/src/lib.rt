@@ -21,6 +21,3 @@ pub use states::state;
 pub use tier::Tier;
 pub use tier_key::Key;
 pub use tier_list::tiers;
-
-#[cfg(test)]
-mod tests;

@@ -10,9 +10,6 @@ ghost use Rattle.sarif_records.specs.Listed.{value_at, nodes_of, listed_member, 
 ghost use Rattle.sarif_records.specs.Indexed.{run_of};
 ghost use Rattle.sarif_records.specs.declared.fault.Fault.TheVariants.{OutOfMemory};
 
-#[cfg(test)]
-mod tests;
-
 use crate::fault::{Fault, ReadFault};
 use crate::indexed_run::IndexedRun;
 use crate::listed::Listed;

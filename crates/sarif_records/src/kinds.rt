@@ -5,9 +5,6 @@ ghost use Rattle.sarif_records.specs.Kind.{kind_name, kind_named};
 ghost use Rattle.sarif_records.specs.State.{state_name, state_named};
 ghost use Rattle.sarif_records.specs.Status.{status_name, status_named};
 
-#[cfg(test)]
-mod tests;
-
 /// The severity of a result, in rising order (SARIF 2.1.0, "level property").
 #[derive(Clone, Copy, Debug, PartialEq, Eq, PartialOrd, Ord, Hash)]
 pub enum Level {

@@ -11,8 +11,6 @@ mod indexes;
 mod location;
 mod message;
 mod suppressions;
-#[cfg(test)]
-mod tests;
 
 use crate::fault::Fault;
 use crate::guid::read_guid;

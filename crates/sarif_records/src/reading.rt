@@ -6,9 +6,6 @@ ghost use Rattle.sarif_records.specs.Run.{results_total};
 ghost use Rattle.sarif_records.specs.Reading as said;
 ghost use Rattle.sarif_records.specs.declared.fault.Fault.TheVariants.{OutOfMemory};
 
-#[cfg(test)]
-mod tests;
-
 use crate::fault::{Fault, ReadFault};
 use crate::filling::fill_each;
 use crate::indexing::index_log;

@@ -4,9 +4,6 @@ ghost use Rattle.serde_json.specs.View.{view, items_view, members_view};
 ghost use Rattle.sarif_records.specs.Stripping.{is_fractional, any_fractional};
 ghost use Rattle.sarif_records.specs.Stripping.{stripped, stripped_members};
 
-#[cfg(test)]
-mod tests;
-
 use serde_json::{Map, Value};
 use std::alloc::AllocError;
 

@@ -8,8 +8,6 @@ mod invocation;
 mod making;
 mod open;
 mod reading;
-#[cfg(test)]
-mod tests;
 
 pub use component::{Component, Rule};
 pub use head::RunHead;

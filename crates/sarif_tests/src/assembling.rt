@@ -1,0 +1,38 @@
+//! The log of nothing, worked by hand.
+use sarif_assemble::{Judged, assemble};
+use sarif_counts::{Policy, Verdict};
+use sarif_records::{Level, State};
+use sarif_suppress::Suppressions;
+use std::hash::RandomState;
+use std::test::Fail;
+
+const LOG: &str = "{\"properties\":{\"gate\":{\"counts\":{\
+\"absent\":{\"active\":[0,0,0,0],\"suppressed\":[0,0,0,0]},\
+\"new\":{\"active\":[0,0,0,0],\"suppressed\":[0,0,0,0]},\
+\"unchanged\":{\"active\":[0,0,0,0],\"suppressed\":[0,0,0,0]},\
+\"updated\":{\"active\":[0,0,0,0],\"suppressed\":[0,0,0,0]}},\
+\"failOn\":\"error\",\"hits\":0,\"max\":0,\"runsWithoutResults\":0,\
+\"states\":[\"new\",\"updated\"],\"unusedSuppressions\":0,\"verdict\":\"pass\"}},\
+\"runs\":[],\"version\":\"2.1.0\"}";
+
+#[test]
+fn without_runs_the_log_holds_its_gate(rt: HostRuntime) -> Result<(), Fail> {
+    let alloc = rt.alloc();
+    let current = Judged {
+        runs: Vec::new(alloc),
+        outcomes: Vec::new(alloc),
+    };
+    let baseline = Judged {
+        runs: Vec::new(alloc),
+        outcomes: Vec::new(alloc),
+    };
+    let seed = RandomState::new(&rt)?;
+    let file = Suppressions::none(alloc, seed, None)?;
+    let merged = assemble(alloc, seed, current, baseline, &file, &Policy::default())?;
+    assert_eq!(rt; merged.log.as_str(), LOG);
+    assert!(rt; merged.verdict == Verdict::Pass);
+    assert_eq!(rt; merged.counts.get(State::New, Level::Error, false), 0);
+    assert_eq!(rt; merged.without, 0);
+    assert_eq!(rt; merged.unused, 0);
+    Ok(())
+}

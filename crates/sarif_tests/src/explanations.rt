@@ -1,0 +1,34 @@
+//! The smallest source of each cause, with the whole explanation that is wanted.
+mod files;
+mod logs;
+mod results;
+mod runs;
+
+use sarif_explain::{FaultSource, explanation};
+use sarif_sources::{At, Cause, MergeFault};
+use std::alloc::Global;
+use std::process::Abort;
+use std::test::Fail;
+
+/// The explanation of that fault of a file `found.sarif` that holds the text.
+fn told(alloc: Global, at: At, cause: Cause, text: &str) -> Result<String, Fail> {
+    let source = FaultSource {
+        file: "found.sarif",
+        bytes: text.as_bytes(),
+        system: None,
+    };
+    Ok(explanation(alloc, &MergeFault { at, cause }, &source)?)
+}
+
+/// That this is its explanation.
+fn check(
+    rt: &impl Abort,
+    alloc: Global,
+    at: At,
+    cause: Cause,
+    text: &str,
+    wanted: &str,
+) -> Result<(), Fail> {
+    assert_eq!(rt; told(alloc, at, cause, text)?.as_str(), wanted, "{text}");
+    Ok(())
+}

@@ -1,0 +1,209 @@
+//! Faults of whole logs, and those of no input.
+use super::check;
+use sarif_explain::{FaultSource, explanation};
+use sarif_sources::{At, Cause, MergeFault, Source};
+use std::test::Fail;
+
+const LOG: At = At::Whole(Source::Log(0));
+
+#[test]
+fn json_tells_where_its_reading_stopped(rt: HostRuntime) -> Result<(), Fail> {
+    for (text, wanted) in [
+        (
+            r#"{"version":"2.1.0","runs":["#,
+            r#"  file: found.sarif
+  line: 1
+  column: 27
+  wanted: JSON in UTF-8, nested at most 127 deep
+  advice: see whether what wrote the file ended well and wrote it to its end
+"#,
+        ),
+        (
+            "[1,\n x]",
+            r#"  file: found.sarif
+  line: 2
+  column: 2
+  wanted: JSON in UTF-8, nested at most 127 deep
+  advice: see whether what wrote the file ended well and wrote it to its end
+"#,
+        ),
+    ] {
+        check(&rt, rt.alloc(), LOG, Cause::NotJson, text, wanted)?;
+    }
+    Ok(())
+}
+
+#[test]
+fn a_log_is_an_object_with_runs(rt: HostRuntime) -> Result<(), Fail> {
+    for (text, wanted) in [
+        (
+            "[]",
+            r#"  file: found.sarif
+  where: 
+  found: []
+  wanted: an object with runs, an array or null
+  advice: see that the file is a SARIF log, and no file was named in its place
+"#,
+        ),
+        (
+            "{}",
+            r#"  file: found.sarif
+  where: 
+  found: nothing
+  wanted: the member runs, an array of runs, or null
+  advice: see that the file is a SARIF log, and no file was named in its place
+"#,
+        ),
+        (
+            r#"{"runs":{"a":1}}"#,
+            r#"  file: found.sarif
+  where: /runs
+  found: {"a":1}
+  wanted: an array of runs, or null
+  advice: see that the file is a SARIF log, and no file was named in its place
+"#,
+        ),
+        (
+            r#"{"runs":[1.5]}"#,
+            r#"  file: found.sarif
+  where: /runs
+  found: [1.5]
+  wanted: an array of runs, or null
+  advice: see that the file is a SARIF log, and no file was named in its place
+"#,
+        ),
+    ] {
+        check(&rt, rt.alloc(), LOG, Cause::NotLog, text, wanted)?;
+    }
+    Ok(())
+}
+
+#[test]
+fn a_log_has_one_version(rt: HostRuntime) -> Result<(), Fail> {
+    for (text, wanted) in [
+        (
+            r#"{"runs":[]}"#,
+            r#"  file: found.sarif
+  where: 
+  found: nothing
+  wanted: the member version, the text 2.1.0
+  advice: have the file written in a version that is read
+"#,
+        ),
+        (
+            r#"{"version":"2.0.0","runs":[]}"#,
+            r#"  file: found.sarif
+  where: /version
+  found: "2.0.0"
+  wanted: the text 2.1.0
+  advice: have the file written in a version that is read
+"#,
+        ),
+        (
+            r#"{"version":2.1,"runs":[]}"#,
+            r#"  file: found.sarif
+  where: /version
+  found: 2.1
+  wanted: the text 2.1.0
+  advice: have the file written in a version that is read
+"#,
+        ),
+    ] {
+        check(&rt, rt.alloc(), LOG, Cause::WrongVersion, text, wanted)?;
+    }
+    Ok(())
+}
+
+#[test]
+fn limits_are_told(rt: HostRuntime) -> Result<(), Fail> {
+    let runs = r#"  file: found.sarif
+  where: /runs
+  found: []
+  wanted: at most 1000 logs and 1000 baselines, and in all of them 10000 runs and 1000000 results
+  advice: split the analysis, or drop what is not needed
+"#;
+    let many = r#"  file: found.sarif
+  wanted: at most 1000 logs and 1000 baselines, and in all of them 10000 runs and 1000000 results
+  advice: split the analysis, or drop what is not needed
+"#;
+    let long = r#"  file: found.sarif
+  wanted: at most 67108864 bytes
+  advice: split the analysis, or drop what is not needed
+"#;
+    let alloc = rt.alloc();
+    let text = r#"{"version":"2.1.0","runs":[]}"#;
+    check(&rt, alloc, LOG, Cause::TooMany, text, runs)?;
+    let past = At::Whole(Source::Log(1000));
+    check(&rt, alloc, past, Cause::TooMany, "", many)?;
+    check(&rt, alloc, LOG, Cause::TooLong, "[1,2", long)
+}
+
+#[test]
+fn the_system_says_why_a_call_failed(rt: HostRuntime) -> Result<(), Fail> {
+    let alloc = rt.alloc();
+    let read = FaultSource {
+        file: "a\nb.sarif",
+        bytes: b"{",
+        system: Some("Is a directory (os error 21)"),
+    };
+    let fault = MergeFault {
+        at: At::Whole(Source::Baseline(2)),
+        cause: Cause::ReadFailed,
+    };
+    assert_eq!(rt;
+        explanation(alloc, &fault, &read)?.as_str(),
+        r#"  file: a b.sarif
+  wanted: a file that is there and can be read to its end
+  system: Is a directory (os error 21)
+  advice: see the name, that it is no folder, and the permissions
+"#
+    );
+    let written = FaultSource {
+        file: "merged.sarif",
+        bytes: &[],
+        system: Some("No space left on device"),
+    };
+    let fault = MergeFault {
+        at: At::Whole(Source::Output),
+        cause: Cause::WriteFailed,
+    };
+    assert_eq!(rt;
+        explanation(alloc, &fault, &written)?.as_str(),
+        r#"  file: merged.sarif
+  wanted: a name that can be written, and room for the whole text
+  system: No space left on device
+  advice: see the name, the permissions, and the room on the disk
+"#
+    );
+    Ok(())
+}
+
+#[test]
+fn faults_of_no_input_have_two_lines(rt: HostRuntime) -> Result<(), Fail> {
+    for (cause, wanted) in [
+        (
+            Cause::OutOfMemory,
+            r#"  wanted: memory for what is read and for what is written
+  advice: give the program more memory, or merge less at a time
+"#,
+        ),
+        (
+            Cause::NoWorker,
+            r#"  wanted: as many threads as there are workers
+  advice: name fewer --workers, or let the program start more threads
+"#,
+        ),
+    ] {
+        let source = FaultSource {
+            file: "",
+            bytes: &[],
+            system: Some("no failed call"),
+        };
+        let fault = MergeFault {
+            at: At::Nowhere,
+            cause,
+        };
+        assert_eq!(rt; explanation(rt.alloc(), &fault, &source)?.as_str(), wanted);
+    }
+    Ok(())
+}

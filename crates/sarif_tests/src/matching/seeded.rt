@@ -1,0 +1,279 @@
+//! The matching beside one that follows the rule word by word, on lists drawn by a seeded
+//! generator, and on long lists.
+use super::matched;
+use super::sketch::{A, Sketch, record, records};
+use sarif_match::{Matching, Tier, key, match_all_with, state, tiers};
+use sarif_records::{Record, State};
+use std::alloc::{AllocError, Global};
+use std::hash::RandomState;
+use std::io;
+use std::process::Abort;
+use std::random::RandomSource;
+use std::test::Fail;
+
+/// A generator of small numbers.
+#[derive(Drop)]
+struct Draw {
+    seed: u64,
+}
+
+impl Draw {
+    /// A number below `n`, or 0.
+    fn below(&mut self, n: u64) -> u64 {
+        self.seed = self
+            .seed
+            .wrapping_mul(6364136223846793005)
+            .wrapping_add(1442695040888963407);
+        if n == 0 { 0 } else { (self.seed >> 33) % n }
+    }
+
+    fn sketch(&mut self) -> Sketch<'static> {
+        Sketch {
+            tool: if self.below(4) == 0 { "other" } else { "lint" },
+            rule_id: if self.below(3) == 0 { "R2" } else { "R1" },
+            text: if self.below(4) == 0 { "n" } else { "m" },
+            uri: match self.below(3) {
+                0 => None,
+                1 => Some("a.c"),
+                _ => Some("b.c"),
+            },
+            guid: match self.below(6) {
+                0 => Some(1),
+                1 => Some(2),
+                _ => None,
+            },
+            full: match self.below(6) {
+                0 => Some(("f/v1", "x")),
+                1 => Some(("f/v1", "y")),
+                2 => Some(("f/v2", "x")),
+                _ => None,
+            },
+            second: match self.below(6) {
+                0 => Some(("f/v2", "x")),
+                1 => Some(("f/v1", "x")),
+                _ => None,
+            },
+            partial: match self.below(4) {
+                0 => Some(("p/v1", "a")),
+                1 => Some(("p/v2", "a")),
+                _ => None,
+            },
+            kind: A.kind,
+        }
+    }
+
+    fn list(&mut self, alloc: Global) -> Result<Vec<Record>, AllocError> {
+        let mut made = Vec::new(alloc);
+        for _ in 0..self.below(5) {
+            made.push(record(alloc, &self.sketch())?)?;
+        }
+        Ok(made)
+    }
+}
+
+/// Whether result `i` of a list is left over and has the same key as a finding.
+fn is_like(
+    list: &[Record],
+    over: &[bool],
+    i: usize,
+    finding: &Record,
+    tier: &Tier,
+) -> Result<bool, AllocError> {
+    let Some(one) = list.get(i) else {
+        return Ok(false);
+    };
+    let wanted = key(finding, tier)?;
+    Ok(wanted.is_some() && over.get(i) == Some(&true) && key(one, tier)? == wanted)
+}
+
+/// How many results before number `i` are left over and have the same key.
+fn rank(
+    list: &[Record],
+    over: &[bool],
+    i: usize,
+    finding: &Record,
+    tier: &Tier,
+) -> Result<u64, AllocError> {
+    let mut count = 0u64;
+    for k in 0..i {
+        if is_like(list, over, k, finding, tier)? {
+            count = count.wrapping_add(1);
+        }
+    }
+    Ok(count)
+}
+
+/// The number of the baseline result that is paired with current result `i` at this tier.
+fn paired_at(
+    current: &[Record],
+    left: &[bool],
+    baseline: &[Record],
+    free: &[bool],
+    i: usize,
+    tier: &Tier,
+) -> Result<Option<usize>, AllocError> {
+    let Some(finding) = current.get(i) else {
+        return Ok(None);
+    };
+    if !is_like(current, left, i, finding, tier)? {
+        return Ok(None);
+    }
+    let own = rank(current, left, i, finding, tier)?;
+    for j in 0..baseline.len() {
+        if is_like(baseline, free, j, finding, tier)?
+            && rank(baseline, free, j, finding, tier)? == own
+        {
+            return Ok(Some(j));
+        }
+    }
+    Ok(None)
+}
+
+/// The partners by the rule, read word by word.
+fn plain_partners(
+    alloc: Global,
+    current: &[Record],
+    baseline: &[Record],
+) -> Result<Vec<Option<usize>>, AllocError> {
+    let mut partners = vec![in alloc; None; current.len()]?;
+    let mut left = vec![in alloc; true; current.len()]?;
+    let mut free = vec![in alloc; true; baseline.len()]?;
+    for tier in &tiers(alloc, current, baseline)? {
+        let mut pairs = Vec::new(alloc);
+        for i in 0..current.len() {
+            if let Some(j) = paired_at(current, &left, baseline, &free, i, tier)? {
+                pairs.push((i, j))?;
+            }
+        }
+        for (i, j) in &pairs {
+            put(&mut partners, *i, Some(*j));
+            put(&mut left, *i, false);
+            put(&mut free, *j, false);
+        }
+    }
+    Ok(partners)
+}
+
+fn put<T: Drop>(list: &mut Vec<T>, i: usize, value: T) {
+    if i < list.len() {
+        list[i] = value;
+    }
+}
+
+#[test]
+fn drawn_lists_are_matched_as_the_rule_says(rt: HostRuntime) -> Result<(), Fail> {
+    let mut draw = Draw { seed: 20240917 };
+    let mut paired = 0u64;
+    for _ in 0..20_000 {
+        let current = draw.list(rt.alloc())?;
+        let baseline = draw.list(rt.alloc())?;
+        let wanted = plain_partners(rt.alloc(), &current, &baseline)?;
+        let matching = matched(&rt, &current, &baseline)?;
+        let mut number = 0u32;
+        for partner in &wanted {
+            let found = matching.partner(number).map(|j| j as usize);
+            assert_eq!(&rt; found, *partner);
+            if partner.is_some() {
+                paired = paired.wrapping_add(1);
+            }
+            number = number.saturating_add(1);
+        }
+    }
+    assert!(rt; paired > 5_000, "too few pairs: {paired}");
+    Ok(())
+}
+
+#[test]
+fn long_lists_of_equal_results_are_paired_in_order(rt: HostRuntime) -> Result<(), Fail> {
+    let mut current = Vec::new(rt.alloc());
+    let mut baseline = Vec::new(rt.alloc());
+    for _ in 0..20_000 {
+        current.push(record(rt.alloc(), &A)?)?;
+        baseline.push(record(rt.alloc(), &A)?)?;
+    }
+    let matching = matched(&rt, &current, &baseline)?;
+    let mut number = 0u32;
+    for finding in &current {
+        assert_eq!(rt; matching.partner(number), Some(number));
+        assert_eq!(rt;
+            state(finding, baseline.get(number as usize)),
+            State::Unchanged
+        );
+        number = number.saturating_add(1);
+    }
+    Ok(())
+}
+
+#[test]
+fn many_fingerprint_names_are_all_paired(rt: HostRuntime) -> Result<(), Fail> {
+    let mut current = Vec::new(rt.alloc());
+    let mut baseline = Vec::new(rt.alloc());
+    for i in 0..20_000u32 {
+        let (now, before) = (
+            format!(in rt.alloc(); "{i}")?,
+            format!(in rt.alloc(); "{}", 19_999 - i)?,
+        );
+        current.push(record(
+            rt.alloc(),
+            &Sketch {
+                full: Some((now.as_str(), "x")),
+                ..A
+            },
+        )?)?;
+        baseline.push(record(
+            rt.alloc(),
+            &Sketch {
+                full: Some((before.as_str(), "x")),
+                ..A
+            },
+        )?)?;
+    }
+    let matching = matched(&rt, &current, &baseline)?;
+    for i in 0..20_000u32 {
+        assert_eq!(rt; matching.partner(i), Some(19_999 - i));
+    }
+    Ok(())
+}
+
+/// Random bytes that are all the same.
+#[derive(Drop)]
+struct Bytes(u8);
+
+impl RandomSource for Bytes {
+    fn fill_bytes(&self, buf: &mut [u8]) -> io::Result<()> {
+        buf.fill(self.0);
+        Ok(())
+    }
+}
+
+fn matched_with(
+    rt: &(impl Abort + AllocGlobal),
+    seed: RandomState,
+    current: &[Record],
+    baseline: &[Record],
+) -> Result<Matching, AllocError> {
+    assert!(rt; current.len() <= 1_000_000);
+    assert!(rt; baseline.len() <= 1_000_000);
+    match_all_with(rt.alloc(), seed, current, baseline)
+}
+
+#[test]
+fn any_seed_gives_the_same_partners(rt: HostRuntime) -> Result<(), Fail> {
+    let mut draw = Draw { seed: 20261123 };
+    for _ in 0..500 {
+        let current = draw.list(rt.alloc())?;
+        let baseline = draw.list(rt.alloc())?;
+        let wanted = plain_partners(rt.alloc(), &current, &baseline)?;
+        for byte in [0, 1, 129, 255] {
+            let seed = RandomState::new(&Bytes(byte))?;
+            let matching = matched_with(&rt, seed, &current, &baseline)?;
+            let mut number = 0u32;
+            for partner in &wanted {
+                let found = matching.partner(number).map(|j| j as usize);
+                assert_eq!(&rt; found, *partner);
+                number = number.saturating_add(1);
+            }
+        }
+    }
+    Ok(())
+}

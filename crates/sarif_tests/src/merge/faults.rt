@@ -1,0 +1,100 @@
+//! The places and causes of faults, their texts and their statuses.
+use sarif_merge::{At, Cause, MergeFault, ReadersFault, Source};
+use sarif_records::Fault;
+use std::alloc::AllocError;
+use std::test::Fail;
+
+#[test]
+fn places_of_faults(rt: HostRuntime) -> Result<(), Fail> {
+    let log = Source::Log(3);
+    let baseline = Source::Baseline(0);
+    let cause = Cause::OutOfMemory;
+    for (at, text) in [
+        (At::Nowhere, "OutOfMemory"),
+        (At::Whole(log), "log 3: OutOfMemory"),
+        (At::Whole(baseline), "baseline 0: OutOfMemory"),
+        (At::Whole(Source::Suppress), "suppressions: OutOfMemory"),
+        (At::Whole(Source::Output), "output: OutOfMemory"),
+        (At::Run(log, 1), "log 3, run 1: OutOfMemory"),
+        (At::Run(baseline, 1), "baseline 0, run 1: OutOfMemory"),
+        (At::Single(log, 1, 7), "log 3, run 1, result 7: OutOfMemory"),
+        (
+            At::Single(baseline, 0, 9),
+            "baseline 0, run 0, result 9: OutOfMemory",
+        ),
+        (At::Entry(2), "suppressions, entry 2: OutOfMemory"),
+    ] {
+        let fault = MergeFault { at, cause };
+        assert_eq!(rt; format!(in rt.alloc(); "{fault}")?.as_str(), text);
+    }
+    Ok(())
+}
+
+#[test]
+fn causes_of_faults(rt: HostRuntime) -> Result<(), Fail> {
+    for (cause, text, status) in [
+        (Cause::NotJson, "NotJson", 2),
+        (Cause::NotLog, "NotLog", 2),
+        (Cause::WrongVersion, "WrongVersion", 2),
+        (Cause::TooMany, "TooMany", 2),
+        (Cause::BadRun, "BadRun", 2),
+        (Cause::ExternalProperties, "ExternalProperties", 2),
+        (Cause::BadRules, "BadRules", 2),
+        (Cause::BadIndex, "BadIndex", 2),
+        (Cause::BadLevel, "BadLevel", 2),
+        (Cause::BadLocation, "BadLocation", 2),
+        (Cause::BadMember, "BadMember", 2),
+        (Cause::BadKind, "BadKind", 2),
+        (Cause::BadGuid, "BadGuid", 2),
+        (Cause::BadFingerprint, "BadFingerprint", 2),
+        (Cause::BadSuppression, "BadSuppression", 2),
+        (Cause::AbsentInput, "AbsentInput", 2),
+        (Cause::NotList, "NotList", 2),
+        (Cause::BadEntry, "BadEntry", 2),
+        (Cause::EmptyMatch, "EmptyMatch", 2),
+        (Cause::NeedsToday, "NeedsToday", 2),
+        (Cause::TooLong, "TooLong", 2),
+        (Cause::ReadFailed, "ReadFailed", 3),
+        (Cause::WriteFailed, "WriteFailed", 3),
+        (Cause::OutOfMemory, "OutOfMemory", 2),
+        (Cause::NoWorker, "NoWorker", 2),
+    ] {
+        assert_eq!(rt; format!(in rt.alloc(); "{cause}")?.as_str(), text);
+        assert_eq!(rt; cause.status(), status);
+    }
+    Ok(())
+}
+
+#[test]
+fn want_of_memory_is_nowhere(rt: HostRuntime) {
+    let wanting = MergeFault {
+        at: At::Nowhere,
+        cause: Cause::OutOfMemory,
+    };
+    assert_eq!(rt; MergeFault::from(AllocError), wanting);
+    assert_eq!(rt; MergeFault::from(ReadersFault::OutOfMemory), wanting);
+    assert_eq!(rt; Cause::from(Fault::OutOfMemory), wanting.cause);
+}
+
+#[test]
+fn sources_that_are_not_read(rt: HostRuntime) -> Result<(), Fail> {
+    for (fault, text, status) in [
+        (
+            ReadersFault::ReadFailed(Source::Suppress),
+            "suppressions: ReadFailed",
+            3,
+        ),
+        (
+            ReadersFault::TooLong(Source::Baseline(7)),
+            "baseline 7: TooLong",
+            2,
+        ),
+        (ReadersFault::OutOfMemory, "OutOfMemory", 2),
+    ] {
+        assert_eq!(rt; format!(in rt.alloc(); "{fault}")?.as_str(), text);
+        let refusal = MergeFault::from(fault);
+        assert_eq!(rt; format!(in rt.alloc(); "{refusal}")?.as_str(), text);
+        assert_eq!(rt; refusal.cause.status(), status);
+    }
+    Ok(())
+}

@@ -1,0 +1,65 @@
+//! A log that is read by its index, a result at a time.
+use json::Scratch;
+use json_index::index_text;
+use sarif_records::{index_log, read_log};
+use std::test::Fail;
+
+/// Three runs: with fractions in it and in its results, with none, and with null for results.
+const LOG: &str = r#"{"version":"2.1.0","runs":[
+    {"results":[{"rank":2.5,"message":{"text":"m"}},{"ruleIndex":1,"at":[[1e3],2]}],
+        "tool":{"driver":{"name":"a","rank":1.5}},"properties":{"of":[1,2.5]}},
+    {"tool":{"driver":{"name":"b"}},"columns":[{"width":3,"share":0.5}]},
+    {"tool":{"driver":{"name":"c"}},"results":null}
+    ],"rank":0.5}"#;
+
+#[test]
+fn results_are_made_one_at_a_time(rt: HostRuntime) -> Result<(), Fail> {
+    let alloc = rt.alloc();
+    let mut scratch = Scratch::new(alloc);
+    let index = index_text(alloc, LOG.as_bytes(), &mut scratch)?;
+    let runs = index_log(alloc, &index)?;
+    let mut texts = String::new(alloc);
+    for run in &runs {
+        texts.push_str(run.bare().to_string(alloc)?.as_str())?;
+        texts.push_str(if run.has_results() {
+            " has "
+        } else {
+            " hasn't "
+        })?;
+        for seq in 0..run.len() {
+            texts.push_str(run.result(alloc, seq)?.to_string(alloc)?.as_str())?;
+        }
+        texts.push('\n')?;
+    }
+    assert_eq!(rt;
+        texts.as_str(),
+        "{\"properties\":{},\"tool\":{\"driver\":{\"name\":\"a\"}}} has \
+            {\"message\":{\"text\":\"m\"}}{\"ruleIndex\":1}\n\
+            {\"columns\":[{\"width\":3}],\"tool\":{\"driver\":{\"name\":\"b\"}}} hasn't \n\
+            {\"tool\":{\"driver\":{\"name\":\"c\"}}} hasn't \n"
+    );
+    for run in runs {
+        let bare = run.into_bare();
+        assert_eq!(rt; bare.get("results"), None);
+    }
+    Ok(())
+}
+
+#[test]
+fn a_log_is_read_with_all_its_results(rt: HostRuntime) -> Result<(), Fail> {
+    let alloc = rt.alloc();
+    let log = read_log(alloc, LOG.as_bytes())?;
+    let mut texts = String::new(alloc);
+    for run in log.runs() {
+        texts.push_str(run.value().to_string(alloc)?.as_str())?;
+        texts.push('\n')?;
+    }
+    assert_eq!(rt;
+        texts.as_str(),
+        "{\"properties\":{},\"results\":[{\"message\":{\"text\":\"m\"}},{\"ruleIndex\":1}],\
+            \"tool\":{\"driver\":{\"name\":\"a\"}}}\n\
+            {\"columns\":[{\"width\":3}],\"tool\":{\"driver\":{\"name\":\"b\"}}}\n\
+            {\"results\":null,\"tool\":{\"driver\":{\"name\":\"c\"}}}\n"
+    );
+    Ok(())
+}

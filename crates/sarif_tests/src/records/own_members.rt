@@ -1,0 +1,385 @@
+//! A result's own members, read from JSON text.
+use sarif_records::{Fault, Kind, Level, Pairs, Parts, Status, Text, read_log, read_parts};
+use std::alloc::Global;
+use std::test::Fail;
+
+/// What `read_parts` answers for a result with this JSON text, once it is read and stripped.
+fn read(alloc: Global, text: &str) -> Result<Result<Parts, Fault>, Fail> {
+    let run = format!(in alloc;
+        "{{\"tool\":{{\"driver\":{{\"name\":\"lint\"}}}},\"results\":[{text}]}}"
+    )?;
+    let log = format!(in alloc; "{{\"version\":\"2.1.0\",\"runs\":[{run}]}}")?;
+    let log = read_log(alloc, log.as_bytes())?;
+    match log.runs() {
+        [run] if run.len() == 1 => Ok(read_parts(alloc, run, 0)),
+        _ => Err(Fail::new("one result is wanted")),
+    }
+}
+
+/// The members of a result that is accepted.
+fn accepted(alloc: Global, text: &str) -> Result<Parts, Fail> {
+    match read(alloc, text)? {
+        Ok(parts) => Ok(parts),
+        Err(fault) => Err(Fail::new(format_args!("{text}: {fault}"))),
+    }
+}
+
+fn shown(text: &Option<Text>) -> Option<&str> {
+    text.as_ref().map(Text::as_str)
+}
+
+fn pair(pairs: &Pairs, index: usize) -> Option<(&str, &str)> {
+    pairs
+        .as_slice()
+        .get(index)
+        .map(|(name, value)| (name.as_str(), value.as_str()))
+}
+
+/// A result with every member that is read.
+const WHOLE: &str = r#"{"kind":"review","level":"note","ruleId":"R1","ruleIndex":3,
+    "rule":{"id":"R2","index":4,"toolComponent":{"index":2}},
+    "provenance":{"invocationIndex":1},
+    "message":{"text":"m","id":"i","arguments":["a","b"]},
+    "locations":[{"physicalLocation":{"artifactLocation":
+        {"uri":"a.c","uriBaseId":"SRC","index":5}}}, 7],
+    "correlationGuid":"0F14D0AB-9605-4a62-a9e4-5ed26688389b",
+    "fingerprints":{"f/v2":"y","f/v1":"x"},"partialFingerprints":{"p/v1":"z"},
+    "suppressions":[{"kind":"inSource"},{"kind":"external","status":"underReview"},
+        {"kind":"external","status":"rejected"},{"kind":"inSource","status":"accepted"}],
+    "baselineState":"unchanged"}"#;
+
+#[test]
+fn what_a_result_says_is_read(rt: HostRuntime) -> Result<(), Fail> {
+    let parts = accepted(rt.alloc(), WHOLE)?;
+    assert_eq!(rt; parts.kind, Kind::Review);
+    assert_eq!(rt; parts.level, Some(Level::Note));
+    assert_eq!(rt; shown(&parts.rule_id), Some("R1"));
+    assert_eq!(rt; parts.rule_index, Some(4));
+    assert_eq!(rt; parts.component, Some(2));
+    assert_eq!(rt; parts.invocation, Some(1));
+    assert_eq!(rt; shown(&parts.message.text), Some("m"));
+    assert_eq!(rt; shown(&parts.message.id), Some("i"));
+    let args = parts.message.args.as_slice();
+    assert_eq!(rt; args.len(), 2);
+    assert_eq!(rt; args.first().map(Text::as_str), Some("a"));
+    assert_eq!(rt; args.last().map(Text::as_str), Some("b"));
+    Ok(())
+}
+
+#[test]
+fn what_a_result_is_known_by_is_read(rt: HostRuntime) -> Result<(), Fail> {
+    let parts = accepted(rt.alloc(), WHOLE)?;
+    assert_eq!(rt; shown(&parts.uri), Some("a.c"));
+    assert_eq!(rt; shown(&parts.base), Some("SRC"));
+    assert_eq!(rt; parts.artifact, Some(5));
+    assert_eq!(rt; parts.guid, Some(0x0f14d0ab_9605_4a62_a9e4_5ed26688389b));
+    assert_eq!(rt; parts.full.as_slice().len(), 2);
+    assert_eq!(rt; pair(&parts.full, 0), Some(("f/v1", "x")));
+    assert_eq!(rt; pair(&parts.full, 1), Some(("f/v2", "y")));
+    assert_eq!(rt; parts.partial.as_slice().len(), 1);
+    assert_eq!(rt; pair(&parts.partial, 0), Some(("p/v1", "z")));
+    Ok(())
+}
+
+#[test]
+fn an_absent_status_is_accepted(rt: HostRuntime) -> Result<(), Fail> {
+    let parts = accepted(rt.alloc(), WHOLE)?;
+    let held = [
+        Status::Accepted,
+        Status::UnderReview,
+        Status::Rejected,
+        Status::Accepted,
+    ];
+    assert_eq!(rt; parts.held.as_slice(), held.as_slice());
+    Ok(())
+}
+
+/// A result in which nothing is said.
+fn is_empty(parts: &Parts) -> bool {
+    let message = &parts.message;
+    let names_nothing = message.text.is_none()
+        && message.id.is_none()
+        && message.args.as_slice().is_empty()
+        && parts.rule_id.is_none();
+    let points_nowhere = parts.rule_index.is_none()
+        && parts.component.is_none()
+        && parts.invocation.is_none()
+        && parts.uri.is_none()
+        && parts.base.is_none()
+        && parts.artifact.is_none();
+    let is_no_twin = parts.guid.is_none()
+        && parts.full.as_slice().is_empty()
+        && parts.partial.as_slice().is_empty();
+    parts.kind == Kind::Fail
+        && parts.level.is_none()
+        && parts.held.as_slice().is_empty()
+        && names_nothing
+        && points_nowhere
+        && is_no_twin
+}
+
+#[test]
+fn absent_and_null_members_are_the_defaults(rt: HostRuntime) -> Result<(), Fail> {
+    for text in [
+        "{}",
+        r#"{"kind":null,"level":null,"ruleId":null,"ruleIndex":null,"rule":null,
+            "provenance":null,"message":null,"locations":null,"correlationGuid":null,
+            "fingerprints":null,"partialFingerprints":null,"suppressions":null,
+            "baselineState":null}"#,
+        r#"{"rule":{"id":null,"index":null,"toolComponent":null},
+            "provenance":{"invocationIndex":null},
+            "message":{"text":null,"id":null,"arguments":null},
+            "locations":[{"physicalLocation":null}],
+            "fingerprints":{"f":null},"partialFingerprints":{},"suppressions":[]}"#,
+        r#"{"rule":{"toolComponent":{"index":null}},
+            "locations":[{"physicalLocation":{"artifactLocation":null}}]}"#,
+        r#"{"ruleIndex":-1,"rule":{"index":-1,"toolComponent":{"index":-1}},
+            "provenance":{"invocationIndex":-1},
+            "locations":[{"physicalLocation":{"artifactLocation":
+                {"uri":null,"uriBaseId":null,"index":-1}}}]}"#,
+        r#"{"locations":[],"baselineState":"new"}"#,
+        r#"{"locations":[{},null,7],"baselineState":7,"guid":"x","rank":1.5}"#,
+        r#"{"fingerprints":{"a":null,"b":1.5},"message":{"arguments":[1.5]}}"#,
+        r#"{"kind":1.5,"ruleIndex":1.0,"rule":{"index":1e2},
+            "provenance":{"invocationIndex":-0},"locations":[18446744073709551616]}"#,
+    ] {
+        let parts = accepted(rt.alloc(), text)?;
+        assert!(rt; is_empty(&parts), "{text}");
+    }
+    Ok(())
+}
+
+#[test]
+fn an_empty_text_is_there(rt: HostRuntime) -> Result<(), Fail> {
+    let parts = accepted(
+        rt.alloc(),
+        r#"{"ruleId":"","rule":{"id":"R2"},"message":{"text":""},"fingerprints":{"":""},
+            "locations":[{"physicalLocation":{"artifactLocation":{"uri":""}}}]}"#,
+    )?;
+    assert_eq!(rt; shown(&parts.rule_id), Some(""));
+    assert_eq!(rt; shown(&parts.message.text), Some(""));
+    assert_eq!(rt; shown(&parts.uri), Some(""));
+    assert_eq!(rt; pair(&parts.full, 0), Some(("", "")));
+    Ok(())
+}
+
+#[test]
+fn the_reference_of_the_rule_stands_in_for_id_and_index(rt: HostRuntime) -> Result<(), Fail> {
+    let parts = accepted(rt.alloc(), r#"{"rule":{"id":"R2"},"ruleIndex":3}"#)?;
+    assert_eq!(rt; shown(&parts.rule_id), Some("R2"));
+    assert_eq!(rt; parts.rule_index, Some(3));
+    Ok(())
+}
+
+#[test]
+fn a_guid_is_read_in_each_of_its_forms(rt: HostRuntime) -> Result<(), Fail> {
+    for text in [
+        r#"{"correlationGuid":"0f14d0ab-9605-4a62-a9e4-5ed26688389b"}"#,
+        r#"{"correlationGuid":"0F14D0AB-9605-4A62-A9E4-5ED26688389B"}"#,
+        r#"{"correlationGuid":"0f14d0ab96054a62a9e45ed26688389b"}"#,
+        r#"{"correlationGuid":"{0f14d0ab-9605-4a62-a9e4-5ed26688389b}"}"#,
+        r#"{"correlationGuid":"urn:uuid:0f14d0ab-9605-4a62-a9e4-5ed26688389b"}"#,
+    ] {
+        let parts = accepted(rt.alloc(), text)?;
+        assert_eq!(rt;
+            parts.guid,
+            Some(0x0f14d0ab_9605_4a62_a9e4_5ed26688389b),
+            "{text}"
+        );
+    }
+    Ok(())
+}
+
+#[test]
+fn an_index_is_a_whole_number_of_32_bits(rt: HostRuntime) -> Result<(), Fail> {
+    for (text, index) in [
+        (r#"{"ruleIndex":0}"#, Some(0)),
+        (r#"{"ruleIndex":4294967295}"#, Some(4_294_967_295)),
+        (r#"{"ruleIndex":-1}"#, None),
+    ] {
+        assert_eq!(rt; accepted(rt.alloc(), text)?.rule_index, index, "{text}");
+    }
+    for text in [
+        r#"{"ruleIndex":-2}"#,
+        r#"{"ruleIndex":4294967296}"#,
+        r#"{"ruleIndex":9223372036854775808}"#,
+        r#"{"ruleIndex":18446744073709551615}"#,
+        r#"{"ruleIndex":"0"}"#,
+        r#"{"ruleIndex":[]}"#,
+        r#"{"ruleIndex":true}"#,
+    ] {
+        assert_eq!(rt;
+            read(rt.alloc(), text)?.err(),
+            Some(Fault::BadIndex),
+            "{text}"
+        );
+    }
+    Ok(())
+}
+
+/// The fault for which a result is refused, where it is.
+fn fault_of(alloc: Global, text: &str) -> Result<Option<Fault>, Fail> {
+    Ok(read(alloc, text)?.err())
+}
+
+#[test]
+fn a_result_that_is_absent_already_is_refused(rt: HostRuntime) -> Result<(), Fail> {
+    let text = r#"{"baselineState":"absent"}"#;
+    assert_eq!(rt; fault_of(rt.alloc(), text)?, Some(Fault::AbsentInput));
+    Ok(())
+}
+
+#[test]
+fn kind_level_and_guid_are_of_their_texts(rt: HostRuntime) -> Result<(), Fail> {
+    for (text, fault) in [
+        (r#"{"kind":"bad"}"#, Fault::BadKind),
+        (r#"{"kind":""}"#, Fault::BadKind),
+        (r#"{"kind":1}"#, Fault::BadKind),
+        (r#"{"level":"high"}"#, Fault::BadLevel),
+        (r#"{"level":[]}"#, Fault::BadLevel),
+        (r#"{"correlationGuid":"x"}"#, Fault::BadGuid),
+        (r#"{"correlationGuid":""}"#, Fault::BadGuid),
+        (r#"{"correlationGuid":1}"#, Fault::BadGuid),
+    ] {
+        assert_eq!(rt; fault_of(rt.alloc(), text)?, Some(fault), "{text}");
+    }
+    Ok(())
+}
+
+#[test]
+fn fingerprints_are_objects_of_texts(rt: HostRuntime) -> Result<(), Fail> {
+    for text in [
+        r#"{"fingerprints":[]}"#,
+        r#"{"fingerprints":{"a":1}}"#,
+        r#"{"fingerprints":{"a":"x","b":{}}}"#,
+        r#"{"partialFingerprints":"x"}"#,
+        r#"{"partialFingerprints":{"a":null,"b":false}}"#,
+    ] {
+        assert_eq!(rt;
+            fault_of(rt.alloc(), text)?,
+            Some(Fault::BadFingerprint),
+            "{text}"
+        );
+    }
+    Ok(())
+}
+
+#[test]
+fn suppressions_have_a_kind_and_a_known_status(rt: HostRuntime) -> Result<(), Fail> {
+    for text in [
+        r#"{"suppressions":{}}"#,
+        r#"{"suppressions":[null]}"#,
+        r#"{"suppressions":[{}]}"#,
+        r#"{"suppressions":[{"kind":null}]}"#,
+        r#"{"suppressions":[{"kind":"inside"}]}"#,
+        r#"{"suppressions":[{"kind":"external","status":"new"}]}"#,
+        r#"{"suppressions":[{"kind":"external"},{"status":"rejected"}]}"#,
+    ] {
+        assert_eq!(rt;
+            fault_of(rt.alloc(), text)?,
+            Some(Fault::BadSuppression),
+            "{text}"
+        );
+    }
+    Ok(())
+}
+
+#[test]
+fn message_rule_and_provenance_are_of_their_kinds(rt: HostRuntime) -> Result<(), Fail> {
+    for text in [
+        r#"{"message":"m"}"#,
+        r#"{"message":{"text":1}}"#,
+        r#"{"message":{"id":{}}}"#,
+        r#"{"message":{"arguments":"a"}}"#,
+        r#"{"message":{"arguments":[1]}}"#,
+        r#"{"message":{"arguments":["a",null]}}"#,
+        r#"{"ruleId":1}"#,
+        r#"{"rule":"R1"}"#,
+        r#"{"ruleId":"R1","rule":{"id":1}}"#,
+        r#"{"rule":{"toolComponent":0}}"#,
+        r#"{"provenance":[]}"#,
+    ] {
+        assert_eq!(rt;
+            fault_of(rt.alloc(), text)?,
+            Some(Fault::BadMember),
+            "{text}"
+        );
+    }
+    Ok(())
+}
+
+#[test]
+fn every_index_is_checked(rt: HostRuntime) -> Result<(), Fail> {
+    for text in [
+        r#"{"rule":{"index":0},"ruleIndex":-2}"#,
+        r#"{"rule":{"index":-2},"ruleIndex":0}"#,
+        r#"{"rule":{"toolComponent":{"index":"0"}}}"#,
+        r#"{"provenance":{"invocationIndex":-2}}"#,
+        r#"{"locations":[{"physicalLocation":{"artifactLocation":{"uri":"b.c","index":-2}}}]}"#,
+    ] {
+        assert_eq!(rt;
+            fault_of(rt.alloc(), text)?,
+            Some(Fault::BadIndex),
+            "{text}"
+        );
+    }
+    Ok(())
+}
+
+#[test]
+fn the_first_location_is_of_its_kind(rt: HostRuntime) -> Result<(), Fail> {
+    for text in [
+        r#"{"locations":{}}"#,
+        r#"{"locations":[null]}"#,
+        r#"{"locations":[7,{}]}"#,
+        r#"{"locations":[{"physicalLocation":[]}]}"#,
+        r#"{"locations":[{"physicalLocation":{"artifactLocation":"a.c"}}]}"#,
+        r#"{"locations":[{"physicalLocation":{"artifactLocation":{"uri":1}}}]}"#,
+        r#"{"locations":[{"physicalLocation":{"artifactLocation":{"uriBaseId":1}}}]}"#,
+    ] {
+        assert_eq!(rt;
+            fault_of(rt.alloc(), text)?,
+            Some(Fault::BadLocation),
+            "{text}"
+        );
+    }
+    Ok(())
+}
+
+#[test]
+fn the_first_fault_in_order_is_answered(rt: HostRuntime) -> Result<(), Fail> {
+    for (text, fault) in [
+        (
+            r#"{"baselineState":"absent","kind":"bad"}"#,
+            Fault::AbsentInput,
+        ),
+        (r#"{"kind":"bad","level":"high"}"#, Fault::BadKind),
+        (r#"{"kind":"bad","correlationGuid":"x"}"#, Fault::BadKind),
+        (r#"{"level":"high","correlationGuid":"x"}"#, Fault::BadLevel),
+        (
+            r#"{"correlationGuid":"x","fingerprints":{"a":1}}"#,
+            Fault::BadGuid,
+        ),
+        (
+            r#"{"partialFingerprints":{"a":1},"suppressions":[{}]}"#,
+            Fault::BadFingerprint,
+        ),
+        (
+            r#"{"suppressions":[{}],"message":{"arguments":[1]}}"#,
+            Fault::BadSuppression,
+        ),
+        (r#"{"provenance":[],"ruleIndex":-2}"#, Fault::BadMember),
+        (
+            r#"{"provenance":{"invocationIndex":-2},"locations":[null]}"#,
+            Fault::BadIndex,
+        ),
+        (
+            r#"{"locations":[{"physicalLocation":{"artifactLocation":
+                {"uriBaseId":1,"index":-2}}}]}"#,
+            Fault::BadLocation,
+        ),
+    ] {
+        assert_eq!(rt; fault_of(rt.alloc(), text)?, Some(fault), "{text}");
+    }
+    Ok(())
+}

@@ -1,0 +1,366 @@
+//! The worked examples of the reports.
+use sarif_report::{
+    Finding, Report, Reporting, github_report, gitlab_report, html_report, markdown_report,
+    report_text, reported, shown, text_report,
+};
+use sarif_counts::{Counts, Policy};
+use sarif_records::{Level, State, Text};
+use std::alloc::{AllocError, Global};
+use std::test::Fail;
+
+const LOG: &str = r#"{"properties":{},"runs":[{"results":[
+{"baselineState":"new","level":"warning","locations":[{"physicalLocation":{"artifactLocation":{"uri":"django/forms/forms.py"},"region":{"startColumn":5,"startLine":12}}}],"message":{"text":"Potential XSS on mark_safe function."},"ruleId":"B703","suppressions":[]},
+{"baselineState":"updated","level":"error","locations":[{"physicalLocation":{"artifactLocation":{"uri":"file:///b/a%20b.c"}}}],"message":{"arguments":["a%b","1"],"id":"default"},"ruleIndex":0,"suppressions":[]},
+{"baselineState":"new","level":"error","message":{"text":"hidden"},"suppressions":[{"kind":"inSource"}]},
+{"baselineState":"unchanged","level":"error","message":{"text":"known"},"suppressions":[]},
+{"baselineState":"new","level":"note","message":{"text":"x\n::error::y ##[z] {0}"},"suppressions":[]}
+],"tool":{"driver":{"name":"Bandit","rules":[{"id":"B703","messageStrings":{"default":{"text":"Use of {0} in {{x}} {1} {01} {2}"}}}]}}}],"version":"2.1.0"}"#;
+
+const TEXT: &str = "\
+django/forms/forms.py:12:5: warning: Potential XSS on mark_safe function. [B703] (Bandit, new)
+a b.c: error: Use of a%b in {x} 1 {01} {2} [B703] (Bandit, updated)
+-: note: x ::error::y # #[z] {0} (Bandit, new)
+";
+
+const GITHUB: &str = "\
+::warning file=django/forms/forms.py,line=12,col=5,title=B703 (Bandit)::Potential XSS on mark_safe function.
+::error file=a b.c,title=B703 (Bandit)::Use of a%25b in {x} 1 {01} {2}
+::notice title=Bandit::x ::error::y # #[z] {0}
+";
+
+const MARKDOWN: &str = "\
+## Gate: fail, 1 hits, 0 allowed
+
+| | error | warning | note | none | suppressed |
+|---|--:|--:|--:|--:|--:|
+| new | 0 | 1 | 1 | 0 | 1 |
+| unchanged | 1 | 0 | 0 | 0 | 0 |
+| updated | 1 | 0 | 0 | 0 | 0 |
+| absent | 0 | 0 | 0 | 0 | 0 |
+
+| hit | level | place | rule | message | tool | state |
+|---|---|---|---|---|---|---|
+|  | warning | <code>django/forms/forms&#46;py&#58;12&#58;5</code> | <code>B703</code> | <code>Potential XSS on mark&#95;safe function&#46;</code> | <code>Bandit</code> | new |
+| yes | error | <code>a b&#46;c</code> | <code>B703</code> | <code>Use of a&#37;b in &#123;x&#125; 1 &#123;01&#125; &#123;2&#125;</code> | <code>Bandit</code> | updated |
+|  | note | <code>-</code> |  | <code>x &#58;&#58;error&#58;&#58;y &#35; &#35;&#91;z&#93; &#123;0&#125;</code> | <code>Bandit</code> | new |
+";
+
+const GITLAB: &str =
+    r#"[{"check_name":"B703","description":"Potential XSS on mark_safe function.","fingerprint":"fd273b5e336360fba395744f1a4977133a2a2978631842434d51f65ae37747db","location":{"lines":{"begin":12},"path":"django/forms/forms.py"},"severity":"major"},{"check_name":"B703","description":"Use of a%b in {x} 1 {01} {2}","fingerprint":"e55a18772619595811ce4cbf0c71dbedef72f3b05e7dce49b8a8d4e78d89e4bc","location":{"lines":{"begin":1},"path":"a b.c"},"severity":"critical"},{"check_name":"unknown","description":"x ::error::y # #[z] {0}","fingerprint":"339cb18f69a2fd290434b7ec3d9b91ea6a6e4fda14dfb132c9711ee8ed83b46a","location":{"lines":{"begin":1},"path":"unknown"},"severity":"minor"}]"#;
+
+/// Three results, of which the first and the last are alike.
+const ALIKE: &str = r#"{"runs":[{"results":[
+{"baselineState":"new","level":"error","message":{"text":"same"}},
+{"baselineState":"new","level":"error","message":{"text":"other"}},
+{"baselineState":"new","level":"error","message":{"text":"same"}}
+],"tool":{"driver":{"name":"T"}}}],"version":"2.1.0"}"#;
+
+const ALIKE_GITLAB: &str =
+    r#"[{"check_name":"unknown","description":"same","fingerprint":"7a3df80537ebc91124c5c334c78a4a68add7fdc7c79f01e6d6719ef38011ff8a","location":{"lines":{"begin":1},"path":"unknown"},"severity":"critical"},{"check_name":"unknown","description":"other","fingerprint":"b68b06f9d176ee91b74f39a9c79fb03b7f5b7cea5cc654f8532b4bcc05418034","location":{"lines":{"begin":1},"path":"unknown"},"severity":"critical"},{"check_name":"unknown","description":"same","fingerprint":"655b0a3daa05899ac32609e95ae5203e3e08d9ed2a18a995ba351f89837220c5","location":{"lines":{"begin":1},"path":"unknown"},"severity":"critical"}]"#;
+
+/// A log that would write into the page.
+const HOSTILE: &str = r#"{"runs":[{"results":[
+{"baselineState":"new","level":"error","locations":[{"physicalLocation":{"artifactLocation":{"uri":"a.c"},"region":{"startLine":1}}}],"message":{"text":"</td><script>alert(\"1\")</script> & 'x'"},"ruleIndex":0},
+{"baselineState":"updated","level":"note","locations":[{"physicalLocation":{"artifactLocation":{"uri":"a.c"},"region":{"startLine":2}}}],"message":{"text":"m"},"ruleIndex":1}
+],"tool":{"driver":{"name":"T","rules":[{"helpUri":"https://e.org/?a=1&b=\"2\"","id":"R<1>"},{"helpUri":"javascript:alert(1)","id":"R2"}]}}}],"version":"2.1.0"}"#;
+
+/// What the page says of these.
+const HOSTILE_ROWS: [&str; 6] = [
+    "<tr data-level=\"error\" data-state=\"new\" data-hit=\"yes\">",
+    ">a.c:1<",
+    "<a href=\"https://e.org/?a=1&amp;b=&quot;2&quot;\" rel=\"noopener noreferrer\">R&lt;1&gt;</a>",
+    ">&lt;/td&gt;&lt;script&gt;alert(&quot;1&quot;)&lt;/script&gt; &amp; &#39;x&#39;<",
+    " data-level=\"note\" data-state=\"updated\" data-hit=\"no\">",
+    ">R2<",
+];
+
+fn findings_in(alloc: Global, text: &str) -> Result<Vec<Finding>, Fail> {
+    let reporting = Reporting {
+        policy: Policy::default(),
+        root: Text::copy_of(alloc, "file:///b/")?,
+    };
+    Ok(reported(alloc, &reporting, text.as_bytes())?)
+}
+
+fn findings_of(alloc: Global) -> Result<Vec<Finding>, Fail> {
+    findings_in(alloc, LOG)
+}
+
+#[test]
+fn a_text_is_shown_on_one_line(rt: HostRuntime) -> Result<(), Fail> {
+    let alloc = rt.alloc();
+    for (text, wanted) in [
+        ("", ""),
+        ("plain text", "plain text"),
+        ("a\r\nb\u{85}c\u{2028}d", "a  b c d"),
+        ("\u{202e}a\u{200b}b\u{feff}", " a b "),
+        ("####", "# # # #"),
+        ("#\u{200b}#", "# #"),
+        ("é€😀", "é€😀"),
+    ] {
+        assert_eq!(rt; shown(alloc, text)?.as_str(), wanted);
+    }
+    Ok(())
+}
+
+#[test]
+fn a_thousand_characters_are_kept(rt: HostRuntime) -> Result<(), Fail> {
+    let alloc = rt.alloc();
+    let mut text = String::new(alloc);
+    for _ in 0..1000 {
+        text.push('é')?;
+    }
+    assert_eq!(rt; shown(alloc, text.as_str())?.as_str(), text.as_str());
+    let mut longer = String::from_str(alloc, text.as_str())?;
+    longer.push('z')?;
+    text.push('…')?;
+    assert_eq!(rt; shown(alloc, longer.as_str())?.as_str(), text.as_str());
+    Ok(())
+}
+
+/// A log with one result, whose message has these arguments and this text.
+fn log_with(alloc: Global, arguments: &str, text: &str) -> Result<String, AllocError> {
+    let message = format!(in alloc; "{{\"arguments\":{arguments},\"text\":\"{text}\"}}")?;
+    let state = "\"baselineState\":\"new\",\"level\":\"note\"";
+    format!(in alloc; "{{\"runs\":[{{\"results\":[{{{state},\"message\":{message}}}]}}]}}")
+}
+
+#[test]
+fn a_placeholder_without_its_argument_stays_whole(rt: HostRuntime) -> Result<(), Fail> {
+    let alloc = rt.alloc();
+    for (arguments, text, wanted) in [
+        ("[\"a\"]", "{9}}", "{9}}"),
+        ("[\"a\"]", "{0}}", "a}"),
+        ("[\"a\"]", "{{0}}", "{0}"),
+        ("[\"a\"]", "{1}", "{1}"),
+        ("[\"a\"]", "{-1}}", "{-1}"),
+        ("[\"a\"]", "{01}", "{01}"),
+        ("[7,\"b\"]", "{0}}}} {1}}}", "{0}}} b}"),
+    ] {
+        let log = log_with(alloc, arguments, text)?;
+        let findings = findings_in(alloc, log.as_str())?;
+        assert_eq!(rt; findings.len(), 1);
+        assert_eq!(rt; findings[0].message.as_str(), wanted);
+    }
+    Ok(())
+}
+
+#[test]
+fn active_results_of_listed_states_are_reported(rt: HostRuntime) -> Result<(), Fail> {
+    let findings = findings_of(rt.alloc())?;
+    assert_eq!(rt; findings.len(), 3);
+    assert!(rt; !findings[0].hit);
+    assert!(rt; findings[1].hit);
+    assert!(rt; !findings[2].hit);
+    Ok(())
+}
+
+#[test]
+fn nothing_is_reported_of_what_is_no_log(rt: HostRuntime) -> Result<(), Fail> {
+    let alloc = rt.alloc();
+    for text in ["", "{", "null", "[]", "{\"runs\":{}}", "{\"runs\":[1,{}]}"] {
+        assert_eq!(rt; findings_in(alloc, text)?.len(), 0);
+    }
+    Ok(())
+}
+
+#[test]
+fn a_report_is_picked_by_its_name(rt: HostRuntime) -> Result<(), Fail> {
+    let alloc = rt.alloc();
+    let findings = findings_of(alloc)?;
+    let counts = Counts::new();
+    let policy = Policy::default();
+    for (report, word, piece) in [
+        (Report::Text, "text", TEXT),
+        (Report::Github, "github", GITHUB),
+        (
+            Report::Markdown,
+            "markdown",
+            "## Gate: pass, 0 hits, 0 allowed\n",
+        ),
+        (Report::Gitlab, "gitlab", GITLAB),
+        (Report::Html, "html", "<title>Gate: pass</title>"),
+    ] {
+        assert_eq!(rt; report.name(), word);
+        let text = report_text(alloc, report, &counts, &policy, findings.as_slice())?;
+        assert!(rt; text.contains(piece));
+    }
+    Ok(())
+}
+
+#[test]
+fn the_text_report_has_a_line_a_result(rt: HostRuntime) -> Result<(), Fail> {
+    let alloc = rt.alloc();
+    let findings = findings_of(alloc)?;
+    assert_eq!(rt; text_report(alloc, findings.as_slice())?.as_str(), TEXT);
+    Ok(())
+}
+
+#[test]
+fn the_github_report_has_a_command_a_result(rt: HostRuntime) -> Result<(), Fail> {
+    let alloc = rt.alloc();
+    let findings = findings_of(alloc)?;
+    assert_eq!(rt; github_report(alloc, findings.as_slice())?.as_str(), GITHUB);
+    Ok(())
+}
+
+#[test]
+fn the_markdown_report_has_the_verdict_the_counts_and_a_table(rt: HostRuntime) -> Result<(), Fail> {
+    let alloc = rt.alloc();
+    let findings = findings_of(alloc)?;
+    let mut counts = Counts::new();
+    counts.add(State::New, Level::Warning, false);
+    counts.add(State::Updated, Level::Error, false);
+    counts.add(State::New, Level::Error, true);
+    counts.add(State::Unchanged, Level::Error, false);
+    counts.add(State::New, Level::Note, false);
+    let policy = Policy::default();
+    let text = markdown_report(alloc, &counts, &policy, findings.as_slice())?;
+    assert_eq!(rt; text.as_str(), MARKDOWN);
+    Ok(())
+}
+
+#[test]
+fn the_gitlab_report_has_an_object_a_result(rt: HostRuntime) -> Result<(), Fail> {
+    let alloc = rt.alloc();
+    let findings = findings_of(alloc)?;
+    assert_eq!(rt; gitlab_report(alloc, findings.as_slice())?.as_str(), GITLAB);
+    assert_eq!(rt; gitlab_report(alloc, &[])?.as_str(), "[]");
+    Ok(())
+}
+
+#[test]
+fn results_that_are_alike_have_fingerprints_of_their_own(rt: HostRuntime) -> Result<(), Fail> {
+    let alloc = rt.alloc();
+    let findings = findings_in(alloc, ALIKE)?;
+    assert_eq!(rt;
+        gitlab_report(alloc, findings.as_slice())?.as_str(),
+        ALIKE_GITLAB
+    );
+    Ok(())
+}
+
+#[test]
+fn the_page_escapes_what_a_log_says(rt: HostRuntime) -> Result<(), Fail> {
+    let alloc = rt.alloc();
+    let findings = findings_in(alloc, HOSTILE)?;
+    let mut counts = Counts::new();
+    counts.add(State::New, Level::Error, false);
+    counts.add(State::Updated, Level::Note, false);
+    let page = html_report(alloc, &counts, &Policy::default(), findings.as_slice())?;
+    for piece in HOSTILE_ROWS {
+        assert!(rt; page.contains(piece));
+    }
+    assert!(rt; page.contains("1 hits, 0 allowed"));
+    assert!(rt; !page.contains("<script"));
+    assert!(rt; !page.contains("javascript:"));
+    Ok(())
+}
+
+#[test]
+fn a_page_without_results_has_no_table_of_them(rt: HostRuntime) -> Result<(), Fail> {
+    let alloc = rt.alloc();
+    let page = html_report(alloc, &Counts::new(), &Policy::default(), &[])?;
+    assert!(rt; page.starts_with("<!DOCTYPE html>"));
+    assert!(rt; page.contains("Gate: pass"));
+    assert!(rt; page.contains("0 hits, 0 allowed"));
+    assert!(rt; !page.contains("data-level=\"error\" data-state"));
+    Ok(())
+}
+
+/// So many results that are alike.
+fn many(alloc: Global, count: u32) -> Result<Vec<Finding>, Fail> {
+    let mut findings = Vec::new(alloc);
+    for _ in 0..count {
+        findings.push(Finding {
+            tool: Text::copy_of(alloc, "T")?,
+            rule: Text::copy_of(alloc, "R")?,
+            level: Level::Warning,
+            state: State::New,
+            message: Text::copy_of(alloc, "m")?,
+            path: Some(Text::copy_of(alloc, "a|b.c")?),
+            line: None,
+            column: None,
+            help: None,
+            hit: false,
+        })?;
+    }
+    Ok(findings)
+}
+
+#[test]
+fn two_hundred_results_stand_in_the_markdown_table(rt: HostRuntime) -> Result<(), Fail> {
+    let alloc = rt.alloc();
+    let policy = Policy::default();
+    let others = "\n\n1 more results are in the merged log.\n";
+    let all = markdown_report(alloc, &Counts::new(), &policy, many(alloc, 200)?.as_slice())?;
+    assert!(rt; !all.contains("more results"));
+    let more = markdown_report(alloc, &Counts::new(), &policy, many(alloc, 201)?.as_slice())?;
+    assert!(rt; more.ends_with(others));
+    assert_eq!(rt; more.len(), all.len() + others.len() - 1);
+    Ok(())
+}
+
+#[test]
+fn ten_thousand_results_stand_in_the_page(rt: HostRuntime) -> Result<(), Fail> {
+    let alloc = rt.alloc();
+    let policy = Policy::default();
+    let others = "<p>1 more results are in the merged log.</p>\n";
+    let all = html_report(
+        alloc,
+        &Counts::new(),
+        &policy,
+        many(alloc, 10_000)?.as_slice(),
+    )?;
+    assert!(rt; !all.contains("more results"));
+    let more = html_report(
+        alloc,
+        &Counts::new(),
+        &policy,
+        many(alloc, 10_001)?.as_slice(),
+    )?;
+    assert!(rt; more.contains(others));
+    assert_eq!(rt; more.len(), all.len() + others.len());
+    Ok(())
+}
+
+/// A log that would write lines, commands and cells.
+const FORGING: &str = r#"{"runs":[{"results":[
+{"baselineState":"new","level":"error","locations":[{"physicalLocation":{"artifactLocation":{"uri":" :%0A::error::a,b|c@d%E2%80%AE##[e].c"},"region":{"startColumn":3,"startLine":4294967295}}}],"message":{"text":"a\r\n::set-output name=x::y\u001b[31m | @team `z` ##vso[x] 100%"},"ruleId":"R|1\n"},
+{"baselineState":"new","level":"none","locations":[{"physicalLocation":{"artifactLocation":{"uri":"a%zz.c"},"region":{"startColumn":3,"startLine":0}}}],"message":{"id":"none"},"ruleId":""}
+],"tool":{"driver":{"name":"T,:%"}}}],"version":"2.1.0"}"#;
+
+const FORGING_TEXT: &str = "\
+./ : ::error::a,b|c@d # #[e].c:4294967295:3: error: a  ::set-output name=x::y [31m | @team `z` # #vso[x] 100% [R|1 ] (T,:%, new)
+a%zz.c: none: (no message) (T,:%, new)
+";
+
+const FORGING_GITHUB: &str = "\
+::error file= %3A %3A%3Aerror%3A%3Aa%2Cb|c@d # #[e].c,line=4294967295,col=3,title=R|1  (T%2C%3A%25)::a  ::set-output name=x::y [31m | @team `z` # #vso[x] 100%25
+::notice file=a%25zz.c,title=T%2C%3A%25::(no message)
+";
+
+const FORGING_ROW: &str =
+    "| yes | error | <code>&#46;/ &#58; &#58;&#58;error&#58;&#58;a,b&#124;c&#64;d &#35; &#35;&#91;e&#93;&#46;c&#58;4294967295&#58;3</code> | <code>R&#124;1 </code> | <code>a  &#58;&#58;set-output name&#61;x&#58;&#58;y &#91;31m &#124; &#64;team &#96;z&#96; &#35; &#35;vso&#91;x&#93; 100&#37;</code> | <code>T,&#58;&#37;</code> | new |\n";
+
+#[test]
+fn no_log_writes_a_line_a_command_or_a_cell(rt: HostRuntime) -> Result<(), Fail> {
+    let alloc = rt.alloc();
+    let findings = findings_in(alloc, FORGING)?;
+    assert_eq!(rt;
+        text_report(alloc, findings.as_slice())?.as_str(),
+        FORGING_TEXT
+    );
+    assert_eq!(rt;
+        github_report(alloc, findings.as_slice())?.as_str(),
+        FORGING_GITHUB
+    );
+    let markdown = markdown_report(
+        alloc,
+        &Counts::new(),
+        &Policy::default(),
+        findings.as_slice(),
+    )?;
+    assert!(rt; markdown.contains(FORGING_ROW));
+    Ok(())
+}
