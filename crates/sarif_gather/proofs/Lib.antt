@@ -8,7 +8,6 @@ pub mod Endings
 pub mod Gatherings
 pub mod HandSums
 pub mod Honesty
-pub mod Kept
 pub mod Lawfulness
 pub mod Numbering
 pub mod Parcels

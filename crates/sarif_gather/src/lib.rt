@@ -11,8 +11,6 @@ mod mailbox;
 mod numbered;
 mod piece;
 mod slot;
-#[cfg(test)]
-mod tests;
 mod work;
 
 pub use collect_fault::{CollectFault, collect};

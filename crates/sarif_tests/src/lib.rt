@@ -23,3 +23,5 @@ mod rules;
 mod suppressions;
 #[cfg(test)]
 mod texts;
+#[cfg(test)]
+mod work;

@@ -2,7 +2,7 @@
 ghost use Rattle.std.specs.Prelude.{◌≡◌, ◌≤◌, ◌<◌, ℕ, length, vec_len, All, IfOk, slice_index_or};
 ghost use Rattle.sarif_gather.specs.Ends.{IsPostOf, IsDeskOf, AreAllPosts, number_of};
 
-use crate::{Desk, Full, Mailbox, Parcel, Piece, Post};
+use sarif_gather::{Desk, Full, Mailbox, Parcel, Piece, Post};
 use std::alloc::{AllocError, Global};
 use std::sync::Wait;
 use std::test::Fail;

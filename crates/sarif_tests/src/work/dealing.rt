@@ -2,7 +2,7 @@
 ghost use Rattle.std.specs.Prelude.{◌≡◌, ◌≤◌, ◌<◌, ℕ, length, vec_len, All, slice_index_or};
 ghost use Rattle.sarif_gather.specs.Hands.{IsHandOf, AreAllHands};
 
-use crate::{Deal, Hand};
+use sarif_gather::{Deal, Hand};
 use std::sync::atomic::{AtomicU64, Ordering};
 use std::test::Fail;
 use std::thread;

@@ -1,7 +1,7 @@
 //! Pieces and the collector.
 ghost use Rattle.std.specs.Prelude.{◌≤◌, ◌<◌, ◌^◌, vec_len};
 
-use crate::{CollectFault, Collector, Piece, Refused, Why, collect};
+use sarif_gather::{CollectFault, Collector, Piece, Refused, Why, collect};
 use std::alloc::Global;
 use std::test::Fail;
 

@@ -1,7 +1,7 @@
 //! The whole: workers, the mailbox, the deal and the collector.
 ghost use Rattle.std.specs.Prelude.{◌≡◌, ◌≤◌, ◌<◌, ◌+◌, ◌*◌, length, slice_index};
 
-use crate::{Gate, GatherFault, Lists, NoGate, Work, gather};
+use sarif_gather::{Gate, GatherFault, Lists, NoGate, Work, gather};
 use std::alloc::{AllocError, Global};
 use std::process::Abort;
 use std::sync::Wait;
