@@ -3,6 +3,7 @@ mod applying;
 mod conditions;
 mod entries;
 mod files;
+mod prefixes;
 
 use sarif_suppress::{SuppressFault, Suppressions, read_rules};
 use sarif_records::{Kind, Level, Message, Place, Record, Sequence, Status, Text};

@@ -16,7 +16,7 @@ const TRIES: u32 = 4;
 
 impl<P: Drop> Mailbox<P> {
     /// Puts a parcel at the back. The thread sleeps while the mailbox is full.
-    pub(crate) fn send_on<R: Wait>(&self, rt: &R, post: &mut Post<P>, parcel: P)
+    pub fn send_on<R: Wait>(&self, rt: &R, post: &mut Post<P>, parcel: P)
         requires { IsPostOf self.now post.old }
         ensures post { IsPostOf self.now post.new × (number_of post.new ≡ number_of post.old) }
         ensures sent { sent_by post.new ≡ sent_by post.old ++ parcel ∷ [] }
@@ -57,7 +57,7 @@ impl<P: Drop> Mailbox<P> {
     /// Takes the sender and the parcel at the front. The thread sleeps while the mailbox is empty.
     /// It is for a taker that goes on until no sender has anything left to send: senders that sleep
     /// are woken only once half of the room is free.
-    pub(crate) fn take_next<R: Wait>(&self, rt: &R, desk: &mut Desk<P>) -> (u32, P)
+    pub fn take_next<R: Wait>(&self, rt: &R, desk: &mut Desk<P>) -> (u32, P)
         requires { IsDeskOf self.now desk.old }
         ensures desk { IsDeskOf self.now desk.new }
         ensures taken { taken_by desk.new ≡ taken_by desk.old ++ result ∷ [] }

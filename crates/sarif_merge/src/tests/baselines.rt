@@ -1,6 +1,6 @@
 //! Merges with baselines.
-use sarif_merge::Merged;
-use super::merging::{
+use crate::Merged;
+use crate::tests::merging::{
     Given, NOTHING, Wanted, beside, expect_log, expect_part, expect_refusal, expect_runs, log_of,
     log_with, merge, one_log,
 };

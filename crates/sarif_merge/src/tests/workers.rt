@@ -1,6 +1,6 @@
 //! That workers give the same log, work at once, and judge each shard of the results once.
-use sarif_merge::Gate;
-use super::merging::{
+use crate::Gate;
+use crate::tests::merging::{
     NOTHING, Wanted, expect_log, log_of, merge, merge_watched, one_log, write_watched,
 };
 use std::alloc::{AllocError, Global};
