@@ -1,6 +1,6 @@
 //! An indexed text, the values that are looked up in it and those that are made from it.
-use json_index::{IndexFault, index_text};
 use json::Scratch;
+use json_index::{IndexFault, index_text};
 use serde_json::Value;
 use std::alloc::Global;
 use std::test::Fail;

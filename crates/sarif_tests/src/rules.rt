@@ -1,7 +1,7 @@
 //! Examples worked by hand, and that each call succeeds with ample memory. A row is an answer and a run, whose first result
 //! gives its descriptor, its level and its place, or a fault.
-use sarif_rules::{make_record, open_run};
 use sarif_records::{Fault, Kind, Level, Log, Place, RawRun, Record, read_log, read_parts};
+use sarif_rules::{make_record, open_run};
 use std::alloc::{AllocError, Global};
 use std::hash::RandomState;
 use std::io;
