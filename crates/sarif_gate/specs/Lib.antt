@@ -1,6 +1,5 @@
 pub mod Command
 pub mod ForReport
-pub mod Kept
 pub mod Named
 pub mod Names
 pub mod Reports

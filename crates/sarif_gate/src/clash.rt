@@ -3,7 +3,8 @@ ghost use Rattle.std.specs.Prelude.{◌≡◌, Option, map};
 ghost use Rattle.std.specs.List.{list_any};
 ghost use Rattle.sarif_gate.specs.Names as said;
 
-use crate::request::{Request, STANDARD};
+use crate::request::Request;
+use sarif_files::STANDARD;
 use sarif_records::Text;
 
 /// Why names can't stand together.

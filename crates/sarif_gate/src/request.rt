@@ -3,13 +3,11 @@ ghost use Rattle.std.specs.Prelude.{◌≡◌, [], ◌∷◌, IfOk, None, codes,
 ghost use Rattle.sarif_counts.specs.Policy.{default_policy};
 
 use crate::reports::Reports;
+use sarif_files::STANDARD;
 use sarif_merge::{Options, Policy};
 use sarif_records::Text;
 use std::alloc::{AllocError, Global};
 use std::hash::RandomState;
-
-/// The word for a standard stream, where a log is read or an output is written.
-pub const STANDARD: &str = "-";
 
 /// What one run is asked to do. Sources are named as they were written, in the order of the words.
 #[derive(Debug, Drop)]

@@ -2,8 +2,8 @@
 ghost use Rattle.std.specs.Prelude.{◌≡◌, ◌<◌, None, Some, IfOk, IsErr, IsOk, IsSome, OnErr, OnOk, length};
 ghost use Rattle.std.specs.Io.{WritesAtMost};
 ghost use Rattle.std.specs.Io.KnownBytes.{Keeps, WriteAppends};
-ghost use Rattle.sarif_gate.specs.Writing.{file_of};
-ghost use Rattle.sarif_gate.specs.declared.output.Writing.TheVariants.{Unopened, Over};
+ghost use Rattle.sarif_files.specs.Writing.{file_of};
+ghost use Rattle.sarif_files.specs.declared.output.Writing.TheVariants.{Unopened, Over};
 
 use crate::place::Place;
 use std::fs::{self, OpenFile, OpenOptions, Permissions};

@@ -2,10 +2,10 @@
 ghost use Rattle.std.specs.Prelude.{◌≡◌, None};
 ghost use Rattle.std.specs.Io.{ReadsAtMost};
 ghost use Rattle.std.specs.Io.KnownBytes.{ReadConsumes};
-ghost use Rattle.sarif_gate.specs.Named.{input_name};
+ghost use Rattle.sarif_files.specs.Named.{input_name};
 
 use crate::files::InputFile;
-use crate::request::STANDARD;
+use crate::streams::STANDARD;
 use std::io::{self, Read};
 use std::rt::Files;
 

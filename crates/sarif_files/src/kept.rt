@@ -2,7 +2,7 @@
 ghost use Rattle.std.specs.Prelude.{◌≡◌, None};
 ghost use Rattle.std.specs.Io.{ReadsAtMost, WritesAtMost};
 ghost use Rattle.std.specs.Io.KnownBytes.{Keeps, ReadConsumes, WriteAppends};
-ghost use Rattle.sarif_gate.specs.Kept.{kept_in};
+ghost use Rattle.sarif_files.specs.Kept.{kept_in};
 
 use std::io::{self, Read, Write};
 

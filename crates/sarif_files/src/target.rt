@@ -5,7 +5,7 @@ ghost use Rattle.std.specs.Io.KnownBytes.{Keeps, WriteAppends};
 
 use crate::output::OutputFile;
 use crate::place::Place;
-use crate::request::STANDARD;
+use crate::streams::STANDARD;
 use std::alloc::{AllocError, Global};
 use std::io::{self, Write};
 use std::rt::Files;
