@@ -6,10 +6,10 @@ ghost use Rattle.sarif_sources.specs.OptionalReader.{failed_calls_if};
 ghost use Rattle.sarif_files.specs.Named.{input_name};
 ghost use Rattle.sarif_gate.specs.Named.{name_of, names_of};
 
-use crate::request::Request;
 use sarif_files::{Input, InputFile, Kept};
 use sarif_merge::{Counted, Readers};
 use sarif_records::Text;
+use sarif_request::Request;
 use std::alloc::AllocError;
 use std::io::Stdin;
 
