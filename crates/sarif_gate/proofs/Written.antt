@@ -3,7 +3,7 @@ use Rattle.std.proofs.Common.{◌≡◌, ℕ, List, Option, Some, None, refl, su
 use Rattle.sarif_report.specs.declared.report.Report.{Report}
 use Rattle.sarif_report.specs.declared.report.Report.TheVariants as report
 use Rattle.sarif_sources.specs.declared.counted.Counted.{Counted}
-use Rattle.sarif_gate.specs.declared.reports.Reports.{Reports}
+use Rattle.sarif_request.specs.declared.reports.Reports.{Reports}
 use Rattle.sarif_gate.specs.Reports.{AreTaken, AreWritten, IsTaken, IsWritten, text_if, texts_for}
 
 taken_is_written : {W : Type 0} (contents : W → Option (List ℕ)) (text : List ℕ) (old new : Option (Counted W))

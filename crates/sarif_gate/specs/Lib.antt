@@ -1,9 +1,4 @@
-pub mod Command
-pub mod ForReport
-pub mod Kept
 pub mod Named
-pub mod Names
 pub mod Reports
 pub mod Status
-pub mod Words
 pub mod Writing

@@ -11,8 +11,8 @@ use Rattle.sarif_report.specs.Report.{report_of}
 use Rattle.sarif_sources.specs.declared.counted.Counted.{Counted}
 use Rattle.sarif_sources.specs.Counted.{inner_of}
 use Rattle.sarif_sources.specs.OptionalReader.{failed_calls_if}
-use Rattle.sarif_gate.specs.declared.reports.Reports.{Reports}
-use Rattle.sarif_gate.specs.declared.request.Request.{Request}
+use Rattle.sarif_request.specs.declared.reports.Reports.{Reports}
+use Rattle.sarif_request.specs.declared.request.Request.{Request}
 
 -- what the reports of a request are made by
 abbrev pub reporting_of : Request → Reporting

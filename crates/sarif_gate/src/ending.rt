@@ -11,11 +11,11 @@ ghost use Rattle.sarif_gate.specs.Writing.{writer_failures};
 ghost use Rattle.sarif_gate.specs.declared.complaint.Complaint.TheVariants.{Fault};
 
 use crate::complaint::{Complaint, Complaints};
-use crate::request::Request;
 use crate::telling::texts_of;
 use crate::writers::Writers;
 use crate::writing::{Lost, put_all};
 use sarif_merge::{At, Cause, MergeFault, Merged, Source, Verdict};
+use sarif_request::Request;
 use std::alloc::Global;
 use std::io::Write;
 

@@ -1,13 +1,13 @@
 //! Explaining on standard error what stopped a run.
 use crate::complaint::Complaint;
-use crate::kept::Kept;
 use crate::outputs::Outputs;
-use crate::request::Request;
 use crate::sources::Source as Reading;
 use sarif_explain::{FaultSource, explanation};
+use sarif_files::Kept;
 use sarif_merge::{At, Cause, Counted, MergeFault, Readers, Source};
 use sarif_records::Text;
 use sarif_report::Report;
+use sarif_request::Request;
 use std::alloc::{AllocError, Global};
 use std::io;
 

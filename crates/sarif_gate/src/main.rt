@@ -2,38 +2,27 @@
 #![tactic(auto)]
 
 ghost use Rattle.std.specs.Prelude.{◌≡◌, ◌≤◌, IfOk, IfErr, Result, map, string_bytes};
-ghost use Rattle.sarif_gate.specs.Words.{Answers, words_status};
-ghost use Rattle.sarif_gate.specs.declared.request.Request.{Request as Asked};
-ghost use Rattle.sarif_gate.specs.declared.words.WordsFault.{WordsFault as Mistake};
+ghost use Rattle.sarif_request.specs.Words.{Answers, words_status};
+ghost use Rattle.sarif_request.specs.declared.request.Request.{Request as Asked};
+ghost use Rattle.sarif_request.specs.declared.words.WordsFault.{WordsFault as Mistake};
 
-mod clash;
-mod command;
 mod complaint;
 mod ending;
 mod explaining;
-mod files;
-mod input;
-mod kept;
-mod output;
 mod outputs;
-mod place;
-mod reports;
-mod request;
 mod run;
 mod seed;
 mod sources;
-mod target;
 mod telling;
-mod words;
 mod writers;
 mod writing;
 
 use complaint::{Complaint, Complaints};
 use explaining::Ended;
 use outputs::outputs_of;
-use request::Request;
 use run::run_request;
 use sarif_merge::MergeFault;
+use sarif_request::{Request, WordsFault, read_words};
 use seed::seed_of;
 use sources::sources_of;
 use std::alloc::AllocError;
@@ -42,7 +31,6 @@ use std::process::ExitCode;
 use std::sync::Wait;
 use std::thread::Threads;
 use std::{env, io};
-use words::{WordsFault, read_words};
 
 fn main(rt: HostRuntime) -> ExitCode {
     let status = match words_of(&rt) {

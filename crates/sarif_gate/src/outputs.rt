@@ -4,13 +4,11 @@ ghost use Rattle.sarif_sources.specs.Counted.{failed_calls};
 ghost use Rattle.sarif_sources.specs.OptionalReader.{failed_calls_if};
 ghost use Rattle.sarif_gate.specs.Reports.{AreAsked, report_failures};
 
-use crate::kept::Kept;
-use crate::reports::Reports;
-use crate::request::{Request, STANDARD};
-use crate::target::{Console, Target};
 use crate::writers::Writers;
+use sarif_files::{Console, Kept, STANDARD, Target};
 use sarif_merge::Counted;
 use sarif_records::Text;
+use sarif_request::{Reports, Request};
 use std::alloc::AllocError;
 use std::io::{Stderr, Stdout};
 use std::process;

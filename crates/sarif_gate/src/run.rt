@@ -17,9 +17,9 @@ ghost use Rattle.sarif_gate.specs.Writing.{writer_failures};
 
 use crate::complaint::Complaints;
 use crate::ending::{accept, refuse};
-use crate::request::Request;
 use crate::writers::Writers;
 use sarif_merge::{NoGate, Readers, merge_readers, sources_are_read_in_one_way};
+use sarif_request::Request;
 use std::alloc::Global;
 use std::io::{Read, Write};
 use std::sync::Wait;

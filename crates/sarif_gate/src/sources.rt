@@ -3,14 +3,13 @@ ghost use Rattle.std.specs.Prelude.{◌≡◌, IfOk, option_map};
 ghost use Rattle.std.specs.List.{All};
 ghost use Rattle.sarif_sources.specs.Counted.{failed_calls};
 ghost use Rattle.sarif_sources.specs.OptionalReader.{failed_calls_if};
-ghost use Rattle.sarif_gate.specs.Named.{input_name, name_of, names_of};
+ghost use Rattle.sarif_files.specs.Named.{input_name};
+ghost use Rattle.sarif_gate.specs.Named.{name_of, names_of};
 
-use crate::files::InputFile;
-use crate::input::Input;
-use crate::kept::Kept;
-use crate::request::Request;
+use sarif_files::{Input, InputFile, Kept};
 use sarif_merge::{Counted, Readers};
 use sarif_records::Text;
+use sarif_request::Request;
 use std::alloc::AllocError;
 use std::io::Stdin;
 

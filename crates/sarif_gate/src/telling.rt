@@ -6,11 +6,10 @@ ghost use Rattle.sarif_report.specs.ReadBack.{told_of};
 ghost use Rattle.sarif_report.specs.Report.{report_of};
 ghost use Rattle.sarif_gate.specs.Reports.{report_for, reporting_of, text_if, texts_for};
 
-use crate::reports::Reports;
-use crate::request::Request;
 use sarif_merge::{Counts, Merged, Policy, summary};
 use sarif_records::Text;
 use sarif_report::{Finding, Report, Reporting, report_text, reported};
+use sarif_request::{Reports, Request};
 use std::alloc::{AllocError, Global};
 
 /// The texts of an accepted merge, beside its log.

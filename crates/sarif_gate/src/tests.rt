@@ -5,7 +5,6 @@ use std::hash::RandomState;
 use std::io;
 use std::random::RandomSource;
 
-mod asking;
 mod running;
 
 /// A system without random bytes.

@@ -1,6 +1,6 @@
 //! Where the texts of a run go.
-use crate::reports::Reports;
 use sarif_merge::Counted;
+use sarif_request::Reports;
 
 /// Where the texts of a run go.
 #[derive(Debug, Drop)]

@@ -6,12 +6,12 @@ ghost use Rattle.sarif_sources.specs.OptionalReader.{failed_calls_if};
 ghost use Rattle.sarif_gate.specs.Reports.{AreTaken, HaveRoom, IsTaken, report_failures};
 ghost use Rattle.sarif_gate.specs.Writing.{writer_failures};
 
-use crate::reports::Reports;
 use crate::telling::Texts;
 use crate::writers::Writers;
 use sarif_merge::{Counted, Failed, write_out};
 use sarif_records::Text;
 use sarif_report::Report;
+use sarif_request::Reports;
 use std::io::Write;
 
 /// What was not written.

@@ -3,7 +3,7 @@ use Rattle.std.specs.Prelude.{ℕ, List, Option}
 use Rattle.sarif_sources.specs.declared.readers.SourceBytes.{SourceBytes}
 use Rattle.sarif_sources.specs.WereRead.{SourceContents, contents_of}
 use Rattle.sarif_inputs.specs.Inputs.{Inputs}
-use Rattle.sarif_merge.specs.declared.options.Options.{Options}
+use Rattle.sarif_counts.specs.declared.options.Options.{Options}
 
 -- what is given as these bytes
 abbrev pub given : List (List ℕ) → List (List ℕ) → Option (List ℕ) → Option ℕ → Inputs

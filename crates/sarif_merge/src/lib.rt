@@ -6,16 +6,14 @@ mod judged;
 mod laws;
 mod merge;
 mod merge_sources;
-mod options;
 #[cfg(test)]
 mod tests;
 
 pub use laws::{each_result_is_written_as_its_own, merged_runs_hold_no_fraction};
 pub use merge::merge_bytes;
 pub use merge_sources::{merge_readers, merge_to};
-pub use options::Options;
 pub use sarif_assemble::Merged;
-pub use sarif_counts::{Counts, Policy, States, Verdict, hits, summary, verdict};
+pub use sarif_counts::{Counts, Options, Policy, States, Verdict, hits, summary, verdict};
 pub use sarif_gather::{Gate, NoGate};
 pub use sarif_sources::{
     At, Cause, Counted, Failed, MergeFault, Readers, ReadersFault, Source, SourceBytes,

@@ -12,9 +12,9 @@ ghost use Rattle.sarif_merge.specs.Merged.{HoldsFirst, IsMergeOf};
 ghost use Rattle.sarif_merge.specs.MergedLog.{output_text, runs_of, without_of, unused_in, written_inputs};
 
 use crate::judged::judge_runs;
-use crate::options::Options;
 use json::Scratch;
 use sarif_assemble::{Merged, assemble};
+use sarif_counts::Options;
 use sarif_gather::Gate;
 use sarif_inputs::{Runs, check_numbers, index_sources, open_sources, read_file};
 use sarif_sources::{MergeFault, SourceBytes};

@@ -12,8 +12,8 @@ ghost use Rattle.sarif_sources.specs.declared.fault.Cause.TheVariants.{WriteFail
 ghost use Rattle.sarif_sources.specs.declared.fault.Source.TheVariants.{Output};
 
 use crate::merge::merge_few;
-use crate::options::Options;
 use sarif_assemble::Merged;
+use sarif_counts::Options;
 use sarif_gather::Gate;
 use sarif_inputs::check_numbers;
 use sarif_sources::{At, Cause, Counted, MergeFault, Readers, Source, read_sources, write_out};

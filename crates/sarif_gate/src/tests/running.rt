@@ -1,13 +1,12 @@
 //! What is written, said and complained of, and with which status.
 
 use crate::complaint::Complaints;
-use crate::reports::Reports;
-use crate::request::Request;
 use crate::run::run_request;
 use crate::tests::{MERGED, seed};
 use crate::writers::Writers;
 use sarif_merge::{Counted, Readers};
 use sarif_records::Level;
+use sarif_request::{Reports, Request};
 use std::alloc::{AllocError, Global};
 use std::cell::RefCell;
 use std::io::{self, Read, Write};

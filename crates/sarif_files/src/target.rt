@@ -1,0 +1,85 @@
+//! Where an output goes: a file, or a standard stream.
+ghost use Rattle.std.specs.Prelude.{None};
+ghost use Rattle.std.specs.Io.{WritesAtMost};
+ghost use Rattle.std.specs.Io.KnownBytes.{Keeps, WriteAppends};
+
+use crate::output::OutputFile;
+use crate::place::Place;
+use crate::streams::STANDARD;
+use std::alloc::{AllocError, Global};
+use std::io::{self, Write};
+use std::rt::Files;
+
+/// A file that is whole or untouched, or standard output.
+#[derive(Drop)]
+pub enum Target<'a, R: Files, O> {
+    File(OutputFile<'a, R, R::File>),
+    Standard(O),
+}
+
+impl<'a, R: Files, O: Drop> Target<'a, R, O> {
+    /// The output of a name: `-` is standard output. Nothing is opened yet; a new file beside that of the name has
+    /// `number` in its name.
+    pub fn of(
+        files: &'a R,
+        standard: O,
+        alloc: Global,
+        name: &str,
+        number: u64,
+    ) -> Result<Target<'a, R, O>, AllocError> {
+        if name == STANDARD {
+            return Ok(Target::Standard(standard));
+        }
+        let place = Place::of(files, alloc, name, number)?;
+        Ok(Target::File(OutputFile::new(files, place)))
+    }
+}
+
+impl<R: Files, O: Write> Write for Target<'_, R, O> {
+    fn write(&mut self, buf: &[u8]) -> io::Result<usize>
+        ensures bound { WritesAtMost result buf.now }
+        ensures bytes { WriteAppends None None result buf.now }
+    {
+        match self {
+            Target::File(file) => file.write(buf),
+            Target::Standard(standard) => standard.write(buf),
+        }
+    }
+
+    fn flush(&mut self) -> io::Result<()>
+        ensures bytes { Keeps None None }
+    {
+        match self {
+            Target::File(file) => file.flush(),
+            Target::Standard(standard) => standard.flush(),
+        }
+    }
+}
+
+/// Standard output, or standard error where the merged log goes to standard output.
+#[derive(Drop)]
+pub enum Console<O, E> {
+    Output(O),
+    Error(E),
+}
+
+impl<O: Write, E: Write> Write for Console<O, E> {
+    fn write(&mut self, buf: &[u8]) -> io::Result<usize>
+        ensures bound { WritesAtMost result buf.now }
+        ensures bytes { WriteAppends None None result buf.now }
+    {
+        match self {
+            Console::Output(output) => output.write(buf),
+            Console::Error(error) => error.write(buf),
+        }
+    }
+
+    fn flush(&mut self) -> io::Result<()>
+        ensures bytes { Keeps None None }
+    {
+        match self {
+            Console::Output(output) => output.flush(),
+            Console::Error(error) => error.flush(),
+        }
+    }
+}

@@ -1,0 +1,4 @@
+pub mod Asked
+pub mod Numbers
+pub mod Rows
+pub mod Told

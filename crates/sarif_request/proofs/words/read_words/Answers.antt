@@ -1,0 +1,36 @@
+use Rattle.std.proofs.Common.{◌≡◌, ◌∙◌, ap, sym, subst, rules, true, None, map, string_bytes}
+use Rattle.clap.specs.Words.{App, app_of, fault_of, is_simple_and_free, HasKind, kind_of}
+use Rattle.sarif_request.specs.Command.{program}
+use Rattle.sarif_request.specs.Names.{clash_of, names_of}
+use Rattle.sarif_request.proofs.Asked.{asked}
+use Rattle.sarif_request.proofs.Rows.{program_is_free}
+use Rattle.sarif_request.proofs.Told.{told, clashing, same_names}
+use Rattle.sarif_request.proofs.words.read_words.Goals as goal
+
+pub returns-in-Some : goal.returns-in-Some
+returns-in-Some c =
+    let found = c.in_ok-command.ensures in
+    let request = c.in_ok-request-in-Ok.request in
+    let is = asked found.0 (app_of c.in_ok-command.command) (map string_bytes c.args.words.now) _ request found.2
+    c.in-Ok.ensures.kinds (λ simple. (c.in-Ok.ensures.matches simple).0) c.in_ok-request-in-Ok.ensures in
+    let same = same_names _ request is.1 in
+    clashing found.0 (map string_bytes c.args.words.now) c.usage_of.result found.1
+    (is.0, c.in-Some.clash, ap clash_of (sym same) ∙ sym c.in-Some.ensures) c.usage_of.ensures
+
+pub returns-in_default : goal.returns-in_default
+returns-in_default c =
+    let found = c.in_ok-command.ensures in
+    let request = c.in_ok-request-in-Ok.request in
+    let is = asked found.0 (app_of c.in_ok-command.command) (map string_bytes c.args.words.now) _ request found.2
+    c.in-Ok.ensures.kinds (λ simple. (c.in-Ok.ensures.matches simple).0) c.in_ok-request-in-Ok.ensures in
+    let none : clash_of (names_of request) ≡ None = search rules in
+    (found.0, found.1, is.0, is.1, ap clash_of (sym (same_names _ request is.1)) ∙ none)
+
+pub returns-in-Err : goal.returns-in-Err
+returns-in-Err c =
+    let found = c.in_ok-command.ensures in
+    let words = map string_bytes c.args.words.now in
+    let free : is_simple_and_free (app_of c.in_ok-command.command) ≡ true = ap is_simple_and_free found.2 ∙ program_is_free found.0 in
+    let has : HasKind (fault_of (program found.0) words) c.in-Err.error =
+    subst (λ (a : App). HasKind (fault_of a words) c.in-Err.error) found.2 (c.in-Err.ensures.kinds free) in
+    told found.0 words (kind_of c.in-Err.error) c.fault_of.result found.1 has c.fault_of.ensures

@@ -1,0 +1,15 @@
+-- What there is for a report.
+use Rattle.std.specs.Prelude.{Option, None}
+use Rattle.sarif_report.specs.declared.report.Report.{Report}
+use Rattle.sarif_report.specs.declared.report.Report.TheVariants as report
+use Rattle.sarif_request.specs.declared.reports.Reports.{Reports}
+
+abbrev pub for_report : {T : Type 0} → Reports T → Report → Option T
+for_report reports report.Text = reports.text
+for_report reports report.Github = reports.github
+for_report reports report.Markdown = reports.markdown
+for_report reports report.Gitlab = reports.gitlab
+for_report reports report.Html = reports.html
+
+abbrev pub no_reports : {T : Type 0} → Reports T
+no_reports = record { text = None; github = None; markdown = None; gitlab = None; html = None }

@@ -1,0 +1,4 @@
+pub mod Command
+pub mod ForReport
+pub mod Names
+pub mod Words

@@ -1,0 +1,126 @@
+-- What the words of the command line ask for, and what is answered where they ask for nothing.
+use Rattle.std.specs.Prelude.{◌≡◌, ◌≢◌, ℕ, Bool, false, List, [], Option, Some, None, Result, Ok, Err, unwrap_or, option_and_then, codes, bytes_eq, min, max, ◌<◌, ◌^◌, ◌⊎◌, ⊤}
+use Rattle.std.specs.Borrow.{Bor}
+use Rattle.std.specs.Option.{option_map_or}
+use Rattle.std.specs.Str.Parse.{IsNumeral, digits_value, without_leading_plus}
+use Rattle.clap.specs.Words.{App, IsAmong, Row, Text, all_of, first_of, one_of, fault_of, matches_of}
+use Rattle.clap.specs.declared.error.kind.ErrorKind.{ErrorKind}
+use Rattle.clap.specs.declared.error.kind.ErrorKind.TheVariants as kind
+use Rattle.sarif_records.specs.declared.kinds.Level.{Level}
+use Rattle.sarif_records.specs.Level.{level_named}
+use Rattle.sarif_counts.specs.Policy.{default_policy}
+use Rattle.sarif_request.specs.declared.clash.Clash.{Clash}
+use Rattle.sarif_request.specs.declared.reports.Reports.{Reports}
+use Rattle.sarif_request.specs.declared.words.WordsFault.{WordsFault}
+use Rattle.sarif_request.specs.declared.words.WordsFault.TheVariants.{Usage, Help, OutOfMemory}
+use Rattle.sarif_request.specs.declared.request.Request.{Request}
+use Rattle.sarif_request.specs.Command.{AreLevels, program}
+use Rattle.sarif_request.specs.Names.{Names, clash_of}
+
+-- the program's exit status
+abbrev pub words_status : WordsFault → ℕ
+words_status (Usage text) = 2
+words_status (Help text) = 0
+words_status OutOfMemory = 2
+
+-- a kind of answer that is no mistake: the words ask for the help, or for the version
+abbrev pub IsAsked : ErrorKind → Type 0
+IsAsked k = (k ≡ kind.DisplayHelp) ⊎ (k ≡ kind.DisplayVersion)
+
+-- what an error of the parser is told as
+abbrev pub Tells : ErrorKind → WordsFault → Type 0
+Tells k (Usage text) = (¬ IsAsked k) × (k ≢ kind.OutOfMemory)
+Tells k (Help text) = IsAsked k
+Tells k OutOfMemory = ⊤
+
+-- all values of an argument, in the order of the words
+abbrev pub values_of : Text → List Row → List Text
+values_of name rows = unwrap_or (all_of name rows) []
+
+-- a text of digits that writes a number of 32 bits
+abbrev pub IsWhole : Text → Type 0
+IsWhole text = IsNumeral 10 (without_leading_plus text) × (digits_value 10 (without_leading_plus text) < 2 ^ 32)
+
+-- the number that a text writes, where there is a text and it writes one
+abbrev pub IsRead : Option Text → Option ℕ → Type 0
+IsRead None n = n ≡ None
+IsRead (Some text) None = ¬ IsWhole text
+IsRead (Some text) (Some n) = IsWhole text × (n ≡ digits_value 10 (without_leading_plus text))
+
+-- that number, else the default
+abbrev pub IsReadOr : ℕ → Option Text → ℕ → Type 0
+IsReadOr default text n = (read : Option ℕ) × IsRead text read × (n ≡ unwrap_or read default)
+
+-- a number of workers
+abbrev pub in_range : ℕ → ℕ
+in_range n = max 1 (min n 64)
+
+-- the least level that counts
+abbrev pub fail_on_in : List Row → Level
+fail_on_in rows = unwrap_or (option_and_then level_named (first_of (codes "fail-on") rows)) default_policy.fail_on
+
+-- the names of the reports that are asked for
+abbrev pub reports_in : List Row → Reports Text
+reports_in rows = record {
+  text = first_of (codes "text") rows;
+  github = first_of (codes "github") rows;
+  markdown = first_of (codes "markdown") rows;
+  gitlab = first_of (codes "gitlab") rows;
+  html = first_of (codes "html") rows;
+}
+
+-- a word with no value stands there: its value is the text `true`
+abbrev pub is_set : Text → List Row → Bool
+is_set name rows = option_map_or (λ text. bytes_eq text (codes "true")) (first_of name rows) false
+
+-- what was found under the arguments' names
+pub record AsksFor (rows : List Row) (request : Request) : Type 0 where
+  pub logs : request.logs.items ≡ values_of (codes "log") rows
+  pub baselines : request.baselines.items ≡ values_of (codes "baseline") rows
+  pub suppress : request.suppress ≡ first_of (codes "suppress") rows
+  pub out : request.out ≡ unwrap_or (first_of (codes "out") rows) []
+  pub reports : request.reports ≡ reports_in rows
+  pub root : request.root ≡ unwrap_or (first_of (codes "root") rows) []
+  pub explain : request.explain ≡ is_set (codes "explain") rows
+  pub today : IsRead (one_of (codes "today") rows) request.options.today
+  pub workers : (n : ℕ) × IsReadOr 1 (one_of (codes "workers") rows) n × (request.options.workers ≡ in_range n)
+  pub fail_on : request.options.policy.fail_on ≡ fail_on_in rows
+  pub states : request.options.policy.states ≡ default_policy.states
+  pub max : IsReadOr default_policy.max (one_of (codes "max") rows) request.options.policy.max
+
+-- the names among the words
+abbrev pub names_in : List Row → Names
+names_in rows = record {
+  logs = values_of (codes "log") rows;
+  baselines = values_of (codes "baseline") rows;
+  suppress = first_of (codes "suppress") rows;
+  out = unwrap_or (first_of (codes "out") rows) [];
+  reports = reports_in rows;
+}
+
+-- nothing is wrong with the words by themselves, but with the names among them
+abbrev pub HaveClash : App → List Text → Type 0
+HaveClash app words = (fault_of app words ≡ [])
+    × (clash : Clash) × (clash_of (names_in (matches_of app words)) ≡ Some clash)
+
+-- a fault that says that, for which memory may be wanting
+abbrev pub IsUsageOrWanting : WordsFault → Type 0
+IsUsageOrWanting (Usage text) = ⊤
+IsUsageOrWanting (Help text) = ⊥
+IsUsageOrWanting OutOfMemory = ⊤
+
+-- a fault tells what is wrong with the words, or what they ask for in place of a merge; memory may be wanting for
+-- any text
+abbrev pub IsFaultOf : List Text → WordsFault → Type 0
+IsFaultOf words (Usage text) = (levels : Bor (List (Bor Text))) × AreLevels levels
+    × (((k : ErrorKind) × IsAmong k (fault_of (program levels) words) × (¬ IsAsked k)) ⊎ HaveClash (program levels) words)
+IsFaultOf words (Help text) = (levels : Bor (List (Bor Text))) × AreLevels levels
+    × (k : ErrorKind) × IsAmong k (fault_of (program levels) words) × IsAsked k
+IsFaultOf words OutOfMemory = ⊤
+
+-- a request comes only where nothing is wrong with the words or the names among them, and is what they ask for
+abbrev pub Answers : List Text → Result Request WordsFault → Type 0
+Answers words (Ok request) = (levels : Bor (List (Bor Text))) × AreLevels levels
+    × (fault_of (program levels) words ≡ []) × AsksFor (matches_of (program levels) words) request
+    × (clash_of (names_in (matches_of (program levels) words)) ≡ None)
+Answers words (Err fault) = IsFaultOf words fault

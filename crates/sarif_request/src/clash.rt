@@ -1,0 +1,163 @@
+//! Names among the words that can't stand together.
+ghost use Rattle.std.specs.Prelude.{◌≡◌, Option, map};
+ghost use Rattle.std.specs.List.{list_any};
+ghost use Rattle.sarif_request.specs.Names as said;
+
+use crate::request::Request;
+use sarif_files::STANDARD;
+use sarif_records::Text;
+
+/// Why names can't stand together.
+#[derive(Clone, Copy, Debug, PartialEq, Eq)]
+pub enum Clash {
+    /// An output would take the place of the suppression file.
+    Suppressions,
+    /// Two outputs have one name.
+    Outputs,
+    /// A report would take the place of a log or of a baseline.
+    Inputs,
+    /// Standard input is more than one of the logs.
+    StandardInput,
+}
+
+impl Clash {
+    /// What is said of it.
+    pub fn sentence(self) -> &'static str {
+        match self {
+            Clash::Suppressions => {
+                "an output has the name of the suppression file, which it would replace"
+            }
+            Clash::Outputs => "two outputs have one name; - is standard output, for one of them",
+            Clash::Inputs => {
+                "a report has the name of a log or of a baseline, which it would replace"
+            }
+            Clash::StandardInput => "standard input, -, is more than one of the logs",
+        }
+    }
+}
+
+/// Why the names of this request can't stand together, or `None` where they can. Names are compared byte for byte.
+pub fn clash_of(request: &Request) -> Option<Clash>
+    ensures { result ≡ said.clash_of (said.names_of request.now) }
+{
+    if replaces_suppressions(request) {
+        Some(Clash::Suppressions)
+    } else if share_a_name(request) {
+        Some(Clash::Outputs)
+    } else if replaces_inputs(request) {
+        Some(Clash::Inputs)
+    } else if reads_twice(request) {
+        Some(Clash::StandardInput)
+    } else {
+        None
+    }
+}
+
+/// Whether an output has the name of the suppression file.
+fn replaces_suppressions(request: &Request) -> bool
+    ensures { result ≡ said.replaces_suppressions (said.names_of request.now) }
+{
+    match &request.suppress {
+        Some(name) => {
+            let name = name.as_str();
+            request.out.as_str() == name || is_among(name, &reports_of(request))
+        }
+        None => false,
+    }
+}
+
+/// The names of the reports, where they were asked for, in the order in which they are written.
+fn reports_of(request: &Request) -> [&Option<Text>; 5]
+    ensures { map (λ report. report.now) result ≡ said.in_order request.now.reports }
+{
+    let reports = &request.reports;
+    [
+        &reports.text,
+        &reports.github,
+        &reports.markdown,
+        &reports.gitlab,
+        &reports.html,
+    ]
+}
+
+/// Whether two outputs have one name.
+fn share_a_name(request: &Request) -> bool
+    ensures { result ≡ said.have_one_name (said.outputs_of (said.names_of request.now)) }
+{
+    let reports = reports_of(request);
+    is_among(request.out.as_str(), &reports) || have_one_name(&reports)
+}
+
+/// Whether one of the reports has this name.
+fn is_among(name: &str, reports: &[&Option<Text>]) -> bool
+    ensures { result ≡ list_any (said.is_named name.now) (map (λ report. report.now) reports.now) }
+{
+    for report in reports {
+        if is_named(name, report) {
+            return true;
+        }
+    }
+    false
+}
+
+/// Whether this is the name of a report.
+fn is_named(name: &str, report: &Option<Text>) -> bool
+    ensures { result ≡ said.is_named name.now report.now }
+{
+    match report {
+        Some(other) => other.as_str() == name,
+        None => false,
+    }
+}
+
+/// Whether two of the reports have one name.
+fn have_one_name(reports: &[&Option<Text>]) -> bool
+    ensures { result ≡ said.have_one_name (map (λ report. report.now) reports.now) }
+{
+    for (at, report) in reports.iter().enumerate() {
+        if let Some(name) = report {
+            if is_among(name.as_str(), &reports[at + 1..]) {
+                return true;
+            }
+        }
+    }
+    false
+}
+
+/// Whether a report has the name of a log or of a baseline.
+fn replaces_inputs(request: &Request) -> bool
+    ensures { result ≡ said.replaces_inputs (said.names_of request.now) }
+{
+    let reports = reports_of(request);
+    for report in &reports {
+        if replaces_input(request, report) {
+            return true;
+        }
+    }
+    false
+}
+
+/// Whether this report does.
+fn replaces_input(request: &Request, report: &Option<Text>) -> bool
+    ensures { result ≡ said.replaces_input (said.names_of request.now) report.now }
+{
+    match report {
+        Some(name) => {
+            let is_input = request.logs.contains(name) || request.baselines.contains(name);
+            name.as_str() != STANDARD && is_input
+        }
+        None => false,
+    }
+}
+
+/// Whether standard input is more than one of the logs.
+fn reads_twice(request: &Request) -> bool
+    ensures { result ≡ said.reads_twice (said.names_of request.now) }
+{
+    let times = request
+        .logs
+        .iter()
+        .filter(|log| log.as_str() == STANDARD)
+        .count();
+    1 < times
+}

@@ -1,0 +1,58 @@
+//! What one run of the program is asked to do.
+ghost use Rattle.std.specs.Prelude.{◌≡◌, [], ◌∷◌, IfOk, None, codes, false};
+ghost use Rattle.sarif_counts.specs.Policy.{default_policy};
+
+use crate::reports::Reports;
+use sarif_counts::{Options, Policy};
+use sarif_files::STANDARD;
+use sarif_records::Text;
+use std::alloc::{AllocError, Global};
+use std::hash::RandomState;
+
+/// What one run is asked to do. Sources are named as they were written, in the order of the words.
+#[derive(Debug, Drop)]
+pub struct Request {
+    /// The logs to merge; `-` is standard input.
+    pub logs: Vec<Text>,
+    /// The logs to compare them with.
+    pub baselines: Vec<Text>,
+    /// The suppression file.
+    pub suppress: Option<Text>,
+    /// Where the merged log goes; `-` is standard output.
+    pub out: Text,
+    /// Where the reports go that were asked for; `-` is standard output.
+    pub reports: Reports<Text>,
+    /// What the paths of reports are read without where they begin with it.
+    pub root: Text,
+    /// Whether a fault is explained.
+    pub explain: bool,
+    /// How they are merged.
+    pub options: Options,
+}
+
+impl Request {
+    /// To merge one log from standard input to standard output, with one worker, the default policy and no report.
+    pub fn of_standard_streams(alloc: Global, seed: RandomState) -> Result<Request, AllocError>
+        ensures logs { IfOk result (λ request. request.logs.items ≡ codes "-" ∷ []) }
+        ensures out { IfOk result (λ request. request.out ≡ codes "-") }
+        ensures workers { IfOk result (λ request. request.options.workers ≡ 1) }
+        ensures policy { IfOk result (λ request. request.options.policy ≡ default_policy) }
+        ensures today { IfOk result (λ request. request.options.today ≡ None) }
+    {
+        Ok(Request {
+            logs: vec![in alloc; Text::copy_of(alloc, STANDARD)?]?,
+            baselines: Vec::new(alloc),
+            suppress: None,
+            out: Text::copy_of(alloc, STANDARD)?,
+            reports: Reports::none(),
+            root: Text::copy_of(alloc, "")?,
+            explain: false,
+            options: Options {
+                policy: Policy::default(),
+                today: None,
+                workers: 1,
+                seed,
+            },
+        })
+    }
+}

@@ -1,0 +1,258 @@
+//! Which words ask for what.
+
+use crate::request::Request;
+use crate::tests::seed;
+use crate::words::{WordsFault, read_words};
+use sarif_counts::States;
+use sarif_records::{Level, Text};
+use std::alloc::AllocError;
+use std::test::Fail;
+
+/// Reads words that are parted by one blank.
+fn read(rt: &HostRuntime, line: &str) -> Result<Result<Request, WordsFault>, AllocError> {
+    let mut words = Vec::new(rt.alloc());
+    for word in line.split(' ') {
+        words.push(String::from_str(rt.alloc(), word)?)?;
+    }
+    Ok(read_words(rt.alloc(), seed()?, words.as_slice()))
+}
+
+/// What the words ask for; a refusal fails the test.
+fn accepted(rt: &HostRuntime, line: &str) -> Result<Request, Fail> {
+    let read = read(rt, line)?;
+    Ok(read.map_err(|_| "refused")?)
+}
+
+#[test]
+fn defaults_stand_where_no_word_says_more(rt: HostRuntime) -> Result<(), Fail> {
+    let request = accepted(&rt, "--out o a.sarif")?;
+    assert_eq!(rt; request.logs.len(), 1);
+    assert!(rt; request.logs[0].as_str() == "a.sarif");
+    assert!(rt; request.baselines.is_empty());
+    assert!(rt; request.suppress.is_none());
+    assert!(rt; request.out.as_str() == "o");
+    assert!(rt; request.reports.text.is_none());
+    assert!(rt; request.reports.github.is_none());
+    assert!(rt; request.reports.markdown.is_none());
+    assert!(rt; request.reports.gitlab.is_none());
+    assert!(rt; request.reports.html.is_none());
+    assert!(rt; request.root.as_str() == "");
+    assert!(rt; !request.explain);
+    assert_eq!(rt; request.options.today, None);
+    assert_eq!(rt; request.options.workers, 4);
+    assert_eq!(rt; request.options.policy.fail_on, Level::Error);
+    assert_eq!(rt; request.options.policy.max, 0);
+    let states = States {
+        absent: false,
+        fresh: true,
+        unchanged: false,
+        updated: true,
+    };
+    assert_eq!(rt; request.options.policy.states, states);
+    Ok(())
+}
+
+#[test]
+fn each_word_is_read(rt: HostRuntime) -> Result<(), Fail> {
+    let line = "--baseline b --suppress=s --today 20250131 a --workers 64 --fail-on note \
+        --max 4294967295 --baseline c --out o d";
+    let request = accepted(&rt, line)?;
+    assert_eq!(rt; request.logs.len(), 2);
+    assert!(rt; request.logs[0].as_str() == "a");
+    assert!(rt; request.logs[1].as_str() == "d");
+    assert_eq!(rt; request.baselines.len(), 2);
+    assert!(rt; request.baselines[0].as_str() == "b");
+    assert!(rt; request.baselines[1].as_str() == "c");
+    assert!(rt; request.suppress.is_some_and(|name| name.as_str() == "s"));
+    assert_eq!(rt; request.options.today, Some(20_250_131));
+    assert_eq!(rt; request.options.workers, 64);
+    assert_eq!(rt; request.options.policy.fail_on, Level::Note);
+    assert_eq!(rt; request.options.policy.max, 4_294_967_295);
+    Ok(())
+}
+
+#[test]
+fn each_word_on_reports_is_read(rt: HostRuntime) -> Result<(), Fail> {
+    let line = "a --text t --github=g --markdown m --root file:///builds/app/ --gitlab - --html h \
+        --explain --out o";
+    let request = accepted(&rt, line)?;
+    let reports = &request.reports;
+    assert!(rt; is_named(&reports.text, "t"));
+    assert!(rt; is_named(&reports.github, "g"));
+    assert!(rt; is_named(&reports.markdown, "m"));
+    assert!(rt; is_named(&reports.gitlab, "-"));
+    assert!(rt; is_named(&reports.html, "h"));
+    assert!(rt; request.root.as_str() == "file:///builds/app/");
+    assert!(rt; request.explain);
+    Ok(())
+}
+
+/// Whether there is this name.
+fn is_named(found: &Option<Text>, name: &str) -> bool {
+    match found {
+        Some(found) => found.as_str() == name,
+        None => false,
+    }
+}
+
+#[test]
+fn ends_of_the_ranges_are_taken(rt: HostRuntime) -> Result<(), Fail> {
+    let least = accepted(
+        &rt,
+        "a --out o --today 10000101 --workers 1 --max 0 --fail-on none",
+    )?;
+    assert_eq!(rt; least.options.today, Some(10_000_101));
+    assert_eq!(rt; least.options.workers, 1);
+    assert_eq!(rt; least.options.policy.fail_on, Level::NoLevel);
+    let most = accepted(&rt, "a --out o --today 99991231 --fail-on warning")?;
+    assert_eq!(rt; most.options.today, Some(99_991_231));
+    assert_eq!(rt; most.options.policy.fail_on, Level::Warning);
+    Ok(())
+}
+
+#[test]
+fn wrong_words_are_usage(rt: HostRuntime) -> Result<(), Fail> {
+    for line in [
+        "--out o",
+        "a",
+        "a --out o --workers 0",
+        "a --out o --workers 65",
+        "a --out o --max 4294967296",
+        "a --out o --max -1",
+        "a --out o --fail-on high",
+        "a --out o --today 0",
+        "a --out o --today 10000100",
+        "a --out o --today 99991232",
+        "a --out o --out p",
+        "a --out o --suppress s --suppress s",
+        "a --out o --workers 2 --workers 2",
+        "a --out o --max 1 --max 1",
+        "a --out o --fail-on error --fail-on error",
+        "a --out o --today 20250131 --today 20250131",
+        "a --out o --verbose",
+        "a --out",
+        "a --out o --text t --text u",
+        "a --out o --github g --github h",
+        "a --out o --markdown m --markdown n",
+        "a --out o --gitlab g --gitlab h",
+        "a --out o --html h --html i",
+        "a --out o --root r --root s",
+        "a --out o --explain --explain",
+        "a --out o --explain=true",
+        "a --out o --text",
+    ] {
+        match read(&rt, line)? {
+            Err(fault) => {
+                assert!(rt; matches!(fault, WordsFault::Usage(_)), "{line}");
+                assert_eq!(rt; fault.status(), 2);
+            }
+            Ok(_) => panic!(rt; "{line}"),
+        }
+    }
+    Ok(())
+}
+
+#[test]
+fn names_that_clash_are_usage(rt: HostRuntime) -> Result<(), Fail> {
+    for (line, told) in [
+        ("a --out o --suppress o", "the suppression file"),
+        ("a --out - --suppress -", "the suppression file"),
+        ("a --out o --html s --suppress s", "the suppression file"),
+        ("a --out o --text - --suppress -", "the suppression file"),
+        ("a --out o --text o", "two outputs"),
+        ("a --out o --html o", "two outputs"),
+        ("a --out - --github -", "two outputs"),
+        ("a --out o --text t --github t", "two outputs"),
+        ("a --out o --gitlab p --html p", "two outputs"),
+        ("a --out o --markdown - --html -", "two outputs"),
+        ("a b --out o --text b", "a log or of a baseline"),
+        ("a --out o --baseline b --html b", "a log or of a baseline"),
+        ("- - --out o", "standard input"),
+        ("- a - --out o", "standard input"),
+    ] {
+        match read(&rt, line)? {
+            Err(WordsFault::Usage(text)) => {
+                assert!(rt; text.as_str().starts_with("error: "), "{line}");
+                assert!(rt; text.as_str().contains(told), "{line}");
+                let end = "\n\nFor more information, try '--help'.\n";
+                assert!(rt; text.as_str().ends_with(end), "{line}");
+            }
+            _ => panic!(rt; "{line}"),
+        }
+    }
+    Ok(())
+}
+
+#[test]
+fn names_that_may_stand_together_do(rt: HostRuntime) -> Result<(), Fail> {
+    for line in [
+        // A log, or a baseline, is replaced by the merged log.
+        "a --out a",
+        "a --baseline b --out b",
+        // A log stands twice.
+        "a a --out o",
+        // Standard input, standard output and files of that name.
+        "- --out -",
+        "- --out o --github -",
+        "a --baseline - --out o --text -",
+        "- --suppress - --out o",
+        "a --baseline - --baseline - --out o",
+        // A name is compared byte for byte.
+        "a --out o --text ./o",
+        "a --out o --text O",
+        // The root is no name.
+        "a --out o --text t --root t",
+    ] {
+        match read(&rt, line)? {
+            Ok(_) => {}
+            Err(_) => panic!(rt; "{line}"),
+        }
+    }
+    Ok(())
+}
+
+#[test]
+fn the_version_is_no_mistake(rt: HostRuntime) -> Result<(), Fail> {
+    for line in [
+        "--version",
+        "-V",
+        "a --out o --version",
+        "a --version --out",
+    ] {
+        match read(&rt, line)? {
+            Err(fault) => {
+                assert_eq!(rt; fault.status(), 0, "{line}");
+                assert!(rt; text_of(&fault) == "sarif_gate 1.0.0\n", "{line}");
+            }
+            Ok(_) => panic!(rt; "{line}"),
+        }
+    }
+    Ok(())
+}
+
+#[test]
+fn help_is_no_mistake(rt: HostRuntime) -> Result<(), Fail> {
+    for line in ["--help", "-h", "a --out o --help"] {
+        match read(&rt, line)? {
+            Err(fault) => {
+                assert_eq!(rt; fault.status(), 0, "{line}");
+                assert!(rt; text_of(&fault).contains("--baseline"), "{line}");
+            }
+            Ok(_) => panic!(rt; "{line}"),
+        }
+    }
+    Ok(())
+}
+
+/// The help, or the version.
+fn text_of(fault: &WordsFault) -> &str {
+    match fault {
+        WordsFault::Help(text) => text.as_str(),
+        _ => "",
+    }
+}
+
+#[test]
+fn wanting_memory_has_the_status_of_a_refusal(rt: HostRuntime) {
+    assert_eq!(rt; WordsFault::OutOfMemory.status(), 2);
+}

@@ -1,0 +1,251 @@
+//! Reading the words of the command line.
+ghost use Rattle.std.specs.Prelude.{◌≡◌, ◌↔◌, IfOk, IsTrue, [], map, unwrap_or, string_bytes, option_and_then, codes};
+ghost use Rattle.clap.specs.Words.{kind_of, rows_of, found_of, first_of, one_of};
+ghost use Rattle.sarif_records.specs.Level.{level_named};
+ghost use Rattle.sarif_counts.specs.Policy.{default_policy};
+ghost use Rattle.sarif_request.specs.Words.{words_status, Tells, IsAsked, AsksFor, Answers, IsRead, IsReadOr, IsUsageOrWanting};
+ghost use Rattle.sarif_request.specs.Words.{fail_on_in, is_set, reports_in, values_of};
+
+use crate::clash::{Clash, clash_of};
+use crate::command::{
+    BASELINE, EXPLAIN, FAIL_ON, GITHUB, GITLAB, HTML, LOG, MARKDOWN, MAX, OUT, ROOT, SUPPRESS,
+    TEXT, TODAY, WORKERS, command,
+};
+use crate::reports::Reports;
+use crate::request::Request;
+use clap::ArgMatches;
+use clap::error::ErrorKind;
+use sarif_counts::{Options, Policy};
+use sarif_records::{Level, Text};
+use std::alloc::{AllocError, AllocFailed, Global};
+use std::hash::RandomState;
+
+/// Why the words make no request.
+#[derive(Debug, Drop)]
+pub enum WordsFault {
+    /// The words are wrong: the text says how.
+    Usage(Text),
+    /// The help or the version was asked for: the text is that.
+    Help(Text),
+    /// Memory was wanting.
+    OutOfMemory,
+}
+
+impl WordsFault {
+    /// The program's exit status: 0 where the help or the version was asked for, else 2.
+    pub fn status(&self) -> u8
+        ensures { result ≡ words_status self.now }
+    {
+        match self {
+            WordsFault::Usage(_) => 2,
+            WordsFault::Help(_) => 0,
+            WordsFault::OutOfMemory => 2,
+        }
+    }
+}
+
+impl From<AllocError> for WordsFault {
+    ghost use Rattle.sarif_request.specs.declared.words.WordsFault.TheVariants.{OutOfMemory};
+
+    ghost from_gives = { λ _ fault. fault ≡ OutOfMemory };
+
+    fn from(_error: AllocError) -> WordsFault {
+        WordsFault::OutOfMemory
+    }
+}
+
+/// What the words after the program's name ask for. `Usage` where they are wrong, also where names among them can't
+/// stand together; `Help` where they ask for the help or the version. The tables of the merge hash with `seed`.
+pub fn read_words(alloc: Global, seed: RandomState, words: &[String]) -> Result<Request, WordsFault>
+    ensures { Answers (map string_bytes words.now) result }
+{
+    let command = command(alloc)?;
+    match command.try_get_matches_from(words) {
+        Ok(matches) => {
+            let request = request_of(alloc, seed, &matches)?;
+            if let Some(clash) = clash_of(&request) {
+                return Err(usage_of(alloc, clash));
+            }
+            Ok(request)
+        }
+        Err(error) => Err(fault_of(alloc, &error)),
+    }
+}
+
+/// That names can't stand together, told as the parser tells a mistake.
+fn usage_of(alloc: Global, clash: Clash) -> WordsFault
+    ensures { IsUsageOrWanting result }
+{
+    match told_of(alloc, clash) {
+        Ok(text) => WordsFault::Usage(text),
+        Err(_) => WordsFault::OutOfMemory,
+    }
+}
+
+/// The text of it.
+fn told_of(alloc: Global, clash: Clash) -> Result<Text, AllocError> {
+    let sentence = clash.sentence();
+    let text = format!(in alloc; "error: {sentence}\n\nFor more information, try '--help'.\n")?;
+    Text::from_string(text)
+}
+
+/// What was asked for. The ranges of the numbers were checked with the words.
+#[tactic(auto, using(crate::proofs::Rows::first_in_rows))]
+fn request_of(
+    alloc: Global,
+    seed: RandomState,
+    matches: &ArgMatches<'_>,
+) -> Result<Request, AllocError>
+    ensures { IfOk result (AsksFor (rows_of (found_of matches.now))) }
+{
+    let logs = names_of(alloc, matches, LOG)?;
+    let baselines = names_of(alloc, matches, BASELINE)?;
+    let suppress = name_of(alloc, matches, SUPPRESS)?;
+    let out = text_in(alloc, matches, OUT)?;
+    let reports = reports_of(alloc, matches)?;
+    let root = text_in(alloc, matches, ROOT)?;
+    let options = Options {
+        policy: policy_of(matches),
+        today: number_of(matches, TODAY),
+        workers: number_of(matches, WORKERS).unwrap_or(1).clamp(1, 64),
+        seed,
+    };
+    Ok(Request {
+        logs,
+        baselines,
+        suppress,
+        out,
+        reports,
+        root,
+        explain: is_set(matches, EXPLAIN),
+        options,
+    })
+}
+
+/// All values of an argument.
+#[tactic(auto, using(crate::proofs::Rows::all_in_rows))]
+fn names_of(alloc: Global, matches: &ArgMatches<'_>, id: &str) -> Result<Vec<Text>, AllocError>
+    ensures { IfOk result (λ v. v.items ≡ values_of id.now (rows_of (found_of matches.now))) }
+{
+    match matches.get_strs(id) {
+        Some(found) => copies_of(alloc, found),
+        None => Ok(Vec::new(alloc)),
+    }
+}
+
+fn copies_of(alloc: Global, found: &[&str]) -> Result<Vec<Text>, AllocError>
+    ensures { IfOk result (λ v. v.items ≡ map (λ name. name.now) found.now) }
+{
+    let mut names = Vec::new(alloc);
+    for name in found {
+        names.push(Text::copy_of(alloc, name)?)?;
+    }
+    Ok(names)
+}
+
+/// The value of an argument that has at most one.
+#[tactic(auto, using(crate::proofs::Rows::first_in_rows))]
+fn name_of(alloc: Global, matches: &ArgMatches<'_>, id: &str) -> Result<Option<Text>, AllocError>
+    ensures { IfOk result (λ name. name ≡ first_of id.now (rows_of (found_of matches.now))) }
+{
+    match matches.get_str(id) {
+        Some(name) => {
+            let name = Text::copy_of(alloc, name)?;
+            Ok(Some(name))
+        }
+        None => Ok(None),
+    }
+}
+
+/// That value, and the empty text where there is none.
+#[tactic(auto, using(crate::proofs::Rows::first_in_rows))]
+fn text_in(alloc: Global, matches: &ArgMatches<'_>, id: &str) -> Result<Text, AllocError>
+    ensures { IfOk result
+        (λ text. text ≡ unwrap_or (first_of id.now (rows_of (found_of matches.now))) []) }
+{
+    Text::copy_of(alloc, matches.get_str(id).unwrap_or(""))
+}
+
+/// The names of the reports that are asked for.
+fn reports_of(alloc: Global, matches: &ArgMatches<'_>) -> Result<Reports<Text>, AllocError>
+    ensures { IfOk result (λ reports. reports ≡ reports_in (rows_of (found_of matches.now))) }
+{
+    Ok(Reports {
+        text: name_of(alloc, matches, TEXT)?,
+        github: name_of(alloc, matches, GITHUB)?,
+        markdown: name_of(alloc, matches, MARKDOWN)?,
+        gitlab: name_of(alloc, matches, GITLAB)?,
+        html: name_of(alloc, matches, HTML)?,
+    })
+}
+
+/// Whether a word with no value stands there.
+#[tactic(auto, using(crate::proofs::Rows::first_in_rows))]
+fn is_set(matches: &ArgMatches<'_>, id: &str) -> bool
+    ensures { result ≡ is_set id.now (rows_of (found_of matches.now)) }
+{
+    match matches.get_str(id) {
+        Some(text) => text == "true",
+        None => false,
+    }
+}
+
+/// The number of an argument that has at most one.
+fn number_of(matches: &ArgMatches<'_>, id: &str) -> Option<u32>
+    ensures { IsRead (one_of id.now (rows_of (found_of matches.now))) result }
+{
+    matches.get_one::<u32>(id)
+}
+
+/// When the gate fails.
+fn policy_of(matches: &ArgMatches<'_>) -> Policy
+    ensures fail_on { result.fail_on ≡ fail_on_in (rows_of (found_of matches.now)) }
+    ensures states { result.states ≡ default_policy.states }
+    ensures max { IsReadOr default_policy.max
+        (one_of (codes "max") (rows_of (found_of matches.now))) result.max }
+{
+    let policy = Policy::default();
+    Policy {
+        fail_on: fail_on_of(matches).unwrap_or(policy.fail_on),
+        states: policy.states,
+        max: number_of(matches, MAX).unwrap_or(policy.max),
+    }
+}
+
+/// The least level that counts.
+#[tactic(auto, using(crate::proofs::Rows::first_in_rows))]
+fn fail_on_of(matches: &ArgMatches<'_>) -> Option<Level>
+    ensures { result ≡ option_and_then level_named
+        (first_of (codes "fail-on") (rows_of (found_of matches.now))) }
+{
+    match matches.get_str(FAIL_ON) {
+        Some(name) => Level::from_name(name),
+        None => None,
+    }
+}
+
+/// What the parser of the words answers, as a fault with the parser's text.
+fn fault_of(alloc: Global, error: &clap::Error) -> WordsFault
+    ensures { Tells (kind_of error.now) result }
+{
+    if error.kind() == ErrorKind::OutOfMemory {
+        return WordsFault::OutOfMemory;
+    }
+    match text_of(alloc, error) {
+        Ok(text) if is_asked(error.kind()) => WordsFault::Help(text),
+        Ok(text) => WordsFault::Usage(text),
+        Err(_) => WordsFault::OutOfMemory,
+    }
+}
+
+/// Whether that is no mistake: the words ask for the help or for the version.
+fn is_asked(kind: ErrorKind) -> bool
+    ensures { IsTrue result ↔ IsAsked kind }
+{
+    kind == ErrorKind::DisplayHelp || kind == ErrorKind::DisplayVersion
+}
+
+/// What the parser of the words says of its answer.
+fn text_of(alloc: Global, error: &clap::Error) -> Result<Text, AllocError> {
+    Text::from_string(error.to_string(alloc)?)
+}
