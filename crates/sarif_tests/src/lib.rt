@@ -1,18 +1,14 @@
-//! Tests of the libraries below the merge, through what each of them makes public.
+//! Tests of the libraries that the merge stands on, through what each of them makes public.
 //!
 //! They stand in a crate of their own so that no library is proved a second time for its tests.
 #![tactic(auto)]
 
-#[cfg(test)]
-mod explanations;
 #[cfg(test)]
 mod indexes;
 #[cfg(test)]
 mod matching;
 #[cfg(test)]
 mod records;
-#[cfg(test)]
-mod reports;
 #[cfg(test)]
 mod rules;
 #[cfg(test)]
