@@ -47,18 +47,18 @@ style =
     codes "[data-state=\"new\"] td:nth-child(7){font-weight:600}\n" ++ (
     codes "[data-state=\"unchanged\"] td:nth-child(7){font-style:italic}\n" ++ (
     codes "[data-state=\"absent\"] td:nth-child(7){text-decoration:line-through}\n" ++ (
-    codes "@media (min-width:56rem){\n" ++ (
+    codes "@media (min-width:64rem){\n" ++ (
     codes ".results thead th{position:sticky;top:0}\n" ++ (
     codes ".results td{border-top:1px solid var(--line)}\n" ++ (
     codes ".results tr.again td{border-top-style:dotted}\n" ++ (
     codes ".results tr.again td:nth-child(-n+3){border-top-color:transparent}\n" ++ (
-    codes ".results td:nth-child(3){width:22%;min-width:14rem}\n" ++ (
-    codes ".results td:nth-child(4){width:16%;min-width:7rem}\n" ++ (
+    codes ".results td:nth-child(3){width:26%;min-width:17rem}\n" ++ (
+    codes ".results td:nth-child(4){width:12%;min-width:7rem}\n" ++ (
     codes ".results td:nth-child(5){min-width:18rem}\n" ++ (
     codes ".results td:nth-child(6){min-width:5rem}\n" ++ (
     codes "[data-hit=\"yes\"] td:first-child{box-shadow:inset .375rem 0 var(--error)}\n" ++ (
     codes "}\n" ++ (
-    codes "@media (max-width:56rem){\n" ++ (
+    codes "@media (max-width:64rem){\n" ++ (
     codes "main{padding:1rem;overflow-x:auto}\n" ++ (
     codes ".counts{width:100%;font-size:.75rem}\n" ++ (
     codes ".counts th,.counts td{padding-inline:.25rem}\n" ++ (

@@ -76,18 +76,18 @@ label{display:inline-block;margin-right:.75rem;padding:.125rem 0;white-space:now
 [data-state=\"new\"] td:nth-child(7){font-weight:600}
 [data-state=\"unchanged\"] td:nth-child(7){font-style:italic}
 [data-state=\"absent\"] td:nth-child(7){text-decoration:line-through}
-@media (min-width:56rem){
+@media (min-width:64rem){
 .results thead th{position:sticky;top:0}
 .results td{border-top:1px solid var(--line)}
 .results tr.again td{border-top-style:dotted}
 .results tr.again td:nth-child(-n+3){border-top-color:transparent}
-.results td:nth-child(3){width:22%;min-width:14rem}
-.results td:nth-child(4){width:16%;min-width:7rem}
+.results td:nth-child(3){width:26%;min-width:17rem}
+.results td:nth-child(4){width:12%;min-width:7rem}
 .results td:nth-child(5){min-width:18rem}
 .results td:nth-child(6){min-width:5rem}
 [data-hit=\"yes\"] td:first-child{box-shadow:inset .375rem 0 var(--error)}
 }
-@media (max-width:56rem){
+@media (max-width:64rem){
 main{padding:1rem;overflow-x:auto}
 .counts{width:100%;font-size:.75rem}
 .counts th,.counts td{padding-inline:.25rem}
