@@ -3,7 +3,6 @@ mod applying;
 mod conditions;
 mod entries;
 mod files;
-mod prefixes;
 
 use sarif_records::{Kind, Level, Message, Place, Record, Sequence, Status, Text};
 use sarif_suppress::{SuppressFault, Suppressions, read_rules};
