@@ -7,6 +7,4 @@ pub mod ObjectTest
 pub mod ReadBack
 pub mod Among
 pub mod Rising
-pub mod Beginnings
-pub mod Begun
 pub mod Candidates

@@ -3,7 +3,6 @@ pub mod Entries
 pub mod File
 pub mod Numbers
 pub mod Filing
-pub mod Prefixes
 pub mod Table
 pub mod Suppressing
 pub mod Written
