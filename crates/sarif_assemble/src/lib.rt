@@ -8,6 +8,8 @@ mod halves;
 mod judged;
 mod matched;
 mod merged;
+#[cfg(test)]
+mod tests;
 mod written;
 
 pub use assembling::assemble;

@@ -14,6 +14,8 @@ mod place;
 mod pointer;
 mod run;
 mod single;
+#[cfg(test)]
+mod tests;
 mod wanted;
 mod whole;
 

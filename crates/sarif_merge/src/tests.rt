@@ -2,7 +2,6 @@
 //! writers of other kinds are used, and what no clause can say: that workers overlap, and the bound
 //! on what waits.
 
-mod assembling;
 mod baselines;
 mod counting;
 mod faults;

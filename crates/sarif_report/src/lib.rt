@@ -19,6 +19,8 @@ mod report;
 mod reported_results;
 mod reporting;
 mod shown_text;
+#[cfg(test)]
+mod tests;
 mod text_lines;
 
 pub use finding::Finding;

@@ -14,6 +14,8 @@ mod read_file;
 mod select;
 mod suppressions;
 mod table;
+#[cfg(test)]
+mod tests;
 mod version;
 
 pub use conditions::Conditions;

@@ -12,8 +12,6 @@ mod records;
 #[cfg(test)]
 mod rules;
 #[cfg(test)]
-mod suppressions;
-#[cfg(test)]
 mod texts;
 #[cfg(test)]
 mod work;

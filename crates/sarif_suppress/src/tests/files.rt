@@ -1,5 +1,5 @@
 use super::{all_entries_have, all_files_have};
-use sarif_suppress::{SuppressFault, read_rules};
+use crate::{SuppressFault, read_rules};
 use std::alloc::{AllocError, Global};
 use std::test::Fail;
 

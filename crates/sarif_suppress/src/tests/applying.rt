@@ -1,6 +1,6 @@
 use super::{Plain, expect_written, result_at, rules_of, with_own};
+use crate::Marks;
 use sarif_records::{Record, Status, Text};
-use sarif_suppress::Marks;
 use std::alloc::{AllocError, Global};
 use std::process::Abort;
 use std::test::Fail;

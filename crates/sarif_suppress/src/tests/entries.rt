@@ -1,5 +1,5 @@
 use super::{all_entries_have, rules_of};
-use sarif_suppress::SuppressFault;
+use crate::SuppressFault;
 use std::alloc::{AllocError, Global};
 use std::test::Fail;
 

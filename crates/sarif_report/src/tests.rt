@@ -1,10 +1,10 @@
 //! The worked examples of the reports.
-use sarif_counts::{Counts, Policy};
-use sarif_records::{Level, State, Text};
-use sarif_report::{
+use crate::{
     Finding, Report, Reporting, github_report, gitlab_report, html_report, markdown_report,
     report_text, reported, shown, text_report,
 };
+use sarif_counts::{Counts, Policy};
+use sarif_records::{Level, State, Text};
 use std::alloc::{AllocError, Global};
 use std::test::Fail;
 

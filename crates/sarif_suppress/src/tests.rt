@@ -4,8 +4,8 @@ mod conditions;
 mod entries;
 mod files;
 
+use crate::{SuppressFault, Suppressions, read_rules};
 use sarif_records::{Kind, Level, Message, Place, Record, Sequence, Status, Text};
-use sarif_suppress::{SuppressFault, Suppressions, read_rules};
 use serde_json::Value;
 use std::alloc::{AllocError, Global};
 use std::hash::{BuildHasherDefault, FoldHasher};

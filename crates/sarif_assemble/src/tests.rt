@@ -1,5 +1,5 @@
 //! The log of nothing, worked by hand.
-use sarif_assemble::{Judged, assemble};
+use crate::{Judged, assemble};
 use sarif_counts::{Policy, Verdict};
 use sarif_records::{Level, State};
 use sarif_suppress::Suppressions;
