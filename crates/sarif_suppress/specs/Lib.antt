@@ -7,4 +7,5 @@ pub mod Prefixes
 pub mod Table
 pub mod Suppressing
 pub mod Written
+pub mod Keys
 pub mod Marks

@@ -6,6 +6,7 @@ mod conditions;
 mod entry;
 mod fault;
 mod filing;
+mod key;
 mod laws;
 mod marks;
 mod numbers;
@@ -16,6 +17,7 @@ mod read_file;
 mod select;
 mod suppressions;
 mod table;
+mod unseen;
 mod version;
 
 pub use conditions::Conditions;

@@ -22,6 +22,8 @@ use std::marker::Model;
 /// entries in order, and the day, whatever the hasher of its tables.
 #[derive(Drop)]
 pub struct Suppressions<S: BuildHasher + Copy = RandomState> {
+    /// By which the keys of a result's suppressions are hashed.
+    hasher: S,
     entries: Vec<Entry>,
     today: Option<u32>,
     table: Table<S>,
@@ -72,6 +74,7 @@ impl<S: BuildHasher + Copy> Suppressions<S> {
         let table = Table::new(alloc, hasher, &entries)?;
         let prefixes = PrefixTable::new(alloc, hasher, &entries)?;
         Ok(Suppressions {
+            hasher,
             entries,
             today,
             table,
@@ -142,8 +145,8 @@ impl<S: BuildHasher + Copy> Suppressions<S> {
             → IfOk result (λ list. map view list.items
             ≡ said.suppressions_of (map view own.items) self.now r) }
     {
-        let list = with_objects(alloc, own, &self.entries, applied.entries.as_slice())?;
-        Ok(list)
+        let numbers = applied.entries.as_slice();
+        with_objects(alloc, self.hasher, own, &self.entries, numbers)
     }
 
     /// A mark for each entry, none of them set.
