@@ -15,7 +15,7 @@ use Rattle.sarif_suppress.specs.declared.entry.Entry.{Entry}
 use Rattle.sarif_suppress.specs.declared.key.Key.{Key}
 use Rattle.sarif_suppress.specs.Keys.{texts_with, is_object_with, justification_of, has_key, same_key, text_in, status_in, HasKeysOf}
 use Rattle.sarif_suppress.specs.Written.{text_members, object_of, is_object_of, with_object}
-use Rattle.sarif_suppress.proofs.ObjectTest.{texts_mean}
+use Rattle.sarif_suppress.proofs.ObjectTest.{texts_mean, object_means}
 
 -- ---- what equality of keys means
 
@@ -105,3 +105,52 @@ no_other k q d status text unlike = never _ (λ t.
     let other : justification_of k ≡ justification_of q = sym text ∙ there.1 in
     let has : has_key k d ≡ true = rw (one, other) t in
     cc)
+
+-- ---- a set of keys, and a list whose objects have them
+
+or_false : (b : Bool) → (b || false) ≡ b
+or_false true = refl
+or_false false = refl
+
+cond_is_or : (a b : Bool) → cond a true b ≡ (b || a)
+cond_is_or true true = refl
+cond_is_or true false = refl
+cond_is_or false true = refl
+cond_is_or false false = refl
+
+has_one_more : (q : Key) (values : List Data) (d : Data) → list_any (has_key q) (values ++ d ∷ []) ≡ (list_any (has_key q) values || has_key q d)
+has_one_more q values d = list_any-append (has_key q) values (d ∷ []) ∙ ap (λ b. list_any (has_key q) values || b) (or_false (has_key q d))
+
+-- a value with a key, which is added
+pub with_key : {S : Type 0} (old new : IndexSet Key S) (k : Key) (values : List Data) (d : Data) → ((q : Key) → has_key q d ≡ same_key k q) → Updates same_key old new k true → HasKeysOf old values → HasKeysOf new (values ++ d ∷ [])
+with_key old new k values d told updates has = λ q.
+    updates.0 q ∙ cond_is_or (same_key k q) (contains same_key old q) ∙ ap (λ b. b || same_key k q) (has q) ∙ ap (λ b. list_any (has_key q) values || b) (sym (told q)) ∙ sym (has_one_more q values d)
+
+-- a value without one
+pub without_key : {S : Type 0} (keys : IndexSet Key S) (values : List Data) (d : Data) → ((q : Key) → has_key q d ≡ false) → HasKeysOf keys values → HasKeysOf keys (values ++ d ∷ [])
+without_key keys values d none has = λ q.
+    has q ∙ sym (has_one_more q values d ∙ rw (none q) (or_false (list_any (has_key q) values)))
+
+-- the key of an entry tells its object
+pub entry_key : (k : Key) (e : Entry) → k.status ≡ e.status → justification_of k ≡ e.justification → (d : Data) → has_key k d ≡ is_object_of e d
+entry_key k e status text d = rw (status, text) refl
+
+has_own : (k : Key) (e : Entry) → k.status ≡ e.status → justification_of k ≡ e.justification → has_key k (object_of e) ≡ true
+has_own k e status text = entry_key k e status text (object_of e) ∙ (object_means e (object_of e)).1 refl
+
+any_alike : (k : Key) (e : Entry) → k.status ≡ e.status → justification_of k ≡ e.justification → (values : List Data) → list_any (has_key k) values ≡ list_any (is_object_of e) values
+any_alike k e status text [] = refl
+any_alike k e status text (d ∷ ds) = rw (entry_key k e status text d, any_alike k e status text ds) refl
+
+-- an entry's object is added, with its key
+pub entry_added : {S : Type 0} (old new : IndexSet Key S) (k : Key) (e : Entry) (values : List Data) → k.status ≡ e.status → justification_of k ≡ e.justification → contains same_key old k ≡ false → Updates same_key old new k true → HasKeysOf old values → (values ++ object_of e ∷ [] ≡ with_object values e) × HasKeysOf new (values ++ object_of e ∷ [])
+entry_added old new k e values status text apart updates has =
+    let none : list_any (is_object_of e) values ≡ false = sym (any_alike k e status text values) ∙ sym (has k) ∙ apart in
+    (rw none refl, with_key old new k values (object_of e) (λ q. told_by k q (object_of e) (has_own k e status text)) updates has)
+
+-- an entry's object that is there stays alone, and so does its key
+pub entry_kept : {S : Type 0} (old new : IndexSet Key S) (k : Key) (e : Entry) (values : List Data) → k.status ≡ e.status → justification_of k ≡ e.justification → contains same_key old k ≡ true → new.keys ≡ insert_key same_key old.keys k → HasKeysOf old values → (values ≡ with_object values e) × HasKeysOf new values
+entry_kept old new k e values status text there keys has =
+    let one : list_any (is_object_of e) values ≡ true = sym (any_alike k e status text values) ∙ sym (has k) ∙ there in
+    let same : new.keys ≡ old.keys = keys ∙ rw there refl in
+    (rw one refl, λ q. rw same (has q))
