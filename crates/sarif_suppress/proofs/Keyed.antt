@@ -1,8 +1,8 @@
 -- What the keys of a set tell of the objects of entries in a list.
-use Rattle.std.proofs.Common.{◌≡◌, ℕ, Bool, true, false, not, ◌&&◌, ◌||◌, List, [], ◌∷◌, ◌++◌, Option, Some, None, Bor, option_map, codes, cond, bytes_eq, refl, sym, ap, ◌∙◌, if◌then◌else◌}
+use Rattle.std.proofs.Common.{◌≡◌, ℕ, zero, suc, ◌+◌, ◌<◌, length, drop, get_or, slice_get, arith, Bool, true, false, ◌&&◌, ◌||◌, List, [], ◌∷◌, ◌++◌, Option, Some, None, Bor, option_map, codes, cond, bytes_eq, refl, sym, ap, ◌∙◌, if◌then◌else◌}
 use Rattle.std.specs.Bool.{Decides}
 use Rattle.std.specs.List.{list_any}
-use Rattle.std.specs.Option.{option_map_or, option_eq}
+use Rattle.std.specs.Option.{option_eq}
 use Rattle.std.proofs.lemmas.Bool.{false≢true}
 use Rattle.std.proofs.lemmas.List.Folds.{list_any-append}
 use Rattle.std.proofs.lemmas.Slice.Eq.{bytes_eq-Decides}
@@ -13,8 +13,8 @@ use Rattle.sarif_records.specs.declared.kinds.Status.TheVariants.{Accepted, Unde
 use Rattle.sarif_records.specs.contracts.kinds.StatusPartialEq.TheImpl as status
 use Rattle.sarif_suppress.specs.declared.entry.Entry.{Entry}
 use Rattle.sarif_suppress.specs.declared.key.Key.{Key}
-use Rattle.sarif_suppress.specs.Keys.{texts_with, is_object_with, justification_of, has_key, same_key, text_in, status_in, HasKeysOf}
-use Rattle.sarif_suppress.specs.Written.{text_members, object_of, is_object_of, with_object}
+use Rattle.sarif_suppress.specs.Keys.{texts_with, justification_of, has_key, same_key, text_in, status_in, HasKeysOf}
+use Rattle.sarif_suppress.specs.Written.{text_members, object_of, is_object_of, with_object, with_object_if, with_objects_at}
 use Rattle.sarif_suppress.proofs.ObjectTest.{texts_mean, object_means}
 
 -- ---- what equality of keys means
@@ -86,12 +86,12 @@ pub told_by : (k q : Key) (d : Data) → has_key k d ≡ true → has_key q d �
 told_by k q d mine =
     let here : (status_in d ≡ Some k.status) × (text_in (codes "justification") d ≡ justification_of k) = reads k d mine in
     from_both _ _
-      (λ t.
-        let there : (status_in d ≡ Some q.status) × (text_in (codes "justification") d ≡ justification_of q) = reads q d t in
-        (key_means k q).1 (cc, sym here.1 ∙ there.1))
-      (λ t.
-        let same : (k.status ≡ q.status) × (justification_of k ≡ justification_of q) = (key_means k q).0 t in
-        sym (rw (same.0, same.1) refl) ∙ mine)
+    (λ t.
+    let there : (status_in d ≡ Some q.status) × (text_in (codes "justification") d ≡ justification_of q) = reads q d t in
+    (key_means k q).1 (cc, sym here.1 ∙ there.1))
+    (λ t.
+    let same : (k.status ≡ q.status) × (justification_of k ≡ justification_of q) = (key_means k q).0 t in
+    sym (rw (same.0, same.1) refl) ∙ mine)
 
 -- where no status is read, the value has no key
 pub no_status : (q : Key) (d : Data) → status_in d ≡ None → has_key q d ≡ false
@@ -154,3 +154,13 @@ entry_kept old new k e values status text there keys has =
     let one : list_any (is_object_of e) values ≡ true = sym (any_alike k e status text values) ∙ sym (has k) ∙ there in
     let same : new.keys ≡ old.keys = keys ∙ rw there refl in
     (rw one refl, λ q. rw same (has q))
+
+-- ---- one number after the other
+
+-- the objects of the numbers that are left, behind those of the next one
+pub next_object : (list new : List Data) (entries : List Entry) (numbers : List ℕ) (i : ℕ) → i < length numbers → new ≡ with_object_if list (slice_get entries (get_or numbers i 0)) → with_objects_at new entries (drop (i + 1) numbers) ≡ with_objects_at list entries (drop i numbers)
+next_object list new entries [] i within added = absurd (omega (arith, within))
+next_object list new entries (n ∷ ns) zero within added = rw added refl
+next_object list new entries (n ∷ ns) (suc i) within added =
+    let more : suc i + 1 ≡ suc (i + 1) = omega arith in
+    rw more (next_object list new entries ns i (omega (arith, within)) added)
