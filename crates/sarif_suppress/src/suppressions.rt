@@ -146,7 +146,8 @@ impl<S: BuildHasher + Copy> Suppressions<S> {
             ≡ said.suppressions_of (map view own.items) self.now r) }
     {
         let numbers = applied.entries.as_slice();
-        with_objects(alloc, self.hasher, own, &self.entries, numbers)
+        let list = with_objects(alloc, self.hasher, own, &self.entries, numbers)?;
+        Ok(list)
     }
 
     /// A mark for each entry, none of them set.

@@ -101,6 +101,43 @@ fn own_suppressions_stay_as_they_stand(rt: HostRuntime) -> Result<(), Fail> {
     Ok(())
 }
 
+/// Seven entries, all of which match a result of the rule `R1`; two pairs have equal objects.
+const SEVEN: &str = "{\"ruleId\":\"R1\",\"justification\":\"a\"},{\"ruleId\":\"R1\"},\
+     {\"ruleId\":\"R1\",\"justification\":\"b\"},{\"tool\":\"lint\",\"justification\":\"a\"},\
+     {\"tool\":\"lint\",\"status\":\"underReview\",\"justification\":\"a\"},{\"tool\":\"lint\"},\
+     {\"tool\":\"lint\",\"justification\":\"\"}";
+
+/// Asserts that of these seven just those objects are written behind these own suppressions.
+fn expect_seven(
+    rt: &(impl Abort + AllocGlobal),
+    own: &str,
+    between: &str,
+    objects: &str,
+) -> Result<(), Fail> {
+    let rules = rules_of(rt.alloc(), 1, SEVEN, None)?;
+    let finding = with_own(result_at(rt.alloc(), "R1", None)?, Status::Accepted)?;
+    let before = format!(in rt.alloc(); "[{own}]")?;
+    let after = format!(in rt.alloc(); "[{own}{between}{objects}]")?;
+    expect_written(rt, &rules, &finding, before.as_str(), (after.as_str(), false))
+}
+
+#[test]
+fn of_many_entries_each_object_is_written_once(rt: HostRuntime) -> Result<(), Fail> {
+    let a = "{\"justification\":\"a\",\"kind\":\"external\",\"status\":\"accepted\"}";
+    let plain = "{\"kind\":\"external\",\"status\":\"accepted\"}";
+    let b = "{\"justification\":\"b\",\"kind\":\"external\",\"status\":\"accepted\"}";
+    let last = "{\"justification\":\"a\",\"kind\":\"external\",\"status\":\"underReview\"},\
+         {\"justification\":\"\",\"kind\":\"external\",\"status\":\"accepted\"}";
+    let all = format!(in rt.alloc(); "{a},{plain},{b},{last}")?;
+    expect_seven(&rt, "", "", all.as_str())?;
+    for own in OTHERS.iter().skip(5) {
+        expect_seven(&rt, own, ",", all.as_str())?;
+    }
+    let own = format!(in rt.alloc(); "{a},{{\"kind\":\"inSource\"}},{a},{plain},{plain}")?;
+    let rest = format!(in rt.alloc(); "{b},{last}")?;
+    expect_seven(&rt, own.as_str(), ",", rest.as_str())
+}
+
 #[test]
 fn entries_are_applied_in_file_order(rt: HostRuntime) -> Result<(), Fail> {
     let entries = "{\"tool\":\"lint\",\"justification\":\"c\"},{\"ruleId\":\"R2\"},\
