@@ -131,30 +131,6 @@ pub without_key : {S : Type 0} (keys : IndexSet Key S) (values : List Data) (d :
 without_key keys values d none has = λ q.
     has q ∙ sym (has_one_more q values d ∙ rw (none q) (or_false (list_any (has_key q) values)))
 
--- the key of an entry tells its object
-pub entry_key : (k : Key) (e : Entry) → k.status ≡ e.status → justification_of k ≡ e.justification → (d : Data) → has_key k d ≡ is_object_of e d
-entry_key k e status text d = rw (status, text) refl
-
-has_own : (k : Key) (e : Entry) → k.status ≡ e.status → justification_of k ≡ e.justification → has_key k (object_of e) ≡ true
-has_own k e status text = entry_key k e status text (object_of e) ∙ (object_means e (object_of e)).1 refl
-
-any_alike : (k : Key) (e : Entry) → k.status ≡ e.status → justification_of k ≡ e.justification → (values : List Data) → list_any (has_key k) values ≡ list_any (is_object_of e) values
-any_alike k e status text [] = refl
-any_alike k e status text (d ∷ ds) = rw (entry_key k e status text d, any_alike k e status text ds) refl
-
--- an entry's object is added, with its key
-pub entry_added : {S : Type 0} (old new : IndexSet Key S) (k : Key) (e : Entry) (values : List Data) → k.status ≡ e.status → justification_of k ≡ e.justification → contains same_key old k ≡ false → Updates same_key old new k true → HasKeysOf old values → (values ++ object_of e ∷ [] ≡ with_object values e) × HasKeysOf new (values ++ object_of e ∷ [])
-entry_added old new k e values status text apart updates has =
-    let none : list_any (is_object_of e) values ≡ false = sym (any_alike k e status text values) ∙ sym (has k) ∙ apart in
-    (rw none refl, with_key old new k values (object_of e) (λ q. told_by k q (object_of e) (has_own k e status text)) updates has)
-
--- an entry's object that is there stays alone, and so does its key
-pub entry_kept : {S : Type 0} (old new : IndexSet Key S) (k : Key) (e : Entry) (values : List Data) → k.status ≡ e.status → justification_of k ≡ e.justification → contains same_key old k ≡ true → new.keys ≡ insert_key same_key old.keys k → HasKeysOf old values → (values ≡ with_object values e) × HasKeysOf new values
-entry_kept old new k e values status text there keys has =
-    let one : list_any (is_object_of e) values ≡ true = sym (any_alike k e status text values) ∙ sym (has k) ∙ there in
-    let same : new.keys ≡ old.keys = keys ∙ rw there refl in
-    (rw one refl, λ q. rw same (has q))
-
 -- ---- one number after the other
 
 -- the objects of the numbers that are left, behind those of the next one
