@@ -1,0 +1,69 @@
+//! The whole: a worker, the mailbox, the deal and the collector.
+use sarif_gather::{NoGate, Work, gather};
+use std::alloc::{AllocError, Global};
+use std::sync::Wait;
+use std::thread::Threads;
+
+const ITEMS: u32 = 1000;
+
+/// One run, whose items are their numbers. No item wants memory.
+#[derive(Clone, Copy)]
+struct Numbers;
+
+impl Work for Numbers {
+    type Head = u32;
+
+    type Item = u32;
+
+    type Tail = ();
+
+    ghost run_count = { λ w. 1 };
+
+    ghost count = { λ w run. 1000 };
+
+    ghost item = { λ w run seq. seq };
+
+    ghost end = { λ w run. tt };
+
+    ghost IsHeadOf = { λ w run head. head ≡ run };
+
+    ghost use Rattle.std.specs.Prelude.{◌≡◌};
+    ghost use Rattle.std.proofs.Common.{arith};
+
+    ghost few = { λ w. Prim.omega arith };
+
+    fn runs(&self) -> u32 {
+        1
+    }
+
+    fn start(&self, _alloc: Global, run: u32) -> Result<u32, AllocError> {
+        Ok(run)
+    }
+
+    fn len(&self, _head: &u32) -> u32 {
+        ITEMS
+    }
+
+    fn make(&self, _alloc: Global, _head: &u32, seq: u32) -> Result<u32, AllocError> {
+        Ok(seq)
+    }
+
+    fn tail(&self, _head: u32) {}
+}
+
+/// How many items were gathered, and the last, or why none was.
+pub fn gather_numbers<R: Threads + Wait + Sync>(
+    rt: &R,
+    alloc: Global,
+) -> Result<String, AllocError> {
+    match gather(rt, alloc, &Numbers, 1, 1, &NoGate) {
+        Ok(mut lists) => match lists.pop() {
+            Some((items, ())) => {
+                let (count, last) = (items.len(), items.last());
+                format!(in alloc; "{count} items, the last {last:?}")
+            }
+            None => String::from_str(alloc, "no run"),
+        },
+        Err(fault) => format!(in alloc; "{fault:?}"),
+    }
+}
