@@ -1,0 +1,53 @@
+//! Suppression files, read for the last day of January 2025.
+use crate::reading::first_record;
+use sarif_records::Record;
+use sarif_suppress::{Suppressions, read_rules};
+use std::alloc::{AllocError, Global};
+use std::hash::{BuildHasherDefault, FoldHasher, RandomState};
+
+type Rules = Suppressions<BuildHasherDefault<FoldHasher>>;
+
+/// What is asked of a file: how many entries it has, what it makes of a result, or the object that
+/// is written for its first entry.
+#[derive(Clone, Copy)]
+pub enum Asked<'a> {
+    Count,
+    Applied(&'a Record),
+    Object,
+}
+
+/// The answer of a file, or its fault.
+pub fn answer_of(alloc: Global, file: &str, asked: Asked) -> Result<String, AllocError> {
+    match read_rules(alloc, file.as_bytes(), Some(20250131)) {
+        Ok(rules) => in_words(alloc, &rules, asked),
+        Err(fault) => format!(in alloc; "{fault}"),
+    }
+}
+
+fn in_words(alloc: Global, rules: &Rules, asked: Asked) -> Result<String, AllocError> {
+    match asked {
+        Asked::Count => {
+            let count = rules.len();
+            format!(in alloc; "{count} entries")
+        }
+        Asked::Applied(record) => {
+            let applied = rules.apply(alloc, record)?;
+            format!(in alloc; "{applied:?}")
+        }
+        Asked::Object if rules.is_empty() => String::from_str(alloc, "no entry"),
+        Asked::Object => rules.object(alloc, 0)?.to_string(alloc),
+    }
+}
+
+/// What a file makes of a log's first result. The file stands before the log, with a bar between.
+pub fn applied_in_words(
+    alloc: Global,
+    seed: RandomState,
+    both: &str,
+) -> Result<String, AllocError> {
+    let (file, log) = both.split_once(" | ").unwrap_or((both, ""));
+    match first_record(alloc, seed, log) {
+        Ok(record) => answer_of(alloc, file, Asked::Applied(&record)),
+        Err(fault) => format!(in alloc; "{fault}"),
+    }
+}
