@@ -1,7 +1,7 @@
 use Rattle.std.proofs.Common.{◌≡◌, ◌≤◌, map, drop, length}
 use Rattle.serde_json.specs.View.{members_view}
 use Rattle.sarif_suppress.specs.Written.{are_just}
-use Rattle.sarif_suppress.proofs.object.are_just.Given as goal
+use Rattle.sarif_suppress.proofs.key.are_just.Given as goal
 
 -- the members gone through are the texts before those that are left
 abbrev pub invariant-loop-name : goal.invariant-loop-name

@@ -1,6 +1,6 @@
 use Rattle.std.proofs.Common.{◌≡◌, [], sym, ◌∙◌, rules}
 use Rattle.sarif_suppress.proofs.JustTexts.{at_end}
-use Rattle.sarif_suppress.proofs.object.are_just.Goals as goal
+use Rattle.sarif_suppress.proofs.key.are_just.Goals as goal
 
 pub returns : goal.returns
 returns c =

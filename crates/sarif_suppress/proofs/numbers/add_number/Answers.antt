@@ -5,7 +5,7 @@ use Rattle.std.specs.HashMap.{get}
 use Rattle.std.specs.HashMap.Eq.{lookup_congr}
 use Rattle.std.specs.declared.alloc.Global.{Global}
 use Rattle.std.specs.declared.vec.Vec.{Vec}
-use Rattle.sarif_suppress.proofs.table.add_number.Goals as goal
+use Rattle.sarif_suppress.proofs.numbers.add_number.Goals as goal
 
 -- a list of one number at a key that had none
 one_added : (is : Bool) (old now : Option (Vec ℕ Global)) (numbers : Vec ℕ Global) (n : ℕ) → now ≡ cond is (Some numbers) old → numbers.items ≡ n ∷ [] → (is ≡ true → old ≡ None) → option_map_or (λ v. v.items) now [] ≡ option_map_or (λ v. v.items) old [] ++ (if is then n ∷ [] else [])
