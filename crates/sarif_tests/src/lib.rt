@@ -12,6 +12,8 @@ mod records;
 #[cfg(test)]
 mod rules;
 #[cfg(test)]
+mod suppressions;
+#[cfg(test)]
 mod texts;
 #[cfg(test)]
 mod work;

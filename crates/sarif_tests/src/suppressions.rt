@@ -1,0 +1,217 @@
+//! Examples of the suppression file worked by hand, and that each call succeeds with ample memory.
+//! What a file makes of a result is asked in few functions, each of which lets the file go once.
+mod applying;
+mod conditions;
+mod entries;
+mod files;
+mod objects;
+mod prefixes;
+
+use sarif_records::{Kind, Level, Message, Place, Record, Sequence, Status, Text};
+use sarif_suppress::{SuppressFault, Suppressions, read_rules};
+use serde_json::Value;
+use std::alloc::{AllocError, Global};
+use std::hash::{BuildHasherDefault, FoldHasher};
+use std::process::Abort;
+use std::test::Fail;
+
+/// A suppression file by the standard hasher.
+type Plain = Suppressions<BuildHasherDefault<FoldHasher>>;
+
+/// A suppression file as it is written, and the day for which it is read.
+#[derive(Clone, Copy)]
+struct FileText<'a> {
+    version: u32,
+    /// The entries, with commas between them.
+    entries: &'a str,
+    today: Option<u32>,
+}
+
+/// What a file makes of a result.
+#[derive(Drop)]
+struct Outcome {
+    /// The numbers of the entries that match.
+    entries: Sequence<u32>,
+    suppressed: bool,
+    /// The list of suppressions that is written.
+    list: String,
+}
+
+/// A file of version 1 with these entries, for no day.
+fn first_version(entries: &str) -> FileText<'_> {
+    FileText {
+        version: 1,
+        entries,
+        today: None,
+    }
+}
+
+/// The same of version 2.
+fn second_version(entries: &str) -> FileText<'_> {
+    FileText {
+        version: 2,
+        entries,
+        today: None,
+    }
+}
+
+/// The text of the file.
+fn text_of(alloc: Global, file: FileText) -> Result<String, AllocError> {
+    let version = file.version;
+    let entries = file.entries;
+    format!(in alloc; "{{\"version\":{version},\"suppressions\":[{entries}]}}")
+}
+
+/// The file, read.
+fn rules_of(alloc: Global, file: FileText) -> Result<Plain, SuppressFault> {
+    let text = text_of(alloc, file)?;
+    read_rules(alloc, text.as_str().as_bytes(), file.today)
+}
+
+/// The array that a text stands for.
+fn array_of(alloc: Global, text: &str) -> Vec<Value> {
+    match Value::from_str(alloc, text) {
+        Ok(Value::Array(values)) => values,
+        _ => Vec::new(alloc),
+    }
+}
+
+/// What a file makes of a result with these suppressions of its own.
+fn outcome_by(
+    alloc: Global,
+    rules: &Plain,
+    finding: &Record,
+    own: &str,
+) -> Result<Outcome, AllocError> {
+    let applied = rules.apply(alloc, finding)?;
+    let list = rules.written(alloc, array_of(alloc, own), &applied)?;
+    Ok(Outcome {
+        list: Value::Array(list).to_string(alloc)?,
+        entries: applied.entries,
+        suppressed: applied.suppressed,
+    })
+}
+
+/// The same of a file that isn't read yet.
+fn outcome_of(
+    alloc: Global,
+    file: FileText,
+    finding: &Record,
+    own: &str,
+) -> Result<Outcome, SuppressFault> {
+    let rules = rules_of(alloc, file)?;
+    Ok(outcome_by(alloc, &rules, finding, own)?)
+}
+
+/// The fault of these bytes, read for that day, if they have one.
+fn fault_of(alloc: Global, bytes: &[u8], today: Option<u32>) -> Option<SuppressFault> {
+    read_rules(alloc, bytes, today).err()
+}
+
+/// The fault of the file, if it has one.
+fn fault_of_text(alloc: Global, file: FileText) -> Result<Option<SuppressFault>, AllocError> {
+    let text = text_of(alloc, file)?;
+    Ok(fault_of(alloc, text.as_str().as_bytes(), file.today))
+}
+
+/// Whether each of these files has that fault, or none.
+fn all_files_have(alloc: Global, files: &[&str], fault: Option<SuppressFault>) -> bool {
+    for file in files {
+        if fault_of(alloc, file.as_bytes(), None) != fault {
+            return false;
+        }
+    }
+    true
+}
+
+/// Whether each of these lists of entries, as a file of that version, has that fault, or none.
+fn all_entries_have(
+    alloc: Global,
+    version: u32,
+    lists: &[&str],
+    today: Option<u32>,
+    fault: Option<SuppressFault>,
+) -> Result<bool, AllocError> {
+    for entries in lists {
+        let file = FileText {
+            version,
+            entries,
+            today,
+        };
+        if fault_of_text(alloc, file)? != fault {
+            return Ok(false);
+        }
+    }
+    Ok(true)
+}
+
+/// How many entries of the file match none of the results.
+fn unused_of(alloc: Global, file: FileText, findings: &[Record]) -> Result<u32, SuppressFault> {
+    let rules = rules_of(alloc, file)?;
+    Ok(rules.unused(findings))
+}
+
+/// A copy of a text that may be absent.
+fn copy_of(alloc: Global, text: Option<&str>) -> Result<Option<Text>, AllocError> {
+    match text {
+        Some(text) => Ok(Some(Text::copy_of(alloc, text)?)),
+        None => Ok(None),
+    }
+}
+
+/// A result of the tool `lint` with that rule id, at that uri, without suppressions.
+fn result_at(alloc: Global, rule_id: &str, uri: Option<&str>) -> Result<Record, AllocError> {
+    Ok(Record {
+        tool: Text::copy_of(alloc, "lint")?,
+        rule_id: Text::copy_of(alloc, rule_id)?,
+        kind: Kind::Fail,
+        level: Level::Warning,
+        message: Message {
+            text: None,
+            id: None,
+            args: Sequence::new(alloc),
+        },
+        place: Place {
+            uri: copy_of(alloc, uri)?,
+            base: None,
+        },
+        guid: None,
+        full: Sequence::new(alloc),
+        partial: Sequence::new(alloc),
+        held: Sequence::new(alloc),
+    })
+}
+
+/// The same result with one more suppression of its own, of that status.
+fn with_own(mut finding: Record, status: Status) -> Result<Record, AllocError> {
+    finding.held.push(status)?;
+    Ok(finding)
+}
+
+/// Asserts which entries of the file match the result.
+fn expect_entries(
+    rt: &(impl Abort + AllocGlobal),
+    file: FileText,
+    finding: &Record,
+    wanted: &[u32],
+) -> Result<(), Fail> {
+    let outcome = outcome_of(rt.alloc(), file, finding, "[]")?;
+    let entries = file.entries;
+    assert!(rt; outcome.entries.as_slice() == wanted, "{entries}");
+    Ok(())
+}
+
+/// Asserts what is written of a result with these suppressions of its own, and whether it is
+/// suppressed.
+fn expect_written(
+    rt: &(impl Abort + AllocGlobal),
+    file: FileText,
+    finding: &Record,
+    own: &str,
+    wanted: (&str, bool),
+) -> Result<(), Fail> {
+    let outcome = outcome_of(rt.alloc(), file, finding, own)?;
+    assert_eq!(rt; outcome.suppressed, wanted.1);
+    assert_eq!(rt; outcome.list.as_str(), wanted.0);
+    Ok(())
+}

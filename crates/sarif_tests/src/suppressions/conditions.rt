@@ -1,0 +1,153 @@
+//! Which results an entry matches, condition by condition.
+use super::{FileText, expect_written, outcome_of, result_at, second_version, unused_of};
+use sarif_records::{Record, Sequence, Text};
+use sarif_suppress::SuppressFault;
+use std::alloc::{AllocError, Global};
+use std::process::Abort;
+use std::test::Fail;
+
+/// Adds a fingerprint.
+fn add_pair(
+    alloc: Global,
+    pairs: &mut Sequence<(Text, Text)>,
+    name: &str,
+    value: &str,
+) -> Result<(), AllocError> {
+    let name = Text::copy_of(alloc, name)?;
+    pairs.push((name, Text::copy_of(alloc, value)?))
+}
+
+/// Whether the entry, alone in a file of version 2, suppresses the result, where it matches it just
+/// then.
+fn is_suppressed_by(
+    alloc: Global,
+    entry: &str,
+    finding: &Record,
+) -> Result<Option<bool>, SuppressFault> {
+    let file = FileText {
+        today: Some(20250131),
+        ..second_version(entry)
+    };
+    let outcome = outcome_of(alloc, file, finding, "[]")?;
+    if outcome.entries.as_slice().is_empty() == outcome.suppressed {
+        return Ok(None);
+    }
+    Ok(Some(outcome.suppressed))
+}
+
+/// Asserts that each of these entries, alone in a file, matches the result, or that none does.
+fn expect_all(
+    rt: &(impl Abort + AllocGlobal),
+    entries: &[&str],
+    finding: &Record,
+    matched: bool,
+) -> Result<(), Fail> {
+    for entry in entries {
+        let found = is_suppressed_by(rt.alloc(), entry, finding)?;
+        assert_eq!(rt; found, Some(matched), "{entry}");
+    }
+    Ok(())
+}
+
+#[test]
+fn texts_are_compared_byte_for_byte(rt: HostRuntime) -> Result<(), Fail> {
+    let finding = result_at(rt.alloc(), "R1", Some("gen/a.c"))?;
+    let same = [
+        "{\"tool\":\"lint\"}",
+        "{\"ruleId\":\"R1\"}",
+        "{\"uri\":\"gen/a.c\"}",
+        "{\"uriPrefix\":\"gen/\"}",
+        "{\"uriPrefix\":\"gen/a.c\"}",
+        "{\"uriPrefix\":\"\"}",
+        "{\"ruleId\":\"R1\",\"tool\":\"lint\",\"uri\":\"gen/a.c\"}",
+    ];
+    expect_all(&rt, &same, &finding, true)?;
+    let other = [
+        "{\"tool\":\"Lint\"}",
+        "{\"tool\":\"\"}",
+        "{\"ruleId\":\"R\"}",
+        "{\"ruleId\":\"R1/a\"}",
+        "{\"uri\":\"gen/A.c\"}",
+        "{\"uri\":\"gen/a\"}",
+        "{\"uriPrefix\":\"a.c\"}",
+        "{\"uriPrefix\":\"gen/a.cc\"}",
+        "{\"ruleId\":\"R1\",\"tool\":\"other\",\"uri\":\"gen/a.c\"}",
+        "{\"ruleId\":\"R2\",\"tool\":\"lint\",\"uri\":\"gen/a.c\"}",
+        "{\"ruleId\":\"R1\",\"tool\":\"lint\",\"uri\":\"b.c\"}",
+    ];
+    expect_all(&rt, &other, &finding, false)
+}
+
+#[test]
+fn a_result_without_a_uri_meets_no_condition_on_it(rt: HostRuntime) -> Result<(), Fail> {
+    let finding = result_at(rt.alloc(), "", None)?;
+    let other = ["{\"uri\":\"\"}", "{\"uriPrefix\":\"\"}"];
+    expect_all(&rt, &other, &finding, false)?;
+    expect_all(&rt, &["{\"ruleId\":\"\"}"], &finding, true)
+}
+
+#[test]
+fn a_guid_is_compared_as_a_number(rt: HostRuntime) -> Result<(), Fail> {
+    let mut finding = result_at(rt.alloc(), "R1", None)?;
+    let same = ["{\"guid\":\"0F14D0AB-9605-4A62-A9E4-5ED26688389B\"}"];
+    expect_all(&rt, &same, &finding, false)?;
+    finding.guid = Some(0x0f14d0ab_9605_4a62_a9e4_5ed26688389b);
+    expect_all(&rt, &same, &finding, true)?;
+    let other = ["{\"guid\":\"0F14D0AB-9605-4A62-A9E4-5ED26688389C\"}"];
+    expect_all(&rt, &other, &finding, false)
+}
+
+/// A result with two fingerprints and a partial one.
+fn fingerprinted(alloc: Global) -> Result<Record, AllocError> {
+    let mut finding = result_at(alloc, "R1", None)?;
+    add_pair(alloc, &mut finding.full, "a/v1", "x")?;
+    add_pair(alloc, &mut finding.full, "a/v2", "y")?;
+    add_pair(alloc, &mut finding.partial, "p/v1", "z")?;
+    Ok(finding)
+}
+
+#[test]
+fn each_fingerprint_must_stand_with_its_value(rt: HostRuntime) -> Result<(), Fail> {
+    let finding = fingerprinted(rt.alloc())?;
+    let same = [
+        "{\"fingerprints\":{\"a/v2\":\"y\"}}",
+        "{\"fingerprints\":{\"a/v1\":\"x\",\"a/v2\":\"y\",\"b\":null}}",
+        "{\"partialFingerprints\":{\"p/v1\":\"z\"}}",
+    ];
+    expect_all(&rt, &same, &finding, true)?;
+    let other = [
+        "{\"fingerprints\":{\"a/v1\":\"x\",\"a/v2\":\"x\"}}",
+        "{\"fingerprints\":{\"a/v3\":\"x\"}}",
+        "{\"fingerprints\":{\"p/v1\":\"z\"}}",
+        "{\"partialFingerprints\":{\"p/v1\":\"\"}}",
+        "{\"partialFingerprints\":{\"a/v1\":\"x\"}}",
+    ];
+    expect_all(&rt, &other, &finding, false)
+}
+
+/// Asserts whether an entry for `gen/` that ends on 31 January 2025 suppresses a result at that uri
+/// on that day.
+fn expect_on(
+    rt: &(impl Abort + AllocGlobal),
+    uri: &str,
+    today: u32,
+    wanted: (&str, bool),
+) -> Result<(), Fail> {
+    let file = FileText {
+        today: Some(today),
+        ..second_version("{\"uriPrefix\":\"gen/\",\"expires\":20250131}")
+    };
+    let finding = result_at(rt.alloc(), "R1", Some(uri))?;
+    expect_written(rt, file, &finding, "[]", wanted)?;
+    let unused = unused_of(rt.alloc(), file, &[finding])?;
+    assert_eq!(rt; unused == 0, wanted.1);
+    Ok(())
+}
+
+#[test]
+fn the_last_day_still_counts(rt: HostRuntime) -> Result<(), Fail> {
+    let accepted = "[{\"kind\":\"external\",\"status\":\"accepted\"}]";
+    expect_on(&rt, "gen/a.c", 20250131, (accepted, true))?;
+    expect_on(&rt, "gen/a.c", 20250201, ("[]", false))?;
+    expect_on(&rt, "src/gen/a.c", 20250131, ("[]", false))
+}
