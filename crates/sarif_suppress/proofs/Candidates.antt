@@ -1,9 +1,8 @@
 -- The entries that may match a result: all that match it are among them.
-use Rattle.std.proofs.Common.{◌≡◌, ℕ, zero, suc, ◌+◌, ◌<◌, ◌≤◌, Bool, true, false, not, ◌&&◌, ◌||◌, List, [], ◌∷◌, ◌++◌, filter, Option, Some, None, nat_eq, bytes_eq, refl, sym, ◌∙◌, arith, if◌then◌else◌}
+use Rattle.std.proofs.Common.{◌≡◌, ℕ, Bool, true, false, not, ◌&&◌, ◌||◌, List, [], ◌∷◌, ◌++◌, filter, Option, Some, None, nat_eq, bytes_eq, refl, sym, ap, ◌∙◌, arith}
 use Rattle.std.specs.List.{flat_map, list_any}
 use Rattle.std.specs.Option.{option_map_or}
 use Rattle.std.specs.Prelude.{slice_get}
-use Rattle.std.proofs.lemmas.Bool.Decides.{nat_tests}
 use Rattle.std.proofs.lemmas.List.{append_assoc}
 use Rattle.std.proofs.lemmas.List.Folds.{list_any-append}
 use Rattle.sarif_records.specs.declared.record.Record.{Record}
@@ -11,12 +10,16 @@ use Rattle.sarif_suppress.specs.declared.conditions.Conditions.{Conditions}
 use Rattle.sarif_suppress.specs.declared.entry.Entry.{Entry}
 use Rattle.sarif_suppress.specs.declared.filing.PairCondition.TheVariants.{Full, Partial}
 use Rattle.sarif_suppress.specs.declared.filing.TextCondition.TheVariants.{Uri, RuleId, Tool}
+use Rattle.sarif_suppress.specs.declared.prefixes.PrefixTable.{PrefixTable}
 use Rattle.sarif_suppress.specs.declared.table.Table.{Table}
-use Rattle.sarif_suppress.specs.Filing.{asks_for_guid, asks_for_pair, asks_for_text, asks_for_none, candidates}
+use Rattle.sarif_suppress.specs.Filing.{asks_for_guid, asks_for_pair, asks_for_text, asks_for_none, prefix_key, candidates}
 use Rattle.sarif_suppress.specs.Matching.{is_text, is_there, begins, is_guid, is_pair, are_among, hold, is_expired, matches}
-use Rattle.sarif_suppress.specs.Numbers.{numbers_from, passes_at, with_numbers}
-use Rattle.sarif_suppress.specs.Table.{IsTable, numbers_at}
+use Rattle.sarif_suppress.specs.Numbers.{numbers_from, numbers_at, passes_at, with_numbers}
+use Rattle.sarif_suppress.specs.Prefixes.{IsPrefixTable, found_for}
+use Rattle.sarif_suppress.specs.Table.{IsTable}
+use Rattle.sarif_suppress.proofs.Begun.{found_begun}
 use Rattle.sarif_suppress.proofs.Meaning.{pair_means}
+use Rattle.sarif_suppress.proofs.Numbered.{has, has_from}
 use Rattle.sarif_suppress.proofs.Rising.{selected_from}
 
 flat_same : {K : Type 0} (f g : K → List ℕ) (ks : List K) → ((k : K) → f k ≡ g k) → flat_map f ks ≡ flat_map g ks
@@ -36,53 +39,10 @@ from_tables entries table r is =
     nested (option_map_or (numbers_at nat_eq table.by_guid) r.guid []) (flat_map (numbers_at is_pair table.by_full) r.full) (flat_map (numbers_at is_pair table.by_partial) r.partial) (option_map_or (numbers_at bytes_eq table.by_uri) r.place.uri []) (numbers_at bytes_eq table.by_rule r.rule_id) (numbers_at bytes_eq table.by_tool r.tool) table.others.items
     ∙ rw (there_same _ _ r.guid is.guids, flat_same _ _ r.full is.fulls, flat_same _ _ r.partial is.partials, there_same _ _ r.place.uri is.uris, is.rules r.rule_id, is.tools r.tool, is.rest) refl
 
-abbrev has : ℕ → List ℕ → Bool
-has n ns = list_any (λ m. nat_eq m n) ns
-
 -- the result has what the entry is filed under
 abbrev is_asked : Entry → Record → Bool
 is_asked e r =
     option_map_or (λ guid. asks_for_guid guid e) r.guid false || (list_any (λ pair. asks_for_pair Full pair e) r.full || (list_any (λ pair. asks_for_pair Partial pair e) r.partial || (option_map_or (λ uri. asks_for_text Uri uri e) r.place.uri false || (asks_for_text RuleId r.rule_id e || (asks_for_text Tool r.tool e || asks_for_none e)))))
-
-none_before : (test : Entry → Bool) (n s : ℕ) (es : List Entry) → n + 1 ≡ s → has n (numbers_from test s es) ≡ false
-none_before test n s es is = below test n s es (omega arith)
-  where
-    differ : (s n : ℕ) → n + 1 ≤ s → nat_eq s n ≡ false
-    differ s n above = grind (arith, nat_tests)
-
-    below : (test : Entry → Bool) (n s : ℕ) (es : List Entry) → n + 1 ≤ s → has n (numbers_from test s es) ≡ false
-    below test n s [] above = refl
-    below test n s (e ∷ es) above =
-        elim (test e) as (λ b. has n (if b then s ∷ numbers_from test (s + 1) es else numbers_from test (s + 1) es) ≡ false) [
-          | true ↦ rw (differ s n above) (below test n (s + 1) es (omega arith))
-          | false ↦ below test n (s + 1) es (omega arith)
-        ]
-
-has_from : (test : Entry → Bool) (s m n : ℕ) (es : List Entry) (e : Entry) → m ≡ s + n → slice_get es n ≡ Some e → has m (numbers_from test s es) ≡ test e
-has_from test s m n [] e at is = let never : ⊥ = cc in absurd never
-has_from test s m zero (x ∷ es) e at is =
-    let same : x ≡ e = some_same x e is in
-    let here : m ≡ s = omega arith in
-    rw (here, same) (
-    elim (test e) as (λ b. has s (if b then s ∷ numbers_from test (s + 1) es else numbers_from test (s + 1) es) ≡ b) [
-      | true ↦ rw (self s) refl
-      | false ↦ none_before test s (s + 1) es refl
-    ])
-  where
-    some_same : (a b : Entry) → ◌≡◌ {A = Option Entry} (Some a) (Some b) → a ≡ b
-    some_same a b e = cc
-
-    self : (s : ℕ) → nat_eq s s ≡ true
-    self s = grind (arith, nat_tests)
-has_from test s m (suc n) (x ∷ es) e at is =
-    let rest : has m (numbers_from test (s + 1) es) ≡ test e = has_from test (s + 1) m n es e (omega arith) is in
-    elim (test x) as (λ b. has m (if b then s ∷ numbers_from test (s + 1) es else numbers_from test (s + 1) es) ≡ test e) [
-      | true ↦ rw (differ s m (omega arith)) rest
-      | false ↦ rest
-    ]
-  where
-    differ : (s m : ℕ) → s < m → nat_eq s m ≡ false
-    differ s m below = grind (arith, nat_tests)
 
 has_flat : {K : Type 0} (n : ℕ) (under : K → List ℕ) (test : K → Bool) (ks : List K) → ((k : K) → has n (under k) ≡ test k) → has n (flat_map under ks) ≡ list_any test ks
 has_flat n under test [] is = refl
@@ -143,16 +103,17 @@ record Parts (c : Conditions) (r : Record) : Type 0 where
   rule : is_text c.rule_id r.rule_id ≡ true
   tool : is_text c.tool r.tool ≡ true
   uri : is_there c.uri r.place.uri ≡ true
+  prefix : begins c.uri_prefix r.place.uri ≡ true
   guid : is_guid c.guid r.guid ≡ true
   full : are_among c.full r.full ≡ true
   partial : are_among c.partial r.partial ≡ true
 
 parts_of : (c : Conditions) (r : Record) → hold c r ≡ true → Parts c r
 parts_of c r holds =
-    split (is_text c.rule_id r.rule_id) (is_text c.tool r.tool) (is_there c.uri r.place.uri) (begins c.uri_prefix r.place.uri) (is_guid c.guid r.guid) (are_among c.full r.full) (are_among c.partial r.partial) refl refl refl refl refl refl holds
+    split (is_text c.rule_id r.rule_id) (is_text c.tool r.tool) (is_there c.uri r.place.uri) (begins c.uri_prefix r.place.uri) (is_guid c.guid r.guid) (are_among c.full r.full) (are_among c.partial r.partial) refl refl refl refl refl refl refl holds
   where
-    split : (a b u x g f p : Bool) → is_text c.rule_id r.rule_id ≡ a → is_text c.tool r.tool ≡ b → is_there c.uri r.place.uri ≡ u → is_guid c.guid r.guid ≡ g → are_among c.full r.full ≡ f → are_among c.partial r.partial ≡ p → (a && (b && (u && (x && (g && (f && p)))))) ≡ true → Parts c r
-    split a b u x g f p ea eb eu eg ef ep t =
+    split : (a b u x g f p : Bool) → is_text c.rule_id r.rule_id ≡ a → is_text c.tool r.tool ≡ b → is_there c.uri r.place.uri ≡ u → begins c.uri_prefix r.place.uri ≡ x → is_guid c.guid r.guid ≡ g → are_among c.full r.full ≡ f → are_among c.partial r.partial ≡ p → (a && (b && (u && (x && (g && (f && p)))))) ≡ true → Parts c r
+    split a b u x g f p ea eb eu ex eg ef ep t =
         let t1 : (b && (u && (x && (g && (f && p))))) ≡ true = and_right a _ t in
         let t2 : (u && (x && (g && (f && p)))) ≡ true = and_right b _ t1 in
         let t3 : (x && (g && (f && p))) ≡ true = and_right u _ t2 in
@@ -162,12 +123,40 @@ parts_of c r holds =
           rule = ea ∙ and_left a (b && (u && (x && (g && (f && p))))) t;
           tool = eb ∙ and_left b (u && (x && (g && (f && p)))) t1;
           uri = eu ∙ and_left u (x && (g && (f && p))) t2;
+          prefix = ex ∙ and_left x (g && (f && p)) t3;
           guid = eg ∙ and_left g (f && p) t4;
           full = ef ∙ and_left f p t5;
           partial = ep ∙ and_right f p t5;
         }
 
-module _ (e : Entry) (r : Record) where
+-- what one of these holds of is asked for
+module _ (g f p u ru t o : Bool) where
+  abbrev one_of : Bool
+  one_of = g || (f || (p || (u || (ru || (t || o)))))
+
+  in_full : f ≡ true → one_of ≡ true
+  in_full is = behind g _ (before f _ is)
+
+  in_partial : p ≡ true → one_of ≡ true
+  in_partial is = behind g _ (behind f _ (before p _ is))
+
+  in_uri : u ≡ true → one_of ≡ true
+  in_uri is = behind g _ (behind f _ (behind p _ (before u _ is)))
+
+  in_rule : ru ≡ true → one_of ≡ true
+  in_rule is = behind g _ (behind f _ (behind p _ (behind u _ (before ru _ is))))
+
+  in_tool : t ≡ true → one_of ≡ true
+  in_tool is = behind g _ (behind f _ (behind p _ (behind u _ (behind ru _ (before t _ is)))))
+
+  in_none : o ≡ true → one_of ≡ true
+  in_none is = behind g _ (behind f _ (behind p _ (behind u _ (behind ru _ (behind t _ is)))))
+
+abbrev made : Option ℕ → List (List ℕ × List ℕ) → List (List ℕ × List ℕ) → Option (List ℕ) → Option (List ℕ) → Option (List ℕ) → Option (List ℕ) → Conditions
+made g f p u ru px t =
+    record { tool = t; rule_id = ru; uri = u; uri_prefix = px; guid = g; full = f; partial = p }
+
+module _ (e : Entry) (r : Record) (begun : Bool) where
   abbrev by_guid : Bool
   by_guid = option_map_or (λ guid. asks_for_guid guid e) r.guid false
 
@@ -186,66 +175,36 @@ module _ (e : Entry) (r : Record) where
   abbrev by_tool : Bool
   by_tool = asks_for_text Tool r.tool e
 
-  in_guid : by_guid ≡ true → is_asked e r ≡ true
-  in_guid t =
-      before by_guid (by_full || (by_partial || (by_uri || (by_rule || (by_tool || asks_for_none e))))) t
+  -- an entry whose prefix is found where the uri begins with it is filed under what the result has
+  is_filed : (g : Option ℕ) (f p : List (List ℕ × List ℕ)) (u ru px t : Option (List ℕ)) → e.conditions ≡ made g f p u ru px t → Parts (made g f p u ru px t) r → ((prefix : List ℕ) → prefix_key (made g f p u ru px t) ≡ Some prefix → begins (Some prefix) r.place.uri ≡ true → begun ≡ true) → (is_asked e r || begun) ≡ true
+  is_filed (Some g) f p u ru px t is parts found =
+      before (is_asked e r) begun (before by_guid _ (rw is (its_guid g r.guid parts.guid)))
+  is_filed None (q ∷ f) p u ru px t is parts found =
+      before (is_asked e r) begun (in_full by_guid by_full by_partial by_uri by_rule by_tool (asks_for_none e) (rw is (its_pair q r.full (and_left (list_any (λ o. is_pair o q) r.full) (are_among f r.full) parts.full))))
+  is_filed None [] (q ∷ p) u ru px t is parts found =
+      before (is_asked e r) begun (in_partial by_guid by_full by_partial by_uri by_rule by_tool (asks_for_none e) (rw is (its_pair q r.partial (and_left (list_any (λ o. is_pair o q) r.partial) (are_among p r.partial) parts.partial))))
+  is_filed None [] [] (Some u) ru px t is parts found =
+      before (is_asked e r) begun (in_uri by_guid by_full by_partial by_uri by_rule by_tool (asks_for_none e) (rw is (its_uri u r.place.uri parts.uri)))
+  is_filed None [] [] None (Some ru) px t is parts found =
+      before (is_asked e r) begun (in_rule by_guid by_full by_partial by_uri by_rule by_tool (asks_for_none e) (rw is parts.rule))
+  is_filed None [] [] None None (Some px) t is parts found =
+      behind (is_asked e r) begun (found px refl parts.prefix)
+  is_filed None [] [] None None None (Some t) is parts found =
+      before (is_asked e r) begun (in_tool by_guid by_full by_partial by_uri by_rule by_tool (asks_for_none e) (rw is parts.tool))
+  is_filed None [] [] None None None None is parts found =
+      before (is_asked e r) begun (in_none by_guid by_full by_partial by_uri by_rule by_tool (asks_for_none e) (rw is refl))
 
-  in_full : by_full ≡ true → is_asked e r ≡ true
-  in_full t =
-      behind by_guid (by_full || (by_partial || (by_uri || (by_rule || (by_tool || asks_for_none e))))) (before by_full (by_partial || (by_uri || (by_rule || (by_tool || asks_for_none e)))) t)
+-- all entries that match a result are among the candidates and those whose prefix is found
+among : {S H : Type 0} (today : Option ℕ) (r : Record) (es : List Entry) (table : PrefixTable S H) → IsPrefixTable es table → (n : ℕ) (e : Entry) → slice_get es n ≡ Some e → matches today e r ≡ true → has n (candidates es r ++ option_map_or (found_for table) r.place.uri []) ≡ true
+among today r es table is n e at match =
+    let beginning : List ℕ = option_map_or (found_for table) r.place.uri [] in
+    let c : Conditions = e.conditions in
+    let begun : (prefix : List ℕ) → prefix_key c ≡ Some prefix → begins (Some prefix) r.place.uri ≡ true → has n beginning ≡ true = λ prefix key begins. found_begun es table n e prefix r.place.uri is at key begins in
+    list_any-append (λ m. nat_eq m n) (candidates es r) beginning
+    ∙ ap (λ b. b || has n beginning) (has_candidates es r n e at)
+    ∙ is_filed e r (has n beginning) c.guid c.full c.partial c.uri c.rule_id c.uri_prefix c.tool refl (parts_of c r (and_right (not (is_expired today e)) (hold c r) match)) begun
 
-  past_full : (by_partial || (by_uri || (by_rule || (by_tool || asks_for_none e)))) ≡ true → is_asked e r ≡ true
-  past_full t =
-      behind by_guid (by_full || (by_partial || (by_uri || (by_rule || (by_tool || asks_for_none e))))) (behind by_full (by_partial || (by_uri || (by_rule || (by_tool || asks_for_none e)))) t)
-
-  in_partial : by_partial ≡ true → is_asked e r ≡ true
-  in_partial t =
-      past_full (before by_partial (by_uri || (by_rule || (by_tool || asks_for_none e))) t)
-
-  past_partial : (by_uri || (by_rule || (by_tool || asks_for_none e))) ≡ true → is_asked e r ≡ true
-  past_partial t =
-      past_full (behind by_partial (by_uri || (by_rule || (by_tool || asks_for_none e))) t)
-
-  in_uri : by_uri ≡ true → is_asked e r ≡ true
-  in_uri t = past_partial (before by_uri (by_rule || (by_tool || asks_for_none e)) t)
-
-  past_uri : (by_rule || (by_tool || asks_for_none e)) ≡ true → is_asked e r ≡ true
-  past_uri t = past_partial (behind by_uri (by_rule || (by_tool || asks_for_none e)) t)
-
-  in_rule : by_rule ≡ true → is_asked e r ≡ true
-  in_rule t = past_uri (before by_rule (by_tool || asks_for_none e) t)
-
-  in_tool : by_tool ≡ true → is_asked e r ≡ true
-  in_tool t =
-      past_uri (behind by_rule (by_tool || asks_for_none e) (before by_tool (asks_for_none e) t))
-
-  in_none : asks_for_none e ≡ true → is_asked e r ≡ true
-  in_none t =
-      past_uri (behind by_rule (by_tool || asks_for_none e) (behind by_tool (asks_for_none e) t))
-
-abbrev made : Option ℕ → List (List ℕ × List ℕ) → List (List ℕ × List ℕ) → Option (List ℕ) → Option (List ℕ) → Option (List ℕ) → Option (List ℕ) → Conditions
-made g f p u ru px t =
-    record { tool = t; rule_id = ru; uri = u; uri_prefix = px; guid = g; full = f; partial = p }
-
-is_filed : (g : Option ℕ) (f p : List (List ℕ × List ℕ)) (u ru px t : Option (List ℕ)) (e : Entry) (r : Record) → e.conditions ≡ made g f p u ru px t → Parts (made g f p u ru px t) r → is_asked e r ≡ true
-is_filed (Some g) f p u ru px t e r is parts =
-    in_guid e r (rw is (its_guid g r.guid parts.guid))
-is_filed None (q ∷ f) p u ru px t e r is parts =
-    in_full e r (rw is (its_pair q r.full (and_left (list_any (λ o. is_pair o q) r.full) (are_among f r.full) parts.full)))
-is_filed None [] (q ∷ p) u ru px t e r is parts =
-    in_partial e r (rw is (its_pair q r.partial (and_left (list_any (λ o. is_pair o q) r.partial) (are_among p r.partial) parts.partial)))
-is_filed None [] [] (Some u) ru px t e r is parts =
-    in_uri e r (rw is (its_uri u r.place.uri parts.uri))
-is_filed None [] [] None (Some ru) px t e r is parts = in_rule e r (rw is parts.rule)
-is_filed None [] [] None None (Some px) t e r is parts = in_none e r (rw is refl)
-is_filed None [] [] None None None (Some t) e r is parts = in_tool e r (rw is parts.tool)
-is_filed None [] [] None None None None e r is parts = in_none e r (rw is refl)
-
--- all entries that match a result are among the candidates
-among : (today : Option ℕ) (r : Record) (es : List Entry) (n : ℕ) (e : Entry) → slice_get es n ≡ Some e → matches today e r ≡ true → has n (candidates es r) ≡ true
-among today r es n e is match =
-    has_candidates es r n e is ∙ is_filed e.conditions.guid e.conditions.full e.conditions.partial e.conditions.uri e.conditions.rule_id e.conditions.uri_prefix e.conditions.tool e r refl (parts_of e.conditions r (and_right (not (is_expired today e)) (hold e.conditions r) match))
-
--- those of the candidates that match, in order, are all entries that match
-pub selected : (today : Option ℕ) (r : Record) (es : List Entry) → with_numbers [] (filter (passes_at (λ e. matches today e r) es) (candidates es r)) ≡ numbers_from (λ e. matches today e r) 0 es
-selected today r es = selected_from (λ e. matches today e r) es (candidates es r) (among today r es)
+-- those of these that match, in order, are all entries that match
+pub selected : {S H : Type 0} (today : Option ℕ) (r : Record) (es : List Entry) (table : PrefixTable S H) (numbers : List ℕ) → IsPrefixTable es table → numbers ≡ candidates es r ++ option_map_or (found_for table) r.place.uri [] → with_numbers [] (filter (passes_at (λ e. matches today e r) es) numbers) ≡ numbers_from (λ e. matches today e r) 0 es
+selected today r es table numbers is found =
+    rw found (selected_from (λ e. matches today e r) es (candidates es r ++ option_map_or (found_for table) r.place.uri []) (among today r es table is))

@@ -5,6 +5,9 @@ pub mod Marked
 pub mod Meaning
 pub mod ObjectTest
 pub mod ReadBack
+pub mod Keyed
 pub mod Among
 pub mod Rising
+pub mod Beginnings
+pub mod Begun
 pub mod Candidates

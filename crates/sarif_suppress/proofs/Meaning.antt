@@ -36,7 +36,7 @@ guid_means None found = (λ _ guid is. cc, λ _. refl)
 guid_means (Some wanted) None = (λ t guid is. absurd (false≢true t), λ h. let none : None ≡ Some wanted = h wanted refl in cc)
 guid_means (Some wanted) (Some found) = (λ t guid is. let same : wanted ≡ found = eqb-true wanted found t in cc, λ h. let same : Some found ≡ Some wanted = h wanted refl in eq-eqb wanted found cc)
 
-begins_means : (wanted found : Option (List ℕ)) → Decides (begins wanted found) ((prefix : List ℕ) → wanted ≡ Some prefix → (rest : List ℕ) × (found ≡ Some (prefix ++ rest)))
+pub begins_means : (wanted found : Option (List ℕ)) → Decides (begins wanted found) ((prefix : List ℕ) → wanted ≡ Some prefix → (rest : List ℕ) × (found ≡ Some (prefix ++ rest)))
 begins_means None found = (λ _ prefix is. let never : ⊥ = cc in absurd never, λ _. refl)
 begins_means (Some wanted) None = (λ t prefix is. absurd (false≢true t), λ h. let none : None ≡ Some (wanted ++ (h wanted refl).0) = (h wanted refl).1 in cc)
 begins_means (Some wanted) (Some found) = (

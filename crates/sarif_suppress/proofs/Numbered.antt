@@ -1,8 +1,9 @@
 -- The numbers of entries: what stands at each, and the lists of the tables as one.
-use Rattle.std.proofs.Common.{◌≡◌, ℕ, ◌+◌, ◌<◌, Bool, true, false, not, ◌&&◌, List, [], ◌∷◌, ◌++◌, map, filter, length, drop, get_or, Some, refl, sym, ap, ◌∙◌, arith, if◌then◌else◌}
+use Rattle.std.proofs.Common.{◌≡◌, ℕ, zero, suc, ◌+◌, ◌<◌, ◌≤◌, Bool, true, false, not, ◌&&◌, List, [], ◌∷◌, ◌++◌, map, filter, length, drop, get_or, Option, Some, nat_eq, refl, sym, ap, ◌∙◌, arith, if◌then◌else◌}
 use Rattle.std.specs.Prelude.{slice_get}
-use Rattle.std.specs.List.{list_all}
+use Rattle.std.specs.List.{list_all, list_any}
 use Rattle.std.proofs.Math.Seq.{get_or-append_seam}
+use Rattle.std.proofs.lemmas.Bool.Decides.{nat_tests}
 use Rattle.std.proofs.lemmas.List.{append_assoc, append-nil, drop_more, length-append}
 use Rattle.std.proofs.lemmas.List.Folds.{list_all-append}
 use Rattle.std.proofs.lemmas.Option.{slice_get-get_or}
@@ -34,6 +35,53 @@ IsPart-append front (e ∷ es) =
 -- a list stands in itself
 pub whole_is_part : (es : List Entry) → IsPart es 0 es
 whole_is_part es = IsPart-append [] es
+
+-- ---- which numbers stand in a list
+
+-- the number is among these
+abbrev pub has : ℕ → List ℕ → Bool
+has n ns = list_any (λ m. nat_eq m n) ns
+
+none_before : (test : Entry → Bool) (n s : ℕ) (es : List Entry) → n + 1 ≡ s → has n (numbers_from test s es) ≡ false
+none_before test n s es is = below test n s es (omega arith)
+  where
+    differ : (s n : ℕ) → n + 1 ≤ s → nat_eq s n ≡ false
+    differ s n above = grind (arith, nat_tests)
+
+    below : (test : Entry → Bool) (n s : ℕ) (es : List Entry) → n + 1 ≤ s → has n (numbers_from test s es) ≡ false
+    below test n s [] above = refl
+    below test n s (e ∷ es) above =
+        elim (test e) as (λ b. has n (if b then s ∷ numbers_from test (s + 1) es else numbers_from test (s + 1) es) ≡ false) [
+          | true ↦ rw (differ s n above) (below test n (s + 1) es (omega arith))
+          | false ↦ below test n (s + 1) es (omega arith)
+        ]
+
+-- the number of an entry is among those of the entries that pass just where the entry passes
+pub has_from : (test : Entry → Bool) (s m n : ℕ) (es : List Entry) (e : Entry) → m ≡ s + n → slice_get es n ≡ Some e → has m (numbers_from test s es) ≡ test e
+has_from test s m n [] e at is = let never : ⊥ = cc in absurd never
+has_from test s m zero (x ∷ es) e at is =
+    let same : x ≡ e = some_same x e is in
+    let here : m ≡ s = omega arith in
+    rw (here, same) (
+    elim (test e) as (λ b. has s (if b then s ∷ numbers_from test (s + 1) es else numbers_from test (s + 1) es) ≡ b) [
+      | true ↦ rw (self s) refl
+      | false ↦ none_before test s (s + 1) es refl
+    ])
+  where
+    some_same : (a b : Entry) → ◌≡◌ {A = Option Entry} (Some a) (Some b) → a ≡ b
+    some_same a b e = cc
+
+    self : (s : ℕ) → nat_eq s s ≡ true
+    self s = grind (arith, nat_tests)
+has_from test s m (suc n) (x ∷ es) e at is =
+    let rest : has m (numbers_from test (s + 1) es) ≡ test e = has_from test (s + 1) m n es e (omega arith) is in
+    elim (test x) as (λ b. has m (if b then s ∷ numbers_from test (s + 1) es else numbers_from test (s + 1) es) ≡ test e) [
+      | true ↦ rw (differ s m (omega arith)) rest
+      | false ↦ rest
+    ]
+  where
+    differ : (s m : ℕ) → s < m → nat_eq s m ≡ false
+    differ s m below = grind (arith, nat_tests)
 
 -- ---- one number more
 

@@ -2,11 +2,13 @@
 use Rattle.std.proofs.Common.{◌≡◌, ℕ, Bool, true, false, ◌&&◌, ◌||◌, List, [], ◌∷◌, ◌++◌, Some, None, codes, refl, sym, ap, ◌∙◌, if◌then◌else◌}
 use Rattle.std.specs.Bool.{Decides}
 use Rattle.std.specs.List.{list_any, list_all}
+use Rattle.std.specs.Option.{option_map_or}
 use Rattle.std.proofs.lemmas.Bool.{false≢true}
 use Rattle.std.proofs.lemmas.List.Folds.{list_all-append}
 use Rattle.std.proofs.lemmas.Slice.Eq.{bytes_eq-Decides}
 use Rattle.serde_json.specs.Data.{Data, null, boolean, number, string, array, object, Members, no_members, member}
 use Rattle.sarif_suppress.specs.declared.entry.Entry.{Entry}
+use Rattle.serde_json.specs.Find.{as_object}
 use Rattle.serde_json.specs.Written.{has_float, members_have_float}
 use Rattle.sarif_records.specs.Status.{status_name}
 use Rattle.sarif_suppress.specs.Entries.{with_pair}
@@ -34,14 +36,18 @@ just_means (p ∷ ps) (member name d ms) =
     let each : Decides (are_just (p ∷ ps) (member name d ms)) ((p.0 ≡ name) × (d ≡ string p.1) × (ms ≡ text_members ps)) = and_all _ _ _ (bytes_eq-Decides p.0 name) (string_means p.1 d) (just_means ps ms) in
     (λ t. let h : (p.0 ≡ name) × (d ≡ string p.1) × (ms ≡ text_members ps) = each.0 t in cc, λ e. each.1 (cc, cc, cc))
 
+-- a value is tested for just these texts
+pub texts_mean : (ps : List (List ℕ × List ℕ)) (d : Data) → Decides (option_map_or (are_just ps) (as_object d) false) (d ≡ object (text_members ps))
+texts_mean ps null = (λ t. absurd (false≢true t), λ is. cc)
+texts_mean ps (boolean b) = (λ t. absurd (false≢true t), λ is. cc)
+texts_mean ps (number n) = (λ t. absurd (false≢true t), λ is. cc)
+texts_mean ps (string s) = (λ t. absurd (false≢true t), λ is. cc)
+texts_mean ps (array ds) = (λ t. absurd (false≢true t), λ is. cc)
+texts_mean ps (object ms) = (λ t. ap object ((just_means ps ms).0 t), λ is. (just_means ps ms).1 cc)
+
 -- a value passes the test of an entry just where it is the entry's object
 pub object_means : (e : Entry) (d : Data) → Decides (is_object_of e d) (d ≡ object_of e)
-object_means e null = (λ t. absurd (false≢true t), λ is. cc)
-object_means e (boolean b) = (λ t. absurd (false≢true t), λ is. cc)
-object_means e (number n) = (λ t. absurd (false≢true t), λ is. cc)
-object_means e (string s) = (λ t. absurd (false≢true t), λ is. cc)
-object_means e (array ds) = (λ t. absurd (false≢true t), λ is. cc)
-object_means e (object ms) = (λ t. ap object ((just_means (texts_of e) ms).0 t), λ is. (just_means (texts_of e) ms).1 cc)
+object_means e d = texts_mean (texts_of e) d
 
 -- ---- a test of suppressions over the written list
 

@@ -1,7 +1,7 @@
 -- Numbers of entries that are put in order.
 use Rattle.std.proofs.Common.{◌≡◌, ℕ, zero, suc, ◌+◌, ◌<◌, ◌≤◌, Bool, true, false, ◌&&◌, ◌||◌, ⊎_elim, List, [], ◌∷◌, ◌++◌, filter, drop, get_or, length, Some, None, nat_eq, refl, sym, ap, ◌∙◌, arith, if◌then◌else◌}
 use Rattle.std.specs.BTreeSet.{insert_key}
-use Rattle.std.specs.List.{flat_map, list_any}
+use Rattle.std.specs.List.{flat_map}
 use Rattle.std.specs.Option.{option_map_or}
 use Rattle.std.specs.Ordering.{nat_cmp, match_ordering}
 use Rattle.std.specs.declared.cmp.Ordering.TheVariants.{Less, Equal, Greater}
@@ -11,15 +11,12 @@ use Rattle.std.proofs.lemmas.Bool.{cases_lt}
 use Rattle.std.proofs.lemmas.Bool.Decides.{nat_tests}
 use Rattle.sarif_suppress.specs.declared.entry.Entry.{Entry}
 use Rattle.sarif_suppress.specs.Numbers.{numbers_from, passes_at, with_numbers}
-use Rattle.sarif_suppress.proofs.Numbered.{IsPart, whole_is_part}
+use Rattle.sarif_suppress.proofs.Numbered.{IsPart, whole_is_part, has}
 
 -- the numbers of a list's places that pass the test, where the first has number n
 abbrev picks : {A : Type 0} → (ℕ → Bool) → ℕ → List A → List ℕ
 picks test n [] = []
 picks test n (x ∷ xs) = if test n then n ∷ picks test (n + 1) xs else picks test (n + 1) xs
-
-abbrev has : ℕ → List ℕ → Bool
-has n ns = list_any (λ m. nat_eq m n) ns
 
 -- the first of the list, where it has one, is above n
 abbrev StartsAbove : ℕ → List ℕ → Type 0
@@ -94,7 +91,7 @@ insert_picks q n s (x ∷ xs) low high =
           | false ↦ rest
         ])
 
-get_within : {A : Type 0} (xs : List A) (n : ℕ) (x : A) → slice_get xs n ≡ Some x → n < length xs
+pub get_within : {A : Type 0} (xs : List A) (n : ℕ) (x : A) → slice_get xs n ≡ Some x → n < length xs
 get_within [] n x is = let never : ⊥ = cc in absurd never
 get_within (y ∷ ys) zero x is = omega arith
 get_within (y ∷ ys) (suc n) x is =

@@ -1,5 +1,5 @@
 -- Where an entry is filed, so that a result meets only those that may match it: under the most telling of its conditions.
-use Rattle.std.specs.Prelude.{ℕ, Bool, false, ◌&&◌, ◌||◌, List, [], ◌++◌, Option, None, is_some, is_none, nat_eq, bytes_eq, slice_get, if◌then◌else◌}
+use Rattle.std.specs.Prelude.{ℕ, Bool, false, ◌&&◌, List, [], ◌++◌, Option, None, is_none, nat_eq, bytes_eq, slice_get, if◌then◌else◌}
 use Rattle.std.specs.List.{flat_map}
 use Rattle.std.specs.Option.{option_map_or}
 use Rattle.sarif_records.specs.declared.record.Record.{Record}
@@ -32,10 +32,14 @@ text_key RuleId c = if is_unmarked c && is_none c.uri then c.rule_id else None
 text_key Tool c =
     if is_unmarked c && has_tool_alone c then c.tool else None
 
+-- the prefix that is named, where it is the most telling condition
+abbrev pub prefix_key : Conditions → Option (List ℕ)
+prefix_key c =
+    if is_unmarked c && (is_none c.uri && is_none c.rule_id) then c.uri_prefix else None
+
 -- none of these is
 abbrev pub has_no_key : Conditions → Bool
-has_no_key c =
-    is_unmarked c && (is_none c.uri && (is_none c.rule_id && (is_some c.uri_prefix || is_none c.tool)))
+has_no_key c = is_unmarked c && (has_tool_alone c && is_none c.tool)
 
 -- the entry is filed under that guid, that fingerprint, that text, or nowhere
 abbrev pub asks_for_guid : ℕ → Entry → Bool
@@ -52,7 +56,7 @@ asks_for_text which text e =
 abbrev pub asks_for_none : Entry → Bool
 asks_for_none e = has_no_key e.conditions
 
--- the numbers of the entries that are filed under what a result has, and of those that are filed nowhere
+-- the numbers of the entries that are filed under what a result has, but for prefixes, and of those that are filed nowhere
 abbrev pub candidates : List Entry → Record → List ℕ
 candidates es r =
     option_map_or (λ guid. numbers_from (asks_for_guid guid) 0 es) r.guid [] ++ (flat_map (λ pair. numbers_from (asks_for_pair Full pair) 0 es) r.full ++ (flat_map (λ pair. numbers_from (asks_for_pair Partial pair) 0 es) r.partial ++ (option_map_or (λ uri. numbers_from (asks_for_text Uri uri) 0 es) r.place.uri [] ++ (numbers_from (asks_for_text RuleId r.rule_id) 0 es ++ (numbers_from (asks_for_text Tool r.tool) 0 es ++ numbers_from asks_for_none 0 es)))))

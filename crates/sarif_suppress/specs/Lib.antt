@@ -3,7 +3,9 @@ pub mod Entries
 pub mod File
 pub mod Numbers
 pub mod Filing
+pub mod Prefixes
 pub mod Table
 pub mod Suppressing
 pub mod Written
+pub mod Keys
 pub mod Marks

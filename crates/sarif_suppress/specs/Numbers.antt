@@ -3,6 +3,9 @@ use Rattle.std.specs.Prelude.{ℕ, ◌+◌, Bool, false, List, [], ◌∷◌, fo
 use Rattle.std.specs.BTreeSet.{insert_key}
 use Rattle.std.specs.Option.{option_map_or}
 use Rattle.std.specs.Ordering.{nat_cmp}
+use Rattle.std.specs.declared.alloc.Global.{Global}
+use Rattle.std.specs.declared.vec.Vec.{Vec}
+use Rattle.indexmap.specs.IndexMap.{IndexMap, get}
 use Rattle.sarif_suppress.specs.declared.entry.Entry.{Entry}
 
 -- the numbers of those that pass the test, where the first has number n
@@ -18,3 +21,11 @@ with_numbers rising numbers = fold (insert_key nat_cmp) rising numbers
 -- whether the entry with that number passes the test
 abbrev pub passes_at : (Entry → Bool) → List Entry → ℕ → Bool
 passes_at test entries n = option_map_or test (slice_get entries n) false
+
+-- a list of numbers for each key
+abbrev pub NumbersBy : Type 0 → Type 0 → Type 0
+NumbersBy K S = IndexMap K (Vec ℕ Global) S
+
+-- the numbers that the table has for a key
+abbrev pub numbers_at : {K S : Type 0} → (K → K → Bool) → NumbersBy K S → K → List ℕ
+numbers_at eq table key = option_map_or (λ v. v.items) (get eq table key) []

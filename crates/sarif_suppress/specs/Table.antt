@@ -1,24 +1,12 @@
 -- The tables of the numbers of entries, by what they are filed under.
-use Rattle.std.specs.Prelude.{◌≡◌, ℕ, Bool, List, [], nat_eq, bytes_eq}
-use Rattle.std.specs.Option.{option_map_or}
-use Rattle.std.specs.declared.alloc.Global.{Global}
-use Rattle.std.specs.declared.vec.Vec.{Vec}
-use Rattle.indexmap.specs.IndexMap.{IndexMap, get}
+use Rattle.std.specs.Prelude.{◌≡◌, ℕ, List, nat_eq, bytes_eq}
 use Rattle.sarif_suppress.specs.declared.entry.Entry.{Entry}
 use Rattle.sarif_suppress.specs.declared.filing.PairCondition.TheVariants.{Full, Partial}
 use Rattle.sarif_suppress.specs.declared.filing.TextCondition.TheVariants.{Uri, RuleId, Tool}
 use Rattle.sarif_suppress.specs.declared.table.Table.{Table}
 use Rattle.sarif_suppress.specs.Filing.{asks_for_guid, asks_for_pair, asks_for_text, asks_for_none}
 use Rattle.sarif_suppress.specs.Matching.{is_pair}
-use Rattle.sarif_suppress.specs.Numbers.{numbers_from}
-
--- a list of numbers for each key
-abbrev pub NumbersBy : Type 0 → Type 0 → Type 0
-NumbersBy K S = IndexMap K (Vec ℕ Global) S
-
--- the numbers that the table has for a key
-abbrev pub numbers_at : {K S : Type 0} → (K → K → Bool) → NumbersBy K S → K → List ℕ
-numbers_at eq table key = option_map_or (λ v. v.items) (get eq table key) []
+use Rattle.sarif_suppress.specs.Numbers.{numbers_from, numbers_at}
 
 -- each table has just the entries that are filed in it
 pub record IsTable {S H : Type 0} (entries : List Entry) (table : Table S H) : Type 0 where

@@ -70,13 +70,21 @@ impl Conditions {
         self.uri.is_none() && self.rule_id.is_none() && self.uri_prefix.is_none()
     }
 
+    /// The prefix that is named, where the entry is filed under it.
+    pub(crate) fn prefix_key(&self) -> Option<&Text>
+        ensures { option_copied result ≡ said.prefix_key self.now }
+    {
+        if self.is_unmarked() && self.uri.is_none() && self.rule_id.is_none() {
+            self.uri_prefix.as_ref()
+        } else {
+            None
+        }
+    }
+
     /// Whether the entry is filed nowhere.
     pub(crate) fn has_no_key(&self) -> bool
         ensures { result ≡ said.has_no_key self.now }
     {
-        self.is_unmarked()
-            && self.uri.is_none()
-            && self.rule_id.is_none()
-            && (self.uri_prefix.is_some() || self.tool.is_none())
+        self.is_unmarked() && self.has_tool_alone() && self.tool.is_none()
     }
 }

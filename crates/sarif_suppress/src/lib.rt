@@ -6,16 +6,18 @@ mod conditions;
 mod entry;
 mod fault;
 mod filing;
+mod key;
 mod laws;
 mod marks;
+mod numbers;
 mod object;
+mod prefixes;
 mod read_entry;
 mod read_file;
 mod select;
 mod suppressions;
 mod table;
-#[cfg(test)]
-mod tests;
+mod unseen;
 mod version;
 
 pub use conditions::Conditions;

@@ -1,12 +1,18 @@
-//! The object that is written for an entry, and whether a value is that object.
+//! The objects that are written for entries, and which values they are.
 ghost use Rattle.std.specs.Prelude.{◌≡◌, ◌↔◌, IsTrue, map, slice_get, IfOk, OnOk};
 ghost use Rattle.std.specs.List.{list_any};
-ghost use Rattle.serde_json.specs.View.{view, members_view};
+ghost use Rattle.serde_json.specs.View.{view};
 ghost use Rattle.sarif_suppress.specs.Written as said;
 
 use crate::entry::Entry;
-use serde_json::{Map, Value, json};
+use crate::key::{is_object_with, key_of};
+use crate::unseen::unseen_objects;
+use serde_json::{Value, json};
 use std::alloc::{AllocError, Global};
+use std::hash::BuildHasher;
+
+/// Up to so many entries, each one's object is looked for among those before it, one by one.
+const FEW: usize = 4;
 
 /// The object of an entry: its `kind`, which is `external`, its `status`, and its `justification`
 /// where it has one.
@@ -22,73 +28,13 @@ pub(crate) fn object_of(alloc: Global, entry: &Entry) -> Result<Value, AllocErro
     }
 }
 
-/// Whether the value is that text.
-fn is_string(text: &str, value: &Value) -> bool
-    ensures { result ≡ said.is_string text.now (view value.now) }
-{
-    match value.as_str() {
-        Some(found) => text == found,
-        None => false,
-    }
-}
-
-/// Whether the members are just these texts, each under its name.
-fn are_just(texts: &[(&str, &str)], members: &Map<String, Value>) -> bool
-    ensures { result ≡ said.are_just (map (λ p. (p.0.now, p.1.now)) texts.now)
-        (members_view members.now.entries) }
-{
-    let mut at = 0;
-    for (name, value) in members.iter() {
-        if at >= texts.len() {
-            return false;
-        }
-        let (wanted, text) = texts[at];
-        if wanted != name.as_str() || !is_string(text, value) {
-            return false;
-        }
-        at += 1;
-    }
-    at == texts.len()
-}
-
-/// A text under its name.
-fn named<'a>(name: &'a str, text: &'a str) -> (&'a str, &'a str)
-    ensures name { result.0.now ≡ name.now }
-    ensures text { result.1.now ≡ text.now }
-{
-    (name, text)
-}
-
-/// Whether the members are just those of the entry's object.
-fn are_members_of(entry: &Entry, members: &Map<String, Value>) -> bool
-    ensures { result ≡ said.are_just (said.texts_of entry.now) (members_view members.now.entries) }
-{
-    match &entry.justification {
-        Some(text) => are_just(
-            &[
-                named("justification", text.as_str()),
-                named("kind", "external"),
-                named("status", entry.status.name()),
-            ],
-            members,
-        ),
-        None => are_just(
-            &[("kind", "external"), ("status", entry.status.name())],
-            members,
-        ),
-    }
-}
-
 /// Whether the value is the entry's object.
 #[tactic(auto, using(crate::proofs::ObjectTest::object_means))]
 pub(crate) fn is_object_of(entry: &Entry, value: &Value) -> bool
     ensures means { IsTrue result ↔ (view value.now ≡ said.object_of entry.now) }
     ensures test { result ≡ said.is_object_of entry.now (view value.now) }
 {
-    match value.as_object() {
-        Some(members) => are_members_of(entry, members),
-        None => false,
-    }
+    is_object_with(&key_of(entry), value)
 }
 
 /// Puts the entry's object at the end, unless an equal one stands in the list already.
@@ -131,10 +77,27 @@ fn add_object_at(
     }
 }
 
+/// The same for the entries of these numbers, one by one.
+fn add_objects(
+    alloc: Global,
+    list: &mut Vec<Value>,
+    entries: &[Entry],
+    numbers: &[u32],
+) -> Result<(), AllocError>
+    ensures { OnOk result (map view list.new.items
+        ≡ said.with_objects_at (map view list.old.items) entries.now numbers.now) }
+{
+    for number in numbers {
+        add_object_at(alloc, list, entries, *number)?;
+    }
+    Ok(())
+}
+
 /// The list with the objects of the entries of these numbers behind it, without each that equals
 /// one that stands before it.
-pub(crate) fn with_objects(
+pub(crate) fn with_objects<S: BuildHasher + Copy>(
     alloc: Global,
+    hasher: S,
     own: Vec<Value>,
     entries: &[Entry],
     numbers: &[u32],
@@ -143,8 +106,11 @@ pub(crate) fn with_objects(
         ≡ said.with_objects_at (map view own.items) entries.now numbers.now) }
 {
     let mut list = own;
-    for number in numbers {
-        add_object_at(alloc, &mut list, entries, *number)?;
+    if numbers.len() <= FEW {
+        add_objects(alloc, &mut list, entries, numbers)?;
+    } else {
+        let mut unseen = unseen_objects(alloc, hasher, &list, entries, numbers)?;
+        list.append(&mut unseen)?;
     }
     Ok(list)
 }

@@ -9,6 +9,7 @@ ghost use Rattle.sarif_suppress.specs.Suppressing.{matching_numbers, is_suppress
 use crate::entry::Entry;
 use crate::marks::Marks;
 use crate::object::{object_of, with_objects};
+use crate::prefixes::PrefixTable;
 use crate::select::{count_unused, do_suppress, select};
 use crate::table::Table;
 use sarif_records::{Record, Sequence};
@@ -21,21 +22,26 @@ use std::marker::Model;
 /// entries in order, and the day, whatever the hasher of its tables.
 #[derive(Drop)]
 pub struct Suppressions<S: BuildHasher + Copy = RandomState> {
+    /// By which the keys of a result's suppressions are hashed.
+    hasher: S,
     entries: Vec<Entry>,
     today: Option<u32>,
     table: Table<S>,
+    prefixes: PrefixTable<S>,
 }
 
 impl<S: BuildHasher + Copy> Model for Suppressions<S> {
     ghost use Rattle.std.specs.Prelude.{◌≤◌, length};
     ghost use Rattle.sarif_suppress.specs.File.{File};
+    ghost use Rattle.sarif_suppress.specs.Prefixes.{IsPrefixTable};
     ghost use Rattle.sarif_suppress.specs.Table.{IsTable};
 
     ghost Value = { File };
 
     ghost view = { λ s. record { entries = s.entries.items; today = s.today } };
 
-    ghost invariant = { λ s. (length s.entries.items ≤ 10000) × IsTable s.entries.items s.table };
+    ghost invariant = { λ s. (length s.entries.items ≤ 10000)
+        × IsTable s.entries.items s.table × IsPrefixTable s.entries.items s.prefixes };
 }
 
 /// What a suppression file makes of a result.
@@ -66,10 +72,13 @@ impl<S: BuildHasher + Copy> Suppressions<S> {
         ensures { IfOk result (λ s. s ≡ record { entries = entries.items; today = today }) }
     {
         let table = Table::new(alloc, hasher, &entries)?;
+        let prefixes = PrefixTable::new(alloc, hasher, &entries)?;
         Ok(Suppressions {
+            hasher,
             entries,
             today,
             table,
+            prefixes,
         })
     }
 
@@ -96,7 +105,8 @@ impl<S: BuildHasher + Copy> Suppressions<S> {
         ensures verdict { IfOk result
             (λ applied. applied.suppressed ≡ is_suppressed self.now «record».now) }
     {
-        let numbers = self.table.candidates(alloc, record)?;
+        let mut numbers = self.table.candidates(alloc, record)?;
+        self.prefixes.add_for(&mut numbers, &record.place.uri)?;
         let entries = select(alloc, &self.entries, self.today, record, &numbers)?;
         let suppressed = do_suppress(record.held.as_slice(), &self.entries, entries.as_slice());
         Ok(Applied {
@@ -135,7 +145,8 @@ impl<S: BuildHasher + Copy> Suppressions<S> {
             → IfOk result (λ list. map view list.items
             ≡ said.suppressions_of (map view own.items) self.now r) }
     {
-        let list = with_objects(alloc, own, &self.entries, applied.entries.as_slice())?;
+        let numbers = applied.entries.as_slice();
+        let list = with_objects(alloc, self.hasher, own, &self.entries, numbers)?;
         Ok(list)
     }
 

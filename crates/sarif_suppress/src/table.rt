@@ -1,20 +1,22 @@
 //! The numbers of the entries by what they ask for, so that a result meets only those that may
 //! match it. Each entry is filed under the most telling of its conditions: its guid, else its first
-//! fingerprint, else its first partial fingerprint, else its uri, else its rule id, else its tool.
-ghost use Rattle.std.specs.Prelude.{◌≡◌, ◌≤◌, ◌++◌, ◌∷◌, [], List, ℕ, length, nat_eq, bytes_eq, IfOk, OnOk, if◌then◌else◌};
+//! fingerprint, else its first partial fingerprint, else its uri, else its rule id, else its prefix
+//! of a uri, else its tool. Those that are filed under a prefix stand in a table of their own.
+ghost use Rattle.std.specs.Prelude.{◌≡◌, ◌≤◌, ◌++◌, [], List, ℕ, length, nat_eq, bytes_eq, IfOk, OnOk};
 ghost use Rattle.std.specs.List.{flat_map};
 ghost use Rattle.std.specs.Option.{option_map_or};
 ghost use Rattle.sarif_suppress.specs.Filing as said;
 ghost use Rattle.sarif_suppress.specs.Matching.{is_pair};
-ghost use Rattle.sarif_suppress.specs.Numbers.{numbers_from};
-ghost use Rattle.sarif_suppress.specs.Table.{IsTable, numbers_at};
+ghost use Rattle.sarif_suppress.specs.Numbers.{numbers_from, numbers_at};
+ghost use Rattle.sarif_suppress.specs.Table.{IsTable};
 
 use crate::entry::Entry;
 use crate::filing::{PairCondition, TextCondition};
+use crate::numbers::{add_number, numbers_for};
 use indexmap::IndexMap;
 use sarif_records::{Record, Text};
 use std::alloc::{AllocError, Global};
-use std::hash::{BuildHasher, Hash};
+use std::hash::BuildHasher;
 
 /// The numbers of the entries, rising, by what each is filed under.
 #[derive(Drop)]
@@ -45,7 +47,8 @@ impl<S: BuildHasher + Copy> Table<S> {
         })
     }
 
-    /// The numbers of the entries that may match the result, in no order.
+    /// The numbers of the entries that may match the result, in no order, without those that are
+    /// filed under a prefix.
     pub(crate) fn candidates(&self, alloc: Global, record: &Record) -> Result<Vec<u32>, AllocError>
         ensures { IfOk result (λ found. (entries : List Entry) → IsTable entries self.now
             → found.items ≡ said.candidates entries «record».now) }
@@ -74,26 +77,6 @@ fn add_with_pairs<S: BuildHasher + Copy>(
     for pair in pairs {
         found.extend_from_slice(numbers_for(table, pair))?;
     }
-    Ok(())
-}
-
-/// Puts the number behind those that the table has for the key.
-fn add_number<K: Eq + Hash + Drop, S: BuildHasher + Copy>(
-    alloc: Global,
-    table: &mut IndexMap<K, Vec<u32>, S>,
-    key: K,
-    number: u32,
-) -> Result<(), AllocError>
-    ensures { OnOk result ((q : K) → numbers_at K.eq table.new q
-        ≡ numbers_at K.eq table.old q ++ (if K.eq key q then number ∷ [] else [])) }
-{
-    if let Some(numbers) = table.get_mut(&key) {
-        numbers.push(number)?;
-        return Ok(());
-    }
-    let mut numbers = Vec::new(alloc);
-    numbers.push(number)?;
-    table.insert(key, numbers)?;
     Ok(())
 }
 
@@ -170,19 +153,6 @@ fn numbers_of_others(alloc: Global, entries: &[Entry]) -> Result<Vec<u32>, Alloc
         }
     }
     Ok(numbers)
-}
-
-/// The numbers of the entries that are filed under `key`.
-fn numbers_for<'a, K: Eq + Hash, S: BuildHasher + Copy>(
-    table: &'a IndexMap<K, Vec<u32>, S>,
-    key: &K,
-) -> &'a [u32]
-    ensures { result.now ≡ numbers_at K.eq table.now key.now }
-{
-    match table.get(key) {
-        Some(numbers) => numbers.as_slice(),
-        None => &[],
-    }
 }
 
 /// The numbers of the entries that are filed under `guid`; without one there are none.

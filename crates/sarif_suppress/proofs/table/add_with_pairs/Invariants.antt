@@ -1,7 +1,7 @@
 use Rattle.std.proofs.Common.{◌≡◌, ◌++◌, drop}
 use Rattle.std.specs.List.{flat_map}
 use Rattle.sarif_suppress.specs.Matching.{is_pair}
-use Rattle.sarif_suppress.specs.Table.{numbers_at}
+use Rattle.sarif_suppress.specs.Numbers.{numbers_at}
 use Rattle.sarif_suppress.proofs.table.add_with_pairs.Given as goal
 
 -- the numbers so far, and then those of the fingerprints that are left

@@ -1,7 +1,7 @@
 use Rattle.std.proofs.Common.{◌≡◌, ◌++◌, ℕ, drop, nat_eq}
 use Rattle.sarif_suppress.specs.Filing.{asks_for_guid}
 use Rattle.sarif_suppress.specs.Numbers.{numbers_from}
-use Rattle.sarif_suppress.specs.Table.{numbers_at}
+use Rattle.sarif_suppress.specs.Numbers.{numbers_at}
 use Rattle.sarif_suppress.proofs.table.numbers_by_guid.Given as goal
 
 -- for each guid the numbers so far, and then those of the entries that are left

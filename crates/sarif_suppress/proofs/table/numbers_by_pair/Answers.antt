@@ -2,7 +2,7 @@ use Rattle.std.proofs.Common.{rules, ◌≡◌, ◌++◌, ◌∷◌, [], None, S
 use Rattle.std.proofs.lemmas.List.{append-nil}
 use Rattle.sarif_suppress.specs.Filing.{asks_for_pair, pair_key}
 use Rattle.sarif_suppress.specs.Matching.{is_pair}
-use Rattle.sarif_suppress.specs.Table.{numbers_at}
+use Rattle.sarif_suppress.specs.Numbers.{numbers_at}
 use Rattle.sarif_suppress.proofs.Numbered.{one_more}
 use Rattle.sarif_suppress.proofs.table.numbers_by_pair.Goals as goal
 use Rattle.sarif_suppress.proofs.table.numbers_by_pair.Goals.{in-Some+in_ok-clone+in_ok-clone-2+in_ok-add_number, in_default}

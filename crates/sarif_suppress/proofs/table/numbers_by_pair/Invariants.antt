@@ -2,7 +2,7 @@ use Rattle.std.proofs.Common.{◌≡◌, ◌++◌, ℕ, List, drop}
 use Rattle.sarif_suppress.specs.Filing.{asks_for_pair}
 use Rattle.sarif_suppress.specs.Matching.{is_pair}
 use Rattle.sarif_suppress.specs.Numbers.{numbers_from}
-use Rattle.sarif_suppress.specs.Table.{numbers_at}
+use Rattle.sarif_suppress.specs.Numbers.{numbers_at}
 use Rattle.sarif_suppress.proofs.table.numbers_by_pair.Given as goal
 
 -- for each fingerprint the numbers so far, and then those of the entries that are left

@@ -1,7 +1,7 @@
 use Rattle.std.proofs.Common.{rules, ◌≡◌, ◌++◌, ◌∷◌, [], None, Some, refl, arith, bytes_eq, if◌then◌else◌}
 use Rattle.std.proofs.lemmas.List.{append-nil}
 use Rattle.sarif_suppress.specs.Filing.{asks_for_text, text_key}
-use Rattle.sarif_suppress.specs.Table.{numbers_at}
+use Rattle.sarif_suppress.specs.Numbers.{numbers_at}
 use Rattle.sarif_suppress.proofs.Numbered.{one_more}
 use Rattle.sarif_suppress.proofs.table.numbers_by_text.Goals as goal
 use Rattle.sarif_suppress.proofs.table.numbers_by_text.Goals.{in-Some+in_ok-clone+in_ok-add_number, in_default}

@@ -2,7 +2,7 @@ use Rattle.std.proofs.Common.{rules, ◌≡◌, ◌++◌, [], nat_eq, bytes_eq, 
 use Rattle.std.specs.List.{flat_map}
 use Rattle.std.specs.Option.{option_map_or}
 use Rattle.sarif_suppress.specs.Matching.{is_pair}
-use Rattle.sarif_suppress.specs.Table.{numbers_at}
+use Rattle.sarif_suppress.specs.Numbers.{numbers_at}
 use Rattle.sarif_suppress.proofs.Candidates.{from_tables}
 use Rattle.sarif_suppress.proofs.table.Table.candidates.Goals as goal
 

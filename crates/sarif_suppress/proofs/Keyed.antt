@@ -1,0 +1,142 @@
+-- What the keys of a set tell of the objects of entries in a list.
+use Rattle.std.proofs.Common.{◌≡◌, ℕ, zero, suc, ◌+◌, ◌<◌, length, drop, get_or, slice_get, arith, Bool, true, false, ◌&&◌, ◌||◌, List, [], ◌∷◌, ◌++◌, Option, Some, None, Bor, option_map, codes, cond, bytes_eq, refl, sym, ap, ◌∙◌, if◌then◌else◌}
+use Rattle.std.specs.Bool.{Decides}
+use Rattle.std.specs.List.{list_any}
+use Rattle.std.specs.Option.{option_eq}
+use Rattle.std.proofs.lemmas.Bool.{false≢true}
+use Rattle.std.proofs.lemmas.List.Folds.{list_any-append}
+use Rattle.std.proofs.lemmas.Slice.Eq.{bytes_eq-Decides}
+use Rattle.indexmap.specs.IndexSet.{IndexSet, contains, insert_key, Updates}
+use Rattle.serde_json.specs.Data.{Data, object}
+use Rattle.sarif_records.specs.declared.kinds.Status.{Status}
+use Rattle.sarif_records.specs.declared.kinds.Status.TheVariants.{Accepted, UnderReview, Rejected}
+use Rattle.sarif_records.specs.contracts.kinds.StatusPartialEq.TheImpl as status
+use Rattle.sarif_suppress.specs.declared.entry.Entry.{Entry}
+use Rattle.sarif_suppress.specs.declared.key.Key.{Key}
+use Rattle.sarif_suppress.specs.Keys.{texts_with, justification_of, has_key, same_key, text_in, status_in, HasKeysOf}
+use Rattle.sarif_suppress.specs.Written.{text_members, object_of, is_object_of, with_object, with_object_if, with_objects_at}
+use Rattle.sarif_suppress.proofs.ObjectTest.{texts_mean, object_means}
+
+-- ---- what equality of keys means
+
+status_means : (a b : Status) → Decides (status.ghosts.eq a b) (a ≡ b)
+status_means Accepted Accepted = (λ _. refl, λ _. refl)
+status_means Accepted UnderReview = (λ t. absurd (false≢true t), λ e. cc)
+status_means Accepted Rejected = (λ t. absurd (false≢true t), λ e. cc)
+status_means UnderReview Accepted = (λ t. absurd (false≢true t), λ e. cc)
+status_means UnderReview UnderReview = (λ _. refl, λ _. refl)
+status_means UnderReview Rejected = (λ t. absurd (false≢true t), λ e. cc)
+status_means Rejected Accepted = (λ t. absurd (false≢true t), λ e. cc)
+status_means Rejected UnderReview = (λ t. absurd (false≢true t), λ e. cc)
+status_means Rejected Rejected = (λ _. refl, λ _. refl)
+
+text_means : (a b : Option (List ℕ)) → Decides (option_eq bytes_eq a b) (a ≡ b)
+text_means None None = (λ _. refl, λ _. refl)
+text_means None (Some b) = (λ t. absurd (false≢true t), λ e. cc)
+text_means (Some a) None = (λ t. absurd (false≢true t), λ e. cc)
+text_means (Some a) (Some b) = (λ t. ap Some ((bytes_eq-Decides a b).0 t), λ e. (bytes_eq-Decides a b).1 cc)
+
+both : {A B : Type 0} (a b : Bool) → Decides a A → Decides b B → Decides (a && b) (A × B)
+both true b first second = (λ t. (first.0 refl, second.0 t), λ p. second.1 p.1)
+both false b first second = (λ t. absurd (false≢true t), λ p. first.1 p.0)
+
+same_texts : (j i : Option (Bor (List ℕ))) → option_eq (λ a b. bytes_eq a.now b.now) j i ≡ option_eq bytes_eq (option_map (λ text. text.now) j) (option_map (λ text. text.now) i)
+same_texts None None = refl
+same_texts None (Some b) = refl
+same_texts (Some a) None = refl
+same_texts (Some a) (Some b) = refl
+
+same_parts : (k q : Key) → same_key k q ≡ (status.ghosts.eq k.status q.status && option_eq bytes_eq (justification_of k) (justification_of q))
+same_parts k q = ap (λ b. status.ghosts.eq k.status q.status && b) (same_texts k.justification q.justification)
+
+key_means : (k q : Key) → Decides (same_key k q) ((k.status ≡ q.status) × (justification_of k ≡ justification_of q))
+key_means k q = rw (same_parts k q) (both _ _ (status_means k.status q.status) (text_means (justification_of k) (justification_of q)))
+
+-- ---- what is read of an object
+
+read_status : (s : Status) (j : Option (List ℕ)) → status_in (object (text_members (texts_with s j))) ≡ Some s
+read_status Accepted None = refl
+read_status Accepted (Some text) = refl
+read_status UnderReview None = refl
+read_status UnderReview (Some text) = refl
+read_status Rejected None = refl
+read_status Rejected (Some text) = refl
+
+read_text : (s : Status) (j : Option (List ℕ)) → text_in (codes "justification") (object (text_members (texts_with s j))) ≡ j
+read_text s None = refl
+read_text s (Some text) = refl
+
+-- an object with a key has what the key says
+reads : (q : Key) (d : Data) → has_key q d ≡ true → (status_in d ≡ Some q.status) × (text_in (codes "justification") d ≡ justification_of q)
+reads q d t =
+    let is : d ≡ object (text_members (texts_with q.status (justification_of q))) = (texts_mean (texts_with q.status (justification_of q)) d).0 t in
+    rw is (read_status q.status (justification_of q), read_text q.status (justification_of q))
+
+from_both : (a b : Bool) → (a ≡ true → b ≡ true) → (b ≡ true → a ≡ true) → a ≡ b
+from_both true b f g = sym (f refl)
+from_both false true f g = g refl
+from_both false false f g = refl
+
+never : (a : Bool) → (a ≡ true → ⊥) → a ≡ false
+never true f = absurd (f refl)
+never false f = refl
+
+-- the keys of one object are equal, and no others have it
+pub told_by : (k q : Key) (d : Data) → has_key k d ≡ true → has_key q d ≡ same_key k q
+told_by k q d mine =
+    let here : (status_in d ≡ Some k.status) × (text_in (codes "justification") d ≡ justification_of k) = reads k d mine in
+    from_both _ _
+    (λ t.
+    let there : (status_in d ≡ Some q.status) × (text_in (codes "justification") d ≡ justification_of q) = reads q d t in
+    (key_means k q).1 (cc, sym here.1 ∙ there.1))
+    (λ t.
+    let same : (k.status ≡ q.status) × (justification_of k ≡ justification_of q) = (key_means k q).0 t in
+    sym (rw (same.0, same.1) refl) ∙ mine)
+
+-- where no status is read, the value has no key
+pub no_status : (q : Key) (d : Data) → status_in d ≡ None → has_key q d ≡ false
+no_status q d none = never _ (λ t. let found : status_in d ≡ Some q.status = (reads q d t).0 in cc)
+
+-- where it hasn't the key that is read of it, it has none
+pub no_other : (k q : Key) (d : Data) → status_in d ≡ Some k.status → text_in (codes "justification") d ≡ justification_of k → has_key k d ≡ false → has_key q d ≡ false
+no_other k q d status text unlike = never _ (λ t.
+    let there : (status_in d ≡ Some q.status) × (text_in (codes "justification") d ≡ justification_of q) = reads q d t in
+    let one : k.status ≡ q.status = cc in
+    let other : justification_of k ≡ justification_of q = sym text ∙ there.1 in
+    let has : has_key k d ≡ true = rw (one, other) t in
+    cc)
+
+-- ---- a set of keys, and a list whose objects have them
+
+or_false : (b : Bool) → (b || false) ≡ b
+or_false true = refl
+or_false false = refl
+
+cond_is_or : (a b : Bool) → cond a true b ≡ (b || a)
+cond_is_or true true = refl
+cond_is_or true false = refl
+cond_is_or false true = refl
+cond_is_or false false = refl
+
+has_one_more : (q : Key) (values : List Data) (d : Data) → list_any (has_key q) (values ++ d ∷ []) ≡ (list_any (has_key q) values || has_key q d)
+has_one_more q values d = list_any-append (has_key q) values (d ∷ []) ∙ ap (λ b. list_any (has_key q) values || b) (or_false (has_key q d))
+
+-- a value with a key, which is added
+pub with_key : {S : Type 0} (old new : IndexSet Key S) (k : Key) (values : List Data) (d : Data) → ((q : Key) → has_key q d ≡ same_key k q) → Updates same_key old new k true → HasKeysOf old values → HasKeysOf new (values ++ d ∷ [])
+with_key old new k values d told updates has = λ q.
+    updates.0 q ∙ cond_is_or (same_key k q) (contains same_key old q) ∙ ap (λ b. b || same_key k q) (has q) ∙ ap (λ b. list_any (has_key q) values || b) (sym (told q)) ∙ sym (has_one_more q values d)
+
+-- a value without one
+pub without_key : {S : Type 0} (keys : IndexSet Key S) (values : List Data) (d : Data) → ((q : Key) → has_key q d ≡ false) → HasKeysOf keys values → HasKeysOf keys (values ++ d ∷ [])
+without_key keys values d none has = λ q.
+    has q ∙ sym (has_one_more q values d ∙ rw (none q) (or_false (list_any (has_key q) values)))
+
+-- ---- one number after the other
+
+-- the objects of the numbers that are left, behind those of the next one
+pub next_object : (list new : List Data) (entries : List Entry) (numbers : List ℕ) (i : ℕ) → i < length numbers → new ≡ with_object_if list (slice_get entries (get_or numbers i 0)) → with_objects_at new entries (drop (i + 1) numbers) ≡ with_objects_at list entries (drop i numbers)
+next_object list new entries [] i within added = absurd (omega (arith, within))
+next_object list new entries (n ∷ ns) zero within added = rw added refl
+next_object list new entries (n ∷ ns) (suc i) within added =
+    let more : suc i + 1 ≡ suc (i + 1) = omega arith in
+    rw more (next_object list new entries ns i (omega (arith, within)) added)

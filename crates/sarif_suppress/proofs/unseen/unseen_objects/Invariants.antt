@@ -1,0 +1,12 @@
+use Rattle.std.proofs.Common.{◌≡◌, ◌++◌, map, drop}
+use Rattle.serde_json.specs.View.{view}
+use Rattle.sarif_suppress.specs.Keys.{HasKeysOf}
+use Rattle.sarif_suppress.specs.Written.{with_objects_at}
+use Rattle.sarif_suppress.proofs.unseen.unseen_objects.Given as goal
+
+-- what is left is added behind the objects so far, and the keys are those of the own suppressions and of these
+abbrev pub invariant-loop-number : goal.invariant-loop-number
+invariant-loop-number g l = record {
+  keys : HasKeysOf l.keys (map view l.own ++ map view l.unseen.items);
+  told : with_objects_at (map view l.own ++ map view l.unseen.items) l.entries (drop l.number-index l.numbers) ≡ with_objects_at (map view l.own) l.entries l.numbers;
+}

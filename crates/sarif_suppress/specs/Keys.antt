@@ -1,0 +1,46 @@
+-- What the object of an entry says, and which values say it.
+use Rattle.std.specs.Prelude.{◌≡◌, ℕ, Bool, true, false, ◌&&◌, List, [], ◌∷◌, Option, option_and_then, option_map, codes}
+use Rattle.std.specs.List.{list_any}
+use Rattle.std.specs.Option.{option_map_or}
+use Rattle.indexmap.specs.IndexSet.{IndexSet, contains}
+use Rattle.serde_json.specs.Data.{Data}
+use Rattle.serde_json.specs.Find.{get, as_str, as_object}
+use Rattle.sarif_records.specs.Status.{status_name, status_named}
+use Rattle.sarif_records.specs.declared.kinds.Status.{Status}
+use Rattle.sarif_suppress.specs.contracts.key.KeyPartialEq.TheImpl as derived
+use Rattle.sarif_suppress.specs.declared.key.Key.{Key}
+use Rattle.sarif_suppress.specs.Entries.{with_pair}
+use Rattle.sarif_suppress.specs.Written.{are_just}
+
+-- the members of an object with that status and that justification, if any
+abbrev pub texts_with : Status → Option (List ℕ) → List (List ℕ × List ℕ)
+texts_with status justification =
+    with_pair (codes "justification") justification ((codes "kind", codes "external") ∷ (codes "status", status_name status) ∷ [])
+
+-- the value is that object
+abbrev pub is_object_with : Status → Option (List ℕ) → Data → Bool
+is_object_with status justification d =
+    option_map_or (are_just (texts_with status justification)) (as_object d) false
+
+abbrev pub justification_of : Key → Option (List ℕ)
+justification_of key = option_map (λ text. text.now) key.justification
+
+-- the value is the object with that key
+abbrev pub has_key : Key → Data → Bool
+has_key key d = is_object_with key.status (justification_of key) d
+
+-- whether two keys are equal, part by part
+abbrev pub same_key : Key → Key → Bool
+same_key = derived.ghosts.eq
+
+-- the text of that name
+abbrev pub text_in : List ℕ → Data → Option (List ℕ)
+text_in name d = option_and_then as_str (get name d)
+
+-- the status of that name
+abbrev pub status_in : Data → Option Status
+status_in d = option_and_then status_named (text_in (codes "status") d)
+
+-- the set has the keys of those of the values that are objects of entries, and no others
+abbrev pub HasKeysOf : {S : Type 0} → IndexSet Key S → List Data → Type 0
+HasKeysOf keys values = (q : Key) → contains same_key keys q ≡ list_any (has_key q) values
