@@ -33,9 +33,9 @@ drafts_append (o ∷ os) ps = one_more o.draft (drafts_append os ps) where
   one_more None rest = rest
   one_more (Some d) rest = ap (λ ds. d ∷ ds) rest
 
--- the drafts of results, of a baseline's (true) and of a log's
+-- the drafts of results, of a baseline's (true), which has none yet, and of a log's
 abbrev drafts_at : File → Bool → List Record → List Data → List Draft
-drafts_at file true rs ds = drafts_by (λ _ own. own) unapplied rs ds
+drafts_at file true rs ds = []
 drafts_at file false rs ds = drafts_by (listing_of file) (applied_of file) rs ds
 
 abbrev kept : Bool → List Data → List Data
@@ -47,7 +47,7 @@ one : (file : File) (skip : Bool) (absent : Bool) (found : Result Record Fault) 
     → with_draft (draft_beside file skip d (if skip && absent then Skipped else item_by found)) ds
     ≡ drafts_at file skip (with_record (if skip && absent then Skipped else item_by found) (records_in items)) (cond (not (skip && absent)) (d ∷ rest) rest)
 one file true true found at n items ds d rest sound more = more sound
-one file true false (Ok r) at n items ds d rest sound more = ap (λ xs. draft_by (λ _ own. own) unapplied r (members_in d) ∷ xs) (more sound)
+one file true false (Ok r) at n items ds d rest sound more = more sound
 one file true false (Err fault) at n items ds d rest sound more = cc
 one file false absent (Ok r) at n items ds d rest sound more = ap (λ xs. draft_by (listing_of file) (applied_of file) r (members_in d) ∷ xs) (more sound)
 one file false absent (Err fault) at n items ds d rest sound more = cc
@@ -79,9 +79,6 @@ of_log file p is sound =
     of_run file p sound ∙ ap (λ b. drafts_at file b (records_in (items_of p)) (kept b (results_of p.run))) is
     ∙ ap (drafts_by (listing_of file) (applied_of file) (records_in (items_of p))) (kept_all false refl (results_of p.run))
 
-of_baseline : (file : File) (p : Placed) → skips p.source ≡ true → run_faults p ≡ [] → drafts_in (outcomes_of file p) ≡ drafts_by (λ _ own. own) unapplied (records_in (items_of p)) (present (results_of p.run))
-of_baseline file p is sound = of_run file p sound ∙ ap (λ b. drafts_at file b (records_in (items_of p)) (kept b (results_of p.run))) is
-
 -- drafts of two lists of results
 both : (listed : Listing) (applied : Record → Applied) (rs qs : List Record) (ds es : List Data) → length rs ≡ length ds
     → drafts_by listed applied rs ds ++ drafts_by listed applied qs es ≡ drafts_by listed applied (rs ++ qs) (ds ++ es)
@@ -100,17 +97,6 @@ current_drafts file (p ∷ ps) sound logs =
     ∙ ap (λ xs. xs ++ drafts_in (all_outcomes file ps)) (of_log file p logs.0 here)
     ∙ ap (λ xs. drafts_by (listing_of file) (applied_of file) (records_in (items_of p)) (results_of p.run) ++ xs) (current_drafts file ps left logs.1)
     ∙ both (listing_of file) (applied_of file) (records_in (items_of p)) (records_of ps) (results_of p.run) (flat_map results_of (data_of ps)) (records_of_log p logs.0 here)
-
-pub baseline_drafts : (file : File) (ps : List Placed) → faults_of_runs ps ≡ [] → AllByRecursion (λ p. skips p.source ≡ true) ps
-    → drafts_in (all_outcomes file ps) ≡ drafts_by (λ _ own. own) unapplied (records_of ps) (present_results (data_of ps))
-baseline_drafts file [] sound baselines = refl
-baseline_drafts file (p ∷ ps) sound baselines =
-    let here = no_faults_here (run_faults p) (faults_of_runs ps) sound in
-    let left = no_faults_left (run_faults p) (faults_of_runs ps) sound in
-    drafts_append (outcomes_of file p) (all_outcomes file ps)
-    ∙ ap (λ xs. xs ++ drafts_in (all_outcomes file ps)) (of_baseline file p baselines.0 here)
-    ∙ ap (λ xs. drafts_by (λ _ own. own) unapplied (records_in (items_of p)) (present (results_of p.run)) ++ xs) (baseline_drafts file ps left baselines.1)
-    ∙ both (λ _ own. own) unapplied (records_in (items_of p)) (records_of ps) (present (results_of p.run)) (present_results (data_of ps)) (records_of_baseline p baselines.0 here)
 
 -- the items among outcomes
 items_made : (file : File) (p : Placed) (seqs : List ℕ) → map (λ o. o.item) (map (outcome_of file p) seqs) ≡ map (item_of p) seqs

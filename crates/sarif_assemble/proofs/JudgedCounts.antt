@@ -1,9 +1,7 @@
 -- How many records the results of faultless runs have.
-use Rattle.std.proofs.Common.{◌≡◌, ℕ, zero, suc, ◌+◌, Bool, true, false, ◌&&◌, not, cond, if◌then◌else◌, List, [], ◌∷◌, ◌++◌, map, filter, length, take, drop, Option, Some, None, Result, Ok, Err, refl, sym, ap, ◌∙◌, arith}
-use Rattle.std.proofs.lemmas.Grind.{flat_map-append}
-use Rattle.std.proofs.lemmas.List.{length-append, drop_all, drop_more, take-append-drop}
-use Rattle.std.proofs.lemmas.List.Sums.{sum_by-cons}
-use Rattle.std.specs.List.{AllByRecursion, range_with_len, sum_by}
+use Rattle.std.proofs.Common.{◌≡◌, ℕ, zero, suc, ◌+◌, Bool, true, false, ◌&&◌, not, cond, if◌then◌else◌, List, [], ◌∷◌, ◌++◌, map, filter, length, drop, Option, Some, None, Result, Ok, Err, refl, sym, ap, ◌∙◌, arith}
+use Rattle.std.proofs.lemmas.List.{length-append, drop_all, drop_more}
+use Rattle.std.specs.List.{AllByRecursion, range_with_len}
 use Rattle.serde_json.specs.Data.{Data, null}
 use Rattle.sarif_records.specs.declared.fault.Fault.{Fault}
 use Rattle.sarif_records.specs.declared.record.Record.{Record}
@@ -85,22 +83,3 @@ records_of_logs (p ∷ ps) sound logs =
     let here = records_of_log p logs.0 (no_faults_here (run_faults p) (faults_of_runs ps) sound) in
     let rest = records_of_logs ps (no_faults_left (run_faults p) (faults_of_runs ps) sound) logs.1 in
     length-append (records_in (items_of p)) (records_of ps) ∙ ap (λ n. n + length (records_of ps)) here ∙ ap (λ n. length (results_of p.run) + n) rest
-
-pub records_of_baselines : (ps : List Placed) → faults_of_runs ps ≡ [] → AllByRecursion (λ p. skips p.source ≡ true) ps
-    → length (records_of ps) ≡ sum_by (λ run. length (present (results_of run))) (map (λ p. p.run) ps)
-records_of_baselines [] sound baselines = refl
-records_of_baselines (p ∷ ps) sound baselines =
-    let here = records_of_baseline p baselines.0 (no_faults_here (run_faults p) (faults_of_runs ps) sound) in
-    let rest = records_of_baselines ps (no_faults_left (run_faults p) (faults_of_runs ps) sound) baselines.1 in
-    length-append (records_in (items_of p)) (records_of ps) ∙ ap (λ n. n + length (records_of ps)) here ∙ ap (λ n. length (present (results_of p.run)) + n) rest
-    ∙ sym (sum_by-cons (λ run. length (present (results_of run))) p.run (map (λ p. p.run) ps))
-
-split : (ps : List Placed) (n : ℕ) → faults_of_runs (take n ps) ++ faults_of_runs (drop n ps) ≡ faults_of_runs ps
-split ps n = sym (flat_map-append run_faults (take n ps) (drop n ps)) ∙ ap faults_of_runs (take-append-drop n ps)
-
--- runs in two parts are faultless where all of them are
-pub first_runs_faultless : (ps : List Placed) (n : ℕ) → faults_of_runs ps ≡ [] → faults_of_runs (take n ps) ≡ []
-first_runs_faultless ps n sound = no_faults_here (faults_of_runs (take n ps)) (faults_of_runs (drop n ps)) (split ps n ∙ sound)
-
-pub last_runs_faultless : (ps : List Placed) (n : ℕ) → faults_of_runs ps ≡ [] → faults_of_runs (drop n ps) ≡ []
-last_runs_faultless ps n sound = no_faults_left (faults_of_runs (take n ps)) (faults_of_runs (drop n ps)) (split ps n ∙ sound)

@@ -1,7 +1,9 @@
 pub mod StatesMore
 pub mod JudgedCounts
 pub mod FoundDrafts
+pub mod BaselineSpots
 pub mod RunPartsOf
 pub mod Marked
 pub mod Sides
-pub mod WrittenHalves
+pub mod LeftTexts
+pub mod WrittenSides

@@ -1,5 +1,5 @@
 -- What stands of runs of logs and of baselines, by their parts, records and drafts.
-use Rattle.std.proofs.Common.{◌≡◌, ◌≤◌, ◌+◌, ℕ, suc, Bool, true, false, not, cond, List, [], ◌∷◌, Option, Some, None, filter, length, length-append, is_some, option_map, unwrap_or, refl, sym, ap, ◌∙◌, arith}
+use Rattle.std.proofs.Common.{◌≡◌, ◌≤◌, ◌+◌, ℕ, suc, Bool, true, false, not, cond, List, [], ◌∷◌, Option, Some, None, filter, length, length-append, is_some, option_map, refl, sym, ap, ◌∙◌, arith}
 use Rattle.std.proofs.lemmas.List.{length-map}
 use Rattle.std.proofs.lemmas.List.Sums.{length-filter}
 use Rattle.std.proofs.lemmas.List.FromFn.{length-range_with_len}
@@ -13,7 +13,7 @@ use Rattle.sarif_suppress.specs.declared.suppressions.Applied.{Applied}
 use Rattle.sarif_judge.specs.Judging.{faults_of_runs, items_of, records_in, records_of, run_faults, skips}
 use Rattle.sarif_judge.specs.Placed.{Placed}
 use Rattle.sarif_write.specs.declared.run_parts.RunParts.{RunParts}
-use Rattle.sarif_write.specs.Drafts.{counts_in_parts, drafts_by, own_count, present_count, present_results, ArePartsOf}
+use Rattle.sarif_write.specs.Drafts.{counts_in_parts, drafts_by, own_count, present_results, ArePartsOf}
 use Rattle.sarif_write.specs.MergedRuns.{Listing, present}
 use Rattle.sarif_write.proofs.RunTexts.{run_count}
 use Rattle.sarif_assemble.specs.LogBy.{data_of, runs_without_results, states_from, taken_of}
@@ -66,14 +66,6 @@ own_total [] (run ∷ runs) parts = absurd parts
 own_total (p ∷ all) [] parts = absurd parts
 own_total (p ∷ all) (run ∷ runs) parts =
     ap (λ n. n + counts_in_parts all) (run_count p run parts.1) ∙ ap (λ n. length (results_of run) + n) (own_total all runs parts.2)
-
-pub present_total : (all : List RunParts) (runs : List Data) → ArePartsOf present_count all runs → counts_in_parts all ≡ length (present_results runs)
-present_total [] [] parts = refl
-present_total [] (run ∷ runs) parts = absurd parts
-present_total (p ∷ all) [] parts = absurd parts
-present_total (p ∷ all) (run ∷ runs) parts =
-    ap (λ n. unwrap_or n 0 + counts_in_parts all) parts.1 ∙ ap (λ n. length (present (results_of run)) + n) (present_total all runs parts.2)
-    ∙ sym (length-append (present (results_of run)) (present_results runs))
 
 pub records_present : (ps : List Placed) → faults_of_runs ps ≡ [] → AllByRecursion (λ p. skips p.source ≡ true) ps
     → length (records_of ps) ≡ length (present_results (data_of ps))

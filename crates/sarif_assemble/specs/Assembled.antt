@@ -29,5 +29,5 @@ pub record IsLogOf (runs : List Data) (policy : Policy) (without unused : ℕ) (
 
 -- the merge of these input runs, these baseline runs and this suppression file
 abbrev pub IsMergedBy : File → List Placed → List Placed → Policy → Merged → Type 0
-IsMergedBy file now before policy merged =
-    IsLogOf (runs_by file now before) policy (runs_without_results (data_of now)) (unused_of file (records_of now)) merged
+IsMergedBy file current baseline policy merged =
+    IsLogOf (runs_by file current baseline) policy (runs_without_results (data_of current)) (unused_of file (records_of current)) merged

@@ -49,16 +49,16 @@ data_of runs = map (λ p. p.run) runs
 
 -- the input runs, each result with its level, its state and its suppressions
 abbrev pub current_runs : File → List Placed → List Placed → List Data
-current_runs file now before =
-    merged_runs (listing_of file) (records_of now) (states_of (records_of now) (records_of before)) (data_of now)
+current_runs file current baseline =
+    merged_runs (listing_of file) (records_of current) (states_of (records_of current) (records_of baseline)) (data_of current)
 
 -- the baseline runs with a result that is nobody's partner, with just these
 abbrev pub leftover_runs : List Placed → List Placed → List Data
-leftover_runs now before =
-    absent_runs (records_of before) (taken_of (records_of now) (records_of before)) (data_of before)
+leftover_runs current baseline =
+    absent_runs (records_of baseline) (taken_of (records_of current) (records_of baseline)) (data_of baseline)
 
 abbrev pub runs_by : File → List Placed → List Placed → List Data
-runs_by file now before = current_runs file now before ++ leftover_runs now before
+runs_by file current baseline = current_runs file current baseline ++ leftover_runs current baseline
 
 -- how many of the runs have no results
 abbrev pub runs_without_results : List Data → ℕ
@@ -70,5 +70,5 @@ log_by runs policy without unused = log_with (gate_of (count_of runs) policy wit
 
 -- the log of these input runs, baseline runs and suppression file
 abbrev pub merged_by : File → List Placed → List Placed → Policy → Data
-merged_by file now before policy =
-    log_by (runs_by file now before) policy (runs_without_results (data_of now)) (unused_of file (records_of now))
+merged_by file current baseline policy =
+    log_by (runs_by file current baseline) policy (runs_without_results (data_of current)) (unused_of file (records_of current))

@@ -1,15 +1,13 @@
-//! The runs of all logs, and those of all baselines, with what was judged of their results.
-ghost use Rattle.std.specs.Prelude.{◌≡◌, ◌≤◌, ◌++◌, ◌∷◌, [], true, false, Some, IfOk, OnOk, map, length};
-ghost use Rattle.std.specs.List.{AllByRecursion, flat_map};
-ghost use Rattle.sarif_records.specs.Run.{results_of, results_total};
+//! The runs of all logs, with what was judged of their results.
+ghost use Rattle.std.specs.Prelude.{◌≡◌, ◌++◌, ◌∷◌, [], false, IfOk, OnOk, map};
+ghost use Rattle.std.specs.List.{AllByRecursion};
 ghost use Rattle.sarif_suppress.specs.File.{File};
-ghost use Rattle.sarif_judge.specs.Judging.{faults_of_runs, items_of, records_in, skips};
+ghost use Rattle.sarif_judge.specs.Judging.{records_in};
 ghost use Rattle.sarif_judge.specs.Opened.{placed_of};
-ghost use Rattle.sarif_judge.specs.Outcomes.{all_outcomes};
 ghost use Rattle.serde_json.specs.View.{members_view};
 ghost use Rattle.sarif_write.specs.MergedRuns.{bare};
-ghost use Rattle.sarif_write.specs.Drafts.{members_in, own_count, present_count, ArePartsOf, IsWholeRun};
-ghost use Rattle.sarif_assemble.specs.Halves.{drafts_in, with_draft, IsBaseline, IsCurrent};
+ghost use Rattle.sarif_write.specs.Drafts.{members_in, own_count, ArePartsOf, IsWholeRun};
+ghost use Rattle.sarif_assemble.specs.Halves.{drafts_in, with_draft, IsCurrent};
 ghost use Rattle.sarif_assemble.specs.Judged.{placed_in, IsJudged};
 ghost use Rattle.sarif_assemble.specs.LogBy.{data_of};
 
@@ -19,7 +17,7 @@ use sarif_records::Record;
 use sarif_write::{Draft, RunParts, make_parts};
 use std::alloc::{AllocError, Global};
 
-/// Runs apart from their results, and the records and drafts of these.
+/// The runs of logs apart from their results, and the records and drafts of these.
 #[derive(Drop)]
 pub(crate) struct Half {
     pub(crate) parts: Vec<RunParts>,
@@ -71,20 +69,6 @@ fn push_draft(drafts: &mut Vec<Draft>, draft: Option<Draft>) -> Result<(), Alloc
     Ok(())
 }
 
-/// How many of the results have a record.
-fn count_records(outcomes: &[Outcome]) -> usize
-    ensures count { result ≡ length (records_in (map (λ o. o.item) outcomes.now)) }
-    ensures few { result ≤ length outcomes.now }
-{
-    let mut count = 0;
-    for outcome in outcomes {
-        if matches!(outcome.item, Item::Sound(_)) {
-            count += 1;
-        }
-    }
-    count
-}
-
 /// How many results the run has, where it has an array of them.
 fn count_listed(run: &OpenedRun<'_, '_>) -> Option<u32>
     ensures { result ≡ own_count (placed_of run.now).run }
@@ -120,41 +104,6 @@ fn current_parts(alloc: Global, runs: Vec<OpenedRun<'_, '_>>) -> Result<Vec<RunP
     Ok(all)
 }
 
-/// The parts of a run of a baseline, of which so many results aren't absent already.
-fn baseline_run(alloc: Global, run: OpenedRun<'_, '_>, count: u32) -> RunParts
-    ensures members { members_view result.members.entries
-        ≡ bare (members_in (placed_of run.entry).run) }
-    ensures results { result.results ≡ Some count }
-    ensures whole { IsWholeRun result }
-{
-    make_parts(alloc, run.into_bare(), Some(count))
-}
-
-/// The parts of the runs of baselines, with what was judged of their results, none of which is at fault.
-fn baseline_parts(
-    alloc: Global,
-    runs: Vec<OpenedRun<'_, '_>>,
-    mut outcomes: &[Outcome],
-) -> Result<Vec<RunParts>, AllocError>
-    requires judged { map (λ o. o.item) outcomes.now
-        ≡ flat_map items_of (map placed_of runs.items) }
-    requires baselines { AllByRecursion (λ p. skips p.source ≡ true)
-        (map placed_of runs.items) }
-    requires faultless { faults_of_runs (map placed_of runs.items) ≡ [] }
-    ensures parts { IfOk result
-        (λ all. ArePartsOf present_count all.items (data_of (map placed_of runs.entry.items))) }
-    ensures whole { IfOk result (λ all. AllByRecursion IsWholeRun all.items) }
-{
-    let mut all = Vec::with_capacity(alloc, runs.len())?;
-    for run in runs {
-        let (these, later) = outcomes.split_at(run.len() as usize);
-        let count = count_records(these) as u32;
-        all.push(baseline_run(alloc, run, count))?;
-        outcomes = later;
-    }
-    Ok(all)
-}
-
 /// The runs of logs.
 pub(crate) fn current_half(alloc: Global, judged: Judged<'_, '_>) -> Result<Half, AllocError>
     ensures { IfOk result (λ half. (file : File) → IsJudged file false judged.entry
@@ -162,22 +111,6 @@ pub(crate) fn current_half(alloc: Global, judged: Judged<'_, '_>) -> Result<Half
 {
     let Judged { runs, outcomes } = judged;
     let parts = current_parts(alloc, runs)?;
-    let Found { records, drafts } = take_found(alloc, outcomes)?;
-    Ok(Half {
-        parts,
-        records,
-        drafts,
-    })
-}
-
-/// The runs of baselines.
-pub(crate) fn baseline_half(alloc: Global, judged: Judged<'_, '_>) -> Result<Half, AllocError>
-    requires { (file : File) × IsJudged file true judged }
-    ensures { IfOk result (λ half. (file : File) → IsJudged file true judged.entry
-        → IsBaseline (placed_in judged.entry) half) }
-{
-    let Judged { runs, outcomes } = judged;
-    let parts = baseline_parts(alloc, runs, &outcomes)?;
     let Found { records, drafts } = take_found(alloc, outcomes)?;
     Ok(Half {
         parts,

@@ -3,11 +3,15 @@
 #![tactic(auto)]
 
 mod assembling;
+mod baselines;
 mod counting;
 mod halves;
 mod judged;
+mod left;
 mod matched;
 mod merged;
+mod prepared;
+mod preparing;
 #[cfg(test)]
 mod tests;
 mod written;
@@ -15,3 +19,5 @@ mod written;
 pub use assembling::assemble;
 pub use judged::Judged;
 pub use merged::Merged;
+pub use prepared::Prepared;
+pub use preparing::prepare;

@@ -1,6 +1,5 @@
 //! What matching makes of the results.
 ghost use Rattle.std.specs.Prelude.{◌≡◌, ◌≤◌, length, map, Some, IfOk};
-ghost use Rattle.sarif_write.specs.Drafts.{unless_taken};
 ghost use Rattle.std.specs.List.{range_with_len};
 ghost use Rattle.sarif_match.specs.Partners.{is_taken};
 ghost use Rattle.sarif_match.specs.State.{state_of};
@@ -11,12 +10,11 @@ use sarif_records::{Record, State};
 use std::alloc::{AllocError, Global};
 use std::hash::RandomState;
 
-/// The baseline state of each current result, and that of each baseline result where no current one is paired
-/// with it.
+/// The baseline state of each current result, and whether each baseline result is somebody's partner.
 #[derive(Drop)]
 pub(crate) struct Matched {
     pub(crate) states: Vec<Option<State>>,
-    pub(crate) left: Vec<Option<State>>,
+    pub(crate) taken: Vec<bool>,
 }
 
 /// The baseline state of a current result with this partner.
@@ -71,24 +69,6 @@ fn each_there(alloc: Global, states: &[State]) -> Result<Vec<Option<State>>, All
     Ok(all)
 }
 
-/// The state of a baseline result, where it isn't taken.
-fn state_left(is_taken: bool) -> Option<State>
-    ensures { result ≡ unless_taken is_taken }
-{
-    if is_taken { None } else { Some(State::Absent) }
-}
-
-/// The state of each baseline result, where it isn't taken.
-fn each_left(alloc: Global, taken: &[bool]) -> Result<Vec<Option<State>>, AllocError>
-    ensures { IfOk result (λ left. left.items ≡ map unless_taken taken.now) }
-{
-    let mut left = Vec::with_capacity(alloc, taken.len())?;
-    for is_taken in taken {
-        left.push(state_left(*is_taken))?;
-    }
-    Ok(left)
-}
-
 /// Matches the results of all logs with those of all baselines, by tables that hash with `seed`.
 pub(crate) fn match_records(
     alloc: Global,
@@ -100,13 +80,12 @@ pub(crate) fn match_records(
     requires baseline { length baseline.now ≤ 1000000 }
     ensures states { IfOk result
         (λ matched. matched.states.items ≡ map Some (states_of current.now baseline.now)) }
-    ensures left { IfOk result
-        (λ matched. matched.left.items ≡ map unless_taken (taken_of current.now baseline.now)) }
+    ensures taken { IfOk result
+        (λ matched. matched.taken.items ≡ taken_of current.now baseline.now) }
 {
     let matching = match_all_with(alloc, seed, current, baseline)?;
     let states = list_states(alloc, current, baseline, &matching)?;
     let taken = list_taken(alloc, baseline.len() as u32, &matching)?;
     let states = each_there(alloc, &states)?;
-    let left = each_left(alloc, &taken)?;
-    Ok(Matched { states, left })
+    Ok(Matched { states, taken })
 }

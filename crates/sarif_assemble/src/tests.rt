@@ -1,6 +1,6 @@
 //! The log of nothing, worked by hand.
-use crate::{Judged, assemble};
-use sarif_counts::{Policy, Verdict};
+use crate::{Judged, assemble, prepare};
+use sarif_counts::{Options, Policy, Verdict};
 use sarif_records::{Level, State};
 use sarif_suppress::Suppressions;
 use std::hash::RandomState;
@@ -26,9 +26,15 @@ fn without_runs_the_log_holds_its_gate(rt: HostRuntime) -> Result<(), Fail> {
         runs: Vec::new(alloc),
         outcomes: Vec::new(alloc),
     };
-    let seed = RandomState::new(&rt)?;
-    let file = Suppressions::none(alloc, seed, None)?;
-    let merged = assemble(alloc, seed, current, baseline, &file, &Policy::default())?;
+    let options = Options {
+        policy: Policy::default(),
+        today: None,
+        workers: 1,
+        seed: RandomState::new(&rt)?,
+    };
+    let file = Suppressions::none(alloc, options.seed, None)?;
+    let prepared = prepare(&rt, alloc, current, baseline, &file, &options)?;
+    let merged = assemble(alloc, prepared, &options.policy)?;
     assert_eq!(rt; merged.log.as_str(), LOG);
     assert!(rt; merged.verdict == Verdict::Pass);
     assert_eq!(rt; merged.counts.get(State::New, Level::Error, false), 0);

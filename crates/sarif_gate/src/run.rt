@@ -61,6 +61,8 @@ pub fn run_request<R: Read, W: Write, S: Write, P: Write, E: Write, T: Threads +
         (failures readers.new + writer_failures writers.new) }
     // A merge that is refused writes nothing.
     ensures untouched { result ≡ 2 → writers.new ≡ writers.old }
+    // Nor does one that stopped at a read that failed.
+    ensures unread { failures readers.new ≡ failures readers.old + 1 → writers.new ≡ writers.old }
     // None of these numbers fell.
     ensures risen { NoNumberFalls readers.old readers.new
         × (writer_failures writers.old ≤ writer_failures writers.new) }

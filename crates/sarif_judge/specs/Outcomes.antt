@@ -7,23 +7,23 @@ use Rattle.sarif_records.specs.Run.{results_of, result_at}
 use Rattle.sarif_suppress.specs.File.{File}
 use Rattle.sarif_suppress.specs.Written.{suppressions_of}
 use Rattle.sarif_write.specs.declared.draft.Draft.{Draft}
-use Rattle.sarif_write.specs.Drafts.{applied_of, draft_by, members_in, unapplied}
+use Rattle.sarif_write.specs.Drafts.{applied_of, draft_by, members_in}
 use Rattle.sarif_judge.specs.declared.item.Item.{Item}
 use Rattle.sarif_judge.specs.declared.item.Item.TheVariants.{Sound, Bad, Skipped}
 use Rattle.sarif_judge.specs.declared.outcome.Outcome.{Outcome}
 use Rattle.sarif_judge.specs.Judging.{item_of, skips}
 use Rattle.sarif_judge.specs.Placed.{Placed}
 
--- the draft of a result: of a baseline's (true) with its own suppressions, else with those that the file gives it too
-abbrev pub draft_in : File → Bool → Record → Data → Draft
-draft_in file true r d = draft_by (λ _ own. own) unapplied r (members_in d)
-draft_in file false r d = draft_by (λ r own. suppressions_of own file r) (applied_of file) r (members_in d)
+-- the draft of a result of a log: with its own suppressions, and with those that the file gives it
+abbrev pub draft_in : File → Record → Data → Draft
+draft_in file r d = draft_by (λ r own. suppressions_of own file r) (applied_of file) r (members_in d)
 
--- only a result that has a record has a draft
+-- only a result of a log has a draft at once, where it has a record: of a baseline (true) matching tells which are written
 abbrev pub draft_beside : File → Bool → Data → Item → Option Draft
-draft_beside file baseline d (Sound r) = Some (draft_in file baseline r d)
-draft_beside file baseline d (Bad fault) = None
-draft_beside file baseline d Skipped = None
+draft_beside file true d item = None
+draft_beside file false d (Sound r) = Some (draft_in file r d)
+draft_beside file false d (Bad fault) = None
+draft_beside file false d Skipped = None
 
 abbrev pub outcome_of : File → Placed → ℕ → Outcome
 outcome_of file p seq = record {

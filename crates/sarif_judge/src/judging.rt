@@ -17,7 +17,7 @@ use std::alloc::{AllocError, Global};
 pub(crate) struct Judging<'w, 't: 'w, 'a: 't> {
     pub(crate) runs: &'w [OpenedRun<'t, 'a>],
     pub(crate) spots: &'w [Spot],
-    pub(crate) rules: &'w Suppressions,
+    pub(crate) file: &'w Suppressions,
     pub(crate) size: usize,
     pub(crate) shards: u32,
     ghost within: { All (IsSpotOf (map placed_of runs.now)) spots.now },
@@ -30,15 +30,15 @@ pub(crate) fn judge_spots(
     alloc: Global,
     runs: &[OpenedRun<'_, '_>],
     spots: &[Spot],
-    rules: &Suppressions,
+    file: &Suppressions,
 ) -> Result<Vec<Outcome>, AllocError>
     requires within { All (IsSpotOf (map placed_of runs.now)) spots.now }
     ensures { IfOk result (λ outcomes. outcomes.items
-        ≡ map (outcome_at rules.now (map placed_of runs.now)) spots.now) }
+        ≡ map (outcome_at file.now (map placed_of runs.now)) spots.now) }
 {
     let mut outcomes = Vec::with_capacity(alloc, spots.len())?;
     for spot in spots {
-        outcomes.push(judge_result(alloc, &runs[spot.run as usize], spot.seq, rules)?)?;
+        outcomes.push(judge_result(alloc, &runs[spot.run as usize], spot.seq, file)?)?;
     }
     Ok(outcomes)
 }
@@ -58,7 +58,7 @@ impl<'w, 't: 'w, 'a: 't> Work for Judging<'w, 't, 'a> {
 
     ghost count = { λ w run. 1 };
 
-    ghost item = { λ w run seq. judged_shard w.rules.now (map placed_of w.runs.now) w.size w.spots.now run };
+    ghost item = { λ w run seq. judged_shard w.file.now (map placed_of w.runs.now) w.size w.spots.now run };
 
     ghost end = { λ w run. tt };
 
@@ -81,7 +81,7 @@ impl<'w, 't: 'w, 'a: 't> Work for Judging<'w, 't, 'a> {
     fn make(&self, alloc: Global, head: &u32, _seq: u32) -> Result<Shard, AllocError> {
         let start = *head as usize * self.size;
         let spots = chunk_of(self.spots, start, self.size);
-        let outcomes = judge_spots(alloc, self.runs, spots, self.rules)?;
+        let outcomes = judge_spots(alloc, self.runs, spots, self.file)?;
         Ok(Shard::new(outcomes))
     }
 

@@ -3,6 +3,8 @@
 
 mod item;
 mod judging;
+mod leftover;
+mod leftovers;
 mod opened;
 mod outcome;
 mod outcomes;
@@ -10,7 +12,10 @@ mod shard;
 mod spots;
 
 pub use item::Item;
+pub use leftover::Leftover;
+pub use leftovers::{draft_leftovers, list_leftovers};
 pub use opened::OpenedRun;
 pub use outcome::Outcome;
 pub use outcomes::judge;
 pub use sarif_gather::{Gate, NoGate};
+pub use spots::{Spot, list_spots};

@@ -14,7 +14,7 @@ use sarif_records::{Fault, is_marked_absent};
 use sarif_rules::make_record_of;
 use sarif_sources::Source;
 use sarif_suppress::Suppressions;
-use sarif_write::{Draft, draft_absent, draft_current};
+use sarif_write::{Draft, draft_current};
 use serde_json::Value;
 use std::alloc::{AllocError, Global};
 
@@ -23,7 +23,7 @@ use std::alloc::{AllocError, Global};
 pub struct Outcome {
     /// Its record, its first fault, or that it is skipped.
     pub item: Item,
-    /// Its draft, where it has a record.
+    /// Its draft, where it is one of a log and has a record.
     pub draft: Option<Draft>,
 }
 
@@ -63,26 +63,23 @@ fn judge_item(alloc: Global, opened: &OpenedRun<'_, '_>, found: &Value) -> Resul
     Ok(item)
 }
 
-/// The draft of a result of a source, where it has a record.
+/// The draft of a result of a source, where it is a log and the result has a record.
 fn draft_result(
     alloc: Global,
     source: Source,
     found: Value,
     item: &Item,
-    rules: &Suppressions,
+    file: &Suppressions,
 ) -> Result<Option<Draft>, AllocError>
     requires whole { has_float (view found) ≡ false }
     ensures { IfOk result
-        (λ draft. draft ≡ draft_beside rules.now (skips source) (view found) item.now) }
+        (λ draft. draft ≡ draft_beside file.now (skips source) (view found) item.now) }
 {
+    if skips_absent(source) {
+        return Ok(None);
+    }
     match item {
-        Item::Sound(record) => {
-            if skips_absent(source) {
-                Ok(Some(draft_absent(alloc, found, record)?))
-            } else {
-                Ok(Some(draft_current(alloc, found, record, rules)?))
-            }
-        }
+        Item::Sound(record) => Ok(Some(draft_current(alloc, found, record, file)?)),
         Item::Bad(_) | Item::Skipped => Ok(None),
     }
 }
@@ -93,14 +90,14 @@ pub(crate) fn judge_result(
     alloc: Global,
     opened: &OpenedRun<'_, '_>,
     seq: u32,
-    rules: &Suppressions,
+    file: &Suppressions,
 ) -> Result<Outcome, AllocError>
     requires in_run { seq < length (results_of (placed_of opened.now).run) }
     ensures { IfOk result
-        (λ outcome. outcome ≡ outcome_of rules.now (placed_of opened.now) seq) }
+        (λ outcome. outcome ≡ outcome_of file.now (placed_of opened.now) seq) }
 {
     let found = opened.run.result(alloc, seq)?;
     let item = judge_item(alloc, opened, &found)?;
-    let draft = draft_result(alloc, opened.source, found, &item, rules)?;
+    let draft = draft_result(alloc, opened.source, found, &item, file)?;
     Ok(Outcome { item, draft })
 }

@@ -64,7 +64,7 @@ pub fn judge<G: Gate + Sync, R: Threads + Wait + Sync>(
     rt: &R,
     alloc: Global,
     runs: &[OpenedRun<'_, '_>],
-    rules: &Suppressions,
+    file: &Suppressions,
     workers: u32,
     observer: &G,
 ) -> Result<Vec<Outcome>, GatherFault>
@@ -72,7 +72,7 @@ pub fn judge<G: Gate + Sync, R: Threads + Wait + Sync>(
     requires few { length runs.now ≤ 10000 }
     requires few_results { results_total (map (λ p. p.run) (map placed_of runs.now)) ≤ 1000000 }
     ensures { IfOk result (λ outcomes. outcomes.items
-        ≡ all_outcomes rules.now (map placed_of runs.now)) }
+        ≡ all_outcomes file.now (map placed_of runs.now)) }
 {
     let spots = list_spots(alloc, runs)?;
     if spots.is_empty() {
@@ -83,7 +83,7 @@ pub fn judge<G: Gate + Sync, R: Threads + Wait + Sync>(
     let work = Judging {
         runs,
         spots: &spots,
-        rules,
+        file,
         size,
         shards: (spots.len() / size + 1) as u32,
     };

@@ -23,8 +23,8 @@ fn push_spots(spots: &mut Vec<Spot>, run: u32, count: u32) -> Result<(), AllocEr
     Ok(())
 }
 
-/// The places of the results of these runs, in order.
-pub(crate) fn list_spots(alloc: Global, runs: &[OpenedRun<'_, '_>]) -> Result<Vec<Spot>, AllocError>
+/// The places of the results of these runs, in order. `AllocError` where memory for the list is wanting.
+pub fn list_spots(alloc: Global, runs: &[OpenedRun<'_, '_>]) -> Result<Vec<Spot>, AllocError>
     requires few { length runs.now ≤ 10000 }
     ensures { IfOk result (λ spots. spots.items ≡ spots_from 0 (map placed_of runs.now)) }
 {

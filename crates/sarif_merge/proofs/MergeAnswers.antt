@@ -25,12 +25,14 @@ use Rattle.sarif_judge.specs.Outcomes.{all_outcomes}
 use Rattle.sarif_judge.specs.Placed.{Placed}
 use Rattle.sarif_assemble.specs.declared.judged.Judged.{Judged}
 use Rattle.sarif_assemble.specs.declared.merged.Merged.{Merged}
+use Rattle.sarif_assemble.specs.declared.prepared.Prepared.{Prepared}
 use Rattle.sarif_assemble.specs.Assembled.{IsMergedBy}
+use Rattle.sarif_assemble.specs.Prepared.{IsPrepared}
 use Rattle.sarif_assemble.specs.Judged.{placed_in, IsJudged}
 use Rattle.sarif_assemble.specs.LogBy.{data_of, leftover_runs, runs_by, runs_without_results}
 use Rattle.sarif_inputs.specs.Faults.{IsWanting, faults_of, file_faults, file_or_none, first, number_faults}
 use Rattle.sarif_inputs.specs.Indexes.{AreIndexesOf}
-use Rattle.sarif_inputs.specs.Inputs.{numbered, placed}
+use Rattle.sarif_inputs.specs.Inputs.{Inputs, numbered, placed}
 use Rattle.sarif_inputs.specs.ReadSoFar.{sources_of}
 use Rattle.sarif_inputs.specs.SourceFaults.{source_faults}
 use Rattle.sarif_inputs.proofs.ReadFacts.{log_sides, baseline_sides, nothing_before}
@@ -38,6 +40,7 @@ use Rattle.sarif_inputs.proofs.SourceAnswers.{still_first}
 use Rattle.sarif_merge.specs.Given.{given}
 use Rattle.sarif_merge.specs.Merged.{IsMerged}
 use Rattle.sarif_merge.specs.MergedLog.{file_in}
+use Rattle.sarif_merge.specs.Prepared.{IsPreparedFor}
 use Rattle.sarif_merge.proofs.ReadObjects.{objects_in}
 
 -- ---- what is assembled
@@ -76,10 +79,25 @@ judged_baselines file bs judged same outcomes none few few_results = record {
   few_results = few_results;
 }
 
-pub same_merge : (file : File) (now before xs ys : List Placed) (policy : Policy) (merged : Merged)
-    → IsMergedBy file now before policy merged → now ≡ xs → before ≡ ys → IsMergedBy file xs ys policy merged
-same_merge file now before xs ys policy merged h e f =
-    subst (λ k. IsMergedBy file xs k policy merged) f (subst (λ k. IsMergedBy file k before policy merged) e h)
+pub same_runs : (file : File) (now before xs ys : List Placed) (prepared : Prepared)
+    → IsPrepared file now before prepared → now ≡ xs → before ≡ ys → IsPrepared file xs ys prepared
+same_runs file now before xs ys prepared h e f =
+    subst (λ k. IsPrepared file xs k prepared) f (subst (λ k. IsPrepared file k before prepared) e h)
+
+-- what is assembled of what was prepared for these inputs
+pub assembled_is : (inputs : Inputs) (policy : Policy) (prepared : Prepared) (merged : Merged) → IsPreparedFor inputs prepared
+    → ((file : File) (now before : List Placed) → IsPrepared file now before prepared → IsMergedBy file now before policy merged)
+    → IsMerged inputs policy merged
+assembled_is inputs policy prepared merged ready assembled =
+    let entries = file_in (file_or_none inputs.suppressions inputs.today) in
+    let logs = placed (numbered Log 0 inputs.logs) in
+    let baselines = placed (numbered Baseline 0 inputs.baselines) in
+    let made = assembled entries logs baselines ready.written in record {
+      faultless = ready.faultless;
+      begins = (gate_of (count_of (runs_by entries logs baselines)) policy (runs_without_results (data_of logs)) (unused_of entries (records_of logs)), leftover_runs logs baselines, made.log);
+      log = made.log;
+      gate = made.gate;
+    }
 
 -- ---- the faults of the runs of logs, and then of those of baselines
 
@@ -134,20 +152,15 @@ module _ (ls bs : List (List ℕ)) (few_ls : length ls ≤ 1000) (few_bs : lengt
         nothing_before (number_faults Log ls) (number_faults Baseline bs) (source_faults 0 0 (sources_of ls bs)) (file_faults (file_or_none file today)) (faults_of_runs (placed (numbered Log 0 ls) ++ placed (numbered Baseline 0 bs)))
         within sources sound
 
-    pub merged_is : (entries : File) (policy : Policy) (merged : Merged) → file_or_none file today ≡ Ok entries
-        → IsMergedBy entries (placed (numbered Log 0 ls)) (placed (numbered Baseline 0 bs)) policy merged
+    pub prepared_is : (entries : File) (prepared : Prepared) → file_or_none file today ≡ Ok entries
+        → IsPrepared entries (placed (numbered Log 0 ls)) (placed (numbered Baseline 0 bs)) prepared
         → faults_of_runs (placed (numbered Log 0 ls) ++ placed (numbered Baseline 0 bs)) ≡ []
-        → IsMerged (given ls bs file today) policy merged
-    merged_is entries policy merged is h none =
+        → IsPreparedFor (given ls bs file today) prepared
+    prepared_is entries prepared is h none =
         let logs = placed (numbered Log 0 ls) in
-        let baselines = placed (numbered Baseline 0 bs) in
-        let entered = file_in (file_or_none file today) in
-        let same = subst (λ f. IsMergedBy f logs baselines policy merged) (sym (ap file_in is)) h in
-        record {
+        let baselines = placed (numbered Baseline 0 bs) in record {
           faultless = faults_are (ap file_faults is) ∙ none;
-          begins = (gate_of (count_of (runs_by entered logs baselines)) policy (runs_without_results (data_of logs)) (unused_of entered (records_of logs)), leftover_runs logs baselines, same.log);
-          log = same.log;
-          gate = same.gate;
+          written = subst (λ f. IsPrepared f logs baselines prepared) (sym (ap file_in is)) h;
         }
 
 -- ---- indexes

@@ -4,3 +4,4 @@ pub mod Merged
 pub mod MergedLog
 pub mod OwnResult
 pub mod Wanting
+pub mod Prepared

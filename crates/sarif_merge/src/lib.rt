@@ -6,6 +6,7 @@ mod judged;
 mod laws;
 mod merge;
 mod merge_sources;
+mod preparing;
 #[cfg(test)]
 mod tests;
 

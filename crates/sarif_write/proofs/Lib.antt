@@ -4,8 +4,6 @@ pub mod WholeListing
 pub mod Drafted
 pub mod AnnotatedResult
 pub mod RunResults
-pub mod RunsWritten
-pub mod AbsentRuns
 pub mod Removed
 pub mod ResultTexts
 pub mod ResultCounts

@@ -23,10 +23,6 @@ pub put_put : (k : List ℕ) (d e : Data) (ms : Members) → put k d (put k e ms
 put_put k d e no_members = rw (tied_itself nat_list_cmp_total k)
 put_put k d e (member l x ms) = put_at _ k l d e x ms refl (put_put k d e ms)
 
-pub annotated_taken : (level : Level) (state : State) (list : Items) (ms : Members) → annotated_members level state list (put (codes "suppressions") null ms) ≡ annotated_members level state list ms
-annotated_taken level state list ms =
-    ap (λ ns. put (codes "baselineState") (string (state_name state)) (put (codes "level") (string (level_name level)) ns)) (put_put (codes "suppressions") (array list) null ms)
-
 pub items_of_elements : (ds : Items) → items_of (elements ds) ≡ ds
 items_of_elements no_items = refl
 items_of_elements (item d ds) = ap (λ es. item d es) (items_of_elements ds)

@@ -28,6 +28,3 @@ annotated_members level state list ms =
     put (codes "baselineState") (string (state_name state))
     (put (codes "level") (string (level_name level))
     (put (codes "suppressions") (array list) ms))
-
-abbrev pub annotated : Level → State → Items → Data → Data
-annotated level state list = on_members (annotated_members level state list)

@@ -81,16 +81,16 @@ pub fn draft_current(
     alloc: Global,
     found: Value,
     record: &Record,
-    rules: &Suppressions,
+    file: &Suppressions,
 ) -> Result<Draft, AllocError>
     requires whole { has_float (view found) ≡ false }
-    ensures { IfOk result (λ draft. draft ≡ draft_by (λ r own. suppressions_of own rules.now r)
-        (applied_of rules.now) «record».now (members_in (view found))) }
+    ensures { IfOk result (λ draft. draft ≡ draft_by (λ r own. suppressions_of own file.now r)
+        (applied_of file.now) «record».now (members_in (view found))) }
 {
     let mut members = into_members(alloc, found);
     let own = take_suppressions(alloc, &mut members)?;
-    let applied = rules.apply(alloc, record)?;
-    let list = rules.written(alloc, own, &applied)?;
+    let applied = file.apply(alloc, record)?;
+    let list = file.written(alloc, own, &applied)?;
     object_holds_no_fraction();
     written_passes_where_its_parts_do();
     let draft = finish_draft(alloc, members, record.level, list, applied)?;

@@ -1,4 +1,4 @@
-use Rattle.std.proofs.Common.{ap, nat_eq, subst, sym, ◌∙◌, ◌+◌}
+use Rattle.std.proofs.Common.{ap, arith, nat_eq, subst, sym, ◌∙◌, ◌+◌}
 use Rattle.sarif_inputs.specs.Faults.{faults_of}
 use Rattle.sarif_merge.specs.Given.{given_by}
 use Rattle.sarif_sources.proofs.ReadersRead.{were_read_quiet}
@@ -11,6 +11,9 @@ use Rattle.sarif_gate.proofs.run.run_request.Goals as goal
 pub returns-in-Ok-clause-accepted : goal.returns-in-Ok-clause-accepted
 returns-in-Ok-clause-accepted g c =
     λ low. (c.in-Ok.merged, c.accept.ensures.status low, c.in-Ok.ensures.merged, c.accept.ensures.written low, c.accept.ensures.reported low, c.accept.ensures.said low)
+
+pub returns-in-Ok-clause-unread : goal.returns-in-Ok-clause-unread
+returns-in-Ok-clause-unread g c = λ failed. absurd (omega (arith, failed, c.in-Ok.ensures.read_failed))
 
 pub returns-in-Ok-clause-faulty : goal.returns-in-Ok-clause-faulty
 returns-in-Ok-clause-faulty g c = λ contents tell read faulty.

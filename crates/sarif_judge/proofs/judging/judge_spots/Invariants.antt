@@ -5,4 +5,4 @@ use Rattle.sarif_judge.proofs.judging.judge_spots.Given as goal
 
 abbrev pub invariant-loop-spot : goal.invariant-loop-spot
 invariant-loop-spot l =
-    l.outcomes.items ≡ map (outcome_at l.rules (map placed_of l.runs)) (take l.spot-index l.spots)
+    l.outcomes.items ≡ map (outcome_at l.file (map placed_of l.runs)) (take l.spot-index l.spots)

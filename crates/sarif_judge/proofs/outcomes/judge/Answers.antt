@@ -41,9 +41,9 @@ returns g c =
     let pos : 0 < size = omega arith in
     let enough : length c.deref.result.now ≤ shards * size = subst (λ k. k ≤ shards * size) (sym long) (shards_enough n size shards pos (ap (λ k. k / size + 1) same)) in
     c.in_ok-all.ensures ∙ c.in_ok-stack.ensures
-    ∙ all_parts c.args.rules.now ps size shards c.deref.result.now c.in_ok-lists.lists c.in_ok-lists.ensures enough
-    ∙ ap (map (outcome_at c.args.rules.now ps)) are
-    ∙ outcomes_at_spots c.args.rules.now ps
+    ∙ all_parts c.args.file.now ps size shards c.deref.result.now c.in_ok-lists.lists c.in_ok-lists.ensures enough
+    ∙ ap (map (outcome_at c.args.file.now ps)) are
+    ∙ outcomes_at_spots c.args.file.now ps
 
 pub returns-then-is_empty : goal.returns-then-is_empty
 returns-then-is_empty g c =
@@ -51,4 +51,4 @@ returns-then-is_empty g c =
     let spots = c.in_ok-spots.spots.items in
     let short : length spots ≡ 0 = search rules in
     let new : c.new.result.items ≡ [] = search rules in
-    new ∙ ap (map (outcome_at c.args.rules.now ps)) (sym (none_long spots short) ∙ c.in_ok-spots.ensures) ∙ outcomes_at_spots c.args.rules.now ps
+    new ∙ ap (map (outcome_at c.args.file.now ps)) (sym (none_long spots short) ∙ c.in_ok-spots.ensures) ∙ outcomes_at_spots c.args.file.now ps

@@ -1,39 +1,8 @@
-use Rattle.std.proofs.Common.{◌≤◌, ◌++◌, ℕ, List, Vec, Global, refl, map, length, sym, subst}
-use Rattle.std.specs.Prelude.{option_map}
-use Rattle.json_index.specs.Together.{AreIndexed}
-use Rattle.sarif_records.specs.Reading.{without_mark}
-use Rattle.sarif_merge.specs.Given.{given}
-use Rattle.sarif_merge.specs.Merged.{IsMerged}
-use Rattle.sarif_merge.proofs.MergeAnswers.{are_indexes}
+use Rattle.sarif_merge.specs.Given.{inputs_of}
+use Rattle.sarif_merge.proofs.MergeAnswers.{assembled_is}
 use Rattle.sarif_merge.proofs.merge.merge_few.Goals as goal
-
-pub open_sources-requires : goal.open_sources-requires
-open_sources-requires g c =
-    let ls = c.as_slice-logs.result.now in
-    let bs = c.as_slice-baselines.result.now in
-    let few_logs = subst (λ xs. length xs ≤ 1000) (sym c.as_slice-logs.ensures.value) c.requires.few_logs in
-    let few_baselines = subst (λ xs. length xs ≤ 1000) (sym c.as_slice-baselines.ensures.value) c.requires.few_baselines in (
-      map (λ v. v.items) ls,
-      map (λ v. v.items) bs,
-      are_indexes ls bs c.deref.result.now (length ls) refl few_logs few_baselines
-          (subst (λ found. AreIndexed (map without_mark (map (λ v. v.items) ls ++ map (λ v. v.items) bs)) found) (sym c.deref.ensures.value) c.in_ok-indexes.ensures),
-    )
 
 pub returns-clause-merge : goal.returns-clause-merge
 returns-clause-merge g c =
-    let ls = c.as_slice-logs.result.now in
-    let bs = c.as_slice-baselines.result.now in
-    let before = c.args.sources.now.baselines.items in
-    let file = option_map (λ v. v.items) c.args.sources.now.suppressions in
-    let today = c.args.options.now.today in
-    let policy = c.args.options.now.policy in
-    let merged = c.in_ok-merged.merged in
-    let few_logs = subst (λ xs. length xs ≤ 1000) (sym c.as_slice-logs.ensures.value) c.requires.few_logs in
-    let few_baselines = subst (λ xs. length xs ≤ 1000) (sym c.as_slice-baselines.ensures.value) c.requires.few_baselines in
-    let indexed = subst (λ found. AreIndexed (map without_mark (map (λ v. v.items) ls ++ map (λ v. v.items) bs)) found) (sym c.deref.ensures.value) c.in_ok-indexes.ensures in
-    let are = are_indexes ls bs c.deref.result.now (length ls) refl few_logs few_baselines indexed in
-    let read = c.in_ok-runs.ensures.runs (map (λ v. v.items) ls) (map (λ v. v.items) bs) are in
-    subst (λ (xs : List (Vec ℕ Global)). IsMerged (given (map (λ v. v.items) xs) (map (λ v. v.items) before) file today) policy merged) c.as_slice-logs.ensures.value
-    (subst (λ (ys : List (Vec ℕ Global)). IsMerged (given (map (λ v. v.items) ls) (map (λ v. v.items) ys) file today) policy merged) c.as_slice-baselines.ensures.value
-    (subst (λ f. IsMerged (given (map (λ v. v.items) ls) (map (λ v. v.items) bs) f today) policy merged) c.slice_of-file.ensures
-    (c.in_ok-merged.ensures.merge (map (λ v. v.items) ls) (map (λ v. v.items) bs) read)))
+    assembled_is (inputs_of c.args.sources.now c.args.options.now) c.args.options.now.policy c.in_ok-prepared.prepared c.in_ok-merged.merged
+    c.in_ok-prepared.ensures.preparation c.in_ok-merged.ensures

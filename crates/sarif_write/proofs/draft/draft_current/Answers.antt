@@ -22,7 +22,7 @@ finish_draft-requires-clause-members c =
 
 pub finish_draft-requires-clause-list : goal.finish_draft-requires-clause-list
 finish_draft-requires-clause-list c =
-    let file = c.args.rules.now in
+    let file = c.args.file.now in
     let r = c.args.record.now in
     let ms = members_view c.into_members-members.result.entries in
     let own = map view c.in_ok-own.own.items in
@@ -34,7 +34,7 @@ finish_draft-requires-clause-list c =
 
 pub returns : goal.returns
 returns c =
-    let file = c.args.rules.now in
+    let file = c.args.file.now in
     let r = c.args.record.now in
     let ms = members_in (view c.args.found) in
     let there = c.into_members-members.ensures.members in

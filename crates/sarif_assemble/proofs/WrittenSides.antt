@@ -1,0 +1,164 @@
+-- The log of runs of logs and of what is left of baselines.
+use Rattle.std.proofs.Common.{◌≡◌, ◌≤◌, ◌+◌, ◌++◌, ℕ, suc, Bool, false, true, arith, List, [], ◌∷◌, Option, Some, map, length, refl, sym, subst, ap, ◌∙◌}
+use Rattle.std.proofs.lemmas.List.{map-append, length-map}
+use Rattle.std.specs.List.{flat_map}
+use Rattle.serde_json.specs.Written.{compact_text}
+use Rattle.sarif_records.specs.declared.kinds.Level.{Level}
+use Rattle.sarif_records.specs.declared.kinds.State.{State}
+use Rattle.sarif_records.specs.declared.kinds.State.TheVariants.{Absent}
+use Rattle.sarif_records.specs.declared.record.Record.{Record}
+use Rattle.sarif_records.specs.Run.{results_of}
+use Rattle.sarif_match.specs.Partners.{partners_of}
+use Rattle.sarif_suppress.specs.File.{File}
+use Rattle.sarif_counts.specs.CountOf.{count_of}
+use Rattle.sarif_counts.proofs.CountAppend.{count_of-append}
+use Rattle.sarif_judge.specs.Judging.{records_of}
+use Rattle.sarif_judge.specs.Leftover.{not_taken}
+use Rattle.sarif_judge.specs.Placed.{Placed}
+use Rattle.sarif_write.specs.declared.merged_text.Side.{Side}
+use Rattle.sarif_write.specs.Drafts.{applied_of, counts_in_parts, drafts_by, left_texts, present_results, runs_texts, tallied, unapplied}
+use Rattle.sarif_write.specs.Side.{IsSide}
+use Rattle.sarif_write.proofs.RunCounts.{left_count, runs_count}
+use Rattle.sarif_write.proofs.RunTexts.{runs_written}
+use Rattle.sarif_assemble.specs.declared.baselines.Baselines.{Baselines}
+use Rattle.sarif_assemble.specs.declared.halves.Half.{Half}
+use Rattle.sarif_assemble.specs.declared.judged.Judged.{Judged}
+use Rattle.sarif_assemble.specs.Baselines.{baseline_drafts, AreBaselines, IsLeft}
+use Rattle.sarif_assemble.specs.Halves.{IsCurrent}
+use Rattle.sarif_assemble.specs.Judged.{placed_in, IsJudged}
+use Rattle.sarif_assemble.specs.LogBy.{current_runs, data_of, leftover_runs, listing_of, runs_by, states_of, taken_of}
+use Rattle.sarif_assemble.specs.Together.{AreTogether}
+use Rattle.sarif_assemble.specs.Written.{AreWritten}
+use Rattle.sarif_assemble.proofs.JudgedCounts.{records_of_logs}
+use Rattle.sarif_assemble.proofs.LeftTexts.{counts, left_total, left_written, long}
+use Rattle.sarif_assemble.proofs.Sides.{drafts_long, few_present, records_present, own_total, results_long, states_long, taken_long}
+
+-- ---- the runs of logs
+
+pub current_long : (file : File) (now before : List Placed) (c : Half) (b : Baselines) → AreTogether file now before c b → length c.drafts.items ≡ length (records_of now)
+current_long file now before c b h =
+    ap length h.is_current.drafts
+    ∙ drafts_long (listing_of file) (applied_of file) (records_of now) (flat_map results_of (data_of now)) (h.now_records ∙ sym (results_long (data_of now)))
+
+pub current_side : (file : File) (now before : List Placed) (c : Half) (b : Baselines) (s : Side) → AreTogether file now before c b
+    → s.runs.items ≡ c.parts.items → s.drafts.items ≡ c.drafts.items → s.states.items ≡ map Some (states_of c.records.items b.records.items)
+    → IsSide s
+current_side file now before c b s h runs drafts states =
+    let many = current_long file now before c b h in record {
+      whole = rw runs h.is_current.whole;
+      drafts = ap length drafts ∙ many ∙ h.now_records ∙ sym (own_total c.parts.items (data_of now) h.is_current.parts) ∙ sym (ap (λ ps. counts_in_parts ps) runs);
+      states =
+          ap length states ∙ length-map (states_of c.records.items b.records.items) Some
+          ∙ states_long b.records.items (partners_of c.records.items b.records.items) 0 c.records.items
+          ∙ ap length h.is_current.records ∙ sym many ∙ sym (ap length drafts);
+    }
+
+-- ---- what is left of baselines
+
+pub baseline_long : (before : List Placed) (b : Baselines) → AreBaselines before b → length (baseline_drafts before) ≡ length (records_of before)
+baseline_long before b h = drafts_long (λ _ own. own) unapplied (records_of before) (present_results (data_of before)) h.count
+
+few_left : {X : Type 0} (taken : List Bool) (xs : List X) → length (not_taken taken xs) ≤ length xs
+few_left [] [] = omega arith
+few_left [] (x ∷ xs) = omega arith
+few_left (t ∷ taken) [] = omega arith
+few_left (true ∷ taken) (x ∷ xs) = let rest = few_left taken xs in omega (arith, rest)
+few_left (false ∷ taken) (x ∷ xs) = let rest = few_left taken xs in omega (arith, rest)
+
+pub left_few : (before : List Placed) (b : Baselines) (taken : List Bool) (t : Side) → AreBaselines before b → IsLeft before taken t
+    → length t.drafts.items ≤ length (records_of before)
+left_few before b taken t h left =
+    let fewer = few_left taken (baseline_drafts before) in
+    let same = ap length left.drafts in
+    let all = baseline_long before b h in
+    omega (arith, fewer, same, all)
+
+pub left_is_side : (before : List Placed) (b : Baselines) (taken : List Bool) (t : Side) → AreBaselines before b → IsLeft before taken t
+    → length taken ≡ length (records_of before) → IsSide t
+left_is_side before b taken t h left same = record {
+  whole = left.whole;
+  drafts =
+      ap length left.drafts
+      ∙ long taken (baseline_drafts before) taken (baseline_long before b h ∙ sym same) refl
+      ∙ sym (left_total t.runs.items taken (data_of before) left.parts (same ∙ h.count));
+  states = ap length left.states ∙ length-map t.drafts.items (λ _. Some Absent);
+}
+
+-- ---- the log
+
+current_texts : (file : File) (now before : List Placed) (c : Half) (b : Baselines) (s : Side) → AreTogether file now before c b
+    → s.runs.items ≡ c.parts.items → s.drafts.items ≡ c.drafts.items → s.states.items ≡ map Some (states_of (records_of now) (records_of before))
+    → runs_texts s.runs.items s.drafts.items s.states.items ≡ map compact_text (current_runs file now before)
+current_texts file now before c b s h runs drafts states =
+    ap (λ ps. runs_texts ps s.drafts.items s.states.items) runs
+    ∙ ap (λ ds. runs_texts c.parts.items ds s.states.items) (drafts ∙ h.is_current.drafts)
+    ∙ ap (runs_texts c.parts.items (drafts_by (listing_of file) (applied_of file) (records_of now) (flat_map results_of (data_of now)))) states
+    ∙ runs_written (listing_of file) (applied_of file) (records_of now) (states_of (records_of now) (records_of before)) c.parts.items (data_of now)
+    h.now_runs h.is_current.parts h.now_records (states_long (records_of before) (partners_of (records_of now) (records_of before)) 0 (records_of now))
+
+baseline_texts : (file : File) (now before : List Placed) (c : Half) (b : Baselines) (t : Side) → AreTogether file now before c b
+    → IsLeft before (taken_of (records_of now) (records_of before)) t
+    → left_texts t.runs.items t.drafts.items t.states.items ≡ map compact_text (leftover_runs now before)
+baseline_texts file now before c b t h left =
+    let taken = taken_of (records_of now) (records_of before) in
+    let ds = baseline_drafts before in
+    let taken_all = taken_long (records_of now) (records_of before) in
+    ap (left_texts t.runs.items t.drafts.items) left.states
+    ∙ ap (λ es. left_texts t.runs.items es (map (λ _. Some Absent) es)) left.drafts
+    ∙ left_written (records_of before) taken t.runs.items (data_of before) ds h.before_runs left.parts h.are_baselines.count taken_all refl
+    (baseline_long before b h.are_baselines ∙ sym taken_all)
+
+current_counts : (file : File) (now before : List Placed) (c : Half) (b : Baselines) (s : Side) (x : State) (l : Level) (y : Bool) → AreTogether file now before c b
+    → s.drafts.items ≡ c.drafts.items → s.states.items ≡ map Some (states_of (records_of now) (records_of before))
+    → tallied s.drafts.items s.states.items x l y ≡ count_of (current_runs file now before) x l y
+current_counts file now before c b s x l y h drafts states =
+    ap (λ ds. tallied ds s.states.items x l y) (drafts ∙ h.is_current.drafts)
+    ∙ ap (λ ss. tallied (drafts_by (listing_of file) (applied_of file) (records_of now) (flat_map results_of (data_of now))) ss x l y) states
+    ∙ runs_count (listing_of file) (applied_of file) (records_of now) (states_of (records_of now) (records_of before)) (data_of now) x l y
+    h.now_runs h.now_records (states_long (records_of before) (partners_of (records_of now) (records_of before)) 0 (records_of now))
+
+baseline_counts : (file : File) (now before : List Placed) (c : Half) (b : Baselines) (t : Side) (x : State) (l : Level) (y : Bool) → AreTogether file now before c b
+    → IsLeft before (taken_of (records_of now) (records_of before)) t
+    → tallied t.drafts.items t.states.items x l y ≡ count_of (leftover_runs now before) x l y
+baseline_counts file now before c b t x l y h left =
+    let taken = taken_of (records_of now) (records_of before) in
+    let taken_all = taken_long (records_of now) (records_of before) in
+    ap (λ ss. tallied t.drafts.items ss x l y) left.states
+    ∙ ap (λ es. tallied es (map (λ _. Some Absent) es) x l y) left.drafts
+    ∙ counts taken (baseline_drafts before) x l y (baseline_long before b h.are_baselines ∙ sym taken_all)
+    ∙ left_count (records_of before) taken (data_of before) x l y h.before_runs h.are_baselines.count taken_all
+
+pub written : (file : File) (now before : List Placed) (c : Half) (b : Baselines) (s t : Side) → AreTogether file now before c b
+    → s.runs.items ≡ c.parts.items → s.drafts.items ≡ c.drafts.items → s.states.items ≡ map Some (states_of c.records.items b.records.items)
+    → IsLeft before (taken_of (records_of now) (records_of before)) t
+    → AreWritten s t (runs_by file now before)
+written file now before c b s t h runs drafts states left =
+    let told =
+    states ∙ ap (λ rs. map Some (states_of rs b.records.items)) h.is_current.records
+    ∙ ap (λ rs. map Some (states_of (records_of now) rs)) h.are_baselines.records in record {
+      texts =
+          map-append compact_text (current_runs file now before) (leftover_runs now before)
+          ∙ ap (λ ts. ts ++ map compact_text (leftover_runs now before)) (sym (current_texts file now before c b s h runs drafts told))
+          ∙ ap (λ ts. runs_texts s.runs.items s.drafts.items s.states.items ++ ts) (sym (baseline_texts file now before c b t h left));
+      counts = λ x l y.
+          ap (λ n. n + tallied t.drafts.items t.states.items x l y) (current_counts file now before c b s x l y h drafts told)
+          ∙ ap (λ n. count_of (current_runs file now before) x l y + n) (baseline_counts file now before c b t x l y h left)
+          ∙ sym (count_of-append (current_runs file now before) (leftover_runs now before) x l y);
+    }
+
+pub together : (file : File) (current baseline : Judged) (c : Half) (b : Baselines) → IsJudged file false current → IsJudged file true baseline
+    → IsCurrent file (placed_in current) c → AreBaselines (placed_in baseline) b → AreTogether file (placed_in current) (placed_in baseline) c b
+together file current baseline c b j k is_c are_b =
+    let now = placed_in current in
+    let before = placed_in baseline in
+    let records = records_of_logs now j.faultless j.sources in
+    let present = few_present (data_of before) in record {
+      is_current = is_c;
+      are_baselines = are_b;
+      now_runs = j.objects;
+      before_runs = k.objects;
+      now_records = records;
+      few_runs = j.few_runs;
+      few_now = omega (arith, records, j.few_results);
+      few_before = omega (arith, are_b.count, present, k.few_results);
+    }

@@ -1,0 +1,73 @@
+-- What is made of the runs of all baselines, before and after results are matched. No public clause of the merge speaks
+-- of it.
+use Rattle.std.specs.Prelude.{◌≡◌, ℕ, Bool, List, [], ◌∷◌, Some, map, take, drop, length, ⊤}
+use Rattle.std.specs.List.{All, AllByRecursion}
+use Rattle.serde_json.specs.Data.{Data}
+use Rattle.serde_json.specs.View.{members_view}
+use Rattle.sarif_records.specs.declared.kinds.State.{State}
+use Rattle.sarif_records.specs.declared.kinds.State.TheVariants.{Absent}
+use Rattle.sarif_records.specs.Run.{results_of}
+use Rattle.sarif_judge.specs.declared.item.Item.{Item}
+use Rattle.sarif_judge.specs.declared.item.Item.TheVariants.{Sound, Bad, Skipped}
+use Rattle.sarif_judge.specs.declared.spots.Spot.{Spot}
+use Rattle.sarif_judge.specs.Judging.{records_of}
+use Rattle.sarif_judge.specs.Leftover.{found_at, not_taken}
+use Rattle.sarif_judge.specs.Opened.{placed_of}
+use Rattle.sarif_judge.specs.Placed.{Placed}
+use Rattle.sarif_judge.specs.Spots.{IsSpotOf}
+use Rattle.sarif_write.specs.declared.draft.Draft.{Draft}
+use Rattle.sarif_write.specs.declared.merged_text.Side.{Side}
+use Rattle.sarif_write.specs.declared.run_parts.RunParts.{RunParts}
+use Rattle.sarif_write.specs.Drafts.{drafts_by, members_in, present_results, unapplied, IsWholeRun}
+use Rattle.sarif_write.specs.MergedRuns.{bare, present}
+use Rattle.sarif_assemble.specs.declared.baselines.Baselines.{Baselines}
+use Rattle.sarif_assemble.specs.LogBy.{data_of}
+
+-- how many results of each run aren't absent already
+abbrev pub present_counts : List Placed → List ℕ
+present_counts runs = map (λ p. length (present (results_of p.run))) runs
+
+-- the places of those results that have a record
+abbrev pub with_spot : Item → Spot → List Spot → List Spot
+with_spot (Sound r) spot spots = spot ∷ spots
+with_spot (Bad fault) spot spots = spots
+with_spot Skipped spot spots = spots
+
+abbrev pub spots_with_record : List Item → List Spot → List Spot
+spots_with_record [] spots = []
+spots_with_record (item ∷ items) [] = []
+spots_with_record (item ∷ items) (spot ∷ spots) = with_spot item spot (spots_with_record items spots)
+
+-- these runs of baselines, with a record and a place of each result that isn't absent already
+pub record AreBaselines (runs : List Placed) (baselines : Baselines) : Type 0 where
+  pub opened : map placed_of baselines.runs.items ≡ runs
+  pub counts : baselines.counts.items ≡ present_counts runs
+  pub records : baselines.records.items ≡ records_of runs
+  pub spots : map (found_at runs) baselines.spots.items ≡ present_results (data_of runs)
+  pub within : All (IsSpotOf runs) baselines.spots.items
+  pub count : length (records_of runs) ≡ length (present_results (data_of runs))
+
+-- the drafts of all results that aren't absent already
+abbrev pub baseline_drafts : List Placed → List Draft
+baseline_drafts runs = drafts_by (λ _ own. own) unapplied (records_of runs) (present_results (data_of runs))
+
+-- how many aren't taken
+abbrev pub left_count : List Bool → ℕ
+left_count taken = length (not_taken taken taken)
+
+-- these are the parts of these runs, each with the number of its results that aren't taken
+abbrev pub AreLeftParts : List RunParts → List Bool → List Data → Type 0
+AreLeftParts [] taken [] = ⊤
+AreLeftParts [] taken (run ∷ runs) = ⊥
+AreLeftParts (parts ∷ more) taken [] = ⊥
+AreLeftParts (parts ∷ more) taken (run ∷ runs) =
+    let n = length (present (results_of run)) in
+    (members_view parts.members.entries ≡ bare (members_in run)) × (parts.results ≡ Some (left_count (take n taken)))
+    × AreLeftParts more (drop n taken) runs
+
+-- what is left of these runs of baselines
+pub record IsLeft (runs : List Placed) (taken : List Bool) (side : Side) : Type 0 where
+  pub parts : AreLeftParts side.runs.items taken (data_of runs)
+  pub whole : AllByRecursion IsWholeRun side.runs.items
+  pub drafts : side.drafts.items ≡ not_taken taken (baseline_drafts runs)
+  pub states : side.states.items ≡ map (λ _. Some Absent) side.drafts.items

@@ -1,0 +1,129 @@
+//! What is left of the baselines when their results are matched: the results that no current result is paired
+//! with, as absent.
+ghost use Rattle.std.specs.Prelude.{◌≡◌, ◌≤◌, Some, IfOk, List, length, map};
+ghost use Rattle.std.specs.List.{AllByRecursion};
+ghost use Rattle.serde_json.specs.View.{members_view};
+ghost use Rattle.sarif_records.specs.declared.kinds.State.TheVariants.{Absent};
+ghost use Rattle.sarif_judge.specs.Leftover.{not_taken};
+ghost use Rattle.sarif_judge.specs.Opened.{placed_of};
+ghost use Rattle.sarif_judge.specs.Placed.{Placed};
+ghost use Rattle.sarif_write.specs.MergedRuns.{bare};
+ghost use Rattle.sarif_write.specs.Drafts.{members_in, present_results, IsWholeRun};
+ghost use Rattle.sarif_assemble.specs.Baselines.{baseline_drafts, left_count, present_counts, AreBaselines, AreLeftParts, IsLeft};
+ghost use Rattle.sarif_assemble.specs.LogBy.{data_of};
+
+use crate::baselines::Baselines;
+use sarif_judge::{OpenedRun, draft_leftovers, list_leftovers};
+use sarif_records::State;
+use sarif_write::{Draft, RunParts, Side, make_parts};
+use std::alloc::{AllocError, Global};
+use std::thread::Threads;
+
+/// How many of these aren't taken.
+fn count_left(taken: &[bool]) -> usize
+    ensures count { result ≡ left_count taken.now }
+    ensures few { result ≤ length taken.now }
+{
+    let mut count = 0;
+    for is_taken in taken {
+        if !*is_taken {
+            count += 1;
+        }
+    }
+    count
+}
+
+/// The parts of a run of a baseline, of which so many results are left.
+fn left_run(alloc: Global, run: OpenedRun<'_, '_>, count: u32) -> RunParts
+    ensures members { members_view result.members.entries
+        ≡ bare (members_in (placed_of run.entry).run) }
+    ensures results { result.results ≡ Some count }
+    ensures whole { IsWholeRun result }
+{
+    make_parts(alloc, run.into_bare(), Some(count))
+}
+
+/// The parts of runs of baselines, of which so many results each aren't absent already, and some are taken.
+fn left_parts(
+    alloc: Global,
+    runs: Vec<OpenedRun<'_, '_>>,
+    counts: &[u32],
+    mut taken: &[bool],
+) -> Result<Vec<RunParts>, AllocError>
+    requires counts { counts.now ≡ present_counts (map placed_of runs.items) }
+    requires taken { length taken.now
+        ≡ length (present_results (data_of (map placed_of runs.items))) }
+    ensures parts { IfOk result
+        (λ all. AreLeftParts all.items taken.entry.now (data_of (map placed_of runs.entry.items))) }
+    ensures whole { IfOk result (λ all. AllByRecursion IsWholeRun all.items) }
+{
+    let mut all = Vec::with_capacity(alloc, runs.len())?;
+    let mut number = 0;
+    for run in runs {
+        let (these, later) = taken.split_at(counts[number] as usize);
+        all.push(left_run(alloc, run, count_left(these) as u32))?;
+        taken = later;
+        number += 1;
+    }
+    Ok(all)
+}
+
+/// The drafts of the results that are left, made in at most so many threads.
+fn left_drafts<R: Threads + Sync>(
+    rt: &R,
+    alloc: Global,
+    baselines: &Baselines<'_, '_>,
+    taken: &[bool],
+    threads: u32,
+) -> Result<Vec<Draft>, AllocError>
+    requires threads { 1 ≤ threads }
+    requires baselines { (runs : List Placed) × AreBaselines runs baselines.now }
+    requires taken { length taken.now ≡ length baselines.now.records.items }
+    ensures { IfOk result (λ drafts. (runs : List Placed) → AreBaselines runs baselines.now
+        → drafts.items ≡ not_taken taken.now (baseline_drafts runs)) }
+{
+    let left = list_leftovers(
+        alloc,
+        &baselines.runs,
+        &baselines.spots,
+        &baselines.records,
+        taken,
+    )?;
+    draft_leftovers(rt, alloc, &left, threads)
+}
+
+/// The state of so many results that are absent.
+fn absent_states(alloc: Global, drafts: &[Draft]) -> Result<Vec<Option<State>>, AllocError>
+    ensures { IfOk result (λ states. states.items ≡ map (λ _. Some Absent) drafts.now) }
+{
+    let mut states = Vec::with_capacity(alloc, drafts.len())?;
+    for _draft in drafts {
+        states.push(Some(State::Absent))?;
+    }
+    Ok(states)
+}
+
+/// What is left of the runs of baselines, of whose results these are taken.
+pub(crate) fn left_side<R: Threads + Sync>(
+    rt: &R,
+    alloc: Global,
+    baselines: Baselines<'_, '_>,
+    taken: &[bool],
+    threads: u32,
+) -> Result<Side, AllocError>
+    requires threads { 1 ≤ threads }
+    requires baselines { (runs : List Placed) × AreBaselines runs baselines }
+    requires taken { length taken.now ≡ length baselines.records.items }
+    ensures { IfOk result (λ side. (runs : List Placed) → AreBaselines runs baselines.entry
+        → IsLeft runs taken.now side) }
+{
+    let drafts = left_drafts(rt, alloc, &baselines, taken, threads)?;
+    let Baselines { runs, counts, .. } = baselines;
+    let runs = left_parts(alloc, runs, &counts, taken)?;
+    let states = absent_states(alloc, &drafts)?;
+    Ok(Side {
+        runs,
+        drafts,
+        states,
+    })
+}

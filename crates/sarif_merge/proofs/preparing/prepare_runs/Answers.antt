@@ -1,0 +1,62 @@
+use Rattle.std.proofs.Common.{◌≡◌, ◌≤◌, ◌⊎◌, Some, map, length, sym, ap, subst, ◌∙◌, arith}
+use Rattle.std.proofs.lemmas.List.{length-map}
+use Rattle.std.proofs.lemmas.Result.{err_from_is_err_and}
+use Rattle.sarif_records.specs.Run.{results_total}
+use Rattle.sarif_sources.specs.declared.fault.Source.TheVariants.{Log, Baseline}
+use Rattle.sarif_judge.specs.Judging.{faults_of_runs}
+use Rattle.sarif_judge.specs.Opened.{placed_of}
+use Rattle.sarif_inputs.specs.Faults.{first, IsWanting}
+use Rattle.sarif_inputs.specs.Inputs.{data_of, numbered, placed}
+use Rattle.sarif_merge.proofs.MergeAnswers.{judged_logs, judged_baselines, same_runs, refused_by_first, left_after_first}
+use Rattle.sarif_merge.proofs.preparing.prepare_runs.Goals as goal
+
+pub prepare-requires-clause-current : goal.prepare-requires-clause-current
+prepare-requires-clause-current g c κs within =
+    let given = c.requires.read in
+    let read = given.2 in
+    let judged = c.in_ok-now.now in
+    let same = c.in_ok-now.ensures.runs in
+    let few : length (map placed_of c.args.runs.current.items) ≤ 10000 = omega (arith, read.few, length-map c.args.runs.current.items placed_of) in
+    let few_results : results_total (data_of (map placed_of c.args.runs.current.items)) ≤ 1000000 = omega (arith, read.few_results) in
+    judged_logs c.args.file.now given.0 judged (same ∙ read.current) c.in_ok-now.ensures.outcomes
+    (ap faults_of_runs same ∙ c.in_ok-now.ensures.faults)
+    (subst (λ ps. length ps ≤ 10000) (sym same) few)
+    (subst (λ ps. results_total (data_of ps) ≤ 1000000) (sym same) few_results)
+
+pub prepare-requires-clause-baseline : goal.prepare-requires-clause-baseline
+prepare-requires-clause-baseline g c κs within =
+    let given = c.requires.read in
+    let read = given.2 in
+    let judged = c.in_ok-before.before in
+    let same = c.in_ok-before.ensures.runs in
+    let few : length (map placed_of c.args.runs.baseline.items) ≤ 10000 = omega (arith, read.few, length-map c.args.runs.baseline.items placed_of) in
+    let few_results : results_total (data_of (map placed_of c.args.runs.baseline.items)) ≤ 1000000 = omega (arith, read.few_results) in
+    judged_baselines c.args.file.now given.1 judged (same ∙ read.baseline) c.in_ok-before.ensures.outcomes
+    (ap faults_of_runs same ∙ c.in_ok-before.ensures.faults)
+    (subst (λ ps. length ps ≤ 10000) (sym same) few)
+    (subst (λ ps. results_total (data_of ps) ≤ 1000000) (sym same) few_results)
+
+pub returns-clause-prepared : goal.returns-clause-prepared
+returns-clause-prepared g c = λ ls bs read.
+    same_runs c.args.file.now _ _ (placed (numbered Log 0 ls)) (placed (numbered Baseline 0 bs)) c.in_ok-prepared.prepared c.in_ok-prepared.ensures
+    (c.in_ok-now.ensures.runs ∙ read.current) (c.in_ok-before.ensures.runs ∙ read.baseline)
+
+pub returns-in_err-now-clause-faults : goal.returns-in_err-now-clause-faults
+returns-in_err-now-clause-faults g c = λ ls bs read.
+    let p = err_from_is_err_and c.from_residual.result c.from_residual.ensures.1 in
+    let refused = subst (λ ps. IsWanting c.in_err-now.field-0.0 ⊎ (first (faults_of_runs ps) ≡ Some c.in_err-now.field-0.0)) read.current c.in_err-now.ensures.faults in
+    rw (p.1, p.2) (refused_by_first (placed (numbered Log 0 ls)) (placed (numbered Baseline 0 bs)) c.in_err-now.field-0.0 refused)
+
+pub returns-in_err-before-clause-faults : goal.returns-in_err-before-clause-faults
+returns-in_err-before-clause-faults g c = λ ls bs read.
+    let p = err_from_is_err_and c.from_residual-in_err-before.result c.from_residual-in_err-before.ensures.1 in
+    let none = ap faults_of_runs (sym read.current) ∙ c.in_ok-now.ensures.faults in
+    let left = left_after_first (placed (numbered Log 0 ls)) (placed (numbered Baseline 0 bs)) none in
+    let refused = subst (λ ps. IsWanting c.in_err-before.field-0.0 ⊎ (first (faults_of_runs ps) ≡ Some c.in_err-before.field-0.0)) read.baseline c.in_err-before.ensures.faults in
+    rw (p.1, p.2) (rw left refused)
+
+pub returns-clause-faults : goal.returns-clause-faults
+returns-clause-faults g c = λ ls bs read.
+    let none = ap faults_of_runs (sym read.current) ∙ c.in_ok-now.ensures.faults in
+    left_after_first (placed (numbered Log 0 ls)) (placed (numbered Baseline 0 bs)) none
+    ∙ ap faults_of_runs (sym read.baseline) ∙ c.in_ok-before.ensures.faults

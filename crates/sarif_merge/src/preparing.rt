@@ -1,0 +1,115 @@
+//! What a merge writes: the sources are indexed, their results judged and matched.
+ghost use Rattle.std.specs.Prelude.{◌≡◌, ◌≤◌, ◌++◌, ℕ, List, length, map, option_map, IfOk};
+ghost use Rattle.sarif_judge.specs.Judging.{faults_of_runs};
+ghost use Rattle.sarif_sources.specs.Failing.{IsQuiet};
+ghost use Rattle.sarif_assemble.specs.Prepared.{IsPrepared};
+ghost use Rattle.sarif_inputs.specs.Faults.{Answers};
+ghost use Rattle.sarif_inputs.specs.Inputs.{numbered, placed};
+ghost use Rattle.sarif_inputs.specs.Runs.{AreRunsOf};
+ghost use Rattle.sarif_sources.specs.declared.fault.Source.TheVariants as source;
+ghost use Rattle.sarif_merge.specs.Given.{given, inputs_of};
+ghost use Rattle.sarif_merge.specs.Prepared.{IsPreparationOf};
+
+use crate::judged::judge_runs;
+use json::Scratch;
+use sarif_assemble::{Prepared, prepare};
+use sarif_counts::Options;
+use sarif_gather::Gate;
+use sarif_inputs::{Runs, index_sources, open_sources, read_file};
+use sarif_sources::{MergeFault, SourceBytes};
+use sarif_suppress::Suppressions;
+use std::alloc::{AllocError, Global};
+use std::sync::Wait;
+use std::thread::Threads;
+
+/// Judges the runs that were read by workers, and matches their results.
+fn prepare_runs<G: Gate + Sync, R: Threads + Wait + Sync>(
+    rt: &R,
+    alloc: Global,
+    runs: Runs<'_, '_>,
+    file: &Suppressions,
+    options: &Options,
+    observer: &G,
+) -> Result<Prepared, MergeFault>
+    requires read { (logs : List (List ℕ)) × (baselines : List (List ℕ))
+        × AreRunsOf logs baselines runs }
+    ensures prepared { (logs baselines : List (List ℕ)) → AreRunsOf logs baselines runs.entry
+        → IfOk result (IsPrepared file.now (placed (numbered source.Log 0 logs))
+        (placed (numbered source.Baseline 0 baselines))) }
+    ensures faults { (logs baselines : List (List ℕ)) → AreRunsOf logs baselines runs.entry
+        → Answers (faults_of_runs (placed (numbered source.Log 0 logs)
+        ++ placed (numbered source.Baseline 0 baselines))) result }
+    ensures quiet { IsQuiet result }
+{
+    let Runs { current, baseline } = runs;
+    let now = judge_runs(rt, alloc, current, file, options.workers, observer)?;
+    let before = judge_runs(rt, alloc, baseline, file, options.workers, observer)?;
+    let prepared = prepare(rt, alloc, now, before, file, options)?;
+    Ok(prepared)
+}
+
+/// The same with the suppression file.
+fn prepare_read<G: Gate + Sync, R: Threads + Wait + Sync>(
+    rt: &R,
+    alloc: Global,
+    runs: Runs<'_, '_>,
+    suppressions: Option<&[u8]>,
+    options: &Options,
+    observer: &G,
+) -> Result<Prepared, MergeFault>
+    requires read { (logs : List (List ℕ)) × (baselines : List (List ℕ))
+        × AreRunsOf logs baselines runs }
+    ensures preparation { (logs baselines : List (List ℕ)) → AreRunsOf logs baselines runs.entry
+        → IsPreparationOf (given logs baselines (option_map (λ b. b.now) suppressions.entry)
+        options.now.today) result }
+    ensures quiet { IsQuiet result }
+{
+    let file = read_file(alloc, options.seed, suppressions, options.today)?;
+    let prepared = prepare_runs(rt, alloc, runs, &file, options, observer)?;
+    Ok(prepared)
+}
+
+/// The bytes that may be there.
+fn slice_of(bytes: &Option<Vec<u8>>) -> Option<&[u8]>
+    ensures { option_map (λ b. b.now) result ≡ option_map (λ v. v.items) bytes.now }
+{
+    match bytes {
+        Some(bytes) => Some(bytes.as_slice()),
+        None => None,
+    }
+}
+
+/// So many scratches, in which sources are indexed.
+fn make_scratches(alloc: Global, count: usize) -> Result<Vec<Scratch>, AllocError>
+    ensures { IfOk result (λ scratches. length scratches.items ≡ count) }
+{
+    let mut scratches = Vec::with_capacity(alloc, count)?;
+    for _source in 0..count {
+        scratches.push(Scratch::new(alloc))?;
+    }
+    Ok(scratches)
+}
+
+/// All that is written of the merge of sources of which there are not too many. Their indexes are let go.
+pub(crate) fn prepare_few<G: Gate + Sync, R: Threads + Wait + Sync>(
+    rt: &R,
+    alloc: Global,
+    sources: &SourceBytes,
+    options: &Options,
+    observer: &G,
+) -> Result<Prepared, MergeFault>
+    requires few_logs { length sources.now.logs.items ≤ 1000 }
+    requires few_baselines { length sources.now.baselines.items ≤ 1000 }
+    ensures preparation { IsPreparationOf (inputs_of sources.now options.now) result }
+    ensures quiet { IsQuiet result }
+{
+    let logs = sources.logs.as_slice();
+    let baselines = sources.baselines.as_slice();
+    let mut scratches = make_scratches(alloc, logs.len() + baselines.len())?;
+    let threads = options.workers + 1;
+    let indexes = index_sources(rt, alloc, logs, baselines, &mut scratches, threads)?;
+    let runs = open_sources(alloc, options.seed, &indexes, logs.len())?;
+    let file = slice_of(&sources.suppressions);
+    let prepared = prepare_read(rt, alloc, runs, file, options, observer)?;
+    Ok(prepared)
+}
