@@ -9,12 +9,14 @@ pub mod HitsCounted
 pub mod HitsReported
 pub mod IndexedElements
 pub mod MessageMore
+pub mod MessageWhole
 pub mod PathMore
 pub mod ReportedMore
 pub mod RowsApart
 pub mod SeenMore
 pub mod SeenTexts
 pub mod ShownMore
+pub mod ShownWhole
 pub mod TagsCounted
 pub mod TextApart
 pub mod ToldBare

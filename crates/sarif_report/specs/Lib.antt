@@ -1,5 +1,6 @@
 pub mod CountRow
 pub mod Escaped
+pub mod EscapedBytes
 pub mod EscapedLaws
 pub mod Finding
 pub mod GithubLaws
