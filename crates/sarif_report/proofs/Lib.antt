@@ -1,4 +1,5 @@
 pub mod ArrayRead
+pub mod BriefTells
 pub mod CharsBack
 pub mod EscapedApart
 pub mod GithubApart

@@ -1,3 +1,4 @@
+pub mod Brief
 pub mod CountRow
 pub mod Escaped
 pub mod EscapedBytes
