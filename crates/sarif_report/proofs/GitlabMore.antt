@@ -1,19 +1,28 @@
 -- The report for GitLab, put together from its parts.
-use Rattle.std.proofs.Common.{◌≡◌, ◌<◌, ◌^◌, ℕ, Bool, true, false, List, [], ◌∷◌, ◌++◌, length, take, drop, Option, Some, None, codes, bytes_eq, refl, sym, ap, ap₂, cond, ◌∙◌, append_assoc, arith}
+use Rattle.std.proofs.Common.{◌≡◌, ◌<◌, ◌≤◌, ◌==◌, ◌^◌, ne_eqb, ℕ, Bool, true, false, List, [], ◌∷◌, ◌++◌, length, take, drop, Option, Some, None, codes, bytes_eq, refl, sym, ap, ap₂, cond, ◌∙◌, append_assoc, arith}
 use Rattle.std.specs.List.{count_by}
 use Rattle.std.proofs.Common.{◌+◌, get_or, if◌then◌else◌}
 use Rattle.std.proofs.lemmas.Bool.{and_parts, and_from}
 use Rattle.std.proofs.lemmas.Slice.Eq.{bytes_eq-Decides}
 use Rattle.std.proofs.lemmas.List.{append_cancel_left, drop_more, take_more, length-take-le}
 use Rattle.std.proofs.lemmas.List.Sums.{sum_by-cons, count_by-le-length, count_by_more_yes, count_by_more_no}
-use Rattle.json.specs.Print.{quoted, escape}
+use Rattle.std.specs.BTreeMap as tree
+use Rattle.std.specs.Ordering.{is_eq, nat_cmp}
+use Rattle.std.specs.Cmp.{tied_then, unsigned_ties}
+use Rattle.std.specs.Cmp.Lexicographic.{slice_cmp, texts_ties}
+use Rattle.sha2.specs.Sha256.{sha256}
+use Rattle.std.specs.List.{list_all}
+use Rattle.std.specs.Prelude.{nat_lt, unwrap_or}
+use Rattle.std.proofs.lemmas.Bool.{le-ltb, false_from_ne_true, true≢false}
+use Rattle.std.proofs.lemmas.Bool.Decides.{nat_tests}
+use Rattle.json.specs.Print.{quoted, escape, escape_byte}
 use Rattle.json.specs.Text.{content, plain}
 use Rattle.json.proofs.Printed.Strings.{content-escape}
 use Rattle.serde_json.specs.Written.{compact_text, items_text, comma_if}
 use Rattle.serde_json.proofs.OnLiterals.{serde_json_on_literals}
 use Rattle.sarif_report.specs.declared.finding.Finding.{Finding}
 use Rattle.sarif_report.specs.GitlabReport.{quality_of, hashed_text, are_alike, same_path, path_or_null, rank_among, items_after, mark_of}
-use Rattle.sarif_report.specs.GitlabParts.{quoted_text, identity_of, rank_text, rule_text, location_text, severity_text}
+use Rattle.sarif_report.specs.GitlabParts.{stands_in_string, quoted_text, identity_of, rank_text, rule_text, location_text, severity_text, number_in, number_of, key_cmp, counted}
 
 -- ---- an object and a text that is hashed, by their parts
 
@@ -154,3 +163,80 @@ next_item fs i f rank later within is counted =
     ap (λ ds. items_text later (items_after (take i fs) ds)) left
     ∙ ap (λ n. comma_if later ++ (compact_text (quality_of f (mark_of f n)) ++ items_text true (items_after (take i fs ++ f ∷ []) (drop (i + 1) fs)))) ranked
     ∙ ap (λ front. comma_if later ++ (compact_text (quality_of f (mark_of f rank)) ++ items_text true (items_after front (drop (i + 1) fs)))) taken
+
+-- ---- a text in which nothing is escaped
+
+quote_apart : (b : ℕ) → stands_in_string b ≡ true → (b == 34) ≡ false
+quote_apart b h = grind (arith, nat_tests, h)
+
+slash_apart : (b : ℕ) → stands_in_string b ≡ true → (b == 92) ≡ false
+slash_apart b h = grind (arith, nat_tests, h)
+
+high : (b : ℕ) → stands_in_string b ≡ true → 32 ≤ b
+high b h = grind (arith, nat_tests, h)
+
+low_apart : (b n : ℕ) → n < 32 → stands_in_string b ≡ true → (b == n) ≡ false
+low_apart b n low h = let at_least = high b h in ne_eqb b n (λ e. omega (arith, low, at_least, e))
+
+not_low : (b : ℕ) → stands_in_string b ≡ true → nat_lt b 32 ≡ false
+not_low b h = le-ltb b 32 (high b h)
+
+byte_stands : (b : ℕ) → stands_in_string b ≡ true → escape_byte b ≡ b ∷ []
+unfolding escape_byte
+byte_stands b h =
+    rw (
+      quote_apart b h,
+      slash_apart b h,
+      low_apart b 8 (omega arith) h,
+      low_apart b 12 (omega arith) h,
+      low_apart b 10 (omega arith) h,
+      low_apart b 13 (omega arith) h,
+      low_apart b 9 (omega arith) h,
+      not_low b h,
+    ) refl
+
+escape_whole : (bs : List ℕ) → list_all stands_in_string bs ≡ true → escape bs ≡ bs
+escape_whole [] h = refl
+escape_whole (b ∷ bs) h =
+    let parts = and_parts (stands_in_string b) (list_all stands_in_string bs) h in
+    rw (byte_stands b parts.0) (ap (λ t. b ∷ t) (escape_whole bs parts.1))
+
+pub quoted_whole : (bs : List ℕ) → list_all stands_in_string bs ≡ true → quoted_text bs ≡ 34 ∷ (bs ++ 34 ∷ [])
+unfolding quoted_text
+quoted_whole bs h = ap (λ t. 34 ∷ (t ++ 34 ∷ [])) (escape_whole bs h)
+
+-- ---- counting
+
+same_number : (n m : ℕ) → n ≡ m → is_eq (nat_cmp n m) ≡ true
+same_number n m e = let told : (n == m) ≡ true = grind (arith, nat_tests, e) in sym (unsigned_ties n m) ∙ told
+
+is_same_key : (key : ℕ × List ℕ) (other : List ℕ) (b : Bool) → key.0 ≡ number_of key.1 → bytes_eq other key.1 ≡ b
+    → is_eq (key_cmp key (number_of other, other)) ≡ b
+is_same_key key other true is h =
+    let same : other ≡ key.1 = (bytes_eq-Decides other key.1).0 h in
+    sym (tied_then (nat_cmp key.0 (number_of other)) (slice_cmp nat_cmp key.1 other))
+    ∙ and_from _ _ (same_number key.0 (number_of other) (is ∙ ap number_of (sym same)))
+    (sym (texts_ties key.1 other) ∙ (bytes_eq-Decides key.1 other).1 (sym same))
+is_same_key key other false is h =
+    sym (tied_then (nat_cmp key.0 (number_of other)) (slice_cmp nat_cmp key.1 other))
+    ∙ false_from_ne_true _ (λ both. true≢false (sym ((bytes_eq-Decides other key.1).1 (sym ((bytes_eq-Decides key.1 other).0 (texts_ties key.1 other ∙ (and_parts _ _ both).1)))) ∙ h))
+
+counted_by : (b : Bool) (old new : Option ℕ) (rank : ℕ) → new ≡ cond b (Some (rank + 1)) old → (b ≡ true → unwrap_or old 0 ≡ rank)
+    → unwrap_or new 0 ≡ unwrap_or old 0 + (if b then 1 else 0)
+counted_by true old new rank e same = ap (λ o. unwrap_or o 0) e ∙ ap (λ n. n + 1) (sym (same refl))
+counted_by false old new rank e same = let zero : unwrap_or old 0 ≡ unwrap_or old 0 + 0 = omega arith in ap (λ o. unwrap_or o 0) e ∙ zero
+
+pub counted_more : (old new : tree.BTreeMap (ℕ × List ℕ) ℕ) (key : ℕ × List ℕ) (other : List ℕ) (rank : ℕ) → key.0 ≡ number_of key.1
+    → rank ≡ counted old key.1
+    → ((q : ℕ × List ℕ) → tree.get key_cmp new q ≡ cond (is_eq (key_cmp key q)) (Some (rank + 1)) (tree.get key_cmp old q))
+    → counted new other ≡ counted old other + (if bytes_eq other key.1 then 1 else 0)
+counted_more old new key other rank is told updates =
+    counted_by (bytes_eq other key.1) (tree.get key_cmp old (number_of other, other)) (tree.get key_cmp new (number_of other, other)) rank
+    (updates (number_of other, other)
+    ∙ ap (λ b. cond b (Some (rank + 1)) (tree.get key_cmp old (number_of other, other))) (is_same_key key other (bytes_eq other key.1) is refl))
+    (λ h. ap (counted old) ((bytes_eq-Decides other key.1).0 h) ∙ sym told)
+
+pub number_told : (identity digest : List ℕ) (number : ℕ) → digest ≡ sha256 (identity ++ rank_text 0) → number ≡ number_in digest
+    → number ≡ number_of identity
+unfolding number_of
+number_told identity digest number p q = q ∙ ap number_in p

@@ -1,4 +1,5 @@
 pub mod ArrayRead
+pub mod BriefTells
 pub mod CharsBack
 pub mod EscapedApart
 pub mod GithubApart
@@ -9,12 +10,14 @@ pub mod HitsCounted
 pub mod HitsReported
 pub mod IndexedElements
 pub mod MessageMore
+pub mod MessageWhole
 pub mod PathMore
 pub mod ReportedMore
 pub mod RowsApart
 pub mod SeenMore
 pub mod SeenTexts
 pub mod ShownMore
+pub mod ShownWhole
 pub mod TagsCounted
 pub mod TextApart
 pub mod ToldBare

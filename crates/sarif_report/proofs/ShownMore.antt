@@ -22,7 +22,7 @@ kept-full : (c : ℕ) (cs : List ℕ) → kept 0 (c ∷ cs) ≡ 0x2026 ∷ []
 unfolding kept
 kept-full c cs = refl
 
-kept-cons : (room c : ℕ) (cs : List ℕ) → kept (suc room) (c ∷ cs) ≡ c ∷ kept room cs
+pub kept-cons : (room c : ℕ) (cs : List ℕ) → kept (suc room) (c ∷ cs) ≡ c ∷ kept room cs
 unfolding kept
 kept-cons room c cs = refl
 

@@ -1,5 +1,7 @@
+pub mod Brief
 pub mod CountRow
 pub mod Escaped
+pub mod EscapedBytes
 pub mod EscapedLaws
 pub mod Finding
 pub mod GithubLaws

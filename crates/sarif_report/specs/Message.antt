@@ -93,6 +93,10 @@ filled_from args skip [] = []
 filled_from args zero (c ∷ cs) = (piece_of args c cs).0 ++ filled_from args (piece_of args c cs).1 cs
 filled_from args (suc skip) (c ∷ cs) = filled_from args skip cs
 
+-- any other byte than `{` and `}`
+abbrev pub is_unbraced : ℕ → Bool
+is_unbraced b = not (b == 123 || b == 125)
+
 -- without arguments nothing is filled in
 abbrev pub filled : List Data → List ℕ → List ℕ
 filled [] cs = cs

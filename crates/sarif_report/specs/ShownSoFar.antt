@@ -1,7 +1,11 @@
 -- A text that is being shown, character by character.
-use Rattle.std.specs.Prelude.{◌≡◌, ℕ, List, [], ◌∷◌, ◌++◌, map, if◌then◌else◌, encode_utf8_all, string_bytes}
+use Rattle.std.specs.Prelude.{◌≡◌, ℕ, Bool, not, ◌&&◌, ◌==◌, List, [], ◌∷◌, ◌++◌, map, if◌then◌else◌, encode_utf8_all, string_bytes}
 use Rattle.sarif_report.specs.declared.shown_text.ShownText.{ShownText}
-use Rattle.sarif_report.specs.Shown.{kept, parted, parted_signs, plain}
+use Rattle.sarif_report.specs.Shown.{is_between, kept, parted, parted_signs, plain}
+
+-- whether a byte is a character that is shown as it stands, whatever stands beside it
+abbrev pub stands : ℕ → Bool
+stands b = is_between 32 126 b && not (b == 35)
 
 -- the bytes that it will have where these characters follow
 abbrev pub shown_with : ShownText → List ℕ → List ℕ

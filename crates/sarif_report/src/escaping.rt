@@ -19,6 +19,7 @@ pub(crate) enum Escaping {
 impl Escaping {
     ghost use Rattle.sarif_report.specs.Escaped.{escaped_char, escaped, message_char, property_char};
     ghost use Rattle.sarif_report.specs.Escaped.{markdown_char, is_mark, page_char};
+    ghost use Rattle.sarif_report.specs.EscapedBytes.{escapes};
 
     fn push_message(text: &mut String, c: char) -> Result<(), AllocError>
         ensures { OnOk result (string_bytes text.new ≡ string_bytes text.old ++ message_char c) }
@@ -88,7 +89,20 @@ impl Escaping {
         Ok(())
     }
 
-    /// Adds what is written for this text.
+    /// Whether a byte is a character that is written in another way.
+    fn escapes(self, byte: u8) -> bool
+        ensures { result ≡ escapes self byte }
+    {
+        match self {
+            Escaping::Message => byte == b'%',
+            Escaping::Property => matches!(byte, b'%' | b':' | b','),
+            Escaping::Markdown => Escaping::is_mark(byte as char),
+            Escaping::Page => matches!(byte, b'&' | b'<' | b'>' | b'"' | b'\''),
+        }
+    }
+
+    /// Adds what is written for this text. What stands between two characters that are written in another way is
+    /// added whole.
     pub(crate) fn push_str(
         self,
         alloc: Global,
@@ -98,9 +112,17 @@ impl Escaping {
         ensures { OnOk result
             (string_bytes text.new ≡ string_bytes text.old ++ escaped self plain.now) }
     {
-        for c in plain.chars() {
-            self.push_char(alloc, text, c)?;
+        let bytes = plain.as_bytes();
+        let mut added = 0;
+        for i in 0..bytes.len() {
+            let byte = bytes[i];
+            if self.escapes(byte) {
+                text.push_str(&plain[added..i])?;
+                self.push_char(alloc, text, byte as char)?;
+                added = i + 1;
+            }
         }
+        text.push_str(&plain[added..])?;
         Ok(())
     }
 }

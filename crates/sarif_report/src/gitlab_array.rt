@@ -1,11 +1,13 @@
 //! The report for GitLab's code quality widget.
-ghost use Rattle.std.specs.Prelude.{◌≡◌, ◌<◌, ◌+◌, ◌^◌, ℕ, List, ◌++◌, bytes_eq, string_bytes};
+ghost use Rattle.std.specs.Prelude.{◌≡◌, ◌<◌, ◌+◌, ◌^◌, ℕ, List, ◌++◌, true, bytes_eq, string_bytes};
 ghost use Rattle.std.specs.Prelude.{IfOk, OnOk, if◌then◌else◌};
 ghost use Rattle.hex.specs.Hex.{encode_lower};
 ghost use Rattle.sha2.specs.Sha256.{sha256};
 ghost use Rattle.serde_json.specs.Written.{compact_text, comma_if};
 ghost use Rattle.sarif_report.specs.GitlabReport as said;
-ghost use Rattle.sarif_report.specs.GitlabParts.{quoted_text, identity_of, rank_text, counted};
+ghost use Rattle.std.specs.List.{list_all};
+ghost use Rattle.sarif_report.specs.GitlabParts.{stands_in_string, quoted_text, identity_of};
+ghost use Rattle.sarif_report.specs.GitlabParts.{rank_text, number_in, number_of, counted};
 ghost use Rattle.sarif_report.specs.GitlabParts.{rule_text, location_text, severity_text};
 
 use crate::finding::Finding;
@@ -16,11 +18,37 @@ use sha2::{Digest, Sha256};
 use std::alloc::{AllocError, Global};
 use std::collections::BTreeMap;
 
+/// Whether each of these bytes stands in a string of JSON as it is.
+fn all_stand(bytes: &[u8]) -> bool
+    ensures { result ≡ list_all stands_in_string bytes.now }
+{
+    for byte in bytes {
+        if *byte < b' ' || *byte == b'"' || *byte == b'\\' {
+            return false;
+        }
+    }
+    true
+}
+
+/// Adds a text in which nothing is escaped.
+fn push_whole(text: &mut String, plain: &str) -> Result<(), AllocError>
+    requires { list_all stands_in_string plain.now ≡ true }
+    ensures { OnOk result (string_bytes text.new ≡ string_bytes text.old ++ quoted_text plain.now) }
+{
+    text.push_str("\"")?;
+    text.push_str(plain)?;
+    text.push_str("\"")?;
+    Ok(())
+}
+
 /// Adds a text as JSON writes it.
 #[tactic(auto, unfolding(crate::specs::GitlabParts::quoted_text))]
 fn push_quoted(alloc: Global, text: &mut String, plain: &str) -> Result<(), AllocError>
     ensures { OnOk result (string_bytes text.new ≡ string_bytes text.old ++ quoted_text plain.now) }
 {
+    if all_stand(plain.as_bytes()) {
+        return push_whole(text, plain);
+    }
     let value = Value::String(String::from_str(alloc, plain)?);
     push_value(alloc, text, &value)?;
     Ok(())
@@ -80,11 +108,30 @@ fn identity(alloc: Global, finding: &Finding) -> Result<String, AllocError>
     Ok(text)
 }
 
+/// What is hashed of a result that has none like it before it, hashed.
+fn first_digest(identity: &str) -> [u8; 32]
+    ensures { result ≡ sha256 (identity.now ++ rank_text 0) }
+{
+    let mut hasher = Sha256::new();
+    hasher.update(identity.as_bytes());
+    hasher.update(b",0]");
+    hasher.finalize()
+}
+
 /// The fingerprint of the result that has so many like it before it.
-fn fingerprint(alloc: Global, identity: &str, rank: u64) -> Result<String, AllocError>
+fn fingerprint(
+    alloc: Global,
+    identity: &str,
+    first: [u8; 32],
+    rank: u64,
+) -> Result<String, AllocError>
+    requires { first ≡ sha256 (identity.now ++ rank_text 0) }
     ensures { IfOk result
         (λ s. string_bytes s ≡ encode_lower (sha256 (identity.now ++ rank_text rank))) }
 {
+    if rank == 0 {
+        return hex::encode(alloc, first);
+    }
     let end = format!(in alloc; ",{rank}]")?;
     let mut hasher = Sha256::new();
     hasher.update(identity.as_bytes());
@@ -92,24 +139,39 @@ fn fingerprint(alloc: Global, identity: &str, rank: u64) -> Result<String, Alloc
     hex::encode(alloc, hasher.finalize())
 }
 
-/// How many results with this identity were counted.
-fn rank_of(ranks: &BTreeMap<String, u64>, identity: &str) -> u64
-    ensures { result ≡ counted ranks.now identity.now }
+/// The first 64 bits of a digest. Nobody can choose identities many of which share them.
+fn number_in(digest: &[u8; 32]) -> u64
+    ensures { result ≡ number_in digest.now }
 {
-    match ranks.get(identity) {
+    u64::from_be_bytes([
+        digest[0], digest[1], digest[2], digest[3], digest[4], digest[5], digest[6], digest[7],
+    ])
+}
+
+/// How many results with this identity were counted.
+fn rank_of(ranks: &BTreeMap<(u64, Text), u64>, key: &(u64, Text)) -> u64
+    requires { key.now.0 ≡ number_of key.now.1 }
+    ensures { result ≡ counted ranks.now key.now.1 }
+{
+    match ranks.get(key) {
         Some(rank) => *rank,
         None => 0,
     }
 }
 
 /// Counts a result with this identity, which has so many like it before it.
-fn count(ranks: &mut BTreeMap<String, u64>, identity: String, rank: u64) -> Result<(), AllocError>
+fn count(
+    ranks: &mut BTreeMap<(u64, Text), u64>,
+    key: (u64, Text),
+    rank: u64,
+) -> Result<(), AllocError>
     requires room { rank < 2 ^ 63 }
-    requires rank { rank ≡ counted ranks.old (string_bytes identity) }
+    requires number { key.0 ≡ number_of key.1 }
+    requires rank { rank ≡ counted ranks.old key.1 }
     ensures { OnOk result ((other : List ℕ) → counted ranks.new other
-        ≡ counted ranks.old other + (if bytes_eq other (string_bytes identity) then 1 else 0)) }
+        ≡ counted ranks.old other + (if bytes_eq other key.1 then 1 else 0)) }
 {
-    ranks.insert(identity, rank + 1)?;
+    ranks.insert(key, rank + 1)?;
     Ok(())
 }
 
@@ -194,7 +256,7 @@ fn push_quality(
 fn push_next(
     alloc: Global,
     text: &mut String,
-    ranks: &mut BTreeMap<String, u64>,
+    ranks: &mut BTreeMap<(u64, Text), u64>,
     finding: &Finding,
 ) -> Result<(), AllocError>
     requires { counted ranks.old (identity_of finding.now) < 2 ^ 63 }
@@ -204,10 +266,12 @@ fn push_next(
     ensures counted { OnOk result ((other : List ℕ) → counted ranks.new other
         ≡ counted ranks.old other + (if bytes_eq other (identity_of finding.now) then 1 else 0)) }
 {
-    let identity = identity(alloc, finding)?;
-    let rank = rank_of(ranks, identity.as_str());
-    let mark = fingerprint(alloc, identity.as_str(), rank)?;
-    count(ranks, identity, rank)?;
+    let identity = Text::from_string(identity(alloc, finding)?)?;
+    let first = first_digest(identity.as_str());
+    let key = (number_in(&first), identity);
+    let rank = rank_of(ranks, &key);
+    let mark = fingerprint(alloc, key.1.as_str(), first, rank)?;
+    count(ranks, key, rank)?;
     push_quality(alloc, text, finding, mark.as_str())?;
     Ok(())
 }

@@ -11,7 +11,7 @@ use std::alloc::{AllocError, Global};
 
 /// The member `name`, where stripping leaves it.
 #[tactic(auto, using(sarif_records::proofs::NodeValues::kept_steps))]
-fn kept_member<'t, 'a>(node: &Node<'t, 'a>, name: &str) -> Option<Node<'t, 'a>>
+pub(crate) fn kept_member<'t, 'a>(node: &Node<'t, 'a>, name: &str) -> Option<Node<'t, 'a>>
     requires { IsOrdered (data_of node.now) }
     ensures value { option_map value_at result ≡ get name.now (value_at node.now) }
     ensures ordered { IfSome result (λ found. IsOrdered (data_of found)) }

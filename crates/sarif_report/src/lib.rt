@@ -1,6 +1,7 @@
 //! Reports for people and review services over the finished merged log of a SARIF merge.
 #![tactic(auto)]
 
+mod brief;
 mod count_row;
 mod escaping;
 mod finding;

@@ -1,6 +1,8 @@
 //! The message of a result, with its placeholders filled in as it is shown.
-ghost use Rattle.std.specs.Prelude.{◌≡◌, ◌∷◌, [], OnOk, IfOk, IfSome, ◌<◌, ◌≤◌, map, option_map, option_and_then, chars};
+ghost use Rattle.std.specs.Prelude.{◌≡◌, ◌∷◌, [], OnOk, IfOk, IfSome, ◌<◌, ◌≤◌, map, option_map, option_and_then, chars, List};
 ghost use Rattle.std.specs.Bool.{OnTrue};
+ghost use Rattle.std.specs.List.{list_all};
+ghost use Rattle.serde_json.specs.Data.{Data};
 ghost use Rattle.serde_json.specs.View.{view};
 ghost use Rattle.sarif_report.specs.Message as said;
 ghost use Rattle.sarif_report.specs.ShownSoFar.{Takes, Writes};
@@ -236,6 +238,25 @@ fn push_filled(
     Ok(())
 }
 
+/// Whether none of these bytes is a `{` or `}`.
+fn are_unbraced(bytes: &[u8]) -> bool
+    ensures { result ≡ list_all said.is_unbraced bytes.now }
+{
+    for byte in bytes {
+        if matches!(*byte, b'{' | b'}') {
+            return false;
+        }
+    }
+    true
+}
+
+/// Whether a text has nothing that is filled in, whatever the arguments.
+fn stays(text: &str) -> bool
+    ensures { OnTrue result ((args : List Data) → said.filled args (chars text.now) ≡ chars text.now) }
+{
+    are_unbraced(text.as_bytes())
+}
+
 /// Shows the message of a result of a run.
 pub(crate) fn push_message(
     alloc: Global,
@@ -248,7 +269,7 @@ pub(crate) fn push_message(
 {
     let text = message_text(run, found);
     let args = arguments_of(found);
-    if args.is_empty() {
+    if args.is_empty() || stays(text) {
         so_far.push_str(text)?;
         return Ok(());
     }

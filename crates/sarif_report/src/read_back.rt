@@ -5,11 +5,12 @@ ghost use Rattle.serde_json.specs.View.{view};
 ghost use Rattle.json_index.specs.Indexed.{data_of};
 ghost use Rattle.json_index.specs.Ordered.{IsOrdered};
 ghost use Rattle.sarif_records.specs.Bare.{bare};
-ghost use Rattle.sarif_records.specs.Listed.{value_at};
+ghost use Rattle.sarif_records.specs.Listed.{value_at, AreOrdered};
 ghost use Rattle.sarif_report.specs.Reported.{reported_in, reported_of};
 ghost use Rattle.sarif_report.specs.Reported as said;
 ghost use Rattle.sarif_report.specs.ReadBack.{told_of};
 
+use crate::brief::brief;
 use crate::finding::Finding;
 use crate::indexed::places_in;
 use crate::reported_results::finding_if;
@@ -19,6 +20,21 @@ use json_index::{IndexFault, Node, index_text};
 use serde_json::Value;
 use std::alloc::{AllocError, Global};
 
+/// What is told of the result at this place, where it is reported.
+fn finding_at(
+    alloc: Global,
+    reporting: &Reporting,
+    run: &Value,
+    place: &Node<'_, '_>,
+) -> Result<Option<Finding>, AllocError>
+    requires { IsOrdered (data_of place.now) }
+    ensures { IfOk result
+        (λ o. o ≡ said.finding_if reporting.now (view run.now) (value_at place.now)) }
+{
+    let found = brief(alloc, place)?;
+    finding_if(alloc, reporting, run, &found)
+}
+
 /// Adds those of the results at these places that are reported.
 fn push_each(
     alloc: Global,
@@ -27,12 +43,12 @@ fn push_each(
     run: &Value,
     places: &[Node<'_, '_>],
 ) -> Result<(), AllocError>
+    requires { AreOrdered places.now }
     ensures { OnOk result (findings.new.items ≡ findings.old.items
         ++ filter_map (said.finding_if reporting.now (view run.now)) (map value_at places.now)) }
 {
     for place in places {
-        let found = place.to_value(alloc)?;
-        if let Some(finding) = finding_if(alloc, reporting, run, &found)? {
+        if let Some(finding) = finding_at(alloc, reporting, run, place)? {
             findings.push(finding)?;
         }
     }

@@ -102,9 +102,7 @@ fn state_in(found: &Value) -> Option<State>
 fn shown_copy(alloc: Global, text: &str) -> Result<Text, AllocError>
     ensures { IfOk result (λ t. t ≡ text_shown (chars text.now)) }
 {
-    let shown = shown(alloc, text)?;
-    let copy = Text::copy_of(alloc, shown.as_str())?;
-    Ok(copy)
+    Text::from_string(shown(alloc, text)?)
 }
 
 /// Whether an address is one of the web, all of whose characters are shown.
@@ -158,7 +156,7 @@ fn message_in(alloc: Global, run: &Value, found: &Value) -> Result<Text, AllocEr
     if message.is_empty() {
         return Text::copy_of(alloc, "(no message)");
     }
-    Text::copy_of(alloc, message.as_str())
+    Text::from_string(message)
 }
 
 /// What is shown of a uri as a path.
@@ -178,8 +176,7 @@ fn shown_path(alloc: Global, root: &str, uri: &str) -> Result<Option<Text>, Allo
     if path.is_empty() {
         return Ok(None);
     }
-    let copy = Text::copy_of(alloc, path.as_str())?;
-    Ok(Some(copy))
+    Ok(Some(Text::from_string(path)?))
 }
 
 fn path_in(

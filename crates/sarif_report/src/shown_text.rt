@@ -1,7 +1,9 @@
 //! What a report shows of a log's text: one line, no character that hides or steers, and at most so many.
 ghost use Rattle.std.specs.Prelude.{◌≡◌, ℕ, List, ◌∷◌, ◌++◌, [], OnOk, IfOk, true, false, chars, string_bytes};
 ghost use Rattle.std.specs.Prelude.{encode_utf8_all, if◌then◌else◌, Bool};
+ghost use Rattle.std.specs.List.{list_all};
 ghost use Rattle.sarif_report.specs.Shown as said;
+ghost use Rattle.sarif_report.specs.ShownSoFar as so_far;
 
 use std::alloc::{AllocError, Global};
 
@@ -54,6 +56,24 @@ fn plain(c: char) -> char
     }
 }
 
+/// Whether a byte is a character that is shown as it stands, whatever stands beside it.
+fn stands(byte: u8) -> bool
+    ensures { result ≡ so_far.stands byte }
+{
+    matches!(byte, b' '..=b'~') && byte != b'#'
+}
+
+fn all_stand(bytes: &[u8]) -> bool
+    ensures { result ≡ list_all so_far.stands bytes.now }
+{
+    for byte in bytes {
+        if !stands(*byte) {
+            return false;
+        }
+    }
+    true
+}
+
 /// A text that is being shown: it takes characters, and makes no more than it keeps.
 #[derive(Drop)]
 pub(crate) struct ShownText {
@@ -64,7 +84,10 @@ pub(crate) struct ShownText {
 }
 
 impl ShownText {
-    ghost use Rattle.sarif_report.specs.ShownSoFar.{shown_with, Takes, Keeps, Parts};
+    ghost use Rattle.std.specs.Prelude.{◌<◌, ◌≤◌, length};
+    ghost use Rattle.std.specs.Bool.{OnTrue};
+    ghost use Rattle.std.specs.List.{list_all};
+    ghost use Rattle.sarif_report.specs.ShownSoFar.{shown_with, stands, Takes, Keeps, Parts};
 
     pub(crate) fn new(alloc: Global) -> ShownText
         ensures { (cs : List ℕ) → shown_with result cs ≡ said.shown cs }
@@ -122,8 +145,8 @@ impl ShownText {
         Ok(())
     }
 
-    /// Takes the characters of a text.
-    pub(crate) fn push_str(&mut self, text: &str) -> Result<(), AllocError>
+    /// Takes the characters of a text, one after another.
+    fn push_each(&mut self, text: &str) -> Result<(), AllocError>
         ensures { OnOk result (Takes self.old self.new (chars text.now)) }
     {
         for c in text.chars() {
@@ -133,6 +156,43 @@ impl ShownText {
             self.push(c)?;
         }
         Ok(())
+    }
+
+    /// Whether a text is shown as it stands, and there is room for it.
+    fn has_room(&self, text: &str) -> bool
+        ensures some { OnTrue result (0 < length text.now) }
+        ensures stands { OnTrue result (list_all stands text.now ≡ true) }
+        ensures room { OnTrue result (length text.now ≤ self.now.room) }
+        ensures going { OnTrue result (self.now.full ≡ false) }
+    {
+        !self.full
+            && 0 < text.len()
+            && text.len() <= self.room as usize
+            && all_stand(text.as_bytes())
+    }
+
+    /// Takes a text that is shown as it stands.
+    fn push_whole(&mut self, text: &str) -> Result<(), AllocError>
+        requires some { 0 < length text.now }
+        requires stands { list_all stands text.now ≡ true }
+        requires room { length text.now ≤ self.old.room }
+        requires going { self.old.full ≡ false }
+        ensures { OnOk result (Takes self.old self.new (chars text.now)) }
+    {
+        self.text.push_str(text)?;
+        self.room = (self.room as usize - text.len()) as u32;
+        self.after_sign = false;
+        Ok(())
+    }
+
+    /// Takes the characters of a text.
+    pub(crate) fn push_str(&mut self, text: &str) -> Result<(), AllocError>
+        ensures { OnOk result (Takes self.old self.new (chars text.now)) }
+    {
+        if self.has_room(text) {
+            return self.push_whole(text);
+        }
+        self.push_each(text)
     }
 
     /// The text that is shown.

@@ -1,10 +1,13 @@
-use Rattle.std.proofs.Common.{◌≡◌, ◌++◌, IsUtf8, string_bytes}
-use Rattle.std.specs.Str.Iter.{chars_rest}
-use Rattle.sarif_report.specs.Escaped.{escaped}
+use Rattle.std.proofs.Common.{◌≡◌, ◌≤◌, ◌++◌, drop, flat_map, string_bytes}
+use Rattle.std.specs.List.{slice_range}
+use Rattle.std.specs.Str.{IsCharBoundary}
+use Rattle.sarif_report.specs.EscapedBytes.{escaped_byte}
 use Rattle.sarif_report.proofs.escaping.Escaping.push_str.Given as goal
 
-abbrev pub invariant-loop-c : goal.invariant-loop-c
-invariant-loop-c l =
-    IsUtf8 (chars_rest l.c-iterator)
-    × (string_bytes l.text ++ escaped l.fn.self (chars_rest l.c-iterator)
-    ≡ string_bytes l.fn.text ++ escaped l.fn.self l.fn.plain)
+abbrev pub invariant-loop-i : goal.invariant-loop-i
+invariant-loop-i l = record {
+  front : l.added ≤ l.i;
+  cut : IsCharBoundary l.fn.plain l.added;
+  written : string_bytes l.text ++ (slice_range l.fn.plain l.added l.i ++ flat_map (escaped_byte l.fn.self) (drop l.i l.fn.plain))
+      ≡ string_bytes l.fn.text ++ flat_map (escaped_byte l.fn.self) l.fn.plain;
+}

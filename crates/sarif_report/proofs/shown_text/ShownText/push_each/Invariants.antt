@@ -1,7 +1,7 @@
 use Rattle.std.proofs.Common.{◌≡◌, ℕ, List, ◌++◌, IsUtf8, chars}
 use Rattle.std.specs.Str.Iter.{chars_rest}
 use Rattle.sarif_report.specs.ShownSoFar.{shown_with}
-use Rattle.sarif_report.proofs.shown_text.ShownText.push_str.Given as goal
+use Rattle.sarif_report.proofs.shown_text.ShownText.push_each.Given as goal
 
 abbrev pub invariant-loop-c : goal.invariant-loop-c
 invariant-loop-c l =

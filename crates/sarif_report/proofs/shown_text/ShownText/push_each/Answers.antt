@@ -3,7 +3,7 @@ use Rattle.std.proofs.lemmas.Str.{IsUtf8-past_char}
 use Rattle.std.proofs.StrCases.{chars_of_empty}
 use Rattle.sarif_report.specs.ShownSoFar.{shown_with}
 use Rattle.sarif_report.proofs.ShownMore.{takes_step}
-use Rattle.sarif_report.proofs.shown_text.ShownText.push_str.Goals as goal
+use Rattle.sarif_report.proofs.shown_text.ShownText.push_each.Goals as goal
 
 pub loop-c-preserved : goal.loop-c-preserved
 loop-c-preserved c =
