@@ -1,4 +1,5 @@
--- What is assembled: runs of which nothing is at fault, and the outcomes of all their results.
+-- What is assembled: runs of which nothing is at fault, and the outcomes of all their results. No public clause of the
+-- merge speaks of it.
 use Rattle.std.specs.Prelude.{◌≡◌, ◌≤◌, Bool, List, [], map, length}
 use Rattle.std.specs.List.{AllByRecursion}
 use Rattle.sarif_records.specs.Run.{results_total}

@@ -1,3 +1,2 @@
 pub mod Ended
 pub mod Quiet
-pub mod Written

@@ -1,5 +1,5 @@
 -- A refusal that is no failed read and no failed write has status 2.
-use Rattle.std.proofs.Common.{◌≡◌, ℕ, ◌≤◌, ◌+◌, Bool, true, false, nat_eq, arith, refl}
+use Rattle.std.proofs.Common.{◌≡◌, ℕ, ◌+◌, Bool, true, false, nat_eq, arith, refl}
 use Rattle.sarif_sources.specs.declared.fault.Cause.{Cause}
 use Rattle.sarif_sources.specs.declared.fault.Cause.TheVariants.{ReadFailed, WriteFailed}
 use Rattle.sarif_sources.specs.Counted.{RisesIf}
@@ -10,11 +10,6 @@ pub quiet_status : (cause : Cause) → is_read_failed cause ≡ false → is_wri
 quiet_status ReadFailed read written = cc
 quiet_status WriteFailed read written = cc
 quiet_status _ read written = refl
-
--- a number that rises or stays doesn't fall
-pub no_fall : (failed : Bool) (old new : ℕ) → RisesIf failed old new → old ≤ new
-no_fall true old new rise = omega (arith, rise)
-no_fall false old new rise = omega (arith, rise)
 
 -- where the number of failed reads is as it was, no read failed
 pub no_rise : (failed : Bool) (old new : ℕ) → RisesIf failed old new → new ≡ old → failed ≡ false

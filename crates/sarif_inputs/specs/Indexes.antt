@@ -1,4 +1,4 @@
--- The indexes of the sources of a merge.
+-- The indexes of the sources of a merge. No public clause of the merge speaks of it.
 use Rattle.std.specs.Prelude.{◌≡◌, ◌≤◌, ℕ, List, ◌++◌, map, length, Result}
 use Rattle.json.specs.Token.{Token}
 use Rattle.json_index.specs.declared.indexing.IndexFault.{IndexFault}

@@ -1,4 +1,4 @@
--- What was read of the sources so far, and the faults of one source more.
+-- What was read of the sources so far, and the faults of one source more. No public clause of the merge speaks of it.
 use Rattle.std.specs.Prelude.{◌≡◌, ℕ, ◌+◌, ◌≤◌, List, ◌++◌, map, length, Result}
 use Rattle.serde_json.specs.Data.{Data}
 use Rattle.sarif_records.specs.declared.fault.ReadFault.{ReadFault}

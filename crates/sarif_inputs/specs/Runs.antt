@@ -1,4 +1,4 @@
--- The runs of all sources of a merge.
+-- The runs of all sources of a merge. No public clause of the merge speaks of it.
 use Rattle.std.specs.Prelude.{◌≡◌, ℕ, ◌≤◌, ◌+◌, List, [], map, length}
 use Rattle.sarif_records.specs.Run.{results_total}
 use Rattle.sarif_sources.specs.declared.fault.Source.TheVariants.{Log, Baseline}

@@ -1,4 +1,4 @@
--- A run that was opened, as the definitions see it.
+-- A run that was opened, as the definitions see it. No public clause of the merge speaks of it.
 use Rattle.sarif_records.specs.Indexed.{run_of}
 use Rattle.sarif_judge.specs.declared.opened.OpenedRun.{OpenedRun}
 use Rattle.sarif_judge.specs.Placed.{Placed}

@@ -1,4 +1,4 @@
--- The sources of a kind by their numbers.
+-- The sources of a kind by their numbers. No public clause of the merge speaks of it.
 use Rattle.std.specs.Prelude.{ℕ}
 use Rattle.sarif_sources.specs.declared.fault.Source.{Source}
 use Rattle.sarif_sources.specs.declared.fault.Source.TheVariants as source

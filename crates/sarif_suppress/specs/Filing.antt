@@ -1,4 +1,5 @@
--- Where an entry is filed, so that a result meets only those that may match it: under the most telling of its conditions.
+-- Where an entry is filed, so that a result meets only those that may match it: under the most telling of its
+-- conditions. No public clause of the merge speaks of it.
 use Rattle.std.specs.Prelude.{ℕ, Bool, false, ◌&&◌, List, [], ◌++◌, Option, None, is_none, nat_eq, bytes_eq, slice_get, if◌then◌else◌}
 use Rattle.std.specs.List.{flat_map}
 use Rattle.std.specs.Option.{option_map_or}

@@ -1,4 +1,5 @@
--- The entries that are filed under a prefix of a uri, found by the hashes of the beginnings of a uri. No fact is known of a hash but that equal texts have equal ones.
+-- The entries that are filed under a prefix of a uri, found by the hashes of the beginnings of a uri. No fact is known
+-- of a hash but that equal texts have equal ones. No public clause of the merge speaks of it.
 use Rattle.std.specs.Prelude.{◌≡◌, ℕ, ◌+◌, ◌*◌, ◌%◌, Bool, false, List, [], ◌∷◌, length, map, take, nat_eq, slice_get, if◌then◌else◌}
 use Rattle.std.specs.List.{flat_map, fold, list_any}
 use Rattle.std.specs.Option.{option_map_or}

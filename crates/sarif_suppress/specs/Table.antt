@@ -1,4 +1,4 @@
--- The tables of the numbers of entries, by what they are filed under.
+-- The tables of the numbers of entries, by what they are filed under. No public clause of the merge speaks of it.
 use Rattle.std.specs.Prelude.{◌≡◌, ℕ, List, nat_eq, bytes_eq}
 use Rattle.sarif_suppress.specs.declared.entry.Entry.{Entry}
 use Rattle.sarif_suppress.specs.declared.filing.PairCondition.TheVariants.{Full, Partial}
