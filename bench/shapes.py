@@ -185,6 +185,17 @@ def entries_by(condition, guid="00000000-0000-0000-0000-{:012}"):
     return make
 
 
+def entries_beginning(count):
+    """Results at one long uri, entries that name nearly its beginnings, beside as many by guid."""
+    results = [placed(index=0)] * count
+    text = log(run(results, artifacts=[{"location": {"uri": LONG}}]))
+    lengths = range(10, 3_000, 10)
+    yield Input([text], suppress=entries([{"uriPrefix": LONG[:it] + "!"} for it in lengths]))
+    guid = "00000000-0000-0000-0000-{:012}"
+    found = [{"guid": guid.format(it), "justification": LONG[:it]} for it in lengths]
+    yield Input([text], suppress=entries(found))
+
+
 # ---- Parts of a run
 
 
@@ -387,6 +398,7 @@ SHAPES = {
     "equal_objects": (equal_objects, 50_000),
     "entries_uri": (entries_by(lambda i: {"uri": f"srx/{i}.c"}), 10_000),
     "entries_prefix": (entries_by(lambda i: {"uriPrefix": f"src/{i}.cc"}), 10_000),
+    "entries_beginning": (entries_beginning, 20_000),
     "entries_fingerprint": (entries_by(lambda i: {"fingerprints": {"f/v1": f"x{i}"}}), 10_000),
     "entries_partial": (entries_by(lambda i: {"partialFingerprints": {"p/v1": f"x{i}"}}), 10_000),
     "entries_tool": (entries_by(lambda i: {"tool": f"u{i}"}), 10_000),
