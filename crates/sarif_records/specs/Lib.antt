@@ -7,6 +7,7 @@ pub mod Members
 pub mod Reading
 pub mod Run
 pub mod Guid
+pub mod Hashed
 pub mod Fingerprints
 pub mod Suppression
 pub mod OwnMembers

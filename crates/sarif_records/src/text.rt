@@ -4,12 +4,13 @@ ghost use Rattle.std.specs.Prelude.{IfOk, option_map};
 ghost use Rattle.std.proofs.Common.{rules};
 ghost use Rattle.std.specs.Arc.{arc_str_bytes};
 ghost use Rattle.std.specs.Ordering.{nat_cmp};
-ghost use Rattle.std.specs.Hash as fed;
 ghost use Rattle.std.specs.Cmp.{partial_equiv_from_equiv};
 ghost use Rattle.std.specs.Cmp.Lexicographic.{slice_cmp, nat_list_eq_equiv, nat_list_cmp_total};
 ghost use Rattle.std.specs.Cmp.Lexicographic.{texts_ties, texts_po};
 ghost use Rattle.std.specs.Cmp.Rules.{hashing};
+ghost use Rattle.sarif_records.specs.Hashed.{digest_of, fed_of};
 
+use sha2::{Digest, Sha256};
 use std::alloc::{AllocError, Global};
 use std::cmp::Ordering;
 use std::convert::AsStr;
@@ -18,17 +19,38 @@ use std::hash::{Hash, Hasher};
 use std::marker::Model;
 use std::sync::ArcStr;
 
+/// The length in bytes of the longest text whose bytes are hashed each time.
+const LONGEST_HASHED: usize = 1024;
+
 /// A text of a log, held once for all its clones, in whatever threads they are. Contracts see its
 /// UTF-8 bytes.
 #[derive(Drop)]
 pub struct Text {
     content: ArcStr,
+    /// What a longer text is hashed by. Nobody can choose texts many of which share it.
+    digest: u64,
 }
 
 impl Model for Text {
     ghost Value = { List ℕ };
 
     ghost view = { λ t. arc_str_bytes t.content };
+
+    ghost invariant = { λ t. t.digest ≡ digest_of (arc_str_bytes t.content) };
+}
+
+/// The first 64 bits of the SHA-256 digest of a long text; 0 of others.
+#[tactic(auto, unfolding(crate::specs::Hashed::digest_of))]
+fn digest(text: &str) -> u64
+    ensures { result ≡ digest_of text.now }
+{
+    if text.len() <= LONGEST_HASHED {
+        return 0;
+    }
+    let bits = Sha256::digest(text.as_bytes());
+    u64::from_be_bytes([
+        bits[0], bits[1], bits[2], bits[3], bits[4], bits[5], bits[6], bits[7],
+    ])
 }
 
 impl Text {
@@ -36,16 +58,18 @@ impl Text {
     pub fn copy_of(alloc: Global, text: &str) -> Result<Text, AllocError>
         ensures { IfOk result (λ t. t ≡ text.now) }
     {
+        let digest = digest(text);
         let content = ArcStr::from_str(alloc, text)?;
-        Ok(Text { content })
+        Ok(Text { content, digest })
     }
 
     /// The text that `text` is. Its bytes are not copied.
     pub fn from_string(text: String) -> Result<Text, AllocError>
         ensures { IfOk result (λ t. t ≡ string_bytes text) }
     {
+        let digest = digest(text.as_str());
         let content = ArcStr::from_string(text)?;
-        Ok(Text { content })
+        Ok(Text { content, digest })
     }
 
     /// The text as a slice.
@@ -80,7 +104,8 @@ impl Clone for Text {
     /// Shares the text; no byte is copied.
     fn clone(&self) -> Result<Text, AllocError> {
         let content = self.content.clone()?;
-        Ok(Text { content })
+        let digest = self.digest;
+        Ok(Text { content, digest })
     }
 }
 
@@ -137,11 +162,16 @@ impl Ord for Text {
 }
 
 impl Hash for Text {
-    ghost hash_input = { λ t. fed.str t };
+    ghost hash_input = { λ t. fed_of t };
 
     ghost respects_eq = { Prim.search (hashing, rules) };
 
+    #[tactic(auto, unfolding(crate::specs::Hashed::fed_of))]
     fn hash<H: Hasher>(&self, state: &mut H) {
-        self.as_str().hash(state);
+        if self.as_str().len() <= LONGEST_HASHED {
+            self.as_str().hash(state);
+        } else {
+            self.digest.hash(state);
+        }
     }
 }

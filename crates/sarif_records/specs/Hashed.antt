@@ -1,0 +1,20 @@
+-- How texts are hashed. A long one is hashed by a number that is worked out once and kept beside it, so that hashing a
+-- text which many results share costs its bytes once.
+use Rattle.std.specs.Prelude.{ℕ, List, [], ◌∷◌, length, nat_le, slice_index, if◌then◌else◌}
+use Rattle.std.specs.Int.{w64, from_be_bytes}
+use Rattle.std.specs.Hash as fed
+use Rattle.std.specs.Hash.{HashWrites}
+use Rattle.sha2.specs.Sha256.{sha256}
+
+-- the first 64 bits of a digest
+abbrev pub first_bits : List ℕ → ℕ
+first_bits d =
+    from_be_bytes w64 (slice_index d 0 ∷ slice_index d 1 ∷ slice_index d 2 ∷ slice_index d 3 ∷ slice_index d 4 ∷ slice_index d 5 ∷ slice_index d 6 ∷ slice_index d 7 ∷ [])
+
+-- the first 64 bits of the SHA-256 digest of a long text (FIPS 180-4); 0 of a text of at most 1,024 bytes
+unfoldable pub digest_of : List ℕ → ℕ
+digest_of text = if nat_le (length text) 1024 then 0 else first_bits (sha256 text)
+
+-- what a hasher is fed of a text
+unfoldable pub fed_of : List ℕ → HashWrites
+fed_of text = if nat_le (length text) 1024 then fed.str text else fed.u64 (digest_of text)
