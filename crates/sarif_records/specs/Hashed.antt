@@ -11,10 +11,10 @@ abbrev pub first_bits : List ℕ → ℕ
 first_bits d =
     from_be_bytes w64 (slice_index d 0 ∷ slice_index d 1 ∷ slice_index d 2 ∷ slice_index d 3 ∷ slice_index d 4 ∷ slice_index d 5 ∷ slice_index d 6 ∷ slice_index d 7 ∷ [])
 
--- the first 64 bits of the SHA-256 digest of a long text (FIPS 180-4); 0 of a text of at most 1,024 bytes
+-- those of the SHA-256 digest of a text (FIPS 180-4)
 unfoldable pub digest_of : List ℕ → ℕ
-digest_of text = if nat_le (length text) 1024 then 0 else first_bits (sha256 text)
+digest_of text = first_bits (sha256 text)
 
--- what a hasher is fed of a text
+-- what a hasher is fed of a text: the bytes of one of at most 1,024, else the digest
 unfoldable pub fed_of : List ℕ → HashWrites
 fed_of text = if nat_le (length text) 1024 then fed.str text else fed.u64 (digest_of text)

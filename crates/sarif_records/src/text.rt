@@ -1,5 +1,5 @@
 //! A text that contracts see as its bytes, and that is compared and hashed by them.
-ghost use Rattle.std.specs.Prelude.{◌≡◌, ℕ, List, Some, refl, bytes_eq, string_bytes};
+ghost use Rattle.std.specs.Prelude.{◌≡◌, ◌⊎◌, ℕ, List, Some, refl, bytes_eq, string_bytes};
 ghost use Rattle.std.specs.Prelude.{IfOk, option_map};
 ghost use Rattle.std.proofs.Common.{rules};
 ghost use Rattle.std.specs.Arc.{arc_str_bytes};
@@ -27,7 +27,8 @@ const LONGEST_HASHED: usize = 1024;
 #[derive(Drop)]
 pub struct Text {
     content: ArcStr,
-    /// What a longer text is hashed by. Nobody can choose texts many of which share it.
+    /// What a longer text is hashed by, or 0 where that wasn't worked out. Nobody can choose texts
+    /// many of which share it.
     digest: u64,
 }
 
@@ -36,17 +37,14 @@ impl Model for Text {
 
     ghost view = { λ t. arc_str_bytes t.content };
 
-    ghost invariant = { λ t. t.digest ≡ digest_of (arc_str_bytes t.content) };
+    ghost invariant = { λ t. (t.digest ≡ 0) ⊎ (t.digest ≡ digest_of (arc_str_bytes t.content)) };
 }
 
-/// The first 64 bits of the SHA-256 digest of a long text; 0 of others.
+/// The first 64 bits of the SHA-256 digest of a text.
 #[tactic(auto, unfolding(crate::specs::Hashed::digest_of))]
 fn digest(text: &str) -> u64
     ensures { result ≡ digest_of text.now }
 {
-    if text.len() <= LONGEST_HASHED {
-        return 0;
-    }
     let bits = Sha256::digest(text.as_bytes());
     u64::from_be_bytes([
         bits[0], bits[1], bits[2], bits[3], bits[4], bits[5], bits[6], bits[7],
@@ -58,18 +56,17 @@ impl Text {
     pub fn copy_of(alloc: Global, text: &str) -> Result<Text, AllocError>
         ensures { IfOk result (λ t. t ≡ text.now) }
     {
-        let digest = digest(text);
+        let digest = digest_if_long(text);
         let content = ArcStr::from_str(alloc, text)?;
         Ok(Text { content, digest })
     }
 
-    /// The text that `text` is. Its bytes are not copied.
+    /// The text that `text` is. Its bytes are neither copied nor looked at.
     pub fn from_string(text: String) -> Result<Text, AllocError>
         ensures { IfOk result (λ t. t ≡ string_bytes text) }
     {
-        let digest = digest(text.as_str());
         let content = ArcStr::from_string(text)?;
-        Ok(Text { content, digest })
+        Ok(Text { content, digest: 0 })
     }
 
     /// The text as a slice.
@@ -77,6 +74,28 @@ impl Text {
         ensures { result.now ≡ self.now }
     {
         self.content.as_str()
+    }
+
+    /// Its digest, as it is kept or else worked out.
+    fn digest(&self) -> u64
+        ensures { result ≡ digest_of self.now }
+    {
+        if self.digest == 0 {
+            digest(self.as_str())
+        } else {
+            self.digest
+        }
+    }
+}
+
+/// The digest of a long text; 0 of others.
+fn digest_if_long(text: &str) -> u64
+    ensures { (result ≡ 0) ⊎ (result ≡ digest_of text.now) }
+{
+    if text.len() <= LONGEST_HASHED {
+        0
+    } else {
+        digest(text)
     }
 }
 
@@ -171,7 +190,7 @@ impl Hash for Text {
         if self.as_str().len() <= LONGEST_HASHED {
             self.as_str().hash(state);
         } else {
-            self.digest.hash(state);
+            self.digest().hash(state);
         }
     }
 }
