@@ -148,11 +148,3 @@ object_made_without name (number n) ms e = not_found ms (sym e)
 object_made_without name (string s) ms e = not_found ms (sym e)
 object_made_without name (array ds) ms e = not_found ms (sym e)
 object_made_without name (object ns) ms e = ap object (Some_inj _ _ e ∙ kept-without name ns)
-
-pub no_object_made : (name : List ℕ) (d : Data) → None ≡ option_map (kept_members (Some name)) (as_object d) → stripped d ≡ stripped (without_member name d)
-no_object_made name null e = refl
-no_object_made name (boolean b) e = refl
-no_object_made name (number n) e = refl
-no_object_made name (string s) e = refl
-no_object_made name (array ds) e = refl
-no_object_made name (object ns) e = not_found _ e

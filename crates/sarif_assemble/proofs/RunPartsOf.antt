@@ -1,5 +1,5 @@
 -- The parts of runs.
-use Rattle.std.proofs.Common.{◌≡◌, ℕ, true, false, List, [], ◌∷◌, ◌++◌, Option, Some, None, map, length, codes, is_some, option_map, refl, ap, ◌∙◌}
+use Rattle.std.proofs.Common.{◌≡◌, ℕ, true, false, List, [], ◌∷◌, ◌++◌, Option, Some, None, map, length, codes, is_some, option_map, refl, ap}
 use Rattle.std.specs.List.{AllByRecursion}
 use Rattle.json_index.specs.Without.{without}
 use Rattle.serde_json.specs.Data.{Data, null, boolean, number, string, array, object, Items}
@@ -11,8 +11,8 @@ use Rattle.sarif_records.specs.Run.{elements_or_none, results_array, results_of}
 use Rattle.sarif_judge.specs.declared.opened.OpenedRun.{OpenedRun}
 use Rattle.sarif_judge.specs.Opened.{placed_of}
 use Rattle.sarif_write.specs.declared.run_parts.RunParts.{RunParts}
-use Rattle.sarif_write.specs.Drafts.{members_in, own_count, present_count, ArePartsOf, IsWholeRun}
-use Rattle.sarif_write.specs.MergedRuns.{bare, present}
+use Rattle.sarif_write.specs.Drafts.{members_in, own_count, ArePartsOf, IsWholeRun}
+use Rattle.sarif_write.specs.MergedRuns.{bare}
 use Rattle.sarif_write.proofs.WholeMembers.{without_whole}
 use Rattle.sarif_assemble.specs.LogBy.{data_of}
 
@@ -44,9 +44,6 @@ none_counted run gone = listed (results_array run) gone where
   listed : (found : Option Items) → false ≡ is_some found → None ≡ option_map (λ ds. length (elements ds)) found
   listed None gone = refl
   listed (Some ds) gone = cc
-
-pub some_present : (run : Data) (n : ℕ) {found : Option ℕ} → found ≡ Some n → n ≡ length (present (results_of run)) → found ≡ present_count run
-some_present run n is count = is ∙ ap Some count
 
 -- one run more
 pub parts_more : (count : Data → Option ℕ) (all : List RunParts) (runs : List Data) (p : RunParts) (run : Data)

@@ -1,14 +1,12 @@
 -- What one pair more changes.
-use Rattle.std.proofs.Common.{◌≡◌, ◌≢◌, ℕ, ◌+◌, ◌<◌, zero, suc, Bool, true, false, cond, ◌||◌, List, [], ◌∷◌, Option, Some, None, ◌==◌, length, is_some, slice_index_or, slice_set, replicate, drop, get_or, refl, sym, ap, ◌∙◌, subst, arith, ⊎_elim}
+use Rattle.std.proofs.Common.{◌≡◌, ◌≢◌, ℕ, ◌<◌, zero, suc, Bool, true, false, cond, ◌||◌, List, [], ◌∷◌, Option, Some, None, ◌==◌, length, is_some, slice_index_or, slice_set, replicate, refl, sym, ap, ◌∙◌, arith, ⊎_elim}
 use Rattle.std.proofs.Math.ListN.{length-set}
-use Rattle.std.proofs.Math.Seq.{drop-cons}
 use Rattle.std.proofs.lemmas.List.{get_or-set_same, get_or-set_other, length-replicate}
 use Rattle.std.proofs.lemmas.Bool.{true≢false}
 use Rattle.std.proofs.lemmas.Bool.Decides.{eqb_tells}
 use Rattle.std.specs.Option.{option_map_or}
 use Rattle.sarif_match.specs.declared.progress.Progress.{Progress}
-use Rattle.sarif_match.specs.Fits.{Fits}
-use Rattle.sarif_match.specs.Partners.{has_partner, is_taken, put_all}
+use Rattle.sarif_match.specs.Partners.{has_partner, is_taken}
 use Rattle.sarif_match.specs.Progress.{IsSound}
 
 -- a list at each place after a write
@@ -85,14 +83,3 @@ IsSound-new n m new partners paired taken = record {
   paired_count = ap length paired ∙ length-replicate n false;
   taken_count = ap length taken ∙ length-replicate m false;
 }
-
--- what fits of the pairs that are left
-pub Fits-here : (m : ℕ) (partners : List (Option ℕ)) (pairs : List (ℕ × ℕ)) (k : ℕ) (p : ℕ × ℕ) → p ≡ get_or pairs k p → k < length pairs → Fits m partners (drop k pairs) → Fits m partners (p ∷ drop (suc k) pairs)
-Fits-here m partners pairs k p here within fits =
-    subst (λ (ps : List (ℕ × ℕ)). Fits m partners ps) (drop-cons pairs k p within ∙ ap (λ (x : ℕ × ℕ). x ∷ drop (suc k) pairs) (sym here)) fits
-
--- the pairs that are left, after one is put in
-pub put_all-here : (partners : List (Option ℕ)) (pairs : List (ℕ × ℕ)) (k : ℕ) (p : ℕ × ℕ) → p ≡ get_or pairs k p → k < length pairs → put_all partners (drop k pairs) ≡ put_all (slice_set partners p.0 (Some p.1)) (drop (k + 1) pairs)
-put_all-here partners pairs k p here within =
-    let next : suc k ≡ k + 1 = omega arith in
-    ap (put_all partners) (drop-cons pairs k p within ∙ ap (λ (x : ℕ × ℕ). x ∷ drop (suc k) pairs) (sym here)) ∙ ap (λ (n : ℕ). put_all (slice_set partners p.0 (Some p.1)) (drop n pairs)) next

@@ -1,11 +1,11 @@
 -- The report for GitLab, put together from its parts.
-use Rattle.std.proofs.Common.{◌≡◌, ◌<◌, ◌≤◌, ◌==◌, ◌^◌, ne_eqb, ℕ, Bool, true, false, List, [], ◌∷◌, ◌++◌, length, take, drop, Option, Some, None, codes, bytes_eq, refl, sym, ap, ap₂, cond, ◌∙◌, append_assoc, arith}
+use Rattle.std.proofs.Common.{◌≡◌, ◌<◌, ◌≤◌, ◌==◌, ne_eqb, ℕ, Bool, true, false, List, [], ◌∷◌, ◌++◌, length, take, drop, Option, Some, None, codes, bytes_eq, refl, sym, ap, ap₂, cond, ◌∙◌, append_assoc, arith}
 use Rattle.std.specs.List.{count_by}
 use Rattle.std.proofs.Common.{◌+◌, get_or, if◌then◌else◌}
 use Rattle.std.proofs.lemmas.Bool.{and_parts, and_from}
 use Rattle.std.proofs.lemmas.Slice.Eq.{bytes_eq-Decides}
-use Rattle.std.proofs.lemmas.List.{append_cancel_left, drop_more, take_more, length-take-le}
-use Rattle.std.proofs.lemmas.List.Sums.{sum_by-cons, count_by-le-length, count_by_more_yes, count_by_more_no}
+use Rattle.std.proofs.lemmas.List.{append_cancel_left, drop_more, take_more}
+use Rattle.std.proofs.lemmas.List.Sums.{sum_by-cons, count_by_more_yes, count_by_more_no}
 use Rattle.std.specs.BTreeMap as tree
 use Rattle.std.specs.Ordering.{is_eq, nat_cmp}
 use Rattle.std.specs.Cmp.{tied_then, unsigned_ties}
@@ -128,12 +128,6 @@ count_by-same p q same (g ∷ gs) =
 
 pub rank_told : (f : Finding) (fs : List Finding) → rank_among fs f ≡ count_by (λ g. bytes_eq (identity_of f) (identity_of g)) fs
 rank_told f fs = count_by-same (are_alike f) (λ g. bytes_eq (identity_of f) (identity_of g)) (identity_tells f) fs
-
-pub few_counted : (q : List ℕ) (fs : List Finding) (i n : ℕ) → n ≡ count_by (λ f. bytes_eq q (identity_of f)) (take i fs) → i < length fs → i < 2 ^ 63 → n < 2 ^ 63
-few_counted q fs i n is within few =
-    let most = count_by-le-length (λ f. bytes_eq q (identity_of f)) (take i fs) in
-    let long = length-take-le i fs (omega (arith, within)) in
-    omega (arith, is, most, long, few)
 
 count_by_case : (b : Bool) (q : List ℕ) (fs : List Finding) (i : ℕ) (f : Finding) (old new : ℕ) → i < length fs → f ≡ get_or fs i f
     → old ≡ count_by (λ g. bytes_eq q (identity_of g)) (take i fs) → bytes_eq q (identity_of f) ≡ b → new ≡ old + (if b then 1 else 0)

@@ -1,5 +1,5 @@
 -- The texts that are hashed differ from each other.
-use Rattle.std.proofs.Common.{◌≡◌, ◌<◌, ◌≤◌, ◌^◌, ◌+◌, ℕ, true, false, cond, List, [], ◌∷◌, ◌++◌, length, drop, bytes_eq, decimal, subst, refl, ap, sym, ◌∙◌, append_assoc, arith}
+use Rattle.std.proofs.Common.{◌≡◌, ◌<◌, ◌≤◌, ◌^◌, ◌+◌, ℕ, true, false, cond, List, [], ◌∷◌, ◌++◌, length, drop, bytes_eq, decimal, subst, ap, sym, ◌∙◌, append_assoc, arith}
 use Rattle.std.specs.List.{count_by, AllByRecursion, IsDistinct}
 use Rattle.std.proofs.lemmas.Bool.{false_from_ne_true}
 use Rattle.std.proofs.lemmas.Slice.Eq.{bytes_eq-Decides}
@@ -24,9 +24,6 @@ rank_short fs f = count_by-le-length (are_alike f) fs
 rank_alike : (f g : Finding) (fs : List Finding) → are_alike f g ≡ true → rank_among fs f ≡ rank_among fs g
 rank_alike f g fs h =
     rank_told f fs ∙ ap (λ q. count_by (λ x. bytes_eq q (identity_of x)) fs) (alike_identity f g h) ∙ sym (rank_told g fs)
-
-alike_itself : (f : Finding) → are_alike f f ≡ true
-alike_itself f = identity_tells f f ∙ (bytes_eq-Decides (identity_of f) (identity_of f)).1 refl
 
 alike_back : (f g : Finding) → are_alike f g ≡ true → are_alike g f ≡ true
 alike_back f g h = identity_tells g f ∙ (bytes_eq-Decides (identity_of g) (identity_of f)).1 (sym (alike_identity f g h))

@@ -3,7 +3,7 @@ use Rattle.std.proofs.Common.{◌≡◌, ◌==◌, ℕ, zero, suc, ◌+◌, ◌-
 use Rattle.std.proofs.lemmas.Str.{chars_past_char}
 use Rattle.std.proofs.StrCases.{chars_of_empty}
 use Rattle.serde_json.specs.Data.{Data}
-use Rattle.sarif_report.specs.Message.{index_from, takes_digit, filled, filled_from, piece_of, first_is}
+use Rattle.sarif_report.specs.Message.{index_from, takes_digit, filled, filled_from, piece_of}
 use Rattle.sarif_report.specs.declared.shown_text.ShownText.{ShownText}
 use Rattle.sarif_report.specs.ShownSoFar.{shown_with, Takes}
 
@@ -41,22 +41,11 @@ index_step n k text rest c utf8 parts = ap (index_from n k) (chars_past_char tex
 pub index_empty : (n k : ℕ) (text : List ℕ) → length text ≡ 0 → index_from n k (chars text) ≡ None
 index_empty n k text none = ap (index_from n k) (chars_of_empty text none)
 
-pub first_is_of : (c d : ℕ) (text rest : List ℕ) → IsUtf8 text → text ≡ encode_utf8 d ++ rest
-    → first_is c (chars text) ≡ first_is c (d ∷ chars rest)
-first_is_of c d text rest utf8 parts = ap (first_is c) (chars_past_char text rest d utf8 parts)
-
-pub first_is_none : (c : ℕ) (text : List ℕ) → length text ≡ 0 → first_is c (chars text) ≡ false
-first_is_none c text none = ap (first_is c) (chars_of_empty text none)
-
 -- ---- the whole text
 
 pub filled-some : (args : List Data) (cs : List ℕ) → (length args ≡ 0 → ⊥) → filled args cs ≡ filled_from args 0 cs
 filled-some [] cs some = absurd (some refl)
 filled-some (d ∷ ds) cs some = refl
-
-pub filled-none : (args : List Data) (cs : List ℕ) → length args ≡ 0 → filled args cs ≡ cs
-filled-none [] cs none = refl
-filled-none (d ∷ ds) cs none = absurd (omega arith)
 
 -- a character that is part of what was read already
 pub skip_step : (s : ShownText) (args : List Data) (skip : ℕ) (text rest : List ℕ) (c : ℕ) (more : List ℕ)
@@ -85,9 +74,6 @@ pub filled_empty : (s : ShownText) (args : List Data) (skip : ℕ) (text more : 
     → shown_with s (filled_from args skip (chars text) ++ more) ≡ shown_with s more
 filled_empty s args zero text more none = ap (λ cs. shown_with s (filled_from args zero cs ++ more)) (chars_of_empty text none)
 filled_empty s args (suc n) text more none = ap (λ cs. shown_with s (filled_from args (suc n) cs ++ more)) (chars_of_empty text none)
-
-pub full_stays : (s : ShownText) (xs ys : List ℕ) → s.full ≡ true → shown_with s xs ≡ shown_with s ys
-full_stays s xs ys full = rw full
 
 -- the text that was filled in is the message's
 pub takes_filled : (s t : ShownText) (args args' : List Data) (text text' : List ℕ) → args ≡ args' → text ≡ text' → (length args ≡ 0 → ⊥)

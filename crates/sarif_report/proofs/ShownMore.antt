@@ -29,9 +29,6 @@ kept-cons room c cs = refl
 encodes-one : (c : ℕ) → encode_utf8_all (c ∷ []) ≡ encode_utf8 c
 encodes-one c = append-nil _
 
-rest-true : (xs : List ℕ) → (if true then [] else xs) ≡ []
-rest-true xs = refl
-
 -- there is no room for a character
 pub keeps_end : (old new : ShownText) (c : ℕ) (cs : List ℕ) → old.full ≡ false → old.room ≡ 0
     → string_bytes new.text ≡ string_bytes old.text ++ encode_utf8 0x2026 → new.full ≡ true → Keeps old new c cs

@@ -105,14 +105,6 @@ passes_within test es n passes =
       | Some e ↦ λ is _. get_within es n e is
     ] refl passes
 
-or_assoc : (a b c d : Bool) → ((a && d) || ((b && d) || c)) ≡ (((b || a) && d) || c)
-or_assoc true true c true = refl
-or_assoc true true c false = refl
-or_assoc true false c true = refl
-or_assoc true false c false = refl
-or_assoc false true c d = refl
-or_assoc false false c d = refl
-
 -- the numbers of a list that pass, added to picked ones
 with_picks : (test : Entry → Bool) (es : List Entry) (q : ℕ → Bool) (ns : List ℕ) → with_numbers (picks q 0 es) (filter (passes_at test es) ns) ≡ picks (λ m. (has m ns && passes_at test es m) || q m) 0 es
 with_picks test es q [] = refl
