@@ -18,6 +18,7 @@ use sarif_merge::{At, Cause, MergeFault, Merged, Source, Verdict};
 use sarif_request::Request;
 use std::alloc::Global;
 use std::io::Write;
+use std::thread::Threads;
 
 /// The status of an accepted merge.
 fn status_of_verdict(verdict: Verdict) -> u8
@@ -61,7 +62,8 @@ fn tell_lost<E: Write>(complaints: &mut Complaints<E>, lost: Lost) -> u8
 /// Writes an accepted merge: its log, then the reports that there are writers for, and then its summary, all of
 /// which are made before the first write. The status is that of the verdict, or 3 where one of them was not
 /// written, or 2 where memory was wanting, and then nothing was written.
-pub fn accept<W: Write, S: Write, P: Write, E: Write>(
+pub fn accept<W: Write, S: Write, P: Write, E: Write, T: Threads + Sync>(
+    rt: &T,
     alloc: Global,
     merged: &Merged,
     request: &Request,
@@ -85,7 +87,7 @@ pub fn accept<W: Write, S: Write, P: Write, E: Write>(
         (writer_failures writers.old) (writer_failures writers.new) }
     ensures known { result ≤ 3 }
 {
-    match texts_of(alloc, merged, request, &writers.reports) {
+    match texts_of(rt, alloc, merged, request, &writers.reports) {
         Ok(texts) => match put_all(writers, &merged.log, &texts) {
             Ok(()) => status_of_verdict(merged.verdict),
             Err(lost) => tell_lost(complaints, lost),

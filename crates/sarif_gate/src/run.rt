@@ -74,7 +74,7 @@ pub fn run_request<R: Read, W: Write, S: Write, P: Write, E: Write, T: Threads +
 {
     sources_are_read_in_one_way::<R>();
     match merge_readers(rt, alloc, readers, &request.options, &NoGate) {
-        Ok(merged) => accept(alloc, &merged, request, writers, complaints),
+        Ok(merged) => accept(rt, alloc, &merged, request, writers, complaints),
         Err(fault) => refuse(complaints, fault),
     }
 }

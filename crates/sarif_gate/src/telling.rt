@@ -1,8 +1,9 @@
 //! Making the texts that people and review services read of a merge.
-ghost use Rattle.std.specs.Prelude.{◌≡◌, IfOk};
+ghost use Rattle.std.specs.Prelude.{◌≡◌, IfOk, Some, None, if◌then◌else◌};
 ghost use Rattle.sarif_counts.specs.Counts.{count_at};
 ghost use Rattle.sarif_counts.specs.Summary.{summary_of};
 ghost use Rattle.sarif_report.specs.ReadBack.{told_of};
+ghost use Rattle.sarif_report.specs.declared.report.Report.TheVariants as kind;
 ghost use Rattle.sarif_report.specs.Report.{report_of};
 ghost use Rattle.sarif_gate.specs.Reports.{report_for, reporting_of, text_if, texts_for};
 
@@ -11,6 +12,8 @@ use sarif_records::Text;
 use sarif_report::{Finding, Report, Reporting, report_text, reported};
 use sarif_request::{Reports, Request};
 use std::alloc::{AllocError, Global};
+use std::thread;
+use std::thread::Threads;
 
 /// The texts of an accepted merge, beside its log.
 #[derive(Debug, Drop)]
@@ -28,47 +31,85 @@ struct Telling<'a> {
 }
 
 impl Telling<'_> {
-    /// The text of a report, where there is a writer for it.
-    fn text_of<W>(
+    /// The text of a report, where it is asked for.
+    fn text_of(
         &self,
         alloc: Global,
         report: Report,
-        writer: &Option<W>,
+        is_asked: bool,
     ) -> Result<Option<Text>, AllocError>
-        ensures { IfOk result (λ text. text ≡ text_if writer.now (report_of report
-            (count_at self.now.counts.now) self.now.policy.now self.now.findings.now)) }
+        ensures { IfOk result (λ text. text ≡ (if is_asked then Some (report_of report
+            (count_at self.now.counts.now) self.now.policy.now self.now.findings.now) else None)) }
     {
-        match writer {
-            Some(_) => {
-                let text = report_text(alloc, report, self.counts, self.policy, self.findings)?;
-                Ok(Some(Text::from_string(text)?))
-            }
-            None => Ok(None),
+        if !is_asked {
+            return Ok(None);
         }
+        let text = report_text(alloc, report, self.counts, self.policy, self.findings)?;
+        Ok(Some(Text::from_string(text)?))
     }
 
-    /// The texts of the reports that there are writers for.
-    fn texts_of<W>(&self, alloc: Global, writers: &Reports<W>) -> Result<Reports<Text>, AllocError>
-        ensures { IfOk result (λ texts. texts ≡ texts_for writers.now (λ one. report_of one
-            (count_at self.now.counts.now) self.now.policy.now self.now.findings.now)) }
+    /// The texts of the reports that there are writers for, but of that for GitLab.
+    #[tactic(auto, using(crate::proofs::Asked::asked_text))]
+    fn texts_beside<W>(
+        &self,
+        alloc: Global,
+        writers: &Reports<W>,
+    ) -> Result<Reports<Text>, AllocError>
+        ensures text { IfOk result (λ texts. texts.text ≡ text_if writers.now.text
+            (report_of kind.Text (count_at self.now.counts.now) self.now.policy.now
+            self.now.findings.now)) }
+        ensures github { IfOk result (λ texts. texts.github ≡ text_if writers.now.github
+            (report_of kind.Github (count_at self.now.counts.now) self.now.policy.now
+            self.now.findings.now)) }
+        ensures markdown { IfOk result (λ texts. texts.markdown ≡ text_if writers.now.markdown
+            (report_of kind.Markdown (count_at self.now.counts.now) self.now.policy.now
+            self.now.findings.now)) }
+        ensures html { IfOk result (λ texts. texts.html ≡ text_if writers.now.html
+            (report_of kind.Html (count_at self.now.counts.now) self.now.policy.now
+            self.now.findings.now)) }
     {
-        let text = self.text_of(alloc, Report::Text, &writers.text)?;
-        let github = self.text_of(alloc, Report::Github, &writers.github)?;
-        let markdown = self.text_of(alloc, Report::Markdown, &writers.markdown)?;
-        let gitlab = self.text_of(alloc, Report::Gitlab, &writers.gitlab)?;
-        let html = self.text_of(alloc, Report::Html, &writers.html)?;
+        let text = self.text_of(alloc, Report::Text, writers.text.is_some())?;
+        let github = self.text_of(alloc, Report::Github, writers.github.is_some())?;
+        let markdown = self.text_of(alloc, Report::Markdown, writers.markdown.is_some())?;
+        let html = self.text_of(alloc, Report::Html, writers.html.is_some())?;
         Ok(Reports {
             text,
             github,
             markdown,
-            gitlab,
+            gitlab: None,
             html,
         })
+    }
+
+    /// The texts of the reports that there are writers for. That for GitLab hashes each result, and is made in a
+    /// thread of its own.
+    #[tactic(auto, using(crate::proofs::Asked::asked_text))]
+    fn texts_of<W, T: Threads + Sync>(
+        &self,
+        rt: &T,
+        alloc: Global,
+        writers: &Reports<W>,
+    ) -> Result<Reports<Text>, AllocError>
+        ensures { IfOk result (λ texts. texts ≡ texts_for writers.now (λ one. report_of one
+            (count_at self.now.counts.now) self.now.policy.now self.now.findings.now)) }
+    {
+        let telling = *self;
+        let is_asked = writers.gitlab.is_some();
+        let hashed = move || -> Result<Option<Text>, AllocError>
+            ensures { IfOk result (λ text. text ≡ (if is_asked then Some (report_of kind.Gitlab
+                (count_at telling.entry.counts.now) telling.entry.policy.now
+                telling.entry.findings.now) else None)) }
+        { telling.text_of(alloc, Report::Gitlab, is_asked) };
+        let (gitlab, beside) = thread::join(rt, hashed, || self.texts_beside(alloc, writers));
+        let mut texts = beside?;
+        texts.gitlab = gitlab?;
+        Ok(texts)
     }
 }
 
 /// The results that the reports of a merge tell of.
-fn findings_of(
+fn findings_of<T: Threads + Sync>(
+    rt: &T,
     alloc: Global,
     merged: &Merged,
     request: &Request,
@@ -79,11 +120,13 @@ fn findings_of(
     let policy = request.options.policy;
     let root = Text::copy_of(alloc, request.root.as_str())?;
     let reporting = Reporting { policy, root };
-    reported(alloc, &reporting, merged.log.as_str().as_bytes())
+    let threads = request.options.workers + 1;
+    reported(rt, alloc, &reporting, merged.log.as_str().as_bytes(), threads)
 }
 
 /// The texts of the reports that there are writers for. Where there are none the log isn't looked at.
-fn reports_of<W>(
+fn reports_of<W, T: Threads + Sync>(
+    rt: &T,
     alloc: Global,
     merged: &Merged,
     request: &Request,
@@ -95,17 +138,19 @@ fn reports_of<W>(
     if writers.are_none() {
         return Ok(Reports::none());
     }
-    let findings = findings_of(alloc, merged, request)?;
+    let findings = findings_of(rt, alloc, merged, request)?;
     let telling = Telling {
         counts: &merged.counts,
         policy: &request.options.policy,
         findings: findings.as_slice(),
     };
-    telling.texts_of(alloc, writers)
+    telling.texts_of(rt, alloc, writers)
 }
 
-/// The summary of a merge, and the texts of the reports that there are writers for.
-pub fn texts_of<W>(
+/// The summary of a merge, and the texts of the reports that there are writers for. The threads of the options
+/// share the work of reports.
+pub fn texts_of<W, T: Threads + Sync>(
+    rt: &T,
     alloc: Global,
     merged: &Merged,
     request: &Request,
@@ -118,6 +163,6 @@ pub fn texts_of<W>(
 {
     let summary = summary(alloc, &merged.counts, &request.options.policy)?;
     let summary = Text::from_string(summary)?;
-    let reports = reports_of(alloc, merged, request, writers)?;
+    let reports = reports_of(rt, alloc, merged, request, writers)?;
     Ok(Texts { reports, summary })
 }

@@ -1,5 +1,6 @@
 pub mod ArrayRead
 pub mod BriefTells
+pub mod ByHalves
 pub mod CharsBack
 pub mod EscapedApart
 pub mod GithubApart

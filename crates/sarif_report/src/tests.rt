@@ -1,12 +1,15 @@
 //! The worked examples of the reports.
+ghost use Rattle.std.specs.Prelude.{◌≤◌};
+
 use crate::{
     Finding, Report, Reporting, github_report, gitlab_report, html_report, markdown_report,
     report_text, reported, shown, text_report,
 };
 use sarif_counts::{Counts, Policy};
 use sarif_records::{Level, State, Text};
-use std::alloc::{AllocError, Global};
+use std::alloc::{AllocError, AllocGlobal, Global};
 use std::test::Fail;
+use std::thread::Threads;
 
 const LOG: &str = r#"{"properties":{},"runs":[{"results":[
 {"baselineState":"new","level":"warning","locations":[{"physicalLocation":{"artifactLocation":{"uri":"django/forms/forms.py"},"region":{"startColumn":5,"startLine":12}}}],"message":{"text":"Potential XSS on mark_safe function."},"ruleId":"B703","suppressions":[]},
@@ -74,16 +77,27 @@ const HOSTILE_ROWS: [&str; 6] = [
     ">R2<",
 ];
 
-fn findings_in(alloc: Global, text: &str) -> Result<Vec<Finding>, Fail> {
+fn findings_by<R: AllocGlobal + Threads + Sync>(
+    rt: &R,
+    text: &str,
+    threads: u32,
+) -> Result<Vec<Finding>, Fail>
+    requires { 1 ≤ threads }
+{
+    let alloc = rt.alloc();
     let reporting = Reporting {
         policy: Policy::default(),
         root: Text::copy_of(alloc, "file:///b/")?,
     };
-    Ok(reported(alloc, &reporting, text.as_bytes())?)
+    Ok(reported(rt, alloc, &reporting, text.as_bytes(), threads)?)
 }
 
-fn findings_of(alloc: Global) -> Result<Vec<Finding>, Fail> {
-    findings_in(alloc, LOG)
+fn findings_in<R: AllocGlobal + Threads + Sync>(rt: &R, text: &str) -> Result<Vec<Finding>, Fail> {
+    findings_by(rt, text, 1)
+}
+
+fn findings_of<R: AllocGlobal + Threads + Sync>(rt: &R) -> Result<Vec<Finding>, Fail> {
+    findings_in(rt, LOG)
 }
 
 #[test]
@@ -138,7 +152,7 @@ fn a_placeholder_without_its_argument_stays_whole(rt: HostRuntime) -> Result<(),
         ("[7,\"b\"]", "{0}}}} {1}}}", "{0}}} b}"),
     ] {
         let log = log_with(alloc, arguments, text)?;
-        let findings = findings_in(alloc, log.as_str())?;
+        let findings = findings_in(&rt, log.as_str())?;
         assert_eq!(rt; findings.len(), 1);
         assert_eq!(rt; findings[0].message.as_str(), wanted);
     }
@@ -147,7 +161,7 @@ fn a_placeholder_without_its_argument_stays_whole(rt: HostRuntime) -> Result<(),
 
 #[test]
 fn active_results_of_listed_states_are_reported(rt: HostRuntime) -> Result<(), Fail> {
-    let findings = findings_of(rt.alloc())?;
+    let findings = findings_of(&rt)?;
     assert_eq!(rt; findings.len(), 3);
     assert!(rt; !findings[0].hit);
     assert!(rt; findings[1].hit);
@@ -159,7 +173,46 @@ fn active_results_of_listed_states_are_reported(rt: HostRuntime) -> Result<(), F
 fn nothing_is_reported_of_what_is_no_log(rt: HostRuntime) -> Result<(), Fail> {
     let alloc = rt.alloc();
     for text in ["", "{", "null", "[]", "{\"runs\":{}}", "{\"runs\":[1,{}]}"] {
-        assert_eq!(rt; findings_in(alloc, text)?.len(), 0);
+        assert_eq!(rt; findings_in(&rt, text)?.len(), 0);
+    }
+    Ok(())
+}
+
+/// The result of that number, which is its message; every third is suppressed.
+fn numbered_result(alloc: Global, number: usize) -> Result<String, AllocError> {
+    let own = if number % 3 == 0 { "{}" } else { "" };
+    let state = "\"baselineState\":\"new\",\"level\":\"note\"";
+    let message = format!(in alloc; "\"message\":{{\"text\":\"{number}\"}}")?;
+    format!(in alloc; "{{{state},{message},\"suppressions\":[{own}]}}")
+}
+
+/// A log with so many results, and its text report.
+fn numbered_log(alloc: Global, count: usize) -> Result<(String, String), AllocError> {
+    let mut log = String::from_str(alloc, "{\"runs\":[{\"results\":[")?;
+    let mut lines = String::new(alloc);
+    for number in 0..count {
+        log.push_str(if number == 0 { "" } else { "," })?;
+        log.push_str(numbered_result(alloc, number)?.as_str())?;
+        if number % 3 != 0 {
+            let line = format!(in alloc; "-: note: {number} (T, new)\n")?;
+            lines.push_str(line.as_str())?;
+        }
+    }
+    log.push_str("],\"tool\":{\"driver\":{\"name\":\"T\"}}}]}")?;
+    Ok((log, lines))
+}
+
+#[test]
+fn results_keep_their_order_in_any_number_of_threads(rt: HostRuntime) -> Result<(), Fail> {
+    let alloc = rt.alloc();
+    let (log, lines) = numbered_log(alloc, 500)?;
+    for threads in 1..8 {
+        let findings = findings_by(&rt, log.as_str(), threads)?;
+        assert_eq!(rt; findings.len(), 333);
+        assert_eq!(rt;
+            text_report(alloc, findings.as_slice())?.as_str(),
+            lines.as_str()
+        );
     }
     Ok(())
 }
@@ -167,7 +220,7 @@ fn nothing_is_reported_of_what_is_no_log(rt: HostRuntime) -> Result<(), Fail> {
 #[test]
 fn a_report_is_picked_by_its_name(rt: HostRuntime) -> Result<(), Fail> {
     let alloc = rt.alloc();
-    let findings = findings_of(alloc)?;
+    let findings = findings_of(&rt)?;
     let counts = Counts::new();
     let policy = Policy::default();
     for (report, word, piece) in [
@@ -191,7 +244,7 @@ fn a_report_is_picked_by_its_name(rt: HostRuntime) -> Result<(), Fail> {
 #[test]
 fn the_text_report_has_a_line_a_result(rt: HostRuntime) -> Result<(), Fail> {
     let alloc = rt.alloc();
-    let findings = findings_of(alloc)?;
+    let findings = findings_of(&rt)?;
     assert_eq!(rt; text_report(alloc, findings.as_slice())?.as_str(), TEXT);
     Ok(())
 }
@@ -199,7 +252,7 @@ fn the_text_report_has_a_line_a_result(rt: HostRuntime) -> Result<(), Fail> {
 #[test]
 fn the_github_report_has_a_command_a_result(rt: HostRuntime) -> Result<(), Fail> {
     let alloc = rt.alloc();
-    let findings = findings_of(alloc)?;
+    let findings = findings_of(&rt)?;
     assert_eq!(rt; github_report(alloc, findings.as_slice())?.as_str(), GITHUB);
     Ok(())
 }
@@ -207,7 +260,7 @@ fn the_github_report_has_a_command_a_result(rt: HostRuntime) -> Result<(), Fail>
 #[test]
 fn the_markdown_report_has_the_verdict_the_counts_and_a_table(rt: HostRuntime) -> Result<(), Fail> {
     let alloc = rt.alloc();
-    let findings = findings_of(alloc)?;
+    let findings = findings_of(&rt)?;
     let mut counts = Counts::new();
     counts.add(State::New, Level::Warning, false);
     counts.add(State::Updated, Level::Error, false);
@@ -223,7 +276,7 @@ fn the_markdown_report_has_the_verdict_the_counts_and_a_table(rt: HostRuntime) -
 #[test]
 fn the_gitlab_report_has_an_object_a_result(rt: HostRuntime) -> Result<(), Fail> {
     let alloc = rt.alloc();
-    let findings = findings_of(alloc)?;
+    let findings = findings_of(&rt)?;
     assert_eq!(rt; gitlab_report(alloc, findings.as_slice())?.as_str(), GITLAB);
     assert_eq!(rt; gitlab_report(alloc, &[])?.as_str(), "[]");
     Ok(())
@@ -232,7 +285,7 @@ fn the_gitlab_report_has_an_object_a_result(rt: HostRuntime) -> Result<(), Fail>
 #[test]
 fn results_that_are_alike_have_fingerprints_of_their_own(rt: HostRuntime) -> Result<(), Fail> {
     let alloc = rt.alloc();
-    let findings = findings_in(alloc, ALIKE)?;
+    let findings = findings_in(&rt, ALIKE)?;
     assert_eq!(rt;
         gitlab_report(alloc, findings.as_slice())?.as_str(),
         ALIKE_GITLAB
@@ -243,7 +296,7 @@ fn results_that_are_alike_have_fingerprints_of_their_own(rt: HostRuntime) -> Res
 #[test]
 fn the_page_escapes_what_a_log_says(rt: HostRuntime) -> Result<(), Fail> {
     let alloc = rt.alloc();
-    let findings = findings_in(alloc, HOSTILE)?;
+    let findings = findings_in(&rt, HOSTILE)?;
     let mut counts = Counts::new();
     counts.add(State::New, Level::Error, false);
     counts.add(State::Updated, Level::Note, false);
@@ -346,7 +399,7 @@ const FORGING_ROW: &str =
 #[test]
 fn no_log_writes_a_line_a_command_or_a_cell(rt: HostRuntime) -> Result<(), Fail> {
     let alloc = rt.alloc();
-    let findings = findings_in(alloc, FORGING)?;
+    let findings = findings_in(&rt, FORGING)?;
     assert_eq!(rt;
         text_report(alloc, findings.as_slice())?.as_str(),
         FORGING_TEXT
