@@ -1,4 +1,4 @@
--- What is told of a result rests on eight of its members.
+-- What is told of a result, beside its level and its state, rests on five of its members.
 use Rattle.std.proofs.Common.{◌≡◌, ◌||◌, ℕ, Bool, true, false, List, [], ◌∷◌, Option, Some, None, codes, bytes_eq, refl, sym, ap, ◌∙◌}
 use Rattle.std.specs.Prelude.{chars, is_some, option_and_then, unwrap_or, if◌then◌else◌}
 use Rattle.std.specs.List.{list_any}
@@ -10,15 +10,13 @@ use Rattle.serde_json.specs.Find.{get, get_member, as_str, as_array, as_number, 
 use Rattle.serde_json.proofs.Views.{get_member-put, get_member-put_other}
 use Rattle.sarif_records.specs.declared.kinds.Level.{Level}
 use Rattle.sarif_records.specs.declared.kinds.State.{State}
-use Rattle.sarif_records.specs.Level.{level_named}
-use Rattle.sarif_records.specs.State.{state_named}
 use Rattle.sarif_records.specs.Members.{first_of}
 use Rattle.sarif_records.specs.Run.{elements_or_none}
 use Rattle.sarif_report.specs.declared.reporting.Reporting.{Reporting}
 use Rattle.sarif_report.specs.Brief.{with_own, picked, told_names, brief}
 use Rattle.sarif_report.specs.Lookup.{text_in, number_in, own_rule_id, index_of_rule, rule_index, component_by, component_of, driver_of, rule_by, rule_in, descriptor_of, descriptor_id, rule_id, elements_in, physical_location, location_uri, position_number, position_in}
 use Rattle.sarif_report.specs.Message.{string_named, strings_of, own_string, shared_string, looked_up, text_by, message_of, filled, arguments_in, arguments_of}
-use Rattle.sarif_report.specs.Reported.{level_in, state_in, is_active, help_in, link_of, path_in, shown_path, finding_of, finding_by, finding_if}
+use Rattle.sarif_report.specs.Reported.{help_in, link_of, path_in, shown_path, only_with, line_in, column_in, finding_of}
 
 -- ---- members that are picked
 
@@ -59,9 +57,6 @@ picked_get k (n ∷ ns) d h = picked_by (bytes_eq k n) k n ns d refl (λ g. pick
 -- ---- two results with the same members
 
 record AreToldAlike (x y : Data) : Type 0 where
-  pub level : get (codes "level") x ≡ get (codes "level") y
-  pub state : get (codes "baselineState") x ≡ get (codes "baselineState") y
-  pub suppressions : get (codes "suppressions") x ≡ get (codes "suppressions") y
   pub rule_id : get (codes "ruleId") x ≡ get (codes "ruleId") y
   pub rule : get (codes "rule") x ≡ get (codes "rule") y
   pub rule_index : get (codes "ruleIndex") x ≡ get (codes "ruleIndex") y
@@ -70,9 +65,6 @@ record AreToldAlike (x y : Data) : Type 0 where
 
 brief_alike : (d : Data) → AreToldAlike (brief d) d
 brief_alike d = record {
-  level = picked_get (codes "level") told_names d refl;
-  state = picked_get (codes "baselineState") told_names d refl;
-  suppressions = picked_get (codes "suppressions") told_names d refl;
   rule_id = picked_get (codes "ruleId") told_names d refl;
   rule = picked_get (codes "rule") told_names d refl;
   rule_index = picked_get (codes "ruleIndex") told_names d refl;
@@ -129,6 +121,16 @@ position_same : (name : List ℕ) (x y : Data) → AreToldAlike x y → position
 position_same name x y same =
     ap (λ o. option_and_then position_number (option_and_then (number_in name) (option_and_then (get (codes "region")) o))) (place_same x y same)
 
+line_same : (reporting : Reporting) (run x y : Data) → AreToldAlike x y → line_in reporting run x ≡ line_in reporting run y
+line_same reporting run x y same =
+    ap (λ o. only_with o (position_in (codes "startLine") x)) (path_same reporting run x y same)
+    ∙ ap (only_with (path_in reporting run y)) (position_same (codes "startLine") x y same)
+
+column_same : (reporting : Reporting) (run x y : Data) → AreToldAlike x y → column_in reporting run x ≡ column_in reporting run y
+column_same reporting run x y same =
+    ap (λ o. only_with o (position_in (codes "startColumn") x)) (line_same reporting run x y same)
+    ∙ ap (only_with (line_in reporting run y)) (position_same (codes "startColumn") x y same)
+
 -- ---- the message
 
 strings_same : (run x y : Data) → AreToldAlike x y → strings_of run x ≡ strings_of run y
@@ -164,22 +166,7 @@ finding_same reporting run x y level state same =
     rw (id_same run x y same, message_same run x y same, path_same reporting run x y same, position_same (codes "startLine") x y same, position_same (codes "startColumn") x y same, help_same run x y same)
     refl
 
-active_same : (x y : Data) → AreToldAlike x y → is_active x ≡ is_active y
-active_same x y same = rw (same.suppressions) refl
-
-finding_by_same : (reporting : Reporting) (run x y : Data) (level : Option Level) (state : Option State) → AreToldAlike x y
-    → finding_by reporting run x level state ≡ finding_by reporting run y level state
-finding_by_same reporting run x y None state same = refl
-finding_by_same reporting run x y (Some level) None same = refl
-finding_by_same reporting run x y (Some level) (Some state) same =
-    rw (active_same x y same, finding_same reporting run x y level state same) refl
-
-told_same : (reporting : Reporting) (run x y : Data) → AreToldAlike x y → finding_if reporting run x ≡ finding_if reporting run y
-told_same reporting run x y same =
-    finding_by_same reporting run x y (level_in x) (state_in x) same
-    ∙ ap (λ o. finding_by reporting run y (option_and_then level_named (option_and_then as_str o)) (state_in x)) same.level
-    ∙ ap (λ o. finding_by reporting run y (level_in y) (option_and_then state_named (option_and_then as_str o))) same.state
-
 -- what is told of a result is told of those members of it
-pub told_brief : (reporting : Reporting) (run result : Data) → finding_if reporting run (brief result) ≡ finding_if reporting run result
-told_brief reporting run result = told_same reporting run (brief result) result (brief_alike result)
+pub told_brief : (reporting : Reporting) (run result : Data) (level : Level) (state : State)
+    → finding_of reporting run (brief result) level state ≡ finding_of reporting run result level state
+told_brief reporting run result level state = finding_same reporting run (brief result) result level state (brief_alike result)

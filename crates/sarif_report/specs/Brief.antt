@@ -12,10 +12,9 @@ abbrev pub picked : List (List ℕ) → Data → Members
 picked [] d = no_members
 picked (name ∷ names) d = with_own name (get name d) (picked names d)
 
--- the members of a result that are looked at
+-- the members that are told of a result, beside its level and its state
 abbrev pub told_names : List (List ℕ)
-told_names =
-    codes "suppressions" ∷ codes "locations" ∷ codes "message" ∷ codes "ruleIndex" ∷ codes "rule" ∷ codes "ruleId" ∷ codes "baselineState" ∷ codes "level" ∷ []
+told_names = codes "locations" ∷ codes "message" ∷ codes "ruleIndex" ∷ codes "rule" ∷ codes "ruleId" ∷ []
 
 abbrev pub brief : Data → Data
 brief result = object (picked told_names result)

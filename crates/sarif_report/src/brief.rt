@@ -1,4 +1,4 @@
-//! As much of a result's value as is told: a result may hold much more.
+//! As much of a reported result's value as is told: a result may hold much more.
 ghost use Rattle.std.specs.Prelude.{◌≡◌, IfOk, OnOk};
 ghost use Rattle.serde_json.specs.Data.{put};
 ghost use Rattle.serde_json.specs.Find.{get};
@@ -44,19 +44,16 @@ fn copy_member(
     }
 }
 
-/// The members of a result that are looked at.
+/// The members of a result that are told of where it is reported.
 pub(crate) fn brief(alloc: Global, found: &Node<'_, '_>) -> Result<Value, AllocError>
     requires { IsOrdered (data_of found.now) }
     ensures { IfOk result (λ value. view value ≡ brief_of (value_at found.now)) }
 {
     let mut members = Map::new(alloc);
-    copy_member(alloc, &mut members, found, "level")?;
-    copy_member(alloc, &mut members, found, "baselineState")?;
     copy_member(alloc, &mut members, found, "ruleId")?;
     copy_member(alloc, &mut members, found, "rule")?;
     copy_member(alloc, &mut members, found, "ruleIndex")?;
     copy_member(alloc, &mut members, found, "message")?;
     copy_member(alloc, &mut members, found, "locations")?;
-    copy_member(alloc, &mut members, found, "suppressions")?;
     Ok(Value::Object(members))
 }

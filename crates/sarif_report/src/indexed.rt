@@ -1,10 +1,10 @@
-//! The arrays of an indexed log, as it stands once it is stripped.
+//! The members and arrays of an indexed log, as it stands once it is stripped.
 ghost use Rattle.std.specs.Prelude.{◌≡◌, map, option_map, IfOk, IfSome};
 ghost use Rattle.serde_json.specs.Find.{get};
 ghost use Rattle.json_index.specs.Indexed.{data_of};
 ghost use Rattle.json_index.specs.Ordered.{IsOrdered};
 ghost use Rattle.sarif_records.specs.Listed.{value_at, AreOrdered};
-ghost use Rattle.sarif_report.specs.Lookup.{elements_in};
+ghost use Rattle.sarif_report.specs.Lookup.{elements_in, text_in};
 
 use json_index::Node;
 use std::alloc::{AllocError, Global};
@@ -26,6 +26,15 @@ pub(crate) fn kept_member<'t, 'a>(node: &Node<'t, 'a>, name: &str) -> Option<Nod
         }
         None => None,
     }
+}
+
+/// The text `name` of an object.
+#[tactic(auto, using(sarif_records::proofs::NodeValues::node_steps))]
+pub(crate) fn text_at<'a>(node: &Node<'_, 'a>, name: &str) -> Option<&'a str>
+    requires { IsOrdered (data_of node.now) }
+    ensures { option_map (λ s. s.now) result ≡ text_in name.now (value_at node.now) }
+{
+    kept_member(node, name)?.as_str()
 }
 
 /// The places of the elements of the array `name` of an object.

@@ -10,7 +10,6 @@ ghost use Rattle.sarif_report.specs.Reported.{reported_in, reported_of};
 ghost use Rattle.sarif_report.specs.Reported as said;
 ghost use Rattle.sarif_report.specs.ReadBack.{told_of};
 
-use crate::brief::brief;
 use crate::finding::Finding;
 use crate::indexed::places_in;
 use crate::reported_results::finding_if;
@@ -25,21 +24,6 @@ use std::thread::Threads;
 /// Of fewer results a thread of their own is not worth its start.
 const FEWEST_SHARED: usize = 64;
 
-/// What is told of the result at this place, where it is reported.
-fn finding_at(
-    alloc: Global,
-    reporting: &Reporting,
-    run: &Value,
-    place: &Node<'_, '_>,
-) -> Result<Option<Finding>, AllocError>
-    requires { IsOrdered (data_of place.now) }
-    ensures { IfOk result
-        (λ o. o ≡ said.finding_if reporting.now (view run.now) (value_at place.now)) }
-{
-    let found = brief(alloc, place)?;
-    finding_if(alloc, reporting, run, &found)
-}
-
 /// What is told of those of the results at these places that are reported, one after another.
 fn find_in_turn(
     alloc: Global,
@@ -53,7 +37,7 @@ fn find_in_turn(
 {
     let mut findings = Vec::new(alloc);
     for place in places {
-        if let Some(finding) = finding_at(alloc, reporting, run, place)? {
+        if let Some(finding) = finding_if(alloc, reporting, run, place)? {
             findings.push(finding)?;
         }
     }

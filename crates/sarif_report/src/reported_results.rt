@@ -1,21 +1,27 @@
 //! What is told of a result of a finished merged log, where it is reported.
-ghost use Rattle.std.specs.Prelude.{◌≡◌, not, map, IfOk, codes, chars, string_bytes};
+ghost use Rattle.std.specs.Prelude.{◌≡◌, Some, not, map, IfOk, codes, chars, string_bytes};
+ghost use Rattle.json_index.specs.Indexed.{data_of};
+ghost use Rattle.json_index.specs.Ordered.{IsOrdered};
+ghost use Rattle.sarif_records.specs.Listed.{value_at};
 ghost use Rattle.sarif_report.specs.Lookup.{position_in as position_of};
 ghost use Rattle.sarif_report.specs.Message.{message_of};
 ghost use Rattle.sarif_report.specs.PathOf.{path_of};
 ghost use Rattle.serde_json.specs.Find.{get};
 ghost use Rattle.serde_json.specs.View.{view, items_of};
-ghost use Rattle.sarif_counts.specs.CountOf.{suppresses, all_accepted, accepts};
+ghost use Rattle.sarif_counts.specs.CountOf.{suppresses, all_accepted, accepts, items_in};
 ghost use Rattle.sarif_counts.specs.Policy.{is_listed, severity as rank};
 ghost use Rattle.sarif_report.specs.Shown.{shown as text_shown};
 ghost use Rattle.sarif_report.specs.Reported as said;
 
+use crate::brief::brief;
 use crate::finding::Finding;
-use crate::lookup::{help_uri, position_in, rule_id, text_in, uri_of};
+use crate::indexed::{kept_member, text_at};
+use crate::lookup::{help_uri, position_in, rule_id, uri_of};
 use crate::message::push_message;
 use crate::path::push_path;
 use crate::reporting::Reporting;
 use crate::shown_text::{ShownText, shown};
+use json_index::Node;
 use sarif_counts::States;
 use sarif_records::{Level, State, Status, Text, driver_name};
 use serde_json::Value;
@@ -53,14 +59,25 @@ fn is_suppressing(suppressions: &[Value]) -> bool
     !suppressions.is_empty() && are_accepted(suppressions)
 }
 
-/// Whether a result isn't suppressed.
+/// Whether a result is suppressed that has this at `suppressions`.
 #[tactic(auto, using(crate::proofs::ReportedMore::items_in_array))]
-fn is_active(found: &Value) -> bool
-    ensures { result ≡ said.is_active (view found.now) }
+fn suppresses_by(found: &Value) -> bool
+    ensures { result ≡ suppresses (items_in (Some (view found.now))) }
 {
-    match found.get("suppressions").and_then(Value::as_array) {
-        Some(suppressions) => !is_suppressing(suppressions.as_slice()),
-        None => true,
+    match found.as_array() {
+        Some(suppressions) => is_suppressing(suppressions.as_slice()),
+        None => false,
+    }
+}
+
+/// Whether the result at this place isn't suppressed.
+fn is_active(alloc: Global, place: &Node<'_, '_>) -> Result<bool, AllocError>
+    requires { IsOrdered (data_of place.now) }
+    ensures { IfOk result (λ b. b ≡ said.is_active (value_at place.now)) }
+{
+    match kept_member(place, "suppressions") {
+        Some(found) => Ok(!suppresses_by(&found.to_value(alloc)?)),
+        None => Ok(true),
     }
 }
 
@@ -86,16 +103,18 @@ fn severity(level: Level) -> u8
     }
 }
 
-fn level_in(found: &Value) -> Option<Level>
-    ensures { result ≡ said.level_in (view found.now) }
+fn level_at(place: &Node<'_, '_>) -> Option<Level>
+    requires { IsOrdered (data_of place.now) }
+    ensures { result ≡ said.level_in (value_at place.now) }
 {
-    Level::from_name(text_in(found, "level")?)
+    Level::from_name(text_at(place, "level")?)
 }
 
-fn state_in(found: &Value) -> Option<State>
-    ensures { result ≡ said.state_in (view found.now) }
+fn state_at(place: &Node<'_, '_>) -> Option<State>
+    requires { IsOrdered (data_of place.now) }
+    ensures { result ≡ said.state_in (value_at place.now) }
 {
-    State::from_name(text_in(found, "baselineState")?)
+    State::from_name(text_at(place, "baselineState")?)
 }
 
 /// What is shown of a text.
@@ -239,25 +258,31 @@ fn finding_of(
     })
 }
 
-/// What is told of a result, where it is reported.
+/// What is told of the result at this place, where it is reported. Of one that isn't nothing more is read.
+#[tactic(auto, using(crate::proofs::BriefTells::told_brief))]
 pub(crate) fn finding_if(
     alloc: Global,
     reporting: &Reporting,
     run: &Value,
-    found: &Value,
+    place: &Node<'_, '_>,
 ) -> Result<Option<Finding>, AllocError>
+    requires { IsOrdered (data_of place.now) }
     ensures { IfOk result
-        (λ o. o ≡ said.finding_if reporting.now (view run.now) (view found.now)) }
+        (λ o. o ≡ said.finding_if reporting.now (view run.now) (value_at place.now)) }
 {
-    let Some(level) = level_in(found) else {
+    let Some(level) = level_at(place) else {
         return Ok(None);
     };
-    let Some(state) = state_in(found) else {
+    let Some(state) = state_at(place) else {
         return Ok(None);
     };
-    if lists(reporting.policy.states, state) && is_active(found) {
-        let finding = finding_of(alloc, reporting, run, found, level, state)?;
-        return Ok(Some(finding));
+    if !lists(reporting.policy.states, state) {
+        return Ok(None);
     }
-    Ok(None)
+    if !is_active(alloc, place)? {
+        return Ok(None);
+    }
+    let found = brief(alloc, place)?;
+    let finding = finding_of(alloc, reporting, run, &found, level, state)?;
+    Ok(Some(finding))
 }
