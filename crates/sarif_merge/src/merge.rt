@@ -1,23 +1,51 @@
 //! The merge of logs.
 ghost use Rattle.std.specs.Prelude.{◌≡◌, ◌≤◌, ◌⊎◌, [], Some, length, IfOk, IfErr};
+ghost use Rattle.std.specs.Prelude.{List};
+ghost use Rattle.sarif_suppress.specs.File.{File};
+ghost use Rattle.sarif_judge.specs.Placed.{Placed};
 ghost use Rattle.sarif_sources.specs.Failing.{IsQuiet};
-ghost use Rattle.sarif_assemble.specs.Assembled.{HasGate};
+ghost use Rattle.sarif_assemble.specs.Assembled.{HasGate, IsMergedBy};
+ghost use Rattle.sarif_assemble.specs.Prepared.{IsPrepared};
 ghost use Rattle.sarif_inputs.specs.Faults.{IsWanting, faults_of, first_fault};
 ghost use Rattle.sarif_merge.specs.Given.{inputs_of};
 ghost use Rattle.sarif_merge.specs.Merged.{HoldsFirst, IsMergeOf};
 ghost use Rattle.sarif_merge.specs.MergedLog.{output_text, runs_of, without_of, unused_in, written_inputs};
 
-use crate::preparing::prepare_few;
-use sarif_assemble::{Merged, assemble};
-use sarif_counts::Options;
+use crate::preparing::{make_scratches, prepare_few};
+use json::Scratch;
+use sarif_assemble::{Merged, Prepared, assemble};
+use sarif_counts::{Options, Policy};
 use sarif_gather::Gate;
 use sarif_inputs::check_numbers;
 use sarif_sources::{MergeFault, SourceBytes};
-use std::alloc::Global;
+use std::alloc::{AllocError, Global};
 use std::sync::Wait;
+use std::thread;
 use std::thread::Threads;
 
-/// Merges sources of which there are not too many. The log's text is made when their indexes are let go.
+/// The merged log of what was prepared, made while the scratches are let go.
+fn assemble_beside<R: Threads + Sync>(
+    rt: &R,
+    alloc: Global,
+    prepared: Prepared,
+    policy: &Policy,
+    scratches: Vec<Scratch>,
+) -> Result<Merged, AllocError>
+    ensures { IfOk result (λ merged. (file : File) (now before : List Placed)
+        → IsPrepared file now before prepared
+        → IsMergedBy file now before policy.now merged) }
+{
+    let write = move || -> Result<Merged, AllocError>
+        ensures { IfOk result (λ merged. (file : File) (now before : List Placed)
+            → IsPrepared file now before prepared
+            → IsMergedBy file now before policy.entry.now merged) }
+    { assemble(alloc, prepared, policy) };
+    let let_go = move || drop(scratches);
+    let (_, merged) = thread::join(rt, let_go, write);
+    merged
+}
+
+/// Merges sources of which there are not too many.
 pub(crate) fn merge_few<G: Gate + Sync, R: Threads + Wait + Sync>(
     rt: &R,
     alloc: Global,
@@ -30,8 +58,10 @@ pub(crate) fn merge_few<G: Gate + Sync, R: Threads + Wait + Sync>(
     ensures merge { IsMergeOf (inputs_of sources.now options.now) options.now.policy result }
     ensures quiet { IsQuiet result }
 {
-    let prepared = prepare_few(rt, alloc, sources, options, observer)?;
-    let merged = assemble(alloc, prepared, &options.policy)?;
+    let count = sources.logs.len() + sources.baselines.len();
+    let mut scratches = make_scratches(alloc, count)?;
+    let prepared = prepare_few(rt, alloc, sources, &mut scratches, options, observer)?;
+    let merged = assemble_beside(rt, alloc, prepared, &options.policy, scratches)?;
     Ok(merged)
 }
 

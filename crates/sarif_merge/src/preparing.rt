@@ -1,5 +1,5 @@
 //! What a merge writes: the sources are indexed, their results judged and matched.
-ghost use Rattle.std.specs.Prelude.{◌≡◌, ◌≤◌, ◌++◌, ℕ, List, length, map, option_map, IfOk};
+ghost use Rattle.std.specs.Prelude.{◌≡◌, ◌≤◌, ◌+◌, ◌++◌, ℕ, List, length, map, option_map, IfOk};
 ghost use Rattle.sarif_judge.specs.Judging.{faults_of_runs};
 ghost use Rattle.sarif_sources.specs.Failing.{IsQuiet};
 ghost use Rattle.sarif_assemble.specs.Prepared.{IsPrepared};
@@ -80,7 +80,7 @@ fn slice_of(bytes: &Option<Vec<u8>>) -> Option<&[u8]>
 }
 
 /// So many scratches, in which sources are indexed.
-fn make_scratches(alloc: Global, count: usize) -> Result<Vec<Scratch>, AllocError>
+pub(crate) fn make_scratches(alloc: Global, count: usize) -> Result<Vec<Scratch>, AllocError>
     ensures { IfOk result (λ scratches. length scratches.items ≡ count) }
 {
     let mut scratches = Vec::with_capacity(alloc, count)?;
@@ -90,14 +90,18 @@ fn make_scratches(alloc: Global, count: usize) -> Result<Vec<Scratch>, AllocErro
     Ok(scratches)
 }
 
-/// All that is written of the merge of sources of which there are not too many. Their indexes are let go.
+/// All that is written of the merge of sources of which there are not too many, each of which has a
+/// scratch. Their indexes are let go.
 pub(crate) fn prepare_few<G: Gate + Sync, R: Threads + Wait + Sync>(
     rt: &R,
     alloc: Global,
     sources: &SourceBytes,
+    scratches: &mut [Scratch],
     options: &Options,
     observer: &G,
 ) -> Result<Prepared, MergeFault>
+    requires scratches { length scratches.old
+        ≡ length sources.now.logs.items + length sources.now.baselines.items }
     requires few_logs { length sources.now.logs.items ≤ 1000 }
     requires few_baselines { length sources.now.baselines.items ≤ 1000 }
     ensures preparation { IsPreparationOf (inputs_of sources.now options.now) result }
@@ -105,9 +109,8 @@ pub(crate) fn prepare_few<G: Gate + Sync, R: Threads + Wait + Sync>(
 {
     let logs = sources.logs.as_slice();
     let baselines = sources.baselines.as_slice();
-    let mut scratches = make_scratches(alloc, logs.len() + baselines.len())?;
     let threads = options.workers + 1;
-    let indexes = index_sources(rt, alloc, logs, baselines, &mut scratches, threads)?;
+    let indexes = index_sources(rt, alloc, logs, baselines, scratches, threads)?;
     let runs = open_sources(alloc, options.seed, &indexes, logs.len())?;
     let file = slice_of(&sources.suppressions);
     let prepared = prepare_read(rt, alloc, runs, file, options, observer)?;
