@@ -16,7 +16,7 @@ use Rattle.sarif_report.specs.declared.reporting.Reporting.{Reporting}
 use Rattle.sarif_report.specs.Brief.{with_own, picked, told_names, brief}
 use Rattle.sarif_report.specs.Lookup.{text_in, number_in, own_rule_id, index_of_rule, rule_index, component_by, component_of, driver_of, rule_by, rule_in, descriptor_of, descriptor_id, rule_id, elements_in, physical_location, location_uri, position_number, position_in}
 use Rattle.sarif_report.specs.Message.{string_named, strings_of, own_string, shared_string, looked_up, text_by, message_of, filled, arguments_in, arguments_of}
-use Rattle.sarif_report.specs.Reported.{help_in, link_of, path_in, shown_path, only_with, line_in, column_in, finding_of}
+use Rattle.sarif_report.specs.Reported.{help_in, link_of, path_in, shown_path, only_with, line_in, finding_of}
 
 -- ---- members that are picked
 
@@ -125,11 +125,6 @@ line_same : (reporting : Reporting) (run x y : Data) → AreToldAlike x y → li
 line_same reporting run x y same =
     ap (λ o. only_with o (position_in (codes "startLine") x)) (path_same reporting run x y same)
     ∙ ap (only_with (path_in reporting run y)) (position_same (codes "startLine") x y same)
-
-column_same : (reporting : Reporting) (run x y : Data) → AreToldAlike x y → column_in reporting run x ≡ column_in reporting run y
-column_same reporting run x y same =
-    ap (λ o. only_with o (position_in (codes "startColumn") x)) (line_same reporting run x y same)
-    ∙ ap (only_with (line_in reporting run y)) (position_same (codes "startColumn") x y same)
 
 -- ---- the message
 
