@@ -121,11 +121,6 @@ position_same : (name : List ℕ) (x y : Data) → AreToldAlike x y → position
 position_same name x y same =
     ap (λ o. option_and_then position_number (option_and_then (number_in name) (option_and_then (get (codes "region")) o))) (place_same x y same)
 
-line_same : (reporting : Reporting) (run x y : Data) → AreToldAlike x y → line_in reporting run x ≡ line_in reporting run y
-line_same reporting run x y same =
-    ap (λ o. only_with o (position_in (codes "startLine") x)) (path_same reporting run x y same)
-    ∙ ap (only_with (path_in reporting run y)) (position_same (codes "startLine") x y same)
-
 -- ---- the message
 
 strings_same : (run x y : Data) → AreToldAlike x y → strings_of run x ≡ strings_of run y
