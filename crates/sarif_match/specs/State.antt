@@ -26,17 +26,17 @@ level_number Error = 3
 
 -- whether kind, effective level, message and place are equal
 abbrev pub is_unchanged : Record → Record → Bool
-is_unchanged now before =
-    (kind_number now.kind == kind_number before.kind) && ((level_number now.level == level_number before.level) && (message_eq now.message before.message && place_eq now.place before.place))
+is_unchanged current partner =
+    (kind_number current.kind == kind_number partner.kind) && ((level_number current.level == level_number partner.level) && (message_eq current.message partner.message && place_eq current.place partner.place))
 
 -- the state of a current result with this partner
 abbrev pub state_of : Record → Option Record → State
-state_of now None = New
-state_of now (Some before) = if is_unchanged now before then Unchanged else Updated
+state_of current None = New
+state_of current (Some partner) = if is_unchanged current partner then Unchanged else Updated
 
 -- kind, effective level, message and place are equal
-pub record IsUnchanged (now before : Record) : Type 0 where
-  pub kind : now.kind ≡ before.kind
-  pub level : now.level ≡ before.level
-  pub message : now.message ≡ before.message
-  pub place : now.place ≡ before.place
+pub record IsUnchanged (current partner : Record) : Type 0 where
+  pub kind : current.kind ≡ partner.kind
+  pub level : current.level ≡ partner.level
+  pub message : current.message ≡ partner.message
+  pub place : current.place ≡ partner.place

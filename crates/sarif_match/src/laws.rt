@@ -55,6 +55,6 @@ pub fn a_tier_adds_just_its_pairs()
 /// A result that has a partner is unchanged exactly where kind, effective level, message and place
 /// are those of the partner.
 pub fn unchanged_results_are_equal()
-    ensures { (now before : Record) →
-        (state_of now (Some before) ≡ Unchanged) ↔ IsUnchanged now before }
+    ensures { (current partner : Record) →
+        (state_of current (Some partner) ≡ Unchanged) ↔ IsUnchanged current partner }
 {}

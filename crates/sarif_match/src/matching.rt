@@ -95,10 +95,17 @@ pub fn match_all_with<'a, S: BuildHasher + Copy>(
         return Ok(Matching::of(progress));
     }
     let tiers = tiers(alloc, current, baseline)?;
-    let now = Side::new(alloc, hasher, current)?;
-    let before = Side::new(alloc, hasher, baseline)?;
+    let current_side = Side::new(alloc, hasher, current)?;
+    let baseline_side = Side::new(alloc, hasher, baseline)?;
     for tier in &tiers {
-        match_tier(alloc, hasher, &mut progress, tier, &now, &before)?;
+        match_tier(
+            alloc,
+            hasher,
+            &mut progress,
+            tier,
+            &current_side,
+            &baseline_side,
+        )?;
     }
     Ok(Matching::of(progress))
 }

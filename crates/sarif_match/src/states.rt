@@ -11,13 +11,13 @@ use sarif_records::{Record, State};
 pub fn state(current: &Record, partner: Option<&Record>) -> State
     ensures { result ≡ state_of current.now (option_copied partner.entry) }
 {
-    let Some(before) = partner else {
+    let Some(partner) = partner else {
         return State::New;
     };
-    if current.kind == before.kind
-        && current.level == before.level
-        && current.message == before.message
-        && current.place == before.place
+    if current.kind == partner.kind
+        && current.level == partner.level
+        && current.message == partner.message
+        && current.place == partner.place
     {
         State::Unchanged
     } else {

@@ -1,5 +1,5 @@
 -- How texts are hashed. A long one is hashed by a number that is worked out once and kept beside it, so that hashing a
--- text which many results share costs its bytes once.
+-- text which many results share costs its bytes once. No public clause of the merge speaks of it.
 use Rattle.std.specs.Prelude.{ℕ, List, [], ◌∷◌, length, nat_le, slice_index, if◌then◌else◌}
 use Rattle.std.specs.Int.{w64, from_be_bytes}
 use Rattle.std.specs.Hash as fed
