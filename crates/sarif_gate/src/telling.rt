@@ -5,7 +5,7 @@ ghost use Rattle.sarif_counts.specs.Summary.{summary_of};
 ghost use Rattle.sarif_report.specs.ReadBack.{told_of};
 ghost use Rattle.sarif_report.specs.declared.report.Report.TheVariants as kind;
 ghost use Rattle.sarif_report.specs.Report.{report_of};
-ghost use Rattle.sarif_gate.specs.Reports.{report_for, reporting_of, text_if, texts_for};
+ghost use Rattle.sarif_gate.specs.Reports.{AreBeside, report_for, reporting_of, texts_for};
 
 use sarif_merge::{Counts, Merged, Policy, summary};
 use sarif_records::Text;
@@ -55,18 +55,8 @@ impl Telling<'_> {
         alloc: Global,
         writers: &Reports<W>,
     ) -> Result<Reports<Text>, AllocError>
-        ensures text { IfOk result (λ texts. texts.text ≡ text_if writers.now.text
-            (report_of kind.Text (count_at self.now.counts.now) self.now.policy.now
-            self.now.findings.now)) }
-        ensures github { IfOk result (λ texts. texts.github ≡ text_if writers.now.github
-            (report_of kind.Github (count_at self.now.counts.now) self.now.policy.now
-            self.now.findings.now)) }
-        ensures markdown { IfOk result (λ texts. texts.markdown ≡ text_if writers.now.markdown
-            (report_of kind.Markdown (count_at self.now.counts.now) self.now.policy.now
-            self.now.findings.now)) }
-        ensures html { IfOk result (λ texts. texts.html ≡ text_if writers.now.html
-            (report_of kind.Html (count_at self.now.counts.now) self.now.policy.now
-            self.now.findings.now)) }
+        ensures { IfOk result (λ texts. AreBeside writers.now (λ one. report_of one
+            (count_at self.now.counts.now) self.now.policy.now self.now.findings.now) texts) }
     {
         let text = self.text_of(alloc, Report::Text, writers.text.is_some())?;
         let github = self.text_of(alloc, Report::Github, writers.github.is_some())?;
@@ -83,7 +73,6 @@ impl Telling<'_> {
 
     /// The texts of the reports that there are writers for. That for GitLab hashes each result, and is made in a
     /// thread of its own.
-    #[tactic(auto, using(crate::proofs::Asked::asked_text))]
     fn texts_of<W, T: Threads + Sync>(
         &self,
         rt: &T,
@@ -100,10 +89,27 @@ impl Telling<'_> {
                 (count_at telling.entry.counts.now) telling.entry.policy.now
                 telling.entry.findings.now) else None)) }
         { telling.text_of(alloc, Report::Gitlab, is_asked) };
-        let (gitlab, beside) = thread::join(rt, hashed, || self.texts_beside(alloc, writers));
-        let mut texts = beside?;
-        texts.gitlab = gitlab?;
-        Ok(texts)
+        let others = move || -> Result<Reports<Text>, AllocError>
+            ensures { IfOk result (λ texts. AreBeside writers.entry.now (λ one. report_of one
+                (count_at telling.entry.counts.now) telling.entry.policy.now
+                telling.entry.findings.now) texts) }
+        { telling.texts_beside(alloc, writers) };
+        let (gitlab, beside) = thread::join(rt, hashed, others);
+        let gitlab = gitlab?;
+        let Reports {
+            text,
+            github,
+            markdown,
+            html,
+            ..
+        } = beside?;
+        Ok(Reports {
+            text,
+            github,
+            markdown,
+            gitlab,
+            html,
+        })
     }
 }
 
@@ -121,7 +127,13 @@ fn findings_of<T: Threads + Sync>(
     let root = Text::copy_of(alloc, request.root.as_str())?;
     let reporting = Reporting { policy, root };
     let threads = request.options.workers + 1;
-    reported(rt, alloc, &reporting, merged.log.as_str().as_bytes(), threads)
+    reported(
+        rt,
+        alloc,
+        &reporting,
+        merged.log.as_str().as_bytes(),
+        threads,
+    )
 }
 
 /// The texts of the reports that there are writers for. Where there are none the log isn't looked at.
