@@ -1,10 +1,14 @@
 //! The log of nothing, worked by hand.
-use crate::{Judged, assemble, prepare};
+ghost use Rattle.std.specs.Prelude.{◌≡◌, []};
+
+use crate::{Judged, Merged, assemble, prepare};
 use sarif_counts::{Options, Policy, Verdict};
 use sarif_records::{Level, State};
 use sarif_suppress::Suppressions;
+use std::alloc::{AllocError, Global};
 use std::hash::RandomState;
 use std::test::Fail;
+use std::thread::Threads;
 
 const LOG: &str = "{\"properties\":{\"gate\":{\"counts\":{\
 \"absent\":{\"active\":[0,0,0,0],\"suppressed\":[0,0,0,0]},\
@@ -15,26 +19,44 @@ const LOG: &str = "{\"properties\":{\"gate\":{\"counts\":{\
 \"states\":[\"new\",\"updated\"],\"unusedSuppressions\":0,\"verdict\":\"pass\"}},\
 \"runs\":[],\"version\":\"2.1.0\"}";
 
+fn no_runs<'t, 'a>(alloc: Global) -> Judged<'t, 'a>
+    ensures runs { result.runs.items ≡ [] }
+    ensures outcomes { result.outcomes.items ≡ [] }
+{
+    Judged {
+        runs: Vec::new(alloc),
+        outcomes: Vec::new(alloc),
+    }
+}
+
+fn merge_nothing<R: Threads + Sync>(
+    rt: &R,
+    alloc: Global,
+    file: &Suppressions,
+    options: &Options,
+) -> Result<Merged, AllocError> {
+    let prepared = prepare(rt, alloc, no_runs(alloc), no_runs(alloc), file, options)?;
+    assemble(alloc, prepared, &options.policy)
+}
+
+fn merge_without_file<R: Threads + Sync>(
+    rt: &R,
+    alloc: Global,
+    options: &Options,
+) -> Result<Merged, AllocError> {
+    let file = Suppressions::none(alloc, options.seed, None)?;
+    merge_nothing(rt, alloc, &file, options)
+}
+
 #[test]
 fn without_runs_the_log_holds_its_gate(rt: HostRuntime) -> Result<(), Fail> {
-    let alloc = rt.alloc();
-    let current = Judged {
-        runs: Vec::new(alloc),
-        outcomes: Vec::new(alloc),
-    };
-    let baseline = Judged {
-        runs: Vec::new(alloc),
-        outcomes: Vec::new(alloc),
-    };
     let options = Options {
         policy: Policy::default(),
         today: None,
         workers: 1,
         seed: RandomState::new(&rt)?,
     };
-    let file = Suppressions::none(alloc, options.seed, None)?;
-    let prepared = prepare(&rt, alloc, current, baseline, &file, &options)?;
-    let merged = assemble(alloc, prepared, &options.policy)?;
+    let merged = merge_without_file(&rt, rt.alloc(), &options)?;
     assert_eq!(rt; merged.log.as_str(), LOG);
     assert!(rt; merged.verdict == Verdict::Pass);
     assert_eq!(rt; merged.counts.get(State::New, Level::Error, false), 0);

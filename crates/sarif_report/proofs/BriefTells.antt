@@ -1,4 +1,4 @@
--- What is told of a result, beside its level and its state, rests on five of its members.
+-- What is told of a result, beside its level, its state and its place, rests on four of its members.
 use Rattle.std.proofs.Common.{◌≡◌, ◌||◌, ℕ, Bool, true, false, List, [], ◌∷◌, Option, Some, None, codes, bytes_eq, refl, sym, ap, ◌∙◌}
 use Rattle.std.specs.Prelude.{chars, is_some, option_and_then, unwrap_or, if◌then◌else◌}
 use Rattle.std.specs.List.{list_any}
@@ -6,17 +6,12 @@ use Rattle.std.specs.Option.{option_or}
 use Rattle.std.proofs.lemmas.Bool.{true≢false}
 use Rattle.std.proofs.lemmas.Slice.Eq.{bytes_eq-Decides}
 use Rattle.serde_json.specs.Data.{Data, Members}
-use Rattle.serde_json.specs.Find.{get, get_member, as_str, as_array, as_number, as_u64}
+use Rattle.serde_json.specs.Find.{get, get_member, as_str, as_number, as_u64}
 use Rattle.serde_json.proofs.Views.{get_member-put, get_member-put_other}
-use Rattle.sarif_records.specs.declared.kinds.Level.{Level}
-use Rattle.sarif_records.specs.declared.kinds.State.{State}
-use Rattle.sarif_records.specs.Members.{first_of}
-use Rattle.sarif_records.specs.Run.{elements_or_none}
-use Rattle.sarif_report.specs.declared.reporting.Reporting.{Reporting}
 use Rattle.sarif_report.specs.Brief.{with_own, picked, told_names, brief}
-use Rattle.sarif_report.specs.Lookup.{text_in, number_in, own_rule_id, index_of_rule, rule_index, component_by, component_of, driver_of, rule_by, rule_in, descriptor_of, descriptor_id, rule_id, elements_in, physical_location, location_uri, position_number, position_in}
+use Rattle.sarif_report.specs.Lookup.{text_in, number_in, own_rule_id, index_of_rule, rule_index, component_by, component_of, driver_of, rule_by, rule_in, descriptor_of, descriptor_id, rule_id, elements_in}
 use Rattle.sarif_report.specs.Message.{string_named, strings_of, own_string, shared_string, looked_up, text_by, message_of, filled, arguments_in, arguments_of}
-use Rattle.sarif_report.specs.Reported.{help_in, link_of, path_in, shown_path, only_with, line_in, finding_of}
+use Rattle.sarif_report.specs.Reported.{help_in, link_of}
 
 -- ---- members that are picked
 
@@ -61,7 +56,6 @@ record AreToldAlike (x y : Data) : Type 0 where
   pub rule : get (codes "rule") x ≡ get (codes "rule") y
   pub rule_index : get (codes "ruleIndex") x ≡ get (codes "ruleIndex") y
   pub message : get (codes "message") x ≡ get (codes "message") y
-  pub locations : get (codes "locations") x ≡ get (codes "locations") y
 
 brief_alike : (d : Data) → AreToldAlike (brief d) d
 brief_alike d = record {
@@ -69,7 +63,6 @@ brief_alike d = record {
   rule = picked_get (codes "rule") told_names d refl;
   rule_index = picked_get (codes "ruleIndex") told_names d refl;
   message = picked_get (codes "message") told_names d refl;
-  locations = picked_get (codes "locations") told_names d refl;
 }
 
 -- ---- the rule
@@ -107,20 +100,6 @@ help_same : (run x y : Data) → AreToldAlike x y → help_in run x ≡ help_in 
 help_same run x y same =
     ap (λ d. option_and_then link_of (option_and_then (text_in (codes "helpUri")) d)) (descriptor_same run x y same)
 
--- ---- the place
-
-place_same : (x y : Data) → AreToldAlike x y → physical_location x ≡ physical_location y
-place_same x y same =
-    ap (λ o. option_and_then (get (codes "physicalLocation")) (first_of (elements_or_none (option_and_then as_array o)))) same.locations
-
-path_same : (reporting : Reporting) (run x y : Data) → AreToldAlike x y → path_in reporting run x ≡ path_in reporting run y
-path_same reporting run x y same =
-    ap (λ o. option_and_then (shown_path reporting.root) (option_and_then (location_uri run) (option_and_then (get (codes "artifactLocation")) o))) (place_same x y same)
-
-position_same : (name : List ℕ) (x y : Data) → AreToldAlike x y → position_in name x ≡ position_in name y
-position_same name x y same =
-    ap (λ o. option_and_then position_number (option_and_then (number_in name) (option_and_then (get (codes "region")) o))) (place_same x y same)
-
 -- ---- the message
 
 strings_same : (run x y : Data) → AreToldAlike x y → strings_of run x ≡ strings_of run y
@@ -149,14 +128,13 @@ message_same run x y same =
 
 -- ---- the whole
 
-finding_same : (reporting : Reporting) (run x y : Data) (level : Level) (state : State) → AreToldAlike x y
-    → finding_of reporting run x level state ≡ finding_of reporting run y level state
-unfolding finding_of
-finding_same reporting run x y level state same =
-    rw (id_same run x y same, message_same run x y same, path_same reporting run x y same, position_same (codes "startLine") x y same, position_same (codes "startColumn") x y same, help_same run x y same)
-    refl
+pub told_rule : (run result : Data) → rule_id run (brief result) ≡ rule_id run result
+told_rule run result = id_same run (brief result) result (brief_alike result)
 
--- what is told of a result is told of those members of it
-pub told_brief : (reporting : Reporting) (run result : Data) (level : Level) (state : State)
-    → finding_of reporting run (brief result) level state ≡ finding_of reporting run result level state
-told_brief reporting run result level state = finding_same reporting run (brief result) result level state (brief_alike result)
+pub told_help : (run result : Data) → help_in run (brief result) ≡ help_in run result
+told_help run result = help_same run (brief result) result (brief_alike result)
+
+pub told_message : (run result : Data) → message_of run (brief result) ≡ message_of run result
+told_message run result = message_same run (brief result) result (brief_alike result)
+
+pub ruleset told_brief = (told_rule, told_help, told_message)

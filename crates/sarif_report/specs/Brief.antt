@@ -12,9 +12,9 @@ abbrev pub picked : List (List ℕ) → Data → Members
 picked [] d = no_members
 picked (name ∷ names) d = with_own name (get name d) (picked names d)
 
--- the members that are told of a result, beside its level and its state
+-- the members that are told of a result, beside its level, its state and its place
 abbrev pub told_names : List (List ℕ)
-told_names = codes "locations" ∷ codes "message" ∷ codes "ruleIndex" ∷ codes "rule" ∷ codes "ruleId" ∷ []
+told_names = codes "message" ∷ codes "ruleIndex" ∷ codes "rule" ∷ codes "ruleId" ∷ []
 
 abbrev pub brief : Data → Data
 brief result = object (picked told_names result)

@@ -54,6 +54,5 @@ pub(crate) fn brief(alloc: Global, found: &Node<'_, '_>) -> Result<Value, AllocE
     copy_member(alloc, &mut members, found, "rule")?;
     copy_member(alloc, &mut members, found, "ruleIndex")?;
     copy_member(alloc, &mut members, found, "message")?;
-    copy_member(alloc, &mut members, found, "locations")?;
     Ok(Value::Object(members))
 }

@@ -4,7 +4,7 @@ ghost use Rattle.serde_json.specs.Find.{get};
 ghost use Rattle.json_index.specs.Indexed.{data_of};
 ghost use Rattle.json_index.specs.Ordered.{IsOrdered};
 ghost use Rattle.sarif_records.specs.Listed.{value_at, AreOrdered};
-ghost use Rattle.sarif_report.specs.Lookup.{elements_in, text_in};
+ghost use Rattle.sarif_report.specs.Lookup.{elements_in, number_in, text_in};
 
 use json_index::Node;
 use std::alloc::{AllocError, Global};
@@ -35,6 +35,21 @@ pub(crate) fn text_at<'a>(node: &Node<'_, 'a>, name: &str) -> Option<&'a str>
     ensures { option_map (λ s. s.now) result ≡ text_in name.now (value_at node.now) }
 {
     kept_member(node, name)?.as_str()
+}
+
+/// The whole number `name` of an object, which is at least 0.
+pub(crate) fn number_at(
+    alloc: Global,
+    node: &Node<'_, '_>,
+    name: &str,
+) -> Result<Option<u64>, AllocError>
+    requires { IsOrdered (data_of node.now) }
+    ensures { IfOk result (λ number. number ≡ number_in name.now (value_at node.now)) }
+{
+    match kept_member(node, name) {
+        Some(found) => Ok(found.to_value(alloc)?.as_u64()),
+        None => Ok(None),
+    }
 }
 
 /// The places of the elements of the array `name` of an object.

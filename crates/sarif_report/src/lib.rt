@@ -20,6 +20,7 @@ mod report;
 mod reported_results;
 mod reporting;
 mod shown_text;
+mod spot;
 #[cfg(test)]
 mod tests;
 mod text_lines;

@@ -1,8 +1,7 @@
-//! What a result of a merged log names: its rule and its place. A member of another kind than is looked for counts
-//! as absent.
+//! What a result of a merged log names: its rule, and artifacts of its run. A member of another kind than is looked
+//! for counts as absent.
 ghost use Rattle.std.specs.Prelude.{◌≡◌, map, option_map, option_and_then, find};
 ghost use Rattle.serde_json.specs.View.{view};
-ghost use Rattle.sarif_records.specs.Members.{first_of};
 ghost use Rattle.sarif_report.specs.Lookup as said;
 
 use serde_json::Value;
@@ -167,49 +166,9 @@ pub(crate) fn help_uri<'a>(run: &'a Value, found: &Value) -> Option<&'a str>
     text_in(descriptor_of(run, found)?, "helpUri")
 }
 
-/// `locations[0].physicalLocation`.
-fn physical_location(found: &Value) -> Option<&Value>
-    ensures { option_map (λ v. view v.now) result ≡ said.physical_location (view found.now) }
-{
-    match elements_in(found, "locations") {
-        [] => None,
-        [first, ..] => first.get("physicalLocation"),
-    }
-}
-
 /// `artifacts[index].location.uri`.
-fn artifact_uri(run: &Value, index: u64) -> Option<&str>
+pub(crate) fn artifact_uri(run: &Value, index: u64) -> Option<&str>
     ensures { option_map (λ s. s.now) result ≡ said.artifact_uri (view run.now) index }
 {
     text_in(element_at(run, "artifacts", index)?.get("location")?, "uri")
-}
-
-/// The uri of an artifact location, else that of the artifact whose index it has.
-fn location_uri<'a>(run: &'a Value, location: &'a Value) -> Option<&'a str>
-    ensures { option_map (λ s. s.now) result
-        ≡ said.location_uri (view run.now) (view location.now) }
-{
-    match text_in(location, "uri") {
-        Some(uri) => Some(uri),
-        None => artifact_uri(run, number_in(location, "index")?),
-    }
-}
-
-/// The uri of a result's place.
-pub(crate) fn uri_of<'a>(run: &'a Value, found: &'a Value) -> Option<&'a str>
-    ensures { option_map (λ s. s.now) result ≡ said.uri_of (view run.now) (view found.now) }
-{
-    location_uri(run, physical_location(found)?.get("artifactLocation")?)
-}
-
-/// A member of the region, as a line or a column: a whole number from 1 to 2^32 - 1.
-pub(crate) fn position_in(found: &Value, name: &str) -> Option<u32>
-    ensures { result ≡ said.position_in name.now (view found.now) }
-{
-    let number = number_in(physical_location(found)?.get("region")?, name)?;
-    if 1 <= number && number < 4_294_967_296 {
-        Some(number as u32)
-    } else {
-        None
-    }
 }

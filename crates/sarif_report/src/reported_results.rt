@@ -3,9 +3,7 @@ ghost use Rattle.std.specs.Prelude.{◌≡◌, Some, not, map, IfOk, codes, char
 ghost use Rattle.json_index.specs.Indexed.{data_of};
 ghost use Rattle.json_index.specs.Ordered.{IsOrdered};
 ghost use Rattle.sarif_records.specs.Listed.{value_at};
-ghost use Rattle.sarif_report.specs.Lookup.{position_in as position_of};
 ghost use Rattle.sarif_report.specs.Message.{message_of};
-ghost use Rattle.sarif_report.specs.PathOf.{path_of};
 ghost use Rattle.serde_json.specs.Find.{get};
 ghost use Rattle.serde_json.specs.View.{view, items_of};
 ghost use Rattle.sarif_counts.specs.CountOf.{suppresses, all_accepted, accepts, items_in};
@@ -16,11 +14,11 @@ ghost use Rattle.sarif_report.specs.Reported as said;
 use crate::brief::brief;
 use crate::finding::Finding;
 use crate::indexed::{kept_member, text_at};
-use crate::lookup::{help_uri, position_in, rule_id, uri_of};
+use crate::lookup::{help_uri, rule_id};
 use crate::message::push_message;
-use crate::path::push_path;
 use crate::reporting::Reporting;
 use crate::shown_text::{ShownText, shown};
+use crate::spot::{Spot, spot_of};
 use json_index::Node;
 use sarif_counts::States;
 use sarif_records::{Level, State, Status, Text, driver_name};
@@ -178,71 +176,26 @@ fn message_in(alloc: Global, run: &Value, found: &Value) -> Result<Text, AllocEr
     Text::from_string(message)
 }
 
-/// What is shown of a uri as a path.
-fn shown_uri(alloc: Global, root: &str, uri: &str) -> Result<String, AllocError>
-    ensures { IfOk result
-        (λ s. string_bytes s ≡ text_shown (chars (path_of root.now uri.now))) }
-{
-    let mut so_far = ShownText::new(alloc);
-    push_path(alloc, &mut so_far, root, uri)?;
-    Ok(so_far.finish())
-}
-
-fn shown_path(alloc: Global, root: &str, uri: &str) -> Result<Option<Text>, AllocError>
-    ensures { IfOk result (λ o. o ≡ said.shown_path root.now uri.now) }
-{
-    let path = shown_uri(alloc, root, uri)?;
-    if path.is_empty() {
-        return Ok(None);
-    }
-    Ok(Some(Text::from_string(path)?))
-}
-
-fn path_in(
-    alloc: Global,
-    reporting: &Reporting,
-    run: &Value,
-    found: &Value,
-) -> Result<Option<Text>, AllocError>
-    ensures { IfOk result
-        (λ o. o ≡ said.path_in reporting.now (view run.now) (view found.now)) }
-{
-    match uri_of(run, found) {
-        None => Ok(None),
-        Some(uri) => shown_path(alloc, reporting.root.as_str(), uri),
-    }
-}
-
-/// A member of the region, where that which it is told beside is there.
-fn position_with<T>(beside: &Option<T>, found: &Value, name: &str) -> Option<u32>
-    ensures { result ≡ said.only_with beside.now (position_of name.now (view found.now)) }
-{
-    match beside {
-        None => None,
-        Some(_) => position_in(found, name),
-    }
-}
-
-/// What is told of a result.
-#[tactic(auto, unfolding(crate::specs::Reported::finding_of))]
+/// What is told of the result at this place, which has this level and state.
+#[tactic(auto, using(crate::proofs::BriefTells::told_brief), unfolding(crate::specs::Reported::finding_of))]
 fn finding_of(
     alloc: Global,
     reporting: &Reporting,
     run: &Value,
-    found: &Value,
+    place: &Node<'_, '_>,
     level: Level,
     state: State,
 ) -> Result<Finding, AllocError>
+    requires { IsOrdered (data_of place.now) }
     ensures { IfOk result (λ finding. finding
-        ≡ said.finding_of reporting.now (view run.now) (view found.now) level state) }
+        ≡ said.finding_of reporting.now (view run.now) (value_at place.now) level state) }
 {
+    let found = brief(alloc, place)?;
     let tool = shown_copy(alloc, tool_name(run))?;
-    let rule = shown_copy(alloc, rule_id(run, found))?;
-    let message = message_in(alloc, run, found)?;
-    let path = path_in(alloc, reporting, run, found)?;
-    let line = position_with(&path, found, "startLine");
-    let column = position_with(&line, found, "startColumn");
-    let help = help_in(alloc, run, found)?;
+    let rule = shown_copy(alloc, rule_id(run, &found))?;
+    let message = message_in(alloc, run, &found)?;
+    let help = help_in(alloc, run, &found)?;
+    let Spot { path, line, column } = spot_of(alloc, reporting, run, place)?;
     let hit = severity(reporting.policy.fail_on) <= severity(level);
     Ok(Finding {
         tool,
@@ -259,7 +212,6 @@ fn finding_of(
 }
 
 /// What is told of the result at this place, where it is reported. Of one that isn't nothing more is read.
-#[tactic(auto, using(crate::proofs::BriefTells::told_brief))]
 pub(crate) fn finding_if(
     alloc: Global,
     reporting: &Reporting,
@@ -282,7 +234,6 @@ pub(crate) fn finding_if(
     if !is_active(alloc, place)? {
         return Ok(None);
     }
-    let found = brief(alloc, place)?;
-    let finding = finding_of(alloc, reporting, run, &found, level, state)?;
+    let finding = finding_of(alloc, reporting, run, place, level, state)?;
     Ok(Some(finding))
 }
