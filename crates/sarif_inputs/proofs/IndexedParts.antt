@@ -1,7 +1,5 @@
 -- The sources whose indexes these are, taken apart.
-use Rattle.std.proofs.Common.{◌≡◌, ◌≤◌, ℕ, List, [], ◌∷◌, ◌++◌, take, drop, map, Result, length, refl, arith, sym, ap, ◌∙◌, subst}
-use Rattle.std.proofs.lemmas.List.{length-append, map-append}
-use Rattle.std.specs.Prelude.{Ok, Err, None, Some}
+use Rattle.std.proofs.Common.{◌≡◌, ℕ, List, [], ◌∷◌, ◌++◌, take, drop, map, Result, length, refl, arith, subst}
 use Rattle.json.specs.Token.{Token}
 use Rattle.json_index.specs.declared.indexing.IndexFault.{IndexFault}
 use Rattle.json_index.specs.Together.{IsIndexed, AreIndexed}

@@ -1,5 +1,5 @@
 -- The runs of all sources, taken apart into those of logs and those of baselines.
-use Rattle.std.proofs.Common.{◌≡◌, ◌≤◌, ◌+◌, ℕ, List, [], ◌++◌, take, drop, map, length, length-append, arith, sym, ap, ◌∙◌}
+use Rattle.std.proofs.Common.{◌≡◌, ◌≤◌, ◌+◌, ℕ, List, [], take, drop, map, length, length-append, arith, sym, ap, ◌∙◌}
 use Rattle.std.proofs.lemmas.List.{length-map, map-append, take-map, drop-map}
 use Rattle.sarif_records.specs.Run.{results_total}
 use Rattle.sarif_sources.specs.declared.fault.Source.TheVariants.{Log, Baseline}

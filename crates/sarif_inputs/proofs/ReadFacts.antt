@@ -10,7 +10,6 @@ use Rattle.serde_json.specs.Written.{has_float}
 use Rattle.sarif_records.specs.declared.fault.ReadFault.{ReadFault}
 use Rattle.sarif_records.specs.Reading.{log_of}
 use Rattle.sarif_sources.specs.declared.fault.MergeFault.{MergeFault}
-use Rattle.sarif_sources.specs.declared.fault.Source.{Source}
 use Rattle.sarif_sources.specs.declared.fault.Source.TheVariants.{Log, Baseline}
 use Rattle.sarif_inputs.specs.Inputs.{Sourced, data_of, numbered, placed, placed_from, readable, runs_in}
 use Rattle.sarif_judge.specs.Judging.{skips}

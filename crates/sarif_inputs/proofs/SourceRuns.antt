@@ -9,10 +9,10 @@ use Rattle.sarif_records.specs.Indexed.{run_of}
 use Rattle.sarif_records.specs.declared.indexed_run.IndexedRun.{IndexedRun}
 use Rattle.sarif_records.specs.Run.{results_total}
 use Rattle.sarif_sources.specs.declared.fault.Source.{Source}
-use Rattle.sarif_judge.specs.declared.opened.OpenedRun.{OpenedRun}
+use Rattle.sarif_inputs.specs.declared.read_run.ReadRun.{ReadRun}
 use Rattle.sarif_judge.specs.Placed.{Placed}
 use Rattle.sarif_inputs.specs.Inputs.{data_of, placed_from}
-use Rattle.sarif_judge.specs.Opened.{placed_of}
+use Rattle.sarif_inputs.specs.ReadRun.{placed_read}
 
 placed_push : (source : Source) (n : ℕ) (ds : List Data) (d : Data)
     → placed_from source n (ds ++ d ∷ []) ≡ placed_from source n ds ++ record { source = source; number = n + length ds; run = d } ∷ []
@@ -55,14 +55,14 @@ total_more ps source ds =
     ∙ ap (λ es. results_total (data_of ps) + results_total es) (data_placed source 0 ds)
 
 -- the same for the runs as the code holds them: how many there are, and their results
-pub counted_more : (old new : List OpenedRun) (source : Source) (ds : List Data)
-    → map placed_of new ≡ map placed_of old ++ placed_from source 0 ds
-    → (length new ≡ length old + length ds) × (results_total (data_of (map placed_of new)) ≡ results_total (data_of (map placed_of old)) + results_total ds)
+pub counted_more : (old new : List ReadRun) (source : Source) (ds : List Data)
+    → map placed_read new ≡ map placed_read old ++ placed_from source 0 ds
+    → (length new ≡ length old + length ds) × (results_total (data_of (map placed_read new)) ≡ results_total (data_of (map placed_read old)) + results_total ds)
 counted_more old new source ds same =
-    let long : length (map placed_of new) ≡ length (map placed_of old) + length ds =
-    ap length same ∙ length-append (map placed_of old) (placed_from source 0 ds) ∙ ap (λ n. length (map placed_of old) + n) (length_placed source 0 ds) in (
-      omega (arith, long, length-map new placed_of, length-map old placed_of),
-      ap (λ ps. results_total (data_of ps)) same ∙ total_more (map placed_of old) source ds,
+    let long : length (map placed_read new) ≡ length (map placed_read old) + length ds =
+    ap length same ∙ length-append (map placed_read old) (placed_from source 0 ds) ∙ ap (λ n. length (map placed_read old) + n) (length_placed source 0 ds) in (
+      omega (arith, long, length-map new placed_read, length-map old placed_read),
+      ap (λ ps. results_total (data_of ps)) same ∙ total_more (map placed_read old) source ds,
     )
 
 -- where none of some runs holds a number with a fraction, one of them holds none

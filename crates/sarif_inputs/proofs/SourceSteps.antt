@@ -9,7 +9,7 @@ use Rattle.sarif_inputs.specs.declared.sources.Reading.{Reading}
 use Rattle.sarif_judge.specs.Placed.{Placed}
 use Rattle.sarif_inputs.specs.Inputs.{data_of, Sourced, numbered, placed, placed_from, readable, runs_in}
 use Rattle.sarif_inputs.specs.Faults.{first, IsWanting}
-use Rattle.sarif_judge.specs.Opened.{placed_of}
+use Rattle.sarif_inputs.specs.ReadRun.{placed_read}
 use Rattle.sarif_inputs.specs.ReadSoFar.{IsCounted, faults_with}
 use Rattle.sarif_inputs.specs.SourceFaults.{source_faults, reading_faults, limit_faults}
 use Rattle.sarif_inputs.proofs.SourceAnswers.{still_first}
@@ -25,15 +25,15 @@ faults_step name n runs results now all bytes rest same_now same_all none =
     rw (same_now, same_all) (sym (ap (λ faults. faults ++ then) none))
 
 pub source_step : (name : ℕ → Source) (n : ℕ) (old new : Reading) (bytes : List ℕ) (rest : List (List ℕ))
-    → map placed_of new.runs.items ≡ map placed_of old.runs.items ++ placed_from (name n) 0 (readable (log_of bytes))
+    → map placed_read new.runs.items ≡ map placed_read old.runs.items ++ placed_from (name n) 0 (readable (log_of bytes))
     → new.results ≡ old.results + results_total (readable (log_of bytes))
     → faults_with (name n) (log_of bytes) (length old.runs.items) old.results ≡ []
-    → (map placed_of new.runs.items ++ placed (numbered name (n + 1) rest) ≡ map placed_of old.runs.items ++ placed (numbered name n (bytes ∷ rest))) × (source_faults (length new.runs.items) new.results (numbered name (n + 1) rest) ≡ source_faults (length old.runs.items) old.results (numbered name n (bytes ∷ rest)))
+    → (map placed_read new.runs.items ++ placed (numbered name (n + 1) rest) ≡ map placed_read old.runs.items ++ placed (numbered name n (bytes ∷ rest))) × (source_faults (length new.runs.items) new.results (numbered name (n + 1) rest) ≡ source_faults (length old.runs.items) old.results (numbered name n (bytes ∷ rest)))
 source_step name n old new bytes rest runs results none =
     let here = placed_from (name n) 0 (readable (log_of bytes)) in
     let then = placed (numbered name (n + 1) rest) in
     let long = counted_more old.runs.items new.runs.items (name n) (readable (log_of bytes)) runs in (
-      ap (λ ps. ps ++ then) runs ∙ append_assoc (map placed_of old.runs.items) here then,
+      ap (λ ps. ps ++ then) runs ∙ append_assoc (map placed_read old.runs.items) here then,
       faults_step name n (length old.runs.items) old.results (length new.runs.items) new.results bytes rest long.0 results none,
     )
 
@@ -68,10 +68,10 @@ faults_append runs results (s ∷ ls) bs =
 
 -- once the logs are read with no fault, what is left are the faults of the baselines
 pub faults_after : (ls bs : List Sourced) (reading : Reading)
-    → IsCounted reading → map placed_of reading.runs.items ≡ placed ls → source_faults 0 0 ls ≡ []
+    → IsCounted reading → map placed_read reading.runs.items ≡ placed ls → source_faults 0 0 ls ≡ []
     → source_faults 0 0 (ls ++ bs) ≡ source_faults (length reading.runs.items) reading.results bs
 faults_after ls bs reading counted runs none =
-    let long : 0 + length (placed ls) ≡ length reading.runs.items = omega (arith, ap length runs, length-map reading.runs.items placed_of) in
+    let long : 0 + length (placed ls) ≡ length reading.runs.items = omega (arith, ap length runs, length-map reading.runs.items placed_read) in
     let total : 0 + results_total (data_of (placed ls)) ≡ reading.results = omega (arith, counted.2, ap (λ ps. results_total (data_of ps)) runs) in
     let then = source_faults (0 + length (placed ls)) (0 + results_total (data_of (placed ls))) bs in
     faults_append 0 0 ls bs
@@ -94,8 +94,8 @@ module _ (ls bs : List Sourced) (start : Reading) (no_runs : start.runs.items �
   -- with the logs read, the faults are those of the baselines
   pub left_after_logs : (reading : Reading)
       → IsCounted reading
-      → map placed_of reading.runs.items ≡ map placed_of start.runs.items ++ placed ls
+      → map placed_read reading.runs.items ≡ map placed_read start.runs.items ++ placed ls
       → source_faults (length start.runs.items) start.results ls ≡ []
       → source_faults 0 0 (ls ++ bs) ≡ source_faults (length reading.runs.items) reading.results bs
   left_after_logs reading counted runs none =
-      faults_after ls bs reading counted (runs ∙ ap (λ vs. map placed_of vs ++ placed ls) no_runs) (sym (at_start ls) ∙ none)
+      faults_after ls bs reading counted (runs ∙ ap (λ vs. map placed_read vs ++ placed ls) no_runs) (sym (at_start ls) ∙ none)

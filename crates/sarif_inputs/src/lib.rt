@@ -3,6 +3,8 @@
 #![tactic(auto)]
 
 mod indexes;
+mod opening;
+mod read_run;
 mod sources;
 mod suppression_file;
 

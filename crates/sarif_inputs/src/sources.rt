@@ -9,15 +9,17 @@ ghost use Rattle.sarif_records.specs.Reading.{log_of, without_mark};
 ghost use Rattle.sarif_records.specs.Run.{results_total};
 ghost use Rattle.sarif_sources.specs.Failing.{IsQuiet};
 ghost use Rattle.sarif_sources.specs.SourceKind.{source_of};
-ghost use Rattle.sarif_judge.specs.Opened.{placed_of};
 ghost use Rattle.sarif_inputs.specs.Faults.{Answers, IsTooMany, number_faults};
 ghost use Rattle.sarif_inputs.specs.Inputs.{data_of, numbered, placed, placed_from, readable};
 ghost use Rattle.sarif_inputs.specs.Indexes.{AreIndexesOf};
 ghost use Rattle.sarif_inputs.specs.Parsed.{IsParsedFrom};
+ghost use Rattle.sarif_inputs.specs.ReadRun.{placed_read};
 ghost use Rattle.sarif_inputs.specs.ReadSoFar.{IsCounted, faults_with, sources_of};
 ghost use Rattle.sarif_inputs.specs.Runs.{AreRunsOf};
 ghost use Rattle.sarif_inputs.specs.SourceFaults.{reading_faults, limit_faults, source_faults};
 
+use crate::opening::open_each;
+use crate::read_run::ReadRun;
 use json_index::{Index, IndexFault};
 use sarif_judge::OpenedRun;
 use sarif_records::{
@@ -26,6 +28,7 @@ use sarif_records::{
 use sarif_sources::{At, Cause, MergeFault, Source, SourceKind};
 use std::alloc::{AllocError, Global};
 use std::hash::RandomState;
+use std::thread::Threads;
 
 /// How many sources of each kind a merge may have.
 const MOST_SOURCES: usize = 1_000;
@@ -40,7 +43,7 @@ pub struct Runs<'t, 'a> {
 /// The runs of all sources in order, those of the logs first.
 #[derive(Drop)]
 struct AllRuns<'t, 'a> {
-    all: Vec<OpenedRun<'t, 'a>>,
+    all: Vec<ReadRun<'t, 'a>>,
     /// How many of them are those of logs.
     inputs: u32,
 }
@@ -135,23 +138,21 @@ fn count_results(runs: &[IndexedRun<'_, '_>]) -> u32
     results
 }
 
-/// Opens the runs of a source, and adds them with their numbers.
+/// Adds the runs of a source with their numbers.
 fn place_runs<'t, 'a>(
-    alloc: Global,
-    seed: RandomState,
     source: Source,
     runs: Vec<IndexedRun<'t, 'a>>,
-    all: &mut Vec<OpenedRun<'t, 'a>>,
+    all: &mut Vec<ReadRun<'t, 'a>>,
 ) -> Result<(), AllocError>
     requires few { length runs.items ≤ 10000 }
     requires whole { list_any has_float (map run_of runs.items) ≡ false }
-    ensures { OnOk result (map placed_of all.new.items
-        ≡ map placed_of all.old.items ++ placed_from source 0 (map run_of runs.entry.items)) }
+    ensures { OnOk result (map placed_read all.new.items
+        ≡ map placed_read all.old.items ++ placed_from source 0 (map run_of runs.entry.items)) }
 {
     let mut number = 0;
     for run in runs {
-        let opened = OpenedRun::open(alloc, seed, source, number, run)?;
-        all.push(opened)?;
+        let read = ReadRun::new(source, number, run);
+        all.push(read)?;
         number += 1;
     }
     Ok(())
@@ -160,7 +161,7 @@ fn place_runs<'t, 'a>(
 /// What was read so far.
 #[derive(Drop)]
 struct Reading<'t, 'a> {
-    runs: Vec<OpenedRun<'t, 'a>>,
+    runs: Vec<ReadRun<'t, 'a>>,
     /// How many results the runs have.
     results: u32,
 }
@@ -181,15 +182,14 @@ impl<'t, 'a> Reading<'t, 'a> {
     fn add(
         &mut self,
         alloc: Global,
-        seed: RandomState,
         source: Source,
         index: &'t Result<Index<'a>, IndexFault>,
     ) -> Result<(), MergeFault>
         requires counted { IsCounted self.old }
         requires indexed { (bytes : List ℕ) × IsIndexed (without_mark bytes) index.now }
         ensures runs { (bytes : List ℕ) → IsIndexed (without_mark bytes) index.now
-            → OnOk result (map placed_of self.new.runs.items
-            ≡ map placed_of self.old.runs.items
+            → OnOk result (map placed_read self.new.runs.items
+            ≡ map placed_read self.old.runs.items
             ++ placed_from source 0 (readable (log_of bytes))) }
         ensures results { (bytes : List ℕ) → IsIndexed (without_mark bytes) index.now
             → OnOk result (self.new.results
@@ -204,7 +204,7 @@ impl<'t, 'a> Reading<'t, 'a> {
         let log = log_of_source(source, read_index(alloc, index))?;
         let results = self.results + count_results(log.as_slice());
         check_limits(source, self.runs.len() + log.len(), results)?;
-        place_runs(alloc, seed, source, log, &mut self.runs)?;
+        place_runs(source, log, &mut self.runs)?;
         self.results = results;
         Ok(())
     }
@@ -213,7 +213,6 @@ impl<'t, 'a> Reading<'t, 'a> {
     fn add_all(
         &mut self,
         alloc: Global,
-        seed: RandomState,
         kind: SourceKind,
         indexes: &'t [Result<Index<'a>, IndexFault>],
     ) -> Result<(), MergeFault>
@@ -223,8 +222,8 @@ impl<'t, 'a> Reading<'t, 'a> {
             × AreIndexed (map without_mark sources) indexes.now }
         ensures runs { (sources : List (List ℕ))
             → AreIndexed (map without_mark sources) indexes.now
-            → OnOk result (map placed_of self.new.runs.items
-            ≡ map placed_of self.old.runs.items
+            → OnOk result (map placed_read self.new.runs.items
+            ≡ map placed_read self.old.runs.items
             ++ placed (numbered (source_of kind) 0 sources)) }
         ensures counted { OnOk result (IsCounted self.new) }
         ensures faults { (sources : List (List ℕ))
@@ -234,36 +233,35 @@ impl<'t, 'a> Reading<'t, 'a> {
         ensures quiet { IsQuiet result }
     {
         for (number, index) in indexes.iter().enumerate() {
-            self.add(alloc, seed, kind.source(number as u32), index)?;
+            self.add(alloc, kind.source(number as u32), index)?;
         }
         Ok(())
     }
 }
 
 /// The runs of all sources, whose indexes are those of so many logs and then those of the baselines.
-fn open_all<'t, 'a>(
+fn read_all<'t, 'a>(
     alloc: Global,
-    seed: RandomState,
     indexes: &'t [Result<Index<'a>, IndexFault>],
     logs: usize,
 ) -> Result<AllRuns<'t, 'a>, MergeFault>
     requires { (ls : List (List ℕ)) × (bs : List (List ℕ)) × AreIndexesOf ls bs indexes.now logs }
     ensures all { (ls bs : List (List ℕ)) → AreIndexesOf ls bs indexes.now logs
-        → IfOk result (λ runs. map placed_of runs.all.items ≡ placed (sources_of ls bs)) }
+        → IfOk result (λ runs. map placed_read runs.all.items ≡ placed (sources_of ls bs)) }
     ensures inputs { (ls bs : List (List ℕ)) → AreIndexesOf ls bs indexes.now logs
         → IfOk result (λ runs. runs.inputs ≡ length (placed (numbered Source.Log 0 ls))) }
     ensures few { IfOk result (λ runs. length runs.all.items ≤ 10000) }
     ensures few_results { IfOk result
-        (λ runs. results_total (data_of (map placed_of runs.all.items)) ≤ 1000000) }
+        (λ runs. results_total (data_of (map placed_read runs.all.items)) ≤ 1000000) }
     ensures faults { (ls bs : List (List ℕ)) → AreIndexesOf ls bs indexes.now logs
         → Answers (source_faults 0 0 (sources_of ls bs)) result }
     ensures quiet { IsQuiet result }
 {
     let (first, second) = indexes.split_at(logs);
     let mut reading = Reading::new(alloc);
-    reading.add_all(alloc, seed, SourceKind::Log, first)?;
+    reading.add_all(alloc, SourceKind::Log, first)?;
     let inputs = reading.runs.len() as u32;
-    reading.add_all(alloc, seed, SourceKind::Baseline, second)?;
+    reading.add_all(alloc, SourceKind::Baseline, second)?;
     let Reading { runs: all, .. } = reading;
     Ok(AllRuns { all, inputs })
 }
@@ -271,22 +269,26 @@ fn open_all<'t, 'a>(
 /// Opens the runs of the logs, which are the first so many of the indexes, and those of the baselines.
 /// A refusal is the first fault of the sources in order: of reading one, or `TooMany` at the first with
 /// which there are more than 10,000 runs or 1,000,000 results; or `OutOfMemory`. The tables of their rules and
-/// overrides hash with `seed`, on which no answer depends.
-pub fn open_sources<'t, 'a>(
+/// overrides hash with `seed`, on which no answer depends. The heads of the runs are made in at most so many
+/// threads, this one among them.
+pub fn open_sources<'t, 'a, R: Threads + Sync>(
+    rt: &R,
     alloc: Global,
     seed: RandomState,
     indexes: &'t [Result<Index<'a>, IndexFault>],
     logs: usize,
+    threads: u32,
 ) -> Result<Runs<'t, 'a>, MergeFault>
-    requires { (ls : List (List ℕ)) × (bs : List (List ℕ)) × AreIndexesOf ls bs indexes.now logs }
+    requires threads { 1 ≤ threads }
+    requires indexes { (ls : List (List ℕ)) × (bs : List (List ℕ)) × AreIndexesOf ls bs indexes.now logs }
     ensures runs { (ls bs : List (List ℕ)) → AreIndexesOf ls bs indexes.now logs
         → IfOk result (AreRunsOf ls bs) }
     ensures faults { (ls bs : List (List ℕ)) → AreIndexesOf ls bs indexes.now logs
         → Answers (source_faults 0 0 (sources_of ls bs)) result }
     ensures quiet { IsQuiet result }
 {
-    let AllRuns { all, inputs } = open_all(alloc, seed, indexes, logs)?;
-    let mut current = all;
+    let AllRuns { all, inputs } = read_all(alloc, indexes, logs)?;
+    let mut current = open_each(rt, alloc, seed, all, threads)?;
     let baseline = current.split_off(inputs as usize)?;
     Ok(Runs { current, baseline })
 }

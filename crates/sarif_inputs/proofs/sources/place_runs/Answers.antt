@@ -6,7 +6,7 @@ use Rattle.std.proofs.lemmas.List.{map-append}
 use Rattle.sarif_records.specs.Indexed.{run_of}
 use Rattle.sarif_judge.specs.Placed.{Placed}
 use Rattle.sarif_inputs.specs.Inputs.{placed_from}
-use Rattle.sarif_judge.specs.Opened.{placed_of}
+use Rattle.sarif_inputs.specs.ReadRun.{placed_read}
 use Rattle.sarif_inputs.proofs.SourceRuns.{placed_more, whole_at}
 use Rattle.sarif_inputs.proofs.sources.place_runs.Goals as goal
 
@@ -15,25 +15,25 @@ loop-run-preserved c =
     let source = c.args.source in
     let run = c.in-Some.run' in
     let vs = c.loop-run.yielded in
-    let before = map placed_of c.args.all.now.items in
-    let found = c.in_ok-opened.opened in
+    let before = map placed_read c.args.all.now.items in
+    let found = c.new-read.result in
     let one : ℕ → List Placed = λ n. record { source = source; number = n; run = run_of run } ∷ [] in
     let rest : c.loop-run.run-iterator.rest.items ≡ run ∷ c.next.new.self.rest.items = search rules in
     record {
       parts = grind (arith, common_steps, rest);
       number = grind (arith, common_steps);
       placed =
-          ap (map placed_of) c.in_ok-push.ensures.items
-          ∙ map-append placed_of c.loop-run.all.items (found ∷ [])
-          ∙ ap (λ p. map placed_of c.loop-run.all.items ++ p ∷ []) c.in_ok-opened.ensures.placed
+          ap (map placed_read) c.in_ok-push.ensures.items
+          ∙ map-append placed_read c.loop-run.all.items (found ∷ [])
+          ∙ ap (λ p. map placed_read c.loop-run.all.items ++ p ∷ []) c.new-read.ensures.placed
           ∙ ap (λ ps. ps ++ one c.loop-run.number) c.loop-run.invariant.placed
           ∙ append_assoc before (placed_from source 0 (map run_of vs)) (one c.loop-run.number)
           ∙ ap (λ n. before ++ (placed_from source 0 (map run_of vs) ++ one n)) c.loop-run.invariant.number
           ∙ ap (λ ps. before ++ ps) (sym (placed_more source vs run));
     }
 
-pub open-requires : goal.open-requires
-open-requires c =
+pub new-read-requires : goal.new-read-requires
+new-read-requires c =
     let run = c.in-Some.run' in
     let later = c.next.new.self.rest.items in
     let vs = c.loop-run.yielded in

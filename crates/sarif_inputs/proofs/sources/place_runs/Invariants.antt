@@ -1,12 +1,12 @@
 use Rattle.std.proofs.Common.{◌≡◌, ◌++◌, map, length}
 use Rattle.sarif_records.specs.Indexed.{run_of}
 use Rattle.sarif_inputs.specs.Inputs.{placed_from}
-use Rattle.sarif_judge.specs.Opened.{placed_of}
+use Rattle.sarif_inputs.specs.ReadRun.{placed_read}
 use Rattle.sarif_inputs.proofs.sources.place_runs.Given as goal
 
 abbrev pub invariant-loop-run : goal.invariant-loop-run
 invariant-loop-run l = record {
   parts : l.fn.runs.items ≡ l.yielded ++ l.run-iterator.rest.items;
   number : l.number ≡ length l.yielded;
-  placed : map placed_of l.all.items ≡ map placed_of l.fn.all.items ++ placed_from l.source 0 (map run_of l.yielded);
+  placed : map placed_read l.all.items ≡ map placed_read l.fn.all.items ++ placed_from l.source 0 (map run_of l.yielded);
 }

@@ -1,4 +1,4 @@
-use Rattle.std.proofs.Common.{rules, ◌≡◌, Err, Result, Vec, subst, sym}
+use Rattle.std.proofs.Common.{rules, ◌≡◌, Err, subst, sym}
 use Rattle.std.specs.Prelude.{Ok}
 use Rattle.json_index.specs.Together.{IsIndexed}
 use Rattle.sarif_records.specs.IndexFault.{read_fault_of}

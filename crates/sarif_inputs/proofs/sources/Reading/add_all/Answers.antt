@@ -5,7 +5,7 @@ use Rattle.std.proofs.lemmas.Result.{err_from_is_err_and}
 use Rattle.json_index.specs.Together.{AreIndexed}
 use Rattle.sarif_records.specs.Reading.{log_of, without_mark}
 use Rattle.sarif_records.specs.Run.{results_total}
-use Rattle.sarif_judge.specs.Opened.{placed_of}
+use Rattle.sarif_inputs.specs.ReadRun.{placed_read}
 use Rattle.sarif_sources.specs.SourceKind.{source_of}
 use Rattle.sarif_inputs.specs.Faults.{first, IsWanting}
 use Rattle.sarif_inputs.specs.Inputs.{numbered, placed, placed_from, readable}
@@ -46,12 +46,12 @@ loop-number-preserved c =
       whole = λ sources all.
           let w = c.loop-number.invariant.whole sources all in
           let here = indexed_first w.0 index later (subst (λ ps. AreIndexed (map without_mark w.0) ps) left w.1) in
-          let runs = subst (λ s. map placed_of c.add.new.self.runs.items ≡ map placed_of old.runs.items ++ placed_from s 0 (readable (log_of here.0))) c.source.ensures (c.in_ok-add.ensures.runs here.0 here.3) in
+          let runs = subst (λ s. map placed_read c.add.new.self.runs.items ≡ map placed_read old.runs.items ++ placed_from s 0 (readable (log_of here.0))) c.source.ensures (c.in_ok-add.ensures.runs here.0 here.3) in
           let none = subst (λ s. faults_with s (log_of here.0) (length old.runs.items) old.results ≡ []) c.source.ensures (c.in_ok-add.ensures.faults here.0 here.3) in
           let step = source_step name i old c.add.new.self here.0 here.1 runs (c.in_ok-add.ensures.results here.0 here.3) none in (
             here.1,
             here.4,
-            step.0 ∙ ap (λ bs. map placed_of old.runs.items ++ placed (numbered name i bs)) (sym here.2) ∙ w.2,
+            step.0 ∙ ap (λ bs. map placed_read old.runs.items ++ placed (numbered name i bs)) (sym here.2) ∙ w.2,
             step.1 ∙ ap (λ bs. source_faults (length old.runs.items) old.results (numbered name i bs)) (sym here.2) ∙ w.3,
           );
     }
@@ -83,7 +83,7 @@ returns-clause-runs c = λ sources all.
     let past : length c.args.indexes.now ≤ c.loop-number.number = omega arith in
     let end = drop_of_length-le c.args.indexes.now past in
     let none = indexed_none w.0 (subst (λ ps. AreIndexed (map without_mark w.0) ps) end w.1) in
-    let runs = map placed_of c.loop-number.self.runs.items in
+    let runs = map placed_read c.loop-number.self.runs.items in
     sym (append-nil runs) ∙ ap (λ bs. runs ++ placed (numbered name c.loop-number.number bs)) (sym none) ∙ w.2
 
 pub returns-clause-faults : goal.returns-clause-faults

@@ -1,15 +1,15 @@
-use Rattle.std.proofs.Common.{rules, ◌≡◌, List, ℕ, [], ◌++◌, take, drop, map, length, arith, sym, ap, ◌∙◌, subst, length-append}
+use Rattle.std.proofs.Common.{rules, ◌≡◌, [], ◌++◌, map, length, arith, sym, ap, ◌∙◌, subst, length-append}
 use Rattle.std.proofs.lemmas.List.{length-map}
 use Rattle.std.proofs.lemmas.Result.{err_from_is_err_and}
 use Rattle.json_index.specs.Together.{AreIndexed}
 use Rattle.sarif_records.specs.Reading.{without_mark}
-use Rattle.sarif_judge.specs.Opened.{placed_of}
+use Rattle.sarif_inputs.specs.ReadRun.{placed_read}
 use Rattle.sarif_sources.specs.declared.fault.Source.TheVariants.{Log, Baseline}
 use Rattle.sarif_inputs.specs.Inputs.{numbered, placed}
 use Rattle.sarif_inputs.proofs.ReadFacts.{placed-append}
 use Rattle.sarif_inputs.proofs.IndexedParts.{indexed_length, indexed_parts}
 use Rattle.sarif_inputs.proofs.SourceSteps.{refused_by_logs, left_after_logs}
-use Rattle.sarif_inputs.proofs.sources.open_all.Goals as goal
+use Rattle.sarif_inputs.proofs.sources.read_all.Goals as goal
 
 pub split_at-requires : goal.split_at-requires
 split_at-requires c =
@@ -72,7 +72,7 @@ returns-clause-all c = λ ls bs are.
     let none : c.new-reading.result.runs.items ≡ [] = search rules in
     c.in_ok-add_all-2.ensures.runs bs there
     ∙ ap (λ ps. ps ++ others) (c.in_ok-add_all.ensures.runs ls here)
-    ∙ ap (λ vs. (map placed_of vs ++ placed (numbered Log 0 ls)) ++ others) none
+    ∙ ap (λ vs. (map placed_read vs ++ placed (numbered Log 0 ls)) ++ others) none
     ∙ sym (placed-append (numbered Log 0 ls) (numbered Baseline 0 bs))
 
 pub returns-clause-inputs : goal.returns-clause-inputs
@@ -81,9 +81,9 @@ returns-clause-inputs c = λ ls bs are.
     let parts = indexed_parts ls bs c.args.logs c.args.indexes.now are.count are.indexed in
     let here = subst (λ ps. AreIndexed (map without_mark ls) ps) (sym c.split_at.ensures.front) parts.0 in
     let none : c.new-reading.result.runs.items ≡ [] = search rules in
-    let long = ap length (c.in_ok-add_all.ensures.runs ls here ∙ ap (λ vs. map placed_of vs ++ placed (numbered Log 0 ls)) none) in
+    let long = ap length (c.in_ok-add_all.ensures.runs ls here ∙ ap (λ vs. map placed_read vs ++ placed (numbered Log 0 ls)) none) in
     let n : c.len-inputs.result ≡ length logs = search rules in
-    omega (arith, n, long, length-map logs placed_of)
+    omega (arith, n, long, length-map logs placed_read)
 
 pub returns-clause-faults : goal.returns-clause-faults
 returns-clause-faults c = λ ls bs are.
