@@ -111,7 +111,7 @@ pub(crate) fn prepare_few<G: Gate + Sync, R: Threads + Wait + Sync>(
     let baselines = sources.baselines.as_slice();
     let threads = options.workers + 1;
     let indexes = index_sources(rt, alloc, logs, baselines, scratches, threads)?;
-    let runs = open_sources(alloc, options.seed, &indexes, logs.len())?;
+    let runs = open_sources(rt, alloc, options.seed, &indexes, logs.len(), threads)?;
     let file = slice_of(&sources.suppressions);
     let prepared = prepare_read(rt, alloc, runs, file, options, observer)?;
     Ok(prepared)

@@ -2,22 +2,25 @@ use Rattle.std.proofs.Common.{◌≤◌, ◌++◌, ℕ, List, Vec, Global, refl,
 use Rattle.std.specs.Prelude.{option_map}
 use Rattle.json_index.specs.Together.{AreIndexed}
 use Rattle.sarif_records.specs.Reading.{without_mark}
+use Rattle.sarif_inputs.specs.Indexes.{AreIndexesOf}
 use Rattle.sarif_merge.specs.Given.{given}
 use Rattle.sarif_merge.specs.Prepared.{IsPreparedFor}
 use Rattle.sarif_merge.proofs.MergeAnswers.{are_indexes}
 use Rattle.sarif_merge.proofs.preparing.prepare_few.Goals as goal
 
-pub open_sources-requires : goal.open_sources-requires
-open_sources-requires g c =
+pub open_sources-requires-clause-indexes : goal.open_sources-requires-clause-indexes
+open_sources-requires-clause-indexes g c κs within =
     let ls = c.as_slice-logs.result.now in
     let bs = c.as_slice-baselines.result.now in
     let few_logs = subst (λ xs. length xs ≤ 1000) (sym c.as_slice-logs.ensures.value) c.requires.few_logs in
-    let few_baselines = subst (λ xs. length xs ≤ 1000) (sym c.as_slice-baselines.ensures.value) c.requires.few_baselines in (
+    let few_baselines = subst (λ xs. length xs ≤ 1000) (sym c.as_slice-baselines.ensures.value) c.requires.few_baselines in
+    let given : (logs : List (List ℕ)) × (baselines : List (List ℕ)) × AreIndexesOf logs baselines c.deref.result.now (length ls) = (
       map (λ v. v.items) ls,
       map (λ v. v.items) bs,
       are_indexes ls bs c.deref.result.now (length ls) refl few_logs few_baselines
           (subst (λ found. AreIndexed (map without_mark (map (λ v. v.items) ls ++ map (λ v. v.items) bs)) found) (sym c.deref.ensures.value) c.in_ok-indexes.ensures),
-    )
+    ) in
+    given
 
 pub returns-clause-preparation : goal.returns-clause-preparation
 returns-clause-preparation g c =
