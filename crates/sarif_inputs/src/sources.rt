@@ -280,7 +280,8 @@ pub fn open_sources<'t, 'a, R: Threads + Sync>(
     threads: u32,
 ) -> Result<Runs<'t, 'a>, MergeFault>
     requires threads { 1 ≤ threads }
-    requires indexes { (ls : List (List ℕ)) × (bs : List (List ℕ)) × AreIndexesOf ls bs indexes.now logs }
+    requires indexes { (ls : List (List ℕ)) × (bs : List (List ℕ))
+        × AreIndexesOf ls bs indexes.now logs }
     ensures runs { (ls bs : List (List ℕ)) → AreIndexesOf ls bs indexes.now logs
         → IfOk result (AreRunsOf ls bs) }
     ensures faults { (ls bs : List (List ℕ)) → AreIndexesOf ls bs indexes.now logs
