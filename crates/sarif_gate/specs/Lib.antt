@@ -1,3 +1,4 @@
+pub mod Beside
 pub mod Named
 pub mod Reports
 pub mod Status

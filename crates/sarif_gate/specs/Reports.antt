@@ -38,13 +38,6 @@ texts_for writers told = record {
   html = text_if writers.html (told report.Html);
 }
 
--- these are those texts, but for that for GitLab
-pub record AreBeside {W : Type 0} (writers : Reports W) (told : Report → List ℕ) (texts : Reports (List ℕ)) : Type 0 where
-  pub text : texts.text ≡ text_if writers.text (told report.Text)
-  pub github : texts.github ≡ text_if writers.github (told report.Github)
-  pub markdown : texts.markdown ≡ text_if writers.markdown (told report.Markdown)
-  pub html : texts.html ≡ text_if writers.html (told report.Html)
-
 -- a writer that there is takes the text that there is
 abbrev pub IsTaken : {W : Type 0} → (W → Option (List ℕ)) → Option (List ℕ) → Option (Counted W) → Option (Counted W) → Type 0
 IsTaken contents text None new = new ≡ None

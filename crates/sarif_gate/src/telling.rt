@@ -5,7 +5,8 @@ ghost use Rattle.sarif_counts.specs.Summary.{summary_of};
 ghost use Rattle.sarif_report.specs.ReadBack.{told_of};
 ghost use Rattle.sarif_report.specs.declared.report.Report.TheVariants as kind;
 ghost use Rattle.sarif_report.specs.Report.{report_of};
-ghost use Rattle.sarif_gate.specs.Reports.{AreBeside, report_for, reporting_of, texts_for};
+ghost use Rattle.sarif_gate.specs.Beside.{AreBeside};
+ghost use Rattle.sarif_gate.specs.Reports.{report_for, reporting_of, texts_for};
 
 use sarif_merge::{Counts, Merged, Policy, summary};
 use sarif_records::Text;

@@ -4,7 +4,7 @@ use Rattle.sarif_counts.specs.Counts.{count_at}
 use Rattle.sarif_report.specs.declared.report.Report.{Report}
 use Rattle.sarif_report.specs.declared.report.Report.TheVariants as kind
 use Rattle.sarif_report.specs.Report.{report_of}
-use Rattle.sarif_gate.specs.Reports.{AreBeside}
+use Rattle.sarif_gate.specs.Beside.{AreBeside}
 use Rattle.sarif_gate.proofs.Asked.{asked_texts}
 use Rattle.sarif_gate.proofs.telling.Telling.texts_of.Goals as goal
 
