@@ -12,8 +12,6 @@ mod matched;
 mod merged;
 mod prepared;
 mod preparing;
-#[cfg(test)]
-mod tests;
 mod written;
 
 pub use assembling::assemble;

@@ -14,8 +14,6 @@ mod place;
 mod pointer;
 mod run;
 mod single;
-#[cfg(test)]
-mod tests;
 mod wanted;
 mod whole;
 

@@ -1,12 +1,11 @@
 //! Judging runs, up to their first fault.
 ghost use Rattle.std.specs.Prelude.{◌≡◌, ◌≤◌, map, length, IfOk};
 ghost use Rattle.sarif_records.specs.Run.{results_total};
-ghost use Rattle.sarif_judge.specs.Judging.{faults_of_runs};
+ghost use Rattle.sarif_judge.specs.Judging.{faults_of_runs, run_values};
 ghost use Rattle.sarif_judge.specs.Opened.{placed_of};
 ghost use Rattle.sarif_judge.specs.Outcomes.{all_outcomes};
 ghost use Rattle.sarif_sources.specs.Failing.{IsQuiet};
 ghost use Rattle.sarif_inputs.specs.Faults.{Answers};
-ghost use Rattle.sarif_inputs.specs.Inputs.{data_of};
 ghost use Rattle.sarif_assemble.specs.Judged.{placed_in};
 ghost use Rattle.sarif_merge.specs.Wanting.{wanting_of};
 
@@ -46,7 +45,7 @@ pub(crate) fn judge_runs<'t, 'a, G: Gate + Sync, R: Threads + Wait + Sync>(
 ) -> Result<Judged<'t, 'a>, MergeFault>
     requires workers { (1 ≤ workers) × (workers ≤ 64) }
     requires few { length runs.items ≤ 10000 }
-    requires few_results { results_total (data_of (map placed_of runs.items)) ≤ 1000000 }
+    requires few_results { results_total (run_values (map placed_of runs.items)) ≤ 1000000 }
     ensures runs { IfOk result (λ judged. placed_in judged ≡ map placed_of runs.entry.items) }
     ensures outcomes { IfOk result
         (λ judged. judged.outcomes.items ≡ all_outcomes file.now (placed_in judged)) }

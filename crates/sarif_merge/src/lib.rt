@@ -7,8 +7,6 @@ mod laws;
 mod merge;
 mod merge_sources;
 mod preparing;
-#[cfg(test)]
-mod tests;
 
 pub use laws::{each_result_is_written_as_its_own, merged_runs_hold_no_fraction};
 pub use merge::merge_bytes;

@@ -21,8 +21,6 @@ mod reported_results;
 mod reporting;
 mod shown_text;
 mod spot;
-#[cfg(test)]
-mod tests;
 mod text_lines;
 
 pub use finding::Finding;

@@ -5,8 +5,6 @@ mod clash;
 mod command;
 mod reports;
 mod request;
-#[cfg(test)]
-mod tests;
 mod words;
 
 pub use reports::Reports;

@@ -1,6 +1,6 @@
 //! Merging texts. A list of runs is written `lint: A M; b: `, so each run is a tool and its results,
 //! each by its name or by its own text, which has no blank.
-use crate::{
+use sarif_merge::{
     Counted, Gate, MergeFault, Merged, NoGate, Options, Policy, Readers, SourceBytes, Verdict,
     merge_bytes, merge_to,
 };

@@ -1,5 +1,5 @@
 //! Merges with a suppression file.
-use crate::tests::merging::{Given, NOTHING, Wanted, beside, expect_log, expect_refusal, one_log};
+use crate::merge::merging::{Given, NOTHING, Wanted, beside, expect_log, expect_refusal, one_log};
 use std::alloc::Global;
 use std::process::Abort;
 use std::sync::Wait;

@@ -1,8 +1,8 @@
 //! That workers give the same log, work at once, and judge each shard of the results once.
-use crate::Gate;
-use crate::tests::merging::{
+use crate::merge::merging::{
     NOTHING, Wanted, expect_log, log_of, merge, merge_watched, one_log, write_watched,
 };
+use sarif_merge::Gate;
 use std::alloc::{AllocError, Global};
 use std::sync::atomic::{AtomicU64, Ordering};
 use std::test::Fail;

@@ -1,5 +1,5 @@
 //! Counts, the gate and the summary.
-use crate::{Counts, Policy, States, Verdict, hits, summary, verdict};
+use sarif_merge::{Counts, Policy, States, Verdict, hits, summary, verdict};
 use sarif_records::{Level, State};
 use std::test::Fail;
 

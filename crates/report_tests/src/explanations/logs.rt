@@ -1,6 +1,6 @@
 //! Faults of whole logs, and those of no input.
 use super::check;
-use crate::{FaultSource, explanation};
+use sarif_explain::{FaultSource, explanation};
 use sarif_sources::{At, Cause, MergeFault, Source};
 use std::test::Fail;
 

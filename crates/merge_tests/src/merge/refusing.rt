@@ -1,5 +1,5 @@
 //! Merges that are refused, and which of several faults is answered.
-use crate::tests::merging::{
+use crate::merge::merging::{
     Given, beside, expect_part, expect_refusal, log_of, log_with, merge, one_log,
 };
 use std::alloc::{AllocError, Global};

@@ -1,9 +1,9 @@
 //! Merges with baselines.
-use crate::Merged;
-use crate::tests::merging::{
+use crate::merge::merging::{
     Given, NOTHING, Wanted, beside, expect_log, expect_part, expect_refusal, expect_runs, log_of,
     log_with, merge, one_log,
 };
+use sarif_merge::Merged;
 use std::alloc::{AllocError, Global};
 use std::process::Abort;
 use std::sync::Wait;

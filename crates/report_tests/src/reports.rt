@@ -1,12 +1,12 @@
 //! The worked examples of the reports.
 ghost use Rattle.std.specs.Prelude.{◌≤◌};
 
-use crate::{
+use sarif_counts::{Counts, Policy};
+use sarif_records::{Level, State, Text};
+use sarif_report::{
     Finding, Report, Reporting, github_report, gitlab_report, html_report, markdown_report,
     report_text, reported, shown, text_report,
 };
-use sarif_counts::{Counts, Policy};
-use sarif_records::{Level, State, Text};
 use std::alloc::{AllocError, AllocGlobal, Global};
 use std::test::Fail;
 use std::thread::Threads;

@@ -1,10 +1,10 @@
 //! Merges of logs without a baseline.
-use crate::tests::MERGED;
-use crate::tests::merging::{
+use crate::merge::MERGED;
+use crate::merge::merging::{
     Given, NOTHING, Wanted, ZEROS, expect_log, expect_part, expect_runs, log_of, log_with, merge,
     one_log, seed_of,
 };
-use crate::{Counted, NoGate, Options, Policy, Readers, Verdict, merge_readers};
+use sarif_merge::{Counted, NoGate, Options, Policy, Readers, Verdict, merge_readers};
 use sarif_records::{Level, State};
 use std::alloc::{AllocError, Global};
 use std::test::Fail;

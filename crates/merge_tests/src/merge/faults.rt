@@ -1,5 +1,5 @@
 //! The places and causes of faults, their texts and their statuses.
-use crate::{At, Cause, MergeFault, ReadersFault, Source};
+use sarif_merge::{At, Cause, MergeFault, ReadersFault, Source};
 use sarif_records::Fault;
 use std::alloc::AllocError;
 use std::test::Fail;

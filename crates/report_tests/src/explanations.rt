@@ -4,7 +4,7 @@ mod logs;
 mod results;
 mod runs;
 
-use crate::{FaultSource, explanation};
+use sarif_explain::{FaultSource, explanation};
 use sarif_sources::{At, Cause, MergeFault};
 use std::alloc::Global;
 use std::process::Abort;

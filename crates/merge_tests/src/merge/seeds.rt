@@ -1,5 +1,5 @@
 //! That the merged log has the same bytes whatever the tables hash with.
-use crate::tests::merging::{Bytes, Given, NOTHING, Wanted, beside, expect_log};
+use crate::merge::merging::{Bytes, Given, NOTHING, Wanted, beside, expect_log};
 use std::alloc::{AllocError, Global};
 use std::test::Fail;
 

@@ -1,7 +1,7 @@
 //! The log of nothing, worked by hand.
 ghost use Rattle.std.specs.Prelude.{◌≡◌, []};
 
-use crate::{Judged, Merged, assemble, prepare};
+use sarif_assemble::{Judged, Merged, assemble, prepare};
 use sarif_counts::{Options, Policy, Verdict};
 use sarif_records::{Level, State};
 use sarif_suppress::Suppressions;

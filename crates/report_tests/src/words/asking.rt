@@ -1,10 +1,9 @@
 //! Which words ask for what.
 
-use crate::request::Request;
-use crate::tests::seed;
-use crate::words::{WordsFault, read_words};
+use crate::words::seed;
 use sarif_counts::States;
 use sarif_records::{Level, Text};
+use sarif_request::{Request, WordsFault, read_words};
 use std::alloc::AllocError;
 use std::test::Fail;
 
