@@ -13,10 +13,6 @@ KeptIf f e (Some a) p = f a.0 ≤ e → p ≡ Some a
 abbrev Below : {A : Type 0} → (A → ℕ) → ℕ → Parse A → Parse A → Type 0
 Below f e p q = (ts : List Token) → KeptIf f e (p ts) (q ts)
 
-same : {A : Type 0} (f : A → ℕ) (e : ℕ) (o : Option (A × List Token)) → KeptIf f e o o
-same f e None = tt
-same f e (Some a) = λ _. refl
-
 mapped : {A B : Type 0} (f : A → ℕ) (g : B → ℕ) (d e : ℕ) (h : A → B) → ((a : A) → g (h a) ≤ e → f a ≤ d) → (o p : Option (A × List Token)) → KeptIf f d o p → KeptIf g e (parse_map h o) (parse_map h p)
 mapped f g d e h k None p x = tt
 mapped f g d e h k (Some a) p x = λ le. ap (parse_map h) (x (k a.0 le))

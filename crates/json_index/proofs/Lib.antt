@@ -1,6 +1,7 @@
 pub mod Deeper
 pub mod Readings
 pub mod Passing
+pub mod Scanned
 pub mod Order
 pub mod Walks
 pub mod Fractions

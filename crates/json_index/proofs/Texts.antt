@@ -6,11 +6,11 @@ use Rattle.std.proofs.lemmas.Str.{is_utf8-from_IsUtf8, IsUtf8-from_is_utf8}
 use Rattle.json.specs.Token.{Token}
 use Rattle.json.specs.Lex.{tokens}
 use Rattle.json.specs.Json.{Json, value, if_last, document}
-use Rattle.json.specs.Find.{BeginsWith}
 use Rattle.json.specs.Tree.{depth}
 use Rattle.json.proofs.Nesting.{value-depth}
 use Rattle.serde_json.specs.Read.{of_json, read}
 use Rattle.json_index.specs.Indexed.{json_of, data_of, IsReadable}
+use Rattle.json_index.specs.Whole.{IsWhole}
 use Rattle.json_index.proofs.Deeper.{value_at}
 use Rattle.json_index.proofs.Readings.{not_found, Some_inj, found}
 use Rattle.json_index.proofs.Passing.{passes}
@@ -47,13 +47,13 @@ absent : {A : Type 0} (o : Option A) → is_some o ≡ false → o ≡ None
 absent None e = refl
 absent (Some a) e = absurd (true≢false e)
 
-pub not_readable : (text : List ℕ) → ((j : Json) → BeginsWith (tokens text) j → passes 127 j ≡ false) → read text ≡ None
+pub not_readable : (text : List ℕ) → ((j : Json) → IsWhole (tokens text) j → passes 127 j ≡ false) → read text ≡ None
 not_readable text h =
     unread_from text (value 127 (tokens text)) refl
     (λ j e.
     let le = value-depth 127 (tokens text) [] j e in
     let near : nat_le (depth j) 127 ≡ true = grind (arith, le) in
-    absent (of_json j) (ap (λ b. b && is_some (of_json j)) (sym near) ∙ h j (127, [], e)))
+    absent (of_json j) (ap (λ b. b && is_some (of_json j)) (sym near) ∙ h j (127, e)))
 
 left_true : (a b : Bool) → (a && b) ≡ true → a ≡ true
 left_true true b e = refl
@@ -67,11 +67,11 @@ present : {A : Type 0} (o : Option A) → is_some o ≡ true → (a : A) × (o �
 present None e = absurd (true≢false (sym e))
 present (Some a) e = (a, refl)
 
-readable_from : (text : List ℕ) (o : Option Json) → document text ≡ o → IsSome o → ((j : Json) → BeginsWith (tokens text) j → passes 127 j ≡ true) → IsReadable (tokens text) × (read text ≡ Some (data_of (tokens text)))
+readable_from : (text : List ℕ) (o : Option Json) → document text ≡ o → IsSome o → ((j : Json) → IsWhole (tokens text) j → passes 127 j ≡ true) → IsReadable (tokens text) × (read text ≡ Some (data_of (tokens text)))
 readable_from text None e some h = absurd (true≢false (sym some))
 readable_from text (Some j) e some h =
     let at : value 128 (tokens text) ≡ Some (j, []) = last (value 128 (tokens text)) j e in
-    let passed = h j (128, [], at) in
+    let passed = h j (128, at) in
     let d = present (of_json j) (right_true (nat_le (depth j) 127) (is_some (of_json j)) passed) in
     let near = left_true (nat_le (depth j) 127) (is_some (of_json j)) passed in
     let le : depth j ≤ 127 = grind (arith, near) in
@@ -79,5 +79,5 @@ readable_from text (Some j) e some h =
     let here = value_at 128 127 (tokens text) [] j at le in
     (r.0, ap (λ x. option_and_then of_json (whole x)) here ∙ d.1 ∙ ap Some (sym r.1))
 
-pub readable_text : (text : List ℕ) → IsSome (document text) → ((j : Json) → BeginsWith (tokens text) j → passes 127 j ≡ true) → IsReadable (tokens text) × (read text ≡ Some (data_of (tokens text)))
+pub readable_text : (text : List ℕ) → IsSome (document text) → ((j : Json) → IsWhole (tokens text) j → passes 127 j ≡ true) → IsReadable (tokens text) × (read text ≡ Some (data_of (tokens text)))
 readable_text text some h = readable_from text (document text) refl some h

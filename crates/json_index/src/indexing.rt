@@ -61,7 +61,7 @@ pub fn index_text<'a>(
             return Err(IndexFault::OutOfMemory);
         }
     };
-    if !is_readable(&tape.root(), MAX_DEPTH) {
+    if !is_readable(tape.nodes(), MAX_DEPTH) {
         return Err(IndexFault::NotJson);
     }
     Ok(Index { tape })

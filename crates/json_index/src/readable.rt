@@ -1,41 +1,39 @@
 //! Whether a value of a text is one that `serde_json` reads.
-ghost use Rattle.std.specs.Prelude.{◌≡◌, ◌&&◌, nat_le, is_some};
+ghost use Rattle.std.specs.Prelude.{◌≡◌, ◌≤◌, ◌&&◌, nat_le, is_some, map};
 ghost use Rattle.json.specs.Json.{Json};
-ghost use Rattle.json.specs.Find.{BeginsWith};
+ghost use Rattle.json.specs.Tape.{node_token};
 ghost use Rattle.json.specs.Tree.{depth as nesting};
 ghost use Rattle.serde_json.specs.Read.{of_json};
+ghost use Rattle.json_index.specs.Whole.{IsWhole};
 
 use crate::number::parse_number;
-use json::Element;
+use json::Node;
 
-/// Whether it nests at most `depth` deep, and a finite float is near each of its numbers.
-#[cycle(readable)]
-pub(crate) fn is_readable(element: &Element<'_, '_>, depth: usize) -> bool
-    ensures { (j : Json) → BeginsWith element.now j
+/// Whether the value of these tokens nests at most `depth` deep, and a finite float is near each of its numbers.
+///
+/// One pass over the tokens tells both: each bracket that opens takes one of the levels that are left, and each that
+/// closes gives it back.
+pub(crate) fn is_readable(tokens: &[Node<'_>], depth: usize) -> bool
+    requires { depth ≤ 1000 }
+    ensures { (j : Json) → IsWhole (map node_token tokens.now) j
         → result ≡ (nat_le (nesting j) depth && is_some (of_json j)) }
 {
-    if let Some(text) = element.as_number() {
-        return parse_number(text).is_some();
-    }
-    if let Some(mut items) = element.items() {
-        if depth == 0 {
-            return false;
-        }
-        'items: while let Some(item) = items.next() {
-            if !is_readable(&item, depth - 1) {
-                return false;
+    let mut levels = depth;
+    for token in tokens {
+        match token {
+            Node::Object(_) | Node::Array(_) => {
+                if levels == 0 {
+                    return false;
+                }
+                levels -= 1;
             }
-        }
-        return true;
-    }
-    if let Some(mut members) = element.members() {
-        if depth == 0 {
-            return false;
-        }
-        'members: while let Some((_, member)) = members.next() {
-            if !is_readable(&member, depth - 1) {
-                return false;
+            Node::EndObject | Node::EndArray => levels += 1,
+            Node::Number(text) => {
+                if parse_number(text).is_none() {
+                    return false;
+                }
             }
+            Node::Key(_) | Node::String(_) | Node::Bool(_) | Node::Null => {}
         }
     }
     true

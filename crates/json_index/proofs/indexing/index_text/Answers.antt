@@ -1,8 +1,9 @@
-use Rattle.std.proofs.Common.{◌≡◌, Some, None, Err, true, false, sym, ap, ◌∙◌, subst, arith}
+use Rattle.std.proofs.Common.{◌≡◌, Some, None, Err, true, false, map, sym, ap, ◌∙◌, subst, arith}
 use Rattle.std.specs.Prelude.{IsUtf8}
-use Rattle.json.specs.Find.{BeginsWith}
+use Rattle.json.specs.Tape.{node_token}
 use Rattle.json.specs.Lex.{tokens}
 use Rattle.json_index.specs.Indexed.{json_of, data_of, IsReadable}
+use Rattle.json_index.specs.Whole.{IsWhole}
 use Rattle.json_index.proofs.Order.{readable_ordered}
 use Rattle.json_index.proofs.Texts.{json_of_utf8, json_of_other, no_document, not_readable, readable_text}
 use Rattle.json_index.proofs.indexing.index_text.Goals as goal
@@ -18,33 +19,33 @@ returns-in-Err-Invalid-clause-err c e =
 pub returns-then-not-is_readable-clause-err : goal.returns-then-not-is_readable-clause-err
 returns-then-not-is_readable-clause-err c e =
     let text = c.in-Ok.text.now in
-    let root : c.root.result ≡ tokens text = c.root.ensures.same ∙ c.in-Ok-parse.ensures.ok.0 in
+    let all : map node_token c.nodes.result.now ≡ tokens text = c.nodes.ensures.tokens ∙ c.in-Ok-parse.ensures.ok.0 in
     let no : c.is_readable.result ≡ false = grind arith in
     subst (λ b. json_of b ≡ None) c.in-Ok.ensures.0
     (json_of_utf8 text (subst IsUtf8 (sym c.in-Ok.ensures.0) c.in-Ok.ensures.1)
-    ∙ not_readable text (λ j b. sym (c.is_readable.ensures j (subst (λ ts. BeginsWith ts j) (sym root) b)) ∙ no))
+    ∙ not_readable text (λ j b. sym (c.is_readable.ensures j (subst (λ ts. IsWhole ts j) (sym all) b)) ∙ no))
 
 pub invariant_of-result : goal.invariant_of-result
 invariant_of-result c =
     let text = c.in-Ok.text.now in
-    let root : c.root.result ≡ tokens text = c.root.ensures.same ∙ c.in-Ok-parse.ensures.ok.0 in
+    let all : map node_token c.nodes.result.now ≡ tokens text = c.nodes.ensures.tokens ∙ c.in-Ok-parse.ensures.ok.0 in
     let yes : c.is_readable.result ≡ true = grind arith in
-    let read = readable_text text c.in-Ok-parse.ensures.ok.1 (λ j b. sym (c.is_readable.ensures j (subst (λ ts. BeginsWith ts j) (sym root) b)) ∙ yes) in
+    let read = readable_text text c.in-Ok-parse.ensures.ok.1 (λ j b. sym (c.is_readable.ensures j (subst (λ ts. IsWhole ts j) (sym all) b)) ∙ yes) in
     subst IsReadable (sym c.in-Ok-parse.ensures.ok.0) read.0
 
 pub returns-clause-ok : goal.returns-clause-ok
 returns-clause-ok c =
     let text = c.in-Ok.text.now in
-    let root : c.root.result ≡ tokens text = c.root.ensures.same ∙ c.in-Ok-parse.ensures.ok.0 in
+    let all : map node_token c.nodes.result.now ≡ tokens text = c.nodes.ensures.tokens ∙ c.in-Ok-parse.ensures.ok.0 in
     let yes : c.is_readable.result ≡ true = grind arith in
-    let read = readable_text text c.in-Ok-parse.ensures.ok.1 (λ j b. sym (c.is_readable.ensures j (subst (λ ts. BeginsWith ts j) (sym root) b)) ∙ yes) in
+    let read = readable_text text c.in-Ok-parse.ensures.ok.1 (λ j b. sym (c.is_readable.ensures j (subst (λ ts. IsWhole ts j) (sym all) b)) ∙ yes) in
     subst (λ b. json_of b ≡ Some (data_of c.in-Ok-parse.tape)) c.in-Ok.ensures.0
     (json_of_utf8 text (subst IsUtf8 (sym c.in-Ok.ensures.0) c.in-Ok.ensures.1) ∙ read.1 ∙ ap (λ ts. Some (data_of ts)) (sym c.in-Ok-parse.ensures.ok.0))
 
 pub returns-clause-ordered : goal.returns-clause-ordered
 returns-clause-ordered c =
     let text = c.in-Ok.text.now in
-    let root : c.root.result ≡ tokens text = c.root.ensures.same ∙ c.in-Ok-parse.ensures.ok.0 in
+    let all : map node_token c.nodes.result.now ≡ tokens text = c.nodes.ensures.tokens ∙ c.in-Ok-parse.ensures.ok.0 in
     let yes : c.is_readable.result ≡ true = grind arith in
-    let read = readable_text text c.in-Ok-parse.ensures.ok.1 (λ j b. sym (c.is_readable.ensures j (subst (λ ts. BeginsWith ts j) (sym root) b)) ∙ yes) in
+    let read = readable_text text c.in-Ok-parse.ensures.ok.1 (λ j b. sym (c.is_readable.ensures j (subst (λ ts. IsWhole ts j) (sym all) b)) ∙ yes) in
     readable_ordered c.in-Ok-parse.tape (subst IsReadable (sym c.in-Ok-parse.ensures.ok.0) read.0)
