@@ -1,5 +1,5 @@
 -- Where the results stand that have a record, in faultless runs of baselines.
-use Rattle.std.proofs.Common.{◌≡◌, ◌<◌, ℕ, zero, suc, ◌+◌, Bool, true, false, ◌&&◌, not, cond, if◌then◌else◌, List, [], ◌∷◌, ◌++◌, map, filter, length, drop, append_assoc, Result, Ok, Err, refl, sym, ap, ◌∙◌, subst, arith}
+use Rattle.std.proofs.Common.{◌≡◌, ◌<◌, ℕ, zero, suc, ◌+◌, Bool, true, false, ◌&&◌, not, cond, if◌then◌else◌, List, [], ◌∷◌, ◌++◌, map, length, drop, append_assoc, Result, Ok, Err, refl, sym, ap, ◌∙◌, arith}
 use Rattle.std.proofs.Math.Seq.{get_or-append_seam}
 use Rattle.std.proofs.lemmas.List.{map-append, drop_all, drop_more, length-map, length-append}
 use Rattle.std.proofs.lemmas.List.Elements.{All-cons, All-drop, All-nil}
@@ -14,14 +14,13 @@ use Rattle.sarif_sources.specs.declared.fault.At.TheVariants.{Single}
 use Rattle.sarif_judge.specs.declared.item.Item.{Item}
 use Rattle.sarif_judge.specs.declared.item.Item.TheVariants.{Sound, Bad, Skipped}
 use Rattle.sarif_judge.specs.declared.spots.Spot.{Spot}
-use Rattle.sarif_judge.specs.Judging.{skips, item_by, item_of, items_of, opening_fault, first_bad, run_faults, faults_of_runs}
+use Rattle.sarif_judge.specs.Judging.{skips, item_by, item_of, items_of, opening_fault, first_bad, run_faults, faults_of_runs, run_values}
 use Rattle.sarif_judge.specs.Leftover.{found_at}
 use Rattle.sarif_judge.specs.Placed.{Placed}
 use Rattle.sarif_judge.specs.Spots.{no_run, placed_at, spots_in, spots_from}
 use Rattle.sarif_write.specs.Drafts.{present_results}
 use Rattle.sarif_write.specs.MergedRuns.{present}
 use Rattle.sarif_assemble.specs.Baselines.{with_spot, spots_with_record}
-use Rattle.sarif_assemble.specs.LogBy.{data_of}
 use Rattle.sarif_assemble.proofs.JudgedCounts.{no_fault, no_faults_here, no_faults_left}
 
 -- ---- what holds of all places holds of these
@@ -88,7 +87,7 @@ items_long p run =
     ∙ sym (length-map (range_with_len 0 (length (results_of p.run))) (λ seq. record { run = run; seq = seq }))
 
 from : (done rest : List Placed) (n : ℕ) → n ≡ length done → AllByRecursion (λ p. skips p.source ≡ true) rest → faults_of_runs rest ≡ []
-    → map (found_at (done ++ rest)) (spots_with_record (flat_map items_of rest) (spots_from n rest)) ≡ present_results (data_of rest)
+    → map (found_at (done ++ rest)) (spots_with_record (flat_map items_of rest) (spots_from n rest)) ≡ present_results (run_values rest)
 from done [] n is skip sound = refl
 from done (p ∷ rest) n is skip sound =
     let all = done ++ p ∷ rest in
@@ -103,7 +102,7 @@ from done (p ∷ rest) n is skip sound =
     ∙ ap (λ ds. present (results_of p.run) ++ ds) (from (done ++ p ∷ []) rest (n + 1) (omega (arith, is, length-append done (p ∷ []))) skip.1 (no_faults_left (run_faults p) (faults_of_runs rest) sound))
 
 pub found_at_spots : (runs : List Placed) → AllByRecursion (λ p. skips p.source ≡ true) runs → faults_of_runs runs ≡ []
-    → map (found_at runs) (spots_with_record (flat_map items_of runs) (spots_from 0 runs)) ≡ present_results (data_of runs)
+    → map (found_at runs) (spots_with_record (flat_map items_of runs) (spots_from 0 runs)) ≡ present_results (run_values runs)
 found_at_spots runs skip sound = from [] runs 0 refl skip sound
 
 pub all_long : (runs : List Placed) (n : ℕ) → length (flat_map items_of runs) ≡ length (spots_from n runs)

@@ -16,14 +16,14 @@ use Rattle.sarif_sources.specs.declared.fault.At.TheVariants.{Single}
 use Rattle.sarif_judge.specs.declared.item.Item.{Item}
 use Rattle.sarif_judge.specs.declared.item.Item.TheVariants.{Sound, Bad, Skipped}
 use Rattle.sarif_judge.specs.declared.outcome.Outcome.{Outcome}
-use Rattle.sarif_judge.specs.Judging.{skips, with_record, item_by, item_of, items_of, opening_fault, first_bad, run_faults, faults_of_runs, records_in, records_of}
+use Rattle.sarif_judge.specs.Judging.{skips, with_record, item_by, item_of, items_of, opening_fault, first_bad, run_faults, faults_of_runs, records_in, records_of, run_values}
 use Rattle.sarif_judge.specs.Outcomes.{all_outcomes, draft_beside, outcome_of, outcomes_of}
 use Rattle.sarif_judge.specs.Placed.{Placed}
 use Rattle.sarif_write.specs.declared.draft.Draft.{Draft}
-use Rattle.sarif_write.specs.Drafts.{applied_of, draft_by, drafts_by, members_in, present_results, unapplied}
+use Rattle.sarif_write.specs.Drafts.{applied_of, draft_by, drafts_by, members_in}
 use Rattle.sarif_write.specs.MergedRuns.{Listing, present}
 use Rattle.sarif_assemble.specs.Halves.{drafts_in, with_draft}
-use Rattle.sarif_assemble.specs.LogBy.{data_of, listing_of}
+use Rattle.sarif_assemble.specs.LogBy.{listing_of}
 use Rattle.sarif_assemble.proofs.JudgedCounts.{no_fault, no_faults_here, no_faults_left, records_of_log, records_of_baseline}
 
 drafts_append : (os ps : List Outcome) → drafts_in (os ++ ps) ≡ drafts_in os ++ drafts_in ps
@@ -88,7 +88,7 @@ both listed applied (r ∷ rs) qs [] es same = absurd (omega (arith, same))
 both listed applied (r ∷ rs) qs (d ∷ ds) es same = ap (λ xs. draft_by listed applied r (members_in d) ∷ xs) (both listed applied rs qs ds es (omega (arith, same)))
 
 pub current_drafts : (file : File) (ps : List Placed) → faults_of_runs ps ≡ [] → AllByRecursion (λ p. skips p.source ≡ false) ps
-    → drafts_in (all_outcomes file ps) ≡ drafts_by (listing_of file) (applied_of file) (records_of ps) (flat_map results_of (data_of ps))
+    → drafts_in (all_outcomes file ps) ≡ drafts_by (listing_of file) (applied_of file) (records_of ps) (flat_map results_of (run_values ps))
 current_drafts file [] sound logs = refl
 current_drafts file (p ∷ ps) sound logs =
     let here = no_faults_here (run_faults p) (faults_of_runs ps) sound in
@@ -96,7 +96,7 @@ current_drafts file (p ∷ ps) sound logs =
     drafts_append (outcomes_of file p) (all_outcomes file ps)
     ∙ ap (λ xs. xs ++ drafts_in (all_outcomes file ps)) (of_log file p logs.0 here)
     ∙ ap (λ xs. drafts_by (listing_of file) (applied_of file) (records_in (items_of p)) (results_of p.run) ++ xs) (current_drafts file ps left logs.1)
-    ∙ both (listing_of file) (applied_of file) (records_in (items_of p)) (records_of ps) (results_of p.run) (flat_map results_of (data_of ps)) (records_of_log p logs.0 here)
+    ∙ both (listing_of file) (applied_of file) (records_in (items_of p)) (records_of ps) (results_of p.run) (flat_map results_of (run_values ps)) (records_of_log p logs.0 here)
 
 -- the items among outcomes
 items_made : (file : File) (p : Placed) (seqs : List ℕ) → map (λ o. o.item) (map (outcome_of file p) seqs) ≡ map (item_of p) seqs

@@ -14,7 +14,7 @@ use Rattle.sarif_write.specs.declared.run_parts.RunParts.{RunParts}
 use Rattle.sarif_write.specs.Drafts.{members_in, own_count, ArePartsOf, IsWholeRun}
 use Rattle.sarif_write.specs.MergedRuns.{bare}
 use Rattle.sarif_write.proofs.WholeMembers.{without_whole}
-use Rattle.sarif_assemble.specs.LogBy.{data_of}
+use Rattle.sarif_judge.specs.Judging.{run_values}
 
 -- a run without its results holds no number with a fraction, where the run holds none
 pub beside_whole : (run : Data) → has_float run ≡ false → has_float (beside_results run) ≡ false
@@ -58,6 +58,6 @@ pub whole_more : (all : List RunParts) (p : RunParts) → AllByRecursion IsWhole
 whole_more [] p are is = (is, tt)
 whole_more (q ∷ all) p are is = (are.0, whole_more all p are.1 is)
 
-pub data_more : (rs : List OpenedRun) (r : OpenedRun) → data_of (map placed_of rs) ++ (placed_of r).run ∷ [] ≡ data_of (map placed_of (rs ++ r ∷ []))
+pub data_more : (rs : List OpenedRun) (r : OpenedRun) → run_values (map placed_of rs) ++ (placed_of r).run ∷ [] ≡ run_values (map placed_of (rs ++ r ∷ []))
 data_more [] r = refl
 data_more (q ∷ rs) r = ap (λ ds. (placed_of q).run ∷ ds) (data_more rs r)

@@ -10,13 +10,13 @@ use Rattle.sarif_records.specs.Members.{elements}
 use Rattle.sarif_records.specs.Run.{is_absent_result, results_array, results_of, results_total}
 use Rattle.sarif_match.specs.Partners.{partners_of, is_taken}
 use Rattle.sarif_suppress.specs.declared.suppressions.Applied.{Applied}
-use Rattle.sarif_judge.specs.Judging.{faults_of_runs, items_of, records_in, records_of, run_faults, skips}
+use Rattle.sarif_judge.specs.Judging.{faults_of_runs, items_of, records_in, records_of, run_faults, skips, run_values}
 use Rattle.sarif_judge.specs.Placed.{Placed}
 use Rattle.sarif_write.specs.declared.run_parts.RunParts.{RunParts}
 use Rattle.sarif_write.specs.Drafts.{counts_in_parts, drafts_by, own_count, present_results, ArePartsOf}
 use Rattle.sarif_write.specs.MergedRuns.{Listing, present}
 use Rattle.sarif_write.proofs.RunTexts.{run_count}
-use Rattle.sarif_assemble.specs.LogBy.{data_of, runs_without_results, states_from, taken_of}
+use Rattle.sarif_assemble.specs.LogBy.{runs_without_results, states_from, taken_of}
 use Rattle.sarif_assemble.proofs.JudgedCounts.{no_faults_here, no_faults_left, records_of_baseline}
 
 -- ---- lengths
@@ -68,13 +68,13 @@ own_total (p ∷ all) (run ∷ runs) parts =
     ap (λ n. n + counts_in_parts all) (run_count p run parts.1) ∙ ap (λ n. length (results_of run) + n) (own_total all runs parts.2)
 
 pub records_present : (ps : List Placed) → faults_of_runs ps ≡ [] → AllByRecursion (λ p. skips p.source ≡ true) ps
-    → length (records_of ps) ≡ length (present_results (data_of ps))
+    → length (records_of ps) ≡ length (present_results (run_values ps))
 records_present [] sound baselines = refl
 records_present (p ∷ ps) sound baselines =
     let here = records_of_baseline p baselines.0 (no_faults_here (run_faults p) (faults_of_runs ps) sound) in
     let rest = records_present ps (no_faults_left (run_faults p) (faults_of_runs ps) sound) baselines.1 in
     length-append (records_in (items_of p)) (records_of ps) ∙ ap (λ n. n + length (records_of ps)) here ∙ ap (λ n. length (present (results_of p.run)) + n) rest
-    ∙ sym (length-append (present (results_of p.run)) (present_results (data_of ps)))
+    ∙ sym (length-append (present (results_of p.run)) (present_results (run_values ps)))
 
 -- ---- runs without results
 

@@ -1,18 +1,17 @@
 -- The log of runs of logs and of what is left of baselines.
-use Rattle.std.proofs.Common.{◌≡◌, ◌≤◌, ◌+◌, ◌++◌, ℕ, suc, Bool, false, true, arith, List, [], ◌∷◌, Option, Some, map, length, refl, sym, subst, ap, ◌∙◌}
+use Rattle.std.proofs.Common.{◌≡◌, ◌≤◌, ◌+◌, ◌++◌, ℕ, Bool, false, true, arith, List, [], ◌∷◌, Some, map, length, refl, sym, ap, ◌∙◌}
 use Rattle.std.proofs.lemmas.List.{map-append, length-map}
 use Rattle.std.specs.List.{flat_map}
 use Rattle.serde_json.specs.Written.{compact_text}
 use Rattle.sarif_records.specs.declared.kinds.Level.{Level}
 use Rattle.sarif_records.specs.declared.kinds.State.{State}
 use Rattle.sarif_records.specs.declared.kinds.State.TheVariants.{Absent}
-use Rattle.sarif_records.specs.declared.record.Record.{Record}
 use Rattle.sarif_records.specs.Run.{results_of}
 use Rattle.sarif_match.specs.Partners.{partners_of}
 use Rattle.sarif_suppress.specs.File.{File}
 use Rattle.sarif_counts.specs.CountOf.{count_of}
 use Rattle.sarif_counts.proofs.CountAppend.{count_of-append}
-use Rattle.sarif_judge.specs.Judging.{records_of}
+use Rattle.sarif_judge.specs.Judging.{records_of, run_values}
 use Rattle.sarif_judge.specs.Leftover.{not_taken}
 use Rattle.sarif_judge.specs.Placed.{Placed}
 use Rattle.sarif_write.specs.declared.merged_text.Side.{Side}
@@ -26,19 +25,19 @@ use Rattle.sarif_assemble.specs.declared.judged.Judged.{Judged}
 use Rattle.sarif_assemble.specs.Baselines.{baseline_drafts, AreBaselines, IsLeft}
 use Rattle.sarif_assemble.specs.Halves.{IsCurrent}
 use Rattle.sarif_assemble.specs.Judged.{placed_in, IsJudged}
-use Rattle.sarif_assemble.specs.LogBy.{current_runs, data_of, leftover_runs, listing_of, runs_by, states_of, taken_of}
+use Rattle.sarif_assemble.specs.LogBy.{current_runs, leftover_runs, listing_of, runs_by, states_of, taken_of}
 use Rattle.sarif_assemble.specs.Together.{AreTogether}
 use Rattle.sarif_assemble.specs.Written.{AreWritten}
 use Rattle.sarif_assemble.proofs.JudgedCounts.{records_of_logs}
 use Rattle.sarif_assemble.proofs.LeftTexts.{counts, left_total, left_written, long}
-use Rattle.sarif_assemble.proofs.Sides.{drafts_long, few_present, records_present, own_total, results_long, states_long, taken_long}
+use Rattle.sarif_assemble.proofs.Sides.{drafts_long, few_present, own_total, results_long, states_long, taken_long}
 
 -- ---- the runs of logs
 
 pub current_long : (file : File) (now before : List Placed) (c : Half) (b : Baselines) → AreTogether file now before c b → length c.drafts.items ≡ length (records_of now)
 current_long file now before c b h =
     ap length h.is_current.drafts
-    ∙ drafts_long (listing_of file) (applied_of file) (records_of now) (flat_map results_of (data_of now)) (h.now_records ∙ sym (results_long (data_of now)))
+    ∙ drafts_long (listing_of file) (applied_of file) (records_of now) (flat_map results_of (run_values now)) (h.now_records ∙ sym (results_long (run_values now)))
 
 pub current_side : (file : File) (now before : List Placed) (c : Half) (b : Baselines) (s : Side) → AreTogether file now before c b
     → s.runs.items ≡ c.parts.items → s.drafts.items ≡ c.drafts.items → s.states.items ≡ map Some (states_of c.records.items b.records.items)
@@ -46,7 +45,7 @@ pub current_side : (file : File) (now before : List Placed) (c : Half) (b : Base
 current_side file now before c b s h runs drafts states =
     let many = current_long file now before c b h in record {
       whole = rw runs h.is_current.whole;
-      drafts = ap length drafts ∙ many ∙ h.now_records ∙ sym (own_total c.parts.items (data_of now) h.is_current.parts) ∙ sym (ap (λ ps. counts_in_parts ps) runs);
+      drafts = ap length drafts ∙ many ∙ h.now_records ∙ sym (own_total c.parts.items (run_values now) h.is_current.parts) ∙ sym (ap (λ ps. counts_in_parts ps) runs);
       states =
           ap length states ∙ length-map (states_of c.records.items b.records.items) Some
           ∙ states_long b.records.items (partners_of c.records.items b.records.items) 0 c.records.items
@@ -56,7 +55,7 @@ current_side file now before c b s h runs drafts states =
 -- ---- what is left of baselines
 
 pub baseline_long : (before : List Placed) (b : Baselines) → AreBaselines before b → length (baseline_drafts before) ≡ length (records_of before)
-baseline_long before b h = drafts_long (λ _ own. own) unapplied (records_of before) (present_results (data_of before)) h.count
+baseline_long before b h = drafts_long (λ _ own. own) unapplied (records_of before) (present_results (run_values before)) h.count
 
 few_left : {X : Type 0} (taken : List Bool) (xs : List X) → length (not_taken taken xs) ≤ length xs
 few_left [] [] = omega arith
@@ -80,7 +79,7 @@ left_is_side before b taken t h left same = record {
   drafts =
       ap length left.drafts
       ∙ long taken (baseline_drafts before) taken (baseline_long before b h ∙ sym same) refl
-      ∙ sym (left_total t.runs.items taken (data_of before) left.parts (same ∙ h.count));
+      ∙ sym (left_total t.runs.items taken (run_values before) left.parts (same ∙ h.count));
   states = ap length left.states ∙ length-map t.drafts.items (λ _. Some Absent);
 }
 
@@ -92,8 +91,8 @@ current_texts : (file : File) (now before : List Placed) (c : Half) (b : Baselin
 current_texts file now before c b s h runs drafts states =
     ap (λ ps. runs_texts ps s.drafts.items s.states.items) runs
     ∙ ap (λ ds. runs_texts c.parts.items ds s.states.items) (drafts ∙ h.is_current.drafts)
-    ∙ ap (runs_texts c.parts.items (drafts_by (listing_of file) (applied_of file) (records_of now) (flat_map results_of (data_of now)))) states
-    ∙ runs_written (listing_of file) (applied_of file) (records_of now) (states_of (records_of now) (records_of before)) c.parts.items (data_of now)
+    ∙ ap (runs_texts c.parts.items (drafts_by (listing_of file) (applied_of file) (records_of now) (flat_map results_of (run_values now)))) states
+    ∙ runs_written (listing_of file) (applied_of file) (records_of now) (states_of (records_of now) (records_of before)) c.parts.items (run_values now)
     h.now_runs h.is_current.parts h.now_records (states_long (records_of before) (partners_of (records_of now) (records_of before)) 0 (records_of now))
 
 baseline_texts : (file : File) (now before : List Placed) (c : Half) (b : Baselines) (t : Side) → AreTogether file now before c b
@@ -105,7 +104,7 @@ baseline_texts file now before c b t h left =
     let taken_all = taken_long (records_of now) (records_of before) in
     ap (left_texts t.runs.items t.drafts.items) left.states
     ∙ ap (λ es. left_texts t.runs.items es (map (λ _. Some Absent) es)) left.drafts
-    ∙ left_written (records_of before) taken t.runs.items (data_of before) ds h.before_runs left.parts h.are_baselines.count taken_all refl
+    ∙ left_written (records_of before) taken t.runs.items (run_values before) ds h.before_runs left.parts h.are_baselines.count taken_all refl
     (baseline_long before b h.are_baselines ∙ sym taken_all)
 
 current_counts : (file : File) (now before : List Placed) (c : Half) (b : Baselines) (s : Side) (x : State) (l : Level) (y : Bool) → AreTogether file now before c b
@@ -113,8 +112,8 @@ current_counts : (file : File) (now before : List Placed) (c : Half) (b : Baseli
     → tallied s.drafts.items s.states.items x l y ≡ count_of (current_runs file now before) x l y
 current_counts file now before c b s x l y h drafts states =
     ap (λ ds. tallied ds s.states.items x l y) (drafts ∙ h.is_current.drafts)
-    ∙ ap (λ ss. tallied (drafts_by (listing_of file) (applied_of file) (records_of now) (flat_map results_of (data_of now))) ss x l y) states
-    ∙ runs_count (listing_of file) (applied_of file) (records_of now) (states_of (records_of now) (records_of before)) (data_of now) x l y
+    ∙ ap (λ ss. tallied (drafts_by (listing_of file) (applied_of file) (records_of now) (flat_map results_of (run_values now))) ss x l y) states
+    ∙ runs_count (listing_of file) (applied_of file) (records_of now) (states_of (records_of now) (records_of before)) (run_values now) x l y
     h.now_runs h.now_records (states_long (records_of before) (partners_of (records_of now) (records_of before)) 0 (records_of now))
 
 baseline_counts : (file : File) (now before : List Placed) (c : Half) (b : Baselines) (t : Side) (x : State) (l : Level) (y : Bool) → AreTogether file now before c b
@@ -126,7 +125,7 @@ baseline_counts file now before c b t x l y h left =
     ap (λ ss. tallied t.drafts.items ss x l y) left.states
     ∙ ap (λ es. tallied es (map (λ _. Some Absent) es) x l y) left.drafts
     ∙ counts taken (baseline_drafts before) x l y (baseline_long before b h.are_baselines ∙ sym taken_all)
-    ∙ left_count (records_of before) taken (data_of before) x l y h.before_runs h.are_baselines.count taken_all
+    ∙ left_count (records_of before) taken (run_values before) x l y h.before_runs h.are_baselines.count taken_all
 
 pub written : (file : File) (now before : List Placed) (c : Half) (b : Baselines) (s t : Side) → AreTogether file now before c b
     → s.runs.items ≡ c.parts.items → s.drafts.items ≡ c.drafts.items → s.states.items ≡ map Some (states_of c.records.items b.records.items)
@@ -152,7 +151,7 @@ together file current baseline c b j k is_c are_b =
     let now = placed_in current in
     let before = placed_in baseline in
     let records = records_of_logs now j.faultless j.sources in
-    let present = few_present (data_of before) in record {
+    let present = few_present (run_values before) in record {
       is_current = is_c;
       are_baselines = are_b;
       now_runs = j.objects;

@@ -10,10 +10,10 @@ use Rattle.sarif_counts.specs.declared.policy.Policy.{Policy}
 use Rattle.sarif_counts.specs.CountOf.{count_of}
 use Rattle.sarif_counts.specs.Counts.{count_at}
 use Rattle.sarif_counts.specs.Policy.{verdict_of}
-use Rattle.sarif_judge.specs.Judging.{records_of}
+use Rattle.sarif_judge.specs.Judging.{records_of, run_values}
 use Rattle.sarif_judge.specs.Placed.{Placed}
 use Rattle.sarif_assemble.specs.declared.merged.Merged.{Merged}
-use Rattle.sarif_assemble.specs.LogBy.{data_of, log_by, runs_by, runs_without_results}
+use Rattle.sarif_assemble.specs.LogBy.{log_by, runs_by, runs_without_results}
 
 -- counts, verdict and numbers are those of a log with these runs, which are written
 pub record HasGate (runs : List Data) (policy : Policy) (bare_runs idle_entries : ℕ) (merged : Merged) : Type 0 where
@@ -30,4 +30,4 @@ pub record IsLogOf (runs : List Data) (policy : Policy) (without unused : ℕ) (
 -- the merge of these input runs, these baseline runs and this suppression file
 abbrev pub IsMergedBy : File → List Placed → List Placed → Policy → Merged → Type 0
 IsMergedBy file current baseline policy merged =
-    IsLogOf (runs_by file current baseline) policy (runs_without_results (data_of current)) (unused_of file (records_of current)) merged
+    IsLogOf (runs_by file current baseline) policy (runs_without_results (run_values current)) (unused_of file (records_of current)) merged

@@ -4,13 +4,12 @@ use Rattle.std.specs.Prelude.{◌≡◌, ℕ, Bool, List, [], ◌∷◌, Some, m
 use Rattle.std.specs.List.{All, AllByRecursion}
 use Rattle.serde_json.specs.Data.{Data}
 use Rattle.serde_json.specs.View.{members_view}
-use Rattle.sarif_records.specs.declared.kinds.State.{State}
 use Rattle.sarif_records.specs.declared.kinds.State.TheVariants.{Absent}
 use Rattle.sarif_records.specs.Run.{results_of}
 use Rattle.sarif_judge.specs.declared.item.Item.{Item}
 use Rattle.sarif_judge.specs.declared.item.Item.TheVariants.{Sound, Bad, Skipped}
 use Rattle.sarif_judge.specs.declared.spots.Spot.{Spot}
-use Rattle.sarif_judge.specs.Judging.{records_of}
+use Rattle.sarif_judge.specs.Judging.{records_of, run_values}
 use Rattle.sarif_judge.specs.Leftover.{found_at, not_taken}
 use Rattle.sarif_judge.specs.Opened.{placed_of}
 use Rattle.sarif_judge.specs.Placed.{Placed}
@@ -21,7 +20,6 @@ use Rattle.sarif_write.specs.declared.run_parts.RunParts.{RunParts}
 use Rattle.sarif_write.specs.Drafts.{drafts_by, members_in, present_results, unapplied, IsWholeRun}
 use Rattle.sarif_write.specs.MergedRuns.{bare, present}
 use Rattle.sarif_assemble.specs.declared.baselines.Baselines.{Baselines}
-use Rattle.sarif_assemble.specs.LogBy.{data_of}
 
 -- how many results of each run aren't absent already
 abbrev pub present_counts : List Placed → List ℕ
@@ -43,13 +41,13 @@ pub record AreBaselines (runs : List Placed) (baselines : Baselines) : Type 0 wh
   pub opened : map placed_of baselines.runs.items ≡ runs
   pub counts : baselines.counts.items ≡ present_counts runs
   pub records : baselines.records.items ≡ records_of runs
-  pub spots : map (found_at runs) baselines.spots.items ≡ present_results (data_of runs)
+  pub spots : map (found_at runs) baselines.spots.items ≡ present_results (run_values runs)
   pub within : All (IsSpotOf runs) baselines.spots.items
-  pub count : length (records_of runs) ≡ length (present_results (data_of runs))
+  pub count : length (records_of runs) ≡ length (present_results (run_values runs))
 
 -- the drafts of all results that aren't absent already
 abbrev pub baseline_drafts : List Placed → List Draft
-baseline_drafts runs = drafts_by (λ _ own. own) unapplied (records_of runs) (present_results (data_of runs))
+baseline_drafts runs = drafts_by (λ _ own. own) unapplied (records_of runs) (present_results (run_values runs))
 
 -- how many aren't taken
 abbrev pub left_count : List Bool → ℕ
@@ -67,7 +65,7 @@ AreLeftParts (parts ∷ more) taken (run ∷ runs) =
 
 -- what is left of these runs of baselines
 pub record IsLeft (runs : List Placed) (taken : List Bool) (side : Side) : Type 0 where
-  pub parts : AreLeftParts side.runs.items taken (data_of runs)
+  pub parts : AreLeftParts side.runs.items taken (run_values runs)
   pub whole : AllByRecursion IsWholeRun side.runs.items
   pub drafts : side.drafts.items ≡ not_taken taken (baseline_drafts runs)
   pub states : side.states.items ≡ map (λ _. Some Absent) side.drafts.items

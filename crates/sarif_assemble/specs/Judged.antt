@@ -4,13 +4,12 @@ use Rattle.std.specs.Prelude.{◌≡◌, ◌≤◌, Bool, List, [], map, length}
 use Rattle.std.specs.List.{AllByRecursion}
 use Rattle.sarif_records.specs.Run.{results_total}
 use Rattle.sarif_suppress.specs.File.{File}
-use Rattle.sarif_judge.specs.Judging.{faults_of_runs, skips}
+use Rattle.sarif_judge.specs.Judging.{faults_of_runs, skips, run_values}
 use Rattle.sarif_judge.specs.Opened.{placed_of}
 use Rattle.sarif_judge.specs.Outcomes.{all_outcomes}
 use Rattle.sarif_judge.specs.Placed.{Placed}
 use Rattle.sarif_write.specs.Drafts.{IsRun}
 use Rattle.sarif_assemble.specs.declared.judged.Judged.{Judged}
-use Rattle.sarif_assemble.specs.LogBy.{data_of}
 
 abbrev pub placed_in : Judged → List Placed
 placed_in judged = map placed_of judged.runs.items
@@ -20,6 +19,6 @@ pub record IsJudged (file : File) (baseline : Bool) (judged : Judged) : Type 0 w
   pub outcomes : judged.outcomes.items ≡ all_outcomes file (placed_in judged)
   pub faultless : faults_of_runs (placed_in judged) ≡ []
   pub sources : AllByRecursion (λ p. skips p.source ≡ baseline) (placed_in judged)
-  pub objects : AllByRecursion IsRun (data_of (placed_in judged))
+  pub objects : AllByRecursion IsRun (run_values (placed_in judged))
   pub few_runs : length (placed_in judged) ≤ 10000
-  pub few_results : results_total (data_of (placed_in judged)) ≤ 1000000
+  pub few_results : results_total (run_values (placed_in judged)) ≤ 1000000

@@ -13,7 +13,7 @@ use Rattle.sarif_suppress.specs.Written.{suppressions_of}
 use Rattle.sarif_counts.specs.declared.policy.Policy.{Policy}
 use Rattle.sarif_counts.specs.CountOf.{count_of}
 use Rattle.sarif_counts.specs.Gate.{gate_of}
-use Rattle.sarif_judge.specs.Judging.{records_of}
+use Rattle.sarif_judge.specs.Judging.{records_of, run_values}
 use Rattle.sarif_judge.specs.Placed.{Placed}
 use Rattle.sarif_write.specs.Log.{log_with}
 use Rattle.sarif_write.specs.MergedRuns.{Listing, merged_runs, absent_runs}
@@ -44,18 +44,15 @@ taken_of cs bs = map (is_taken (partners_of cs bs)) (range_with_len 0 (length bs
 abbrev pub listing_of : File → Listing
 listing_of file r own = suppressions_of own file r
 
-abbrev pub data_of : List Placed → List Data
-data_of runs = map (λ p. p.run) runs
-
 -- the input runs, each result with its level, its state and its suppressions
 abbrev pub current_runs : File → List Placed → List Placed → List Data
 current_runs file current baseline =
-    merged_runs (listing_of file) (records_of current) (states_of (records_of current) (records_of baseline)) (data_of current)
+    merged_runs (listing_of file) (records_of current) (states_of (records_of current) (records_of baseline)) (run_values current)
 
 -- the baseline runs with a result that is nobody's partner, with just these
 abbrev pub leftover_runs : List Placed → List Placed → List Data
 leftover_runs current baseline =
-    absent_runs (records_of baseline) (taken_of (records_of current) (records_of baseline)) (data_of baseline)
+    absent_runs (records_of baseline) (taken_of (records_of current) (records_of baseline)) (run_values baseline)
 
 abbrev pub runs_by : File → List Placed → List Placed → List Data
 runs_by file current baseline = current_runs file current baseline ++ leftover_runs current baseline
@@ -71,4 +68,4 @@ log_by runs policy without unused = log_with (gate_of (count_of runs) policy wit
 -- the log of these input runs, baseline runs and suppression file
 abbrev pub merged_by : File → List Placed → List Placed → Policy → Data
 merged_by file current baseline policy =
-    log_by (runs_by file current baseline) policy (runs_without_results (data_of current)) (unused_of file (records_of current))
+    log_by (runs_by file current baseline) policy (runs_without_results (run_values current)) (unused_of file (records_of current))

@@ -2,14 +2,14 @@
 use Rattle.std.specs.Prelude.{◌≡◌, List}
 use Rattle.sarif_suppress.specs.File.{File}
 use Rattle.sarif_suppress.specs.Suppressing.{unused_of}
-use Rattle.sarif_judge.specs.Judging.{records_of}
+use Rattle.sarif_judge.specs.Judging.{records_of, run_values}
 use Rattle.sarif_judge.specs.Placed.{Placed}
 use Rattle.sarif_assemble.specs.declared.prepared.Prepared.{Prepared}
-use Rattle.sarif_assemble.specs.LogBy.{data_of, runs_by, runs_without_results}
+use Rattle.sarif_assemble.specs.LogBy.{runs_by, runs_without_results}
 use Rattle.sarif_assemble.specs.Written.{AreWritten}
 
 -- all that is written of the merge of these input runs, these baseline runs and this suppression file
 pub record IsPrepared (file : File) (current baseline : List Placed) (prepared : Prepared) : Type 0 where
   pub written : AreWritten prepared.current prepared.baseline (runs_by file current baseline)
-  pub without : prepared.without ≡ runs_without_results (data_of current)
+  pub without : prepared.without ≡ runs_without_results (run_values current)
   pub unused : prepared.unused ≡ unused_of file (records_of current)

@@ -4,22 +4,21 @@ use Rattle.std.specs.Prelude.{◌≡◌, ◌≤◌, List, length}
 use Rattle.std.specs.List.{AllByRecursion}
 use Rattle.sarif_records.specs.Run.{results_total}
 use Rattle.sarif_suppress.specs.File.{File}
-use Rattle.sarif_judge.specs.Judging.{records_of}
+use Rattle.sarif_judge.specs.Judging.{records_of, run_values}
 use Rattle.sarif_judge.specs.Placed.{Placed}
 use Rattle.sarif_write.specs.Drafts.{IsRun}
 use Rattle.sarif_assemble.specs.declared.baselines.Baselines.{Baselines}
 use Rattle.sarif_assemble.specs.declared.halves.Half.{Half}
 use Rattle.sarif_assemble.specs.Baselines.{AreBaselines}
 use Rattle.sarif_assemble.specs.Halves.{IsCurrent}
-use Rattle.sarif_assemble.specs.LogBy.{data_of}
 
 -- a record of each result of the logs, and of each that is there of the baselines
 pub record AreTogether (file : File) (now before : List Placed) (current : Half) (baselines : Baselines) : Type 0 where
   pub is_current : IsCurrent file now current
   pub are_baselines : AreBaselines before baselines
-  pub now_runs : AllByRecursion IsRun (data_of now)
-  pub before_runs : AllByRecursion IsRun (data_of before)
-  pub now_records : length (records_of now) ≡ results_total (data_of now)
+  pub now_runs : AllByRecursion IsRun (run_values now)
+  pub before_runs : AllByRecursion IsRun (run_values before)
+  pub now_records : length (records_of now) ≡ results_total (run_values now)
   pub few_runs : length now ≤ 10000
   pub few_now : length (records_of now) ≤ 1000000
   pub few_before : length (records_of before) ≤ 1000000

@@ -2,14 +2,13 @@
 ghost use Rattle.std.specs.Prelude.{◌≡◌, ◌++◌, ◌∷◌, [], false, IfOk, OnOk, map};
 ghost use Rattle.std.specs.List.{AllByRecursion};
 ghost use Rattle.sarif_suppress.specs.File.{File};
-ghost use Rattle.sarif_judge.specs.Judging.{records_in};
+ghost use Rattle.sarif_judge.specs.Judging.{records_in, run_values};
 ghost use Rattle.sarif_judge.specs.Opened.{placed_of};
 ghost use Rattle.serde_json.specs.View.{members_view};
 ghost use Rattle.sarif_write.specs.MergedRuns.{bare};
 ghost use Rattle.sarif_write.specs.Drafts.{members_in, own_count, ArePartsOf, IsWholeRun};
 ghost use Rattle.sarif_assemble.specs.Halves.{drafts_in, with_draft, IsCurrent};
 ghost use Rattle.sarif_assemble.specs.Judged.{placed_in, IsJudged};
-ghost use Rattle.sarif_assemble.specs.LogBy.{data_of};
 
 use crate::judged::Judged;
 use sarif_judge::{Item, OpenedRun, Outcome};
@@ -94,7 +93,7 @@ fn current_run(alloc: Global, run: OpenedRun<'_, '_>) -> RunParts
 /// The parts of the runs of logs.
 fn current_parts(alloc: Global, runs: Vec<OpenedRun<'_, '_>>) -> Result<Vec<RunParts>, AllocError>
     ensures parts { IfOk result
-        (λ all. ArePartsOf own_count all.items (data_of (map placed_of runs.entry.items))) }
+        (λ all. ArePartsOf own_count all.items (run_values (map placed_of runs.entry.items))) }
     ensures whole { IfOk result (λ all. AllByRecursion IsWholeRun all.items) }
 {
     let mut all = Vec::with_capacity(alloc, runs.len())?;

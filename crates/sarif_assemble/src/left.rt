@@ -10,7 +10,7 @@ ghost use Rattle.sarif_judge.specs.Placed.{Placed};
 ghost use Rattle.sarif_write.specs.MergedRuns.{bare};
 ghost use Rattle.sarif_write.specs.Drafts.{members_in, present_results, IsWholeRun};
 ghost use Rattle.sarif_assemble.specs.Baselines.{baseline_drafts, left_count, present_counts, AreBaselines, AreLeftParts, IsLeft};
-ghost use Rattle.sarif_assemble.specs.LogBy.{data_of};
+ghost use Rattle.sarif_judge.specs.Judging.{run_values};
 
 use crate::baselines::Baselines;
 use sarif_judge::{OpenedRun, draft_leftovers, list_leftovers};
@@ -52,9 +52,9 @@ fn left_parts(
 ) -> Result<Vec<RunParts>, AllocError>
     requires counts { counts.now ≡ present_counts (map placed_of runs.items) }
     requires taken { length taken.now
-        ≡ length (present_results (data_of (map placed_of runs.items))) }
+        ≡ length (present_results (run_values (map placed_of runs.items))) }
     ensures parts { IfOk result
-        (λ all. AreLeftParts all.items taken.entry.now (data_of (map placed_of runs.entry.items))) }
+        (λ all. AreLeftParts all.items taken.entry.now (run_values (map placed_of runs.entry.items))) }
     ensures whole { IfOk result (λ all. AllByRecursion IsWholeRun all.items) }
 {
     let mut all = Vec::with_capacity(alloc, runs.len())?;

@@ -4,6 +4,6 @@ pub mod SourceAnswers
 pub mod SourceSteps
 pub mod FileAnswers
 pub mod ParsedFaults
-pub mod IndexedParts
+pub mod ReadParts
 pub mod ReadIndexes
 pub mod OpenedParts

@@ -7,7 +7,8 @@ use Rattle.sarif_judge.specs.declared.opened.OpenedRun.{OpenedRun}
 use Rattle.sarif_judge.specs.Opened.{placed_of}
 use Rattle.sarif_judge.specs.Placed.{Placed}
 use Rattle.sarif_inputs.specs.declared.sources.Runs.{Runs}
-use Rattle.sarif_inputs.specs.Inputs.{data_of, numbered, placed}
+use Rattle.sarif_judge.specs.Judging.{run_values}
+use Rattle.sarif_inputs.specs.Inputs.{numbered, placed}
 use Rattle.sarif_inputs.specs.ReadSoFar.{sources_of}
 use Rattle.sarif_inputs.specs.Runs.{AreRunsOf}
 use Rattle.sarif_inputs.specs.SourceFaults.{source_faults}
@@ -33,20 +34,20 @@ module _ (ls bs : List (List ℕ)) (all : List OpenedRun) (n : ℕ) (are : map p
       let baselines = ap length runs_of_baselines in
       omega (arith, few, both, logs, baselines, length-map all placed_of, length-map (take n all) placed_of, length-map (drop n all) placed_of)
 
-  results_in_parts : results_total (data_of (map placed_of all)) ≤ 1000000
-      → results_total (data_of (map placed_of (take n all))) + results_total (data_of (map placed_of (drop n all))) ≤ 1000000
+  results_in_parts : results_total (run_values (map placed_of all)) ≤ 1000000
+      → results_total (run_values (map placed_of (take n all))) + results_total (run_values (map placed_of (drop n all))) ≤ 1000000
   results_in_parts few =
       let now = placed (numbered Log 0 ls) in
       let before = placed (numbered Baseline 0 bs) in
-      let both = ap (λ ps. results_total (data_of ps)) (are ∙ placed-append (numbered Log 0 ls) (numbered Baseline 0 bs))
-      ∙ ap results_total (map-append (λ (p : Placed). p.run) now before) ∙ total_append (data_of now) (data_of before) in
-      let logs = ap (λ ps. results_total (data_of ps)) runs_of_logs in
-      let baselines = ap (λ ps. results_total (data_of ps)) runs_of_baselines in
+      let both = ap (λ ps. results_total (run_values ps)) (are ∙ placed-append (numbered Log 0 ls) (numbered Baseline 0 bs))
+      ∙ ap results_total (map-append (λ (p : Placed). p.run) now before) ∙ total_append (run_values now) (run_values before) in
+      let logs = ap (λ ps. results_total (run_values ps)) runs_of_logs in
+      let baselines = ap (λ ps. results_total (run_values ps)) runs_of_baselines in
       omega (arith, few, both, logs, baselines)
 
   -- the two parts are the runs of logs and of baselines
   pub are_runs : (runs : Runs) → runs.current.items ≡ take n all → runs.baseline.items ≡ drop n all
-      → length all ≤ 10000 → results_total (data_of (map placed_of all)) ≤ 1000000
+      → length all ≤ 10000 → results_total (run_values (map placed_of all)) ≤ 1000000
       → length ls ≤ 1000 → length bs ≤ 1000 → source_faults 0 0 (sources_of ls bs) ≡ []
       → AreRunsOf ls bs runs
   are_runs runs first second few few_results few_ls few_bs none = record {

@@ -11,8 +11,8 @@ use Rattle.sarif_records.specs.declared.fault.ReadFault.{ReadFault}
 use Rattle.sarif_records.specs.Reading.{log_of}
 use Rattle.sarif_sources.specs.declared.fault.MergeFault.{MergeFault}
 use Rattle.sarif_sources.specs.declared.fault.Source.TheVariants.{Log, Baseline}
-use Rattle.sarif_inputs.specs.Inputs.{Sourced, data_of, numbered, placed, placed_from, readable, runs_in}
-use Rattle.sarif_judge.specs.Judging.{skips}
+use Rattle.sarif_inputs.specs.Inputs.{Sourced, numbered, placed, placed_from, readable, runs_in}
+use Rattle.sarif_judge.specs.Judging.{skips, run_values}
 use Rattle.sarif_judge.specs.Placed.{Placed}
 use Rattle.sarif_inputs.proofs.SourceRuns.{data_placed}
 
@@ -50,13 +50,13 @@ module _ (law : (bytes : List ℕ) (runs : List Data) → log_of bytes ≡ Ok ru
   readable_whole bytes (Ok runs) h = law bytes runs h
   readable_whole bytes (Err fault) h = refl
 
-  pub whole : (sources : List Sourced) → list_any has_float (data_of (placed sources)) ≡ false
+  pub whole : (sources : List Sourced) → list_any has_float (run_values (placed sources)) ≡ false
   whole [] = refl
   whole (s ∷ rest) =
       let here = placed_from s.source 0 (runs_in s) in
       ap (list_any has_float) (map-append (λ p. p.run) here (placed rest))
-      ∙ (list_any-append has_float (data_of here) (data_of (placed rest))
-      ∙ (ap (λ b. b || list_any has_float (data_of (placed rest))) (ap (list_any has_float) (data_placed s.source 0 (runs_in s)) ∙ readable_whole s.bytes (log_of s.bytes) refl)
+      ∙ (list_any-append has_float (run_values here) (run_values (placed rest))
+      ∙ (ap (λ b. b || list_any has_float (run_values (placed rest))) (ap (list_any has_float) (data_placed s.source 0 (runs_in s)) ∙ readable_whole s.bytes (log_of s.bytes) refl)
       ∙ whole rest))
 
 -- ---- the two parts of all runs

@@ -11,7 +11,8 @@ use Rattle.sarif_records.specs.Run.{results_total}
 use Rattle.sarif_sources.specs.declared.fault.Source.{Source}
 use Rattle.sarif_inputs.specs.declared.read_run.ReadRun.{ReadRun}
 use Rattle.sarif_judge.specs.Placed.{Placed}
-use Rattle.sarif_inputs.specs.Inputs.{data_of, placed_from}
+use Rattle.sarif_judge.specs.Judging.{run_values}
+use Rattle.sarif_inputs.specs.Inputs.{placed_from}
 use Rattle.sarif_inputs.specs.ReadRun.{placed_read}
 
 placed_push : (source : Source) (n : ℕ) (ds : List Data) (d : Data)
@@ -34,7 +35,7 @@ placed_more source vs v =
     ∙ placed_push source 0 (map run_of vs) (run_of v)
     ∙ ap (λ m. placed_from source 0 (map run_of vs) ++ record { source = source; number = m; run = run_of v } ∷ []) same
 
-pub data_placed : (source : Source) (n : ℕ) (ds : List Data) → data_of (placed_from source n ds) ≡ ds
+pub data_placed : (source : Source) (n : ℕ) (ds : List Data) → run_values (placed_from source n ds) ≡ ds
 data_placed source n [] = refl
 data_placed source n (d ∷ ds) = ap (λ es. d ∷ es) (data_placed source (n + 1) ds)
 
@@ -48,21 +49,21 @@ total_append (d ∷ ds) es = let rest = total_append ds es in omega arith
 
 -- the results of all runs, with those of one source more
 pub total_more : (ps : List Placed) (source : Source) (ds : List Data)
-    → results_total (data_of (ps ++ placed_from source 0 ds)) ≡ results_total (data_of ps) + results_total ds
+    → results_total (run_values (ps ++ placed_from source 0 ds)) ≡ results_total (run_values ps) + results_total ds
 total_more ps source ds =
     ap results_total (map-append (λ (p : Placed). p.run) ps (placed_from source 0 ds))
-    ∙ total_append (data_of ps) (data_of (placed_from source 0 ds))
-    ∙ ap (λ es. results_total (data_of ps) + results_total es) (data_placed source 0 ds)
+    ∙ total_append (run_values ps) (run_values (placed_from source 0 ds))
+    ∙ ap (λ es. results_total (run_values ps) + results_total es) (data_placed source 0 ds)
 
 -- the same for the runs as the code holds them: how many there are, and their results
 pub counted_more : (old new : List ReadRun) (source : Source) (ds : List Data)
     → map placed_read new ≡ map placed_read old ++ placed_from source 0 ds
-    → (length new ≡ length old + length ds) × (results_total (data_of (map placed_read new)) ≡ results_total (data_of (map placed_read old)) + results_total ds)
+    → (length new ≡ length old + length ds) × (results_total (run_values (map placed_read new)) ≡ results_total (run_values (map placed_read old)) + results_total ds)
 counted_more old new source ds same =
     let long : length (map placed_read new) ≡ length (map placed_read old) + length ds =
     ap length same ∙ length-append (map placed_read old) (placed_from source 0 ds) ∙ ap (λ n. length (map placed_read old) + n) (length_placed source 0 ds) in (
       omega (arith, long, length-map new placed_read, length-map old placed_read),
-      ap (λ ps. results_total (data_of ps)) same ∙ total_more (map placed_read old) source ds,
+      ap (λ ps. results_total (run_values ps)) same ∙ total_more (map placed_read old) source ds,
     )
 
 -- where none of some runs holds a number with a fraction, one of them holds none

@@ -7,7 +7,8 @@ use Rattle.sarif_sources.specs.declared.fault.MergeFault.{MergeFault}
 use Rattle.sarif_sources.specs.declared.fault.Source.{Source}
 use Rattle.sarif_inputs.specs.declared.sources.Reading.{Reading}
 use Rattle.sarif_judge.specs.Placed.{Placed}
-use Rattle.sarif_inputs.specs.Inputs.{data_of, Sourced, numbered, placed, placed_from, readable, runs_in}
+use Rattle.sarif_judge.specs.Judging.{run_values}
+use Rattle.sarif_inputs.specs.Inputs.{Sourced, numbered, placed, placed_from, readable, runs_in}
 use Rattle.sarif_inputs.specs.Faults.{first, IsWanting}
 use Rattle.sarif_inputs.specs.ReadRun.{placed_read}
 use Rattle.sarif_inputs.specs.ReadSoFar.{IsCounted, faults_with}
@@ -45,25 +46,25 @@ length_on s rest =
     length-append here (placed rest) ∙ ap (λ n. n + length (placed rest)) (length_placed s.source 0 (runs_in s))
 
 total_on : (s : Sourced) (rest : List Sourced)
-    → results_total (data_of (placed (s ∷ rest))) ≡ results_total (runs_in s) + results_total (data_of (placed rest))
+    → results_total (run_values (placed (s ∷ rest))) ≡ results_total (runs_in s) + results_total (run_values (placed rest))
 total_on s rest =
     let here = placed_from s.source 0 (runs_in s) in
     ap results_total (map-append (λ (p : Placed). p.run) here (placed rest))
-    ∙ total_append (data_of here) (data_of (placed rest))
-    ∙ ap (λ ds. results_total ds + results_total (data_of (placed rest))) (data_placed s.source 0 (runs_in s))
+    ∙ total_append (run_values here) (run_values (placed rest))
+    ∙ ap (λ ds. results_total ds + results_total (run_values (placed rest))) (data_placed s.source 0 (runs_in s))
 
 faults_append : (runs results : ℕ) (ls bs : List Sourced)
-    → source_faults runs results (ls ++ bs) ≡ source_faults runs results ls ++ source_faults (runs + length (placed ls)) (results + results_total (data_of (placed ls))) bs
+    → source_faults runs results (ls ++ bs) ≡ source_faults runs results ls ++ source_faults (runs + length (placed ls)) (results + results_total (run_values (placed ls))) bs
 faults_append runs results [] bs = rw (add-zero runs, add-zero results) refl
 faults_append runs results (s ∷ ls) bs =
     let now = runs + length (runs_in s) in
     let all = results + results_total (runs_in s) in
     let here = reading_faults s.source (log_of s.bytes) ++ limit_faults s.source now all in
     let same_now : now + length (placed ls) ≡ runs + length (placed (s ∷ ls)) = omega (arith, length_on s ls) in
-    let same_all : all + results_total (data_of (placed ls)) ≡ results + results_total (data_of (placed (s ∷ ls))) = omega (arith, total_on s ls) in
+    let same_all : all + results_total (run_values (placed ls)) ≡ results + results_total (run_values (placed (s ∷ ls))) = omega (arith, total_on s ls) in
     ap (λ faults. here ++ faults) (faults_append now all ls bs)
-    ∙ sym (append_assoc here (source_faults now all ls) (source_faults (now + length (placed ls)) (all + results_total (data_of (placed ls))) bs))
-    ∙ ap (λ n. (here ++ source_faults now all ls) ++ source_faults n (all + results_total (data_of (placed ls))) bs) same_now
+    ∙ sym (append_assoc here (source_faults now all ls) (source_faults (now + length (placed ls)) (all + results_total (run_values (placed ls))) bs))
+    ∙ ap (λ n. (here ++ source_faults now all ls) ++ source_faults n (all + results_total (run_values (placed ls))) bs) same_now
     ∙ ap (λ n. (here ++ source_faults now all ls) ++ source_faults (runs + length (placed (s ∷ ls))) n bs) same_all
 
 -- once the logs are read with no fault, what is left are the faults of the baselines
@@ -72,11 +73,11 @@ pub faults_after : (ls bs : List Sourced) (reading : Reading)
     → source_faults 0 0 (ls ++ bs) ≡ source_faults (length reading.runs.items) reading.results bs
 faults_after ls bs reading counted runs none =
     let long : 0 + length (placed ls) ≡ length reading.runs.items = omega (arith, ap length runs, length-map reading.runs.items placed_read) in
-    let total : 0 + results_total (data_of (placed ls)) ≡ reading.results = omega (arith, counted.2, ap (λ ps. results_total (data_of ps)) runs) in
-    let then = source_faults (0 + length (placed ls)) (0 + results_total (data_of (placed ls))) bs in
+    let total : 0 + results_total (run_values (placed ls)) ≡ reading.results = omega (arith, counted.2, ap (λ ps. results_total (run_values ps)) runs) in
+    let then = source_faults (0 + length (placed ls)) (0 + results_total (run_values (placed ls))) bs in
     faults_append 0 0 ls bs
     ∙ ap (λ faults. faults ++ then) none
-    ∙ ap (λ n. source_faults n (0 + results_total (data_of (placed ls))) bs) long
+    ∙ ap (λ n. source_faults n (0 + results_total (run_values (placed ls))) bs) long
     ∙ ap (λ n. source_faults (length reading.runs.items) n bs) total
 
 module _ (ls bs : List Sourced) (start : Reading) (no_runs : start.runs.items ≡ []) (no_results : start.results ≡ 0) where
@@ -88,7 +89,7 @@ module _ (ls bs : List Sourced) (start : Reading) (no_runs : start.runs.items �
       → IsWanting e ⊎ (first (source_faults (length start.runs.items) start.results ls) ≡ Some e)
       → IsWanting e ⊎ (first (source_faults 0 0 (ls ++ bs)) ≡ Some e)
   refused_by_logs e refused =
-      let here = still_first (source_faults 0 0 ls) (source_faults (0 + length (placed ls)) (0 + results_total (data_of (placed ls))) bs) e (rw (at_start ls) at refused) in
+      let here = still_first (source_faults 0 0 ls) (source_faults (0 + length (placed ls)) (0 + results_total (run_values (placed ls))) bs) e (rw (at_start ls) at refused) in
       rw (faults_append 0 0 ls bs) here
 
   -- with the logs read, the faults are those of the baselines

@@ -1,5 +1,5 @@
 -- What a merge is given, and the runs that can be read from it.
-use Rattle.std.specs.Prelude.{ℕ, ◌+◌, List, [], ◌∷◌, ◌++◌, map, Option, Result, Ok, Err}
+use Rattle.std.specs.Prelude.{ℕ, ◌+◌, List, [], ◌∷◌, ◌++◌, Option, Result, Ok, Err}
 use Rattle.std.specs.List.{flat_map}
 use Rattle.serde_json.specs.Data.{Data}
 use Rattle.sarif_judge.specs.Placed.{Placed}
@@ -60,6 +60,3 @@ baseline_runs inputs = placed (baseline_sources inputs)
 -- the input runs, and then the baseline runs
 abbrev pub all_runs : Inputs → List Placed
 all_runs inputs = input_runs inputs ++ baseline_runs inputs
-
-abbrev pub data_of : List Placed → List Data
-data_of runs = map (λ p. p.run) runs

@@ -1,9 +1,12 @@
 -- What reading an indexed source may give. No public clause of the merge speaks of it.
-use Rattle.std.specs.Prelude.{◌≡◌, ◌≤◌, ℕ, List, map, length, Result, Ok, Err, IfOk, IfErr}
+use Rattle.std.specs.Prelude.{◌≡◌, ◌≤◌, ℕ, ⊤, List, [], ◌∷◌, map, length, Result, Ok, Err, IfOk, IfErr}
 use Rattle.std.specs.declared.alloc.Global.{Global}
 use Rattle.std.specs.declared.vec.Vec.{Vec}
+use Rattle.json.specs.Token.{Token}
+use Rattle.json_index.specs.declared.indexing.IndexFault.{IndexFault}
+use Rattle.json_index.specs.Together.{IsIndexed}
 use Rattle.sarif_records.specs.Indexed.{run_of}
-use Rattle.sarif_records.specs.Reading.{log_of}
+use Rattle.sarif_records.specs.Reading.{log_of, without_mark}
 use Rattle.sarif_records.specs.Run.{results_total}
 use Rattle.sarif_records.specs.declared.indexed_run.IndexedRun.{IndexedRun}
 use Rattle.sarif_records.specs.declared.fault.ReadFault.{ReadFault}
@@ -15,3 +18,20 @@ pub record IsParsedFrom (bytes : List ℕ) (parsed : Result (Vec IndexedRun Glob
   pub few_runs : IfOk parsed (λ log. length log.items ≤ 10000)
   pub few_results : IfOk parsed (λ log. results_total (map run_of log.items) ≤ 1000000)
   pub err : IfErr parsed (λ e. (e.fault ≡ OutOfMemory → ⊥) → log_of bytes ≡ Err e)
+
+-- this was read of each of these sources
+abbrev pub AreParsedFrom : List (List ℕ) → List (Result (Vec IndexedRun Global) ReadFault) → Type 0
+AreParsedFrom [] [] = ⊤
+AreParsedFrom [] (one ∷ parsed) = ⊥
+AreParsedFrom (bytes ∷ sources) [] = ⊥
+AreParsedFrom (bytes ∷ sources) (one ∷ parsed) = IsParsedFrom bytes one × AreParsedFrom sources parsed
+
+-- this was read of this index, of whatever bytes it is
+abbrev pub IsReadFrom : Result (List Token) IndexFault → Result (Vec IndexedRun Global) ReadFault → Type 0
+IsReadFrom index read = (bytes : List ℕ) → IsIndexed (without_mark bytes) index → IsParsedFrom bytes read
+
+abbrev pub AreReadFrom : List (Result (List Token) IndexFault) → List (Result (Vec IndexedRun Global) ReadFault) → Type 0
+AreReadFrom [] [] = ⊤
+AreReadFrom [] (one ∷ read) = ⊥
+AreReadFrom (index ∷ indexes) [] = ⊥
+AreReadFrom (index ∷ indexes) (one ∷ read) = IsReadFrom index one × AreReadFrom indexes read

@@ -8,7 +8,7 @@ use Rattle.sarif_sources.specs.declared.fault.Source.{Source}
 use Rattle.sarif_sources.specs.declared.fault.Source.TheVariants.{Log, Baseline}
 use Rattle.sarif_inputs.specs.declared.sources.Reading.{Reading}
 use Rattle.sarif_inputs.specs.Inputs.{Sourced, numbered, readable}
-use Rattle.sarif_inputs.specs.Inputs.{data_of}
+use Rattle.sarif_judge.specs.Judging.{run_values}
 use Rattle.sarif_inputs.specs.ReadRun.{placed_read}
 use Rattle.sarif_inputs.specs.SourceFaults.{reading_faults, limit_faults}
 
@@ -17,7 +17,7 @@ abbrev pub IsCounted : Reading → Type 0
 IsCounted reading =
     (length reading.runs.items ≤ 10000)
     × (reading.results ≤ 1000000)
-    × (reading.results ≡ results_total (data_of (map placed_read reading.runs.items)))
+    × (reading.results ≡ results_total (run_values (map placed_read reading.runs.items)))
 
 -- the faults of a source that reads as this, after so many runs and results
 abbrev pub faults_with : Source → Result (List Data) ReadFault → ℕ → ℕ → List MergeFault

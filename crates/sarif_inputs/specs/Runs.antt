@@ -4,7 +4,8 @@ use Rattle.sarif_records.specs.Run.{results_total}
 use Rattle.sarif_sources.specs.declared.fault.Source.TheVariants.{Log, Baseline}
 use Rattle.sarif_judge.specs.Opened.{placed_of}
 use Rattle.sarif_inputs.specs.declared.sources.Runs.{Runs}
-use Rattle.sarif_inputs.specs.Inputs.{data_of, numbered, placed}
+use Rattle.sarif_judge.specs.Judging.{run_values}
+use Rattle.sarif_inputs.specs.Inputs.{numbered, placed}
 use Rattle.sarif_inputs.specs.ReadSoFar.{sources_of}
 use Rattle.sarif_inputs.specs.SourceFaults.{source_faults}
 
@@ -13,7 +14,7 @@ pub record AreRunsOf (logs baselines : List (List ℕ)) (runs : Runs) : Type 0 w
   pub current : map placed_of runs.current.items ≡ placed (numbered Log 0 logs)
   pub baseline : map placed_of runs.baseline.items ≡ placed (numbered Baseline 0 baselines)
   pub few : length runs.current.items + length runs.baseline.items ≤ 10000
-  pub few_results : results_total (data_of (map placed_of runs.current.items)) + results_total (data_of (map placed_of runs.baseline.items)) ≤ 1000000
+  pub few_results : results_total (run_values (map placed_of runs.current.items)) + results_total (run_values (map placed_of runs.baseline.items)) ≤ 1000000
   pub few_logs : length logs ≤ 1000
   pub few_baselines : length baselines ≤ 1000
   pub faultless : source_faults 0 0 (sources_of logs baselines) ≡ []

@@ -5,6 +5,7 @@
 mod indexes;
 mod opening;
 mod read_run;
+mod reading;
 mod sources;
 mod suppression_file;
 

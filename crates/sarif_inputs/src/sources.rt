@@ -3,16 +3,16 @@ ghost use Rattle.std.specs.Prelude.{◌≡◌, ◌≤◌, ◌+◌, ◌++◌, [],
 ghost use Rattle.std.specs.Prelude.{OnOk, IfErr, IfOk};
 ghost use Rattle.std.specs.List.{list_any};
 ghost use Rattle.serde_json.specs.Written.{has_float};
-ghost use Rattle.json_index.specs.Together.{AreIndexed, IsIndexed};
 ghost use Rattle.sarif_records.specs.Indexed.{run_of};
-ghost use Rattle.sarif_records.specs.Reading.{log_of, without_mark};
+ghost use Rattle.sarif_records.specs.Reading.{log_of};
 ghost use Rattle.sarif_records.specs.Run.{results_total};
 ghost use Rattle.sarif_sources.specs.Failing.{IsQuiet};
 ghost use Rattle.sarif_sources.specs.SourceKind.{source_of};
 ghost use Rattle.sarif_inputs.specs.Faults.{Answers, IsTooMany, number_faults};
-ghost use Rattle.sarif_inputs.specs.Inputs.{data_of, numbered, placed, placed_from, readable};
+ghost use Rattle.sarif_judge.specs.Judging.{run_values};
+ghost use Rattle.sarif_inputs.specs.Inputs.{numbered, placed, placed_from, readable};
 ghost use Rattle.sarif_inputs.specs.Indexes.{AreIndexesOf};
-ghost use Rattle.sarif_inputs.specs.Parsed.{IsParsedFrom};
+ghost use Rattle.sarif_inputs.specs.Parsed.{AreParsedFrom, IsParsedFrom};
 ghost use Rattle.sarif_inputs.specs.ReadRun.{placed_read};
 ghost use Rattle.sarif_inputs.specs.ReadSoFar.{IsCounted, faults_with, sources_of};
 ghost use Rattle.sarif_inputs.specs.Runs.{AreRunsOf};
@@ -20,11 +20,10 @@ ghost use Rattle.sarif_inputs.specs.SourceFaults.{reading_faults, limit_faults, 
 
 use crate::opening::open_each;
 use crate::read_run::ReadRun;
+use crate::reading::{ReadLog, read_kinds};
 use json_index::{Index, IndexFault};
 use sarif_judge::OpenedRun;
-use sarif_records::{
-    IndexedRun, MOST_RESULTS, MOST_RUNS, ReadFault, index_log, read_runs_hold_no_fraction,
-};
+use sarif_records::{IndexedRun, MOST_RESULTS, MOST_RUNS, ReadFault, read_runs_hold_no_fraction};
 use sarif_sources::{At, Cause, MergeFault, Source, SourceKind};
 use std::alloc::{AllocError, Global};
 use std::hash::RandomState;
@@ -72,25 +71,11 @@ fn too_many(source: Source) -> MergeFault
     MergeFault::found(At::Whole(source), Cause::TooMany)
 }
 
-/// The runs of the log of an index, or why it is no log.
-fn read_index<'t, 'a>(
-    alloc: Global,
-    index: &'t Result<Index<'a>, IndexFault>,
-) -> Result<Vec<IndexedRun<'t, 'a>>, ReadFault>
-    ensures { (bytes : List ℕ) → IsIndexed (without_mark bytes) index.now
-        → IsParsedFrom bytes result }
-{
-    match index {
-        Ok(found) => index_log(alloc, found),
-        Err(fault) => Err(ReadFault::from(*fault)),
-    }
-}
-
 /// The log that was read of a source, or its fault with its place.
 #[tactic(auto, using(sarif_sources::proofs::QuietFaults::quiet_fault))]
 fn log_of_source<'t, 'a>(
     source: Source,
-    parsed: Result<Vec<IndexedRun<'t, 'a>>, ReadFault>,
+    parsed: ReadLog<'t, 'a>,
 ) -> Result<Vec<IndexedRun<'t, 'a>>, MergeFault>
     ensures runs { (bytes : List ℕ) → IsParsedFrom bytes parsed.entry
         → IfOk result (λ log. log_of bytes ≡ Ok (map run_of log.items)) }
@@ -178,30 +163,25 @@ impl<'t, 'a> Reading<'t, 'a> {
         }
     }
 
-    /// Adds the runs of a source that was indexed.
-    fn add(
-        &mut self,
-        alloc: Global,
-        source: Source,
-        index: &'t Result<Index<'a>, IndexFault>,
-    ) -> Result<(), MergeFault>
+    /// Adds the runs that were read of a source.
+    fn add(&mut self, source: Source, parsed: ReadLog<'t, 'a>) -> Result<(), MergeFault>
         requires counted { IsCounted self.old }
-        requires indexed { (bytes : List ℕ) × IsIndexed (without_mark bytes) index.now }
-        ensures runs { (bytes : List ℕ) → IsIndexed (without_mark bytes) index.now
+        requires parsed { (bytes : List ℕ) × IsParsedFrom bytes parsed }
+        ensures runs { (bytes : List ℕ) → IsParsedFrom bytes parsed.entry
             → OnOk result (map placed_read self.new.runs.items
             ≡ map placed_read self.old.runs.items
             ++ placed_from source 0 (readable (log_of bytes))) }
-        ensures results { (bytes : List ℕ) → IsIndexed (without_mark bytes) index.now
+        ensures results { (bytes : List ℕ) → IsParsedFrom bytes parsed.entry
             → OnOk result (self.new.results
             ≡ self.old.results + results_total (readable (log_of bytes))) }
         ensures counted { OnOk result (IsCounted self.new) }
-        ensures faults { (bytes : List ℕ) → IsIndexed (without_mark bytes) index.now
+        ensures faults { (bytes : List ℕ) → IsParsedFrom bytes parsed.entry
             → Answers (faults_with source (log_of bytes)
             (length self.old.runs.items) self.old.results) result }
         ensures quiet { IsQuiet result }
     {
         read_runs_hold_no_fraction();
-        let log = log_of_source(source, read_index(alloc, index))?;
+        let log = log_of_source(source, parsed)?;
         let results = self.results + count_results(log.as_slice());
         check_limits(source, self.runs.len() + log.len(), results)?;
         place_runs(source, log, &mut self.runs)?;
@@ -209,59 +189,58 @@ impl<'t, 'a> Reading<'t, 'a> {
         Ok(())
     }
 
-    /// Adds the runs of the sources of a kind that were indexed, in order.
-    fn add_all(
-        &mut self,
-        alloc: Global,
-        kind: SourceKind,
-        indexes: &'t [Result<Index<'a>, IndexFault>],
-    ) -> Result<(), MergeFault>
-        requires few { length indexes.now ≤ 1000 }
+    /// Adds the runs that were read of the sources of a kind, in order.
+    fn add_all(&mut self, kind: SourceKind, logs: Vec<ReadLog<'t, 'a>>) -> Result<(), MergeFault>
+        requires few { length logs.items ≤ 1000 }
         requires counted { IsCounted self.old }
-        requires indexed { (sources : List (List ℕ))
-            × AreIndexed (map without_mark sources) indexes.now }
-        ensures runs { (sources : List (List ℕ))
-            → AreIndexed (map without_mark sources) indexes.now
+        requires parsed { (sources : List (List ℕ)) × AreParsedFrom sources logs.items }
+        ensures runs { (sources : List (List ℕ)) → AreParsedFrom sources logs.entry.items
             → OnOk result (map placed_read self.new.runs.items
             ≡ map placed_read self.old.runs.items
             ++ placed (numbered (source_of kind) 0 sources)) }
         ensures counted { OnOk result (IsCounted self.new) }
-        ensures faults { (sources : List (List ℕ))
-            → AreIndexed (map without_mark sources) indexes.now
+        ensures faults { (sources : List (List ℕ)) → AreParsedFrom sources logs.entry.items
             → Answers (source_faults (length self.old.runs.items) self.old.results
             (numbered (source_of kind) 0 sources)) result }
         ensures quiet { IsQuiet result }
     {
-        for (number, index) in indexes.iter().enumerate() {
-            self.add(alloc, kind.source(number as u32), index)?;
+        let mut number = 0;
+        for parsed in logs {
+            self.add(kind.source(number), parsed)?;
+            number += 1;
         }
         Ok(())
     }
 }
 
-/// The runs of all sources, whose indexes are those of so many logs and then those of the baselines.
-fn read_all<'t, 'a>(
+/// The runs of all sources, whose indexes are those of so many logs and then those of the baselines. They are read
+/// in at most so many threads, this one among them.
+fn read_all<'t, 'a, R: Threads + Sync>(
+    rt: &R,
     alloc: Global,
     indexes: &'t [Result<Index<'a>, IndexFault>],
     logs: usize,
+    threads: u32,
 ) -> Result<AllRuns<'t, 'a>, MergeFault>
-    requires { (ls : List (List ℕ)) × (bs : List (List ℕ)) × AreIndexesOf ls bs indexes.now logs }
+    requires threads { 1 ≤ threads }
+    requires indexes { (ls : List (List ℕ)) × (bs : List (List ℕ))
+        × AreIndexesOf ls bs indexes.now logs }
     ensures all { (ls bs : List (List ℕ)) → AreIndexesOf ls bs indexes.now logs
         → IfOk result (λ runs. map placed_read runs.all.items ≡ placed (sources_of ls bs)) }
     ensures inputs { (ls bs : List (List ℕ)) → AreIndexesOf ls bs indexes.now logs
         → IfOk result (λ runs. runs.inputs ≡ length (placed (numbered Source.Log 0 ls))) }
     ensures few { IfOk result (λ runs. length runs.all.items ≤ 10000) }
     ensures few_results { IfOk result
-        (λ runs. results_total (data_of (map placed_read runs.all.items)) ≤ 1000000) }
+        (λ runs. results_total (run_values (map placed_read runs.all.items)) ≤ 1000000) }
     ensures faults { (ls bs : List (List ℕ)) → AreIndexesOf ls bs indexes.now logs
         → Answers (source_faults 0 0 (sources_of ls bs)) result }
     ensures quiet { IsQuiet result }
 {
-    let (first, second) = indexes.split_at(logs);
+    let (first, second) = read_kinds(rt, alloc, indexes, logs, threads)?;
     let mut reading = Reading::new(alloc);
-    reading.add_all(alloc, SourceKind::Log, first)?;
+    reading.add_all(SourceKind::Log, first)?;
     let inputs = reading.runs.len() as u32;
-    reading.add_all(alloc, SourceKind::Baseline, second)?;
+    reading.add_all(SourceKind::Baseline, second)?;
     let Reading { runs: all, .. } = reading;
     Ok(AllRuns { all, inputs })
 }
@@ -269,7 +248,7 @@ fn read_all<'t, 'a>(
 /// Opens the runs of the logs, which are the first so many of the indexes, and those of the baselines.
 /// A refusal is the first fault of the sources in order: of reading one, or `TooMany` at the first with
 /// which there are more than 10,000 runs or 1,000,000 results; or `OutOfMemory`. The tables of their rules and
-/// overrides hash with `seed`, on which no answer depends. The heads of the runs are made in at most so many
+/// overrides hash with `seed`, on which no answer depends. The runs are read, and their heads made, in at most so many
 /// threads, this one among them.
 pub fn open_sources<'t, 'a, R: Threads + Sync>(
     rt: &R,
@@ -288,7 +267,7 @@ pub fn open_sources<'t, 'a, R: Threads + Sync>(
         → Answers (source_faults 0 0 (sources_of ls bs)) result }
     ensures quiet { IsQuiet result }
 {
-    let AllRuns { all, inputs } = read_all(alloc, indexes, logs)?;
+    let AllRuns { all, inputs } = read_all(rt, alloc, indexes, logs, threads)?;
     let mut current = open_each(rt, alloc, seed, all, threads)?;
     let baseline = current.split_off(inputs as usize)?;
     Ok(Runs { current, baseline })

@@ -1,6 +1,7 @@
 -- What the merge knows of each result, and the faults of runs and results.
 use Rattle.std.specs.Prelude.{ℕ, ◌+◌, Bool, true, false, ◌&&◌, List, [], ◌∷◌, map, length, Option, Some, None, Result, Ok, Err, if◌then◌else◌}
 use Rattle.std.specs.List.{flat_map, range_with_len}
+use Rattle.serde_json.specs.Data.{Data}
 use Rattle.sarif_records.specs.declared.fault.Fault.{Fault}
 use Rattle.sarif_records.specs.declared.record.Record.{Record}
 use Rattle.sarif_records.specs.Run.{results_of, result_at, is_absent_result}
@@ -58,6 +59,10 @@ records_in (found ∷ items) = with_record found (records_in items)
 -- the records of the results of these runs, in the order of runs and results
 abbrev pub records_of : List Placed → List Record
 records_of runs = flat_map (λ p. records_in (items_of p)) runs
+
+-- what stands as a run in each place
+abbrev pub run_values : List Placed → List Data
+run_values runs = map (λ p. p.run) runs
 
 -- ---- faults
 

@@ -2,7 +2,7 @@ use Rattle.std.proofs.Common.{rules, ◌≡◌, ◌++◌, ◌∷◌, [], map, sy
 use Rattle.std.specs.List.{AllByRecursion}
 use Rattle.sarif_judge.specs.Opened.{placed_of}
 use Rattle.sarif_write.specs.Drafts.{own_count, ArePartsOf, IsWholeRun}
-use Rattle.sarif_assemble.specs.LogBy.{data_of}
+use Rattle.sarif_judge.specs.Judging.{run_values}
 use Rattle.sarif_assemble.proofs.RunPartsOf.{parts_more, whole_more, data_more}
 use Rattle.sarif_assemble.proofs.halves.current_parts.Goals as goal
 
@@ -15,7 +15,7 @@ loop-run-preserved c =
     let pushed : c.push.new.self.items ≡ l.all.items ++ c.current_run.result ∷ [] = search rules in (
       l.invariant.0 ∙ ap (λ rs. l.yielded ++ rs) step ∙ sym (append_assoc l.yielded (c.in-Some.run' ∷ []) left),
       subst (λ ds. ArePartsOf own_count c.push.new.self.items ds) (data_more l.yielded c.in-Some.run')
-          (subst (λ ps. ArePartsOf own_count ps (data_of (map placed_of l.yielded) ++ (placed_of c.in-Some.run').run ∷ [])) (sym pushed)
-          (parts_more own_count l.all.items (data_of (map placed_of l.yielded)) c.current_run.result (placed_of c.in-Some.run').run l.invariant.1 made.members made.results)),
+          (subst (λ ps. ArePartsOf own_count ps (run_values (map placed_of l.yielded) ++ (placed_of c.in-Some.run').run ∷ [])) (sym pushed)
+          (parts_more own_count l.all.items (run_values (map placed_of l.yielded)) c.current_run.result (placed_of c.in-Some.run').run l.invariant.1 made.members made.results)),
       subst (AllByRecursion IsWholeRun) (sym pushed) (whole_more l.all.items c.current_run.result l.invariant.2 made.whole),
     )

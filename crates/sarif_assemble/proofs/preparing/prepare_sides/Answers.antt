@@ -2,10 +2,10 @@ use Rattle.std.proofs.Common.{rules, ◌≡◌, Some, map, length, sym, ap, ◌�
 use Rattle.std.proofs.lemmas.List.{length-map}
 use Rattle.std.specs.List.{flat_map}
 use Rattle.sarif_records.specs.Run.{results_of}
-use Rattle.sarif_judge.specs.Judging.{records_of}
+use Rattle.sarif_judge.specs.Judging.{records_of, run_values}
 use Rattle.sarif_write.specs.Drafts.{own_count}
 use Rattle.sarif_assemble.specs.Baselines.{IsLeft}
-use Rattle.sarif_assemble.specs.LogBy.{data_of, states_of, taken_of}
+use Rattle.sarif_assemble.specs.LogBy.{states_of, taken_of}
 use Rattle.sarif_assemble.proofs.Sides.{results_long, runs_long, taken_long, without_results}
 use Rattle.sarif_assemble.proofs.WrittenSides.{current_long, current_side, left_few, left_is_side, written}
 use Rattle.sarif_assemble.proofs.preparing.prepare_sides.Goals as goal
@@ -18,7 +18,7 @@ pub count_without-without-requires : goal.count_without-without-requires
 count_without-without-requires g c =
     let h = c.requires.2 in
     let now = c.requires.0 in
-    let long = runs_long own_count c.args.current.parts.items (data_of now) h.is_current.parts in
+    let long = runs_long own_count c.args.current.parts.items (run_values now) h.is_current.parts in
     let same = length-map now (λ p. p.run) in
     let held = ap length c.deref-4.ensures.value in
     record { few = omega (arith, long, same, held, h.few_runs) }
@@ -56,6 +56,6 @@ returns g c = λ now before h.
       written =
           written file now before c.args.current c.args.baselines (record { runs = c.args.current.parts; drafts = c.args.current.drafts; states = c.in_ok-states.field-0.states }) c.in_ok-baseline.baseline
           h refl refl states (subst (λ ts. IsLeft before ts c.in_ok-baseline.baseline) taken (c.in_ok-baseline.ensures before h.are_baselines));
-      without = without_results c.args.current.parts.items (data_of now) c.count_without-without.result h.is_current.parts (search rules);
-      unused = c.in_ok-unused.ensures (records_of now) (flat_map results_of (data_of now)) (h.now_records ∙ sym (results_long (data_of now))) (search rules);
+      without = without_results c.args.current.parts.items (run_values now) c.count_without-without.result h.is_current.parts (search rules);
+      unused = c.in_ok-unused.ensures (records_of now) (flat_map results_of (run_values now)) (h.now_records ∙ sym (results_long (run_values now))) (search rules);
     }

@@ -10,20 +10,19 @@ use Rattle.sarif_inputs.proofs.sources.Reading.add.Goals as goal
 
 pub count_results-requires : goal.count_results-requires
 count_results-requires c =
-    let given = c.requires.indexed in
-    let parsed = c.read_index.ensures given.0 given.1 in
-    let few = IfOk-at_ok (λ log. results_total (map run_of log.items) ≤ 1000000) c.in_ok-log.ensures.same parsed.few_results in
+    let given = c.requires.parsed in
+    let few = IfOk-at_ok (λ log. results_total (map run_of log.items) ≤ 1000000) c.in_ok-log.ensures.same given.1.few_results in
     subst (λ runs. results_total (map run_of runs) ≤ 1000000) (sym c.as_slice.ensures.value) few
 
 pub returns-in_err-check_limits-clause-faults : goal.returns-in_err-check_limits-clause-faults
-returns-in_err-check_limits-clause-faults c = λ bytes indexed.
+returns-in_err-check_limits-clause-faults c = λ bytes parsed.
     let log = c.in_ok-log.log.items in
     let source = c.args.source in
     let runs = length c.args.self.now.runs.items in
     let results = c.args.self.now.results in
     let p = err_from_is_err_and c.from_residual-in_err-check_limits.result c.from_residual-in_err-check_limits.ensures.1 in
     let e = c.in_err-check_limits.field-0.0 in
-    let is = c.in_ok-log.ensures.runs bytes (c.read_index.ensures bytes indexed) in
+    let is = c.in_ok-log.ensures.runs bytes parsed in
     let long : c.len.result + c.len-2.result ≡ runs + length (map run_of log) =
     let before : c.len.result ≡ runs = search rules in
     let here : c.len-2.result ≡ length log = search rules in omega (arith, before, here, length-map log run_of) in
@@ -34,8 +33,8 @@ returns-in_err-check_limits-clause-faults c = λ bytes indexed.
 
 pub place_runs-requires-clause-whole : goal.place_runs-requires-clause-whole
 place_runs-requires-clause-whole c =
-    let given = c.requires.indexed in
-    let is = c.in_ok-log.ensures.runs given.0 (c.read_index.ensures given.0 given.1) in
+    let given = c.requires.parsed in
+    let is = c.in_ok-log.ensures.runs given.0 given.1 in
     c.read_runs_hold_no_fraction.ensures given.0 (map run_of c.in_ok-log.log.items) is
 
 pub returns-clause-counted : goal.returns-clause-counted

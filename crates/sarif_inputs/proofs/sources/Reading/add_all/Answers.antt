@@ -1,51 +1,46 @@
-use Rattle.std.proofs.Common.{rules, ◌≡◌, ◌<◌, ◌≤◌, ◌⊎◌, ◌+◌, Some, append-nil, ◌++◌, [], ◌∷◌, map, drop, length, sym, ap, ◌∙◌, subst, arith}
-use Rattle.std.proofs.lemmas.List.{drop_more}
-use Rattle.std.proofs.Math.ListN.{drop_of_length-le}
+use Rattle.std.proofs.Common.{rules, ◌≡◌, ◌⊎◌, ◌+◌, Some, append-nil, ◌++◌, [], ◌∷◌, map, length, sym, ap, ◌∙◌, subst, arith}
+use Rattle.std.proofs.lemmas.List.{nil_from_length}
 use Rattle.std.proofs.lemmas.Result.{err_from_is_err_and}
-use Rattle.json_index.specs.Together.{AreIndexed}
-use Rattle.sarif_records.specs.Reading.{log_of, without_mark}
+use Rattle.sarif_records.specs.Reading.{log_of}
 use Rattle.sarif_records.specs.Run.{results_total}
 use Rattle.sarif_inputs.specs.ReadRun.{placed_read}
 use Rattle.sarif_sources.specs.SourceKind.{source_of}
 use Rattle.sarif_inputs.specs.Faults.{first, IsWanting}
 use Rattle.sarif_inputs.specs.Inputs.{numbered, placed, placed_from, readable}
+use Rattle.sarif_inputs.specs.Parsed.{AreParsedFrom}
 use Rattle.sarif_inputs.specs.ReadSoFar.{faults_with}
 use Rattle.sarif_inputs.specs.SourceFaults.{source_faults}
-use Rattle.sarif_inputs.proofs.IndexedParts.{indexed_first, indexed_none}
+use Rattle.sarif_inputs.proofs.ReadParts.{parsed_first, parsed_none}
 use Rattle.sarif_inputs.proofs.SourceAnswers.{still_first}
 use Rattle.sarif_inputs.proofs.SourceSteps.{source_step}
 use Rattle.sarif_inputs.proofs.sources.Reading.add_all.Goals as goal
 
-pub add-requires-clause-indexed : goal.add-requires-clause-indexed
-add-requires-clause-indexed c =
-    let i = c.loop-number.number in
-    let indexes = c.args.indexes.now in
-    let index = c.index-indexes-number.result in
-    let later = drop (i + 1) indexes in
-    let below : i < length indexes = omega arith in
-    let left : drop i indexes ≡ index ∷ later = drop_more indexes i index below ∙ ap (λ p. p ∷ later) (sym c.index-indexes-number.is) in
-    let w = c.loop-number.invariant.within in
-    let one = indexed_first w.0 index later (subst (λ ps. AreIndexed (map without_mark w.0) ps) left w.1) in
+pub add-requires-clause-parsed : goal.add-requires-clause-parsed
+add-requires-clause-parsed c =
+    let later = c.next.new.self.rest.items in
+    let parsed = c.in-Some.parsed in
+    let left : c.loop-parsed.parsed-iterator.rest.items ≡ parsed ∷ later = search rules in
+    let w = c.loop-parsed.invariant.within in
+    let one = parsed_first w.0 parsed later (subst (λ rs. AreParsedFrom w.0 rs) left w.1) in
     (one.0, one.3)
 
-pub loop-number-preserved : goal.loop-number-preserved
-loop-number-preserved c =
-    let i = c.loop-number.number in
+pub loop-parsed-preserved : goal.loop-parsed-preserved
+loop-parsed-preserved c =
+    let i = c.loop-parsed.number in
     let name = source_of c.args.kind in
-    let indexes = c.args.indexes.now in
-    let index = c.index-indexes-number.result in
-    let later = drop (i + 1) indexes in
-    let old = c.loop-number.self in
-    let below : i < length indexes = omega arith in
-    let left : drop i indexes ≡ index ∷ later = drop_more indexes i index below ∙ ap (λ p. p ∷ later) (sym c.index-indexes-number.is) in
-    let around = c.loop-number.invariant.within in
-    let one = indexed_first around.0 index later (subst (λ ps. AreIndexed (map without_mark around.0) ps) left around.1) in
+    let later = c.next.new.self.rest.items in
+    let parsed = c.in-Some.parsed in
+    let old = c.loop-parsed.self in
+    let left : c.loop-parsed.parsed-iterator.rest.items ≡ parsed ∷ later = search rules in
+    let around = c.loop-parsed.invariant.within in
+    let one = parsed_first around.0 parsed later (subst (λ rs. AreParsedFrom around.0 rs) left around.1) in
     record {
+      number = omega (arith, c.loop-parsed.invariant.number, ap length left);
       counted = search rules;
       within = (one.1, one.4);
       whole = λ sources all.
-          let w = c.loop-number.invariant.whole sources all in
-          let here = indexed_first w.0 index later (subst (λ ps. AreIndexed (map without_mark w.0) ps) left w.1) in
+          let w = c.loop-parsed.invariant.whole sources all in
+          let here = parsed_first w.0 parsed later (subst (λ rs. AreParsedFrom w.0 rs) left w.1) in
           let runs = subst (λ s. map placed_read c.add.new.self.runs.items ≡ map placed_read old.runs.items ++ placed_from s 0 (readable (log_of here.0))) c.source.ensures (c.in_ok-add.ensures.runs here.0 here.3) in
           let none = subst (λ s. faults_with s (log_of here.0) (length old.runs.items) old.results ≡ []) c.source.ensures (c.in_ok-add.ensures.faults here.0 here.3) in
           let step = source_step name i old c.add.new.self here.0 here.1 runs (c.in_ok-add.ensures.results here.0 here.3) none in (
@@ -58,16 +53,14 @@ loop-number-preserved c =
 
 pub returns-in_err-add-clause-faults : goal.returns-in_err-add-clause-faults
 returns-in_err-add-clause-faults c = λ sources all.
-    let i = c.loop-number.number in
+    let i = c.loop-parsed.number in
     let name = source_of c.args.kind in
-    let indexes = c.args.indexes.now in
-    let index = c.index-indexes-number.result in
-    let later = drop (i + 1) indexes in
-    let old = c.loop-number.self in
-    let below : i < length indexes = omega arith in
-    let left : drop i indexes ≡ index ∷ later = drop_more indexes i index below ∙ ap (λ p. p ∷ later) (sym c.index-indexes-number.is) in
-    let w = c.loop-number.invariant.whole sources all in
-    let here = indexed_first w.0 index later (subst (λ ps. AreIndexed (map without_mark w.0) ps) left w.1) in
+    let later = c.next.new.self.rest.items in
+    let parsed = c.in-Some.parsed in
+    let old = c.loop-parsed.self in
+    let left : c.loop-parsed.parsed-iterator.rest.items ≡ parsed ∷ later = search rules in
+    let w = c.loop-parsed.invariant.whole sources all in
+    let here = parsed_first w.0 parsed later (subst (λ rs. AreParsedFrom w.0 rs) left w.1) in
     let p = err_from_is_err_and c.from_residual.result c.from_residual.ensures.1 in
     let e = c.in_err-add.field-0.0 in
     let refused = subst (λ s. IsWanting e ⊎ (first (faults_with s (log_of here.0) (length old.runs.items) old.results) ≡ Some e)) c.source.ensures (c.in_err-add.ensures.faults here.0 here.3) in
@@ -79,19 +72,17 @@ returns-in_err-add-clause-faults c = λ sources all.
 pub returns-clause-runs : goal.returns-clause-runs
 returns-clause-runs c = λ sources all.
     let name = source_of c.args.kind in
-    let w = c.loop-number.invariant.whole sources all in
-    let past : length c.args.indexes.now ≤ c.loop-number.number = omega arith in
-    let end = drop_of_length-le c.args.indexes.now past in
-    let none = indexed_none w.0 (subst (λ ps. AreIndexed (map without_mark w.0) ps) end w.1) in
-    let runs = map placed_read c.loop-number.self.runs.items in
-    sym (append-nil runs) ∙ ap (λ bs. runs ++ placed (numbered name c.loop-number.number bs)) (sym none) ∙ w.2
+    let w = c.loop-parsed.invariant.whole sources all in
+    let end : c.loop-parsed.parsed-iterator.rest.items ≡ [] = nil_from_length c.loop-parsed.parsed-iterator.rest.items (search (rules, c.in-None.ensures.steps)) in
+    let none = parsed_none w.0 (subst (λ rs. AreParsedFrom w.0 rs) end w.1) in
+    let runs = map placed_read c.loop-parsed.self.runs.items in
+    sym (append-nil runs) ∙ ap (λ bs. runs ++ placed (numbered name c.loop-parsed.number bs)) (sym none) ∙ w.2
 
 pub returns-clause-faults : goal.returns-clause-faults
 returns-clause-faults c = λ sources all.
     let name = source_of c.args.kind in
-    let old = c.loop-number.self in
-    let w = c.loop-number.invariant.whole sources all in
-    let past : length c.args.indexes.now ≤ c.loop-number.number = omega arith in
-    let end = drop_of_length-le c.args.indexes.now past in
-    let none = indexed_none w.0 (subst (λ ps. AreIndexed (map without_mark w.0) ps) end w.1) in
-    sym w.3 ∙ ap (λ bs. source_faults (length old.runs.items) old.results (numbered name c.loop-number.number bs)) none
+    let old = c.loop-parsed.self in
+    let w = c.loop-parsed.invariant.whole sources all in
+    let end : c.loop-parsed.parsed-iterator.rest.items ≡ [] = nil_from_length c.loop-parsed.parsed-iterator.rest.items (search (rules, c.in-None.ensures.steps)) in
+    let none = parsed_none w.0 (subst (λ rs. AreParsedFrom w.0 rs) end w.1) in
+    sym w.3 ∙ ap (λ bs. source_faults (length old.runs.items) old.results (numbered name c.loop-parsed.number bs)) none

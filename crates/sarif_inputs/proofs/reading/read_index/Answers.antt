@@ -5,7 +5,7 @@ use Rattle.sarif_records.specs.IndexFault.{read_fault_of}
 use Rattle.sarif_records.specs.Reading.{without_mark}
 use Rattle.sarif_inputs.specs.Parsed.{IsParsedFrom}
 use Rattle.sarif_inputs.proofs.ReadIndexes.{read_of_index, read_without_index}
-use Rattle.sarif_inputs.proofs.sources.read_index.Goals as goal
+use Rattle.sarif_inputs.proofs.reading.read_index.Goals as goal
 
 pub returns-in-Ok : goal.returns-in-Ok
 returns-in-Ok c = λ bytes indexed.
