@@ -1,18 +1,15 @@
 -- Pairs that stand among others, one after another.
-use Rattle.std.proofs.Common.{◌≡◌, ℕ, ◌+◌, ◌<◌, zero, suc, Bool, true, false, ◌||◌, List, [], ◌∷◌, length, drop, get_or, refl, sym, ap, ◌∙◌}
+use Rattle.std.proofs.Common.{◌≡◌, ℕ, ◌+◌, ◌<◌, zero, suc, Bool, true, ◌||◌, List, [], ◌∷◌, length, drop, get_or, refl, sym, ap, ◌∙◌}
+use mathlib.Core.Bool.{or-true}
 use Rattle.std.specs.List.{list_any}
 use Rattle.std.proofs.lemmas.List.{drop_more}
 use Rattle.sarif_suppress.specs.Matching.{is_pair, are_among}
-
-or_true : (b : Bool) → (b || true) ≡ true
-or_true true = refl
-or_true false = refl
 
 -- what stands in an end of a list stands in the list
 any_drop : {X : Type 0} (test : X → Bool) (n : ℕ) (xs : List X) → list_any test (drop n xs) ≡ true → list_any test xs ≡ true
 any_drop test zero xs t = t
 any_drop test (suc n) [] t = t
-any_drop test (suc n) (x ∷ xs) t = rw (any_drop test n xs t) (or_true (test x))
+any_drop test (suc n) (x ∷ xs) t = rw (any_drop test n xs t) (or-true (test x))
 
 -- a pair that is there is passed
 pub passed : (wanted found : List (List ℕ × List ℕ)) (i : ℕ) (pair : List ℕ × List ℕ) → i < length wanted → pair ≡ get_or wanted i pair → list_any (λ p. is_pair p pair) found ≡ true → are_among (drop (i + 1) wanted) found ≡ are_among (drop i wanted) found

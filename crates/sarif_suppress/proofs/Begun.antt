@@ -1,5 +1,7 @@
 -- An entry that is filed under a prefix is found for each uri that begins with it.
 use Rattle.std.proofs.Common.{◌≡◌, ℕ, zero, suc, ◌+◌, ◌-◌, ◌<◌, Bool, true, false, ◌||◌, List, [], ◌∷◌, ◌++◌, map, length, take, Option, Some, None, nat_eq, refl, ap, ◌∙◌, arith, if◌then◌else◌}
+use Rattle.std.proofs.lemmas.Option.{slice_get_within}
+use Rattle.std.proofs.lemmas.Bool.{or_left, or_right}
 use Rattle.std.specs.List.{flat_map, list_any}
 use Rattle.std.specs.Option.{option_map_or}
 use Rattle.std.specs.Prelude.{slice_get}
@@ -14,14 +16,6 @@ use Rattle.sarif_suppress.specs.Numbers.{numbers_at}
 use Rattle.sarif_suppress.specs.Prefixes.{beginnings, hash_of, is_listed, has_length, asks_for_hash, IsPrefixTable, found_under, found_for}
 use Rattle.sarif_suppress.proofs.Meaning.{begins_means}
 use Rattle.sarif_suppress.proofs.Numbered.{has, has_from}
-use Rattle.sarif_suppress.proofs.Rising.{get_within}
-
-before : (a b : Bool) → a ≡ true → (a || b) ≡ true
-before a b t = rw t refl
-
-behind : (a b : Bool) → b ≡ true → (a || b) ≡ true
-behind true b t = refl
-behind false b t = t
 
 self : (n : ℕ) → nat_eq n n ≡ true
 self n = grind (arith, nat_tests)
@@ -29,28 +23,28 @@ self n = grind (arith, nat_tests)
 -- what is under a text is found for each text that begins with it
 under_beginning : (n : ℕ) (under : List ℕ → List ℕ) (prefix rest : List ℕ) → has n (under prefix) ≡ true → has n (flat_map under (beginnings (prefix ++ rest))) ≡ true
 under_beginning n under [] [] found =
-    list_any-append (λ m. nat_eq m n) (under []) [] ∙ before (has n (under [])) false found
+    list_any-append (λ m. nat_eq m n) (under []) [] ∙ or_left (has n (under [])) false found
 under_beginning n under [] (b ∷ rest) found =
-    list_any-append (λ m. nat_eq m n) (under []) (flat_map under (map (λ front. b ∷ front) (beginnings rest))) ∙ before (has n (under [])) _ found
+    list_any-append (λ m. nat_eq m n) (under []) (flat_map under (map (λ front. b ∷ front) (beginnings rest))) ∙ or_left (has n (under [])) _ found
 under_beginning n under (b ∷ prefix) rest found =
     let later : has n (flat_map (λ front. under (b ∷ front)) (beginnings (prefix ++ rest))) ≡ true = under_beginning n (λ front. under (b ∷ front)) prefix rest found in
     list_any-append (λ m. nat_eq m n) (under []) (flat_map under (map (λ front. b ∷ front) (beginnings (prefix ++ rest))))
-    ∙ behind (has n (under [])) _ (ap (has n) (flat_map-map under (λ front. b ∷ front) (beginnings (prefix ++ rest))) ∙ later)
+    ∙ or_right (has n (under [])) _ (ap (has n) (flat_map-map under (λ front. b ∷ front) (beginnings (prefix ++ rest))) ∙ later)
 
 any_at : (test : Entry → Bool) (es : List Entry) (n : ℕ) (e : Entry) → slice_get es n ≡ Some e → test e ≡ true → list_any test es ≡ true
 any_at test [] n e is t = let never : ⊥ = cc in absurd never
-any_at test (x ∷ es) zero e is t = let same : x ≡ e = some_same x e is in before (test x) (list_any test es) (ap test same ∙ t)
+any_at test (x ∷ es) zero e is t = let same : x ≡ e = some_same x e is in or_left (test x) (list_any test es) (ap test same ∙ t)
   where
     some_same : (a b : Entry) → ◌≡◌ {A = Option Entry} (Some a) (Some b) → a ≡ b
     some_same a b e = cc
-any_at test (x ∷ es) (suc n) e is t = behind (test x) (list_any test es) (any_at test es n e is t)
+any_at test (x ∷ es) (suc n) e is t = or_right (test x) (list_any test es) (any_at test es n e is t)
 
 -- a length that is marked is within the marks
 listed_within : (lengths : List Bool) (n : ℕ) → is_listed lengths n ≡ true → n < length lengths
 listed_within lengths n listed =
     elim (slice_get lengths n) as (λ o. slice_get lengths n ≡ o → option_map_or (λ listed. listed) o false ≡ true → n < length lengths) [
       | None ↦ λ _ no. let never : ⊥ = cc in absurd never
-      | Some b ↦ λ is _. get_within lengths n b is
+      | Some b ↦ λ is _. slice_get_within lengths n b is
     ] refl listed
 
 module _ {S H : Type 0} (entries : List Entry) (table : PrefixTable S H) (n : ℕ) (e : Entry) (prefix : List ℕ) where

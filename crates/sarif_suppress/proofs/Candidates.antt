@@ -1,5 +1,6 @@
 -- The entries that may match a result: all that match it are among them.
 use Rattle.std.proofs.Common.{◌≡◌, ℕ, Bool, true, false, not, ◌&&◌, ◌||◌, List, [], ◌∷◌, ◌++◌, filter, Option, Some, None, nat_eq, bytes_eq, refl, sym, ap, ◌∙◌, arith}
+use Rattle.std.proofs.lemmas.Bool.{or_left, or_right}
 use Rattle.std.specs.List.{flat_map, list_any}
 use Rattle.std.specs.Option.{option_map_or}
 use Rattle.std.specs.Prelude.{slice_get}
@@ -34,10 +35,10 @@ nested : (a b c d e f g : List ℕ) → (((((a ++ b) ++ c) ++ d) ++ e) ++ f) ++ 
 nested a b c d e f g = rw (append_assoc, append_assoc, append_assoc, append_assoc, append_assoc) refl
 
 -- what the tables have for a result
-pub from_tables : {S H : Type 0} (entries : List Entry) (table : Table S H) (r : Record) → IsTable entries table → (((((option_map_or (numbers_at nat_eq table.by_guid) r.guid [] ++ flat_map (numbers_at is_pair table.by_full) r.full) ++ flat_map (numbers_at is_pair table.by_partial) r.partial) ++ option_map_or (numbers_at bytes_eq table.by_uri) r.place.uri []) ++ numbers_at bytes_eq table.by_rule r.rule_id) ++ numbers_at bytes_eq table.by_tool r.tool) ++ table.others.items ≡ candidates entries r
+pub from_tables : {S H : Type 0} (entries : List Entry) (table : Table S H) (r : Record) → IsTable entries table → (((((option_map_or (numbers_at nat_eq table.guids) r.guid [] ++ flat_map (numbers_at is_pair table.pairs.full) r.full) ++ flat_map (numbers_at is_pair table.pairs.partial) r.partial) ++ option_map_or (numbers_at bytes_eq table.texts.uris) r.place.uri []) ++ numbers_at bytes_eq table.texts.rules r.rule_id) ++ numbers_at bytes_eq table.texts.tools r.tool) ++ table.others.items ≡ candidates entries r
 from_tables entries table r is =
-    nested (option_map_or (numbers_at nat_eq table.by_guid) r.guid []) (flat_map (numbers_at is_pair table.by_full) r.full) (flat_map (numbers_at is_pair table.by_partial) r.partial) (option_map_or (numbers_at bytes_eq table.by_uri) r.place.uri []) (numbers_at bytes_eq table.by_rule r.rule_id) (numbers_at bytes_eq table.by_tool r.tool) table.others.items
-    ∙ rw (there_same _ _ r.guid is.guids, flat_same _ _ r.full is.fulls, flat_same _ _ r.partial is.partials, there_same _ _ r.place.uri is.uris, is.rules r.rule_id, is.tools r.tool, is.rest) refl
+    nested (option_map_or (numbers_at nat_eq table.guids) r.guid []) (flat_map (numbers_at is_pair table.pairs.full) r.full) (flat_map (numbers_at is_pair table.pairs.partial) r.partial) (option_map_or (numbers_at bytes_eq table.texts.uris) r.place.uri []) (numbers_at bytes_eq table.texts.rules r.rule_id) (numbers_at bytes_eq table.texts.tools r.tool) table.others.items
+    ∙ rw (there_same _ _ r.guid is.guids, flat_same _ _ r.full is.pairs.full, flat_same _ _ r.partial is.pairs.partial, there_same _ _ r.place.uri is.texts.uris, is.texts.rules r.rule_id, is.texts.tools r.tool, is.rest) refl
 
 -- the result has what the entry is filed under
 abbrev is_asked : Entry → Record → Bool
@@ -61,10 +62,6 @@ has_candidates es r n e is =
 
 -- ---- an entry that matches is filed under what the result has
 
-or_true : (b : Bool) → (b || true) ≡ true
-or_true true = refl
-or_true false = refl
-
 and_left : (a b : Bool) → (a && b) ≡ true → a ≡ true
 and_left true b t = refl
 and_left false b t = t
@@ -72,12 +69,6 @@ and_left false b t = t
 and_right : (a b : Bool) → (a && b) ≡ true → b ≡ true
 and_right true b t = t
 and_right false b t = let never : ⊥ = let no : false ≡ true = t in cc in absurd never
-
-behind : (a b : Bool) → b ≡ true → (a || b) ≡ true
-behind a b t = rw t (or_true a)
-
-before : (a b : Bool) → a ≡ true → (a || b) ≡ true
-before a b t = rw t refl
 
 its_guid : (g : ℕ) (found : Option ℕ) → is_guid (Some g) found ≡ true → option_map_or (λ guid. nat_eq g guid) found false ≡ true
 its_guid g None t = t
@@ -91,8 +82,8 @@ its_pair : (p : List ℕ × List ℕ) (found : List (List ℕ × List ℕ)) → 
 its_pair p [] t = t
 its_pair p (q ∷ qs) t =
     elim (is_pair q p) as (λ b. is_pair q p ≡ b → (b || list_any (λ q. is_pair q p) qs) ≡ true → (is_pair p q || list_any (λ q. is_pair p q) qs) ≡ true) [
-      | true ↦ λ same _. before (is_pair p q) _ (turned same)
-      | false ↦ λ _ rest. behind (is_pair p q) _ (its_pair p qs rest)
+      | true ↦ λ same _. or_left (is_pair p q) _ (turned same)
+      | false ↦ λ _ rest. or_right (is_pair p q) _ (its_pair p qs rest)
     ] refl t
   where
     turned : is_pair q p ≡ true → is_pair p q ≡ true
@@ -135,22 +126,22 @@ module _ (g f p u ru t o : Bool) where
   one_of = g || (f || (p || (u || (ru || (t || o)))))
 
   in_full : f ≡ true → one_of ≡ true
-  in_full is = behind g _ (before f _ is)
+  in_full is = or_right g _ (or_left f _ is)
 
   in_partial : p ≡ true → one_of ≡ true
-  in_partial is = behind g _ (behind f _ (before p _ is))
+  in_partial is = or_right g _ (or_right f _ (or_left p _ is))
 
   in_uri : u ≡ true → one_of ≡ true
-  in_uri is = behind g _ (behind f _ (behind p _ (before u _ is)))
+  in_uri is = or_right g _ (or_right f _ (or_right p _ (or_left u _ is)))
 
   in_rule : ru ≡ true → one_of ≡ true
-  in_rule is = behind g _ (behind f _ (behind p _ (behind u _ (before ru _ is))))
+  in_rule is = or_right g _ (or_right f _ (or_right p _ (or_right u _ (or_left ru _ is))))
 
   in_tool : t ≡ true → one_of ≡ true
-  in_tool is = behind g _ (behind f _ (behind p _ (behind u _ (behind ru _ (before t _ is)))))
+  in_tool is = or_right g _ (or_right f _ (or_right p _ (or_right u _ (or_right ru _ (or_left t _ is)))))
 
   in_none : o ≡ true → one_of ≡ true
-  in_none is = behind g _ (behind f _ (behind p _ (behind u _ (behind ru _ (behind t _ is)))))
+  in_none is = or_right g _ (or_right f _ (or_right p _ (or_right u _ (or_right ru _ (or_right t _ is)))))
 
 abbrev made : Option ℕ → List (List ℕ × List ℕ) → List (List ℕ × List ℕ) → Option (List ℕ) → Option (List ℕ) → Option (List ℕ) → Option (List ℕ) → Conditions
 made g f p u ru px t =
@@ -178,21 +169,21 @@ module _ (e : Entry) (r : Record) (begun : Bool) where
   -- an entry whose prefix is found where the uri begins with it is filed under what the result has
   is_filed : (g : Option ℕ) (f p : List (List ℕ × List ℕ)) (u ru px t : Option (List ℕ)) → e.conditions ≡ made g f p u ru px t → Parts (made g f p u ru px t) r → ((prefix : List ℕ) → prefix_key (made g f p u ru px t) ≡ Some prefix → begins (Some prefix) r.place.uri ≡ true → begun ≡ true) → (is_asked e r || begun) ≡ true
   is_filed (Some g) f p u ru px t is parts found =
-      before (is_asked e r) begun (before by_guid _ (rw is (its_guid g r.guid parts.guid)))
+      or_left (is_asked e r) begun (or_left by_guid _ (rw is (its_guid g r.guid parts.guid)))
   is_filed None (q ∷ f) p u ru px t is parts found =
-      before (is_asked e r) begun (in_full by_guid by_full by_partial by_uri by_rule by_tool (asks_for_none e) (rw is (its_pair q r.full (and_left (list_any (λ o. is_pair o q) r.full) (are_among f r.full) parts.full))))
+      or_left (is_asked e r) begun (in_full by_guid by_full by_partial by_uri by_rule by_tool (asks_for_none e) (rw is (its_pair q r.full (and_left (list_any (λ o. is_pair o q) r.full) (are_among f r.full) parts.full))))
   is_filed None [] (q ∷ p) u ru px t is parts found =
-      before (is_asked e r) begun (in_partial by_guid by_full by_partial by_uri by_rule by_tool (asks_for_none e) (rw is (its_pair q r.partial (and_left (list_any (λ o. is_pair o q) r.partial) (are_among p r.partial) parts.partial))))
+      or_left (is_asked e r) begun (in_partial by_guid by_full by_partial by_uri by_rule by_tool (asks_for_none e) (rw is (its_pair q r.partial (and_left (list_any (λ o. is_pair o q) r.partial) (are_among p r.partial) parts.partial))))
   is_filed None [] [] (Some u) ru px t is parts found =
-      before (is_asked e r) begun (in_uri by_guid by_full by_partial by_uri by_rule by_tool (asks_for_none e) (rw is (its_uri u r.place.uri parts.uri)))
+      or_left (is_asked e r) begun (in_uri by_guid by_full by_partial by_uri by_rule by_tool (asks_for_none e) (rw is (its_uri u r.place.uri parts.uri)))
   is_filed None [] [] None (Some ru) px t is parts found =
-      before (is_asked e r) begun (in_rule by_guid by_full by_partial by_uri by_rule by_tool (asks_for_none e) (rw is parts.rule))
+      or_left (is_asked e r) begun (in_rule by_guid by_full by_partial by_uri by_rule by_tool (asks_for_none e) (rw is parts.rule))
   is_filed None [] [] None None (Some px) t is parts found =
-      behind (is_asked e r) begun (found px refl parts.prefix)
+      or_right (is_asked e r) begun (found px refl parts.prefix)
   is_filed None [] [] None None None (Some t) is parts found =
-      before (is_asked e r) begun (in_tool by_guid by_full by_partial by_uri by_rule by_tool (asks_for_none e) (rw is parts.tool))
+      or_left (is_asked e r) begun (in_tool by_guid by_full by_partial by_uri by_rule by_tool (asks_for_none e) (rw is parts.tool))
   is_filed None [] [] None None None None is parts found =
-      before (is_asked e r) begun (in_none by_guid by_full by_partial by_uri by_rule by_tool (asks_for_none e) (rw is refl))
+      or_left (is_asked e r) begun (in_none by_guid by_full by_partial by_uri by_rule by_tool (asks_for_none e) (rw is refl))
 
 -- all entries that match a result are among the candidates and those whose prefix is found
 among : {S H : Type 0} (today : Option ℕ) (r : Record) (es : List Entry) (table : PrefixTable S H) → IsPrefixTable es table → (n : ℕ) (e : Entry) → slice_get es n ≡ Some e → matches today e r ≡ true → has n (candidates es r ++ option_map_or (found_for table) r.place.uri []) ≡ true

@@ -1,12 +1,13 @@
 -- What the keys of a set tell of the objects of entries in a list.
-use Rattle.std.proofs.Common.{◌≡◌, ℕ, zero, suc, ◌+◌, ◌<◌, length, drop, get_or, slice_get, arith, Bool, true, false, ◌&&◌, ◌||◌, List, [], ◌∷◌, ◌++◌, Option, Some, None, Bor, option_map, codes, cond, bytes_eq, refl, sym, ap, ◌∙◌, if◌then◌else◌}
+use Rattle.std.proofs.Common.{◌≡◌, ℕ, zero, suc, ◌+◌, ◌<◌, length, drop, get_or, slice_get, arith, Bool, true, false, ◌&&◌, ◌||◌, List, [], ◌∷◌, ◌++◌, Option, Some, None, Bor, option_map, codes, bytes_eq, refl, sym, ap, ◌∙◌, if◌then◌else◌}
+use mathlib.Core.Bool.{or-false}
 use Rattle.std.specs.Bool.{Decides}
 use Rattle.std.specs.List.{list_any}
 use Rattle.std.specs.Option.{option_eq}
-use Rattle.std.proofs.lemmas.Bool.{false≢true}
+use Rattle.std.proofs.lemmas.Bool.{false≢true, false_from_ne_true}
 use Rattle.std.proofs.lemmas.List.Folds.{list_any-append}
 use Rattle.std.proofs.lemmas.Slice.Eq.{bytes_eq-Decides}
-use Rattle.indexmap.specs.IndexSet.{IndexSet, contains, insert_key, Updates}
+use Rattle.indexmap.specs.IndexSet.{IndexSet}
 use Rattle.serde_json.specs.Data.{Data, object}
 use Rattle.sarif_records.specs.declared.kinds.Status.{Status}
 use Rattle.sarif_records.specs.declared.kinds.Status.TheVariants.{Accepted, UnderReview, Rejected}
@@ -14,8 +15,8 @@ use Rattle.sarif_records.specs.contracts.kinds.StatusPartialEq.TheImpl as status
 use Rattle.sarif_suppress.specs.declared.entry.Entry.{Entry}
 use Rattle.sarif_suppress.specs.declared.key.Key.{Key}
 use Rattle.sarif_suppress.specs.Keys.{texts_with, justification_of, has_key, same_key, text_in, status_in, HasKeysOf}
-use Rattle.sarif_suppress.specs.Written.{text_members, object_of, is_object_of, with_object, with_object_if, with_objects_at}
-use Rattle.sarif_suppress.proofs.ObjectTest.{texts_mean, object_means}
+use Rattle.sarif_suppress.specs.Written.{text_members, with_object_if, with_objects_at}
+use Rattle.sarif_suppress.proofs.ObjectTest.{texts_mean}
 
 -- ---- what equality of keys means
 
@@ -77,10 +78,6 @@ from_both true b f g = sym (f refl)
 from_both false true f g = g refl
 from_both false false f g = refl
 
-never : (a : Bool) → (a ≡ true → ⊥) → a ≡ false
-never true f = absurd (f refl)
-never false f = refl
-
 -- the keys of one object are equal, and no others have it
 pub told_by : (k q : Key) (d : Data) → has_key k d ≡ true → has_key q d ≡ same_key k q
 told_by k q d mine =
@@ -95,11 +92,11 @@ told_by k q d mine =
 
 -- where no status is read, the value has no key
 pub no_status : (q : Key) (d : Data) → status_in d ≡ None → has_key q d ≡ false
-no_status q d none = never _ (λ t. let found : status_in d ≡ Some q.status = (reads q d t).0 in cc)
+no_status q d none = false_from_ne_true _ (λ t. let found : status_in d ≡ Some q.status = (reads q d t).0 in cc)
 
 -- where it hasn't the key that is read of it, it has none
 pub no_other : (k q : Key) (d : Data) → status_in d ≡ Some k.status → text_in (codes "justification") d ≡ justification_of k → has_key k d ≡ false → has_key q d ≡ false
-no_other k q d status text unlike = never _ (λ t.
+no_other k q d status text unlike = false_from_ne_true _ (λ t.
     let there : (status_in d ≡ Some q.status) × (text_in (codes "justification") d ≡ justification_of q) = reads q d t in
     let one : k.status ≡ q.status = cc in
     let other : justification_of k ≡ justification_of q = sym text ∙ there.1 in
@@ -108,28 +105,13 @@ no_other k q d status text unlike = never _ (λ t.
 
 -- ---- a set of keys, and a list whose objects have them
 
-or_false : (b : Bool) → (b || false) ≡ b
-or_false true = refl
-or_false false = refl
-
-cond_is_or : (a b : Bool) → cond a true b ≡ (b || a)
-cond_is_or true true = refl
-cond_is_or true false = refl
-cond_is_or false true = refl
-cond_is_or false false = refl
-
 has_one_more : (q : Key) (values : List Data) (d : Data) → list_any (has_key q) (values ++ d ∷ []) ≡ (list_any (has_key q) values || has_key q d)
-has_one_more q values d = list_any-append (has_key q) values (d ∷ []) ∙ ap (λ b. list_any (has_key q) values || b) (or_false (has_key q d))
-
--- a value with a key, which is added
-pub with_key : {S : Type 0} (old new : IndexSet Key S) (k : Key) (values : List Data) (d : Data) → ((q : Key) → has_key q d ≡ same_key k q) → Updates same_key old new k true → HasKeysOf old values → HasKeysOf new (values ++ d ∷ [])
-with_key old new k values d told updates has = λ q.
-    updates.0 q ∙ cond_is_or (same_key k q) (contains same_key old q) ∙ ap (λ b. b || same_key k q) (has q) ∙ ap (λ b. list_any (has_key q) values || b) (sym (told q)) ∙ sym (has_one_more q values d)
+has_one_more q values d = list_any-append (has_key q) values (d ∷ []) ∙ ap (λ b. list_any (has_key q) values || b) (or-false (has_key q d))
 
 -- a value without one
 pub without_key : {S : Type 0} (keys : IndexSet Key S) (values : List Data) (d : Data) → ((q : Key) → has_key q d ≡ false) → HasKeysOf keys values → HasKeysOf keys (values ++ d ∷ [])
 without_key keys values d none has = λ q.
-    has q ∙ sym (has_one_more q values d ∙ rw (none q) (or_false (list_any (has_key q) values)))
+    has q ∙ sym (has_one_more q values d ∙ rw (none q) (or-false (list_any (has_key q) values)))
 
 -- ---- one number after the other
 

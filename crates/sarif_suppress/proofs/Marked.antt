@@ -1,5 +1,6 @@
 -- The marks of the entries that matched a result.
 use Rattle.std.proofs.Common.{◌≡◌, ℕ, ◌+◌, ◌<◌, Bool, true, false, ◌||◌, List, [], ◌∷◌, ◌++◌, map, length, nat_lt, refl, sym, ap, ◌∙◌, arith, if◌then◌else◌}
+use mathlib.Core.Bool.{or-true, or-false}
 use Rattle.std.specs.Prelude.{replicate}
 use Rattle.std.specs.List.{list_any}
 use Rattle.std.proofs.Math.Seq.{set-append_seam}
@@ -31,14 +32,6 @@ with_mark-append front mark rest n here =
     let within : length front < length (front ++ mark ∷ rest) = omega (arith, length-append front (mark ∷ rest)) in
     rw (here, is_within _ _ within) (set-append_seam front mark rest true)
 
-or_true : (b : Bool) → (b || true) ≡ true
-or_true true = refl
-or_true false = refl
-
-or_false : (b : Bool) → (b || false) ≡ b
-or_false true = refl
-or_false false = refl
-
 -- the entries that match one result more
 with_marks-append : (was is : Entry → Bool) (front : List Bool) (n : ℕ) (es : List Entry) → n ≡ length front → with_marks (front ++ map was es) (numbers_from is n es) ≡ front ++ map (λ e. was e || is e) es
 with_marks-append was is front n [] here = refl
@@ -49,14 +42,14 @@ with_marks-append was is front n (e ∷ es) here =
     let longer : (b : Bool) → n + 1 ≡ length (front ++ b ∷ []) = λ b. omega (arith, length-append front (b ∷ [])) in
     let next : (b : Bool) → with_marks (front ++ b ∷ marks) numbers ≡ front ++ b ∷ more = λ b. sym (ap (λ ms. with_marks ms numbers) (append_assoc front (b ∷ []) marks)) ∙ with_marks-append was is (front ++ b ∷ []) (n + 1) es (longer b) ∙ append_assoc front (b ∷ []) more in
     elim (is e) as (λ b. with_marks (front ++ was e ∷ marks) (if b then n ∷ numbers else numbers) ≡ front ++ (was e || b) ∷ more) [
-      | true ↦ ap (λ ms. with_marks ms numbers) (with_mark-append front (was e) marks n here) ∙ next true ∙ sym (ap (λ b. front ++ b ∷ more) (or_true (was e)))
-      | false ↦ next (was e) ∙ sym (ap (λ b. front ++ b ∷ more) (or_false (was e)))
+      | true ↦ ap (λ ms. with_marks ms numbers) (with_mark-append front (was e) marks n here) ∙ next true ∙ sym (ap (λ b. front ++ b ∷ more) (or-true (was e)))
+      | false ↦ next (was e) ∙ sym (ap (λ b. front ++ b ∷ more) (or-false (was e)))
     ]
 
 one_after : (file : File) (rs : List Record) (r : Record) (es : List Entry) → map (λ e. list_any (λ r. matches file.today e r) rs || matches file.today e r) es ≡ map (λ e. list_any (λ r. matches file.today e r) (rs ++ r ∷ [])) es
 one_after file rs r [] = refl
 one_after file rs r (e ∷ es) =
-    let here : (list_any (λ r. matches file.today e r) rs || matches file.today e r) ≡ list_any (λ r. matches file.today e r) (rs ++ r ∷ []) = sym (list_any-append (λ r. matches file.today e r) rs (r ∷ []) ∙ ap (λ b. list_any (λ r. matches file.today e r) rs || b) (or_false (matches file.today e r))) in
+    let here : (list_any (λ r. matches file.today e r) rs || matches file.today e r) ≡ list_any (λ r. matches file.today e r) (rs ++ r ∷ []) = sym (list_any-append (λ r. matches file.today e r) rs (r ∷ []) ∙ ap (λ b. list_any (λ r. matches file.today e r) rs || b) (or-false (matches file.today e r))) in
     rw (here, one_after file rs r es) refl
 
 -- the marks of some results, with those of the entries that match one more

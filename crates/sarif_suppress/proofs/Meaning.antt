@@ -1,5 +1,6 @@
 -- What the test of an entry against a result means.
 use Rattle.std.proofs.Common.{◌≡◌, ℕ, zero, suc, ◌≤◌, Bool, true, false, not, ◌&&◌, ◌||◌, List, [], ◌∷◌, ◌++◌, take, drop, length, Option, Some, None, nat_lt, refl, sym, ap, ◌∙◌, arith}
+use mathlib.Core.Bool.{or-true}
 use Rattle.std.specs.Bool.{Decides}
 use Rattle.std.specs.List.{All, Contains, list_any}
 use Rattle.std.proofs.Math.Seq.{take-append_seam}
@@ -68,11 +69,7 @@ among_found [] pair (k, within, is) = absurd (omega arith)
 among_found (p ∷ ps) pair (zero, within, is) = rw ((pair_means p pair).1 is) refl
 among_found (p ∷ ps) pair (suc k, within, is) =
     let later : list_any (λ p. is_pair p pair) ps ≡ true = among_found ps pair (k, omega arith, is) in
-    rw later (or_true (is_pair p pair))
-  where
-    or_true : (b : Bool) → (b || true) ≡ true
-    or_true true = refl
-    or_true false = refl
+    rw later (or-true (is_pair p pair))
 
 among_means : (wanted found : List (List ℕ × List ℕ)) → Decides (are_among wanted found) ((pair : List ℕ × List ℕ) → Contains wanted pair → Contains found pair)
 among_means wanted found =

@@ -1,5 +1,6 @@
 -- What the test of a value against an entry's object means, and what follows of the list that is written.
 use Rattle.std.proofs.Common.{◌≡◌, ℕ, Bool, true, false, ◌&&◌, ◌||◌, List, [], ◌∷◌, ◌++◌, Some, None, codes, refl, sym, ap, ◌∙◌, if◌then◌else◌}
+use mathlib.Core.Bool.{and-true}
 use Rattle.std.specs.Bool.{Decides}
 use Rattle.std.specs.List.{list_any, list_all}
 use Rattle.std.specs.Option.{option_map_or}
@@ -73,20 +74,12 @@ with_object_passes : (accepts : Data → Bool) (e : Entry) (list : List Data) �
 with_object_passes accepts e list =
     elim (list_any (is_object_of e) list) as (λ b. list_any (is_object_of e) list ≡ b → list_all accepts (if b then list else list ++ object_of e ∷ []) ≡ (list_all accepts list && accepts (object_of e))) [
       | true ↦ λ held. sym (held_passes accepts e list held)
-      | false ↦ λ _. list_all-append accepts list (object_of e ∷ []) ∙ ap (λ b. list_all accepts list && b) (and_true (accepts (object_of e)))
+      | false ↦ λ _. list_all-append accepts list (object_of e ∷ []) ∙ ap (λ b. list_all accepts list && b) (and-true (accepts (object_of e)))
     ] refl
-  where
-    and_true : (a : Bool) → (a && true) ≡ a
-    and_true true = refl
-    and_true false = refl
 
 -- a test holds of all that is written just where it holds of all own suppressions and of all entries' objects
 pub written_passes : (accepts : Data → Bool) (list : List Data) (es : List Entry) → list_all accepts (with_objects list es) ≡ (list_all accepts list && list_all (λ e. accepts (object_of e)) es)
-written_passes accepts list [] = sym (and_true (list_all accepts list))
-  where
-    and_true : (a : Bool) → (a && true) ≡ a
-    and_true true = refl
-    and_true false = refl
+written_passes accepts list [] = sym (and-true (list_all accepts list))
 written_passes accepts list (e ∷ es) =
     written_passes accepts (with_object list e) es ∙ ap (λ b. b && list_all (λ x. accepts (object_of x)) es) (with_object_passes accepts e list) ∙ and_assoc (list_all accepts list) (accepts (object_of e)) (list_all (λ x. accepts (object_of x)) es)
   where
@@ -107,11 +100,7 @@ not_empty list (e ∷ es) is = not_empty (with_object list e) es (with_object_em
 
 -- nothing is written just where there is no own suppression and no entry
 pub written_empty : (list : List Data) (es : List Entry) → is_empty (with_objects list es) ≡ (is_empty list && is_empty es)
-written_empty list [] = sym (and_true (is_empty list))
-  where
-    and_true : (a : Bool) → (a && true) ≡ a
-    and_true true = refl
-    and_true false = refl
+written_empty list [] = sym (and-true (is_empty list))
 written_empty list (e ∷ es) = not_empty (with_object list e) es (with_object_empty e list) ∙ sym (and_false (is_empty list))
   where
     and_false : (a : Bool) → (a && false) ≡ false

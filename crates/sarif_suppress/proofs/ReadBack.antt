@@ -1,5 +1,6 @@
 -- What is read again of the list that is written.
 use Rattle.std.proofs.Common.{◌≡◌, Bool, true, false, ◌&&◌, List, [], ◌∷◌, ◌++◌, map, Some, None, Result, Ok, Err, refl, sym, ap, ◌∙◌}
+use Rattle.std.proofs.lemmas.Bool.{and_from}
 use Rattle.std.specs.List.{list_all}
 use Rattle.std.proofs.lemmas.List.Folds.{list_all-append}
 use Rattle.serde_json.specs.Data.{Data}
@@ -58,12 +59,9 @@ are_read (d ∷ ds) all =
       | Err fault ↦ λ is no. let never : ⊥ = cc in absurd never
     ] refl all
 
-and_true : (a b : Bool) → a ≡ true → b ≡ true → (a && b) ≡ true
-and_true a b first second = rw (first, second) refl
-
 all_true : (es : List Entry) → list_all (λ e. passes (λ _. true) (status_of (object_of e))) es ≡ true
 all_true [] = refl
-all_true (e ∷ es) = and_true _ _ (ap (passes (λ _. true)) (object_status e)) (all_true es)
+all_true (e ∷ es) = and_from _ _ (ap (passes (λ _. true)) (object_status e)) (all_true es)
 
 objects_pass : (test : Status → Bool) (es : List Entry) → list_all (λ e. passes test (status_of (object_of e))) es ≡ list_all test (map (λ e. e.status) es)
 objects_pass test [] = refl
@@ -91,7 +89,7 @@ pub read_back : (own : List Data) (file : File) (r : Record) → read_each statu
 read_back own file r held =
     let es : List Entry = matching file r in
     let mine : AreRead own r.held = were_read own r.held held in
-    let reads : list_all (λ d. passes (λ _. true) (status_of d)) (with_objects own es) ≡ true = written_passes (λ d. passes (λ _. true) (status_of d)) own es ∙ and_true _ _ (mine.tests (λ _. true) ∙ always r.held) (all_true es) in
+    let reads : list_all (λ d. passes (λ _. true) (status_of d)) (with_objects own es) ≡ true = written_passes (λ d. passes (λ _. true) (status_of d)) own es ∙ and_from _ _ (mine.tests (λ _. true) ∙ always r.held) (all_true es) in
     let written : (statuses : List Status) × AreRead (with_objects own es) statuses = are_read (with_objects own es) reads in
     let accepted : list_all is_accepted written.0 ≡ list_all is_accepted (r.held ++ map (λ e. e.status) es) = sym (written.1.tests is_accepted) ∙ written_passes (λ d. passes is_accepted (status_of d)) own es ∙ rw (mine.tests is_accepted, objects_pass is_accepted es) (sym (list_all-append is_accepted r.held (map (λ e. e.status) es))) in
     let none : is_empty written.0 ≡ is_empty (r.held ++ map (λ e. e.status) es) = sym written.1.none ∙ written_empty own es ∙ rw (mine.none, empty_map es) (sym (is_empty-append r.held (map (λ e. e.status) es))) in

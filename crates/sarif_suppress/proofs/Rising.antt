@@ -1,5 +1,6 @@
 -- Numbers of entries that are put in order.
 use Rattle.std.proofs.Common.{◌≡◌, ℕ, zero, suc, ◌+◌, ◌<◌, ◌≤◌, Bool, true, false, ◌&&◌, ◌||◌, ⊎_elim, List, [], ◌∷◌, ◌++◌, filter, drop, get_or, length, Some, None, nat_eq, refl, sym, ap, ◌∙◌, arith, if◌then◌else◌}
+use Rattle.std.proofs.lemmas.Option.{slice_get_within}
 use Rattle.std.specs.BTreeSet.{insert_key}
 use Rattle.std.specs.List.{flat_map}
 use Rattle.std.specs.Option.{option_map_or}
@@ -91,18 +92,11 @@ insert_picks q n s (x ∷ xs) low high =
           | false ↦ rest
         ])
 
-pub get_within : {A : Type 0} (xs : List A) (n : ℕ) (x : A) → slice_get xs n ≡ Some x → n < length xs
-get_within [] n x is = let never : ⊥ = cc in absurd never
-get_within (y ∷ ys) zero x is = omega arith
-get_within (y ∷ ys) (suc n) x is =
-    let less : n < length ys = get_within ys n x is in
-    omega (arith, less)
-
 passes_within : (test : Entry → Bool) (es : List Entry) (n : ℕ) → passes_at test es n ≡ true → n < length es
 passes_within test es n passes =
     elim (slice_get es n) as (λ o. slice_get es n ≡ o → option_map_or test o false ≡ true → n < length es) [
       | None ↦ λ _ no. let never : ⊥ = cc in absurd never
-      | Some e ↦ λ is _. get_within es n e is
+      | Some e ↦ λ is _. slice_get_within es n e is
     ] refl passes
 
 -- the numbers of a list that pass, added to picked ones

@@ -8,7 +8,7 @@ ghost use Rattle.std.specs.Option.{option_map_or};
 ghost use Rattle.sarif_suppress.specs.Filing as said;
 ghost use Rattle.sarif_suppress.specs.Matching.{is_pair};
 ghost use Rattle.sarif_suppress.specs.Numbers.{numbers_from, numbers_at};
-ghost use Rattle.sarif_suppress.specs.Table.{IsTable};
+ghost use Rattle.sarif_suppress.specs.Table.{ArePairTables, AreTextTables, IsTable};
 
 use crate::entry::Entry;
 use crate::filing::{PairCondition, TextCondition};
@@ -18,15 +18,52 @@ use sarif_records::{Record, Text};
 use std::alloc::{AllocError, Global};
 use std::hash::BuildHasher;
 
+/// The numbers of the entries, rising, by the fingerprint that each is filed under.
+#[derive(Drop)]
+struct PairTables<S: BuildHasher + Copy> {
+    full: IndexMap<(Text, Text), Vec<u32>, S>,
+    partial: IndexMap<(Text, Text), Vec<u32>, S>,
+}
+
+impl<S: BuildHasher + Copy> PairTables<S> {
+    /// The tables of at most 10,000 entries.
+    fn new(alloc: Global, hasher: S, entries: &[Entry]) -> Result<PairTables<S>, AllocError>
+        requires { length entries.now ≤ 10000 }
+        ensures { IfOk result (ArePairTables entries.now) }
+    {
+        let full = numbers_by_pair(alloc, hasher, entries, PairCondition::Full)?;
+        let partial = numbers_by_pair(alloc, hasher, entries, PairCondition::Partial)?;
+        Ok(PairTables { full, partial })
+    }
+}
+
+/// The numbers of the entries, rising, by the text that each is filed under.
+#[derive(Drop)]
+struct TextTables<S: BuildHasher + Copy> {
+    uris: IndexMap<Text, Vec<u32>, S>,
+    rules: IndexMap<Text, Vec<u32>, S>,
+    tools: IndexMap<Text, Vec<u32>, S>,
+}
+
+impl<S: BuildHasher + Copy> TextTables<S> {
+    /// The tables of at most 10,000 entries.
+    fn new(alloc: Global, hasher: S, entries: &[Entry]) -> Result<TextTables<S>, AllocError>
+        requires { length entries.now ≤ 10000 }
+        ensures { IfOk result (AreTextTables entries.now) }
+    {
+        let uris = numbers_by_text(alloc, hasher, entries, TextCondition::Uri)?;
+        let rules = numbers_by_text(alloc, hasher, entries, TextCondition::RuleId)?;
+        let tools = numbers_by_text(alloc, hasher, entries, TextCondition::Tool)?;
+        Ok(TextTables { uris, rules, tools })
+    }
+}
+
 /// The numbers of the entries, rising, by what each is filed under.
 #[derive(Drop)]
 pub(crate) struct Table<S: BuildHasher + Copy> {
-    by_guid: IndexMap<u128, Vec<u32>, S>,
-    by_full: IndexMap<(Text, Text), Vec<u32>, S>,
-    by_partial: IndexMap<(Text, Text), Vec<u32>, S>,
-    by_uri: IndexMap<Text, Vec<u32>, S>,
-    by_rule: IndexMap<Text, Vec<u32>, S>,
-    by_tool: IndexMap<Text, Vec<u32>, S>,
+    guids: IndexMap<u128, Vec<u32>, S>,
+    pairs: PairTables<S>,
+    texts: TextTables<S>,
     others: Vec<u32>,
 }
 
@@ -36,14 +73,15 @@ impl<S: BuildHasher + Copy> Table<S> {
         requires { length entries.now ≤ 10000 }
         ensures { IfOk result (IsTable entries.now) }
     {
+        let others = numbers_of_others(alloc, entries)?;
+        let guids = numbers_by_guid(alloc, hasher, entries)?;
+        let pairs = PairTables::new(alloc, hasher, entries)?;
+        let texts = TextTables::new(alloc, hasher, entries)?;
         Ok(Table {
-            by_guid: numbers_by_guid(alloc, hasher, entries)?,
-            by_full: numbers_by_pair(alloc, hasher, entries, PairCondition::Full)?,
-            by_partial: numbers_by_pair(alloc, hasher, entries, PairCondition::Partial)?,
-            by_uri: numbers_by_text(alloc, hasher, entries, TextCondition::Uri)?,
-            by_rule: numbers_by_text(alloc, hasher, entries, TextCondition::RuleId)?,
-            by_tool: numbers_by_text(alloc, hasher, entries, TextCondition::Tool)?,
-            others: numbers_of_others(alloc, entries)?,
+            guids,
+            pairs,
+            texts,
+            others,
         })
     }
 
@@ -54,12 +92,12 @@ impl<S: BuildHasher + Copy> Table<S> {
             → found.items ≡ said.candidates entries «record».now) }
     {
         let mut found = Vec::new(alloc);
-        found.extend_from_slice(numbers_with_guid(&self.by_guid, record.guid))?;
-        add_with_pairs(&mut found, &self.by_full, record.full.as_slice())?;
-        add_with_pairs(&mut found, &self.by_partial, record.partial.as_slice())?;
-        found.extend_from_slice(numbers_with_text(&self.by_uri, &record.place.uri))?;
-        found.extend_from_slice(numbers_for(&self.by_rule, &record.rule_id))?;
-        found.extend_from_slice(numbers_for(&self.by_tool, &record.tool))?;
+        found.extend_from_slice(numbers_with_guid(&self.guids, record.guid))?;
+        add_with_pairs(&mut found, &self.pairs.full, record.full.as_slice())?;
+        add_with_pairs(&mut found, &self.pairs.partial, record.partial.as_slice())?;
+        found.extend_from_slice(numbers_with_text(&self.texts.uris, &record.place.uri))?;
+        found.extend_from_slice(numbers_for(&self.texts.rules, &record.rule_id))?;
+        found.extend_from_slice(numbers_for(&self.texts.tools, &record.tool))?;
         found.extend_from_slice(&self.others)?;
         Ok(found)
     }

@@ -10,5 +10,5 @@ pub returns : goal.returns
 returns g c = λ entries table.
     let t = c.args.self.now in
     let r = c.args.record.now in
-    let items : c.extend_from_slice-5.new.self.items ≡ (((((option_map_or (numbers_at nat_eq t.by_guid) r.guid [] ++ flat_map (numbers_at is_pair t.by_full) r.full) ++ flat_map (numbers_at is_pair t.by_partial) r.partial) ++ option_map_or (numbers_at bytes_eq t.by_uri) r.place.uri []) ++ numbers_at bytes_eq t.by_rule r.rule_id) ++ numbers_at bytes_eq t.by_tool r.tool) ++ t.others.items = search rules in
+    let items : c.extend_from_slice-5.new.self.items ≡ (((((option_map_or (numbers_at nat_eq t.guids) r.guid [] ++ flat_map (numbers_at is_pair t.pairs.full) r.full) ++ flat_map (numbers_at is_pair t.pairs.partial) r.partial) ++ option_map_or (numbers_at bytes_eq t.texts.uris) r.place.uri []) ++ numbers_at bytes_eq t.texts.rules r.rule_id) ++ numbers_at bytes_eq t.texts.tools r.tool) ++ t.others.items = search rules in
     items ∙ from_tables entries t r table
