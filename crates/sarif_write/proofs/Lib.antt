@@ -1,6 +1,7 @@
 pub mod PutAgain
 pub mod WholeMembers
 pub mod WholeListing
+pub mod CountedAgain
 pub mod Drafted
 pub mod AnnotatedResult
 pub mod RunResults

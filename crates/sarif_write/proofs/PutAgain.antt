@@ -1,16 +1,11 @@
 -- A member that is set twice, and lists of items there and back.
-use Rattle.std.proofs.Common.{◌≡◌, ℕ, List, [], ◌∷◌, Ordering, Less, Equal, Greater, nat_cmp, codes, refl, ap}
+use Rattle.std.proofs.Common.{◌≡◌, ℕ, List, [], ◌∷◌, Ordering, Less, Equal, Greater, nat_cmp, refl, ap}
 use Rattle.std.proofs.lemmas.Cmp.{nat_list_cmp_total, tied_itself}
 use Rattle.std.specs.Cmp.Lexicographic.{slice_cmp}
 use Rattle.std.specs.Ordering.{match_ordering}
-use Rattle.serde_json.specs.Data.{Data, null, string, array, Items, no_items, item, Members, no_members, member, put}
+use Rattle.serde_json.specs.Data.{Data, Items, no_items, item, Members, no_members, member, put}
 use Rattle.serde_json.specs.View.{items_of}
-use Rattle.sarif_records.specs.declared.kinds.Level.{Level}
-use Rattle.sarif_records.specs.declared.kinds.State.{State}
-use Rattle.sarif_records.specs.Level.{level_name}
-use Rattle.sarif_records.specs.State.{state_name}
 use Rattle.sarif_records.specs.Members.{elements}
-use Rattle.sarif_write.specs.Annotated.{annotated_members}
 
 put_at : (o : Ordering) (k l : List ℕ) (d e x : Data) (ms : Members) → slice_cmp nat_cmp k l ≡ o
     → put k d (put k e ms) ≡ put k d ms
@@ -26,7 +21,3 @@ put_put k d e (member l x ms) = put_at _ k l d e x ms refl (put_put k d e ms)
 pub items_of_elements : (ds : Items) → items_of (elements ds) ≡ ds
 items_of_elements no_items = refl
 items_of_elements (item d ds) = ap (λ es. item d es) (items_of_elements ds)
-
-pub elements_items_of : (ds : List Data) → elements (items_of ds) ≡ ds
-elements_items_of [] = refl
-elements_items_of (d ∷ ds) = ap (λ es. d ∷ es) (elements_items_of ds)

@@ -3,6 +3,7 @@
 
 mod annotate;
 mod draft;
+mod laws;
 mod merged_text;
 mod results_text;
 mod run_parts;
@@ -11,6 +12,7 @@ mod runs_text;
 mod tally;
 
 pub use draft::{Draft, draft_absent, draft_current};
+pub use laws::suppressed_results_are_counted_as_suppressed;
 pub use merged_text::{Side, log_text};
 pub use run_parts::{RunParts, count_without, make_parts};
 pub use tally::{count_results, mark_entries};

@@ -5,15 +5,14 @@ use Rattle.serde_json.specs.Find.{get_member}
 use Rattle.serde_json.specs.View.{view, items_of, items_view, members_view}
 use Rattle.serde_json.specs.Written.{has_float, items_have_float, members_have_float}
 use Rattle.sarif_records.specs.Members.{elements}
-use Rattle.sarif_suppress.specs.declared.suppressions.Applied.{Applied}
 use Rattle.sarif_suppress.specs.Suppressing.{matching_numbers}
 use Rattle.sarif_suppress.specs.Written.{suppressions_of}
 use Rattle.sarif_write.specs.Annotated.{own_suppressions}
 use Rattle.sarif_write.specs.Drafts.{members_in, applied_of}
 use Rattle.sarif_write.proofs.Drafted.{draft_is}
-use Rattle.sarif_write.proofs.PutAgain.{elements_items_of}
+use Rattle.sarif_records.proofs.RunOf.{elements_items_of}
 use Rattle.sarif_write.proofs.WholeListing.{suppressions_whole, items_whole}
-use Rattle.sarif_write.proofs.WholeMembers.{put_whole, found_whole, items_in_whole, elements_whole}
+use Rattle.sarif_write.proofs.WholeMembers.{put_whole, found_whole, items_in_whole}
 use Rattle.sarif_write.proofs.draft.draft_current.Goals as goal
 
 pub finish_draft-requires-clause-members : goal.finish_draft-requires-clause-members
