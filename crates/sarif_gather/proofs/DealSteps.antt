@@ -6,7 +6,7 @@ use Rattle.std.proofs.lemmas.Bool.{cases_lt, cases_order, lt-ltb, le-ltb, eq-eqb
 use Rattle.std.proofs.lemmas.List.{get_or-set_same, set-get_or}
 use mathlib.Core.Option.{some, some-injective, some-ne-none}
 use lib.ListN.{get_elem?}
-use Rattle.atomic_table.specs.Table.{State, opening, keeps, Allows, Splits, Joins, Me}
+use Rattle.atomic_table.specs.Table.{State, keeps, Allows, Splits, Joins, Me}
 use Rattle.atomic_table.proofs.Lists.{at_set, at_snoc, set_else, set_again}
 use Rattle.sarif_gather.specs.declared.deal.rule.Terms.{Terms}
 use Rattle.sarif_gather.specs.declared.deal.rule.HandView.{HandView}
@@ -68,23 +68,6 @@ once_more x c runs lt = ⊎_elim
 
 once_same : (x c runs : ℕ) → runs ≤ c → once_below x (min (c + 1) runs) ≡ once_below x (min c runs)
 once_same x c runs le = ap (once_below x) (omega arith)
-
-at_first : (u v : HandView) (j : ℕ) → get_elem? (u ∷ []) j ≡ some v → u ≡ v
-at_first u v zero at = some-injective u v at
-at_first u v (suc j) at = absurd (some-ne-none v (sym at))
-
-pub begins : (k : Terms) → k.runs < 2 ^ 32 → k.hands < 2 ^ 32 → Dealt k (opening (0 ∷ []) [] (hand_view k.runs k.hands k.hands 0 []))
-begins k runs hands =
-    let v : HandView = hand_view k.runs k.hands k.hands 0 [] in
-    let here : Fits k 0 v = record { marks = omega arith; spent = λ m. absurd (omega arith); terms = λ p. (refl, refl); behind = λ p. refl } in
-    record {
-      words = omega arith;
-      small = (runs, hands);
-      parts = omega arith;
-      word = omega arith;
-      each = λ j u at. subst (λ w. Fits k 0 w) (at_first v u j at) here;
-      drawn = λ x. ap (λ b. cond b 1 0) (sym (le-ltb x (min 0 k.runs) (omega arith)));
-    }
 
 -- the deal after a draw by a hand that found a run so far
 module _ (k : Terms) (s : State (Unit {0}) HandView) (id : ℕ) (v : HandView) (h : Dealt k s) (at : get_elem? s.views id ≡ some v) (part : 0 < v.parts) (unmarked : v.marks < v.parts) where

@@ -1,5 +1,6 @@
 -- What holds of the partners after all tiers.
 use Rattle.std.proofs.Common.{◌≡◌, ◌≢◌, ℕ, ◌<◌, zero, suc, Bool, true, false, cond, not, ◌||◌, ◌⊎◌, inl, inr, ⊎_elim, List, [], ◌∷◌, ◌++◌, Option, Some, None, ◌==◌, length, fold, replicate, slice_index_or, slice_set, is_some, refl, sym, ap, ◌∙◌, arith, eq-eqb}
+use mathlib.Core.Bool.{or-true}
 use Rattle.std.proofs.Math.ListN.{length-set}
 use Rattle.std.specs.Option.{option_map_or}
 use Rattle.std.proofs.lemmas.List.{length-replicate}
@@ -80,11 +81,7 @@ is_taken-by [] i j found = absurd (none_is_no_some j found)
 is_taken-by (x ∷ partners) zero j found =
     ap (λ (o : Option ℕ). option_map_or (λ (taken : ℕ). taken == j) o false || is_taken partners j) found ∙ ap (λ (b : Bool). b || is_taken partners j) (eq-eqb j j refl)
 is_taken-by (x ∷ partners) (suc i) j found =
-    ap (λ (b : Bool). option_map_or (λ (taken : ℕ). taken == j) x false || b) (is_taken-by partners i j found) ∙ or_true (option_map_or (λ (taken : ℕ). taken == j) x false)
-  where
-    or_true : (b : Bool) → b || true ≡ true
-    or_true true = refl
-    or_true false = refl
+    ap (λ (b : Bool). option_map_or (λ (taken : ℕ). taken == j) x false || b) (is_taken-by partners i j found) ∙ or-true (option_map_or (λ (taken : ℕ). taken == j) x false)
 
 module _ (current baseline : List Record) where
   -- after one tier more, partners were partners or are paired at it

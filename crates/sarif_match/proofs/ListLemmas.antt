@@ -1,12 +1,7 @@
 -- Lists by their places.
-use Rattle.std.proofs.Common.{◌≡◌, ℕ, ◌-◌, zero, suc, List, [], ◌∷◌, ◌++◌, Some, length, drop, map, slice_get, refl, ap, ◌∙◌, arith, length-append}
-use Rattle.std.specs.Option.{option_map}
+use Rattle.std.proofs.Common.{◌≡◌, ℕ, ◌-◌, zero, suc, List, [], ◌∷◌, ◌++◌, Some, length, drop, slice_get, refl, ap, ◌∙◌, arith, length-append}
 
 module _ {X : Type 0} where
-  pub append-nil : (xs : List X) → xs ++ [] ≡ xs
-  append-nil [] = refl
-  append-nil (x ∷ xs) = ap (λ (rest : List X). x ∷ rest) (append-nil xs)
-
   -- the first of what is left after n is number n
   pub slice_get-drop : (xs : List X) (n : ℕ) → slice_get (drop n xs) 0 ≡ slice_get xs n
   slice_get-drop [] zero = refl
@@ -30,9 +25,3 @@ module _ {X : Type 0} where
   slice_get-last xs x =
       let at : length (xs ++ (x ∷ [])) - 1 ≡ length xs = omega (arith, length-append xs (x ∷ [])) in
       ap (slice_get (xs ++ (x ∷ []))) at ∙ slice_get-middle xs x []
-
-module _ {X Y : Type 0} (f : X → Y) where
-  pub slice_get-map : (xs : List X) (i : ℕ) → slice_get (map f xs) i ≡ option_map f (slice_get xs i)
-  slice_get-map [] i = refl
-  slice_get-map (x ∷ xs) zero = refl
-  slice_get-map (x ∷ xs) (suc i) = slice_get-map xs i

@@ -1,5 +1,6 @@
 -- Groups of results by name, one fingerprint and one result at a time.
-use Rattle.std.proofs.Common.{◌≡◌, ℕ, ◌+◌, ◌-◌, ◌<◌, ◌≤◌, zero, suc, Bool, true, false, cond, List, [], ◌∷◌, ◌++◌, Option, Some, None, ◌==◌, length, get_or, take, slice_get, bytes_eq, refl, sym, ap, ◌∙◌, arith, eq-eqb}
+use Rattle.std.proofs.Common.{◌≡◌, ℕ, ◌+◌, ◌-◌, ◌<◌, ◌≤◌, zero, suc, Bool, true, false, cond, List, [], ◌∷◌, ◌++◌, Option, Some, None, ◌==◌, length, get_or, take, slice_get, bytes_eq, refl, sym, ap, ◌∙◌, arith, eq-eqb, append-nil}
+use Rattle.std.proofs.lemmas.Option.{slice_get-map}
 use Rattle.std.proofs.lemmas.Bool.{ne_eqb}
 use Rattle.std.proofs.lemmas.List.{take_more, map-append, length-map, length-take-le}
 use Rattle.std.proofs.Common.{Result, Ok, Err, IfOk}
@@ -17,7 +18,7 @@ use Rattle.std.proofs.lemmas.List.Elements.{filter-append}
 use Rattle.sarif_match.specs.Named.{with_parts, ends_with, put_once, IsBelow, unmarked}
 use Rattle.sarif_match.specs.Partners.{with_key, keyed_from}
 use Rattle.sarif_match.proofs.ValueLemmas.{same_text}
-use Rattle.sarif_match.proofs.ListLemmas.{append-nil, slice_get-last, slice_get-map}
+use Rattle.sarif_match.proofs.ListLemmas.{slice_get-last}
 
 -- the first, else the second
 abbrev pub first_some : {X : Type 0} → Option X → Option X → Option X

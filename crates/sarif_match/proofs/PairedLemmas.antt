@@ -1,6 +1,6 @@
 -- The pairs of a tier are just the results that the rule pairs.
-use Rattle.std.proofs.Common.{◌≡◌, ℕ, ◌+◌, ◌<◌, zero, suc, Bool, true, false, not, List, [], ◌∷◌, ◌++◌, Option, Some, None, length, filter, slice_get, refl, sym, ap, ◌∙◌, subst, arith}
-use Rattle.std.proofs.lemmas.Bool.{false≢true}
+use Rattle.std.proofs.Common.{◌≡◌, ℕ, ◌+◌, ◌<◌, zero, suc, Bool, not, List, [], ◌∷◌, ◌++◌, Option, Some, None, length, filter, slice_get, refl, sym, ap, ◌∙◌, subst, arith}
+use Rattle.std.proofs.lemmas.Bool.{not-true}
 use Rattle.sarif_records.specs.declared.record.Record.{Record}
 use Rattle.sarif_match.specs.declared.tier.Tier.{Tier}
 use Rattle.sarif_match.specs.Key.{key_of}
@@ -95,10 +95,6 @@ keyed_split tier n [] before after i key e = absurd (nil_has_no_middle before (i
 keyed_split tier n (r ∷ rs) before after i key e =
     keyed_by tier n r rs (key_of r tier) before after i key refl e (λ front e'. keyed_split tier (suc n) rs front after i key e')
 
-not_true : (b : Bool) → not b ≡ true → b ≡ false
-not_true true e = absurd (false≢true e)
-not_true false e = refl
-
 -- the rank of a result whose left-over front is known
 rank-front : (test : ℕ → Bool) (tier : Tier) (rs : List Record) (i : ℕ) (own key : KeyParts) (before after front : List (ℕ × KeyParts)) → keyed_from tier 0 rs ≡ before ++ ((i, own) ∷ after) → IsBelow i before → IsAbove i after → filter (λ (e : ℕ × KeyParts). test e.0) before ≡ front → rank test key i (keyed_from tier 0 rs) ≡ length (places same_parts key front)
 rank-front test tier rs i own key before after front split below above front_is =
@@ -141,7 +137,7 @@ paired-of current baseline partners tier i j h =
       key = key;
       current_key = ap (key_at tier current) (sym c_at) ∙ c_key.key_is;
       baseline_key = ap (key_at tier baseline) (sym b_at) ∙ b_key.key_is ∙ ap Some same;
-      current_left = not_true (has_partner partners i) c.kept;
-      baseline_left = not_true (is_taken partners j) b.kept;
+      current_left = not-true (has_partner partners i) c.kept;
+      baseline_left = not-true (is_taken partners j) b.kept;
       ranks = c_rank ∙ sym place.place ∙ sym b_rank;
     }

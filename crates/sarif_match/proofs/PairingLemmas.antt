@@ -1,9 +1,9 @@
 -- Queues and pairs, one result at a time.
-use Rattle.std.proofs.Common.{◌≡◌, ℕ, ◌+◌, ◌<◌, suc, Bool, true, false, cond, List, [], ◌∷◌, ◌++◌, Option, Some, None, length, get_or, take, drop, map, filter, slice_get, refl, sym, ap, ◌∙◌, arith, length-append, append_assoc}
+use Rattle.std.proofs.Common.{◌≡◌, ℕ, ◌+◌, ◌<◌, suc, Bool, true, false, cond, List, [], ◌∷◌, ◌++◌, Option, Some, None, length, get_or, take, drop, map, filter, slice_get, refl, sym, ap, ◌∙◌, arith, length-append, append_assoc, append-nil}
 use Rattle.std.proofs.Math.Seq.{drop-cons}
 use Rattle.std.proofs.lemmas.List.{take_more, map-append}
 use Rattle.std.proofs.lemmas.List.Elements.{filter-append}
-use Rattle.sarif_match.proofs.ListLemmas.{append-nil, slice_get-drop, drop-one}
+use Rattle.sarif_match.proofs.ListLemmas.{slice_get-drop, drop-one}
 use Rattle.sarif_match.specs.Pairing.{places, pairs_from, with_pair}
 
 -- the pairs with one more at the end, where there is a partner

@@ -2,7 +2,7 @@
 use Rattle.std.proofs.Common.{◌≡◌, ℕ, Bool, true, false, ◌&&◌, ◌==◌, List, [], ◌∷◌, Option, Some, None, bytes_eq, refl, sym, ap, ◌∙◌, eq-eqb}
 use Rattle.std.specs.Option.{option_eq}
 use Rattle.std.specs.Cmp.Lexicographic.{pointwise}
-use Rattle.std.proofs.lemmas.Bool.{false≢true}
+use Rattle.std.proofs.lemmas.Bool.{false≢true, and_from, and_parts}
 use Rattle.std.proofs.lemmas.Bool.Decides.{Decides-eqb}
 use Rattle.std.proofs.lemmas.Slice.Eq.{bytes_eq-Decides}
 use Rattle.sarif_records.specs.declared.message.Message.{Message}
@@ -13,13 +13,6 @@ use Rattle.sarif_match.specs.KeyParts.{parts_of}
 use Rattle.sarif_match.specs.Queues.{same_key}
 use Rattle.sarif_match.proofs.KeyLemmas.{eq-is_same_parts}
 use Rattle.sarif_match.proofs.ValueLemmas.{same_text}
-
-pub and_both : (x y : Bool) → x && y ≡ true → (x ≡ true) × (y ≡ true)
-and_both true y e = (refl, e)
-and_both false y e = absurd (false≢true e)
-
-and_true : (x y : Bool) → x ≡ true → y ≡ true → x && y ≡ true
-and_true x y a b = ap (λ (z : Bool). z && y) a ∙ b
 
 -- texts
 text_refl : (a : List ℕ) → bytes_eq a a ≡ true
@@ -41,18 +34,18 @@ module _ {X : Type 0} (E : X → X → Bool) where
   list_same same [] (y ∷ ys) e = absurd (false≢true e)
   list_same same (x ∷ xs) [] e = absurd (false≢true e)
   list_same same (x ∷ xs) (y ∷ ys) e =
-      let both = and_both (E x y) (pointwise E xs ys) e in
+      let both = and_parts (E x y) (pointwise E xs ys) e in
       let first : x ≡ y = same x y both.0 in
       let rest : xs ≡ ys = list_same same xs ys both.1 in
       λ i. first i ∷ rest i
 
   list_refl : ((x : X) → E x x ≡ true) → (xs : List X) → pointwise E xs xs ≡ true
   list_refl each [] = refl
-  list_refl each (x ∷ xs) = and_true (E x x) (pointwise E xs xs) (each x) (list_refl each xs)
+  list_refl each (x ∷ xs) = and_from (E x x) (pointwise E xs xs) (each x) (list_refl each xs)
 
 pair_same : (p q : List ℕ × List ℕ) → bytes_eq p.0 q.0 && bytes_eq p.1 q.1 ≡ true → p ≡ q
 pair_same p q e =
-    let both = and_both (bytes_eq p.0 q.0) (bytes_eq p.1 q.1) e in
+    let both = and_parts (bytes_eq p.0 q.0) (bytes_eq p.1 q.1) e in
     let name : p.0 ≡ q.0 = same_text p.0 q.0 both.0 in
     let value : p.1 ≡ q.1 = same_text p.1 q.1 both.1 in
     λ i. (name i, value i)
@@ -61,22 +54,22 @@ pairs_same : (a b : List (List ℕ × List ℕ)) → pairs_eq a b ≡ true → a
 pairs_same a b e = list_same (λ (p q : List ℕ × List ℕ). bytes_eq p.0 q.0 && bytes_eq p.1 q.1) pair_same a b e
 
 pairs_refl : (a : List (List ℕ × List ℕ)) → pairs_eq a a ≡ true
-pairs_refl a = list_refl (λ (p q : List ℕ × List ℕ). bytes_eq p.0 q.0 && bytes_eq p.1 q.1) (λ p. and_true (bytes_eq p.0 p.0) (bytes_eq p.1 p.1) (text_refl p.0) (text_refl p.1)) a
+pairs_refl a = list_refl (λ (p q : List ℕ × List ℕ). bytes_eq p.0 q.0 && bytes_eq p.1 q.1) (λ p. and_from (bytes_eq p.0 p.0) (bytes_eq p.1 p.1) (text_refl p.0) (text_refl p.1)) a
 
 pub place_same : (a b : Place) → place_eq a b ≡ true → a ≡ b
 place_same a b e =
-    let both = and_both (option_eq bytes_eq a.uri b.uri) (option_eq bytes_eq a.base b.base) e in
+    let both = and_parts (option_eq bytes_eq a.uri b.uri) (option_eq bytes_eq a.base b.base) e in
     let uri : a.uri ≡ b.uri = option_same a.uri b.uri both.0 in
     let base : a.base ≡ b.base = option_same a.base b.base both.1 in
     λ i. record { uri = uri i; base = base i }
 
 pub place_refl : (a : Place) → place_eq a a ≡ true
-place_refl a = and_true (option_eq bytes_eq a.uri a.uri) (option_eq bytes_eq a.base a.base) (option_refl a.uri) (option_refl a.base)
+place_refl a = and_from (option_eq bytes_eq a.uri a.uri) (option_eq bytes_eq a.base a.base) (option_refl a.uri) (option_refl a.base)
 
 pub message_same : (a b : Message) → message_eq a b ≡ true → a ≡ b
 message_same a b e =
-    let both = and_both (option_eq bytes_eq a.text b.text) (option_eq bytes_eq a.id b.id && pointwise bytes_eq a.args b.args) e in
-    let rest = and_both (option_eq bytes_eq a.id b.id) (pointwise bytes_eq a.args b.args) both.1 in
+    let both = and_parts (option_eq bytes_eq a.text b.text) (option_eq bytes_eq a.id b.id && pointwise bytes_eq a.args b.args) e in
+    let rest = and_parts (option_eq bytes_eq a.id b.id) (pointwise bytes_eq a.args b.args) both.1 in
     let text : a.text ≡ b.text = option_same a.text b.text both.0 in
     let id : a.id ≡ b.id = option_same a.id b.id rest.0 in
     let args : a.args ≡ b.args = list_same bytes_eq same_text a.args b.args rest.1 in
@@ -84,41 +77,41 @@ message_same a b e =
 
 pub message_refl : (a : Message) → message_eq a a ≡ true
 message_refl a =
-    and_true (option_eq bytes_eq a.text a.text) (option_eq bytes_eq a.id a.id && pointwise bytes_eq a.args a.args) (option_refl a.text) (and_true (option_eq bytes_eq a.id a.id) (pointwise bytes_eq a.args a.args) (option_refl a.id) (list_refl bytes_eq text_refl a.args))
+    and_from (option_eq bytes_eq a.text a.text) (option_eq bytes_eq a.id a.id && pointwise bytes_eq a.args a.args) (option_refl a.text) (and_from (option_eq bytes_eq a.id a.id) (pointwise bytes_eq a.args a.args) (option_refl a.id) (list_refl bytes_eq text_refl a.args))
 
 pub parts_same : (a b : KeyParts) → same_parts a b ≡ true → a ≡ b
 parts_same (guid_parts t g) (guid_parts t' g') e =
-    let both = and_both (bytes_eq t t') (g == g') e in
+    let both = and_parts (bytes_eq t t') (g == g') e in
     let tool : t ≡ t' = same_text t t' both.0 in
     let guid : g ≡ g' = (Decides-eqb g g').0 both.1 in
     λ i. guid_parts (tool i) (guid i)
 parts_same (fingerprint_parts t n v) (fingerprint_parts t' n' v') e =
-    let both = and_both (bytes_eq t t') (bytes_eq n n' && bytes_eq v v') e in
-    let rest = and_both (bytes_eq n n') (bytes_eq v v') both.1 in
+    let both = and_parts (bytes_eq t t') (bytes_eq n n' && bytes_eq v v') e in
+    let rest = and_parts (bytes_eq n n') (bytes_eq v v') both.1 in
     let tool : t ≡ t' = same_text t t' both.0 in
     let name : n ≡ n' = same_text n n' rest.0 in
     let value : v ≡ v' = same_text v v' rest.1 in
     λ i. fingerprint_parts (tool i) (name i) (value i)
 parts_same (partial_here_parts t r p m) (partial_here_parts t' r' p' m') e =
-    let both = and_both (bytes_eq t t') (bytes_eq r r' && (place_eq p p' && pairs_eq m m')) e in
-    let rest = and_both (bytes_eq r r') (place_eq p p' && pairs_eq m m') both.1 in
-    let last = and_both (place_eq p p') (pairs_eq m m') rest.1 in
+    let both = and_parts (bytes_eq t t') (bytes_eq r r' && (place_eq p p' && pairs_eq m m')) e in
+    let rest = and_parts (bytes_eq r r') (place_eq p p' && pairs_eq m m') both.1 in
+    let last = and_parts (place_eq p p') (pairs_eq m m') rest.1 in
     let tool : t ≡ t' = same_text t t' both.0 in
     let rule_id : r ≡ r' = same_text r r' rest.0 in
     let place : p ≡ p' = place_same p p' last.0 in
     let partial : m ≡ m' = pairs_same m m' last.1 in
     λ i. partial_here_parts (tool i) (rule_id i) (place i) (partial i)
 parts_same (partial_moved_parts t r m) (partial_moved_parts t' r' m') e =
-    let both = and_both (bytes_eq t t') (bytes_eq r r' && pairs_eq m m') e in
-    let rest = and_both (bytes_eq r r') (pairs_eq m m') both.1 in
+    let both = and_parts (bytes_eq t t') (bytes_eq r r' && pairs_eq m m') e in
+    let rest = and_parts (bytes_eq r r') (pairs_eq m m') both.1 in
     let tool : t ≡ t' = same_text t t' both.0 in
     let rule_id : r ≡ r' = same_text r r' rest.0 in
     let partial : m ≡ m' = pairs_same m m' rest.1 in
     λ i. partial_moved_parts (tool i) (rule_id i) (partial i)
 parts_same (place_parts t r p m) (place_parts t' r' p' m') e =
-    let both = and_both (bytes_eq t t') (bytes_eq r r' && (place_eq p p' && message_eq m m')) e in
-    let rest = and_both (bytes_eq r r') (place_eq p p' && message_eq m m') both.1 in
-    let last = and_both (place_eq p p') (message_eq m m') rest.1 in
+    let both = and_parts (bytes_eq t t') (bytes_eq r r' && (place_eq p p' && message_eq m m')) e in
+    let rest = and_parts (bytes_eq r r') (place_eq p p' && message_eq m m') both.1 in
+    let last = and_parts (place_eq p p') (message_eq m m') rest.1 in
     let tool : t ≡ t' = same_text t t' both.0 in
     let rule_id : r ≡ r' = same_text r r' rest.0 in
     let place : p ≡ p' = place_same p p' last.0 in
@@ -127,15 +120,15 @@ parts_same (place_parts t r p m) (place_parts t' r' p' m') e =
 parts_same _ _ e = absurd (false≢true e)
 
 pub parts_refl : (a : KeyParts) → same_parts a a ≡ true
-parts_refl (guid_parts t g) = and_true (bytes_eq t t) (g == g) (text_refl t) (eq-eqb g g refl)
+parts_refl (guid_parts t g) = and_from (bytes_eq t t) (g == g) (text_refl t) (eq-eqb g g refl)
 parts_refl (fingerprint_parts t n v) =
-    and_true (bytes_eq t t) (bytes_eq n n && bytes_eq v v) (text_refl t) (and_true (bytes_eq n n) (bytes_eq v v) (text_refl n) (text_refl v))
+    and_from (bytes_eq t t) (bytes_eq n n && bytes_eq v v) (text_refl t) (and_from (bytes_eq n n) (bytes_eq v v) (text_refl n) (text_refl v))
 parts_refl (partial_here_parts t r p m) =
-    and_true (bytes_eq t t) (bytes_eq r r && (place_eq p p && pairs_eq m m)) (text_refl t) (and_true (bytes_eq r r) (place_eq p p && pairs_eq m m) (text_refl r) (and_true (place_eq p p) (pairs_eq m m) (place_refl p) (pairs_refl m)))
+    and_from (bytes_eq t t) (bytes_eq r r && (place_eq p p && pairs_eq m m)) (text_refl t) (and_from (bytes_eq r r) (place_eq p p && pairs_eq m m) (text_refl r) (and_from (place_eq p p) (pairs_eq m m) (place_refl p) (pairs_refl m)))
 parts_refl (partial_moved_parts t r m) =
-    and_true (bytes_eq t t) (bytes_eq r r && pairs_eq m m) (text_refl t) (and_true (bytes_eq r r) (pairs_eq m m) (text_refl r) (pairs_refl m))
+    and_from (bytes_eq t t) (bytes_eq r r && pairs_eq m m) (text_refl t) (and_from (bytes_eq r r) (pairs_eq m m) (text_refl r) (pairs_refl m))
 parts_refl (place_parts t r p m) =
-    and_true (bytes_eq t t) (bytes_eq r r && (place_eq p p && message_eq m m)) (text_refl t) (and_true (bytes_eq r r) (place_eq p p && message_eq m m) (text_refl r) (and_true (place_eq p p) (message_eq m m) (place_refl p) (message_refl m)))
+    and_from (bytes_eq t t) (bytes_eq r r && (place_eq p p && message_eq m m)) (text_refl t) (and_from (bytes_eq r r) (place_eq p p && message_eq m m) (text_refl r) (and_from (place_eq p p) (message_eq m m) (place_refl p) (message_refl m)))
 
 -- equal keys have equal parts, and the other way round
 pub key_is_parts : (a b : Key) → (same_key a b ≡ true → parts_of a ≡ parts_of b) × (parts_of a ≡ parts_of b → same_key a b ≡ true)

@@ -1,11 +1,11 @@
 -- Where a result stands in a list of numbered keys, and what that says of places, ranks and pairs.
-use Rattle.std.proofs.Common.{◌≡◌, ℕ, ◌+◌, ◌<◌, ◌≤◌, zero, suc, Bool, true, false, cond, ◌&&◌, ◌⊎◌, inl, inr, List, [], ◌∷◌, ◌++◌, Option, Some, None, length, nat_lt, map, filter, slice_get, refl, sym, ap, ◌∙◌, subst, arith, append_assoc, length-append}
+use Rattle.std.proofs.Common.{◌≡◌, ℕ, ◌+◌, ◌<◌, ◌≤◌, zero, suc, Bool, true, false, cond, ◌&&◌, ◌⊎◌, inl, inr, List, [], ◌∷◌, ◌++◌, Option, Some, None, length, nat_lt, map, filter, slice_get, refl, sym, ap, ◌∙◌, subst, arith, append_assoc, length-append, append-nil}
 use Rattle.std.proofs.lemmas.List.{map-append}
 use Rattle.std.proofs.lemmas.List.Elements.{filter-append}
 use Rattle.std.proofs.lemmas.Bool.Decides.{nat_tests}
 use Rattle.sarif_match.specs.Named.{IsBelow}
 use Rattle.sarif_match.specs.Pairing.{places, pairs_from, with_pair}
-use Rattle.sarif_match.proofs.ListLemmas.{append-nil, slice_get-middle}
+use Rattle.sarif_match.proofs.ListLemmas.{slice_get-middle}
 
 -- the pair is among these
 abbrev pub HasPair : List (ℕ × ℕ) → ℕ → ℕ → Type 0
@@ -37,21 +37,6 @@ module _ {X : Type 0} where
 
   pub some_same : (x y : X) → Some x ≡ Some y → x ≡ y
   some_same x y e = cc
-
-  -- a list with an element in its midst
-  pub record Splits (xs : List X) (x : X) : Type 0 where
-    pub before : List X
-    pub after : List X
-    pub split : xs ≡ before ++ (x ∷ after)
-
-  -- what stands at a place splits the list
-  pub Splits-slice_get : (xs : List X) (r : ℕ) (x : X) → slice_get xs r ≡ Some x → (s : Splits xs x) × (length s.before ≡ r)
-  Splits-slice_get [] r x found = absurd (none_is_no_some x found)
-  Splits-slice_get (y ∷ ys) zero x found =
-      (record { before = []; after = ys; split = ap (λ (z : X). z ∷ ys) (some_same y x found) }, refl)
-  Splits-slice_get (y ∷ ys) (suc r) x found =
-      let rest = Splits-slice_get ys r x found in
-      (record { before = y ∷ rest.0.before; after = rest.0.after; split = ap (λ (zs : List X). y ∷ zs) rest.0.split }, ap suc rest.1)
 
   module _ (p : X → Bool) where
     -- what is kept stands between what is kept of both sides

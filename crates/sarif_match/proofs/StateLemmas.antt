@@ -1,5 +1,6 @@
 -- What the tests of a state say.
 use Rattle.std.proofs.Common.{◌≡◌, ℕ, Bool, true, false, cond, ◌&&◌, ◌==◌, refl, sym, ap, ◌∙◌, eq-eqb}
+use Rattle.std.proofs.lemmas.Bool.{and_parts}
 use Rattle.std.specs.Prelude.{Some}
 use Rattle.std.proofs.lemmas.Bool.Decides.{Decides-eqb}
 use Rattle.sarif_records.specs.declared.record.Record.{Record}
@@ -10,7 +11,7 @@ use Rattle.sarif_records.specs.declared.kinds.Level.TheVariants.{NoLevel, Note, 
 use Rattle.sarif_records.specs.declared.kinds.State.TheVariants.{Unchanged, Updated}
 use Rattle.sarif_match.specs.KeyParts.{message_eq, place_eq}
 use Rattle.sarif_match.specs.State.{kind_number, level_number, is_unchanged, state_of, IsUnchanged}
-use Rattle.sarif_match.proofs.PartsLemmas.{and_both, message_same, message_refl, place_same, place_refl}
+use Rattle.sarif_match.proofs.PartsLemmas.{message_same, message_refl, place_same, place_refl}
 
 -- the kind with this number
 kind_at : ℕ → Kind
@@ -44,26 +45,26 @@ from_unchanged : (b : Bool) → cond b Unchanged Updated ≡ Unchanged → b ≡
 from_unchanged true e = refl
 from_unchanged false e = updated_is_no_unchanged e
 
-pub unchanged_is_equal : (now before : Record) → state_of now (Some before) ≡ Unchanged → IsUnchanged now before
-unchanged_is_equal now before e =
-    let kinds = kind_number now.kind == kind_number before.kind in
-    let levels = level_number now.level == level_number before.level in
-    let messages = message_eq now.message before.message in
-    let places = place_eq now.place before.place in
-    let all = and_both kinds (levels && (messages && places)) (from_unchanged (is_unchanged now before) e) in
-    let rest = and_both levels (messages && places) all.1 in
-    let last = and_both messages places rest.1 in
+pub unchanged_is_equal : (current partner : Record) → state_of current (Some partner) ≡ Unchanged → IsUnchanged current partner
+unchanged_is_equal current partner e =
+    let kinds = kind_number current.kind == kind_number partner.kind in
+    let levels = level_number current.level == level_number partner.level in
+    let messages = message_eq current.message partner.message in
+    let places = place_eq current.place partner.place in
+    let all = and_parts kinds (levels && (messages && places)) (from_unchanged (is_unchanged current partner) e) in
+    let rest = and_parts levels (messages && places) all.1 in
+    let last = and_parts messages places rest.1 in
     record {
-      kind = sym (kind_at-number now.kind) ∙ ap kind_at ((Decides-eqb (kind_number now.kind) (kind_number before.kind)).0 all.0) ∙ kind_at-number before.kind;
-      level = sym (level_at-number now.level) ∙ ap level_at ((Decides-eqb (level_number now.level) (level_number before.level)).0 rest.0) ∙ level_at-number before.level;
-      message = message_same now.message before.message last.0;
-      place = place_same now.place before.place last.1;
+      kind = sym (kind_at-number current.kind) ∙ ap kind_at ((Decides-eqb (kind_number current.kind) (kind_number partner.kind)).0 all.0) ∙ kind_at-number partner.kind;
+      level = sym (level_at-number current.level) ∙ ap level_at ((Decides-eqb (level_number current.level) (level_number partner.level)).0 rest.0) ∙ level_at-number partner.level;
+      message = message_same current.message partner.message last.0;
+      place = place_same current.place partner.place last.1;
     }
 
-pub equal_is_unchanged : (now before : Record) → IsUnchanged now before → state_of now (Some before) ≡ Unchanged
-equal_is_unchanged now before h =
-    let kinds : (kind_number now.kind == kind_number before.kind) ≡ true = eq-eqb (kind_number now.kind) (kind_number before.kind) (ap kind_number h.kind) in
-    let levels : (level_number now.level == level_number before.level) ≡ true = eq-eqb (level_number now.level) (level_number before.level) (ap level_number h.level) in
-    let messages : message_eq now.message before.message ≡ true = ap (message_eq now.message) (sym h.message) ∙ message_refl now.message in
-    let places : place_eq now.place before.place ≡ true = ap (place_eq now.place) (sym h.place) ∙ place_refl now.place in
-    ap (λ (b : Bool). cond (b && ((level_number now.level == level_number before.level) && (message_eq now.message before.message && place_eq now.place before.place))) Unchanged Updated) kinds ∙ ap (λ (b : Bool). cond (b && (message_eq now.message before.message && place_eq now.place before.place)) Unchanged Updated) levels ∙ ap (λ (b : Bool). cond (b && place_eq now.place before.place) Unchanged Updated) messages ∙ ap (λ (b : Bool). cond b Unchanged Updated) places
+pub equal_is_unchanged : (current partner : Record) → IsUnchanged current partner → state_of current (Some partner) ≡ Unchanged
+equal_is_unchanged current partner h =
+    let kinds : (kind_number current.kind == kind_number partner.kind) ≡ true = eq-eqb (kind_number current.kind) (kind_number partner.kind) (ap kind_number h.kind) in
+    let levels : (level_number current.level == level_number partner.level) ≡ true = eq-eqb (level_number current.level) (level_number partner.level) (ap level_number h.level) in
+    let messages : message_eq current.message partner.message ≡ true = ap (message_eq current.message) (sym h.message) ∙ message_refl current.message in
+    let places : place_eq current.place partner.place ≡ true = ap (place_eq current.place) (sym h.place) ∙ place_refl current.place in
+    ap (λ (b : Bool). cond (b && ((level_number current.level == level_number partner.level) && (message_eq current.message partner.message && place_eq current.place partner.place))) Unchanged Updated) kinds ∙ ap (λ (b : Bool). cond (b && (message_eq current.message partner.message && place_eq current.place partner.place)) Unchanged Updated) levels ∙ ap (λ (b : Bool). cond (b && place_eq current.place partner.place) Unchanged Updated) messages ∙ ap (λ (b : Bool). cond b Unchanged Updated) places

@@ -20,7 +20,7 @@ use Rattle.sarif_counts.specs.declared.policy.Policy.{Policy}
 use Rattle.sarif_counts.specs.CountOf.{count_of}
 use Rattle.sarif_counts.specs.Gate.{gate_of}
 use Rattle.sarif_write.specs.Drafts.{IsRun}
-use Rattle.sarif_judge.specs.Judging.{faults_of_runs, records_of, run_faults, skips}
+use Rattle.sarif_judge.specs.Judging.{faults_of_runs, records_of, run_faults, skips, run_values}
 use Rattle.sarif_judge.specs.Outcomes.{all_outcomes}
 use Rattle.sarif_judge.specs.Placed.{Placed}
 use Rattle.sarif_assemble.specs.declared.judged.Judged.{Judged}
@@ -29,7 +29,7 @@ use Rattle.sarif_assemble.specs.declared.prepared.Prepared.{Prepared}
 use Rattle.sarif_assemble.specs.Assembled.{IsMergedBy}
 use Rattle.sarif_assemble.specs.Prepared.{IsPrepared}
 use Rattle.sarif_assemble.specs.Judged.{placed_in, IsJudged}
-use Rattle.sarif_assemble.specs.LogBy.{data_of, leftover_runs, runs_by, runs_without_results}
+use Rattle.sarif_assemble.specs.LogBy.{leftover_runs, runs_by, runs_without_results}
 use Rattle.sarif_inputs.specs.Faults.{IsWanting, faults_of, file_faults, file_or_none, first, number_faults}
 use Rattle.sarif_inputs.specs.Indexes.{AreIndexesOf}
 use Rattle.sarif_inputs.specs.Inputs.{Inputs, numbered, placed}
@@ -51,13 +51,13 @@ pub judged_logs : (file : File) (ls : List (List ℕ)) (judged : Judged)
     → judged.outcomes.items ≡ all_outcomes file (placed_in judged)
     → faults_of_runs (placed_in judged) ≡ []
     → length (placed_in judged) ≤ 10000
-    → results_total (data_of (placed_in judged)) ≤ 1000000
+    → results_total (run_values (placed_in judged)) ≤ 1000000
     → IsJudged file false judged
 judged_logs file ls judged same outcomes none few few_results = record {
   outcomes = outcomes;
   faultless = none;
   sources = subst (AllByRecursion (λ p. skips p.source ≡ false)) (sym same) (log_sides 0 ls);
-  objects = subst (λ ps. AllByRecursion IsRun (data_of ps)) (sym same) (objects_in (numbered Log 0 ls));
+  objects = subst (λ ps. AllByRecursion IsRun (run_values ps)) (sym same) (objects_in (numbered Log 0 ls));
   few_runs = few;
   few_results = few_results;
 }
@@ -68,13 +68,13 @@ pub judged_baselines : (file : File) (bs : List (List ℕ)) (judged : Judged)
     → judged.outcomes.items ≡ all_outcomes file (placed_in judged)
     → faults_of_runs (placed_in judged) ≡ []
     → length (placed_in judged) ≤ 10000
-    → results_total (data_of (placed_in judged)) ≤ 1000000
+    → results_total (run_values (placed_in judged)) ≤ 1000000
     → IsJudged file true judged
 judged_baselines file bs judged same outcomes none few few_results = record {
   outcomes = outcomes;
   faultless = none;
   sources = subst (AllByRecursion (λ p. skips p.source ≡ true)) (sym same) (baseline_sides 0 bs);
-  objects = subst (λ ps. AllByRecursion IsRun (data_of ps)) (sym same) (objects_in (numbered Baseline 0 bs));
+  objects = subst (λ ps. AllByRecursion IsRun (run_values ps)) (sym same) (objects_in (numbered Baseline 0 bs));
   few_runs = few;
   few_results = few_results;
 }
@@ -94,7 +94,7 @@ assembled_is inputs policy prepared merged ready assembled =
     let baselines = placed (numbered Baseline 0 inputs.baselines) in
     let made = assembled entries logs baselines ready.written in record {
       faultless = ready.faultless;
-      begins = (gate_of (count_of (runs_by entries logs baselines)) policy (runs_without_results (data_of logs)) (unused_of entries (records_of logs)), leftover_runs logs baselines, made.log);
+      begins = (gate_of (count_of (runs_by entries logs baselines)) policy (runs_without_results (run_values logs)) (unused_of entries (records_of logs)), leftover_runs logs baselines, made.log);
       log = made.log;
       gate = made.gate;
     }
@@ -129,13 +129,6 @@ first_of (x ∷ xs) ys fault h = h
 module _ (ls bs : List (List ℕ)) (few_ls : length ls ≤ 1000) (few_bs : length bs ≤ 1000) (file : Option (List ℕ)) (today : Option ℕ) where
   within : number_faults Log ls ++ number_faults Baseline bs ≡ []
   within = ap (λ x. x ++ number_faults Baseline bs) (few_sources ls few_ls) ∙ few_baselines bs few_bs
-
-  -- a refusal by the sources
-  pub source_first : (fault : MergeFault) → first (source_faults 0 0 (sources_of ls bs)) ≡ Some fault → first (faults_of (given ls bs file today)) ≡ Some fault
-  source_first fault is =
-      let sources = source_faults 0 0 (sources_of ls bs) in
-      let later = file_faults (file_or_none file today) ++ faults_of_runs (placed (numbered Log 0 ls) ++ placed (numbered Baseline 0 bs)) in
-      ap first (nothing_before (number_faults Log ls) (number_faults Baseline bs) [] [] (sources ++ later) within refl refl) ∙ first_of sources later fault is
 
   module _ (sources : source_faults 0 0 (sources_of ls bs) ≡ []) where
     -- where reading has no fault, the first is that of the suppression file

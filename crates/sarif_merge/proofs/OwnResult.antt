@@ -20,13 +20,13 @@ use Rattle.sarif_sources.specs.declared.fault.At.TheVariants.{Single}
 use Rattle.sarif_sources.specs.declared.fault.Source.TheVariants.{Log, Baseline}
 use Rattle.sarif_judge.specs.declared.item.Item.{Item}
 use Rattle.sarif_judge.specs.declared.item.Item.TheVariants.{Skipped}
-use Rattle.sarif_judge.specs.Judging.{faults_of_runs, first_bad, item_by, item_of, items_of, opening_fault, records_in, records_of, run_faults, skips, with_record}
+use Rattle.sarif_judge.specs.Judging.{faults_of_runs, first_bad, item_by, item_of, items_of, opening_fault, records_in, records_of, run_faults, skips, with_record, run_values}
 use Rattle.sarif_judge.specs.Placed.{Placed}
 use Rattle.sarif_write.specs.MergedRuns.{Listing, annotated_items, bare, merged_run, merged_runs, own_results, with_results, written, written_all}
 use Rattle.json_index.specs.Without.{without}
-use Rattle.sarif_write.proofs.PutAgain.{elements_items_of}
+use Rattle.sarif_records.proofs.RunOf.{elements_items_of}
 use Rattle.sarif_write.proofs.RunResults.{still_out, taken_out}
-use Rattle.sarif_assemble.specs.LogBy.{data_of, listing_of, partner_in, states_from, states_of}
+use Rattle.sarif_assemble.specs.LogBy.{listing_of, partner_in, states_from, states_of}
 use Rattle.sarif_assemble.proofs.JudgedCounts.{no_fault, no_faults_here, no_faults_left, records_of_log, records_of_logs}
 use Rattle.sarif_assemble.proofs.Sides.{states_long}
 use Rattle.sarif_inputs.specs.Faults.{faults_of, file_faults, file_or_none, number_faults}
@@ -144,8 +144,8 @@ record_in_run p seq log sound within =
 
 -- among the records of all runs
 record_at : (ps : List Placed) (k seq : ℕ) → faults_of_runs ps ≡ [] → AllByRecursion (λ p. skips p.source ≡ false) ps
-    → k < length ps → seq < length (results_of (get_or (data_of ps) k null))
-    → (r : Record) × (record_of (get_or (data_of ps) k null) seq ≡ Ok r) × ((d : Record) → get_or (records_of ps) (results_total (take k (data_of ps)) + seq) d ≡ r)
+    → k < length ps → seq < length (results_of (get_or (run_values ps) k null))
+    → (r : Record) × (record_of (get_or (run_values ps) k null) seq ≡ Ok r) × ((d : Record) → get_or (records_of ps) (results_total (take k (run_values ps)) + seq) d ≡ r)
 record_at [] k seq sound logs there within = absurd (omega (arith, there))
 record_at (p ∷ ps) zero seq sound logs there within =
     let none = no_faults_here (run_faults p) (faults_of_runs ps) sound in
@@ -155,7 +155,7 @@ record_at (p ∷ ps) zero seq sound logs there within =
     (own.0, own.1, λ d. ap (λ i. get_or (records_in (items_of p) ++ records_of ps) i d) place ∙ get_or_append_left (records_in (items_of p)) (records_of ps) d seq inside ∙ own.2 d)
 record_at (p ∷ ps) (suc k) seq sound logs there within =
     let none = no_faults_here (run_faults p) (faults_of_runs ps) sound in
-    let before = results_total (take k (data_of ps)) in
+    let before = results_total (take k (run_values ps)) in
     let own = record_at ps k seq (no_faults_left (run_faults p) (faults_of_runs ps) sound) logs.1 (omega (arith, there)) within in
     let many = records_of_log p logs.0 none in
     let place : (length (results_of p.run) + before) + seq ≡ length (records_in (items_of p)) + (before + seq) = omega (arith, many) in
@@ -206,13 +206,13 @@ faultless_runs inputs none =
 pub runs_same : (inputs : Inputs) → length (written_inputs inputs) ≡ length (input_runs inputs)
 runs_same inputs =
     let now = input_runs inputs in
-    runs_written (listing_of (file_given inputs)) (current_of inputs) (states_of (current_of inputs) (baseline_of inputs)) (data_of now)
+    runs_written (listing_of (file_given inputs)) (current_of inputs) (states_of (current_of inputs) (baseline_of inputs)) (run_values now)
     ∙ length-map now (λ p. p.run)
 
 pub results_same : (inputs : Inputs) (k : ℕ) → k < length (input_runs inputs) → length (results_of (written_run inputs k)) ≡ length (results_of (run_at inputs k))
 results_same inputs k there =
     let now = input_runs inputs in
-    let runs = data_of now in
+    let runs = run_values now in
     let rs = current_of inputs in
     let ss = states_of rs (baseline_of inputs) in
     let listed = listing_of (file_given inputs) in
@@ -228,7 +228,7 @@ pub own_result : (inputs : Inputs) (k seq : ℕ) → faults_of inputs ≡ [] →
     × (result_at (written_run inputs k) seq ≡ written_by inputs r (place_of inputs k seq) (result_at (run_at inputs k) seq))
 own_result inputs k seq none there =
     let now = input_runs inputs in
-    let runs = data_of now in
+    let runs = run_values now in
     let rs = current_of inputs in
     let bs = baseline_of inputs in
     let ss = states_of rs bs in

@@ -15,7 +15,8 @@ use Rattle.sarif_records.specs.Stripping.{stripped}
 use Rattle.sarif_records.proofs.WholeRuns.{bind_ok}
 use Rattle.sarif_write.specs.Drafts.{IsObject, IsRun}
 use Rattle.sarif_judge.specs.Placed.{Placed}
-use Rattle.sarif_inputs.specs.Inputs.{Sourced, data_of, placed, placed_from, readable, runs_in}
+use Rattle.sarif_judge.specs.Judging.{run_values}
+use Rattle.sarif_inputs.specs.Inputs.{Sourced, placed, placed_from, readable, runs_in}
 use Rattle.sarif_inputs.proofs.SourceRuns.{data_placed}
 
 each_object : (ds : List Data) → are_objects ds ≡ true → AllByRecursion IsObject ds
@@ -91,9 +92,9 @@ all_append [] ys of_xs of_ys = of_ys
 all_append (x ∷ xs) ys of_xs of_ys = (of_xs.0, all_append xs ys of_xs.1 of_ys)
 
 -- all runs of sources
-pub objects_in : (sources : List Sourced) → AllByRecursion IsRun (data_of (placed sources))
+pub objects_in : (sources : List Sourced) → AllByRecursion IsRun (run_values (placed sources))
 objects_in [] = tt
 objects_in (s ∷ rest) =
     let here = placed_from s.source 0 (runs_in s) in
-    let same = map-append (λ (p : Placed). p.run) here (placed rest) ∙ ap (λ ds. ds ++ data_of (placed rest)) (data_placed s.source 0 (runs_in s)) in
-    subst (AllByRecursion IsRun) (sym same) (all_append (runs_in s) (data_of (placed rest)) (readable_objects s.bytes (log_of s.bytes) refl) (objects_in rest))
+    let same = map-append (λ (p : Placed). p.run) here (placed rest) ∙ ap (λ ds. ds ++ run_values (placed rest)) (data_placed s.source 0 (runs_in s)) in
+    subst (AllByRecursion IsRun) (sym same) (all_append (runs_in s) (run_values (placed rest)) (readable_objects s.bytes (log_of s.bytes) refl) (objects_in rest))

@@ -7,8 +7,8 @@ use Rattle.sarif_suppress.specs.File.{File}
 use Rattle.sarif_suppress.specs.Suppressing.{unused_of}
 use Rattle.sarif_suppress.specs.declared.fault.SuppressFault.{SuppressFault}
 use Rattle.sarif_counts.specs.declared.policy.Policy.{Policy}
-use Rattle.sarif_judge.specs.Judging.{records_of}
-use Rattle.sarif_assemble.specs.LogBy.{current_runs, data_of, merged_by, runs_by, runs_without_results}
+use Rattle.sarif_judge.specs.Judging.{records_of, run_values}
+use Rattle.sarif_assemble.specs.LogBy.{current_runs, merged_by, runs_by, runs_without_results}
 use Rattle.sarif_inputs.specs.Faults.{file_or_none}
 use Rattle.sarif_inputs.specs.Inputs.{Inputs, input_runs, baseline_runs}
 
@@ -33,7 +33,7 @@ abbrev pub runs_of : Inputs → List Data
 runs_of inputs = runs_by (file_given inputs) (input_runs inputs) (baseline_runs inputs)
 
 abbrev pub without_of : Inputs → ℕ
-without_of inputs = runs_without_results (data_of (input_runs inputs))
+without_of inputs = runs_without_results (run_values (input_runs inputs))
 
 -- how many entries of the suppression file match no current result
 abbrev pub unused_in : Inputs → ℕ

@@ -5,15 +5,15 @@ use Rattle.sarif_records.specs.declared.record.Record.{Record}
 use Rattle.sarif_records.specs.Run.{results_of, results_total}
 use Rattle.sarif_match.specs.Partners.{partners_of}
 use Rattle.sarif_match.specs.State.{state_of}
-use Rattle.sarif_judge.specs.Judging.{records_of}
+use Rattle.sarif_judge.specs.Judging.{records_of, run_values}
 use Rattle.sarif_write.specs.MergedRuns.{written}
-use Rattle.sarif_assemble.specs.LogBy.{data_of, listing_of, partner_in}
+use Rattle.sarif_assemble.specs.LogBy.{listing_of, partner_in}
 use Rattle.sarif_inputs.specs.Inputs.{Inputs, input_runs, baseline_runs}
 use Rattle.sarif_merge.specs.MergedLog.{current_of, file_given, written_inputs}
 
 -- input run k, as it was read
 abbrev pub run_at : Inputs → ℕ → Data
-run_at inputs k = slice_index_or (data_of (input_runs inputs)) k null
+run_at inputs k = slice_index_or (run_values (input_runs inputs)) k null
 
 -- input run k, as it is written
 abbrev pub written_run : Inputs → ℕ → Data
@@ -26,7 +26,7 @@ IsResult inputs k seq =
 
 -- the number of result seq of input run k among the results of all input runs
 abbrev pub place_of : Inputs → ℕ → ℕ → ℕ
-place_of inputs k seq = results_total (take k (data_of (input_runs inputs))) + seq
+place_of inputs k seq = results_total (take k (run_values (input_runs inputs))) + seq
 
 abbrev pub baseline_of : Inputs → List Record
 baseline_of inputs = records_of (baseline_runs inputs)

@@ -2,7 +2,7 @@
 use Rattle.std.proofs.Common.{◌≡◌, ◌+◌, ◌==◌, ◌++◌, ℕ, Bool, true, false, not, ◌&&◌, List, [], ◌∷◌, codes, decimal, length, flat_map, encode_utf8, if◌then◌else◌, refl, sym, ap, ◌∙◌, cond, append_assoc, subst, arith, take}
 use Rattle.std.specs.List.{AllByRecursion, count_by, list_all}
 use Rattle.std.specs.Char.{is_ascii_digit}
-use Rattle.std.proofs.lemmas.Bool.{and_parts, and_from, false_from_ne_true, eqb-true, true≢false}
+use Rattle.std.proofs.lemmas.Bool.{and_parts, and_from, false_from_ne_true, eqb-true, true≢false, not-true}
 use Rattle.std.proofs.lemmas.Bool.Decides.{nat_tests}
 use Rattle.std.proofs.lemmas.List.Sums.{sum_by-cons}
 use Rattle.std.proofs.lemmas.List.Elements.{recursion_from_All, All-from_recursion, All-take}
@@ -42,17 +42,13 @@ bar_more n k text rest = record { ends = same_ends n 124 text refl rest.ends; ba
 is_quiet : ℕ → Bool
 is_quiet b = not (b == 10) && not (b == 124)
 
-not_true : (b : Bool) → not b ≡ true → b ≡ false
-not_true true h = cc
-not_true false h = refl
-
 quiet_more : (n k : ℕ) (ws text : List ℕ) → list_all is_quiet ws ≡ true → Cells n k text → Cells n k (ws ++ text)
 unfolding is_quiet
 quiet_more n k [] text h rest = rest
 quiet_more n k (w ∷ ws) text h rest =
     let parts = and_parts (not (w == 10) && not (w == 124)) (list_all is_quiet ws) h in
     let tests = and_parts (not (w == 10)) (not (w == 124)) parts.0 in
-    byte_more n k w (ws ++ text) (not_true (w == 10) tests.0) (not_true (w == 124) tests.1) (quiet_more n k ws text parts.1 rest)
+    byte_more n k w (ws ++ text) (not-true (w == 10) tests.0) (not-true (w == 124) tests.1) (quiet_more n k ws text parts.1 rest)
 
 -- the bar between two cells
 cell_more : (n k : ℕ) (text : List ℕ) → Cells n (k + 1) text → Cells n k (codes " | " ++ text)

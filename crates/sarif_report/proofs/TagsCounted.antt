@@ -1,7 +1,7 @@
 -- The tags of a page's rows.
 use Rattle.std.proofs.Common.{◌≡◌, ◌+◌, ◌==◌, ◌++◌, ℕ, Bool, true, false, not, ◌&&◌, ◌||◌, cond, List, [], ◌∷◌, Option, Some, None, codes, refl, sym, ap, ap₂, ◌∙◌, arith}
 use Rattle.std.specs.List.{sum_by}
-use Rattle.std.proofs.lemmas.Bool.{and_parts, or_parts}
+use Rattle.std.proofs.lemmas.Bool.{and_parts, or_parts, not-true}
 use Rattle.std.proofs.lemmas.List.Sums.{sum_by-append, sum_by-cons}
 use Rattle.sarif_records.specs.declared.kinds.Level.{Level}
 use Rattle.sarif_records.specs.declared.kinds.Level.TheVariants.{NoLevel, Note, Warning, Error}
@@ -30,16 +30,12 @@ then_tags : {a b : List ℕ} {m n : ℕ} → Tags m a → Tags n b → Tags (m +
 then_tags {a} {b} first second =
     record { told = sum_by-append (λ c. cond (c == 60) 1 0) a b ∙ ap₂ (λ x y. x + y) first.told second.told }
 
-not_true : (b : Bool) → not b ≡ true → b ≡ false
-not_true true h = cc
-not_true false h = refl
-
 -- an escaped text
 none_in : (text : List ℕ) → is_element_text text ≡ true → tags_in text ≡ 0
 none_in [] h = refl
 none_in (b ∷ bs) h =
     let parts = and_parts (not (is_markup b)) ((not (b == 38) || begins_entity (b ∷ bs)) && is_element_text bs) h in
-    let tests = or_parts (b == 60) (b == 62 || (b == 34 || b == 39)) (not_true (is_markup b) parts.0) in
+    let tests = or_parts (b == 60) (b == 62 || (b == 34 || b == 39)) (not-true (is_markup b) parts.0) in
     let none = ap (λ t. cond {A = ℕ} t 1 0) tests.0 in
     let first = sum_by-cons (λ c. cond (c == 60) 1 0) b bs in
     let rest = none_in bs (and_parts (not (b == 38) || begins_entity (b ∷ bs)) (is_element_text bs) parts.1).1 in

@@ -3,7 +3,7 @@ use Rattle.std.proofs.Common.{◌≡◌, ◌<◌, ◌^◌, ◌+◌, ◌%◌, ◌
 use Rattle.std.specs.Prelude.{encode_utf8_all, nat_lt}
 use Rattle.std.specs.Char.{encode_utf8}
 use Rattle.std.specs.List.{AllByRecursion, count_by, list_all}
-use Rattle.std.proofs.lemmas.Bool.{and_parts, and_from, or_from, or_parts, false_from_ne_true, eqb-true, true≢false, ltb-true}
+use Rattle.std.proofs.lemmas.Bool.{and_parts, and_from, or_from, or_parts, false_from_ne_true, eqb-true, true≢false, ltb-true, not-true}
 use Rattle.std.proofs.lemmas.List.Sums.{sum_by-cons}
 use Rattle.std.proofs.lemmas.Str.{encodes-append, encode_ascii}
 use Rattle.std.proofs.lemmas.Fmt.{decimal_by_steps}
@@ -43,10 +43,6 @@ is_plain c = is_seen c && (not (c == 35) && nat_lt c 128)
 pub seen_in_line : (c : ℕ) → is_seen c ≡ true → (c == 10) ≡ false
 seen_in_line c h = false_from_ne_true _ (λ same. true≢false (sym h ∙ ap is_seen (eqb-true c 10 same)))
 
-not_true : (b : Bool) → not b ≡ true → b ≡ false
-not_true true h = cc
-not_true false h = refl
-
 and_false : (b : Bool) → (b && false) ≡ false
 and_false true = refl
 and_false false = refl
@@ -72,7 +68,7 @@ seen_more n c cs seen apart h =
 plain_more : (n c : ℕ) (cs : List ℕ) → is_plain c ≡ true → Within n cs → Anywhere n (c ∷ cs)
 plain_more n c cs h rest =
     let parts = and_parts (is_seen c) (not (c == 35) && nat_lt c 128) h in
-    let sign : (c == 35) ≡ false = not_true (c == 35) (and_parts (not (c == 35)) (nat_lt c 128) parts.1).0 in
+    let sign : (c == 35) ≡ false = not-true (c == 35) (and_parts (not (c == 35)) (nat_lt c 128) parts.1).0 in
     let apart : has_two_signs (c == 35) cs ≡ false = ap (λ b. has_two_signs b cs) sign ∙ rest.signs in
     record {
       within = seen_more n c cs parts.0 apart rest;

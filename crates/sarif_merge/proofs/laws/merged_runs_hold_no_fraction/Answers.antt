@@ -4,8 +4,8 @@ use Rattle.std.proofs.lemmas.List.Folds.{list_any-append}
 use Rattle.std.specs.List.{list_any}
 use Rattle.serde_json.specs.Data.{Data}
 use Rattle.serde_json.specs.Written.{has_float}
-use Rattle.sarif_judge.specs.Judging.{records_of}
-use Rattle.sarif_assemble.specs.LogBy.{current_runs, data_of, leftover_runs, states_of, taken_of}
+use Rattle.sarif_judge.specs.Judging.{records_of, run_values}
+use Rattle.sarif_assemble.specs.LogBy.{current_runs, leftover_runs, states_of, taken_of}
 use Rattle.sarif_inputs.specs.Inputs.{input_runs, baseline_runs, log_sources, baseline_sources}
 use Rattle.sarif_inputs.proofs.ReadFacts.{whole}
 use Rattle.sarif_merge.specs.MergedLog.{file_given}
@@ -20,5 +20,5 @@ returns c = λ inputs.
     let before = baseline_runs inputs in
     let reads = c.read_runs_hold_no_fraction.ensures in
     both_whole (current_runs (file_given inputs) now before) (leftover_runs now before)
-    (c.written_runs_hold_no_fraction.ensures.current (file_given inputs) (records_of now) (states_of (records_of now) (records_of before)) (data_of now) (whole reads (log_sources inputs)))
-    (c.written_runs_hold_no_fraction.ensures.baseline (records_of before) (taken_of (records_of now) (records_of before)) (data_of before) (whole reads (baseline_sources inputs)))
+    (c.written_runs_hold_no_fraction.ensures.current (file_given inputs) (records_of now) (states_of (records_of now) (records_of before)) (run_values now) (whole reads (log_sources inputs)))
+    (c.written_runs_hold_no_fraction.ensures.baseline (records_of before) (taken_of (records_of now) (records_of before)) (run_values before) (whole reads (baseline_sources inputs)))

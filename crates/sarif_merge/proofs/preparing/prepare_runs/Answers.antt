@@ -3,10 +3,10 @@ use Rattle.std.proofs.lemmas.List.{length-map}
 use Rattle.std.proofs.lemmas.Result.{err_from_is_err_and}
 use Rattle.sarif_records.specs.Run.{results_total}
 use Rattle.sarif_sources.specs.declared.fault.Source.TheVariants.{Log, Baseline}
-use Rattle.sarif_judge.specs.Judging.{faults_of_runs}
+use Rattle.sarif_judge.specs.Judging.{faults_of_runs, run_values}
 use Rattle.sarif_judge.specs.Opened.{placed_of}
 use Rattle.sarif_inputs.specs.Faults.{first, IsWanting}
-use Rattle.sarif_inputs.specs.Inputs.{data_of, numbered, placed}
+use Rattle.sarif_inputs.specs.Inputs.{numbered, placed}
 use Rattle.sarif_merge.proofs.MergeAnswers.{judged_logs, judged_baselines, same_runs, refused_by_first, left_after_first}
 use Rattle.sarif_merge.proofs.preparing.prepare_runs.Goals as goal
 
@@ -17,11 +17,11 @@ prepare-requires-clause-current g c κs within =
     let judged = c.in_ok-now.now in
     let same = c.in_ok-now.ensures.runs in
     let few : length (map placed_of c.args.runs.current.items) ≤ 10000 = omega (arith, read.few, length-map c.args.runs.current.items placed_of) in
-    let few_results : results_total (data_of (map placed_of c.args.runs.current.items)) ≤ 1000000 = omega (arith, read.few_results) in
+    let few_results : results_total (run_values (map placed_of c.args.runs.current.items)) ≤ 1000000 = omega (arith, read.few_results) in
     judged_logs c.args.file.now given.0 judged (same ∙ read.current) c.in_ok-now.ensures.outcomes
     (ap faults_of_runs same ∙ c.in_ok-now.ensures.faults)
     (subst (λ ps. length ps ≤ 10000) (sym same) few)
-    (subst (λ ps. results_total (data_of ps) ≤ 1000000) (sym same) few_results)
+    (subst (λ ps. results_total (run_values ps) ≤ 1000000) (sym same) few_results)
 
 pub prepare-requires-clause-baseline : goal.prepare-requires-clause-baseline
 prepare-requires-clause-baseline g c κs within =
@@ -30,11 +30,11 @@ prepare-requires-clause-baseline g c κs within =
     let judged = c.in_ok-before.before in
     let same = c.in_ok-before.ensures.runs in
     let few : length (map placed_of c.args.runs.baseline.items) ≤ 10000 = omega (arith, read.few, length-map c.args.runs.baseline.items placed_of) in
-    let few_results : results_total (data_of (map placed_of c.args.runs.baseline.items)) ≤ 1000000 = omega (arith, read.few_results) in
+    let few_results : results_total (run_values (map placed_of c.args.runs.baseline.items)) ≤ 1000000 = omega (arith, read.few_results) in
     judged_baselines c.args.file.now given.1 judged (same ∙ read.baseline) c.in_ok-before.ensures.outcomes
     (ap faults_of_runs same ∙ c.in_ok-before.ensures.faults)
     (subst (λ ps. length ps ≤ 10000) (sym same) few)
-    (subst (λ ps. results_total (data_of ps) ≤ 1000000) (sym same) few_results)
+    (subst (λ ps. results_total (run_values ps) ≤ 1000000) (sym same) few_results)
 
 pub returns-clause-prepared : goal.returns-clause-prepared
 returns-clause-prepared g c = λ ls bs read.
