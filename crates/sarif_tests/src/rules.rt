@@ -5,6 +5,7 @@ use sarif_rules::{make_record, open_run};
 use std::alloc::{AllocError, Global};
 use std::hash::RandomState;
 use std::io;
+use std::process::Abort;
 use std::random::RandomSource;
 use std::test::Fail;
 
@@ -90,6 +91,10 @@ fn record_holds_what_the_result_and_its_run_say(rt: HostRuntime) -> Result<(), F
     let first = log.runs().first().ok_or("no run")?;
     let seed = RandomState::new(&rt)?;
     let made = record_of(rt.alloc(), seed, first).ok().ok_or("no record")?;
+    check_record(&rt, &made)
+}
+
+fn check_record(rt: &impl Abort, made: &Record) -> Result<(), Fail> {
     assert_eq!(rt; made.tool.as_str(), "lint");
     assert_eq!(rt; made.rule_id.as_str(), "R1");
     assert_eq!(rt; made.kind, Kind::Undecided);

@@ -1,7 +1,8 @@
 //! A log that is read by its index, a result at a time.
 use json::Scratch;
 use json_index::index_text;
-use sarif_records::{index_log, read_log};
+use sarif_records::{IndexedRun, index_log, read_log};
+use std::alloc::{AllocError, Global};
 use std::test::Fail;
 
 /// Three runs: with fractions in it and in its results, with none, and with null for results.
@@ -12,25 +13,35 @@ const LOG: &str = r#"{"version":"2.1.0","runs":[
     {"tool":{"driver":{"name":"c"}},"results":null}
     ],"rank":0.5}"#;
 
+/// The run without its results, whether it has them, and each of them.
+fn push_run(alloc: Global, texts: &mut String, run: &IndexedRun<'_, '_>) -> Result<(), AllocError> {
+    texts.push_str(run.bare().to_string(alloc)?.as_str())?;
+    texts.push_str(if run.has_results() {
+        " has "
+    } else {
+        " hasn't "
+    })?;
+    for seq in 0..run.len() {
+        texts.push_str(run.result(alloc, seq)?.to_string(alloc)?.as_str())?;
+    }
+    texts.push('\n')
+}
+
+fn texts_of(alloc: Global, runs: &[IndexedRun<'_, '_>]) -> Result<String, AllocError> {
+    let mut texts = String::new(alloc);
+    for run in runs {
+        push_run(alloc, &mut texts, run)?;
+    }
+    Ok(texts)
+}
+
 #[test]
 fn results_are_made_one_at_a_time(rt: HostRuntime) -> Result<(), Fail> {
     let alloc = rt.alloc();
     let mut scratch = Scratch::new(alloc);
     let index = index_text(alloc, LOG.as_bytes(), &mut scratch)?;
     let runs = index_log(alloc, &index)?;
-    let mut texts = String::new(alloc);
-    for run in &runs {
-        texts.push_str(run.bare().to_string(alloc)?.as_str())?;
-        texts.push_str(if run.has_results() {
-            " has "
-        } else {
-            " hasn't "
-        })?;
-        for seq in 0..run.len() {
-            texts.push_str(run.result(alloc, seq)?.to_string(alloc)?.as_str())?;
-        }
-        texts.push('\n')?;
-    }
+    let texts = texts_of(alloc, &runs)?;
     assert_eq!(rt;
         texts.as_str(),
         "{\"properties\":{},\"tool\":{\"driver\":{\"name\":\"a\"}}} has \
@@ -38,9 +49,21 @@ fn results_are_made_one_at_a_time(rt: HostRuntime) -> Result<(), Fail> {
             {\"columns\":[{\"width\":3}],\"tool\":{\"driver\":{\"name\":\"b\"}}} hasn't \n\
             {\"tool\":{\"driver\":{\"name\":\"c\"}}} hasn't \n"
     );
-    for run in runs {
-        let bare = run.into_bare();
-        assert_eq!(rt; bare.get("results"), None);
+    Ok(())
+}
+
+/// Whether the run that is kept beside its results has none.
+fn is_bare(run: IndexedRun<'_, '_>) -> bool {
+    run.into_bare().get("results").is_none()
+}
+
+#[test]
+fn a_run_is_kept_without_its_results(rt: HostRuntime) -> Result<(), Fail> {
+    let alloc = rt.alloc();
+    let mut scratch = Scratch::new(alloc);
+    let index = index_text(alloc, LOG.as_bytes(), &mut scratch)?;
+    for run in index_log(alloc, &index)? {
+        assert!(rt; is_bare(run));
     }
     Ok(())
 }

@@ -1,6 +1,7 @@
 //! A result's own members, read from JSON text.
 use sarif_records::{Fault, Kind, Level, Pairs, Parts, Status, Text, read_log, read_parts};
 use std::alloc::Global;
+use std::process::Abort;
 use std::test::Fail;
 
 /// What `read_parts` answers for a result with this JSON text, once it is read and stripped.
@@ -51,6 +52,10 @@ const WHOLE: &str = r#"{"kind":"review","level":"note","ruleId":"R1","ruleIndex"
 #[test]
 fn what_a_result_says_is_read(rt: HostRuntime) -> Result<(), Fail> {
     let parts = accepted(rt.alloc(), WHOLE)?;
+    check_what_it_says(&rt, &parts)
+}
+
+fn check_what_it_says(rt: &impl Abort, parts: &Parts) -> Result<(), Fail> {
     assert_eq!(rt; parts.kind, Kind::Review);
     assert_eq!(rt; parts.level, Some(Level::Note));
     assert_eq!(rt; shown(&parts.rule_id), Some("R1"));
@@ -69,6 +74,10 @@ fn what_a_result_says_is_read(rt: HostRuntime) -> Result<(), Fail> {
 #[test]
 fn what_a_result_is_known_by_is_read(rt: HostRuntime) -> Result<(), Fail> {
     let parts = accepted(rt.alloc(), WHOLE)?;
+    check_what_it_is_known_by(&rt, &parts)
+}
+
+fn check_what_it_is_known_by(rt: &impl Abort, parts: &Parts) -> Result<(), Fail> {
     assert_eq!(rt; shown(&parts.uri), Some("a.c"));
     assert_eq!(rt; shown(&parts.base), Some("SRC"));
     assert_eq!(rt; parts.artifact, Some(5));
