@@ -1,13 +1,13 @@
 -- The first of a map's members, and its text behind another member.
-use Rattle.std.proofs.Common.{◌≡◌, ◌<◌, ◌≤◌, ℕ, Bool, true, false, List, [], ◌∷◌, ◌++◌, length, get_or, Option, Some, None, Ordering, Less, Equal, Greater, nat_cmp, string_bytes, refl, ap, sym, ◌∙◌, arith, true≢false}
+use Rattle.std.proofs.Common.{◌≡◌, ◌<◌, ◌≤◌, ℕ, true, false, List, [], ◌∷◌, ◌++◌, length, get_or, Some, Ordering, Less, Equal, Greater, nat_cmp, string_bytes, refl, ap, ◌∙◌, arith, true≢false}
 use Rattle.std.specs.Prelude.{slice_get, drop}
 use Rattle.std.proofs.lemmas.Str.{IsCharBoundary-after_ascii}
 use Rattle.std.specs.Str.{IsCharBoundary, IsUtf8}
 use Rattle.std.specs.Ordering.{match_ordering}
 use Rattle.std.specs.Cmp.Lexicographic.{slice_cmp}
 use Rattle.serde_json.proofs.Views.{Entry}
-use Rattle.serde_json.specs.Data.{Data, object, Members, no_members, member}
-use Rattle.serde_json.specs.View.{view, members_view}
+use Rattle.serde_json.specs.Data.{object, Members, no_members, member}
+use Rattle.serde_json.specs.View.{members_view}
 use Rattle.serde_json.specs.Written.{compact_text, members_text}
 use Rattle.json_text.specs.Around.{begins_at, begins_below}
 

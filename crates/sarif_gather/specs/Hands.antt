@@ -18,8 +18,8 @@ drawn_by hand = hand.seat.me.0.drawn
 abbrev pub is_marked : Hand → Bool
 is_marked hand = hand.spent
 
-abbrev pub runs_of : Deal → ℕ
-runs_of deal = deal.runs
+abbrev pub runs_dealt : Deal → ℕ
+runs_dealt deal = deal.runs
 
 abbrev pub hands_of : Deal → ℕ
 hands_of deal = deal.claims.shared.key.hands
@@ -41,7 +41,7 @@ pub record AreAllHands (deal : Deal) (hands : List Hand) : Type 0 where
 
 -- a new deal and all its hands, which drew nothing
 pub record AreNewHands (runs hands : ℕ) (deal : Deal) (all : List Hand) : Type 0 where
-  pub runs_are : runs_of deal ≡ runs
+  pub runs_are : runs_dealt deal ≡ runs
   pub hands_are : hands_of deal ≡ hands
   pub all_of : AreAllHands deal all
   pub fresh : (i : ℕ) (hand : Hand) → slice_get all i ≡ Some hand → (drawn_by hand ≡ []) × (is_marked hand ≡ false)

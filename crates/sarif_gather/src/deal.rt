@@ -3,7 +3,7 @@ ghost use Rattle.std.specs.Prelude.{◌≡◌, ◌≤◌, ◌<◌, ℕ, true, []
 ghost use Rattle.std.specs.Prelude.{IfOk, IfSome, IfNone, IsNone};
 ghost use Rattle.sarif_gather.specs.Claims.{times, total, once_below};
 ghost use Rattle.sarif_gather.specs.Hands.{IsSeatOf, IsHandOf, AreNewHands, AreAllHands};
-ghost use Rattle.sarif_gather.specs.Hands.{drawn_by, runs_of, is_marked, joined};
+ghost use Rattle.sarif_gather.specs.Hands.{drawn_by, runs_dealt, is_marked, joined};
 
 mod hand;
 mod rule;
@@ -36,7 +36,7 @@ impl Deal {
     pub fn draw(&self, hand: &mut Hand) -> Option<u32>
         requires { IsHandOf self.now hand.old }
         ensures hand { IsHandOf self.now hand.new }
-        ensures some { IfSome result (λ run. (run < runs_of self.now)
+        ensures some { IfSome result (λ run. (run < runs_dealt self.now)
             × (drawn_by hand.new ≡ drawn_by hand.old ++ run ∷ [])
             × (is_marked hand.new ≡ is_marked hand.old)) }
         ensures none { IfNone result ((drawn_by hand.new ≡ drawn_by hand.old)
@@ -57,11 +57,11 @@ impl Deal {
     /// How many runs were drawn. These are the first ones, each drawn once, by one hand.
     pub fn settle(self, mut hands: Vec<Hand>) -> u32
         requires { AreAllHands self hands.items }
-        ensures bound { result ≤ runs_of self }
+        ensures bound { result ≤ runs_dealt self }
         ensures drawn { (run : ℕ)
             → total (λ h. times run (drawn_by h)) hands.items ≡ once_below run result }
         ensures marked { (i : ℕ) (hand : _) → slice_get hands.items i ≡ Some hand
-            → is_marked hand ≡ true → result ≡ runs_of self }
+            → is_marked hand ≡ true → result ≡ runs_dealt self }
     {
         let Some(last) = hands.pop() else {
             unreachable!()

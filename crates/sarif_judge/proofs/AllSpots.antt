@@ -1,16 +1,14 @@
 -- The places of all results are those of results, and as many as there are.
-use Rattle.std.proofs.Common.{◌≡◌, ◌<◌, ◌≤◌, ◌+◌, ◌*◌, ◌/◌, ◌^◌, ℕ, zero, suc, List, [], ◌∷◌, ◌++◌, map, length, get_or, append_assoc, refl, sym, ap, ◌∙◌, subst, arith, mul_comm}
+use Rattle.std.proofs.Common.{◌≡◌, ◌<◌, ◌≤◌, ◌+◌, ◌*◌, ◌/◌, ◌^◌, ℕ, List, [], ◌∷◌, ◌++◌, map, length, refl, sym, ap, ◌∙◌, subst, arith, mul_comm}
 use Rattle.std.proofs.lemmas.Nat.{mul-add-lt}
 use Rattle.std.proofs.Math.Nat.{mul-suc, div-le_self, div-lt_iff_lt-mul, lt-mul-div-succ}
-use Rattle.std.proofs.Math.Seq.{get_or-append_seam}
 use Rattle.std.proofs.lemmas.List.{length-append, length-map}
-use Rattle.std.proofs.lemmas.List.Elements.{All-append}
-use Rattle.std.proofs.lemmas.List.FromFn.{length-range_with_len, get_or-range_with_len}
-use Rattle.std.specs.List.{All, range_with_len}
+use Rattle.std.proofs.lemmas.List.FromFn.{length-range_with_len}
+use Rattle.std.specs.List.{range_with_len}
 use Rattle.sarif_records.specs.Run.{results_of, results_total}
 use Rattle.sarif_judge.specs.declared.spots.Spot.{Spot}
 use Rattle.sarif_judge.specs.Placed.{Placed}
-use Rattle.sarif_judge.specs.Spots.{no_run, placed_at, spots_in, spots_from, IsSpotOf}
+use Rattle.sarif_judge.specs.Spots.{spots_in, spots_from}
 
 spots_count_in : (run count : ℕ) → length (spots_in run count) ≡ count
 spots_count_in run count = length-map (range_with_len 0 count) (λ seq. record { run = run; seq = seq }) ∙ length-range_with_len 0 count

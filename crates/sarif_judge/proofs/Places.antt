@@ -1,15 +1,13 @@
 -- The places of all results, and what is made of them.
-use Rattle.std.proofs.Common.{◌≡◌, ◌<◌, ◌≤◌, ◌+◌, ℕ, zero, suc, List, [], ◌∷◌, ◌++◌, map, length, get_or, append_assoc, refl, sym, ap, ◌∙◌, arith}
+use Rattle.std.proofs.Common.{◌≡◌, ◌<◌, ◌≤◌, ◌+◌, ℕ, zero, suc, List, [], ◌∷◌, ◌++◌, map, length, append_assoc, refl, sym, ap, ◌∙◌, arith}
 use Rattle.std.proofs.lemmas.List.{map-append, length-append}
 use Rattle.std.proofs.Math.Seq.{get_or-append_seam}
-use Rattle.std.specs.List.{range_with_len, flat_map}
+use Rattle.std.specs.List.{range_with_len}
 use Rattle.sarif_records.specs.Run.{results_of}
 use Rattle.sarif_suppress.specs.File.{File}
-use Rattle.sarif_judge.specs.declared.outcome.Outcome.{Outcome}
-use Rattle.sarif_judge.specs.declared.spots.Spot.{Spot}
 use Rattle.sarif_judge.specs.Outcomes.{all_outcomes, outcome_of, outcomes_of}
 use Rattle.sarif_judge.specs.Placed.{Placed}
-use Rattle.sarif_judge.specs.Spots.{no_run, placed_at, spots_in, spots_from, outcome_at, IsSpotOf}
+use Rattle.sarif_judge.specs.Spots.{no_run, placed_at, spots_in, spots_from, outcome_at}
 
 -- the run that stands behind others
 at_seam : (done : List Placed) (p : Placed) (rest : List Placed) → placed_at (done ++ p ∷ rest) (length done) ≡ p

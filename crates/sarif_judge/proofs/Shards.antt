@@ -1,5 +1,5 @@
 -- The shards together are all places.
-use Rattle.std.proofs.Common.{◌≡◌, ◌<◌, ◌≤◌, ◌+◌, ◌*◌, ◌/◌, ◌%◌, ℕ, zero, suc, List, [], ◌∷◌, ◌++◌, map, length, take, drop, append_assoc, refl, sym, ap, ◌∙◌, arith}
+use Rattle.std.proofs.Common.{◌≡◌, ◌<◌, ◌≤◌, ◌+◌, ◌*◌, ◌/◌, ◌%◌, ℕ, zero, suc, List, [], ◌∷◌, ◌++◌, map, length, take, drop, refl, sym, ap, ◌∙◌, arith}
 use Rattle.std.specs.Prelude.{⊤}
 use Rattle.std.proofs.lemmas.List.{map-append, append-nil, drop-drop, take_all}
 use Rattle.std.proofs.lemmas.Grind.{common_steps}
@@ -10,9 +10,9 @@ use Rattle.sarif_gather.specs.Pieces.{lists_of, whole_run}
 use Rattle.sarif_suppress.specs.File.{File}
 use Rattle.sarif_judge.specs.declared.outcome.Outcome.{Outcome}
 use Rattle.sarif_judge.specs.declared.spots.Spot.{Spot}
-use Rattle.sarif_judge.specs.Flattened.{flattened, within_shards}
+use Rattle.sarif_judge.specs.Flattened.{flattened}
 use Rattle.sarif_judge.specs.Placed.{Placed}
-use Rattle.sarif_judge.specs.Spots.{outcome_at, judged_shard, shard_of}
+use Rattle.sarif_judge.specs.Spots.{outcome_at, judged_shard}
 
 -- n parts of a list, from part a on
 parts : {X Y : Type 0} (f : X → Y) (size : ℕ) (xs : List X) (a n : ℕ)

@@ -1,5 +1,5 @@
 -- The outcomes in what is gathered of all shards. No public clause of the merge speaks of it.
-use Rattle.std.specs.Prelude.{ℕ, List, map, reverse, ⊤}
+use Rattle.std.specs.Prelude.{List, map, reverse, ⊤}
 use Rattle.std.specs.declared.vec.Vec.{Vec}
 use Rattle.std.specs.declared.alloc.Global.{Global}
 use Rattle.std.specs.List.{flat_map}

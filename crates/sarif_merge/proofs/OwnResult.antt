@@ -34,7 +34,7 @@ use Rattle.sarif_inputs.specs.Inputs.{Inputs, all_runs, all_sources, baseline_ru
 use Rattle.sarif_inputs.specs.SourceFaults.{source_faults}
 use Rattle.sarif_inputs.proofs.ReadFacts.{log_sides}
 use Rattle.sarif_merge.specs.MergedLog.{current_of, file_given, written_inputs}
-use Rattle.sarif_merge.specs.OwnResult.{IsResult, baseline_of, partner_at, place_of, run_at, written_by, written_run}
+use Rattle.sarif_merge.specs.OwnResult.{IsResult, baseline_of, partner_at, number_among_all, run_at, written_by, written_run}
 
 -- ---- runs and results by their places
 
@@ -225,7 +225,7 @@ results_same inputs k there =
 
 pub own_result : (inputs : Inputs) (k seq : ℕ) → faults_of inputs ≡ [] → IsResult inputs k seq
     → (r : Record) × (record_of (run_at inputs k) seq ≡ Ok r)
-    × (result_at (written_run inputs k) seq ≡ written_by inputs r (place_of inputs k seq) (result_at (run_at inputs k) seq))
+    × (result_at (written_run inputs k) seq ≡ written_by inputs r (number_among_all inputs k seq) (result_at (run_at inputs k) seq))
 own_result inputs k seq none there =
     let now = input_runs inputs in
     let runs = run_values now in

@@ -2,7 +2,7 @@
 use Rattle.std.proofs.Common.{◌≡◌, inl, inr, refl}
 use Rattle.sarif_gather.specs.declared.gathering.GatherFault.{GatherFault}
 use Rattle.sarif_gather.specs.declared.gathering.GatherFault.TheVariants.{NoWorker, OutOfMemory}
-use Rattle.sarif_sources.specs.Fault.{status_of}
+use Rattle.sarif_sources.specs.Fault.{exit_status}
 use Rattle.sarif_inputs.specs.Faults.{IsWanting}
 use Rattle.sarif_merge.specs.Wanting.{wanting_of}
 
@@ -10,6 +10,6 @@ pub wants : (fault : GatherFault) → IsWanting (wanting_of fault)
 wants NoWorker = inr refl
 wants OutOfMemory = inl refl
 
-pub quiet_want : (fault : GatherFault) → status_of (wanting_of fault).cause ≡ 2
+pub quiet_want : (fault : GatherFault) → exit_status (wanting_of fault).cause ≡ 2
 quiet_want NoWorker = refl
 quiet_want OutOfMemory = refl

@@ -9,7 +9,7 @@ use Rattle.sarif_assemble.specs.declared.merged.Merged.{Merged}
 use Rattle.sarif_assemble.specs.Assembled.{HasGate}
 use Rattle.sarif_inputs.specs.Faults.{IsWanting, faults_of, first_fault}
 use Rattle.sarif_inputs.specs.Inputs.{Inputs}
-use Rattle.sarif_merge.specs.MergedLog.{output_text, runs_of, unused_in, without_of, written_inputs}
+use Rattle.sarif_merge.specs.MergedLog.{output_text, runs_written, unused_in, without_of, written_inputs}
 
 -- the text begins with these runs, and goes on with others
 abbrev pub HoldsFirst : List Data → List ℕ → Type 0
@@ -21,7 +21,7 @@ pub record IsMerged (inputs : Inputs) (policy : Policy) (merged : Merged) : Type
   pub faultless : faults_of inputs ≡ []
   pub begins : HoldsFirst (written_inputs inputs) merged.log
   pub log : merged.log ≡ output_text inputs policy
-  pub gate : HasGate (runs_of inputs) policy (without_of inputs) (unused_in inputs) merged
+  pub gate : HasGate (runs_written inputs) policy (without_of inputs) (unused_in inputs) merged
 
 -- the answer of a merge: the defined merge, or the first fault of the inputs, or want of memory or of a thread
 abbrev pub IsMergeOf : Inputs → Policy → Result Merged MergeFault → Type 0

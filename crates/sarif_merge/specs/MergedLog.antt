@@ -29,8 +29,8 @@ abbrev pub written_inputs : Inputs → List Data
 written_inputs inputs = current_runs (file_given inputs) (input_runs inputs) (baseline_runs inputs)
 
 -- the runs of the merged log
-abbrev pub runs_of : Inputs → List Data
-runs_of inputs = runs_by (file_given inputs) (input_runs inputs) (baseline_runs inputs)
+abbrev pub runs_written : Inputs → List Data
+runs_written inputs = runs_by (file_given inputs) (input_runs inputs) (baseline_runs inputs)
 
 abbrev pub without_of : Inputs → ℕ
 without_of inputs = runs_without_results (run_values (input_runs inputs))

@@ -25,8 +25,8 @@ IsResult inputs k seq =
     (k < length (input_runs inputs)) × (seq < length (results_of (run_at inputs k)))
 
 -- the number of result seq of input run k among the results of all input runs
-abbrev pub place_of : Inputs → ℕ → ℕ → ℕ
-place_of inputs k seq = results_total (take k (run_values (input_runs inputs))) + seq
+abbrev pub number_among_all : Inputs → ℕ → ℕ → ℕ
+number_among_all inputs k seq = results_total (take k (run_values (input_runs inputs))) + seq
 
 abbrev pub baseline_of : Inputs → List Record
 baseline_of inputs = records_of (baseline_runs inputs)

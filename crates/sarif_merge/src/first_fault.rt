@@ -3,7 +3,7 @@ ghost use Rattle.std.specs.Prelude.{◌≡◌, ◌≤◌, map, length, IfSome};
 ghost use Rattle.std.specs.List.{flat_map};
 ghost use Rattle.sarif_judge.specs.Judging.{first_bad, run_faults, faults_of_runs, items_of};
 ghost use Rattle.sarif_judge.specs.Opened.{placed_of};
-ghost use Rattle.sarif_sources.specs.Fault.{status_of};
+ghost use Rattle.sarif_sources.specs.Fault.{exit_status};
 ghost use Rattle.sarif_inputs.specs.Faults.{first};
 
 use sarif_judge::{Item, OpenedRun, Outcome};
@@ -15,7 +15,7 @@ fn first_bad_result(run: &OpenedRun<'_, '_>, outcomes: &[Outcome]) -> Option<Mer
     requires { length outcomes.now ≤ 1000000 }
     ensures first { result ≡ first (first_bad (At.Single run.now.source run.now.number) 0
         (map (λ o. o.item) outcomes.now)) }
-    ensures quiet { IfSome result (λ fault. status_of fault.cause ≡ 2) }
+    ensures quiet { IfSome result (λ fault. exit_status fault.cause ≡ 2) }
 {
     for (seq, outcome) in outcomes.iter().enumerate() {
         if let Item::Bad(fault) = &outcome.item {
@@ -32,7 +32,7 @@ fn fault_of_run(run: &OpenedRun<'_, '_>, outcomes: &[Outcome]) -> Option<MergeFa
     requires few { length outcomes.now ≤ 1000000 }
     requires judged { map (λ o. o.item) outcomes.now ≡ items_of (placed_of run.now) }
     ensures first { result ≡ first (run_faults (placed_of run.now)) }
-    ensures quiet { IfSome result (λ fault. status_of fault.cause ≡ 2) }
+    ensures quiet { IfSome result (λ fault. exit_status fault.cause ≡ 2) }
 {
     match run.fault() {
         Some(fault) => {
@@ -50,7 +50,7 @@ pub(crate) fn fault_of_runs(
 ) -> Option<MergeFault>
     requires { map (λ o. o.item) outcomes.now ≡ flat_map items_of (map placed_of runs.now) }
     ensures first { result ≡ first (faults_of_runs (map placed_of runs.now)) }
-    ensures quiet { IfSome result (λ fault. status_of fault.cause ≡ 2) }
+    ensures quiet { IfSome result (λ fault. exit_status fault.cause ≡ 2) }
 {
     for run in runs {
         let (these, later) = outcomes.split_at(run.len() as usize);

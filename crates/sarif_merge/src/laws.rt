@@ -12,8 +12,8 @@ ghost use Rattle.sarif_write.specs.MergedRuns.{absent_runs, merged_runs};
 ghost use Rattle.sarif_assemble.specs.LogBy.{listing_of};
 ghost use Rattle.sarif_inputs.specs.Faults.{faults_of};
 ghost use Rattle.sarif_inputs.specs.Inputs.{Inputs, input_runs};
-ghost use Rattle.sarif_merge.specs.MergedLog.{runs_of, written_inputs};
-ghost use Rattle.sarif_merge.specs.OwnResult.{IsResult, place_of, run_at, written_by, written_run};
+ghost use Rattle.sarif_merge.specs.MergedLog.{runs_written, written_inputs};
+ghost use Rattle.sarif_merge.specs.OwnResult.{IsResult, number_among_all, run_at, written_by, written_run};
 
 use sarif_records::read_runs_hold_no_fraction;
 use sarif_suppress::{object_holds_no_fraction, written_passes_where_its_parts_do};
@@ -33,7 +33,7 @@ fn written_runs_hold_no_fraction()
 
 /// The runs of a merged log hold no number with a fraction, whatever its inputs.
 pub fn merged_runs_hold_no_fraction()
-    ensures { (inputs : Inputs) → list_any has_float (runs_of inputs) ≡ false }
+    ensures { (inputs : Inputs) → list_any has_float (runs_written inputs) ≡ false }
 {
     read_runs_hold_no_fraction();
     written_runs_hold_no_fraction();
@@ -48,5 +48,5 @@ pub fn each_result_is_written_as_its_own()
     ensures own { (inputs : Inputs) (k seq : ℕ) → faults_of inputs ≡ [] → IsResult inputs k seq
         → (r : Record) × (record_of (run_at inputs k) seq ≡ Ok r)
         × (result_at (written_run inputs k) seq
-        ≡ written_by inputs r (place_of inputs k seq) (result_at (run_at inputs k) seq)) }
+        ≡ written_by inputs r (number_among_all inputs k seq) (result_at (run_at inputs k) seq)) }
 {}

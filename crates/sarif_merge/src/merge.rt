@@ -9,7 +9,7 @@ ghost use Rattle.sarif_assemble.specs.Prepared.{IsPrepared};
 ghost use Rattle.sarif_inputs.specs.Faults.{IsWanting, faults_of, first_fault};
 ghost use Rattle.sarif_merge.specs.Given.{inputs_of};
 ghost use Rattle.sarif_merge.specs.Merged.{HoldsFirst, IsMergeOf};
-ghost use Rattle.sarif_merge.specs.MergedLog.{output_text, runs_of, without_of, unused_in, written_inputs};
+ghost use Rattle.sarif_merge.specs.MergedLog.{output_text, runs_written, without_of, unused_in, written_inputs};
 
 use crate::preparing::{make_scratches, prepare_few};
 use json::Scratch;
@@ -90,7 +90,7 @@ pub fn merge_bytes<G: Gate + Sync, R: Threads + Wait + Sync>(
         ≡ output_text (inputs_of sources.now options.now) options.now.policy) }
     // Counts, verdict and numbers are those of the log that is written.
     ensures gate { let inputs = inputs_of sources.now options.now in
-        IfOk result (HasGate (runs_of inputs) options.now.policy (without_of inputs)
+        IfOk result (HasGate (runs_written inputs) options.now.policy (without_of inputs)
         (unused_in inputs)) }
     ensures refusals { IfErr result (λ fault. IsWanting fault
         ⊎ (first_fault (inputs_of sources.now options.now) ≡ Some fault)) }

@@ -1,7 +1,7 @@
 -- What stripping leaves of a list of values and of a map's entries.
 use Rattle.std.proofs.Common.{◌≡◌, ℕ, zero, suc, ◌<◌, ◌≤◌, List, [], ◌∷◌, ◌++◌, map, length, Bool, true, false, not, cond, IsTrue, if◌then◌else◌, slice_index_or, string_bytes, String, Global, refl, ap, ◌∙◌, arith}
 use Rattle.std.specs.Map.Calls.{RetainsPairs}
-use Rattle.serde_json.specs.Data.{Data, Items, Members, member, depth, items_depth, members_depth}
+use Rattle.serde_json.specs.Data.{Data, Members, member, depth, items_depth, members_depth}
 use Rattle.serde_json.specs.declared.value.Value.{Value}
 use Rattle.serde_json.specs.View.{view, items_of, items_view, members_view}
 use Rattle.serde_json.proofs.Views.{Entry}

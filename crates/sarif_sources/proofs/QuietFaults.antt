@@ -8,9 +8,9 @@ use Rattle.sarif_suppress.specs.declared.fault.SuppressFault.TheVariants as file
 use Rattle.sarif_sources.specs.declared.readers.ReadersFault.{ReadersFault}
 use Rattle.sarif_sources.specs.declared.readers.ReadersFault.TheVariants as readers
 use Rattle.sarif_sources.specs.Failing.{is_read_failed, is_write_failed, reading_has_failed}
-use Rattle.sarif_sources.specs.Fault.{cause_of, fault_at, fault_of_file, fault_of_readers, status_of}
+use Rattle.sarif_sources.specs.Fault.{cause_of, fault_at, fault_of_file, fault_of_readers, exit_status}
 
-pub quiet_fault : (at : At) (fault : Fault) → status_of (fault_at at (cause_of fault)).cause ≡ 2
+pub quiet_fault : (at : At) (fault : Fault) → exit_status (fault_at at (cause_of fault)).cause ≡ 2
 quiet_fault at NotJson = refl
 quiet_fault at NotLog = refl
 quiet_fault at WrongVersion = refl
@@ -30,7 +30,7 @@ quiet_fault at TooMany = refl
 quiet_fault at OutOfMemory = refl
 
 -- nor does a refusal of the suppression file
-pub quiet_file : (fault : SuppressFault) → status_of (fault_of_file fault).cause ≡ 2
+pub quiet_file : (fault : SuppressFault) → exit_status (fault_of_file fault).cause ≡ 2
 quiet_file file.NotJson = refl
 quiet_file file.NotList = refl
 quiet_file file.WrongVersion = refl

@@ -8,7 +8,7 @@ use Rattle.sarif_sources.specs.declared.fault.MergeFault.{MergeFault}
 use Rattle.sarif_sources.specs.declared.readers.ReadersFault.{ReadersFault}
 use Rattle.sarif_sources.specs.declared.readers.ReadersFault.TheVariants as readers
 use Rattle.sarif_sources.specs.Counted.{failed_calls}
-use Rattle.sarif_sources.specs.Fault.{status_of}
+use Rattle.sarif_sources.specs.Fault.{exit_status}
 
 -- how many calls of these readers failed, all together
 abbrev pub failed_calls_in : {R : Type 0} → List (Counted R) → ℕ
@@ -48,4 +48,4 @@ write_failed_in (Err fault) = is_write_failed fault.cause
 
 -- neither a read nor a write failed
 abbrev pub IsQuiet : {T : Type 0} → Result T MergeFault → Type 0
-IsQuiet result = IfErr result (λ fault. status_of fault.cause ≡ 2)
+IsQuiet result = IfErr result (λ fault. exit_status fault.cause ≡ 2)

@@ -61,7 +61,7 @@ fault_of_file file.OutOfMemory = fault_at (Whole Suppress) OutOfMemory
 fault_of_file (file.NeedsToday n) = fault_at (Entry n) NeedsToday
 
 -- the program's exit status: 3 where a read or a write failed, else 2
-abbrev pub status_of : Cause → ℕ
-status_of ReadFailed = 3
-status_of WriteFailed = 3
-status_of _ = 2
+abbrev pub exit_status : Cause → ℕ
+exit_status ReadFailed = 3
+exit_status WriteFailed = 3
+exit_status _ = 2

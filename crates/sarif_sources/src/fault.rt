@@ -1,6 +1,6 @@
 //! Why a merge is refused, and where.
 ghost use Rattle.std.specs.Prelude.{◌≡◌};
-ghost use Rattle.sarif_sources.specs.Fault.{cause_of, fault_at, fault_of_readers, status_of, out_of_memory};
+ghost use Rattle.sarif_sources.specs.Fault.{cause_of, fault_at, fault_of_readers, exit_status, out_of_memory};
 
 use crate::readers::ReadersFault;
 use sarif_records::Fault;
@@ -117,7 +117,7 @@ pub enum Cause {
 impl Cause {
     /// The program's exit status: 3 where a read or a write failed, else 2.
     pub fn status(self) -> u8
-        ensures { result ≡ status_of self }
+        ensures { result ≡ exit_status self }
     {
         match self {
             Cause::ReadFailed | Cause::WriteFailed => 3,

@@ -14,7 +14,7 @@ use Rattle.sarif_suppress.specs.declared.filing.TextCondition.TheVariants.{Uri, 
 use Rattle.sarif_suppress.specs.declared.prefixes.PrefixTable.{PrefixTable}
 use Rattle.sarif_suppress.specs.declared.table.Table.{Table}
 use Rattle.sarif_suppress.specs.Filing.{asks_for_guid, asks_for_pair, asks_for_text, asks_for_none, prefix_key, candidates}
-use Rattle.sarif_suppress.specs.Matching.{is_text, is_there, begins, is_guid, is_pair, are_among, hold, is_expired, matches}
+use Rattle.sarif_suppress.specs.Matching.{is_wanted, is_there, begins, is_guid, is_pair, are_among, hold, is_expired, matches}
 use Rattle.sarif_suppress.specs.Numbers.{numbers_from, numbers_at, passes_at, with_numbers}
 use Rattle.sarif_suppress.specs.Prefixes.{IsPrefixTable, found_for}
 use Rattle.sarif_suppress.specs.Table.{IsTable}
@@ -91,8 +91,8 @@ its_pair p (q ∷ qs) t =
 
 -- each condition holds of the result
 record Parts (c : Conditions) (r : Record) : Type 0 where
-  rule : is_text c.rule_id r.rule_id ≡ true
-  tool : is_text c.tool r.tool ≡ true
+  rule : is_wanted c.rule_id r.rule_id ≡ true
+  tool : is_wanted c.tool r.tool ≡ true
   uri : is_there c.uri r.place.uri ≡ true
   prefix : begins c.uri_prefix r.place.uri ≡ true
   guid : is_guid c.guid r.guid ≡ true
@@ -101,9 +101,9 @@ record Parts (c : Conditions) (r : Record) : Type 0 where
 
 parts_of : (c : Conditions) (r : Record) → hold c r ≡ true → Parts c r
 parts_of c r holds =
-    split (is_text c.rule_id r.rule_id) (is_text c.tool r.tool) (is_there c.uri r.place.uri) (begins c.uri_prefix r.place.uri) (is_guid c.guid r.guid) (are_among c.full r.full) (are_among c.partial r.partial) refl refl refl refl refl refl refl holds
+    split (is_wanted c.rule_id r.rule_id) (is_wanted c.tool r.tool) (is_there c.uri r.place.uri) (begins c.uri_prefix r.place.uri) (is_guid c.guid r.guid) (are_among c.full r.full) (are_among c.partial r.partial) refl refl refl refl refl refl refl holds
   where
-    split : (a b u x g f p : Bool) → is_text c.rule_id r.rule_id ≡ a → is_text c.tool r.tool ≡ b → is_there c.uri r.place.uri ≡ u → begins c.uri_prefix r.place.uri ≡ x → is_guid c.guid r.guid ≡ g → are_among c.full r.full ≡ f → are_among c.partial r.partial ≡ p → (a && (b && (u && (x && (g && (f && p)))))) ≡ true → Parts c r
+    split : (a b u x g f p : Bool) → is_wanted c.rule_id r.rule_id ≡ a → is_wanted c.tool r.tool ≡ b → is_there c.uri r.place.uri ≡ u → begins c.uri_prefix r.place.uri ≡ x → is_guid c.guid r.guid ≡ g → are_among c.full r.full ≡ f → are_among c.partial r.partial ≡ p → (a && (b && (u && (x && (g && (f && p)))))) ≡ true → Parts c r
     split a b u x g f p ea eb eu ex eg ef ep t =
         let t1 : (b && (u && (x && (g && (f && p))))) ≡ true = and_right a _ t in
         let t2 : (u && (x && (g && (f && p)))) ≡ true = and_right b _ t1 in

@@ -13,7 +13,7 @@ use Rattle.std.proofs.lemmas.Slice.Eq.{bytes_eq-Decides}
 use Rattle.sarif_records.specs.declared.record.Record.{Record}
 use Rattle.sarif_suppress.specs.declared.conditions.Conditions.{Conditions}
 use Rattle.sarif_suppress.specs.declared.entry.Entry.{Entry}
-use Rattle.sarif_suppress.specs.Matching.{is_text, is_there, begins, is_guid, is_pair, are_among, hold, is_past, matches, Meets, Matches}
+use Rattle.sarif_suppress.specs.Matching.{is_wanted, is_there, begins, is_guid, is_pair, are_among, hold, is_past, matches, Meets, Matches}
 
 and_means : {A B : Type 0} (a b : Bool) → Decides a A → Decides b B → Decides (a && b) (A × B)
 and_means true b first second = (λ t. (first.0 refl, second.0 t), λ p. second.1 p.1)
@@ -23,7 +23,7 @@ and_means false b first second = (λ t. absurd (false≢true t), λ p. first.1 p
 decides_by : {A B : Type 0} (b : Bool) → (A → B) → (B → A) → Decides b A → Decides b B
 decides_by b there back is = (λ t. there (is.0 t), λ h. is.1 (back h))
 
-text_means : (wanted : Option (List ℕ)) (found : List ℕ) → Decides (is_text wanted found) ((text : List ℕ) → wanted ≡ Some text → found ≡ text)
+text_means : (wanted : Option (List ℕ)) (found : List ℕ) → Decides (is_wanted wanted found) ((text : List ℕ) → wanted ≡ Some text → found ≡ text)
 text_means None found = (λ _ text is. cc, λ _. refl)
 text_means (Some wanted) found = (λ t text is. let same : wanted ≡ found = (bytes_eq-Decides wanted found).0 t in cc, λ h. (bytes_eq-Decides wanted found).1 (sym (h wanted refl)))
 

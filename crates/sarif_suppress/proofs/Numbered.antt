@@ -11,7 +11,7 @@ use Rattle.sarif_records.specs.declared.kinds.Status.{Status}
 use Rattle.sarif_suppress.specs.declared.entry.Entry.{Entry}
 use Rattle.sarif_suppress.specs.Matching.{is_empty}
 use Rattle.sarif_suppress.specs.Numbers.{numbers_from, passes_at}
-use Rattle.sarif_suppress.specs.Suppressing.{is_accepted, suppresses}
+use Rattle.sarif_suppress.specs.Suppressing.{is_accepted, statuses_suppress}
 use Rattle.sarif_suppress.specs.Written.{with_object, with_object_if, with_objects, with_objects_at}
 use Rattle.serde_json.specs.Data.{Data}
 
@@ -130,7 +130,7 @@ unless true b = refl
 unless false b = refl
 
 -- the statuses of the result and of the entries with these numbers, as one list
-pub verdict : (held : List Status) (picked : Entry → Bool) (entries : List Entry) → (if is_empty held && is_empty (numbers_from picked 0 entries) then false else (list_all is_accepted held && list_all (passes_at (λ e. is_accepted e.status) entries) (numbers_from picked 0 entries))) ≡ suppresses (held ++ map (λ e. e.status) (filter picked entries))
+pub verdict : (held : List Status) (picked : Entry → Bool) (entries : List Entry) → (if is_empty held && is_empty (numbers_from picked 0 entries) then false else (list_all is_accepted held && list_all (passes_at (λ e. is_accepted e.status) entries) (numbers_from picked 0 entries))) ≡ statuses_suppress (held ++ map (λ e. e.status) (filter picked entries))
 verdict held picked entries =
     let theirs : list_all (passes_at (λ e. is_accepted e.status) entries) (numbers_from picked 0 entries) ≡ list_all is_accepted (map (λ e. e.status) (filter picked entries)) = all_numbers (λ e. is_accepted e.status) picked entries 0 entries (whole_is_part entries) ∙ sym (list_all-map is_accepted (λ e. e.status) (filter picked entries)) in
     let none : is_empty (numbers_from picked 0 entries) ≡ is_empty (map (λ e. e.status) (filter picked entries)) = none_numbers (λ e. e.status) picked 0 entries in

@@ -13,7 +13,7 @@ use Rattle.sarif_records.specs.declared.record.Record.{Record}
 use Rattle.sarif_suppress.specs.declared.entry.Entry.{Entry}
 use Rattle.sarif_suppress.specs.File.{File}
 use Rattle.sarif_suppress.specs.Matching.{is_empty}
-use Rattle.sarif_suppress.specs.Suppressing.{matching, is_accepted, suppresses, is_suppressed}
+use Rattle.sarif_suppress.specs.Suppressing.{matching, is_accepted, statuses_suppress, is_suppressed}
 use Rattle.sarif_suppress.specs.Written.{object_of, with_objects, suppressions_of}
 use Rattle.sarif_suppress.proofs.Numbered.{is_empty-append}
 use Rattle.sarif_suppress.proofs.ObjectTest.{written_passes, written_empty}
@@ -85,7 +85,7 @@ were_read (d ∷ ds) statuses read =
       | Err fault ↦ λ is no. let never : ⊥ = cc in absurd never
     ] refl read
 
-pub read_back : (own : List Data) (file : File) (r : Record) → read_each status_of own ≡ Ok r.held → result_map suppresses (read_each status_of (suppressions_of own file r)) ≡ Ok (is_suppressed file r)
+pub read_back : (own : List Data) (file : File) (r : Record) → read_each status_of own ≡ Ok r.held → result_map statuses_suppress (read_each status_of (suppressions_of own file r)) ≡ Ok (is_suppressed file r)
 read_back own file r held =
     let es : List Entry = matching file r in
     let mine : AreRead own r.held = were_read own r.held held in
@@ -93,7 +93,7 @@ read_back own file r held =
     let written : (statuses : List Status) × AreRead (with_objects own es) statuses = are_read (with_objects own es) reads in
     let accepted : list_all is_accepted written.0 ≡ list_all is_accepted (r.held ++ map (λ e. e.status) es) = sym (written.1.tests is_accepted) ∙ written_passes (λ d. passes is_accepted (status_of d)) own es ∙ rw (mine.tests is_accepted, objects_pass is_accepted es) (sym (list_all-append is_accepted r.held (map (λ e. e.status) es))) in
     let none : is_empty written.0 ≡ is_empty (r.held ++ map (λ e. e.status) es) = sym written.1.none ∙ written_empty own es ∙ rw (mine.none, empty_map es) (sym (is_empty-append r.held (map (λ e. e.status) es))) in
-    ap (result_map suppresses) written.1.read ∙ ap Ok (rw (none, accepted) refl)
+    ap (result_map statuses_suppress) written.1.read ∙ ap Ok (rw (none, accepted) refl)
   where
     always : (statuses : List Status) → list_all (λ _. true) statuses ≡ true
     always [] = refl

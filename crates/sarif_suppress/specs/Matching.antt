@@ -6,9 +6,9 @@ use Rattle.sarif_suppress.specs.declared.conditions.Conditions.{Conditions}
 use Rattle.sarif_suppress.specs.declared.entry.Entry.{Entry}
 
 -- the text is the one that is asked for, if one is
-abbrev pub is_text : Option (List ℕ) → List ℕ → Bool
-is_text None found = true
-is_text (Some text) found = bytes_eq text found
+abbrev pub is_wanted : Option (List ℕ) → List ℕ → Bool
+is_wanted None found = true
+is_wanted (Some text) found = bytes_eq text found
 
 -- there is a text, and it is the one that is asked for, if one is
 abbrev pub is_there : Option (List ℕ) → Option (List ℕ) → Bool
@@ -48,7 +48,7 @@ is_any c =
 -- every condition that is named holds of the result
 abbrev pub hold : Conditions → Record → Bool
 hold c r =
-    is_text c.rule_id r.rule_id && (is_text c.tool r.tool && (is_there c.uri r.place.uri && (begins c.uri_prefix r.place.uri && (is_guid c.guid r.guid && (are_among c.full r.full && are_among c.partial r.partial)))))
+    is_wanted c.rule_id r.rule_id && (is_wanted c.tool r.tool && (is_there c.uri r.place.uri && (begins c.uri_prefix r.place.uri && (is_guid c.guid r.guid && (are_among c.full r.full && are_among c.partial r.partial)))))
 
 -- the last day lies before today; with no last day, or where no day is known, an entry doesn't expire
 abbrev pub is_past : Option ℕ → Option ℕ → Bool

@@ -22,16 +22,16 @@ is_accepted Accepted = true
 is_accepted UnderReview = false
 is_accepted Rejected = false
 
--- suppressions of these statuses suppress: there is at least one, and none is rejected or under review
-abbrev pub suppresses : List Status → Bool
-suppresses statuses = not (is_empty statuses) && list_all is_accepted statuses
+-- whether suppressions of these statuses suppress: there is at least one, and none is rejected or under review
+abbrev pub statuses_suppress : List Status → Bool
+statuses_suppress statuses = not (is_empty statuses) && list_all is_accepted statuses
 
 -- the statuses of the result's own suppressions, and then those of the matching entries
 abbrev pub statuses_of : File → Record → List Status
 statuses_of file r = r.held ++ map (λ e. e.status) (matching file r)
 
 abbrev pub is_suppressed : File → Record → Bool
-is_suppressed file r = suppresses (statuses_of file r)
+is_suppressed file r = statuses_suppress (statuses_of file r)
 
 -- the entry matches none of the results
 abbrev pub is_unused : File → List Record → Entry → Bool

@@ -25,8 +25,8 @@ pub struct Conditions {
 }
 
 /// Whether `found` is the text that is asked for, if one is.
-fn is_text(wanted: &Option<Text>, found: &Text) -> bool
-    ensures { result ≡ said.is_text wanted.now found.now }
+fn is_wanted(wanted: &Option<Text>, found: &Text) -> bool
+    ensures { result ≡ said.is_wanted wanted.now found.now }
 {
     match wanted {
         None => true,
@@ -122,8 +122,8 @@ impl Conditions {
         is_guid(self.guid, record.guid)
             && is_there(&self.uri, &record.place.uri)
             && begins(&self.uri_prefix, &record.place.uri)
-            && is_text(&self.rule_id, &record.rule_id)
-            && is_text(&self.tool, &record.tool)
+            && is_wanted(&self.rule_id, &record.rule_id)
+            && is_wanted(&self.tool, &record.tool)
             && are_among(self.full.as_slice(), record.full.as_slice())
             && are_among(self.partial.as_slice(), record.partial.as_slice())
     }

@@ -9,7 +9,7 @@ ghost use Rattle.sarif_records.specs.declared.record.Record.{Record};
 ghost use Rattle.sarif_suppress.specs.declared.entry.Entry.{Entry};
 ghost use Rattle.sarif_suppress.specs.File.{File};
 ghost use Rattle.sarif_suppress.specs.Matching.{is_empty};
-ghost use Rattle.sarif_suppress.specs.Suppressing.{matching, suppresses, is_suppressed};
+ghost use Rattle.sarif_suppress.specs.Suppressing.{matching, statuses_suppress, is_suppressed};
 ghost use Rattle.sarif_suppress.specs.Written.{is_object_of, object_of, suppressions_of};
 
 /// A test holds of every suppression that is written just where it holds of every own one and of
@@ -48,6 +48,6 @@ pub fn just_its_object_is_an_entrys()
 #[tactic(auto, using(crate::proofs::ReadBack::read_back))]
 pub fn written_suppressions_say_what_is_suppressed()
     ensures { (own : List Data) (file : File) (r : Record) → read_each status_of own ≡ Ok r.held
-        → result_map suppresses (read_each status_of (suppressions_of own file r))
+        → result_map statuses_suppress (read_each status_of (suppressions_of own file r))
         ≡ Ok (is_suppressed file r) }
 {}

@@ -67,7 +67,7 @@ fn push_run(text: &mut String, run: &str) -> Result<(), Fail> {
 }
 
 /// The runs as they stand in a log, their members in the order in which they are written.
-pub fn runs_of(alloc: Global, runs: &str) -> Result<String, Fail> {
+pub fn json_of_runs(alloc: Global, runs: &str) -> Result<String, Fail> {
     let mut text = String::from_str(alloc, "[")?;
     let mut is_first = true;
     for run in runs.split("; ") {
@@ -88,7 +88,7 @@ pub fn log_with(alloc: Global, runs: &str) -> Result<String, AllocError> {
 
 /// The log with these runs.
 pub fn log_of(alloc: Global, runs: &str) -> Result<String, Fail> {
-    let runs = runs_of(alloc, runs)?;
+    let runs = json_of_runs(alloc, runs)?;
     let log = log_with(alloc, runs.as_str())?;
     Ok(log)
 }
@@ -318,7 +318,7 @@ pub fn expect_log<R: Abort + AllocGlobal + Threads + Wait + Sync>(
     wanted: Wanted,
     runs: &str,
 ) -> Result<Merged, Fail> {
-    let runs = runs_of(rt.alloc(), runs)?;
+    let runs = json_of_runs(rt.alloc(), runs)?;
     let merged = expect_runs(rt, given, wanted, runs.as_str())?;
     Ok(merged)
 }

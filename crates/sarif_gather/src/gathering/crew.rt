@@ -1,6 +1,6 @@
 //! What the threads of a gathering share, and what they begin with.
 ghost use Rattle.std.specs.Prelude.{◌≡◌};
-ghost use Rattle.sarif_gather.specs.Hands.{runs_of};
+ghost use Rattle.sarif_gather.specs.Hands.{runs_dealt};
 
 use crate::collector::Collector;
 use crate::deal::{Deal, Hand};
@@ -15,7 +15,7 @@ pub struct Workplace<'a, W: Work, G> {
     pub observer: &'a G,
     pub deal: &'a Deal,
     pub mailbox: &'a Mailbox<Parcel<W::Item, W::Tail>>,
-    pub ghost dealt: { runs_of deal.now ≡ W.run_count work.now },
+    pub ghost dealt: { runs_dealt deal.now ≡ W.run_count work.now },
 }
 
 impl<'a, W: Work, G> Drop for Workplace<'a, W, G> {

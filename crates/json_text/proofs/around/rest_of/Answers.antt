@@ -1,7 +1,6 @@
-use Rattle.std.proofs.Common.{rules, ◌≡◌, ◌<◌, ◌++◌, ◌∷◌, [], length, drop, sym, ap, ◌∙◌, arith, string_bytes, true≢false}
-use Rattle.std.proofs.lemmas.Str.{IsCharBoundary-after_ascii}
+use Rattle.std.proofs.Common.{rules, ◌≡◌, ◌<◌, ◌++◌, ◌∷◌, [], drop, sym, ap, ◌∙◌, string_bytes, true≢false}
 use Rattle.serde_json.proofs.Views.{view-Object}
-use Rattle.serde_json.specs.Data.{object, no_members}
+use Rattle.serde_json.specs.Data.{object}
 use Rattle.serde_json.specs.View.{members_view}
 use Rattle.serde_json.specs.Written.{compact_text}
 use Rattle.json_text.proofs.First.{rest_text, nonempty, bracket_boundary}

@@ -1,10 +1,8 @@
-use Rattle.std.proofs.Common.{rules, ◌≡◌, ◌++◌, ◌∷◌, [], true, map, drop, length, sym, ap, ◌∙◌, subst, append_assoc, suc, ◌+◌, add-one}
+use Rattle.std.proofs.Common.{rules, ◌≡◌, ◌++◌, ◌∷◌, [], true, map, drop, sym, ap, ◌∙◌, subst, append_assoc, suc, ◌+◌, add-one}
 use Rattle.std.proofs.Math.Seq.{drop-cons}
 use Rattle.std.specs.List.{AllByRecursion, flat_map}
-use Rattle.sarif_records.specs.Run.{results_of}
 use Rattle.sarif_judge.specs.Judging.{faults_of_runs, items_of, skips}
 use Rattle.sarif_judge.specs.Opened.{placed_of}
-use Rattle.sarif_write.specs.MergedRuns.{present}
 use Rattle.sarif_assemble.specs.Baselines.{present_counts}
 use Rattle.sarif_assemble.proofs.FoundDrafts.{items_cut, baseline_count, others_sound}
 use Rattle.sarif_assemble.proofs.baselines.count_present.Goals as goal

@@ -1,4 +1,4 @@
-use Rattle.std.proofs.Common.{◌≡◌, ◌≤◌, ◌+◌, length, drop}
+use Rattle.std.proofs.Common.{◌≡◌, ◌≤◌, ◌+◌, drop}
 use Rattle.sarif_assemble.specs.Baselines.{left_count}
 use Rattle.sarif_assemble.proofs.left.count_left.Given as goal
 

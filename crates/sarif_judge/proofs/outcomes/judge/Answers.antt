@@ -1,7 +1,6 @@
 use Rattle.std.proofs.Common.{rules, ◌≡◌, ◌<◌, ◌≤◌, ◌+◌, ◌*◌, ◌/◌, [], length, map, ap, ◌∙◌, sym, refl, subst, arith}
 use Rattle.std.specs.List.{All}
 use Rattle.sarif_judge.specs.Opened.{placed_of}
-use Rattle.sarif_judge.specs.Outcomes.{all_outcomes}
 use Rattle.sarif_judge.specs.Spots.{outcome_at, spots_from, IsSpotOf}
 use Rattle.sarif_judge.proofs.AllSpots.{none_long, spots_count, shard_size, shard_count, shards_enough}
 use Rattle.sarif_judge.proofs.Places.{outcomes_at_spots}

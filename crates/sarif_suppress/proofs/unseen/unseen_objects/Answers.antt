@@ -1,4 +1,4 @@
-use Rattle.std.proofs.Common.{rules, ◌++◌, map, ◌∙◌}
+use Rattle.std.proofs.Common.{◌++◌, map, ◌∙◌}
 use Rattle.serde_json.specs.View.{view}
 use Rattle.sarif_suppress.proofs.Keyed.{next_object}
 use Rattle.sarif_suppress.proofs.unseen.unseen_objects.Goals as goal
