@@ -11,7 +11,8 @@ use Rattle.sarif_records.specs.Level.{level_name}
 use Rattle.sarif_records.specs.State.{state_name}
 use Rattle.sarif_counts.specs.Counts.{same_state}
 use Rattle.sarif_counts.specs.Tally.{same_level, same_side}
-use Rattle.sarif_counts.specs.CountOf.{carries, is_text, suppresses, suppressions_in}
+use Rattle.sarif_records.specs.Run.{is_text}
+use Rattle.sarif_counts.specs.CountOf.{carries, suppresses, suppressions_in}
 
 -- two states have one text where they are one
 same_state_name : (s t : State) → bytes_eq (state_name s) (state_name t) ≡ same_state s t

@@ -1,5 +1,5 @@
 -- How many results a finished log holds, read from the log itself.
-use Rattle.std.specs.Prelude.{ℕ, ◌+◌, List, [], ◌∷◌, Bool, true, false, ◌&&◌, Option, Some, None, option_and_then, codes, bytes_eq}
+use Rattle.std.specs.Prelude.{ℕ, ◌+◌, List, [], ◌∷◌, Bool, true, false, ◌&&◌, Option, Some, None, option_and_then, codes}
 use Rattle.serde_json.specs.Data.{Data, null, boolean, number, string, array, object, Items, no_items, item}
 use Rattle.serde_json.specs.Find.{get, as_str}
 use Rattle.sarif_records.specs.declared.kinds.Level.{Level}
@@ -7,6 +7,7 @@ use Rattle.sarif_records.specs.declared.kinds.State.{State}
 use Rattle.sarif_records.specs.declared.kinds.Status.{Status}
 use Rattle.sarif_records.specs.declared.kinds.Status.TheVariants.{Accepted, UnderReview, Rejected}
 use Rattle.sarif_records.specs.Level.{level_name}
+use Rattle.sarif_records.specs.Run.{is_text}
 use Rattle.sarif_records.specs.State.{state_name}
 use Rattle.sarif_records.specs.Status.{status_named}
 use Rattle.sarif_counts.specs.Policy.{Count, count_if}
@@ -30,11 +31,11 @@ results_in run = items_in (get (codes "results") run)
 abbrev pub suppressions_in : Data → Items
 suppressions_in result = items_in (get (codes "suppressions") result)
 
-abbrev pub is_accepted : Option Status → Bool
-is_accepted None = false
-is_accepted (Some Accepted) = true
-is_accepted (Some UnderReview) = false
-is_accepted (Some Rejected) = false
+abbrev pub names_accepted : Option Status → Bool
+names_accepted None = false
+names_accepted (Some Accepted) = true
+names_accepted (Some UnderReview) = false
+names_accepted (Some Rejected) = false
 
 -- whether a suppression's `status` is `accepted`, as it counts where it is absent
 -- (SARIF 2.1.0, suppression object, "status property")
@@ -43,7 +44,7 @@ accepts None = true
 accepts (Some null) = true
 accepts (Some (boolean b)) = false
 accepts (Some (number n)) = false
-accepts (Some (string s)) = is_accepted (status_named s)
+accepts (Some (string s)) = names_accepted (status_named s)
 accepts (Some (array ds)) = false
 accepts (Some (object ms)) = false
 
@@ -55,11 +56,6 @@ all_accepted (item d ds) = accepts (get (codes "status") d) && all_accepted ds
 abbrev pub suppresses : Items → Bool
 suppresses no_items = false
 suppresses (item d ds) = all_accepted (item d ds)
-
--- whether this text is there
-abbrev pub is_text : List ℕ → Option (List ℕ) → Bool
-is_text text None = false
-is_text text (Some s) = bytes_eq text s
 
 -- whether a result carries this state and level, and is suppressed (true) or active (false)
 abbrev pub carries : State → Level → Bool → Data → Bool

@@ -8,6 +8,7 @@ mod decision;
 mod gate;
 mod options;
 mod policy;
+mod suppressing;
 mod table;
 mod tally;
 
@@ -16,4 +17,5 @@ pub use decision::{hits, verdict};
 pub use gate::gate_value;
 pub use options::Options;
 pub use policy::{Policy, States, Verdict};
+pub use suppressing::is_suppressing;
 pub use table::summary;

@@ -17,7 +17,7 @@ pub struct States {
 
 impl States {
     /// Whether the gate looks at results of this state.
-    pub(crate) fn lists(self, state: State) -> bool
+    pub fn lists(self, state: State) -> bool
         ensures { result ≡ is_listed self state }
     {
         match state {

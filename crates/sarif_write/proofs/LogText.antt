@@ -2,9 +2,9 @@
 use Rattle.std.proofs.Common.{◌≡◌, ◌==◌, ◌+◌, ℕ, suc, Bool, true, false, not, List, [], ◌∷◌, ◌++◌, Option, map, take, drop, length, codes, refl, sym, ap, ◌∙◌, append_assoc, arith}
 use Rattle.std.proofs.lemmas.Bool.Decides.{nat_tests}
 use Rattle.serde_json.proofs.OnLiterals.{serde_json_on_literals}
-use Rattle.serde_json.specs.Data.{Data, string, array, object}
+use Rattle.serde_json.specs.Data.{Data}
 use Rattle.serde_json.specs.View.{items_of}
-use Rattle.serde_json.specs.Written.{comma_if, compact_text, items_text}
+use Rattle.serde_json.specs.Written.{compact_text, items_text}
 use Rattle.sarif_records.specs.declared.kinds.State.{State}
 use Rattle.sarif_write.specs.declared.draft.Draft.{Draft}
 use Rattle.sarif_write.specs.declared.run_parts.RunParts.{RunParts}

@@ -1,9 +1,8 @@
 -- The texts of drafts are those of the results that are written.
-use Rattle.std.proofs.Common.{◌≡◌, ℕ, suc, Bool, true, false, not, List, [], ◌∷◌, ◌++◌, Option, Some, None, map, length, codes, refl, sym, ap, ◌∙◌, append_assoc, arith}
+use Rattle.std.proofs.Common.{◌≡◌, Bool, true, false, List, [], ◌∷◌, ◌++◌, Some, map, length, codes, refl, ap, ◌∙◌, append_assoc, arith}
 use Rattle.std.specs.List.{AllByRecursion}
 use Rattle.json_text.proofs.Filled.{filled_is_put}
-use Rattle.serde_json.specs.Data.{Data, null, boolean, number, string, array, object, Items, no_items, item, Members, put}
-use Rattle.serde_json.specs.Find.{as_object}
+use Rattle.serde_json.specs.Data.{Data, null, boolean, number, string, array, object}
 use Rattle.serde_json.specs.View.{items_of}
 use Rattle.serde_json.specs.Written.{comma_if, compact_text, items_text}
 use Rattle.sarif_records.specs.declared.kinds.State.{State}
@@ -12,7 +11,7 @@ use Rattle.sarif_records.specs.declared.record.Record.{Record}
 use Rattle.sarif_records.specs.State.{state_name}
 use Rattle.sarif_suppress.specs.declared.suppressions.Applied.{Applied}
 use Rattle.sarif_write.specs.Drafts.{draft_by, drafted_members, drafts_by, joined, listed_in, members_in, text_with, texts_of, unapplied, unless_taken, IsObject}
-use Rattle.sarif_write.specs.MergedRuns.{Listing, keep_if, unmatched, written, written_all}
+use Rattle.sarif_write.specs.MergedRuns.{Listing, unmatched, written, written_all}
 
 -- an object's draft, with its state
 pub draft_text : (listed : Listing) (applied : Record → Applied) (r : Record) (state : State) (d : Data) → IsObject d

@@ -1,8 +1,8 @@
 -- Drafts count as the runs of the merged log.
-use Rattle.std.proofs.Common.{◌≡◌, ◌≤◌, ◌+◌, ◌++◌, ℕ, zero, suc, Bool, true, false, not, List, [], ◌∷◌, Option, Some, None, map, take, drop, length, length-append, refl, sym, ap, ◌∙◌, arith}
+use Rattle.std.proofs.Common.{◌≡◌, ◌≤◌, ◌+◌, ◌++◌, ℕ, zero, suc, Bool, List, [], ◌∷◌, Option, Some, None, map, take, drop, length, length-append, refl, sym, ap, ◌∙◌, arith}
 use Rattle.std.proofs.lemmas.List.{take-map, drop-map, length-take-le, length-drop}
 use Rattle.std.specs.List.{AllByRecursion, flat_map}
-use Rattle.serde_json.specs.Data.{Data, null, boolean, number, string, array, object, Items, no_items, Members}
+use Rattle.serde_json.specs.Data.{Data, null, boolean, number, string, array, object, Items, Members}
 use Rattle.serde_json.specs.View.{items_of}
 use Rattle.sarif_records.specs.declared.kinds.Level.{Level}
 use Rattle.sarif_records.specs.declared.kinds.State.{State}
@@ -12,8 +12,8 @@ use Rattle.sarif_records.specs.Run.{elements_or_none, results_of, results_total}
 use Rattle.sarif_suppress.specs.declared.suppressions.Applied.{Applied}
 use Rattle.sarif_counts.specs.CountOf.{count_in, count_of, items_in, results_in}
 use Rattle.sarif_write.specs.declared.draft.Draft.{Draft}
-use Rattle.sarif_write.specs.Drafts.{counts_as, drafts_by, present_results, tallied, unapplied, unless_taken, IsObject, IsRun}
-use Rattle.sarif_write.specs.MergedRuns.{Listing, absent_runs, annotated_items, bare, if_any, merged_run, merged_runs, own_results, present, unmatched, with_absent, with_results, written_all}
+use Rattle.sarif_write.specs.Drafts.{drafts_by, present_results, tallied, unapplied, unless_taken, IsObject, IsRun}
+use Rattle.sarif_write.specs.MergedRuns.{Listing, absent_runs, annotated_items, bare, if_any, merged_run, merged_runs, own_results, present, unmatched, with_results, written_all}
 use Rattle.sarif_write.proofs.ResultCounts.{tallied_written, tallied_unmatched}
 use Rattle.sarif_write.proofs.RunResults.{bare_results, put_results_found}
 use Rattle.sarif_write.proofs.RunTexts.{drafts_front, drafts_back, present_objects}

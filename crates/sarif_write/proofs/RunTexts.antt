@@ -1,5 +1,5 @@
 -- The texts of runs with their drafts are those of the runs of the merged log.
-use Rattle.std.proofs.Common.{◌≡◌, ◌≤◌, ◌+◌, ℕ, suc, Bool, true, false, not, List, [], ◌∷◌, ◌++◌, Option, Some, None, map, take, drop, length, is_some, option_map, unwrap_or, cond, length-append, codes, refl, sym, ap, ◌∙◌, arith}
+use Rattle.std.proofs.Common.{◌≡◌, ◌≤◌, ◌+◌, ℕ, Bool, true, false, not, List, [], ◌∷◌, ◌++◌, Option, Some, None, map, take, drop, length, is_some, option_map, unwrap_or, cond, length-append, codes, refl, sym, ap, ◌∙◌, arith}
 use Rattle.std.proofs.lemmas.List.{take-map, drop-map, length-take-le, length-drop}
 use Rattle.std.specs.List.{AllByRecursion, flat_map, list_any}
 use Rattle.json_text.specs.Around.{filled, surrounding}
@@ -12,7 +12,6 @@ use Rattle.sarif_records.specs.declared.record.Record.{Record}
 use Rattle.sarif_records.specs.Members.{elements}
 use Rattle.sarif_records.specs.Run.{elements_or_none, is_absent_result, results_of, results_array, results_total}
 use Rattle.sarif_suppress.specs.declared.suppressions.Applied.{Applied}
-use Rattle.sarif_write.specs.declared.draft.Draft.{Draft}
 use Rattle.sarif_write.specs.declared.run_parts.RunParts.{RunParts}
 use Rattle.sarif_write.specs.Drafts.{count_in_parts, draft_by, drafts_by, left_texts, members_in, own_count, parts_text, present_count, present_results, run_text, runs_texts, text_if, texts_of, unapplied, unless_taken, ArePartsOf, IsObject, IsRun, joined}
 use Rattle.sarif_write.specs.MergedRuns.{Listing, absent_runs, annotated_items, bare, if_any, merged_run, merged_runs, own_results, present, unmatched, with_absent, with_results, written_all}

@@ -2,7 +2,7 @@
 -- A draft is a result as it is written, but for its baseline state, which only matching tells.
 use Rattle.std.specs.Prelude.{◌≡◌, ℕ, ◌+◌, is_some, option_map, Bool, true, false, ◌&&◌, List, [], ◌∷◌, ◌++◌, take, drop, length, Option, Some, None, codes, unwrap_or, ⊤}
 use Rattle.std.specs.List.{AllByRecursion, flat_map, list_any}
-use Rattle.json_text.specs.Around.{Surrounding, surrounding, filled}
+use Rattle.json_text.specs.Around.{surrounding, filled}
 use Rattle.serde_json.specs.Data.{Data, null, boolean, number, string, array, object, Items, Members, no_members, put}
 use Rattle.serde_json.specs.Find.{as_object}
 use Rattle.serde_json.specs.View.{items_of, members_view}

@@ -1,6 +1,6 @@
 -- The runs of a merged log: each input run with its results annotated, then each baseline run that has a result
 -- which no current result is paired with (SARIF 2.1.0, "run object").
-use Rattle.std.specs.Prelude.{ℕ, Bool, true, false, not, List, [], ◌∷◌, take, drop, length, filter, Option, Some, None, codes, option_and_then}
+use Rattle.std.specs.Prelude.{Bool, true, false, not, List, [], ◌∷◌, take, drop, length, filter, Option, Some, None, codes, option_and_then}
 use Rattle.serde_json.specs.Data.{Data, array, Items, Members, put}
 use Rattle.json_index.specs.Without.{without}
 use Rattle.serde_json.specs.Find.{as_array, get_member}

@@ -1,13 +1,11 @@
 //! A result's own suppressions.
-ghost use Rattle.std.specs.Prelude.{◌≡◌, codes, Some, OnOk, IfOk, map, option_map};
+ghost use Rattle.std.specs.Prelude.{◌≡◌, codes, Some, OnOk, IfOk, option_map};
 ghost use Rattle.serde_json.specs.Data.{put as with_member, null};
-ghost use Rattle.serde_json.specs.Find.{get, get_member};
-ghost use Rattle.serde_json.specs.View.{view, items_of, items_view, members_view};
+ghost use Rattle.serde_json.specs.Find.{get_member};
+ghost use Rattle.serde_json.specs.View.{view, items_view, members_view};
 ghost use Rattle.sarif_write.specs.Annotated.{own_suppressions};
 ghost use Rattle.sarif_counts.specs.CountOf.{items_in};
-ghost use Rattle.sarif_counts.specs.CountOf.{suppresses, all_accepted, accepts};
 
-use sarif_records::Status;
 use serde_json::{Map, Value};
 use std::alloc::{AllocError, Global};
 
@@ -52,36 +50,4 @@ pub(crate) fn take_suppressions(
         Some(found) => Ok(into_items(alloc, found)),
         None => Ok(Vec::new(alloc)),
     }
-}
-
-/// Whether a suppression's status is `accepted`, as it counts where it is absent.
-fn is_accepted(suppression: &Value) -> bool
-    ensures { result ≡ accepts (get (codes "status") (view suppression.now)) }
-{
-    match suppression.get("status") {
-        None | Some(Value::Null) => true,
-        Some(Value::String(text)) => match Status::from_name(text.as_str()) {
-            Some(Status::Accepted) => true,
-            _ => false,
-        },
-        Some(_) => false,
-    }
-}
-
-fn are_accepted(suppressions: &[Value]) -> bool
-    ensures { result ≡ all_accepted (items_of (map view suppressions.now)) }
-{
-    for suppression in suppressions {
-        if !is_accepted(suppression) {
-            return false;
-        }
-    }
-    true
-}
-
-/// Whether a result with these suppressions is suppressed: there is one, and all are accepted.
-pub(crate) fn is_suppressing(suppressions: &[Value]) -> bool
-    ensures { result ≡ suppresses (items_of (map view suppressions.now)) }
-{
-    !suppressions.is_empty() && are_accepted(suppressions)
 }

@@ -1,16 +1,15 @@
 //! A result as it is written, but for its baseline state.
-ghost use Rattle.std.specs.Prelude.{◌≡◌, IfOk, false, codes, Some};
-ghost use Rattle.serde_json.specs.Data.{null, put as with_member};
+ghost use Rattle.std.specs.Prelude.{◌≡◌, IfOk, false, codes};
 ghost use Rattle.serde_json.specs.View.{view, items_view, members_view};
 ghost use Rattle.serde_json.specs.Written.{has_float, items_have_float, members_have_float};
 ghost use Rattle.json_text.specs.Around.{surrounding};
 ghost use Rattle.sarif_counts.specs.CountOf.{suppresses};
 ghost use Rattle.sarif_suppress.specs.Written.{suppressions_of};
-ghost use Rattle.sarif_write.specs.Annotated.{own_suppressions};
 ghost use Rattle.sarif_write.specs.Drafts.{applied_of, unapplied, draft_by, drafted_members, members_in};
 
-use crate::annotate::{is_suppressing, take_suppressions};
+use crate::annotate::take_suppressions;
 use json_text::{Around, text_around};
+use sarif_counts::is_suppressing;
 use sarif_records::{Level, Record, Sequence};
 use sarif_suppress::{
     Applied, Suppressions, object_holds_no_fraction, written_passes_where_its_parts_do,

@@ -1,12 +1,11 @@
-use Rattle.std.proofs.Common.{rules, ◌≡◌, codes, refl, ap, ◌∙◌}
+use Rattle.std.proofs.Common.{rules, ◌≡◌, codes, ap, ◌∙◌}
 use Rattle.json_text.specs.Around.{surrounding}
 use Rattle.serde_json.proofs.Views.{view-Array}
-use Rattle.serde_json.specs.Data.{string, array, Members, put}
+use Rattle.serde_json.specs.Data.{string, array, put}
 use Rattle.serde_json.specs.View.{view, items_view, members_view}
 use Rattle.serde_json.specs.Written.{members_have_float}
 use Rattle.sarif_counts.specs.CountOf.{suppresses}
 use Rattle.sarif_records.specs.Level.{level_name}
-use Rattle.sarif_write.specs.declared.draft.Draft.{Draft}
 use Rattle.sarif_write.specs.Drafts.{drafted_members}
 use Rattle.sarif_write.proofs.Drafted.{drafted_whole}
 use Rattle.sarif_write.proofs.draft.finish_draft.Goals as goal

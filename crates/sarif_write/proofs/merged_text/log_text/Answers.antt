@@ -1,4 +1,4 @@
-use Rattle.std.proofs.Common.{rules, ◌≡◌, ◌==◌, ◌++◌, codes, false, not, sym, ap, ◌∙◌, append_assoc, string_bytes}
+use Rattle.std.proofs.Common.{rules, ◌≡◌, ◌==◌, ◌++◌, codes, false, not, ap, ◌∙◌, append_assoc, string_bytes}
 use Rattle.serde_json.specs.View.{view}
 use Rattle.serde_json.specs.Written.{compact_text}
 use Rattle.sarif_write.specs.Drafts.{joined}

@@ -1,6 +1,6 @@
 use Rattle.std.proofs.Common.{rules, ◌∙◌}
 use Rattle.sarif_counts.proofs.Suppressed.{suppresses-not_empty}
-use Rattle.sarif_write.proofs.annotate.is_suppressing.Goals as goal
+use Rattle.sarif_counts.proofs.suppressing.is_suppressing.Goals as goal
 
 pub returns-then-not-is_empty : goal.returns-then-not-is_empty
 returns-then-not-is_empty c =
