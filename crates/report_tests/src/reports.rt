@@ -4,7 +4,7 @@ ghost use Rattle.std.specs.Prelude.{◌≤◌};
 use sarif_counts::{Counts, Policy};
 use sarif_records::{Level, State, Text};
 use sarif_report::{
-    Finding, Report, Reporting, github_report, gitlab_report, html_report, markdown_report,
+    Finding, Report, Reporting, Told, github_report, gitlab_report, html_report, markdown_report,
     report_text, reported, shown, text_report,
 };
 use std::alloc::{AllocError, AllocGlobal, Global};
@@ -223,6 +223,11 @@ fn a_report_is_picked_by_its_name(rt: HostRuntime) -> Result<(), Fail> {
     let findings = findings_of(&rt)?;
     let counts = Counts::new();
     let policy = Policy::default();
+    let told = Told {
+        counts: &counts,
+        policy: &policy,
+        findings: findings.as_slice(),
+    };
     for (report, word, piece) in [
         (Report::Text, "text", TEXT),
         (Report::Github, "github", GITHUB),
@@ -235,7 +240,7 @@ fn a_report_is_picked_by_its_name(rt: HostRuntime) -> Result<(), Fail> {
         (Report::Html, "html", "<title>Gate: pass</title>"),
     ] {
         assert_eq!(rt; report.name(), word);
-        let text = report_text(alloc, report, &counts, &policy, findings.as_slice())?;
+        let text = report_text(&rt, alloc, report, &told, 2)?;
         assert!(rt; text.contains(piece));
     }
     Ok(())
@@ -277,8 +282,11 @@ fn the_markdown_report_has_the_verdict_the_counts_and_a_table(rt: HostRuntime) -
 fn the_gitlab_report_has_an_object_a_result(rt: HostRuntime) -> Result<(), Fail> {
     let alloc = rt.alloc();
     let findings = findings_of(&rt)?;
-    assert_eq!(rt; gitlab_report(alloc, findings.as_slice())?.as_str(), GITLAB);
-    assert_eq!(rt; gitlab_report(alloc, &[])?.as_str(), "[]");
+    assert_eq!(rt;
+        gitlab_report(&rt, alloc, findings.as_slice(), 2)?.as_str(),
+        GITLAB
+    );
+    assert_eq!(rt; gitlab_report(&rt, alloc, &[], 1)?.as_str(), "[]");
     Ok(())
 }
 
@@ -287,7 +295,7 @@ fn results_that_are_alike_have_fingerprints_of_their_own(rt: HostRuntime) -> Res
     let alloc = rt.alloc();
     let findings = findings_in(&rt, ALIKE)?;
     assert_eq!(rt;
-        gitlab_report(alloc, findings.as_slice())?.as_str(),
+        gitlab_report(&rt, alloc, findings.as_slice(), 2)?.as_str(),
         ALIKE_GITLAB
     );
     Ok(())

@@ -26,4 +26,8 @@ pub told_halves : {X Y Z : Type 0} (h : Y → Option Z) (f : X → Y) (low high 
 told_halves h f low high xs whole =
     sym (filter_map-append h (map f low) (map f high)) ∙ ap (filter_map h) (sym (map-append f low high) ∙ ap (map f) whole)
 
+-- what is made of each of the two halves, one after the other
+pub made_halves : {X Y : Type 0} (h : X → Y) (low high xs : List X) → low ++ high ≡ xs → map h low ++ map h high ≡ map h xs
+made_halves h low high xs whole = sym (map-append h low high) ∙ ap (map h) whole
+
 pub ruleset half_steps = (ordered_low, ordered_high, take-append-drop)

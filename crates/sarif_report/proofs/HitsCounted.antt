@@ -13,7 +13,7 @@ use Rattle.sarif_counts.specs.declared.policy.Policy.{Policy}
 use Rattle.sarif_counts.specs.Policy.{Count, count_if, severe_of, hits_at, hits_of, is_at_least, is_listed}
 use Rattle.sarif_counts.specs.Counts.{same_state}
 use Rattle.sarif_counts.specs.Tally.{same_level, same_side}
-use Rattle.sarif_counts.specs.CountOf.{is_text}
+use Rattle.sarif_records.specs.Run.{is_text}
 
 -- ---- states and levels by their names
 

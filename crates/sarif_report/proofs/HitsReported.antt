@@ -13,7 +13,8 @@ use Rattle.sarif_records.specs.Run.{elements_or_none}
 use Rattle.sarif_records.specs.Reading.{runs_of}
 use Rattle.sarif_counts.specs.Policy.{count_if, hits_of, is_at_least, is_listed}
 use Rattle.sarif_counts.specs.Tally.{same_side}
-use Rattle.sarif_counts.specs.CountOf.{carries, count_in, count_of, results_in, suppresses, suppressions_in, is_text}
+use Rattle.sarif_counts.specs.CountOf.{carries, count_in, count_of, results_in, suppresses, suppressions_in}
+use Rattle.sarif_records.specs.Run.{is_text}
 use Rattle.sarif_report.specs.declared.finding.Finding.{Finding}
 use Rattle.sarif_report.specs.declared.reporting.Reporting.{Reporting}
 use Rattle.sarif_report.specs.Reported.{reported_of, reported_in, finding_if, finding_by, finding_of, level_in, state_in}

@@ -17,7 +17,7 @@ use Rattle.sarif_report.specs.declared.escaping.Escaping.TheVariants.{Markdown}
 use Rattle.sarif_report.specs.declared.finding.Finding.{Finding}
 use Rattle.sarif_report.specs.declared.reporting.Reporting.{Reporting}
 use Rattle.sarif_report.specs.Escaped.{escaped, escaped_char, markdown_char, is_mark}
-use Rattle.sarif_report.specs.Finding.{place_of}
+use Rattle.sarif_report.specs.Finding.{spot_text}
 use Rattle.sarif_report.specs.MarkdownReport.{code_of, hit_cell, result_row}
 use Rattle.sarif_report.specs.MarkdownLaws.{have_bars}
 use Rattle.sarif_report.specs.Reported.{reported_of}
@@ -137,10 +137,10 @@ row_text n f text told rest =
     let tool = code_more (n + 1) 6 f.tool _ (shown_text f.tool told.tool) (cell_more (n + 1) 6 _ state) in
     let message = code_more (n + 1) 5 f.message _ (shown_text f.message told.message) (cell_more (n + 1) 5 _ tool) in
     let rule = code_more (n + 1) 4 f.rule _ (shown_text f.rule told.rule) (cell_more (n + 1) 4 _ message) in
-    let place = code_more (n + 1) 3 (place_of f) _ (place_seen f told) (cell_more (n + 1) 3 _ rule) in
+    let place = code_more (n + 1) 3 (spot_text f) _ (place_seen f told) (cell_more (n + 1) 3 _ rule) in
     let level = quiet_more (n + 1) 2 (level_name f.level) _ (level_quiet f.level) (cell_more (n + 1) 2 _ place) in
     subst (Cells (n + 1) 0)
-    (sym (regroup (hit_cell f.hit) (level_name f.level) (code_of (place_of f)) (codes " | ") (code_of f.rule) (code_of f.message) (code_of f.tool) (state_name f.state) (codes " |\n") text))
+    (sym (regroup (hit_cell f.hit) (level_name f.level) (code_of (spot_text f)) (codes " | ") (code_of f.rule) (code_of f.message) (code_of f.tool) (state_name f.state) (codes " |\n") text))
     (hit_more (n + 1) f.hit _ level)
 
 all_rows : (fs : List Finding) → AllByRecursion IsTold fs → Cells (length fs) 0 (flat_map result_row fs)

@@ -7,7 +7,7 @@ use Rattle.std.proofs.lemmas.Str.{encodes-append}
 use Rattle.sarif_report.specs.declared.escaping.Escaping.{Escaping}
 use Rattle.sarif_report.specs.declared.finding.Finding.{Finding}
 use Rattle.sarif_report.specs.Escaped.{escaped, escaped_char}
-use Rattle.sarif_report.specs.Finding.{place_of, place, place_path, numbered, begins_with_colon}
+use Rattle.sarif_report.specs.Finding.{spot_text, place, place_path, numbered, begins_with_colon}
 use Rattle.sarif_report.specs.Shown.{shown_chars}
 use Rattle.sarif_report.specs.ShownLaws.{is_seen, are_seen}
 use Rattle.sarif_report.proofs.SeenMore.{shown_seen}
@@ -55,7 +55,7 @@ place_text (Some path) line column p l c =
     two_texts (place_path path) (numbered line ++ numbered column) (path_text (begins_with_colon path) path p.shown)
     (two_texts (numbered line) (numbered column) (numbered_text line l) (numbered_text column c))
 
-pub place_seen : (f : Finding) → IsTold f → IsSeenText (place_of f)
+pub place_seen : (f : Finding) → IsTold f → IsSeenText (spot_text f)
 place_seen f told = place_text f.path f.line f.column told.path told.line told.column
 
 -- what is written for such a text is what is written for its characters

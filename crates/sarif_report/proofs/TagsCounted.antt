@@ -13,7 +13,7 @@ use Rattle.sarif_report.specs.declared.escaping.Escaping.TheVariants.{Page}
 use Rattle.sarif_report.specs.declared.finding.Finding.{Finding}
 use Rattle.sarif_report.specs.Escaped.{escaped}
 use Rattle.sarif_report.specs.EscapedLaws.{is_element_text, is_markup, begins_entity}
-use Rattle.sarif_report.specs.Finding.{place_of}
+use Rattle.sarif_report.specs.Finding.{spot_text}
 use Rattle.sarif_report.specs.HtmlLaws.{tags_in, link_tags, row_tags}
 use Rattle.sarif_report.specs.HtmlReport.{hit_word, row_class, row_data, hit_cells, row_front, linked_to, rule_cell, place_text, place_cells, message_cells, result_row, is_same_file, rows_below}
 use Rattle.sarif_report.proofs.EscapedApart.{page_apart}
@@ -94,7 +94,7 @@ rule_linked (b ∷ bs) (Some uri) = link_two (b ∷ bs) uri
 place_seven : (f : Finding) → Tags (0 + (4 + (link_tags f.rule f.help + 3))) (place_cells f)
 unfolding place_cells place_text
 place_seven f =
-    then_tags (escaped_none (place_of f)) (then_tags (fixed (codes "</code></td><td><code>") 4 refl)
+    then_tags (escaped_none (spot_text f)) (then_tags (fixed (codes "</code></td><td><code>") 4 refl)
     (then_tags (rule_linked f.rule f.help) (fixed (codes "</code></td><td>") 3 refl)))
 
 message_six : (f : Finding) → Tags 6 (message_cells f)

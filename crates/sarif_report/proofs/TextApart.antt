@@ -16,11 +16,11 @@ use Rattle.sarif_records.specs.Level.{level_name}
 use Rattle.sarif_records.specs.State.{state_name}
 use Rattle.sarif_report.specs.declared.finding.Finding.{Finding}
 use Rattle.sarif_report.specs.declared.reporting.Reporting.{Reporting}
-use Rattle.sarif_report.specs.Finding.{place_of, place, place_path, numbered, begins_with_colon}
+use Rattle.sarif_report.specs.Finding.{spot_text, place, place_path, numbered, begins_with_colon}
 use Rattle.sarif_report.specs.Reported.{reported_of}
 use Rattle.sarif_report.specs.Shown.{shown_chars}
 use Rattle.sarif_report.specs.ShownLaws.{is_seen, are_seen, has_two_signs}
-use Rattle.sarif_report.specs.TextReport.{text_of, text_line, bracketed}
+use Rattle.sarif_report.specs.TextReport.{text_lines_of, text_line, bracketed}
 use Rattle.sarif_report.specs.TextLaws.{has_colon_line, AreLines, IsTextOfLines}
 use Rattle.sarif_report.proofs.SeenMore.{shown_seen, shown_apart}
 use Rattle.sarif_report.proofs.ToldFindings.{IsShown, IsPath, IsTold, all_told}
@@ -266,14 +266,14 @@ regroup p a l b m r o t c s e text = simp append_assoc
 line_text : (n : ℕ) (f : Finding) (text : List ℕ) → IsTold f → IsTextOfLines n text → IsTextOfLines (n + 1) (text_line f ++ text)
 line_text n f text told lines =
     subst (IsTextOfLines (n + 1))
-    (sym (regroup (place_of f) (codes ": ") (level_name f.level) (codes ": ") f.message (bracketed f.rule) (codes " (") f.tool (codes ", ") (state_name f.state) (codes ")\n") text))
+    (sym (regroup (spot_text f) (codes ": ") (level_name f.level) (codes ": ") f.message (bracketed f.rule) (codes " (") f.tool (codes ", ") (state_name f.state) (codes ")\n") text))
     (place_line (n + 1) f.path f.line f.column (rest_of_line f text) told.path told.line told.column (rest_text n f text told lines))
 
-all_lines : (fs : List Finding) → AllByRecursion IsTold fs → IsTextOfLines (length fs) (text_of fs)
+all_lines : (fs : List Finding) → AllByRecursion IsTold fs → IsTextOfLines (length fs) (text_lines_of fs)
 all_lines [] h = ([], refl, record { ends = refl; seen = refl; colons = refl; signs = refl })
 all_lines (f ∷ fs) h =
     let count : length fs + 1 ≡ length (f ∷ fs) = omega arith in
-    subst (λ n. IsTextOfLines n (text_of (f ∷ fs))) count (line_text (length fs) f (text_of fs) h.0 (all_lines fs h.1))
+    subst (λ n. IsTextOfLines n (text_lines_of (f ∷ fs))) count (line_text (length fs) f (text_lines_of fs) h.0 (all_lines fs h.1))
 
-pub text_lines : (reporting : Reporting) (log : Data) → IsTextOfLines (length (reported_of reporting log)) (text_of (reported_of reporting log))
+pub text_lines : (reporting : Reporting) (log : Data) → IsTextOfLines (length (reported_of reporting log)) (text_lines_of (reported_of reporting log))
 text_lines reporting log = all_lines (reported_of reporting log) (all_told reporting log)

@@ -22,5 +22,5 @@ abbrev pub place : Option (List ℕ) → Option ℕ → Option ℕ → List ℕ
 place None line column = codes "-"
 place (Some path) line column = place_path path ++ (numbered line ++ numbered column)
 
-abbrev pub place_of : Finding → List ℕ
-place_of finding = place finding.path finding.line finding.column
+abbrev pub spot_text : Finding → List ℕ
+spot_text finding = place finding.path finding.line finding.column

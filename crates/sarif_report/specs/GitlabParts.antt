@@ -11,6 +11,7 @@ use Rattle.json.specs.Print.{quoted}
 use Rattle.serde_json.specs.Written.{compact_text}
 use Rattle.sarif_records.specs.declared.kinds.Level.{Level}
 use Rattle.sarif_report.specs.declared.finding.Finding.{Finding}
+use Rattle.sarif_report.specs.declared.identities.Identity.{Identity}
 use Rattle.sarif_report.specs.GitlabReport.{path_or_null, or_unknown, severity}
 
 -- whether a byte stands in a string of JSON as it is
@@ -29,6 +30,10 @@ identity_of f =
 -- ,RANK] of such a text
 abbrev pub rank_text : ℕ → List ℕ
 rank_text rank = codes "," ++ (decimal rank ++ codes "]")
+
+-- the same, and the hash of what is hashed of the first result with it
+abbrev pub identity_with : Finding → Identity
+identity_with f = record { text = identity_of f; first = sha256 (identity_of f ++ rank_text 0) }
 
 -- the first 64 bits of a digest
 abbrev pub number_in : List ℕ → ℕ

@@ -14,7 +14,7 @@ use Rattle.sarif_report.specs.CountRow.{numbers_of}
 use Rattle.sarif_report.specs.declared.count_row.Row.{Row}
 use Rattle.sarif_report.specs.declared.finding.Finding.{Finding}
 use Rattle.sarif_report.specs.declared.escaping.Escaping.TheVariants.{Page}
-use Rattle.sarif_report.specs.Finding.{place_of}
+use Rattle.sarif_report.specs.Finding.{spot_text}
 use Rattle.sarif_report.specs.Escaped.{escaped}
 use Rattle.sarif_report.specs.HtmlFixed.{page_begin, title_end, body_begin, counts_begin, filters, results_begin, table_end, nothing_reported, page_end}
 use Rattle.sarif_report.specs.HtmlStyle.{style}
@@ -93,7 +93,7 @@ rule_cell [] help = []
 rule_cell (b ∷ bs) help = linked (b ∷ bs) help
 
 unfoldable pub place_text : Finding → List ℕ
-place_text f = escaped Page (place_of f)
+place_text f = escaped Page (spot_text f)
 
 unfoldable pub place_cells : Finding → List ℕ
 place_cells f =

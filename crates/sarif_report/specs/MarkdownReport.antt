@@ -12,7 +12,7 @@ use Rattle.sarif_counts.specs.Policy.{Count, hits_of, verdict_of, verdict_name}
 use Rattle.sarif_report.specs.CountRow.{row_of, numbers_of}
 use Rattle.sarif_report.specs.declared.finding.Finding.{Finding}
 use Rattle.sarif_report.specs.declared.escaping.Escaping.TheVariants.{Markdown}
-use Rattle.sarif_report.specs.Finding.{place_of}
+use Rattle.sarif_report.specs.Finding.{spot_text}
 use Rattle.sarif_report.specs.Escaped.{escaped}
 
 -- a text as code, in which nothing is looked for; an empty text is nothing
@@ -38,7 +38,7 @@ hit_cell false = codes "|  | "
 
 abbrev pub place_cells : Finding → List ℕ
 place_cells finding =
-    hit_cell finding.hit ++ (level_name finding.level ++ (codes " | " ++ (code_of (place_of finding) ++ codes " | ")))
+    hit_cell finding.hit ++ (level_name finding.level ++ (codes " | " ++ (code_of (spot_text finding) ++ codes " | ")))
 
 abbrev pub rule_cells : Finding → List ℕ
 rule_cells finding = code_of finding.rule ++ (codes " | " ++ (code_of finding.message ++ codes " | "))

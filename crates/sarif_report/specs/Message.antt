@@ -33,12 +33,12 @@ abbrev pub text_by : Data → Data → Data → Option (List ℕ)
 text_by run result message =
     option_or (text_in (codes "text") message) (option_and_then (looked_up run result) (text_in (codes "id") message))
 
-abbrev pub text_of : Data → Data → Option (List ℕ)
-text_of run result = option_and_then (text_by run result) (get (codes "message") result)
+abbrev pub found_text : Data → Data → Option (List ℕ)
+found_text run result = option_and_then (text_by run result) (get (codes "message") result)
 
 -- the text with its placeholders
 abbrev pub message_text : Data → Data → List ℕ
-message_text run result = unwrap_or (text_of run result) []
+message_text run result = unwrap_or (found_text run result) []
 
 abbrev pub arguments_in : Option Data → List Data
 arguments_in None = []

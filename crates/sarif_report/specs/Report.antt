@@ -5,7 +5,7 @@ use Rattle.sarif_counts.specs.declared.policy.Policy.{Policy}
 use Rattle.sarif_report.specs.declared.finding.Finding.{Finding}
 use Rattle.sarif_report.specs.declared.report.Report.{Report}
 use Rattle.sarif_report.specs.declared.report.Report.TheVariants.{Text, Github, Markdown, Gitlab, Html}
-use Rattle.sarif_report.specs.TextReport.{text_of}
+use Rattle.sarif_report.specs.TextReport.{text_lines_of}
 use Rattle.sarif_report.specs.GithubReport.{github_of}
 use Rattle.sarif_report.specs.MarkdownReport.{markdown_of}
 use Rattle.sarif_report.specs.GitlabReport.{gitlab_of}
@@ -21,7 +21,7 @@ report_name Html = codes "html"
 
 -- the text of each
 abbrev pub report_of : Report → Count → Policy → List Finding → List ℕ
-report_of Text count policy findings = text_of findings
+report_of Text count policy findings = text_lines_of findings
 report_of Github count policy findings = github_of findings
 report_of Markdown count policy findings = markdown_of count policy findings
 report_of Gitlab count policy findings = gitlab_of findings

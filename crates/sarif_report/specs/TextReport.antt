@@ -3,7 +3,7 @@ use Rattle.std.specs.Prelude.{ℕ, List, [], ◌∷◌, ◌++◌, codes, flat_ma
 use Rattle.sarif_records.specs.Level.{level_name}
 use Rattle.sarif_records.specs.State.{state_name}
 use Rattle.sarif_report.specs.declared.finding.Finding.{Finding}
-use Rattle.sarif_report.specs.Finding.{place_of}
+use Rattle.sarif_report.specs.Finding.{spot_text}
 
 -- the rule in brackets, where there is one
 abbrev pub bracketed : List ℕ → List ℕ
@@ -19,7 +19,7 @@ tool_and_state finding = codes " (" ++ (finding.tool ++ (codes ", " ++ (state_na
 -- PLACE: LEVEL: MESSAGE [RULE] (TOOL, STATE)
 abbrev pub text_line : Finding → List ℕ
 text_line finding =
-    place_of finding ++ (level_and_message finding ++ (bracketed finding.rule ++ tool_and_state finding))
+    spot_text finding ++ (level_and_message finding ++ (bracketed finding.rule ++ tool_and_state finding))
 
-abbrev pub text_of : List Finding → List ℕ
-text_of findings = flat_map text_line findings
+abbrev pub text_lines_of : List Finding → List ℕ
+text_lines_of findings = flat_map text_line findings

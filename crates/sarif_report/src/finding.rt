@@ -67,7 +67,7 @@ pub(crate) fn push_place(
     finding: &Finding,
 ) -> Result<(), AllocError>
     ensures { OnOk result
-        (string_bytes text.new ≡ string_bytes text.old ++ said.place_of finding.now) }
+        (string_bytes text.new ≡ string_bytes text.old ++ said.spot_text finding.now) }
 {
     match &finding.path {
         None => text.push_str("-")?,

@@ -1,58 +1,22 @@
 //! The report for GitLab's code quality widget.
-ghost use Rattle.std.specs.Prelude.{◌≡◌, ◌<◌, ◌+◌, ◌^◌, ℕ, List, ◌++◌, true, bytes_eq, string_bytes};
+ghost use Rattle.std.specs.Prelude.{◌≡◌, ◌≤◌, ◌<◌, ◌+◌, ◌^◌, ℕ, List, ◌++◌, true, bytes_eq, string_bytes};
 ghost use Rattle.std.specs.Prelude.{IfOk, OnOk, if◌then◌else◌};
 ghost use Rattle.hex.specs.Hex.{encode_lower};
 ghost use Rattle.sha2.specs.Sha256.{sha256};
 ghost use Rattle.serde_json.specs.Written.{compact_text, comma_if};
 ghost use Rattle.sarif_report.specs.GitlabReport as said;
-ghost use Rattle.std.specs.List.{list_all};
-ghost use Rattle.sarif_report.specs.GitlabParts.{stands_in_string, quoted_text, identity_of};
+ghost use Rattle.sarif_report.specs.GitlabParts.{quoted_text, identity_of, identity_with};
 ghost use Rattle.sarif_report.specs.GitlabParts.{rank_text, number_in, number_of, counted};
 ghost use Rattle.sarif_report.specs.GitlabParts.{rule_text, location_text, severity_text};
 
 use crate::finding::Finding;
-use json_text::push_value;
+use crate::identities::{Identity, identities_of};
+use crate::quoted::push_quoted;
 use sarif_records::{Level, Text};
-use serde_json::Value;
 use sha2::{Digest, Sha256};
 use std::alloc::{AllocError, Global};
 use std::collections::BTreeMap;
-
-/// Whether each of these bytes stands in a string of JSON as it is.
-fn all_stand(bytes: &[u8]) -> bool
-    ensures { result ≡ list_all stands_in_string bytes.now }
-{
-    for byte in bytes {
-        if *byte < b' ' || *byte == b'"' || *byte == b'\\' {
-            return false;
-        }
-    }
-    true
-}
-
-/// Adds a text in which nothing is escaped.
-fn push_whole(text: &mut String, plain: &str) -> Result<(), AllocError>
-    requires { list_all stands_in_string plain.now ≡ true }
-    ensures { OnOk result (string_bytes text.new ≡ string_bytes text.old ++ quoted_text plain.now) }
-{
-    text.push_str("\"")?;
-    text.push_str(plain)?;
-    text.push_str("\"")?;
-    Ok(())
-}
-
-/// Adds a text as JSON writes it.
-#[tactic(auto, unfolding(crate::specs::GitlabParts::quoted_text))]
-fn push_quoted(alloc: Global, text: &mut String, plain: &str) -> Result<(), AllocError>
-    ensures { OnOk result (string_bytes text.new ≡ string_bytes text.old ++ quoted_text plain.now) }
-{
-    if all_stand(plain.as_bytes()) {
-        return push_whole(text, plain);
-    }
-    let value = Value::String(String::from_str(alloc, plain)?);
-    push_value(alloc, text, &value)?;
-    Ok(())
-}
+use std::thread::Threads;
 
 /// Adds a member's text: what stands before its value, and the value.
 fn push_member(
@@ -77,45 +41,6 @@ fn push_comma(text: &mut String, later: bool) -> Result<(), AllocError>
         text.push_str(",")?;
     }
     Ok(())
-}
-
-/// Adds a path as JSON writes it, or `null`.
-#[tactic(auto, unfolding(crate::specs::GitlabParts::quoted_text))]
-fn push_path(alloc: Global, text: &mut String, path: &Option<Text>) -> Result<(), AllocError>
-    ensures { OnOk result (string_bytes text.new
-        ≡ string_bytes text.old ++ compact_text (said.path_or_null path.now)) }
-{
-    match path {
-        Some(path) => push_quoted(alloc, text, path.as_str())?,
-        None => text.push_str("null")?,
-    }
-    Ok(())
-}
-
-/// What results that are alike have in common, as the beginning of an array.
-#[tactic(auto, unfolding(crate::specs::GitlabParts::identity_of))]
-fn identity(alloc: Global, finding: &Finding) -> Result<String, AllocError>
-    ensures { IfOk result (λ s. string_bytes s ≡ identity_of finding.now) }
-{
-    let mut text = String::from_str(alloc, "[")?;
-    push_quoted(alloc, &mut text, finding.tool.as_str())?;
-    text.push_str(",")?;
-    push_quoted(alloc, &mut text, finding.rule.as_str())?;
-    text.push_str(",")?;
-    push_path(alloc, &mut text, &finding.path)?;
-    text.push_str(",")?;
-    push_quoted(alloc, &mut text, finding.message.as_str())?;
-    Ok(text)
-}
-
-/// What is hashed of a result that has none like it before it, hashed.
-fn first_digest(identity: &str) -> [u8; 32]
-    ensures { result ≡ sha256 (identity.now ++ rank_text 0) }
-{
-    let mut hasher = Sha256::new();
-    hasher.update(identity.as_bytes());
-    hasher.update(b",0]");
-    hasher.finalize()
 }
 
 /// The fingerprint of the result that has so many like it before it.
@@ -146,6 +71,17 @@ fn number_in(digest: &[u8; 32]) -> u64
     u64::from_be_bytes([
         digest[0], digest[1], digest[2], digest[3], digest[4], digest[5], digest[6], digest[7],
     ])
+}
+
+/// What an identity is counted by.
+#[tactic(auto, unfolding(crate::specs::GitlabParts::number_of))]
+fn key_of(alloc: Global, identity: &Identity) -> Result<(u64, Text), AllocError>
+    requires { identity.now.first ≡ sha256 (identity.now.text ++ rank_text 0) }
+    ensures number { IfOk result (λ key. key.0 ≡ number_of key.1) }
+    ensures text { IfOk result (λ key. key.1 ≡ identity.now.text) }
+{
+    let text = Text::copy_of(alloc, identity.text.as_str())?;
+    Ok((number_in(&identity.first), text))
 }
 
 /// How many results with this identity were counted.
@@ -258,35 +194,43 @@ fn push_next(
     text: &mut String,
     ranks: &mut BTreeMap<(u64, Text), u64>,
     finding: &Finding,
+    identity: &Identity,
 ) -> Result<(), AllocError>
-    requires { counted ranks.old (identity_of finding.now) < 2 ^ 63 }
+    requires room { counted ranks.old (identity_of finding.now) < 2 ^ 63 }
+    requires identity { identity.now ≡ identity_with finding.now }
     ensures written { OnOk result (string_bytes text.new ≡ string_bytes text.old
         ++ compact_text (said.quality_of finding.now
         (said.mark_of finding.now (counted ranks.old (identity_of finding.now))))) }
     ensures counted { OnOk result ((other : List ℕ) → counted ranks.new other
         ≡ counted ranks.old other + (if bytes_eq other (identity_of finding.now) then 1 else 0)) }
 {
-    let identity = Text::from_string(identity(alloc, finding)?)?;
-    let first = first_digest(identity.as_str());
-    let key = (number_in(&first), identity);
+    let key = key_of(alloc, identity)?;
     let rank = rank_of(ranks, &key);
-    let mark = fingerprint(alloc, key.1.as_str(), first, rank)?;
+    let mark = fingerprint(alloc, identity.text.as_str(), identity.first, rank)?;
     count(ranks, key, rank)?;
     push_quality(alloc, text, finding, mark.as_str())?;
     Ok(())
 }
 
 /// One object a result, with a fingerprint that no other has: a result's tool, rule, path and message, and how many
-/// results with the same four stand before it.
-pub fn gitlab_report(alloc: Global, findings: &[Finding]) -> Result<String, AllocError>
+/// results with the same four stand before it. These are hashed in at most so many threads, this one among them.
+/// `AllocError` where memory is wanting.
+pub fn gitlab_report<R: Threads + Sync>(
+    rt: &R,
+    alloc: Global,
+    findings: &[Finding],
+    threads: u32,
+) -> Result<String, AllocError>
+    requires { 1 ≤ threads }
     ensures { IfOk result (λ s. string_bytes s ≡ said.gitlab_of findings.now) }
 {
+    let identities = identities_of(rt, alloc, findings, threads)?;
     let mut text = String::from_str(alloc, "[")?;
     let mut ranks = BTreeMap::new(alloc);
     let mut later = false;
-    for finding in findings {
+    for (number, finding) in findings.iter().enumerate() {
         push_comma(&mut text, later)?;
-        push_next(alloc, &mut text, &mut ranks, finding)?;
+        push_next(alloc, &mut text, &mut ranks, finding, &identities[number])?;
         later = true;
     }
     text.push_str("]")?;

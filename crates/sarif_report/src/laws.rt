@@ -25,7 +25,7 @@ ghost use Rattle.sarif_report.specs.Reported.{reported_of};
 ghost use Rattle.sarif_report.specs.Shown.{shown_chars};
 ghost use Rattle.sarif_report.specs.ShownLaws.{are_seen, has_two_signs};
 ghost use Rattle.sarif_report.specs.TextLaws.{IsTextOfLines};
-ghost use Rattle.sarif_report.specs.TextReport.{text_of};
+ghost use Rattle.sarif_report.specs.TextReport.{text_lines_of};
 
 /// No character of what is shown of a text is a control character, a separator of lines, or one that hides or steers.
 pub fn shown_texts_are_seen()
@@ -67,7 +67,7 @@ pub fn reported_hits_are_counted()
 /// ends, no line that begins with a colon, and nowhere two `#` together.
 pub fn text_reports_have_a_line_a_result()
     ensures { (reporting : Reporting) (log : Data) →
-        IsTextOfLines (length (reported_of reporting log)) (text_of (reported_of reporting log)) }
+        IsTextOfLines (length (reported_of reporting log)) (text_lines_of (reported_of reporting log)) }
 {}
 
 /// Each line of the report for GitHub Actions begins with one of its three commands, and there are as many lines as

@@ -1,7 +1,7 @@
 //! The report for job summaries and comments on a change.
 ghost use Rattle.std.specs.Prelude.{◌≡◌, ◌++◌, IfOk, OnOk, flat_map, take, string_bytes};
 ghost use Rattle.sarif_counts.specs.Counts.{count_at};
-ghost use Rattle.sarif_report.specs.Finding.{place_of};
+ghost use Rattle.sarif_report.specs.Finding.{spot_text};
 ghost use Rattle.sarif_report.specs.CountRow.{row_begin, row_end};
 ghost use Rattle.sarif_report.specs.MarkdownReport as said;
 
@@ -95,7 +95,7 @@ fn hit_cell(hit: bool) -> &'static str
 /// Adds the place, as code.
 fn push_place_cell(alloc: Global, text: &mut String, finding: &Finding) -> Result<(), AllocError>
     ensures { OnOk result
-        (string_bytes text.new ≡ string_bytes text.old ++ said.code_of (place_of finding.now)) }
+        (string_bytes text.new ≡ string_bytes text.old ++ said.code_of (spot_text finding.now)) }
 {
     let mut place = String::new(alloc);
     push_place(alloc, &mut place, finding)?;

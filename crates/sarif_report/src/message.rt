@@ -71,9 +71,9 @@ fn text_by<'a>(run: &'a Value, found: &Value, message: &'a Value) -> Option<&'a 
 }
 
 /// The message's text, where it has one.
-fn text_of<'a>(run: &'a Value, found: &'a Value) -> Option<&'a str>
+fn found_text<'a>(run: &'a Value, found: &'a Value) -> Option<&'a str>
     ensures { option_map (λ s. s.now) result
-        ≡ said.text_of (view run.now) (view found.now) }
+        ≡ said.found_text (view run.now) (view found.now) }
 {
     text_by(run, found, found.get("message")?)
 }
@@ -82,7 +82,7 @@ fn text_of<'a>(run: &'a Value, found: &'a Value) -> Option<&'a str>
 fn message_text<'a>(run: &'a Value, found: &'a Value) -> &'a str
     ensures { result.now ≡ said.message_text (view run.now) (view found.now) }
 {
-    match text_of(run, found) {
+    match found_text(run, found) {
         Some(text) => text,
         None => "",
     }
@@ -252,7 +252,8 @@ fn are_unbraced(bytes: &[u8]) -> bool
 
 /// Whether a text has nothing that is filled in, whatever the arguments.
 fn stays(text: &str) -> bool
-    ensures { OnTrue result ((args : List Data) → said.filled args (chars text.now) ≡ chars text.now) }
+    ensures { OnTrue result ((args : List Data)
+        → said.filled args (chars text.now) ≡ chars text.now) }
 {
     are_unbraced(text.as_bytes())
 }

@@ -1,5 +1,5 @@
 //! The five reports, by their names.
-ghost use Rattle.std.specs.Prelude.{◌≡◌, IfOk, string_bytes};
+ghost use Rattle.std.specs.Prelude.{◌≡◌, ◌≤◌, IfOk, string_bytes};
 ghost use Rattle.sarif_counts.specs.Counts.{count_at};
 ghost use Rattle.sarif_report.specs.Report.{report_name, report_of};
 
@@ -11,6 +11,7 @@ use crate::markdown_table::markdown_report;
 use crate::text_lines::text_report;
 use sarif_counts::{Counts, Policy};
 use std::alloc::{AllocError, Global};
+use std::thread::Threads;
 
 /// One of the five reports on a merged log.
 #[derive(Clone, Copy, Debug, PartialEq, Eq)]
@@ -42,23 +43,36 @@ impl Report {
     }
 }
 
-/// The text of a report on these results, by the counts and the policy of the gate. `AllocError` where memory is
-/// wanting.
-pub fn report_text(
+/// What reports are made of: the counts and the policy of the gate, and the results that are told of.
+#[derive(Clone, Copy, Drop)]
+pub struct Told<'a> {
+    pub counts: &'a Counts,
+    pub policy: &'a Policy,
+    pub findings: &'a [Finding],
+}
+
+/// The text of a report, made in at most so many threads, this one among them. `AllocError` where memory is wanting.
+pub fn report_text<R: Threads + Sync>(
+    rt: &R,
     alloc: Global,
     report: Report,
-    counts: &Counts,
-    policy: &Policy,
-    findings: &[Finding],
+    told: &Told<'_>,
+    threads: u32,
 ) -> Result<String, AllocError>
-    ensures { IfOk result (λ s. string_bytes s
-        ≡ report_of report (count_at counts.now) policy.now findings.now) }
+    requires { 1 ≤ threads }
+    ensures { IfOk result (λ s. string_bytes s ≡ report_of report
+        (count_at told.now.counts.now) told.now.policy.now told.now.findings.now) }
 {
+    let Told {
+        counts,
+        policy,
+        findings,
+    } = *told;
     match report {
         Report::Text => text_report(alloc, findings),
         Report::Github => github_report(alloc, findings),
         Report::Markdown => markdown_report(alloc, counts, policy, findings),
-        Report::Gitlab => gitlab_report(alloc, findings),
+        Report::Gitlab => gitlab_report(rt, alloc, findings, threads),
         Report::Html => html_report(alloc, counts, policy, findings),
     }
 }

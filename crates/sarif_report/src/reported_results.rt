@@ -1,13 +1,12 @@
 //! What is told of a result of a finished merged log, where it is reported.
-ghost use Rattle.std.specs.Prelude.{◌≡◌, Some, not, map, IfOk, codes, chars, string_bytes};
+ghost use Rattle.std.specs.Prelude.{◌≡◌, Some, IfOk, chars, string_bytes};
 ghost use Rattle.json_index.specs.Indexed.{data_of};
 ghost use Rattle.json_index.specs.Ordered.{IsOrdered};
 ghost use Rattle.sarif_records.specs.Listed.{value_at};
 ghost use Rattle.sarif_report.specs.Message.{message_of};
-ghost use Rattle.serde_json.specs.Find.{get};
-ghost use Rattle.serde_json.specs.View.{view, items_of};
-ghost use Rattle.sarif_counts.specs.CountOf.{suppresses, all_accepted, accepts, items_in};
-ghost use Rattle.sarif_counts.specs.Policy.{is_listed, severity as rank};
+ghost use Rattle.serde_json.specs.View.{view};
+ghost use Rattle.sarif_counts.specs.CountOf.{suppresses, items_in};
+ghost use Rattle.sarif_counts.specs.Policy.{severity as rank};
 ghost use Rattle.sarif_report.specs.Shown.{shown as text_shown};
 ghost use Rattle.sarif_report.specs.Reported as said;
 
@@ -20,42 +19,10 @@ use crate::reporting::Reporting;
 use crate::shown_text::{ShownText, shown};
 use crate::spot::{Spot, spot_of};
 use json_index::Node;
-use sarif_counts::States;
-use sarif_records::{Level, State, Status, Text, driver_name};
+use sarif_counts::is_suppressing;
+use sarif_records::{Level, State, Text, driver_name};
 use serde_json::Value;
 use std::alloc::{AllocError, Global};
-
-/// Whether a suppression's status is `accepted`, as it counts where it is absent.
-fn is_accepted(suppression: &Value) -> bool
-    ensures { result ≡ accepts (get (codes "status") (view suppression.now)) }
-{
-    match suppression.get("status") {
-        None | Some(Value::Null) => true,
-        Some(Value::String(text)) => match Status::from_name(text.as_str()) {
-            Some(Status::Accepted) => true,
-            _ => false,
-        },
-        Some(_) => false,
-    }
-}
-
-fn are_accepted(suppressions: &[Value]) -> bool
-    ensures { result ≡ all_accepted (items_of (map view suppressions.now)) }
-{
-    for suppression in suppressions {
-        if !is_accepted(suppression) {
-            return false;
-        }
-    }
-    true
-}
-
-/// Whether a result with these suppressions is suppressed: there is one, and all are accepted.
-fn is_suppressing(suppressions: &[Value]) -> bool
-    ensures { result ≡ suppresses (items_of (map view suppressions.now)) }
-{
-    !suppressions.is_empty() && are_accepted(suppressions)
-}
 
 /// Whether a result is suppressed that has this at `suppressions`.
 #[tactic(auto, using(crate::proofs::ReportedMore::items_in_array))]
@@ -76,17 +43,6 @@ fn is_active(alloc: Global, place: &Node<'_, '_>) -> Result<bool, AllocError>
     match kept_member(place, "suppressions") {
         Some(found) => Ok(!suppresses_by(&found.to_value(alloc)?)),
         None => Ok(true),
-    }
-}
-
-fn lists(states: States, state: State) -> bool
-    ensures { result ≡ is_listed states state }
-{
-    match state {
-        State::New => states.fresh,
-        State::Unchanged => states.unchanged,
-        State::Updated => states.updated,
-        State::Absent => states.absent,
     }
 }
 
@@ -228,7 +184,7 @@ pub(crate) fn finding_if(
     let Some(state) = state_at(place) else {
         return Ok(None);
     };
-    if !lists(reporting.policy.states, state) {
+    if !reporting.policy.states.lists(state) {
         return Ok(None);
     }
     if !is_active(alloc, place)? {

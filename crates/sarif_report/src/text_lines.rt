@@ -57,7 +57,7 @@ fn push_line(alloc: Global, text: &mut String, finding: &Finding) -> Result<(), 
 
 /// One line a result: `PLACE: LEVEL: MESSAGE [RULE] (TOOL, STATE)`.
 pub fn text_report(alloc: Global, findings: &[Finding]) -> Result<String, AllocError>
-    ensures { IfOk result (λ s. string_bytes s ≡ said.text_of findings.now) }
+    ensures { IfOk result (λ s. string_bytes s ≡ said.text_lines_of findings.now) }
 {
     let mut text = String::new(alloc);
     for finding in findings {

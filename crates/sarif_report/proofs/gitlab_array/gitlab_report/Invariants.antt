@@ -5,8 +5,8 @@ use Rattle.sarif_report.specs.GitlabReport.{items_after, gitlab_of}
 use Rattle.sarif_report.specs.GitlabParts.{identity_of, counted}
 use Rattle.sarif_report.proofs.gitlab_array.gitlab_report.Given as goal
 
-abbrev pub invariant-loop-finding : goal.invariant-loop-finding
-invariant-loop-finding l = record {
-  ranks : (other : List ℕ) → counted l.ranks other ≡ count_by (λ f. bytes_eq other (identity_of f)) (take l.finding-index l.findings);
-  written : string_bytes l.text ++ items_text l.later (items_after (take l.finding-index l.findings) (drop l.finding-index l.findings)) ≡ gitlab_of l.findings;
+abbrev pub invariant-loop-number : goal.invariant-loop-number
+invariant-loop-number g l = record {
+  ranks : (other : List ℕ) → counted l.ranks other ≡ count_by (λ f. bytes_eq other (identity_of f)) (take l.number l.findings);
+  written : string_bytes l.text ++ items_text l.later (items_after (take l.number l.findings) (drop l.number l.findings)) ≡ gitlab_of l.findings;
 }

@@ -4,7 +4,7 @@ use Rattle.sha2.specs.Sha256.{sha256}
 use Rattle.serde_json.specs.Written.{compact_text}
 use Rattle.sarif_report.specs.GitlabReport.{quality_of}
 use Rattle.sarif_report.specs.GitlabParts.{identity_of, rank_text, counted}
-use Rattle.sarif_report.proofs.GitlabMore.{hashed_parts, number_told}
+use Rattle.sarif_report.proofs.GitlabMore.{hashed_parts}
 use Rattle.sarif_report.proofs.gitlab_array.push_next.Goals as goal
 
 pub returns-clause-written : goal.returns-clause-written
@@ -13,13 +13,3 @@ returns-clause-written c =
     let rank = counted c.args.ranks.now (identity_of f) in
     let told : string_bytes c.push_quality.new.text ≡ string_bytes c.args.text.now ++ compact_text (quality_of f (encode_lower (sha256 (identity_of f ++ rank_text rank)))) = search rules in
     rw (hashed_parts f rank) told
-
-pub rank_of-rank-requires : goal.rank_of-rank-requires
-rank_of-rank-requires c =
-    let digest : c.first_digest-first.result ≡ sha256 (c.in_ok-identity-2.identity ++ rank_text 0) = search rules in
-    number_told c.in_ok-identity-2.identity c.first_digest-first.result c.number_in.result digest c.number_in.ensures
-
-pub count-requires-clause-number : goal.count-requires-clause-number
-count-requires-clause-number c =
-    let digest : c.first_digest-first.result ≡ sha256 (c.in_ok-identity-2.identity ++ rank_text 0) = search rules in
-    number_told c.in_ok-identity-2.identity c.first_digest-first.result c.number_in.result digest c.number_in.ensures

@@ -1,6 +1,6 @@
 use Rattle.std.proofs.Common.{◌++◌, ◌∷◌, [], ap, sym, ◌∙◌, string_bytes}
 use Rattle.sarif_report.proofs.GitlabMore.{joined_before, quoted_whole}
-use Rattle.sarif_report.proofs.gitlab_array.push_whole.Goals as goal
+use Rattle.sarif_report.proofs.quoted.push_whole.Goals as goal
 
 pub returns : goal.returns
 returns c =

@@ -1,7 +1,7 @@
 use Rattle.std.proofs.Common.{rules, ◌≡◌, ◌++◌, ◌∷◌, [], arith}
 use Rattle.sha2.specs.Sha256.{sha256}
 use Rattle.std.proofs.lemmas.Fmt.{decimal_digit}
-use Rattle.sarif_report.proofs.gitlab_array.first_digest.Goals as goal
+use Rattle.sarif_report.proofs.identities.first_digest.Goals as goal
 
 pub returns : goal.returns
 returns c =
