@@ -1,10 +1,10 @@
 //! Explaining on standard error what stopped a run.
-use crate::complaint::Complaint;
 use crate::outputs::Outputs;
 use crate::sources::Source as Reading;
 use sarif_explain::{FaultSource, explanation};
 use sarif_files::Kept;
 use sarif_merge::{At, Cause, Counted, MergeFault, Readers, Source};
+use sarif_program::Complaint;
 use sarif_records::Text;
 use sarif_report::Report;
 use sarif_request::Request;

@@ -6,24 +6,15 @@ ghost use Rattle.sarif_request.specs.Words.{Answers, words_status};
 ghost use Rattle.sarif_request.specs.declared.request.Request.{Request as Asked};
 ghost use Rattle.sarif_request.specs.declared.words.WordsFault.{WordsFault as Mistake};
 
-mod complaint;
-mod ending;
 mod explaining;
 mod outputs;
-mod run;
-mod seed;
 mod sources;
-mod telling;
-mod writers;
-mod writing;
 
-use complaint::{Complaint, Complaints};
 use explaining::Ended;
 use outputs::outputs_of;
-use run::run_request;
 use sarif_merge::MergeFault;
+use sarif_program::{Complaint, Complaints, run_request, seed_of};
 use sarif_request::{Request, WordsFault, read_words};
-use seed::seed_of;
 use sources::sources_of;
 use std::alloc::AllocError;
 use std::hash::RandomState;
@@ -145,6 +136,3 @@ fn tell_unread(rt: &HostRuntime, error: &io::Error) {
         let _ = eprintln!(rt; "sarif_gate: {error}");
     }
 }
-
-#[cfg(test)]
-mod tests;

@@ -2,11 +2,11 @@
 ghost use Rattle.std.specs.Prelude.{◌≡◌, IfOk, is_some};
 ghost use Rattle.sarif_sources.specs.Counted.{failed_calls};
 ghost use Rattle.sarif_sources.specs.OptionalReader.{failed_calls_if};
-ghost use Rattle.sarif_gate.specs.Reports.{AreAsked, report_failures};
+ghost use Rattle.sarif_program.specs.Reports.{AreAsked, report_failures};
 
-use crate::writers::Writers;
 use sarif_files::{Console, Kept, STANDARD, Target};
 use sarif_merge::Counted;
+use sarif_program::Writers;
 use sarif_records::Text;
 use sarif_request::{Reports, Request};
 use std::alloc::AllocError;

@@ -4,9 +4,9 @@ use Rattle.sarif_merge.specs.Given.{given_by}
 use Rattle.sarif_sources.proofs.ReadersRead.{were_read_quiet}
 use Rattle.sarif_sources.specs.Counted.{RisesIf}
 use Rattle.sarif_sources.specs.WereRead.{failures}
-use Rattle.sarif_gate.specs.Writing.{writer_failures}
-use Rattle.sarif_gate.proofs.Quiet.{quiet_status, no_rise, refused_rise}
-use Rattle.sarif_gate.proofs.run.run_request.Goals as goal
+use Rattle.sarif_program.specs.Writing.{writer_failures}
+use Rattle.sarif_program.proofs.Quiet.{quiet_status, no_rise, refused_rise}
+use Rattle.sarif_program.proofs.run.run_request.Goals as goal
 
 pub returns-in-Ok-clause-accepted : goal.returns-in-Ok-clause-accepted
 returns-in-Ok-clause-accepted g c =

@@ -1,18 +1,45 @@
 //! What is written, said and complained of, and with which status.
 
-use crate::complaint::Complaints;
-use crate::run::run_request;
-use crate::tests::{MERGED, seed};
-use crate::writers::Writers;
 use sarif_merge::{Counted, Readers};
+use sarif_program::{Complaints, Writers, run_request, seed_of};
 use sarif_records::Level;
 use sarif_request::{Reports, Request};
 use std::alloc::{AllocError, Global};
 use std::cell::RefCell;
+use std::hash::RandomState;
 use std::io::{self, Read, Write};
+use std::random::RandomSource;
 use std::sync::Wait;
 use std::test::Fail;
 use std::thread::Threads;
+
+/// A system without random bytes.
+#[derive(Drop)]
+struct NoBytes;
+
+impl RandomSource for NoBytes {
+    fn fill_bytes(&self, _buf: &mut [u8]) -> io::Result<()> {
+        Err(io::ErrorKind::Other.into())
+    }
+}
+
+/// The seed of a run that has no random bytes.
+fn seed() -> Result<RandomState, AllocError> {
+    seed_of(&NoBytes).map_err(|_| AllocError)
+}
+
+/// The log of one result without a level, merged: it counts as a new warning.
+const MERGED: &str = "{\"properties\":{\"gate\":{\"counts\":{\
+    \"absent\":{\"active\":[0,0,0,0],\"suppressed\":[0,0,0,0]},\
+    \"new\":{\"active\":[0,1,0,0],\"suppressed\":[0,0,0,0]},\
+    \"unchanged\":{\"active\":[0,0,0,0],\"suppressed\":[0,0,0,0]},\
+    \"updated\":{\"active\":[0,0,0,0],\"suppressed\":[0,0,0,0]}},\
+    \"failOn\":\"error\",\"hits\":0,\"max\":0,\"runsWithoutResults\":0,\
+    \"states\":[\"new\",\"updated\"],\"unusedSuppressions\":0,\"verdict\":\"pass\"}},\
+    \"runs\":[{\"results\":[{\"baselineState\":\"new\",\"level\":\"warning\",\
+    \"message\":{\"text\":\"m\"},\"suppressions\":[]}],\
+    \"tool\":{\"driver\":{\"name\":\"lint\"}}}],\
+    \"version\":\"2.1.0\"}";
 
 /// A log of one run with one result, which has a message alone.
 const LOG: &str = "{\"version\":\"2.1.0\",\"runs\":[{\"tool\":{\"driver\":{\"name\":\"lint\"}},\
@@ -132,19 +159,14 @@ struct Ended {
     complain: Vec<u8>,
 }
 
-/// Runs a request over one log alone.
-fn run<T: Threads + Wait + Sync>(
+/// Runs a request over these readers.
+fn run_over<T: Threads + Wait + Sync>(
     threads: &T,
     alloc: Global,
     request: &Request,
-    log: Given,
+    readers: &mut Readers<Given>,
     rooms: Rooms,
 ) -> Result<Ended, AllocError> {
-    let mut readers = Readers {
-        logs: vec![in alloc; Counted::new(log)]?,
-        baselines: Vec::new(alloc),
-        suppressions: None,
-    };
     let out = RefCell::new(Vec::new(alloc));
     let say = RefCell::new(Vec::new(alloc));
     let complain = RefCell::new(Vec::new(alloc));
@@ -158,7 +180,7 @@ fn run<T: Threads + Wait + Sync>(
         threads,
         alloc,
         request,
-        &mut readers,
+        readers,
         &mut writers,
         &mut complaints,
     );
@@ -170,6 +192,22 @@ fn run<T: Threads + Wait + Sync>(
         say: say.into_inner(),
         complain: complain.into_inner(),
     })
+}
+
+/// Runs a request over one log alone.
+fn run<T: Threads + Wait + Sync>(
+    threads: &T,
+    alloc: Global,
+    request: &Request,
+    log: Given,
+    rooms: Rooms,
+) -> Result<Ended, AllocError> {
+    let mut readers = Readers {
+        logs: vec![in alloc; Counted::new(log)]?,
+        baselines: Vec::new(alloc),
+        suppressions: None,
+    };
+    run_over(threads, alloc, request, &mut readers, rooms)
 }
 
 /// Runs over one log with a baseline and a suppression file.
@@ -186,31 +224,7 @@ fn run_all<T: Threads + Wait + Sync>(
         suppressions: Some(Counted::new(suppressions)),
     };
     let request = Request::of_standard_streams(alloc, seed()?)?;
-    let out = RefCell::new(Vec::new(alloc));
-    let say = RefCell::new(Vec::new(alloc));
-    let complain = RefCell::new(Vec::new(alloc));
-    let mut writers: Writers<Narrow<'_>, Narrow<'_>, Narrow<'_>> = Writers {
-        out: Counted::new(Narrow::new(&out, AMPLE.piece, AMPLE.out)),
-        reports: Reports::none(),
-        say: Counted::new(Narrow::new(&say, AMPLE.piece, AMPLE.say)),
-    };
-    let mut complaints = Complaints::new(Narrow::new(&complain, AMPLE.piece, AMPLE.complain));
-    let status = run_request(
-        threads,
-        alloc,
-        &request,
-        &mut readers,
-        &mut writers,
-        &mut complaints,
-    );
-    drop(writers);
-    drop(complaints);
-    Ok(Ended {
-        status,
-        out: out.into_inner(),
-        say: say.into_inner(),
-        complain: complain.into_inner(),
-    })
+    run_over(threads, alloc, &request, &mut readers, AMPLE)
 }
 
 #[test]

@@ -3,12 +3,12 @@ ghost use Rattle.std.specs.Prelude.{◌≡◌, ◌<◌, ◌≤◌, ◌^◌, Some
 ghost use Rattle.std.specs.Io.KnownBytes.{Appends};
 ghost use Rattle.sarif_sources.specs.Counted.{inner_of, failed_calls, RisesIf};
 ghost use Rattle.sarif_counts.specs.Counts.{count_at};
-ghost use Rattle.sarif_sources.specs.Fault.{status_of};
+ghost use Rattle.sarif_sources.specs.Fault.{exit_status};
 ghost use Rattle.sarif_counts.specs.Summary.{summary_of};
-ghost use Rattle.sarif_gate.specs.Reports.{AreWritten, HaveRoom, report_for};
-ghost use Rattle.sarif_gate.specs.Status.{verdict_status};
-ghost use Rattle.sarif_gate.specs.Writing.{writer_failures};
-ghost use Rattle.sarif_gate.specs.declared.complaint.Complaint.TheVariants.{Fault};
+ghost use Rattle.sarif_program.specs.Reports.{AreWritten, HaveRoom, report_for};
+ghost use Rattle.sarif_program.specs.Status.{verdict_status};
+ghost use Rattle.sarif_program.specs.Writing.{writer_failures};
+ghost use Rattle.sarif_program.specs.declared.complaint.Complaint.TheVariants.{Fault};
 
 use crate::complaint::{Complaint, Complaints};
 use crate::telling::texts_of;
@@ -31,9 +31,9 @@ fn status_of_verdict(verdict: Verdict) -> u8
 }
 
 /// Tells why the merge was refused: the status.
-pub fn refuse<E: Write>(complaints: &mut Complaints<E>, fault: MergeFault) -> u8
+pub(crate) fn refuse<E: Write>(complaints: &mut Complaints<E>, fault: MergeFault) -> u8
     requires { failed_calls complaints.old.out < 2 ^ 63 }
-    ensures status { result ≡ status_of fault.cause }
+    ensures status { result ≡ exit_status fault.cause }
     ensures told { complaints.new.last ≡ Some (Fault fault) }
 {
     complaints.complain(Complaint::Fault(fault));
@@ -62,7 +62,7 @@ fn tell_lost<E: Write>(complaints: &mut Complaints<E>, lost: Lost) -> u8
 /// Writes an accepted merge: its log, then the reports that there are writers for, and then its summary, all of
 /// which are made before the first write. The status is that of the verdict, or 3 where one of them was not
 /// written, or 2 where memory was wanting, and then nothing was written.
-pub fn accept<W: Write, S: Write, P: Write, E: Write, T: Threads + Sync>(
+pub(crate) fn accept<W: Write, S: Write, P: Write, E: Write, T: Threads + Sync>(
     rt: &T,
     alloc: Global,
     merged: &Merged,

@@ -3,7 +3,7 @@ use Rattle.std.specs.Prelude.{◌≡◌, ℕ, List}
 use Rattle.sarif_report.specs.declared.report.Report.{Report}
 use Rattle.sarif_report.specs.declared.report.Report.TheVariants as report
 use Rattle.sarif_request.specs.declared.reports.Reports.{Reports}
-use Rattle.sarif_gate.specs.Reports.{text_if}
+use Rattle.sarif_program.specs.Reports.{text_if}
 
 -- these are the texts of the reports that there are writers for, but for that for GitLab
 pub record AreBeside {W : Type 0} (writers : Reports W) (told : Report → List ℕ) (texts : Reports (List ℕ)) : Type 0 where

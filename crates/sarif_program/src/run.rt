@@ -11,9 +11,9 @@ ghost use Rattle.sarif_counts.specs.Summary.{summary_of};
 ghost use Rattle.sarif_merge.specs.FromReaders.{IsMergedFrom};
 ghost use Rattle.sarif_merge.specs.Given.{given_by};
 ghost use Rattle.sarif_sources.specs.WereRead.{failures, AllTell, NoNumberFalls, SourceContents, WereRead};
-ghost use Rattle.sarif_gate.specs.Reports.{AreWritten, HaveRoom, report_for};
-ghost use Rattle.sarif_gate.specs.Status.{verdict_status};
-ghost use Rattle.sarif_gate.specs.Writing.{writer_failures};
+ghost use Rattle.sarif_program.specs.Reports.{AreWritten, HaveRoom, report_for};
+ghost use Rattle.sarif_program.specs.Status.{verdict_status};
+ghost use Rattle.sarif_program.specs.Writing.{writer_failures};
 
 use crate::complaint::Complaints;
 use crate::ending::{accept, refuse};

@@ -3,8 +3,8 @@ ghost use Rattle.std.specs.Prelude.{◌≡◌, ◌<◌, ◌≤◌, ◌^◌, OnOk
 ghost use Rattle.std.specs.Io.KnownBytes.{Appends};
 ghost use Rattle.sarif_sources.specs.Counted.{inner_of, failed_calls, RisesIf};
 ghost use Rattle.sarif_sources.specs.OptionalReader.{failed_calls_if};
-ghost use Rattle.sarif_gate.specs.Reports.{AreTaken, HaveRoom, IsTaken, report_failures};
-ghost use Rattle.sarif_gate.specs.Writing.{writer_failures};
+ghost use Rattle.sarif_program.specs.Reports.{AreTaken, HaveRoom, IsTaken, report_failures};
+ghost use Rattle.sarif_program.specs.Writing.{writer_failures};
 
 use crate::telling::Texts;
 use crate::writers::Writers;
@@ -16,7 +16,7 @@ use std::io::Write;
 
 /// What was not written.
 #[derive(Clone, Copy, Debug, PartialEq, Eq)]
-pub enum Lost {
+pub(crate) enum Lost {
     /// The merged log.
     Log,
     Report(Report),
@@ -80,7 +80,7 @@ fn put_reports<P: Write>(
 }
 
 /// Writes the merged log, then the reports in their order, and then the summary, up to what is lost.
-pub fn put_all<W: Write, S: Write, P: Write>(
+pub(crate) fn put_all<W: Write, S: Write, P: Write>(
     writers: &mut Writers<W, S, P>,
     log: &Text,
     texts: &Texts,

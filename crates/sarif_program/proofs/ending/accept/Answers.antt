@@ -1,7 +1,7 @@
 use Rattle.std.proofs.Common.{ℕ, List, subst}
 use Rattle.std.specs.Io.KnownBytes.{Appends}
 use Rattle.sarif_sources.specs.Counted.{inner_of}
-use Rattle.sarif_gate.proofs.ending.accept.Goals as goal
+use Rattle.sarif_program.proofs.ending.accept.Goals as goal
 
 pub returns-in-Ok-put_all-clause-said : goal.returns-in-Ok-put_all-clause-said
 returns-in-Ok-put_all-clause-said g c = λ low.

@@ -3,8 +3,8 @@ use Rattle.std.proofs.Common.{◌≡◌, ℕ, List, Bool, Option, Some, None, is
 use Rattle.sarif_report.specs.declared.report.Report.{Report}
 use Rattle.sarif_report.specs.declared.report.Report.TheVariants as kind
 use Rattle.sarif_request.specs.declared.reports.Reports.{Reports}
-use Rattle.sarif_gate.specs.Beside.{AreBeside}
-use Rattle.sarif_gate.specs.Reports.{text_if, texts_for}
+use Rattle.sarif_program.specs.Beside.{AreBeside}
+use Rattle.sarif_program.specs.Reports.{text_if, texts_for}
 
 -- a report is asked for where there is a writer for it
 pub asked_text : {W : Type 0} (writer : Option W) (text : List ℕ) → (if is_some writer then Some text else None) ≡ text_if writer text

@@ -4,9 +4,9 @@ use Rattle.sarif_sources.specs.declared.fault.Cause.{Cause}
 use Rattle.sarif_sources.specs.declared.fault.Cause.TheVariants.{ReadFailed, WriteFailed}
 use Rattle.sarif_sources.specs.Counted.{RisesIf}
 use Rattle.sarif_sources.specs.Failing.{is_read_failed, is_write_failed}
-use Rattle.sarif_sources.specs.Fault.{status_of}
+use Rattle.sarif_sources.specs.Fault.{exit_status}
 
-pub quiet_status : (cause : Cause) → is_read_failed cause ≡ false → is_write_failed cause ≡ false → status_of cause ≡ 2
+pub quiet_status : (cause : Cause) → is_read_failed cause ≡ false → is_write_failed cause ≡ false → exit_status cause ≡ 2
 quiet_status ReadFailed read written = cc
 quiet_status WriteFailed read written = cc
 quiet_status _ read written = refl
@@ -18,7 +18,7 @@ no_rise false old new rise same = refl
 
 -- a refusal that is no failed write has status 3 just where a read failed
 pub refused_rise : (cause : Cause) (old new written : ℕ) → is_write_failed cause ≡ false → RisesIf (is_read_failed cause) old new
-    → RisesIf (nat_eq (status_of cause) 3) (old + written) (new + written)
+    → RisesIf (nat_eq (exit_status cause) 3) (old + written) (new + written)
 refused_rise ReadFailed old new written quiet rise = omega (arith, rise)
 refused_rise WriteFailed old new written quiet rise = cc
 refused_rise _ old new written quiet rise = omega (arith, rise)

@@ -1,0 +1,4 @@
+pub mod Beside
+pub mod Reports
+pub mod Status
+pub mod Writing

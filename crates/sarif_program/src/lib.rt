@@ -1,0 +1,16 @@
+//! What one run of `sarif_gate` does, over readers and writers of any kind: it merges, writes the log, the reports and
+//! the summary, and complains of what stopped it.
+#![tactic(auto)]
+
+mod complaint;
+mod ending;
+mod run;
+mod seed;
+mod telling;
+mod writers;
+mod writing;
+
+pub use complaint::{Complaint, Complaints};
+pub use run::run_request;
+pub use seed::seed_of;
+pub use writers::Writers;
