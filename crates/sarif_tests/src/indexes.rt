@@ -1,38 +1,46 @@
 //! An indexed text, the values that are looked up in it and those that are made from it.
 use json::Scratch;
-use json_index::{IndexFault, index_text};
+use json_index::{IndexFault, Node, index_text};
 use serde_json::Value;
-use std::alloc::Global;
+use std::alloc::{AllocError, Global};
 use std::test::Fail;
 
 const LOG: &str = r#"{"runs":[{"tool":{"driver":{"name":"a\u0062","rank":1.5}},
     "results":[1,{"at":[[1e3],2]},-7],"guid":null,"share":0.5,"share":true}],
     "version":1,"version":"2.1.0","big":12345678901234567890,"twice":1,"twice":2.5}"#;
 
-// The member of that name, stripped, as text; `none` where there is none or no index.
-fn member(alloc: Global, text: &str, name: &str) -> Result<String, Fail> {
+// What is told of the root of an indexed text; `none` where there is no index.
+fn told_of<Tell: FnOnce(&Node<'_, '_>) -> Result<String, AllocError>>(
+    alloc: Global,
+    text: &str,
+    tell: Tell,
+) -> Result<String, AllocError>
+    requires { Tell.IsAlwaysCallable tell }
+{
     let mut scratch = Scratch::new(alloc);
-    let Ok(index) = index_text(alloc, text.as_bytes(), &mut scratch) else {
-        return Ok(String::from_str(alloc, "none")?);
-    };
-    match index.root().get(name) {
-        Some(member) => Ok(member.to_value(alloc)?.to_string(alloc)?),
-        None => Ok(String::from_str(alloc, "none")?),
+    match index_text(alloc, text.as_bytes(), &mut scratch) {
+        Ok(index) => tell(&index.root()),
+        Err(_) => String::from_str(alloc, "none"),
     }
 }
 
+fn member_in(alloc: Global, root: &Node<'_, '_>, name: &str) -> Result<String, AllocError> {
+    match root.get(name) {
+        Some(member) => member.to_value(alloc)?.to_string(alloc),
+        None => String::from_str(alloc, "none"),
+    }
+}
+
+// The member of that name, stripped, as text; `none` where there is none or no index.
+fn member(alloc: Global, text: &str, name: &str) -> Result<String, AllocError> {
+    told_of(alloc, text, |root| member_in(alloc, root, name))
+}
+
 // The text of the whole, stripped and without the member of that name.
-fn without(alloc: Global, text: &str, name: &str) -> Result<String, Fail> {
-    let mut scratch = Scratch::new(alloc);
-    let Ok(index) = index_text(alloc, text.as_bytes(), &mut scratch) else {
-        return Ok(String::from_str(alloc, "none")?);
-    };
-    Ok(
-        index
-            .root()
-            .to_value_without(alloc, name)?
-            .to_string(alloc)?,
-    )
+fn without(alloc: Global, text: &str, name: &str) -> Result<String, AllocError> {
+    told_of(alloc, text, |root| {
+        root.to_value_without(alloc, name)?.to_string(alloc)
+    })
 }
 
 #[test]
@@ -69,30 +77,52 @@ fn a_member_is_left_out(rt: HostRuntime) -> Result<(), Fail> {
     Ok(())
 }
 
+// How many elements an array has.
+fn count_of(alloc: Global, node: &Node<'_, '_>) -> Result<String, AllocError> {
+    match node.items(alloc)? {
+        Some(items) => format!(in alloc; "{}", items.len()),
+        None => String::from_str(alloc, "none"),
+    }
+}
+
+// The kinds of a value that it is told to be of, by their first letters.
+fn kinds_of(alloc: Global, node: &Node<'_, '_>) -> Result<String, AllocError> {
+    let mut told = String::new(alloc);
+    for (letter, is_so) in [
+        ('n', node.is_null()),
+        ('t', node.as_str().is_some()),
+        ('o', node.is_object()),
+        ('a', node.is_array()),
+        ('f', node.is_fractional()),
+    ] {
+        if is_so {
+            told.push(letter)?;
+        }
+    }
+    Ok(told)
+}
+
 #[test]
 fn kinds_are_told(rt: HostRuntime) -> Result<(), Fail> {
     let alloc = rt.alloc();
-    let mut scratch = Scratch::new(alloc);
-    let found = index_text(
-        alloc,
-        b"[null,\"a\",{},[[1.5]],[{\"a\":1.5}]]",
-        &mut scratch,
-    )
-    .ok();
-    assert!(rt; found.is_some());
-    let Some(index) = found else {
-        return Ok(());
-    };
-    let items = index.root().items(alloc)?;
-    let Some(items) = items else {
-        return Ok(());
-    };
-    assert_eq!(rt; items.len(), 5);
-    assert!(rt; items[0].is_null() && !items[1].is_null());
-    assert_eq!(rt; items[1].as_str(), Some("a"));
-    assert!(rt; items[2].is_object() && !items[3].is_object());
-    assert!(rt; items[3].is_array() && !items[2].is_array());
-    assert!(rt; items[3].is_fractional() && !items[4].is_fractional());
+    for (text, told) in [
+        ("null", "n"),
+        ("\"a\"", "t"),
+        ("{}", "o"),
+        ("[[1.5]]", "af"),
+        ("[{\"a\":1.5}]", "a"),
+        ("1.5", "f"),
+        ("true", ""),
+    ] {
+        assert_eq!(rt;
+            told_of(alloc, text, |root| kinds_of(alloc, root))?.as_str(),
+            told
+        );
+    }
+    assert_eq!(rt;
+        told_of(alloc, "[1,2,3]", |root| count_of(alloc, root))?.as_str(),
+        "3"
+    );
     Ok(())
 }
 

@@ -1,7 +1,7 @@
 //! Examples worked by hand, and that each call succeeds with ample memory. A row is an answer and a run, whose first result
 //! gives its descriptor, its level and its place, or a fault.
-use sarif_records::{Fault, Kind, Level, Log, Place, RawRun, Record, read_log, read_parts};
-use sarif_rules::{make_record, open_run};
+use sarif_records::{Fault, Kind, Level, Log, Parts, Place, RawRun, Record, read_log, read_parts};
+use sarif_rules::{RunHead, make_record, open_run};
 use std::alloc::{AllocError, Global};
 use std::hash::RandomState;
 use std::io;
@@ -22,20 +22,28 @@ fn read_run(alloc: Global, run: &str) -> Result<Log, Fail> {
     Ok(log)
 }
 
-fn answer_of(alloc: Global, seed: RandomState, run: &RawRun) -> Result<Answer, Fault> {
-    let head = open_run(alloc, seed, run)?;
-    if run.len() == 0 {
-        return Err(Fault::NotLog);
-    }
-    let parts = read_parts(alloc, run, 0)?;
-    let descriptor = head.descriptor(&parts)?;
-    let level = head.level(&parts)?;
-    let place = head.place(&parts)?;
+fn answer_by(head: &RunHead, parts: &Parts) -> Result<Answer, Fault> {
+    let descriptor = head.descriptor(parts)?;
+    let level = head.level(parts)?;
+    let place = head.place(parts)?;
     Ok(Answer {
         descriptor,
         level,
         place,
     })
+}
+
+fn answer_in(alloc: Global, head: &RunHead, run: &RawRun) -> Result<Answer, Fault> {
+    if run.len() == 0 {
+        return Err(Fault::NotLog);
+    }
+    let parts = read_parts(alloc, run, 0)?;
+    answer_by(head, &parts)
+}
+
+fn answer_of(alloc: Global, seed: RandomState, run: &RawRun) -> Result<Answer, Fault> {
+    let head = open_run(alloc, seed, run)?;
+    answer_in(alloc, &head, run)
 }
 
 fn words_of(alloc: Global, answer: &Answer) -> Result<String, AllocError> {

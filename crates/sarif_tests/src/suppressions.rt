@@ -92,15 +92,26 @@ fn outcome_by(
     })
 }
 
-/// The same of a file that isn't read yet.
+/// What is asked of a file that isn't read yet.
+fn asked_of<A, Ask: FnOnce(&Plain) -> Result<A, AllocError>>(
+    alloc: Global,
+    file: FileText,
+    ask: Ask,
+) -> Result<A, SuppressFault>
+    requires { Ask.IsAlwaysCallable ask }
+{
+    let rules = rules_of(alloc, file)?;
+    Ok(ask(&rules)?)
+}
+
+/// What a file that isn't read yet makes of a result with these suppressions of its own.
 fn outcome_of(
     alloc: Global,
     file: FileText,
     finding: &Record,
     own: &str,
 ) -> Result<Outcome, SuppressFault> {
-    let rules = rules_of(alloc, file)?;
-    Ok(outcome_by(alloc, &rules, finding, own)?)
+    asked_of(alloc, file, |rules| outcome_by(alloc, rules, finding, own))
 }
 
 /// The fault of these bytes, read for that day, if they have one.
@@ -147,8 +158,7 @@ fn all_entries_have(
 
 /// How many entries of the file match none of the results.
 fn unused_of(alloc: Global, file: FileText, findings: &[Record]) -> Result<u32, SuppressFault> {
-    let rules = rules_of(alloc, file)?;
-    Ok(rules.unused(findings))
+    asked_of(alloc, file, |rules| Ok(rules.unused(findings)))
 }
 
 /// A copy of a text that may be absent.

@@ -183,17 +183,22 @@ fn drawn_lists_are_matched_as_the_rule_says(rt: HostRuntime) -> Result<(), Fail>
     Ok(())
 }
 
-#[test]
-fn long_lists_of_equal_results_are_paired_in_order(rt: HostRuntime) -> Result<(), Fail> {
-    let mut current = Vec::new(rt.alloc());
-    let mut baseline = Vec::new(rt.alloc());
-    for _ in 0..20_000 {
-        current.push(record(rt.alloc(), &A)?)?;
-        baseline.push(record(rt.alloc(), &A)?)?;
+/// How many results the long lists have.
+const MANY: u32 = 20_000;
+
+/// Results that are all equal.
+fn equal_results(alloc: Global) -> Result<Vec<Record>, AllocError> {
+    let mut made = Vec::new(alloc);
+    for _ in 0..MANY {
+        made.push(record(alloc, &A)?)?;
     }
-    let matching = matched(&rt, &current, &baseline)?;
+    Ok(made)
+}
+
+/// Asserts that each result has the one of its own number as partner.
+fn expect_in_order(rt: &impl Abort, current: &[Record], baseline: &[Record], matching: &Matching) {
     let mut number = 0u32;
-    for finding in &current {
+    for finding in current {
         assert_eq!(rt; matching.partner(number), Some(number));
         assert_eq!(rt;
             state(finding, baseline.get(number as usize)),
@@ -201,37 +206,52 @@ fn long_lists_of_equal_results_are_paired_in_order(rt: HostRuntime) -> Result<()
         );
         number = number.saturating_add(1);
     }
+}
+
+#[test]
+fn long_lists_of_equal_results_are_paired_in_order(rt: HostRuntime) -> Result<(), Fail> {
+    let current = equal_results(rt.alloc())?;
+    let baseline = equal_results(rt.alloc())?;
+    let matching = matched(&rt, &current, &baseline)?;
+    expect_in_order(&rt, &current, &baseline, &matching);
     Ok(())
+}
+
+/// A result with a fingerprint of that name.
+fn named(alloc: Global, number: u32) -> Result<Record, AllocError> {
+    let name = format!(in alloc; "{number}")?;
+    record(
+        alloc,
+        &Sketch {
+            full: Some((name.as_str(), "x")),
+            ..A
+        },
+    )
+}
+
+/// Results each with a fingerprint of another name.
+fn named_results(alloc: Global, is_backwards: bool) -> Result<Vec<Record>, AllocError> {
+    let mut made = Vec::new(alloc);
+    for number in 0..MANY {
+        let last = MANY - 1 - number;
+        made.push(named(alloc, if is_backwards { last } else { number })?)?;
+    }
+    Ok(made)
+}
+
+/// Asserts that the first result has the last one as partner, and so on.
+fn expect_backwards(rt: &impl Abort, matching: &Matching) {
+    for number in 0..MANY {
+        assert_eq!(rt; matching.partner(number), Some(MANY - 1 - number));
+    }
 }
 
 #[test]
 fn many_fingerprint_names_are_all_paired(rt: HostRuntime) -> Result<(), Fail> {
-    let mut current = Vec::new(rt.alloc());
-    let mut baseline = Vec::new(rt.alloc());
-    for i in 0..20_000u32 {
-        let (now, before) = (
-            format!(in rt.alloc(); "{i}")?,
-            format!(in rt.alloc(); "{}", 19_999 - i)?,
-        );
-        current.push(record(
-            rt.alloc(),
-            &Sketch {
-                full: Some((now.as_str(), "x")),
-                ..A
-            },
-        )?)?;
-        baseline.push(record(
-            rt.alloc(),
-            &Sketch {
-                full: Some((before.as_str(), "x")),
-                ..A
-            },
-        )?)?;
-    }
+    let current = named_results(rt.alloc(), false)?;
+    let baseline = named_results(rt.alloc(), true)?;
     let matching = matched(&rt, &current, &baseline)?;
-    for i in 0..20_000u32 {
-        assert_eq!(rt; matching.partner(i), Some(19_999 - i));
-    }
+    expect_backwards(&rt, &matching);
     Ok(())
 }
 

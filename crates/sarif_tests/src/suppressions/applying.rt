@@ -1,9 +1,9 @@
 //! Which entries a result meets, whether it is suppressed, and which entries no result uses.
 use super::{
-    FileText, Plain, expect_entries, expect_written, first_version, result_at, rules_of,
+    FileText, Plain, asked_of, expect_entries, expect_written, first_version, result_at,
     second_version, unused_of, with_own,
 };
-use sarif_records::{Status, Text};
+use sarif_records::{Sequence, Status, Text};
 use sarif_suppress::{Marks, SuppressFault, Suppressions};
 use std::alloc::{AllocError, Global};
 use std::hash::{BuildHasherDefault, FoldHasher};
@@ -21,14 +21,23 @@ fn one_suppression_under_review_keeps_a_result_active(rt: HostRuntime) -> Result
     expect_written(&rt, file, &finding, own, (own, false))
 }
 
+/// Asserts what is written of a result of that rule, which was accepted in its source.
+fn expect_of_accepted(
+    rt: &(impl Abort + AllocGlobal),
+    file: FileText,
+    rule_id: &str,
+    wanted: (&str, bool),
+) -> Result<(), Fail> {
+    let finding = with_own(result_at(rt.alloc(), rule_id, None)?, Status::Accepted)?;
+    expect_written(rt, file, &finding, IN_SOURCE, wanted)
+}
+
 #[test]
 fn a_rejected_entry_keeps_a_result_active(rt: HostRuntime) -> Result<(), Fail> {
     let file = first_version("{\"ruleId\":\"R2\",\"status\":\"rejected\"}");
-    let finding = with_own(result_at(rt.alloc(), "R2", None)?, Status::Accepted)?;
     let list = "[{\"kind\":\"inSource\"},{\"kind\":\"external\",\"status\":\"rejected\"}]";
-    expect_written(&rt, file, &finding, IN_SOURCE, (list, false))?;
-    let finding = with_own(result_at(rt.alloc(), "R3", None)?, Status::Accepted)?;
-    expect_written(&rt, file, &finding, IN_SOURCE, (IN_SOURCE, true))
+    expect_of_accepted(&rt, file, "R2", (list, false))?;
+    expect_of_accepted(&rt, file, "R3", (IN_SOURCE, true))
 }
 
 #[test]
@@ -85,6 +94,16 @@ fn entries_are_found_by_guid_by_rule_and_by_neither(rt: HostRuntime) -> Result<(
     expect_with_guid(&rt, file, "R2", None, &[2])
 }
 
+/// These names and values of fingerprints.
+fn pairs_of(alloc: Global, pairs: &[(&str, &str)]) -> Result<Sequence<(Text, Text)>, AllocError> {
+    let mut made = Sequence::new(alloc);
+    for (name, value) in pairs {
+        let name = Text::copy_of(alloc, name)?;
+        made.push((name, Text::copy_of(alloc, value)?))?;
+    }
+    Ok(made)
+}
+
 /// Asserts the entries that match a result of the rule `R1` at that uri, with these fingerprints.
 fn expect_with_fingerprints(
     rt: &(impl Abort + AllocGlobal),
@@ -94,12 +113,7 @@ fn expect_with_fingerprints(
     wanted: &[u32],
 ) -> Result<(), Fail> {
     let mut finding = result_at(rt.alloc(), "R1", Some(uri))?;
-    for (name, value) in fingerprints {
-        let name = Text::copy_of(rt.alloc(), name)?;
-        finding
-            .full
-            .push((name, Text::copy_of(rt.alloc(), value)?))?;
-    }
+    finding.full = pairs_of(rt.alloc(), fingerprints)?;
     expect_entries(rt, file, &finding, wanted)
 }
 
@@ -148,8 +162,7 @@ fn unmarked_of(
     file: FileText,
     rule_ids: &[&str],
 ) -> Result<Vec<u32>, SuppressFault> {
-    let rules = rules_of(alloc, file)?;
-    Ok(unmarked_by(alloc, &rules, rule_ids)?)
+    asked_of(alloc, file, |rules| unmarked_by(alloc, rules, rule_ids))
 }
 
 #[test]
@@ -170,8 +183,7 @@ fn size_and_object(alloc: Global, rules: &Plain) -> Result<(u32, String), AllocE
 
 /// The same of a file that isn't read yet.
 fn size_and_object_of(alloc: Global, file: FileText) -> Result<(u32, String), SuppressFault> {
-    let rules = rules_of(alloc, file)?;
-    Ok(size_and_object(alloc, &rules)?)
+    asked_of(alloc, file, |rules| size_and_object(alloc, rules))
 }
 
 /// The same where there is no file.
