@@ -159,41 +159,6 @@ struct Ended {
     complain: Vec<u8>,
 }
 
-/// Runs a request over these readers.
-fn run_over<T: Threads + Wait + Sync>(
-    threads: &T,
-    alloc: Global,
-    request: &Request,
-    readers: &mut Readers<Given>,
-    rooms: Rooms,
-) -> Result<Ended, AllocError> {
-    let out = RefCell::new(Vec::new(alloc));
-    let say = RefCell::new(Vec::new(alloc));
-    let complain = RefCell::new(Vec::new(alloc));
-    let mut writers: Writers<Narrow<'_>, Narrow<'_>, Narrow<'_>> = Writers {
-        out: Counted::new(Narrow::new(&out, rooms.piece, rooms.out)),
-        reports: Reports::none(),
-        say: Counted::new(Narrow::new(&say, rooms.piece, rooms.say)),
-    };
-    let mut complaints = Complaints::new(Narrow::new(&complain, rooms.piece, rooms.complain));
-    let status = run_request(
-        threads,
-        alloc,
-        request,
-        readers,
-        &mut writers,
-        &mut complaints,
-    );
-    drop(writers);
-    drop(complaints);
-    Ok(Ended {
-        status,
-        out: out.into_inner(),
-        say: say.into_inner(),
-        complain: complain.into_inner(),
-    })
-}
-
 /// Runs a request over one log alone.
 fn run<T: Threads + Wait + Sync>(
     threads: &T,
@@ -207,7 +172,31 @@ fn run<T: Threads + Wait + Sync>(
         baselines: Vec::new(alloc),
         suppressions: None,
     };
-    run_over(threads, alloc, request, &mut readers, rooms)
+    let out = RefCell::new(Vec::new(alloc));
+    let say = RefCell::new(Vec::new(alloc));
+    let complain = RefCell::new(Vec::new(alloc));
+    let mut writers: Writers<Narrow<'_>, Narrow<'_>, Narrow<'_>> = Writers {
+        out: Counted::new(Narrow::new(&out, rooms.piece, rooms.out)),
+        reports: Reports::none(),
+        say: Counted::new(Narrow::new(&say, rooms.piece, rooms.say)),
+    };
+    let mut complaints = Complaints::new(Narrow::new(&complain, rooms.piece, rooms.complain));
+    let status = run_request(
+        threads,
+        alloc,
+        request,
+        &mut readers,
+        &mut writers,
+        &mut complaints,
+    );
+    drop(writers);
+    drop(complaints);
+    Ok(Ended {
+        status,
+        out: out.into_inner(),
+        say: say.into_inner(),
+        complain: complain.into_inner(),
+    })
 }
 
 /// Runs over one log with a baseline and a suppression file.
@@ -224,7 +213,31 @@ fn run_all<T: Threads + Wait + Sync>(
         suppressions: Some(Counted::new(suppressions)),
     };
     let request = Request::of_standard_streams(alloc, seed()?)?;
-    run_over(threads, alloc, &request, &mut readers, AMPLE)
+    let out = RefCell::new(Vec::new(alloc));
+    let say = RefCell::new(Vec::new(alloc));
+    let complain = RefCell::new(Vec::new(alloc));
+    let mut writers: Writers<Narrow<'_>, Narrow<'_>, Narrow<'_>> = Writers {
+        out: Counted::new(Narrow::new(&out, AMPLE.piece, AMPLE.out)),
+        reports: Reports::none(),
+        say: Counted::new(Narrow::new(&say, AMPLE.piece, AMPLE.say)),
+    };
+    let mut complaints = Complaints::new(Narrow::new(&complain, AMPLE.piece, AMPLE.complain));
+    let status = run_request(
+        threads,
+        alloc,
+        &request,
+        &mut readers,
+        &mut writers,
+        &mut complaints,
+    );
+    drop(writers);
+    drop(complaints);
+    Ok(Ended {
+        status,
+        out: out.into_inner(),
+        say: say.into_inner(),
+        complain: complain.into_inner(),
+    })
 }
 
 #[test]
