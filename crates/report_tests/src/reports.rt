@@ -1,15 +1,13 @@
 //! The worked examples of the reports.
-ghost use Rattle.std.specs.Prelude.{◌≤◌};
-
 use sarif_counts::{Counts, Policy};
 use sarif_records::{Level, State, Text};
 use sarif_report::{
     Finding, Report, Reporting, Told, github_report, gitlab_report, html_report, markdown_report,
     report_text, reported, shown, text_report,
 };
+use serde_json::Value;
 use std::alloc::{AllocError, AllocGlobal, Global};
 use std::test::Fail;
-use std::thread::Threads;
 
 const LOG: &str = r#"{"properties":{},"runs":[{"results":[
 {"baselineState":"new","level":"warning","locations":[{"physicalLocation":{"artifactLocation":{"uri":"django/forms/forms.py"},"region":{"startColumn":5,"startLine":12}}}],"message":{"text":"Potential XSS on mark_safe function."},"ruleId":"B703","suppressions":[]},
@@ -77,26 +75,17 @@ const HOSTILE_ROWS: [&str; 6] = [
     ">R2<",
 ];
 
-fn findings_by<R: AllocGlobal + Threads + Sync>(
-    rt: &R,
-    text: &str,
-    threads: u32,
-) -> Result<Vec<Finding>, Fail>
-    requires { 1 ≤ threads }
-{
+fn findings_in<R: AllocGlobal>(rt: &R, text: &str) -> Result<Vec<Finding>, Fail> {
     let alloc = rt.alloc();
     let reporting = Reporting {
         policy: Policy::default(),
         root: Text::copy_of(alloc, "file:///b/")?,
     };
-    Ok(reported(rt, alloc, &reporting, text.as_bytes(), threads)?)
+    let log = Value::from_str(alloc, text)?;
+    Ok(reported(alloc, &reporting, &log)?)
 }
 
-fn findings_in<R: AllocGlobal + Threads + Sync>(rt: &R, text: &str) -> Result<Vec<Finding>, Fail> {
-    findings_by(rt, text, 1)
-}
-
-fn findings_of<R: AllocGlobal + Threads + Sync>(rt: &R) -> Result<Vec<Finding>, Fail> {
+fn findings_of<R: AllocGlobal>(rt: &R) -> Result<Vec<Finding>, Fail> {
     findings_in(rt, LOG)
 }
 
@@ -172,47 +161,8 @@ fn active_results_of_listed_states_are_reported(rt: HostRuntime) -> Result<(), F
 #[test]
 fn nothing_is_reported_of_what_is_no_log(rt: HostRuntime) -> Result<(), Fail> {
     let alloc = rt.alloc();
-    for text in ["", "{", "null", "[]", "{\"runs\":{}}", "{\"runs\":[1,{}]}"] {
+    for text in ["null", "[]", "{\"runs\":{}}", "{\"runs\":[1,{}]}"] {
         assert_eq!(rt; findings_in(&rt, text)?.len(), 0);
-    }
-    Ok(())
-}
-
-/// The result of that number, which is its message; every third is suppressed.
-fn numbered_result(alloc: Global, number: usize) -> Result<String, AllocError> {
-    let own = if number % 3 == 0 { "{}" } else { "" };
-    let state = "\"baselineState\":\"new\",\"level\":\"note\"";
-    let message = format!(in alloc; "\"message\":{{\"text\":\"{number}\"}}")?;
-    format!(in alloc; "{{{state},{message},\"suppressions\":[{own}]}}")
-}
-
-/// A log with so many results, and its text report.
-fn numbered_log(alloc: Global, count: usize) -> Result<(String, String), AllocError> {
-    let mut log = String::from_str(alloc, "{\"runs\":[{\"results\":[")?;
-    let mut lines = String::new(alloc);
-    for number in 0..count {
-        log.push_str(if number == 0 { "" } else { "," })?;
-        log.push_str(numbered_result(alloc, number)?.as_str())?;
-        if number % 3 != 0 {
-            let line = format!(in alloc; "-: note: {number} (T, new)\n")?;
-            lines.push_str(line.as_str())?;
-        }
-    }
-    log.push_str("],\"tool\":{\"driver\":{\"name\":\"T\"}}}]}")?;
-    Ok((log, lines))
-}
-
-#[test]
-fn results_keep_their_order_in_any_number_of_threads(rt: HostRuntime) -> Result<(), Fail> {
-    let alloc = rt.alloc();
-    let (log, lines) = numbered_log(alloc, 500)?;
-    for threads in 1..8 {
-        let findings = findings_by(&rt, log.as_str(), threads)?;
-        assert_eq!(rt; findings.len(), 333);
-        assert_eq!(rt;
-            text_report(alloc, findings.as_slice())?.as_str(),
-            lines.as_str()
-        );
     }
     Ok(())
 }

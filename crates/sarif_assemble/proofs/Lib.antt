@@ -7,3 +7,6 @@ pub mod Marked
 pub mod Sides
 pub mod LeftTexts
 pub mod WrittenSides
+pub mod ToldResults
+pub mod ToldRuns
+pub mod ToldSides

@@ -1,7 +1,7 @@
 -- The log of runs of logs and of what is left of baselines.
 use Rattle.std.proofs.Common.{◌≡◌, ◌≤◌, ◌+◌, ◌++◌, Bool, false, true, arith, List, [], ◌∷◌, Some, map, length, refl, sym, ap, ◌∙◌}
 use Rattle.std.proofs.lemmas.List.{map-append, length-map}
-use Rattle.std.specs.List.{flat_map}
+use Rattle.std.specs.List.{flat_map, AllByRecursion}
 use Rattle.serde_json.specs.Written.{compact_text}
 use Rattle.sarif_records.specs.declared.kinds.Level.{Level}
 use Rattle.sarif_records.specs.declared.kinds.State.{State}
@@ -15,7 +15,7 @@ use Rattle.sarif_judge.specs.Judging.{records_of, run_values}
 use Rattle.sarif_judge.specs.Leftover.{not_taken}
 use Rattle.sarif_judge.specs.Placed.{Placed}
 use Rattle.sarif_write.specs.declared.merged_text.Side.{Side}
-use Rattle.sarif_write.specs.Drafts.{applied_of, counts_in_parts, drafts_by, left_texts, present_results, runs_texts, tallied, unapplied}
+use Rattle.sarif_write.specs.Drafts.{applied_of, drafts_by, left_texts, own_count, present_results, runs_texts, tallied, unapplied, ArePartsOf, IsWholeRun}
 use Rattle.sarif_write.specs.Side.{IsSide}
 use Rattle.sarif_write.proofs.RunCounts.{left_count, runs_count}
 use Rattle.sarif_write.proofs.RunTexts.{runs_written}
@@ -40,12 +40,13 @@ current_long file now before c b h =
     ∙ drafts_long (listing_of file) (applied_of file) (records_of now) (flat_map results_of (run_values now)) (h.now_records ∙ sym (results_long (run_values now)))
 
 pub current_side : (file : File) (now before : List Placed) (c : Half) (b : Baselines) (s : Side) → AreTogether file now before c b
-    → s.runs.items ≡ c.parts.items → s.drafts.items ≡ c.drafts.items → s.states.items ≡ map Some (states_of c.records.items b.records.items)
+    → ArePartsOf own_count s.runs.items (run_values now) → AllByRecursion IsWholeRun s.runs.items
+    → s.drafts.items ≡ c.drafts.items → s.states.items ≡ map Some (states_of c.records.items b.records.items)
     → IsSide s
-current_side file now before c b s h runs drafts states =
+current_side file now before c b s h parts whole drafts states =
     let many = current_long file now before c b h in record {
-      whole = rw runs h.is_current.whole;
-      drafts = ap length drafts ∙ many ∙ h.now_records ∙ sym (own_total c.parts.items (run_values now) h.is_current.parts) ∙ sym (ap (λ ps. counts_in_parts ps) runs);
+      whole = whole;
+      drafts = ap length drafts ∙ many ∙ h.now_records ∙ sym (own_total s.runs.items (run_values now) parts);
       states =
           ap length states ∙ length-map (states_of c.records.items b.records.items) Some
           ∙ states_long b.records.items (partners_of c.records.items b.records.items) 0 c.records.items
@@ -86,14 +87,14 @@ left_is_side before b taken t h left same = record {
 -- ---- the log
 
 current_texts : (file : File) (now before : List Placed) (c : Half) (b : Baselines) (s : Side) → AreTogether file now before c b
-    → s.runs.items ≡ c.parts.items → s.drafts.items ≡ c.drafts.items → s.states.items ≡ map Some (states_of (records_of now) (records_of before))
+    → ArePartsOf own_count s.runs.items (run_values now)
+    → s.drafts.items ≡ c.drafts.items → s.states.items ≡ map Some (states_of (records_of now) (records_of before))
     → runs_texts s.runs.items s.drafts.items s.states.items ≡ map compact_text (current_runs file now before)
-current_texts file now before c b s h runs drafts states =
-    ap (λ ps. runs_texts ps s.drafts.items s.states.items) runs
-    ∙ ap (λ ds. runs_texts c.parts.items ds s.states.items) (drafts ∙ h.is_current.drafts)
-    ∙ ap (runs_texts c.parts.items (drafts_by (listing_of file) (applied_of file) (records_of now) (flat_map results_of (run_values now)))) states
-    ∙ runs_written (listing_of file) (applied_of file) (records_of now) (states_of (records_of now) (records_of before)) c.parts.items (run_values now)
-    h.now_runs h.is_current.parts h.now_records (states_long (records_of before) (partners_of (records_of now) (records_of before)) 0 (records_of now))
+current_texts file now before c b s h parts drafts states =
+    ap (λ ds. runs_texts s.runs.items ds s.states.items) (drafts ∙ h.is_current.drafts)
+    ∙ ap (runs_texts s.runs.items (drafts_by (listing_of file) (applied_of file) (records_of now) (flat_map results_of (run_values now)))) states
+    ∙ runs_written (listing_of file) (applied_of file) (records_of now) (states_of (records_of now) (records_of before)) s.runs.items (run_values now)
+    h.now_runs parts h.now_records (states_long (records_of before) (partners_of (records_of now) (records_of before)) 0 (records_of now))
 
 baseline_texts : (file : File) (now before : List Placed) (c : Half) (b : Baselines) (t : Side) → AreTogether file now before c b
     → IsLeft before (taken_of (records_of now) (records_of before)) t
@@ -128,16 +129,17 @@ baseline_counts file now before c b t x l y h left =
     ∙ left_count (records_of before) taken (run_values before) x l y h.before_runs h.are_baselines.count taken_all
 
 pub written : (file : File) (now before : List Placed) (c : Half) (b : Baselines) (s t : Side) → AreTogether file now before c b
-    → s.runs.items ≡ c.parts.items → s.drafts.items ≡ c.drafts.items → s.states.items ≡ map Some (states_of c.records.items b.records.items)
+    → ArePartsOf own_count s.runs.items (run_values now)
+    → s.drafts.items ≡ c.drafts.items → s.states.items ≡ map Some (states_of c.records.items b.records.items)
     → IsLeft before (taken_of (records_of now) (records_of before)) t
     → AreWritten s t (runs_by file now before)
-written file now before c b s t h runs drafts states left =
+written file now before c b s t h parts drafts states left =
     let told =
     states ∙ ap (λ rs. map Some (states_of rs b.records.items)) h.is_current.records
     ∙ ap (λ rs. map Some (states_of (records_of now) rs)) h.are_baselines.records in record {
       texts =
           map-append compact_text (current_runs file now before) (leftover_runs now before)
-          ∙ ap (λ ts. ts ++ map compact_text (leftover_runs now before)) (sym (current_texts file now before c b s h runs drafts told))
+          ∙ ap (λ ts. ts ++ map compact_text (leftover_runs now before)) (sym (current_texts file now before c b s h parts drafts told))
           ∙ ap (λ ts. runs_texts s.runs.items s.drafts.items s.states.items ++ ts) (sym (baseline_texts file now before c b t h left));
       counts = λ x l y.
           ap (λ n. n + tallied t.drafts.items t.states.items x l y) (current_counts file now before c b s x l y h drafts told)

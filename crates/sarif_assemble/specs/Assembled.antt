@@ -1,5 +1,5 @@
 -- What assembling the merged log gives.
-use Rattle.std.specs.Prelude.{◌≡◌, ℕ, Bool, List}
+use Rattle.std.specs.Prelude.{◌≡◌, ℕ, Bool, List, Option}
 use Rattle.serde_json.specs.Data.{Data}
 use Rattle.serde_json.specs.Written.{compact_text}
 use Rattle.sarif_records.specs.declared.kinds.Level.{Level}
@@ -10,10 +10,12 @@ use Rattle.sarif_counts.specs.declared.policy.Policy.{Policy}
 use Rattle.sarif_counts.specs.CountOf.{count_of}
 use Rattle.sarif_counts.specs.Counts.{count_at}
 use Rattle.sarif_counts.specs.Policy.{verdict_of}
+use Rattle.sarif_report.specs.declared.reporting.Reporting.{Reporting}
 use Rattle.sarif_judge.specs.Judging.{records_of, run_values}
 use Rattle.sarif_judge.specs.Placed.{Placed}
 use Rattle.sarif_assemble.specs.declared.merged.Merged.{Merged}
 use Rattle.sarif_assemble.specs.LogBy.{log_by, runs_by, runs_without_results}
+use Rattle.sarif_assemble.specs.Told.{told_of}
 
 -- counts, verdict and numbers are those of a log with these runs, which are written
 pub record HasGate (runs : List Data) (policy : Policy) (bare_runs idle_entries : ℕ) (merged : Merged) : Type 0 where
@@ -27,7 +29,7 @@ pub record IsLogOf (runs : List Data) (policy : Policy) (without unused : ℕ) (
   pub log : merged.log ≡ compact_text (log_by runs policy without unused)
   pub gate : HasGate runs policy without unused merged
 
--- the merge of these input runs, these baseline runs and this suppression file
-abbrev pub IsMergedBy : File → List Placed → List Placed → Policy → Merged → Type 0
-IsMergedBy file current baseline policy merged =
-    IsLogOf (runs_by file current baseline) policy (runs_without_results (run_values current)) (unused_of file (records_of current)) merged
+-- the merge of these input runs, these baseline runs and this suppression file, and what reports tell of it
+pub record IsMergedBy (file : File) (current baseline : List Placed) (policy : Policy) (asked : Option Reporting) (merged : Merged) : Type 0 where
+  pub written : IsLogOf (runs_by file current baseline) policy (runs_without_results (run_values current)) (unused_of file (records_of current)) merged
+  pub told : merged.findings.items ≡ told_of asked (runs_by file current baseline)

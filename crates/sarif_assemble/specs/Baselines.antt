@@ -1,7 +1,7 @@
 -- What is made of the runs of all baselines, before and after results are matched. No public clause of the merge speaks
 -- of it.
 use Rattle.std.specs.Prelude.{◌≡◌, ℕ, Bool, List, [], ◌∷◌, Some, map, take, drop, length, ⊤}
-use Rattle.std.specs.List.{All, AllByRecursion}
+use Rattle.std.specs.List.{All, AllByRecursion, flat_map}
 use Rattle.serde_json.specs.Data.{Data}
 use Rattle.serde_json.specs.View.{members_view}
 use Rattle.sarif_records.specs.declared.kinds.State.TheVariants.{Absent}
@@ -20,6 +20,7 @@ use Rattle.sarif_write.specs.declared.run_parts.RunParts.{RunParts}
 use Rattle.sarif_write.specs.Drafts.{drafts_by, members_in, present_results, unapplied, IsWholeRun}
 use Rattle.sarif_write.specs.MergedRuns.{bare, present}
 use Rattle.sarif_assemble.specs.declared.baselines.Baselines.{Baselines}
+use Rattle.sarif_assemble.specs.Telling.{pair_at, present_in}
 
 -- how many results of each run aren't absent already
 abbrev pub present_counts : List Placed → List ℕ
@@ -42,6 +43,7 @@ pub record AreBaselines (runs : List Placed) (baselines : Baselines) : Type 0 wh
   pub counts : baselines.counts.items ≡ present_counts runs
   pub records : baselines.records.items ≡ records_of runs
   pub spots : map (found_at runs) baselines.spots.items ≡ present_results (run_values runs)
+  pub pairs : map (pair_at runs) baselines.spots.items ≡ flat_map present_in (run_values runs)
   pub within : All (IsSpotOf runs) baselines.spots.items
   pub count : length (records_of runs) ≡ length (present_results (run_values runs))
 

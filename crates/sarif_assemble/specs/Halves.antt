@@ -1,13 +1,14 @@
 -- What is made of the runs of all logs before results are matched. No public clause of the merge speaks of it.
-use Rattle.std.specs.Prelude.{◌≡◌, List, [], ◌∷◌, Option, Some, None}
-use Rattle.std.specs.List.{AllByRecursion, flat_map}
+use Rattle.std.specs.Prelude.{◌≡◌, List, [], ◌∷◌, map, Option, Some, None}
+use Rattle.std.specs.List.{flat_map}
 use Rattle.sarif_records.specs.Run.{results_of}
 use Rattle.sarif_suppress.specs.File.{File}
 use Rattle.sarif_judge.specs.declared.outcome.Outcome.{Outcome}
 use Rattle.sarif_judge.specs.Judging.{records_of, run_values}
+use Rattle.sarif_judge.specs.Opened.{placed_of}
 use Rattle.sarif_judge.specs.Placed.{Placed}
 use Rattle.sarif_write.specs.declared.draft.Draft.{Draft}
-use Rattle.sarif_write.specs.Drafts.{applied_of, drafts_by, own_count, ArePartsOf, IsWholeRun}
+use Rattle.sarif_write.specs.Drafts.{applied_of, drafts_by}
 use Rattle.sarif_assemble.specs.declared.halves.Half.{Half}
 use Rattle.sarif_assemble.specs.LogBy.{listing_of}
 
@@ -22,7 +23,6 @@ drafts_in (outcome ∷ outcomes) = with_draft outcome.draft (drafts_in outcomes)
 
 -- the runs of logs
 pub record IsCurrent (file : File) (runs : List Placed) (half : Half) : Type 0 where
-  pub parts : ArePartsOf own_count half.parts.items (run_values runs)
-  pub whole : AllByRecursion IsWholeRun half.parts.items
+  pub opened : map placed_of half.runs.items ≡ runs
   pub records : half.records.items ≡ records_of runs
   pub drafts : half.drafts.items ≡ drafts_by (listing_of file) (applied_of file) (records_of runs) (flat_map results_of (run_values runs))

@@ -6,3 +6,5 @@ pub mod Together
 pub mod Judged
 pub mod Written
 pub mod Prepared
+pub mod Telling
+pub mod Told

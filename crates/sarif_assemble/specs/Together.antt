@@ -1,16 +1,19 @@
 -- The runs of all logs and those of all baselines, with a record of each result that is matched. No public clause of the
 -- merge speaks of it.
-use Rattle.std.specs.Prelude.{◌≡◌, ◌≤◌, List, length}
+use Rattle.std.specs.Prelude.{◌≡◌, ◌≤◌, List, Some, length, map}
 use Rattle.std.specs.List.{AllByRecursion}
 use Rattle.sarif_records.specs.Run.{results_total}
 use Rattle.sarif_suppress.specs.File.{File}
 use Rattle.sarif_judge.specs.Judging.{records_of, run_values}
+use Rattle.sarif_judge.specs.Leftover.{not_taken}
 use Rattle.sarif_judge.specs.Placed.{Placed}
 use Rattle.sarif_write.specs.Drafts.{IsRun}
 use Rattle.sarif_assemble.specs.declared.baselines.Baselines.{Baselines}
 use Rattle.sarif_assemble.specs.declared.halves.Half.{Half}
-use Rattle.sarif_assemble.specs.Baselines.{AreBaselines}
+use Rattle.sarif_assemble.specs.declared.preparing.Paired.{Paired}
+use Rattle.sarif_assemble.specs.Baselines.{baseline_drafts, AreBaselines}
 use Rattle.sarif_assemble.specs.Halves.{IsCurrent}
+use Rattle.sarif_assemble.specs.LogBy.{states_of, taken_of}
 
 -- a record of each result of the logs, and of each that is there of the baselines
 pub record AreTogether (file : File) (now before : List Placed) (current : Half) (baselines : Baselines) : Type 0 where
@@ -22,3 +25,9 @@ pub record AreTogether (file : File) (now before : List Placed) (current : Half)
   pub few_runs : length now ≤ 10000
   pub few_now : length (records_of now) ≤ 1000000
   pub few_before : length (records_of before) ≤ 1000000
+
+-- the state of each current result, which baseline results are taken, and the drafts of the others
+pub record IsPaired (current : Half) (baselines : Baselines) (paired : Paired) : Type 0 where
+  pub states : paired.states.items ≡ map Some (states_of current.records.items baselines.records.items)
+  pub taken : paired.taken.items ≡ taken_of current.records.items baselines.records.items
+  pub left : (before : List Placed) → AreBaselines before baselines → paired.left.items ≡ not_taken paired.taken.items (baseline_drafts before)

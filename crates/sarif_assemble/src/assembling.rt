@@ -1,7 +1,8 @@
 //! Assembling the merged log.
-ghost use Rattle.std.specs.Prelude.{List, IfOk};
+ghost use Rattle.std.specs.Prelude.{List, Option, IfOk};
 ghost use Rattle.sarif_suppress.specs.File.{File};
 ghost use Rattle.sarif_judge.specs.Placed.{Placed};
+ghost use Rattle.sarif_report.specs.declared.reporting.Reporting.{Reporting};
 ghost use Rattle.sarif_assemble.specs.Assembled.{IsMergedBy};
 ghost use Rattle.sarif_assemble.specs.Prepared.{IsPrepared};
 
@@ -14,13 +15,20 @@ use std::alloc::{AllocError, Global};
 /// The merged log of what was prepared, with the gate of this policy. An error is want of memory.
 pub fn assemble(alloc: Global, prepared: Prepared, policy: &Policy) -> Result<Merged, AllocError>
     ensures { IfOk result (λ merged. (file : File) (now before : List Placed)
-        → IsPrepared file now before prepared → IsMergedBy file now before policy.now merged) }
+        (asked : Option Reporting) → IsPrepared file now before asked prepared
+        → IsMergedBy file now before policy.now asked merged) }
 {
     let Prepared {
         current,
         baseline,
         without,
         unused,
+        findings,
     } = prepared;
-    write_log(alloc, current, baseline, Beside { without, unused }, policy)
+    let beside = Beside {
+        without,
+        unused,
+        findings,
+    };
+    write_log(alloc, current, baseline, beside, policy)
 }

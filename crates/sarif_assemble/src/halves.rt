@@ -16,10 +16,10 @@ use sarif_records::Record;
 use sarif_write::{Draft, RunParts, make_parts};
 use std::alloc::{AllocError, Global};
 
-/// The runs of logs apart from their results, and the records and drafts of these.
+/// The runs of logs, and the records and drafts of their results.
 #[derive(Drop)]
-pub(crate) struct Half {
-    pub(crate) parts: Vec<RunParts>,
+pub(crate) struct Half<'t, 'a> {
+    pub(crate) runs: Vec<OpenedRun<'t, 'a>>,
     pub(crate) records: Vec<Record>,
     pub(crate) drafts: Vec<Draft>,
 }
@@ -91,7 +91,10 @@ fn current_run(alloc: Global, run: OpenedRun<'_, '_>) -> RunParts
 }
 
 /// The parts of the runs of logs.
-fn current_parts(alloc: Global, runs: Vec<OpenedRun<'_, '_>>) -> Result<Vec<RunParts>, AllocError>
+pub(crate) fn current_parts(
+    alloc: Global,
+    runs: Vec<OpenedRun<'_, '_>>,
+) -> Result<Vec<RunParts>, AllocError>
     ensures parts { IfOk result
         (λ all. ArePartsOf own_count all.items (run_values (map placed_of runs.entry.items))) }
     ensures whole { IfOk result (λ all. AllByRecursion IsWholeRun all.items) }
@@ -104,15 +107,17 @@ fn current_parts(alloc: Global, runs: Vec<OpenedRun<'_, '_>>) -> Result<Vec<RunP
 }
 
 /// The runs of logs.
-pub(crate) fn current_half(alloc: Global, judged: Judged<'_, '_>) -> Result<Half, AllocError>
+pub(crate) fn current_half<'t, 'a>(
+    alloc: Global,
+    judged: Judged<'t, 'a>,
+) -> Result<Half<'t, 'a>, AllocError>
     ensures { IfOk result (λ half. (file : File) → IsJudged file false judged.entry
         → IsCurrent file (placed_in judged.entry) half) }
 {
     let Judged { runs, outcomes } = judged;
-    let parts = current_parts(alloc, runs)?;
     let Found { records, drafts } = take_found(alloc, outcomes)?;
     Ok(Half {
-        parts,
+        runs,
         records,
         drafts,
     })

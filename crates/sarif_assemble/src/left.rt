@@ -69,7 +69,7 @@ fn left_parts(
 }
 
 /// The drafts of the results that are left, made in at most so many threads.
-fn left_drafts<R: Threads + Sync>(
+pub(crate) fn left_drafts<R: Threads + Sync>(
     rt: &R,
     alloc: Global,
     baselines: &Baselines<'_, '_>,
@@ -93,7 +93,10 @@ fn left_drafts<R: Threads + Sync>(
 }
 
 /// The state of so many results that are absent.
-fn absent_states(alloc: Global, drafts: &[Draft]) -> Result<Vec<Option<State>>, AllocError>
+pub(crate) fn absent_states(
+    alloc: Global,
+    drafts: &[Draft],
+) -> Result<Vec<Option<State>>, AllocError>
     ensures { IfOk result (λ states. states.items ≡ map (λ _. Some Absent) drafts.now) }
 {
     let mut states = Vec::with_capacity(alloc, drafts.len())?;
@@ -103,21 +106,19 @@ fn absent_states(alloc: Global, drafts: &[Draft]) -> Result<Vec<Option<State>>, 
     Ok(states)
 }
 
-/// What is left of the runs of baselines, of whose results these are taken.
-pub(crate) fn left_side<R: Threads + Sync>(
-    rt: &R,
+/// What is left of the runs of baselines, of whose results these are taken and the others have these drafts.
+pub(crate) fn left_side(
     alloc: Global,
     baselines: Baselines<'_, '_>,
     taken: &[bool],
-    threads: u32,
+    drafts: Vec<Draft>,
 ) -> Result<Side, AllocError>
-    requires threads { 1 ≤ threads }
     requires baselines { (runs : List Placed) × AreBaselines runs baselines }
     requires taken { length taken.now ≡ length baselines.records.items }
     ensures { IfOk result (λ side. (runs : List Placed) → AreBaselines runs baselines.entry
+        → drafts.items ≡ not_taken taken.now (baseline_drafts runs)
         → IsLeft runs taken.now side) }
 {
-    let drafts = left_drafts(rt, alloc, &baselines, taken, threads)?;
     let Baselines { runs, counts, .. } = baselines;
     let runs = left_parts(alloc, runs, &counts, taken)?;
     let states = absent_states(alloc, &drafts)?;

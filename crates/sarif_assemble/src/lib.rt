@@ -2,6 +2,7 @@
 //! again in their runs.
 #![tactic(auto)]
 
+mod asked;
 mod assembling;
 mod baselines;
 mod counting;
@@ -12,8 +13,11 @@ mod matched;
 mod merged;
 mod prepared;
 mod preparing;
+mod telling;
+mod told;
 mod written;
 
+pub use asked::Asked;
 pub use assembling::assemble;
 pub use judged::Judged;
 pub use merged::Merged;

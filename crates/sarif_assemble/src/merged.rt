@@ -1,6 +1,7 @@
 //! What a merge gives.
 use sarif_counts::{Counts, Verdict};
 use sarif_records::Text;
+use sarif_report::Finding;
 
 /// A merged log, and what its gate says.
 #[derive(Debug, Drop)]
@@ -15,4 +16,6 @@ pub struct Merged {
     pub without: u32,
     /// How many entries of the suppression file match no current result.
     pub unused: u32,
+    /// What reports tell of its results, in the order of the log; nothing where that isn't asked for.
+    pub findings: Vec<Finding>,
 }

@@ -3,6 +3,7 @@ ghost use Rattle.std.specs.Prelude.{◌≤◌, ◌+◌, length};
 ghost use Rattle.std.proofs.Props.{props};
 ghost use Rattle.sarif_write.specs.Side.{IsSide};
 
+use sarif_report::Finding;
 use sarif_write::Side;
 
 /// All that is written of a merged log. What it was read from is needed no more.
@@ -14,6 +15,8 @@ pub struct Prepared {
     pub(crate) without: u32,
     /// How many entries of the suppression file match no current result.
     pub(crate) unused: u32,
+    /// What reports tell of its results, in their order.
+    pub(crate) findings: Vec<Finding>,
     ghost current_is: { IsSide current } by { Prim.hlevel props },
     ghost baseline_is: { IsSide baseline } by { Prim.hlevel props },
     ghost few: { length current.drafts.items + length baseline.drafts.items ≤ 2000000 },

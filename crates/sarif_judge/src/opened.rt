@@ -1,5 +1,5 @@
 //! A run with what its results need of it.
-ghost use Rattle.std.specs.Prelude.{◌≡◌, ◌≤◌, false, is_some, length, IfOk};
+ghost use Rattle.std.specs.Prelude.{◌≡◌, ◌<◌, ◌≤◌, false, is_some, length, IfOk};
 ghost use Rattle.serde_json.specs.View.{view};
 ghost use Rattle.serde_json.specs.Written.{has_float};
 ghost use Rattle.sarif_records.specs.Indexed.{run_of};
@@ -47,7 +47,7 @@ impl<'t, 'a> OpenedRun<'t, 'a> {
     ghost use Rattle.sarif_judge.specs.Judging.{opening_fault};
     ghost use Rattle.sarif_judge.specs.Opened.{placed_of};
     ghost use Rattle.sarif_records.specs.Bare.{bare};
-    ghost use Rattle.sarif_records.specs.Run.{results_array, results_of};
+    ghost use Rattle.sarif_records.specs.Run.{result_at, results_array, results_of};
 
     /// Opens a run that holds no number with a fraction. The tables of its head hash with `seed`, on which no
     /// answer depends.
@@ -97,6 +97,21 @@ impl<'t, 'a> OpenedRun<'t, 'a> {
         ensures { result ≡ is_some (results_array (placed_of self.now).run) }
     {
         self.run.has_results()
+    }
+
+    /// The run without its results.
+    pub fn bare(&self) -> &Value
+        ensures { view result.now ≡ bare (placed_of self.now).run }
+    {
+        self.run.bare()
+    }
+
+    /// Result `seq` of the run, counted from 0. `AllocError` where memory for its value is wanting.
+    pub fn result(&self, alloc: Global, seq: u32) -> Result<Value, AllocError>
+        requires { seq < length (results_of (placed_of self.now).run) }
+        ensures { IfOk result (λ found. view found ≡ result_at (placed_of self.now).run seq) }
+    {
+        self.run.result(alloc, seq)
     }
 
     /// The run without its results, taken out.

@@ -17,6 +17,7 @@ use Rattle.sarif_suppress.specs.Suppressing.{unused_of}
 use Rattle.sarif_sources.specs.declared.fault.MergeFault.{MergeFault}
 use Rattle.sarif_sources.specs.declared.fault.Source.TheVariants.{Log, Baseline}
 use Rattle.sarif_counts.specs.declared.policy.Policy.{Policy}
+use Rattle.sarif_report.specs.declared.reporting.Reporting.{Reporting}
 use Rattle.sarif_counts.specs.CountOf.{count_of}
 use Rattle.sarif_counts.specs.Gate.{gate_of}
 use Rattle.sarif_write.specs.Drafts.{IsRun}
@@ -79,24 +80,25 @@ judged_baselines file bs judged same outcomes none few few_results = record {
   few_results = few_results;
 }
 
-pub same_runs : (file : File) (now before xs ys : List Placed) (prepared : Prepared)
-    → IsPrepared file now before prepared → now ≡ xs → before ≡ ys → IsPrepared file xs ys prepared
-same_runs file now before xs ys prepared h e f =
-    subst (λ k. IsPrepared file xs k prepared) f (subst (λ k. IsPrepared file k before prepared) e h)
+pub same_runs : (file : File) (now before xs ys : List Placed) (asked : Option Reporting) (prepared : Prepared)
+    → IsPrepared file now before asked prepared → now ≡ xs → before ≡ ys → IsPrepared file xs ys asked prepared
+same_runs file now before xs ys asked prepared h e f =
+    subst (λ k. IsPrepared file xs k asked prepared) f (subst (λ k. IsPrepared file k before asked prepared) e h)
 
 -- what is assembled of what was prepared for these inputs
-pub assembled_is : (inputs : Inputs) (policy : Policy) (prepared : Prepared) (merged : Merged) → IsPreparedFor inputs prepared
-    → ((file : File) (now before : List Placed) → IsPrepared file now before prepared → IsMergedBy file now before policy merged)
-    → IsMerged inputs policy merged
-assembled_is inputs policy prepared merged ready assembled =
+pub assembled_is : (inputs : Inputs) (policy : Policy) (asked : Option Reporting) (prepared : Prepared) (merged : Merged) → IsPreparedFor inputs asked prepared
+    → ((file : File) (now before : List Placed) (told : Option Reporting) → IsPrepared file now before told prepared → IsMergedBy file now before policy told merged)
+    → IsMerged inputs policy asked merged
+assembled_is inputs policy asked prepared merged ready assembled =
     let entries = file_in (file_or_none inputs.suppressions inputs.today) in
     let logs = placed (numbered Log 0 inputs.logs) in
     let baselines = placed (numbered Baseline 0 inputs.baselines) in
-    let made = assembled entries logs baselines ready.written in record {
+    let made = assembled entries logs baselines asked ready.written in record {
       faultless = ready.faultless;
-      begins = (gate_of (count_of (runs_by entries logs baselines)) policy (runs_without_results (run_values logs)) (unused_of entries (records_of logs)), leftover_runs logs baselines, made.log);
-      log = made.log;
-      gate = made.gate;
+      begins = (gate_of (count_of (runs_by entries logs baselines)) policy (runs_without_results (run_values logs)) (unused_of entries (records_of logs)), leftover_runs logs baselines, made.written.log);
+      log = made.written.log;
+      gate = made.written.gate;
+      told = made.told;
     }
 
 -- ---- the faults of the runs of logs, and then of those of baselines
@@ -145,15 +147,15 @@ module _ (ls bs : List (List ℕ)) (few_ls : length ls ≤ 1000) (few_bs : lengt
         nothing_before (number_faults Log ls) (number_faults Baseline bs) (source_faults 0 0 (sources_of ls bs)) (file_faults (file_or_none file today)) (faults_of_runs (placed (numbered Log 0 ls) ++ placed (numbered Baseline 0 bs)))
         within sources sound
 
-    pub prepared_is : (entries : File) (prepared : Prepared) → file_or_none file today ≡ Ok entries
-        → IsPrepared entries (placed (numbered Log 0 ls)) (placed (numbered Baseline 0 bs)) prepared
+    pub prepared_is : (entries : File) (asked : Option Reporting) (prepared : Prepared) → file_or_none file today ≡ Ok entries
+        → IsPrepared entries (placed (numbered Log 0 ls)) (placed (numbered Baseline 0 bs)) asked prepared
         → faults_of_runs (placed (numbered Log 0 ls) ++ placed (numbered Baseline 0 bs)) ≡ []
-        → IsPreparedFor (given ls bs file today) prepared
-    prepared_is entries prepared is h none =
+        → IsPreparedFor (given ls bs file today) asked prepared
+    prepared_is entries asked prepared is h none =
         let logs = placed (numbered Log 0 ls) in
         let baselines = placed (numbered Baseline 0 bs) in record {
           faultless = faults_are (ap file_faults is) ∙ none;
-          written = subst (λ f. IsPrepared f logs baselines prepared) (sym (ap file_in is)) h;
+          written = subst (λ f. IsPrepared f logs baselines asked prepared) (sym (ap file_in is)) h;
         }
 
 -- ---- indexes

@@ -7,6 +7,7 @@ use Rattle.sarif_sources.specs.declared.readers.ReadersFault.{ReadersFault}
 use Rattle.sarif_sources.specs.Fault.{fault_of_readers}
 use Rattle.sarif_sources.specs.WereRead.{SourceContents, HasStoppedAt, WereRead}
 use Rattle.sarif_counts.specs.declared.policy.Policy.{Policy}
+use Rattle.sarif_report.specs.declared.reporting.Reporting.{Reporting}
 use Rattle.sarif_assemble.specs.declared.merged.Merged.{Merged}
 use Rattle.sarif_inputs.specs.Faults.{IsTooMany, IsWanting, faults_of, first_fault}
 use Rattle.sarif_merge.specs.Given.{given_by}
@@ -35,9 +36,9 @@ IsRefused remaining old new today fault =
     ⊎ (AreFew old × (IsStopped remaining old new fault ⊎ IsAtFault remaining old new today fault))
 
 -- all sources were read, and this is the merge of what was read
-abbrev pub IsMergedFrom : {R : Type 0} → (R → Option (List ℕ)) → Readers R → Readers R → Option ℕ → Policy → Merged → Type 0
-IsMergedFrom remaining old new today policy merged =
-    (contents : SourceContents) × WereRead remaining old new contents × IsMerged (given_by contents today) policy merged
+abbrev pub IsMergedFrom : {R : Type 0} → (R → Option (List ℕ)) → Readers R → Readers R → Option ℕ → Policy → Option Reporting → Merged → Type 0
+IsMergedFrom remaining old new today policy asked merged =
+    (contents : SourceContents) × WereRead remaining old new contents × IsMerged (given_by contents today) policy asked merged
 
 -- all sources were read, nothing is at fault in them, and a proper front of the text was written
 abbrev pub IsPartlyWritten : {R : Type 0} → (R → Option (List ℕ)) → Readers R → Readers R → Option ℕ → Policy → Option (List ℕ) → Option (List ℕ) → Type 0

@@ -1,12 +1,14 @@
 -- What an accepted merge gives.
-use Rattle.std.specs.Prelude.{◌≡◌, ℕ, ◌++◌, ◌⊎◌, List, [], Some, Result, Ok, Err}
+use Rattle.std.specs.Prelude.{◌≡◌, ℕ, ◌++◌, ◌⊎◌, List, [], Option, Some, Result, Ok, Err}
 use Rattle.serde_json.specs.Data.{Data}
 use Rattle.serde_json.specs.Written.{compact_text}
 use Rattle.sarif_sources.specs.declared.fault.MergeFault.{MergeFault}
 use Rattle.sarif_counts.specs.declared.policy.Policy.{Policy}
+use Rattle.sarif_report.specs.declared.reporting.Reporting.{Reporting}
 use Rattle.sarif_write.specs.Log.{log_with}
 use Rattle.sarif_assemble.specs.declared.merged.Merged.{Merged}
 use Rattle.sarif_assemble.specs.Assembled.{HasGate}
+use Rattle.sarif_assemble.specs.Told.{told_of}
 use Rattle.sarif_inputs.specs.Faults.{IsWanting, faults_of, first_fault}
 use Rattle.sarif_inputs.specs.Inputs.{Inputs}
 use Rattle.sarif_merge.specs.MergedLog.{output_text, runs_written, unused_in, without_of, written_inputs}
@@ -16,14 +18,15 @@ abbrev pub HoldsFirst : List Data → List ℕ → Type 0
 HoldsFirst runs text = (gate : Data) × (rest : List Data) × (text ≡ compact_text (log_with gate (runs ++ rest)))
 
 -- nothing is at fault, and what is given is the defined merge: its text begins with the input runs, it is the text of
--- the merged log, and counts, verdict and numbers are those of that log
-pub record IsMerged (inputs : Inputs) (policy : Policy) (merged : Merged) : Type 0 where
+-- the merged log, counts, verdict and numbers are those of that log, and what reports tell is told of its results
+pub record IsMerged (inputs : Inputs) (policy : Policy) (asked : Option Reporting) (merged : Merged) : Type 0 where
   pub faultless : faults_of inputs ≡ []
   pub begins : HoldsFirst (written_inputs inputs) merged.log
   pub log : merged.log ≡ output_text inputs policy
   pub gate : HasGate (runs_written inputs) policy (without_of inputs) (unused_in inputs) merged
+  pub told : merged.findings.items ≡ told_of asked (runs_written inputs)
 
 -- the answer of a merge: the defined merge, or the first fault of the inputs, or want of memory or of a thread
-abbrev pub IsMergeOf : Inputs → Policy → Result Merged MergeFault → Type 0
-IsMergeOf inputs policy (Ok merged) = IsMerged inputs policy merged
-IsMergeOf inputs policy (Err fault) = IsWanting fault ⊎ (first_fault inputs ≡ Some fault)
+abbrev pub IsMergeOf : Inputs → Policy → Option Reporting → Result Merged MergeFault → Type 0
+IsMergeOf inputs policy asked (Ok merged) = IsMerged inputs policy asked merged
+IsMergeOf inputs policy asked (Err fault) = IsWanting fault ⊎ (first_fault inputs ≡ Some fault)

@@ -11,7 +11,7 @@ mod preparing;
 pub use laws::{each_result_is_written_as_its_own, merged_runs_hold_no_fraction};
 pub use merge::merge_bytes;
 pub use merge_sources::{merge_readers, merge_to};
-pub use sarif_assemble::Merged;
+pub use sarif_assemble::{Asked, Merged};
 pub use sarif_counts::{Counts, Options, Policy, States, Verdict, hits, summary, verdict};
 pub use sarif_gather::{Gate, NoGate};
 pub use sarif_sources::{

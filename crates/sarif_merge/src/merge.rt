@@ -1,11 +1,12 @@
 //! The merge of logs.
-ghost use Rattle.std.specs.Prelude.{◌≡◌, ◌≤◌, ◌⊎◌, [], Some, length, IfOk, IfErr};
-ghost use Rattle.std.specs.Prelude.{List};
+ghost use Rattle.std.specs.Prelude.{◌≡◌, ◌≤◌, ◌⊎◌, [], List, Option, Some, length, IfOk, IfErr};
 ghost use Rattle.sarif_suppress.specs.File.{File};
 ghost use Rattle.sarif_judge.specs.Placed.{Placed};
+ghost use Rattle.sarif_report.specs.declared.reporting.Reporting.{Reporting};
 ghost use Rattle.sarif_sources.specs.Failing.{IsQuiet};
 ghost use Rattle.sarif_assemble.specs.Assembled.{HasGate, IsMergedBy};
 ghost use Rattle.sarif_assemble.specs.Prepared.{IsPrepared};
+ghost use Rattle.sarif_assemble.specs.Told.{reporting_in};
 ghost use Rattle.sarif_inputs.specs.Faults.{IsWanting, faults_of, first_fault};
 ghost use Rattle.sarif_merge.specs.Given.{inputs_of};
 ghost use Rattle.sarif_merge.specs.Merged.{HoldsFirst, IsMergeOf};
@@ -13,7 +14,7 @@ ghost use Rattle.sarif_merge.specs.MergedLog.{output_text, runs_written, without
 
 use crate::preparing::{make_scratches, prepare_few};
 use json::Scratch;
-use sarif_assemble::{Merged, Prepared, assemble};
+use sarif_assemble::{Asked, Merged, Prepared, assemble};
 use sarif_counts::{Options, Policy};
 use sarif_gather::Gate;
 use sarif_inputs::check_numbers;
@@ -32,13 +33,13 @@ fn assemble_beside<R: Threads + Sync>(
     scratches: Vec<Scratch>,
 ) -> Result<Merged, AllocError>
     ensures { IfOk result (λ merged. (file : File) (now before : List Placed)
-        → IsPrepared file now before prepared
-        → IsMergedBy file now before policy.now merged) }
+        (asked : Option Reporting) → IsPrepared file now before asked prepared
+        → IsMergedBy file now before policy.now asked merged) }
 {
     let write = move || -> Result<Merged, AllocError>
         ensures { IfOk result (λ merged. (file : File) (now before : List Placed)
-            → IsPrepared file now before prepared
-            → IsMergedBy file now before policy.entry.now merged) }
+            (asked : Option Reporting) → IsPrepared file now before asked prepared
+            → IsMergedBy file now before policy.entry.now asked merged) }
     { assemble(alloc, prepared, policy) };
     let let_go = move || drop(scratches);
     let (_, merged) = thread::join(rt, let_go, write);
@@ -50,18 +51,19 @@ pub(crate) fn merge_few<G: Gate + Sync, R: Threads + Wait + Sync>(
     rt: &R,
     alloc: Global,
     sources: &SourceBytes,
-    options: &Options,
+    asked: &Asked<'_>,
     observer: &G,
 ) -> Result<Merged, MergeFault>
     requires few_logs { length sources.now.logs.items ≤ 1000 }
     requires few_baselines { length sources.now.baselines.items ≤ 1000 }
-    ensures merge { IsMergeOf (inputs_of sources.now options.now) options.now.policy result }
+    ensures merge { IsMergeOf (inputs_of sources.now asked.now.options.now)
+        asked.now.options.now.policy (reporting_in asked.now) result }
     ensures quiet { IsQuiet result }
 {
     let count = sources.logs.len() + sources.baselines.len();
     let mut scratches = make_scratches(alloc, count)?;
-    let prepared = prepare_few(rt, alloc, sources, &mut scratches, options, observer)?;
-    let merged = assemble_beside(rt, alloc, prepared, &options.policy, scratches)?;
+    let prepared = prepare_few(rt, alloc, sources, &mut scratches, asked, observer)?;
+    let merged = assemble_beside(rt, alloc, prepared, &asked.options.policy, scratches)?;
     Ok(merged)
 }
 
@@ -92,11 +94,17 @@ pub fn merge_bytes<G: Gate + Sync, R: Threads + Wait + Sync>(
     ensures gate { let inputs = inputs_of sources.now options.now in
         IfOk result (HasGate (runs_written inputs) options.now.policy (without_of inputs)
         (unused_in inputs)) }
+    // Nothing is told of it.
+    ensures untold { IfOk result (λ merged. merged.findings.items ≡ []) }
     ensures refusals { IfErr result (λ fault. IsWanting fault
         ⊎ (first_fault (inputs_of sources.now options.now) ≡ Some fault)) }
     ensures quiet { IsQuiet result }
 {
     check_numbers(sources.logs.len(), sources.baselines.len())?;
-    let merged = merge_few(rt, alloc, sources, options, observer)?;
+    let asked = Asked {
+        options,
+        reporting: None,
+    };
+    let merged = merge_few(rt, alloc, sources, &asked, observer)?;
     Ok(merged)
 }

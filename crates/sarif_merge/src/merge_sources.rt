@@ -1,10 +1,11 @@
 //! The merge from readers into a writer.
-ghost use Rattle.std.specs.Prelude.{◌≡◌, ◌≤◌, ◌<◌, ◌^◌, false, IfOk, IfErr};
+ghost use Rattle.std.specs.Prelude.{◌≡◌, ◌≤◌, ◌<◌, ◌^◌, false, None, IfOk, IfErr};
 ghost use Rattle.std.specs.List.{All};
 ghost use Rattle.std.specs.Io.KnownBytes.{Appends};
 ghost use Rattle.sarif_sources.specs.Counted.{inner_of, failed_calls, RisesIf};
 ghost use Rattle.sarif_sources.specs.Failing.{read_failed_in, write_failed_in};
 ghost use Rattle.sarif_sources.specs.OptionalReader.{failed_calls_if};
+ghost use Rattle.sarif_assemble.specs.Told.{reporting_in};
 ghost use Rattle.sarif_merge.specs.FromReaders.{IsMergedFrom, IsPartlyWritten, IsRefused};
 ghost use Rattle.sarif_sources.specs.WereRead.{failures, NoNumberFalls};
 ghost use Rattle.sarif_sources.specs.declared.fault.At.TheVariants.{Whole};
@@ -12,7 +13,7 @@ ghost use Rattle.sarif_sources.specs.declared.fault.Cause.TheVariants.{WriteFail
 ghost use Rattle.sarif_sources.specs.declared.fault.Source.TheVariants.{Output};
 
 use crate::merge::merge_few;
-use sarif_assemble::Merged;
+use sarif_assemble::{Asked, Merged};
 use sarif_counts::Options;
 use sarif_gather::Gate;
 use sarif_inputs::check_numbers;
@@ -27,23 +28,24 @@ use std::thread::Threads;
 ///
 /// A refusal is `TooMany` for more than 1,000 logs or else more than 1,000 baselines; else `ReadFailed` or
 /// `TooLong` at the first source that can't be read to its end; else the first fault of what was read. Want of
-/// memory or of a thread stands nowhere.
+/// memory or of a thread stands nowhere. Where reports are asked for, what they tell stands beside the log.
 #[tactic(auto, using(sarif_sources::proofs::QuietFaults::same_failure, sarif_sources::proofs::QuietFaults::no_write))]
 pub fn merge_readers<R: Read, G: Gate + Sync, T: Threads + Wait + Sync>(
     rt: &T,
     alloc: Global,
     readers: &mut Readers<R>,
-    options: &Options,
+    asked: &Asked<'_>,
     observer: &G,
 ) -> Result<Merged, MergeFault>
     requires logs { All (λ reader. failed_calls reader < 2 ^ 63) readers.old.logs.items }
     requires baselines { All (λ reader. failed_calls reader < 2 ^ 63) readers.old.baselines.items }
     requires suppressions { failed_calls_if readers.old.suppressions < 2 ^ 63 }
-    // Ok comes only where all sources were read and nothing is at fault in them; it is the merge of these.
-    ensures merged { IfOk result
-        (IsMergedFrom R.remaining readers.old readers.new options.now.today options.now.policy) }
+    // Ok comes only where all sources were read and nothing is at fault in them; it is the merge of these, with what
+    // reports tell of it.
+    ensures merged { IfOk result (IsMergedFrom R.remaining readers.old readers.new
+        asked.now.options.now.today asked.now.options.now.policy (reporting_in asked.now)) }
     ensures refused { IfErr result
-        (IsRefused R.remaining readers.old readers.new options.now.today) }
+        (IsRefused R.remaining readers.old readers.new asked.now.options.now.today) }
     // A failed read is answered as such, and only one.
     ensures read_failed { RisesIf (read_failed_in result)
         (failures readers.old) (failures readers.new) }
@@ -52,7 +54,7 @@ pub fn merge_readers<R: Read, G: Gate + Sync, T: Threads + Wait + Sync>(
 {
     check_numbers(readers.logs.len(), readers.baselines.len())?;
     let sources = read_sources(alloc, readers)?;
-    let merged = merge_few(rt, alloc, &sources, options, observer)?;
+    let merged = merge_few(rt, alloc, &sources, asked, observer)?;
     Ok(merged)
 }
 
@@ -74,7 +76,8 @@ pub fn merge_to<R: Read, W: Write, G: Gate + Sync, T: Threads + Wait + Sync>(
     requires writes { failed_calls out.old < 2 ^ 63 }
     // Ok comes only where all sources were read and nothing is at fault in them; it is the merge of these.
     ensures merged { IfOk result
-        (IsMergedFrom R.remaining readers.old readers.new options.now.today options.now.policy) }
+        (IsMergedFrom R.remaining readers.old readers.new options.now.today
+        options.now.policy None) }
     // The text was written, and nothing else.
     ensures written { IfOk result (λ merged. Appends (W.contents (inner_of out.old))
         (W.contents (inner_of out.new)) merged.log) }
@@ -94,7 +97,11 @@ pub fn merge_to<R: Read, W: Write, G: Gate + Sync, T: Threads + Wait + Sync>(
     ensures write_failed { RisesIf (write_failed_in result)
         (failed_calls out.old) (failed_calls out.new) }
 {
-    let merged = merge_readers(rt, alloc, readers, options, observer)?;
+    let asked = Asked {
+        options,
+        reporting: None,
+    };
+    let merged = merge_readers(rt, alloc, readers, &asked, observer)?;
     match write_out(out, merged.log.as_str().as_bytes()) {
         Ok(()) => Ok(merged),
         Err(_) => Err(MergeFault::found(At::Whole(Source::Output), Cause::WriteFailed)),

@@ -3,6 +3,7 @@ ghost use Rattle.std.specs.Prelude.{◌≡◌, ◌≤◌, ◌+◌, ◌++◌, ℕ
 ghost use Rattle.sarif_judge.specs.Judging.{faults_of_runs};
 ghost use Rattle.sarif_sources.specs.Failing.{IsQuiet};
 ghost use Rattle.sarif_assemble.specs.Prepared.{IsPrepared};
+ghost use Rattle.sarif_assemble.specs.Told.{reporting_in};
 ghost use Rattle.sarif_inputs.specs.Faults.{Answers};
 ghost use Rattle.sarif_inputs.specs.Inputs.{numbered, placed};
 ghost use Rattle.sarif_inputs.specs.Runs.{AreRunsOf};
@@ -12,8 +13,7 @@ ghost use Rattle.sarif_merge.specs.Prepared.{IsPreparationOf};
 
 use crate::judged::judge_runs;
 use json::Scratch;
-use sarif_assemble::{Prepared, prepare};
-use sarif_counts::Options;
+use sarif_assemble::{Asked, Prepared, prepare};
 use sarif_gather::Gate;
 use sarif_inputs::{Runs, index_sources, open_sources, read_file};
 use sarif_sources::{MergeFault, SourceBytes};
@@ -28,23 +28,23 @@ fn prepare_runs<G: Gate + Sync, R: Threads + Wait + Sync>(
     alloc: Global,
     runs: Runs<'_, '_>,
     file: &Suppressions,
-    options: &Options,
+    asked: &Asked<'_>,
     observer: &G,
 ) -> Result<Prepared, MergeFault>
     requires read { (logs : List (List ℕ)) × (baselines : List (List ℕ))
         × AreRunsOf logs baselines runs }
     ensures prepared { (logs baselines : List (List ℕ)) → AreRunsOf logs baselines runs.entry
         → IfOk result (IsPrepared file.now (placed (numbered source.Log 0 logs))
-        (placed (numbered source.Baseline 0 baselines))) }
+        (placed (numbered source.Baseline 0 baselines)) (reporting_in asked.now)) }
     ensures faults { (logs baselines : List (List ℕ)) → AreRunsOf logs baselines runs.entry
         → Answers (faults_of_runs (placed (numbered source.Log 0 logs)
         ++ placed (numbered source.Baseline 0 baselines))) result }
     ensures quiet { IsQuiet result }
 {
     let Runs { current, baseline } = runs;
-    let now = judge_runs(rt, alloc, current, file, options.workers, observer)?;
-    let before = judge_runs(rt, alloc, baseline, file, options.workers, observer)?;
-    let prepared = prepare(rt, alloc, now, before, file, options)?;
+    let now = judge_runs(rt, alloc, current, file, asked.options.workers, observer)?;
+    let before = judge_runs(rt, alloc, baseline, file, asked.options.workers, observer)?;
+    let prepared = prepare(rt, alloc, now, before, file, asked)?;
     Ok(prepared)
 }
 
@@ -54,18 +54,18 @@ fn prepare_read<G: Gate + Sync, R: Threads + Wait + Sync>(
     alloc: Global,
     runs: Runs<'_, '_>,
     suppressions: Option<&[u8]>,
-    options: &Options,
+    asked: &Asked<'_>,
     observer: &G,
 ) -> Result<Prepared, MergeFault>
     requires read { (logs : List (List ℕ)) × (baselines : List (List ℕ))
         × AreRunsOf logs baselines runs }
     ensures preparation { (logs baselines : List (List ℕ)) → AreRunsOf logs baselines runs.entry
         → IsPreparationOf (given logs baselines (option_map (λ b. b.now) suppressions.entry)
-        options.now.today) result }
+        asked.now.options.now.today) (reporting_in asked.now) result }
     ensures quiet { IsQuiet result }
 {
-    let file = read_file(alloc, options.seed, suppressions, options.today)?;
-    let prepared = prepare_runs(rt, alloc, runs, &file, options, observer)?;
+    let file = read_file(alloc, asked.options.seed, suppressions, asked.options.today)?;
+    let prepared = prepare_runs(rt, alloc, runs, &file, asked, observer)?;
     Ok(prepared)
 }
 
@@ -97,22 +97,23 @@ pub(crate) fn prepare_few<G: Gate + Sync, R: Threads + Wait + Sync>(
     alloc: Global,
     sources: &SourceBytes,
     scratches: &mut [Scratch],
-    options: &Options,
+    asked: &Asked<'_>,
     observer: &G,
 ) -> Result<Prepared, MergeFault>
     requires scratches { length scratches.old
         ≡ length sources.now.logs.items + length sources.now.baselines.items }
     requires few_logs { length sources.now.logs.items ≤ 1000 }
     requires few_baselines { length sources.now.baselines.items ≤ 1000 }
-    ensures preparation { IsPreparationOf (inputs_of sources.now options.now) result }
+    ensures preparation { IsPreparationOf (inputs_of sources.now asked.now.options.now)
+        (reporting_in asked.now) result }
     ensures quiet { IsQuiet result }
 {
     let logs = sources.logs.as_slice();
     let baselines = sources.baselines.as_slice();
-    let threads = options.workers + 1;
+    let threads = asked.options.workers + 1;
     let indexes = index_sources(rt, alloc, logs, baselines, scratches, threads)?;
-    let runs = open_sources(rt, alloc, options.seed, &indexes, logs.len(), threads)?;
+    let runs = open_sources(rt, alloc, asked.options.seed, &indexes, logs.len(), threads)?;
     let file = slice_of(&sources.suppressions);
-    let prepared = prepare_read(rt, alloc, runs, file, options, observer)?;
+    let prepared = prepare_read(rt, alloc, runs, file, asked, observer)?;
     Ok(prepared)
 }

@@ -1,27 +1,30 @@
 -- What the reports of a run are, and that they were written.
-use Rattle.std.specs.Prelude.{◌≡◌, ◌<◌, ◌+◌, ◌^◌, ℕ, List, Option, Some, None, is_some}
+use Rattle.std.specs.Prelude.{◌≡◌, ◌<◌, ◌+◌, ◌^◌, ℕ, List, Option, Some, None, is_some, if◌then◌else◌}
 use Rattle.std.specs.Io.KnownBytes.{Appends}
 use Rattle.sarif_assemble.specs.declared.merged.Merged.{Merged}
 use Rattle.sarif_counts.specs.Counts.{count_at}
 use Rattle.sarif_report.specs.declared.report.Report.{Report}
 use Rattle.sarif_report.specs.declared.report.Report.TheVariants as report
 use Rattle.sarif_report.specs.declared.reporting.Reporting.{Reporting}
-use Rattle.sarif_report.specs.ReadBack.{told_of}
 use Rattle.sarif_report.specs.Report.{report_of}
 use Rattle.sarif_sources.specs.declared.counted.Counted.{Counted}
 use Rattle.sarif_sources.specs.Counted.{inner_of}
 use Rattle.sarif_sources.specs.OptionalReader.{failed_calls_if}
 use Rattle.sarif_request.specs.declared.reports.Reports.{Reports}
+use Rattle.sarif_request.specs.ForReport.{are_none}
 use Rattle.sarif_request.specs.declared.request.Request.{Request}
 
 -- what the reports of a request are made by
 abbrev pub reporting_of : Request → Reporting
 reporting_of request = record { policy = request.options.policy; root = request.root }
 
+-- what is told of a merge whose reports have these writers: nothing where there is none
+abbrev pub reporting_for : {W : Type 0} → Request → Reports W → Option Reporting
+reporting_for request writers = if are_none writers then None else Some (reporting_of request)
+
 -- the text of a report of a merged log
 abbrev pub report_for : Request → Merged → Report → List ℕ
-report_for request merged one =
-    report_of one (count_at merged.counts) request.options.policy (told_of (reporting_of request) merged.log)
+report_for request merged one = report_of one (count_at merged.counts) request.options.policy merged.findings.items
 
 -- a text where there is a writer for it
 abbrev pub text_if : {W : Type 0} → Option W → List ℕ → Option (List ℕ)

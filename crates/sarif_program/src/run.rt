@@ -1,9 +1,10 @@
 //! Doing what a request asks for, over readers and writers of any kind.
-ghost use Rattle.std.specs.Prelude.{◌≡◌, [], ◌<◌, ◌≤◌, ◌+◌, ◌^◌, nat_eq};
+ghost use Rattle.std.specs.Prelude.{◌≡◌, [], ◌<◌, ◌≤◌, ◌+◌, ◌^◌, false, nat_eq, IfOk};
 ghost use Rattle.std.specs.List.{All};
 ghost use Rattle.std.specs.Io.KnownBytes.{Appends};
 ghost use Rattle.sarif_assemble.specs.declared.merged.Merged.{Merged as Outcome};
 ghost use Rattle.sarif_sources.specs.Counted.{inner_of, failed_calls, RisesIf};
+ghost use Rattle.sarif_sources.specs.Failing.{read_failed_in, write_failed_in};
 ghost use Rattle.sarif_counts.specs.Counts.{count_at};
 ghost use Rattle.sarif_inputs.specs.Faults.{faults_of};
 ghost use Rattle.sarif_sources.specs.OptionalReader.{failed_calls_if};
@@ -11,19 +12,86 @@ ghost use Rattle.sarif_counts.specs.Summary.{summary_of};
 ghost use Rattle.sarif_merge.specs.FromReaders.{IsMergedFrom};
 ghost use Rattle.sarif_merge.specs.Given.{given_by};
 ghost use Rattle.sarif_sources.specs.WereRead.{failures, AllTell, NoNumberFalls, SourceContents, WereRead};
-ghost use Rattle.sarif_program.specs.Reports.{AreWritten, HaveRoom, report_for};
+ghost use Rattle.sarif_program.specs.Reports.{AreWritten, HaveRoom, report_for, reporting_for};
 ghost use Rattle.sarif_program.specs.Status.{verdict_status};
 ghost use Rattle.sarif_program.specs.Writing.{writer_failures};
 
 use crate::complaint::Complaints;
 use crate::ending::{accept, refuse};
 use crate::writers::Writers;
-use sarif_merge::{NoGate, Readers, merge_readers, sources_are_read_in_one_way};
-use sarif_request::Request;
-use std::alloc::Global;
+use sarif_merge::{
+    Asked, MergeFault, Merged, NoGate, Options, Readers, merge_readers, sources_are_read_in_one_way,
+};
+use sarif_records::Text;
+use sarif_report::Reporting;
+use sarif_request::{Reports, Request};
+use std::alloc::{AllocError, Global};
 use std::io::{Read, Write};
 use std::sync::Wait;
 use std::thread::Threads;
+
+/// What the reports of a run are made by, where there are writers for some.
+fn reporting_of<W>(
+    alloc: Global,
+    request: &Request,
+    writers: &Reports<W>,
+) -> Result<Option<Reporting>, AllocError>
+    ensures { IfOk result
+        (λ reporting. reporting ≡ reporting_for «request».now writers.now) }
+{
+    if writers.are_none() {
+        return Ok(None);
+    }
+    let policy = request.options.policy;
+    let root = Text::copy_of(alloc, request.root.as_str())?;
+    Ok(Some(Reporting { policy, root }))
+}
+
+/// Merges what the readers give, with what reports tell of it, where that is asked for.
+fn merge_told<'o, R: Read, T: Threads + Wait + Sync>(
+    rt: &T,
+    alloc: Global,
+    options: &'o Options,
+    made: &'o Option<Reporting>,
+    readers: &mut Readers<R>,
+) -> Result<Merged, MergeFault>
+    requires logs { All (λ reader. failed_calls reader < 2 ^ 63) readers.old.logs.items }
+    requires baselines { All (λ reader. failed_calls reader < 2 ^ 63) readers.old.baselines.items }
+    requires suppressions { failed_calls_if readers.old.suppressions < 2 ^ 63 }
+    ensures merged { IfOk result (IsMergedFrom R.remaining readers.old readers.new
+        options.now.today options.now.policy made.now) }
+    ensures read_failed { RisesIf (read_failed_in result)
+        (failures readers.old) (failures readers.new) }
+    ensures risen { NoNumberFalls readers.old readers.new }
+    ensures unwritten { write_failed_in result ≡ false }
+{
+    let reporting = made.as_ref();
+    let asked = Asked { options, reporting };
+    merge_readers(rt, alloc, readers, &asked, &NoGate)
+}
+
+/// The same for a request whose reports have these writers.
+fn merge_for<R: Read, W, T: Threads + Wait + Sync>(
+    rt: &T,
+    alloc: Global,
+    request: &Request,
+    readers: &mut Readers<R>,
+    writers: &Reports<W>,
+) -> Result<Merged, MergeFault>
+    requires logs { All (λ reader. failed_calls reader < 2 ^ 63) readers.old.logs.items }
+    requires baselines { All (λ reader. failed_calls reader < 2 ^ 63) readers.old.baselines.items }
+    requires suppressions { failed_calls_if readers.old.suppressions < 2 ^ 63 }
+    ensures merged { IfOk result (IsMergedFrom R.remaining readers.old readers.new
+        «request».now.options.today «request».now.options.policy
+        (reporting_for «request».now writers.now)) }
+    ensures read_failed { RisesIf (read_failed_in result)
+        (failures readers.old) (failures readers.new) }
+    ensures risen { NoNumberFalls readers.old readers.new }
+    ensures unwritten { write_failed_in result ≡ false }
+{
+    let made = reporting_of(alloc, request, writers)?;
+    merge_told(rt, alloc, &request.options, &made, readers)
+}
 
 /// Merges what the readers give, and writes the merged log, then the reports that there are writers for, and then
 /// the summary; or it complains of what stopped it: the program's exit status. It is 0 where the gate passes and 1
@@ -48,7 +116,8 @@ pub fn run_request<R: Read, W: Write, S: Write, P: Write, E: Write, T: Threads +
     // this log, and `say` got its summary; 0 with the verdict pass, and 1 with fail.
     ensures accepted { result < 2 → (merged : Outcome) × (result ≡ verdict_status merged.verdict)
         × IsMergedFrom R.remaining readers.old readers.new
-        «request».now.options.today «request».now.options.policy merged
+        «request».now.options.today «request».now.options.policy
+        (reporting_for «request».now writers.old.reports) merged
         × Appends (W.contents (inner_of writers.old.out))
         (W.contents (inner_of writers.new.out)) merged.log
         × AreWritten P.contents (report_for «request».now merged)
@@ -73,7 +142,7 @@ pub fn run_request<R: Read, W: Write, S: Write, P: Write, E: Write, T: Threads +
     ensures known { result ≤ 3 }
 {
     sources_are_read_in_one_way::<R>();
-    match merge_readers(rt, alloc, readers, &request.options, &NoGate) {
+    match merge_for(rt, alloc, request, readers, &writers.reports) {
         Ok(merged) => accept(rt, alloc, &merged, request, writers, complaints),
         Err(fault) => refuse(complaints, fault),
     }

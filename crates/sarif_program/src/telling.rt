@@ -2,15 +2,14 @@
 ghost use Rattle.std.specs.Prelude.{◌≡◌, ◌≤◌, IfOk, Some, None, if◌then◌else◌};
 ghost use Rattle.sarif_counts.specs.Counts.{count_at};
 ghost use Rattle.sarif_counts.specs.Summary.{summary_of};
-ghost use Rattle.sarif_report.specs.ReadBack.{told_of};
 ghost use Rattle.sarif_report.specs.declared.report.Report.TheVariants as kind;
 ghost use Rattle.sarif_report.specs.Report.{report_of};
 ghost use Rattle.sarif_program.specs.Beside.{AreBeside};
-ghost use Rattle.sarif_program.specs.Reports.{report_for, reporting_of, texts_for};
+ghost use Rattle.sarif_program.specs.Reports.{report_for, texts_for};
 
 use sarif_merge::{Counts, Merged, Policy, summary};
 use sarif_records::Text;
-use sarif_report::{Finding, Report, Reporting, Told, report_text, reported};
+use sarif_report::{Report, Told, report_text};
 use sarif_request::{Reports, Request};
 use std::alloc::{AllocError, Global};
 use std::thread;
@@ -117,30 +116,7 @@ fn texts_told<W, T: Threads + Sync>(
     })
 }
 
-/// The results that the reports of a merge tell of.
-fn findings_of<T: Threads + Sync>(
-    rt: &T,
-    alloc: Global,
-    merged: &Merged,
-    request: &Request,
-) -> Result<Vec<Finding>, AllocError>
-    ensures { IfOk result
-        (λ findings. findings.items ≡ told_of (reporting_of request.now) merged.now.log) }
-{
-    let policy = request.options.policy;
-    let root = Text::copy_of(alloc, request.root.as_str())?;
-    let reporting = Reporting { policy, root };
-    let threads = request.options.workers + 1;
-    reported(
-        rt,
-        alloc,
-        &reporting,
-        merged.log.as_str().as_bytes(),
-        threads,
-    )
-}
-
-/// The texts of the reports that there are writers for. Where there are none the log isn't looked at.
+/// The texts of the reports that there are writers for.
 fn reports_of<W, T: Threads + Sync>(
     rt: &T,
     alloc: Global,
@@ -154,11 +130,10 @@ fn reports_of<W, T: Threads + Sync>(
     if writers.are_none() {
         return Ok(Reports::none());
     }
-    let findings = findings_of(rt, alloc, merged, request)?;
     let told = Told {
         counts: &merged.counts,
         policy: &request.options.policy,
-        findings: findings.as_slice(),
+        findings: merged.findings.as_slice(),
     };
     texts_told(rt, alloc, &told, writers, request.options.workers)
 }

@@ -1,5 +1,4 @@
 pub mod ArrayRead
-pub mod BriefTells
 pub mod ByHalves
 pub mod CharsBack
 pub mod EscapedApart
@@ -9,18 +8,18 @@ pub mod HashedApart
 pub mod HighBytes
 pub mod HitsCounted
 pub mod HitsReported
-pub mod IndexedElements
 pub mod MessageMore
 pub mod MessageWhole
 pub mod PathMore
 pub mod ReportedMore
+pub mod ResultsAlike
 pub mod RowsApart
+pub mod RunsAlike
 pub mod SeenMore
 pub mod SeenTexts
 pub mod ShownMore
 pub mod ShownWhole
 pub mod TagsCounted
 pub mod TextApart
-pub mod ToldBare
 pub mod ToldFindings
 pub mod EscapedMore

@@ -1,4 +1,3 @@
-pub mod Brief
 pub mod CountRow
 pub mod Escaped
 pub mod EscapedBytes
@@ -17,7 +16,6 @@ pub mod MarkdownLaws
 pub mod MarkdownReport
 pub mod Message
 pub mod PathOf
-pub mod ReadBack
 pub mod Report
 pub mod Reported
 pub mod Shown

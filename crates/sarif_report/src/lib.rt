@@ -1,7 +1,6 @@
 //! Reports for people and review services over the finished merged log of a SARIF merge.
 #![tactic(auto)]
 
-mod brief;
 mod count_row;
 mod escaping;
 mod finding;
@@ -10,14 +9,12 @@ mod gitlab_array;
 mod html_fixed;
 mod html_page;
 mod identities;
-mod indexed;
 mod laws;
 mod lookup;
 mod markdown_table;
 mod message;
 mod path;
 mod quoted;
-mod read_back;
 mod report;
 mod reported_results;
 mod reporting;
@@ -36,8 +33,8 @@ pub use laws::{
     shown_texts_are_seen, text_reports_have_a_line_a_result,
 };
 pub use markdown_table::markdown_report;
-pub use read_back::reported;
 pub use report::{Report, Told, report_text};
+pub use reported_results::{finding_of, reported};
 pub use reporting::Reporting;
 pub use shown_text::{MOST_CHARACTERS, shown};
 pub use text_lines::text_report;

@@ -1,8 +1,5 @@
 //! What is told of a result of a finished merged log, where it is reported.
-ghost use Rattle.std.specs.Prelude.{◌≡◌, Some, IfOk, chars, string_bytes};
-ghost use Rattle.json_index.specs.Indexed.{data_of};
-ghost use Rattle.json_index.specs.Ordered.{IsOrdered};
-ghost use Rattle.sarif_records.specs.Listed.{value_at};
+ghost use Rattle.std.specs.Prelude.{◌≡◌, ◌++◌, Some, IfOk, OnOk, chars, string_bytes};
 ghost use Rattle.sarif_report.specs.Message.{message_of};
 ghost use Rattle.serde_json.specs.View.{view};
 ghost use Rattle.sarif_counts.specs.CountOf.{suppresses, items_in};
@@ -10,15 +7,12 @@ ghost use Rattle.sarif_counts.specs.Policy.{severity as rank};
 ghost use Rattle.sarif_report.specs.Shown.{shown as text_shown};
 ghost use Rattle.sarif_report.specs.Reported as said;
 
-use crate::brief::brief;
 use crate::finding::Finding;
-use crate::indexed::{kept_member, text_at};
-use crate::lookup::{help_uri, rule_id};
+use crate::lookup::{elements_in, help_uri, rule_id, text_in};
 use crate::message::push_message;
 use crate::reporting::Reporting;
 use crate::shown_text::{ShownText, shown};
 use crate::spot::{Spot, spot_of};
-use json_index::Node;
 use sarif_counts::is_suppressing;
 use sarif_records::{Level, State, Text, driver_name};
 use serde_json::Value;
@@ -35,14 +29,13 @@ fn suppresses_by(found: &Value) -> bool
     }
 }
 
-/// Whether the result at this place isn't suppressed.
-fn is_active(alloc: Global, place: &Node<'_, '_>) -> Result<bool, AllocError>
-    requires { IsOrdered (data_of place.now) }
-    ensures { IfOk result (λ b. b ≡ said.is_active (value_at place.now)) }
+/// Whether a result isn't suppressed.
+fn is_active(found: &Value) -> bool
+    ensures { result ≡ said.is_active (view found.now) }
 {
-    match kept_member(place, "suppressions") {
-        Some(found) => Ok(!suppresses_by(&found.to_value(alloc)?)),
-        None => Ok(true),
+    match found.get("suppressions") {
+        Some(suppressions) => !suppresses_by(suppressions),
+        None => true,
     }
 }
 
@@ -57,18 +50,16 @@ fn severity(level: Level) -> u8
     }
 }
 
-fn level_at(place: &Node<'_, '_>) -> Option<Level>
-    requires { IsOrdered (data_of place.now) }
-    ensures { result ≡ said.level_in (value_at place.now) }
+fn level_in(found: &Value) -> Option<Level>
+    ensures { result ≡ said.level_in (view found.now) }
 {
-    Level::from_name(text_at(place, "level")?)
+    Level::from_name(text_in(found, "level")?)
 }
 
-fn state_at(place: &Node<'_, '_>) -> Option<State>
-    requires { IsOrdered (data_of place.now) }
-    ensures { result ≡ said.state_in (value_at place.now) }
+fn state_in(found: &Value) -> Option<State>
+    ensures { result ≡ said.state_in (view found.now) }
 {
-    State::from_name(text_at(place, "baselineState")?)
+    State::from_name(text_in(found, "baselineState")?)
 }
 
 /// What is shown of a text.
@@ -132,26 +123,25 @@ fn message_in(alloc: Global, run: &Value, found: &Value) -> Result<Text, AllocEr
     Text::from_string(message)
 }
 
-/// What is told of the result at this place, which has this level and state.
-#[tactic(auto, using(crate::proofs::BriefTells::told_brief), unfolding(crate::specs::Reported::finding_of))]
-fn finding_of(
+/// What is told of a result of a run that has this level and this baseline state. Of the run its results aren't
+/// looked at. `AllocError` where memory is wanting.
+#[tactic(auto, unfolding(crate::specs::Reported::finding_of))]
+pub fn finding_of(
     alloc: Global,
     reporting: &Reporting,
     run: &Value,
-    place: &Node<'_, '_>,
+    found: &Value,
     level: Level,
     state: State,
 ) -> Result<Finding, AllocError>
-    requires { IsOrdered (data_of place.now) }
     ensures { IfOk result (λ finding. finding
-        ≡ said.finding_of reporting.now (view run.now) (value_at place.now) level state) }
+        ≡ said.finding_of reporting.now (view run.now) (view found.now) level state) }
 {
-    let found = brief(alloc, place)?;
     let tool = shown_copy(alloc, tool_name(run))?;
-    let rule = shown_copy(alloc, rule_id(run, &found))?;
-    let message = message_in(alloc, run, &found)?;
-    let help = help_in(alloc, run, &found)?;
-    let Spot { path, line, column } = spot_of(alloc, reporting, run, place)?;
+    let rule = shown_copy(alloc, rule_id(run, found))?;
+    let message = message_in(alloc, run, found)?;
+    let help = help_in(alloc, run, found)?;
+    let Spot { path, line, column } = spot_of(alloc, reporting, run, found)?;
     let hit = severity(reporting.policy.fail_on) <= severity(level);
     Ok(Finding {
         tool,
@@ -167,29 +157,61 @@ fn finding_of(
     })
 }
 
-/// What is told of the result at this place, where it is reported. Of one that isn't nothing more is read.
-pub(crate) fn finding_if(
+/// What is told of a result of a run, where it is reported. Of one that isn't nothing more is read.
+fn finding_if(
     alloc: Global,
     reporting: &Reporting,
     run: &Value,
-    place: &Node<'_, '_>,
+    found: &Value,
 ) -> Result<Option<Finding>, AllocError>
-    requires { IsOrdered (data_of place.now) }
     ensures { IfOk result
-        (λ o. o ≡ said.finding_if reporting.now (view run.now) (value_at place.now)) }
+        (λ o. o ≡ said.finding_if reporting.now (view run.now) (view found.now)) }
 {
-    let Some(level) = level_at(place) else {
+    let Some(level) = level_in(found) else {
         return Ok(None);
     };
-    let Some(state) = state_at(place) else {
+    let Some(state) = state_in(found) else {
         return Ok(None);
     };
-    if !reporting.policy.states.lists(state) {
+    if !reporting.policy.states.lists(state) || !is_active(found) {
         return Ok(None);
     }
-    if !is_active(alloc, place)? {
-        return Ok(None);
-    }
-    let finding = finding_of(alloc, reporting, run, place, level, state)?;
+    let finding = finding_of(alloc, reporting, run, found, level, state)?;
     Ok(Some(finding))
+}
+
+/// Adds what is told of the reported results of a run.
+fn push_reported(
+    alloc: Global,
+    findings: &mut Vec<Finding>,
+    reporting: &Reporting,
+    run: &Value,
+) -> Result<(), AllocError>
+    ensures { OnOk result (findings.new.items
+        ≡ findings.old.items ++ said.reported_in reporting.now (view run.now)) }
+{
+    for found in elements_in(run, "results") {
+        if let Some(finding) = finding_if(alloc, reporting, run, found)? {
+            findings.push(finding)?;
+        }
+    }
+    Ok(())
+}
+
+/// The results that a report tells of, in the order of this merged log: the active ones whose baseline state is
+/// one of the policy's. Those are hits whose level is also at least that of the policy. `AllocError` where memory is
+/// wanting.
+pub fn reported(
+    alloc: Global,
+    reporting: &Reporting,
+    log: &Value,
+) -> Result<Vec<Finding>, AllocError>
+    ensures { IfOk result
+        (λ findings. findings.items ≡ said.reported_of reporting.now (view log.now)) }
+{
+    let mut findings = Vec::new(alloc);
+    for run in elements_in(log, "runs") {
+        push_reported(alloc, &mut findings, reporting, run)?;
+    }
+    Ok(findings)
 }

@@ -1,21 +1,16 @@
-//! Where a reported result is. It is read from the index of the log, and no values are made of it but numbers.
-ghost use Rattle.std.specs.Prelude.{◌≡◌, option_map, option_and_then, codes, chars, string_bytes, IfOk, IfSome};
+//! Where a reported result is.
+ghost use Rattle.std.specs.Prelude.{◌≡◌, option_map, option_and_then, codes, chars, string_bytes, IfOk};
 ghost use Rattle.serde_json.specs.Find.{get};
 ghost use Rattle.serde_json.specs.View.{view};
-ghost use Rattle.json_index.specs.Indexed.{data_of};
-ghost use Rattle.json_index.specs.Ordered.{IsOrdered};
-ghost use Rattle.sarif_records.specs.Listed.{value_at};
 ghost use Rattle.sarif_report.specs.Lookup as lookup;
 ghost use Rattle.sarif_report.specs.PathOf.{path_of};
 ghost use Rattle.sarif_report.specs.Reported as said;
 ghost use Rattle.sarif_report.specs.Shown.{shown as text_shown};
 
-use crate::indexed::{kept_member, number_at, places_in, text_at};
-use crate::lookup::artifact_uri;
+use crate::lookup::{artifact_uri, elements_in, number_in, text_in};
 use crate::path::push_path;
 use crate::reporting::Reporting;
 use crate::shown_text::ShownText;
-use json_index::Node;
 use sarif_records::Text;
 use serde_json::Value;
 use std::alloc::{AllocError, Global};
@@ -28,57 +23,33 @@ pub(crate) struct Spot {
     pub(crate) column: Option<u32>,
 }
 
-/// `locations[0].physicalLocation` of the result at this place.
-fn physical_location<'t, 'a>(
-    alloc: Global,
-    place: &Node<'t, 'a>,
-) -> Result<Option<Node<'t, 'a>>, AllocError>
-    requires { IsOrdered (data_of place.now) }
-    ensures value { IfOk result (λ found. option_map value_at found
-        ≡ lookup.physical_location (value_at place.now)) }
-    ensures ordered { IfOk result (λ found. IfSome found (λ node. IsOrdered (data_of node))) }
+/// `locations[0].physicalLocation` of a result.
+fn physical_location(found: &Value) -> Option<&Value>
+    ensures { option_map (λ v. view v.now) result ≡ lookup.physical_location (view found.now) }
 {
-    let locations = places_in(alloc, place, "locations")?;
-    match locations.as_slice() {
-        [] => Ok(None),
-        [first, ..] => Ok(kept_member(first, "physicalLocation")),
+    match elements_in(found, "locations") {
+        [] => None,
+        [first, ..] => first.get("physicalLocation"),
     }
 }
 
 /// The uri of an artifact location, else that of the artifact whose index it has.
-fn location_uri<'a>(
-    alloc: Global,
-    run: &'a Value,
-    location: &Node<'_, 'a>,
-) -> Result<Option<&'a str>, AllocError>
-    requires { IsOrdered (data_of location.now) }
-    ensures { IfOk result (λ uri. option_map (λ s. s.now) uri
-        ≡ lookup.location_uri (view run.now) (value_at location.now)) }
+fn location_uri<'a>(run: &'a Value, location: &'a Value) -> Option<&'a str>
+    ensures { option_map (λ s. s.now) result
+        ≡ lookup.location_uri (view run.now) (view location.now) }
 {
-    if let Some(uri) = text_at(location, "uri") {
-        return Ok(Some(uri));
-    }
-    match number_at(alloc, location, "index")? {
-        Some(index) => Ok(artifact_uri(run, index)),
-        None => Ok(None),
+    match text_in(location, "uri") {
+        Some(uri) => Some(uri),
+        None => artifact_uri(run, number_in(location, "index")?),
     }
 }
 
 /// The uri of a physical location.
-fn uri_of<'a>(
-    alloc: Global,
-    run: &'a Value,
-    physical: &Node<'_, 'a>,
-) -> Result<Option<&'a str>, AllocError>
-    requires { IsOrdered (data_of physical.now) }
-    ensures { IfOk result (λ uri. option_map (λ s. s.now) uri
-        ≡ option_and_then (lookup.location_uri (view run.now))
-        (get (codes "artifactLocation") (value_at physical.now))) }
+fn uri_of<'a>(run: &'a Value, physical: &'a Value) -> Option<&'a str>
+    ensures { option_map (λ s. s.now) result ≡ option_and_then
+        (lookup.location_uri (view run.now)) (get (codes "artifactLocation") (view physical.now)) }
 {
-    match kept_member(physical, "artifactLocation") {
-        Some(location) => location_uri(alloc, run, &location),
-        None => Ok(None),
-    }
+    location_uri(run, physical.get("artifactLocation")?)
 }
 
 /// What is shown of a uri as a path.
@@ -106,85 +77,67 @@ fn path_in(
     alloc: Global,
     root: &str,
     run: &Value,
-    physical: &Node<'_, '_>,
+    physical: &Value,
 ) -> Result<Option<Text>, AllocError>
-    requires { IsOrdered (data_of physical.now) }
     ensures { IfOk result (λ o. o ≡ option_and_then (said.shown_path root.now)
         (option_and_then (lookup.location_uri (view run.now))
-        (get (codes "artifactLocation") (value_at physical.now)))) }
+        (get (codes "artifactLocation") (view physical.now)))) }
 {
-    match uri_of(alloc, run, physical)? {
+    match uri_of(run, physical) {
         None => Ok(None),
         Some(uri) => shown_path(alloc, root, uri),
     }
 }
 
 /// A member of the region, as a line or a column: a whole number from 1 to 2^32 - 1.
-fn position_in(
-    alloc: Global,
-    physical: &Node<'_, '_>,
-    name: &str,
-) -> Result<Option<u32>, AllocError>
-    requires { IsOrdered (data_of physical.now) }
-    ensures { IfOk result (λ o. o ≡ option_and_then lookup.position_number
+fn position_in(physical: &Value, name: &str) -> Option<u32>
+    ensures { result ≡ option_and_then lookup.position_number
         (option_and_then (lookup.number_in name.now)
-        (get (codes "region") (value_at physical.now)))) }
+        (get (codes "region") (view physical.now))) }
 {
-    let Some(region) = kept_member(physical, "region") else {
-        return Ok(None);
-    };
-    let Some(number) = number_at(alloc, &region, name)? else {
-        return Ok(None);
-    };
+    let number = number_in(physical.get("region")?, name)?;
     if 1 <= number && number < 4_294_967_296 {
-        Ok(Some(number as u32))
+        Some(number as u32)
     } else {
-        Ok(None)
+        None
     }
 }
 
 /// A member of the region, where that which it is told beside is there.
-fn position_with<T>(
-    alloc: Global,
-    beside: &Option<T>,
-    physical: &Node<'_, '_>,
-    name: &str,
-) -> Result<Option<u32>, AllocError>
-    requires { IsOrdered (data_of physical.now) }
-    ensures { IfOk result (λ o. o ≡ said.only_with beside.now
-        (option_and_then lookup.position_number (option_and_then (lookup.number_in name.now)
-        (get (codes "region") (value_at physical.now))))) }
+fn position_with<T>(beside: &Option<T>, physical: &Value, name: &str) -> Option<u32>
+    ensures { result ≡ said.only_with beside.now (option_and_then lookup.position_number
+        (option_and_then (lookup.number_in name.now)
+        (get (codes "region") (view physical.now)))) }
 {
     match beside {
-        None => Ok(None),
-        Some(_) => position_in(alloc, physical, name),
+        None => None,
+        Some(_) => position_in(physical, name),
     }
 }
 
-/// What is told of the place of the result at this place.
+/// What is told of the place of a result of a run.
 pub(crate) fn spot_of(
     alloc: Global,
     reporting: &Reporting,
     run: &Value,
-    place: &Node<'_, '_>,
+    found: &Value,
 ) -> Result<Spot, AllocError>
-    requires { IsOrdered (data_of place.now) }
     ensures path { IfOk result (λ spot. spot.path
-        ≡ said.path_in reporting.now (view run.now) (value_at place.now)) }
+        ≡ said.path_in reporting.now (view run.now) (view found.now)) }
     ensures line { IfOk result (λ spot. spot.line
-        ≡ said.line_in reporting.now (view run.now) (value_at place.now)) }
+        ≡ said.line_in reporting.now (view run.now) (view found.now)) }
     ensures column { IfOk result (λ spot. spot.column
-        ≡ said.column_in reporting.now (view run.now) (value_at place.now)) }
+        ≡ said.column_in reporting.now (view run.now) (view found.now)) }
 {
-    let Some(physical) = physical_location(alloc, place)? else {
+    let Some(physical) = physical_location(found) else {
         return Ok(Spot {
             path: None,
             line: None,
             column: None,
         });
     };
-    let path = path_in(alloc, reporting.root.as_str(), run, &physical)?;
-    let line = position_with(alloc, &path, &physical, "startLine")?;
-    let column = position_with(alloc, &line, &physical, "startColumn")?;
+    let path = path_in(alloc, reporting.root.as_str(), run, physical)?;
+    let line = position_with(&path, physical, "startLine");
+    let column = position_with(&line, physical, "startColumn");
     Ok(Spot { path, line, column })
 }

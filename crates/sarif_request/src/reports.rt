@@ -1,6 +1,6 @@
 //! What there is for each report.
 ghost use Rattle.std.specs.Prelude.{◌≡◌, IsTrue, option_map};
-ghost use Rattle.sarif_request.specs.ForReport.{for_report, no_reports};
+ghost use Rattle.sarif_request.specs.ForReport.{are_none, for_report, no_reports};
 
 use sarif_report::Report;
 
@@ -48,7 +48,8 @@ impl<T> Reports<T> {
 
     /// Whether no report was asked for.
     pub fn are_none(&self) -> bool
-        ensures { IsTrue result → self.now ≡ no_reports }
+        ensures said { result ≡ are_none self.now }
+        ensures empty { IsTrue result → self.now ≡ no_reports }
     {
         matches!(
             self,

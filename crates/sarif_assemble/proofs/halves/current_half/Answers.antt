@@ -1,4 +1,4 @@
-use Rattle.std.proofs.Common.{map, ap, ◌∙◌}
+use Rattle.std.proofs.Common.{map, refl, ap, ◌∙◌}
 use Rattle.sarif_judge.specs.Judging.{records_in}
 use Rattle.sarif_judge.specs.Opened.{placed_of}
 use Rattle.sarif_assemble.specs.Halves.{drafts_in}
@@ -9,8 +9,7 @@ pub returns : goal.returns
 returns c = λ file judged.
     let ps = map placed_of c.args.judged.runs.items in
     record {
-      parts = c.in_ok-parts.ensures.parts;
-      whole = c.in_ok-parts.ensures.whole;
+      opened = refl;
       records = c.in_ok-records.ensures.records ∙ ap (λ os. records_in (map (λ o. o.item) os)) judged.outcomes ∙ all_records file ps;
       drafts = c.in_ok-records.ensures.drafts ∙ ap drafts_in judged.outcomes ∙ current_drafts file ps judged.faultless judged.sources;
     }

@@ -5,6 +5,7 @@ use Rattle.sarif_records.specs.Run.{results_total}
 use Rattle.sarif_sources.specs.declared.fault.Source.TheVariants.{Log, Baseline}
 use Rattle.sarif_judge.specs.Judging.{faults_of_runs, run_values}
 use Rattle.sarif_judge.specs.Opened.{placed_of}
+use Rattle.sarif_assemble.specs.Told.{reporting_in}
 use Rattle.sarif_inputs.specs.Faults.{first, IsWanting}
 use Rattle.sarif_inputs.specs.Inputs.{numbered, placed}
 use Rattle.sarif_merge.proofs.MergeAnswers.{judged_logs, judged_baselines, same_runs, refused_by_first, left_after_first}
@@ -38,7 +39,7 @@ prepare-requires-clause-baseline g c κs within =
 
 pub returns-clause-prepared : goal.returns-clause-prepared
 returns-clause-prepared g c = λ ls bs read.
-    same_runs c.args.file.now _ _ (placed (numbered Log 0 ls)) (placed (numbered Baseline 0 bs)) c.in_ok-prepared.prepared c.in_ok-prepared.ensures
+    same_runs c.args.file.now _ _ (placed (numbered Log 0 ls)) (placed (numbered Baseline 0 bs)) (reporting_in c.args.asked.now) c.in_ok-prepared.prepared c.in_ok-prepared.ensures
     (c.in_ok-now.ensures.runs ∙ read.current) (c.in_ok-before.ensures.runs ∙ read.baseline)
 
 pub returns-in_err-now-clause-faults : goal.returns-in_err-now-clause-faults

@@ -31,7 +31,7 @@ returns-in-Err-clause-faulty g c = λ contents tell read faulty.
 pub returns-in-Err-clause-failed : goal.returns-in-Err-clause-failed
 returns-in-Err-clause-failed g c =
     let before = failures c.args.readers.now in
-    let after = failures c.merge_readers.new.readers in
+    let after = failures c.merge_for.new.readers in
     let written = writer_failures c.args.writers.now in
     subst (λ status. RisesIf (nat_eq status 3) (before + written) (after + written)) (sym c.refuse.ensures.status)
     (refused_rise c.in-Err.fault.cause before after written c.in-Err.ensures.unwritten c.in-Err.ensures.read_failed)

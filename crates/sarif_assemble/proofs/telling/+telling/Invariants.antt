@@ -1,8 +1,8 @@
 use Rattle.std.proofs.Common.{◌+◌, ◌*◌}
-use Rattle.sarif_report.proofs.read_back.+findings.Given as goal
+use Rattle.sarif_assemble.proofs.telling.+telling.Given as goal
 
-abbrev pub decreases-findings_at : goal.decreases-findings_at
-decreases-findings_at g l = 2 * l.threads
+abbrev pub decreases-tell_all : goal.decreases-tell_all
+decreases-tell_all g l = 2 * l.threads
 
 abbrev pub decreases-front : goal.decreases-front
 decreases-front g l = 2 * l.few + 1

@@ -1,69 +1,25 @@
--- What is told of a result, beside its level, its state and its place, rests on four of its members.
-use Rattle.std.proofs.Common.{◌≡◌, ◌||◌, ℕ, Bool, true, false, List, [], ◌∷◌, Option, Some, None, codes, bytes_eq, refl, sym, ap, ◌∙◌}
+-- What is told of a result, beside its level and its state, rests on five of its members.
+use Rattle.std.proofs.Common.{◌≡◌, ℕ, List, [], Option, Some, None, codes, refl, ap, ◌∙◌}
 use Rattle.std.specs.Prelude.{chars, is_some, option_and_then, unwrap_or, if◌then◌else◌}
-use Rattle.std.specs.List.{list_any}
 use Rattle.std.specs.Option.{option_or}
-use Rattle.std.proofs.lemmas.Bool.{true≢false}
-use Rattle.std.proofs.lemmas.Slice.Eq.{bytes_eq-Decides}
-use Rattle.serde_json.specs.Data.{Data, Members}
-use Rattle.serde_json.specs.Find.{get, get_member, as_str, as_number, as_u64}
-use Rattle.serde_json.proofs.Views.{get_member-put, get_member-put_other}
-use Rattle.sarif_report.specs.Brief.{with_own, picked, told_names, brief}
-use Rattle.sarif_report.specs.Lookup.{text_in, number_in, own_rule_id, index_of_rule, rule_index, component_by, component_of, driver_of, rule_by, rule_in, descriptor_of, descriptor_id, rule_id, elements_in}
+use Rattle.serde_json.specs.Data.{Data}
+use Rattle.serde_json.specs.Find.{get, as_str, as_array, as_number, as_u64}
+use Rattle.sarif_records.specs.declared.kinds.Level.{Level}
+use Rattle.sarif_records.specs.declared.kinds.State.{State}
+use Rattle.sarif_records.specs.Members.{first_of}
+use Rattle.sarif_records.specs.Run.{elements_or_none}
+use Rattle.sarif_report.specs.declared.reporting.Reporting.{Reporting}
+use Rattle.sarif_report.specs.Lookup.{text_in, number_in, own_rule_id, index_of_rule, rule_index, component_by, component_of, driver_of, rule_by, rule_in, descriptor_of, descriptor_id, rule_id, elements_in, location_uri, physical_location, position_in, position_number}
 use Rattle.sarif_report.specs.Message.{string_named, strings_of, own_string, shared_string, looked_up, text_by, message_of, filled, arguments_in, arguments_of}
-use Rattle.sarif_report.specs.Reported.{help_in, link_of}
+use Rattle.sarif_report.specs.Reported.{help_in, link_of, path_in, shown_path, finding_of}
+use Rattle.sarif_report.proofs.RunsAlike.{AreAlike, run_same}
 
--- ---- members that are picked
-
-own_here : (k : List ℕ) (o : Option Data) (ms : Members) → (o ≡ None → get_member k ms ≡ None) → get_member k (with_own k o ms) ≡ o
-own_here k None ms rest = rest refl
-own_here k (Some d) ms rest = get_member-put k d ms
-
-own_other : (k n : List ℕ) (o : Option Data) (ms : Members) → (k ≡ n → ⊥) → get_member k (with_own n o ms) ≡ get_member k ms
-own_other k n None ms apart = refl
-own_other k n (Some d) ms apart = get_member-put_other k n d ms apart
-
-differ : (k n : List ℕ) → bytes_eq k n ≡ false → k ≡ n → ⊥
-differ k n test same = true≢false (sym ((bytes_eq-Decides k n).1 same) ∙ test)
-
-none_by : (b : Bool) (k n : List ℕ) (d : Data) (ms : Members) → bytes_eq k n ≡ b → get k d ≡ None → get_member k ms ≡ None
-    → get_member k (with_own n (get n d) ms) ≡ None
-none_by true k n d ms test none rest =
-    let same : n ≡ k = sym ((bytes_eq-Decides k n).0 test) in
-    ap (λ m. get_member k (with_own m (get m d) ms)) same ∙ own_here k (get k d) ms (λ e. rest) ∙ none
-none_by false k n d ms test none rest = own_other k n (get n d) ms (differ k n test) ∙ rest
-
-picked_none : (k : List ℕ) (names : List (List ℕ)) (d : Data) → get k d ≡ None → get_member k (picked names d) ≡ None
-picked_none k [] d none = refl
-picked_none k (n ∷ ns) d none = none_by (bytes_eq k n) k n d (picked ns d) refl none (picked_none k ns d none)
-
-picked_by : (b : Bool) (k n : List ℕ) (ns : List (List ℕ)) (d : Data) → bytes_eq k n ≡ b
-    → (list_any (bytes_eq k) ns ≡ true → get_member k (picked ns d) ≡ get k d) → (b || list_any (bytes_eq k) ns) ≡ true
-    → get_member k (with_own n (get n d) (picked ns d)) ≡ get k d
-picked_by true k n ns d test rest h =
-    let same : n ≡ k = sym ((bytes_eq-Decides k n).0 test) in
-    ap (λ m. get_member k (with_own m (get m d) (picked ns d))) same ∙ own_here k (get k d) (picked ns d) (λ e. picked_none k ns d e)
-picked_by false k n ns d test rest h = own_other k n (get n d) (picked ns d) (differ k n test) ∙ rest h
-
-picked_get : (k : List ℕ) (names : List (List ℕ)) (d : Data) → list_any (bytes_eq k) names ≡ true → get_member k (picked names d) ≡ get k d
-picked_get k [] d h = cc
-picked_get k (n ∷ ns) d h = picked_by (bytes_eq k n) k n ns d refl (λ g. picked_get k ns d g) h
-
--- ---- two results with the same members
-
-record AreToldAlike (x y : Data) : Type 0 where
+pub record AreToldAlike (x y : Data) : Type 0 where
   pub rule_id : get (codes "ruleId") x ≡ get (codes "ruleId") y
   pub rule : get (codes "rule") x ≡ get (codes "rule") y
   pub rule_index : get (codes "ruleIndex") x ≡ get (codes "ruleIndex") y
   pub message : get (codes "message") x ≡ get (codes "message") y
-
-brief_alike : (d : Data) → AreToldAlike (brief d) d
-brief_alike d = record {
-  rule_id = picked_get (codes "ruleId") told_names d refl;
-  rule = picked_get (codes "rule") told_names d refl;
-  rule_index = picked_get (codes "ruleIndex") told_names d refl;
-  message = picked_get (codes "message") told_names d refl;
-}
+  pub locations : get (codes "locations") x ≡ get (codes "locations") y
 
 -- ---- the rule
 
@@ -126,15 +82,37 @@ message_same run x y same =
     ap (λ o. filled (arguments_in o) (chars (unwrap_or (option_and_then (text_by run x) o) []))) same.message
     ∙ ap (λ text. filled (arguments_of y) (chars (unwrap_or text []))) (text_same run x y (get (codes "message") y) same)
 
+-- ---- the place
+
+physical_same : (x y : Data) → AreToldAlike x y → physical_location x ≡ physical_location y
+physical_same x y same =
+    ap (λ o. option_and_then (get (codes "physicalLocation")) (first_of (elements_or_none (option_and_then as_array o)))) same.locations
+
+path_same : (reporting : Reporting) (run x y : Data) → AreToldAlike x y → path_in reporting run x ≡ path_in reporting run y
+path_same reporting run x y same =
+    ap (λ p. option_and_then (shown_path reporting.root) (option_and_then (location_uri run) (option_and_then (get (codes "artifactLocation")) p))) (physical_same x y same)
+
+position_same : (name : List ℕ) (x y : Data) → AreToldAlike x y → position_in name x ≡ position_in name y
+position_same name x y same =
+    ap (λ p. option_and_then position_number (option_and_then (number_in name) (option_and_then (get (codes "region")) p))) (physical_same x y same)
+
 -- ---- the whole
 
-pub told_rule : (run result : Data) → rule_id run (brief result) ≡ rule_id run result
-told_rule run result = id_same run (brief result) result (brief_alike result)
+result_same : (reporting : Reporting) (run x y : Data) (level : Level) (state : State) → AreToldAlike x y
+    → finding_of reporting run x level state ≡ finding_of reporting run y level state
+unfolding finding_of
+result_same reporting run x y level state same =
+    rw (
+      id_same run x y same,
+      message_same run x y same,
+      path_same reporting run x y same,
+      position_same (codes "startLine") x y same,
+      position_same (codes "startColumn") x y same,
+      help_same run x y same,
+    ) refl
 
-pub told_help : (run result : Data) → help_in run (brief result) ≡ help_in run result
-told_help run result = help_same run (brief result) result (brief_alike result)
-
-pub told_message : (run result : Data) → message_of run (brief result) ≡ message_of run result
-told_message run result = message_same run (brief result) result (brief_alike result)
-
-pub ruleset told_brief = (told_rule, told_help, told_message)
+-- the same is told of results that are alike, of runs that are alike
+pub same_told : (reporting : Reporting) (a b x y : Data) (level : Level) (state : State) → AreAlike a b → AreToldAlike x y
+    → finding_of reporting a x level state ≡ finding_of reporting b y level state
+same_told reporting a b x y level state runs results =
+    run_same reporting a b x level state runs ∙ result_same reporting b x y level state results

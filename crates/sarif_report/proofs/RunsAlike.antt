@@ -1,21 +1,18 @@
--- What is told of a result doesn't rest on the results of its run.
-use Rattle.std.proofs.Common.{◌≡◌, ℕ, List, [], ◌∷◌, Option, Some, None, codes, refl, ap, ◌∙◌}
+-- What is told of a result rests on two members of its run: its tool and its artifacts.
+use Rattle.std.proofs.Common.{◌≡◌, ℕ, List, [], Option, Some, None, codes, refl, ap, ◌∙◌}
 use Rattle.std.specs.Prelude.{chars, is_some, slice_get, option_and_then, unwrap_or, if◌then◌else◌}
-use Rattle.std.specs.List.{filter_map, cons_option}
 use Rattle.std.specs.Option.{option_or}
 use Rattle.serde_json.specs.Data.{Data}
 use Rattle.serde_json.specs.Find.{get, as_str, as_array}
-use Rattle.json_index.specs.Stripping.{stripped}
-use Rattle.json_index.proofs.Stripped.{stripped-without}
 use Rattle.sarif_records.specs.declared.kinds.Level.{Level}
 use Rattle.sarif_records.specs.declared.kinds.State.{State}
-use Rattle.sarif_records.specs.Bare.{bare, without_member}
+use Rattle.sarif_records.specs.Bare.{bare}
 use Rattle.sarif_records.specs.Run.{elements_or_none}
 use Rattle.sarif_records.proofs.Beside.{bare_get}
 use Rattle.sarif_report.specs.declared.reporting.Reporting.{Reporting}
 use Rattle.sarif_report.specs.Lookup.{text_in, element_at, own_rule_id, rule_in, driver_of, extension_index, component_by, component_of, descriptor_of, rule_id, artifact_uri, location_uri, physical_location, number_in}
 use Rattle.sarif_report.specs.Message.{string_named, strings_of, own_string, shared_string, looked_up, text_by, message_of, filled, arguments_of}
-use Rattle.sarif_report.specs.Reported.{tool_in, help_in, link_of, path_in, shown_path, finding_of, finding_by, finding_if, level_in, state_in}
+use Rattle.sarif_report.specs.Reported.{tool_in, help_in, link_of, path_in, shown_path, finding_of}
 
 -- two runs have the same tool and the same artifacts
 pub record AreAlike (a b : Data) : Type 0 where
@@ -90,24 +87,11 @@ message_same a b x same =
 
 -- ---- the whole
 
-finding_same : (reporting : Reporting) (a b x : Data) (level : Level) (state : State) → AreAlike a b
+pub run_same : (reporting : Reporting) (a b x : Data) (level : Level) (state : State) → AreAlike a b
     → finding_of reporting a x level state ≡ finding_of reporting b x level state
 unfolding finding_of
-finding_same reporting a b x level state same =
+run_same reporting a b x level state same =
     rw (tool_same a b same, rule_same a b x same, message_same a b x same, path_same reporting a b x same, help_same a b x same) refl
-
-finding_by_same : (reporting : Reporting) (a b x : Data) (level : Option Level) (state : Option State) → AreAlike a b
-    → finding_by reporting a x level state ≡ finding_by reporting b x level state
-finding_by_same reporting a b x None state same = refl
-finding_by_same reporting a b x (Some level) None same = refl
-finding_by_same reporting a b x (Some level) (Some state) same = rw (finding_same reporting a b x level state same) refl
-
-each_same : (reporting : Reporting) (a b : Data) (xs : List Data) → AreAlike a b
-    → filter_map (finding_if reporting a) xs ≡ filter_map (finding_if reporting b) xs
-each_same reporting a b [] same = refl
-each_same reporting a b (x ∷ xs) same =
-    ap (λ o. cons_option o (filter_map (finding_if reporting a) xs)) (finding_by_same reporting a b x (level_in x) (state_in x) same)
-    ∙ ap (cons_option (finding_if reporting b x)) (each_same reporting a b xs same)
 
 bare_alike : (run : Data) → AreAlike (bare run) run
 bare_alike run = record {
@@ -115,11 +99,7 @@ bare_alike run = record {
   artifacts = bare_get (codes "artifacts") run refl;
 }
 
--- the results of a run are told by the run without them
-pub told_bare : (reporting : Reporting) (run : Data) (xs : List Data)
-    → filter_map (finding_if reporting (bare run)) xs ≡ filter_map (finding_if reporting run) xs
-told_bare reporting run xs = each_same reporting (bare run) run xs (bare_alike run)
-
--- a run may be stripped before or after its results are left out
-pub stripped_bare : (run : Data) → stripped (without_member (codes "results") run) ≡ bare (stripped run)
-stripped_bare run = stripped-without (codes "results") run
+-- it doesn't rest on the run's results
+pub told_bare : (reporting : Reporting) (run x : Data) (level : Level) (state : State)
+    → finding_of reporting (bare run) x level state ≡ finding_of reporting run x level state
+told_bare reporting run x level state = run_same reporting (bare run) run x level state (bare_alike run)
