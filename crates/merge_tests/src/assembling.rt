@@ -1,7 +1,7 @@
 //! The log of nothing, worked by hand.
 ghost use Rattle.std.specs.Prelude.{◌≡◌, []};
 
-use sarif_assemble::{Judged, Merged, assemble, prepare};
+use sarif_assemble::{Asked, Judged, Merged, assemble, prepare};
 use sarif_counts::{Options, Policy, Verdict};
 use sarif_records::{Level, State};
 use sarif_suppress::Suppressions;
@@ -35,7 +35,11 @@ fn merge_nothing<R: Threads + Sync>(
     file: &Suppressions,
     options: &Options,
 ) -> Result<Merged, AllocError> {
-    let prepared = prepare(rt, alloc, no_runs(alloc), no_runs(alloc), file, options)?;
+    let asked = Asked {
+        options,
+        reporting: None,
+    };
+    let prepared = prepare(rt, alloc, no_runs(alloc), no_runs(alloc), file, &asked)?;
     assemble(alloc, prepared, &options.policy)
 }
 

@@ -4,7 +4,7 @@ use crate::merge::merging::{
     Given, NOTHING, Wanted, ZEROS, expect_log, expect_part, expect_runs, log_of, log_with, merge,
     one_log, seed_of,
 };
-use sarif_merge::{Counted, NoGate, Options, Policy, Readers, Verdict, merge_readers};
+use sarif_merge::{Asked, Counted, NoGate, Options, Policy, Readers, Verdict, merge_readers};
 use sarif_records::{Level, State};
 use std::alloc::{AllocError, Global};
 use std::test::Fail;
@@ -36,7 +36,11 @@ fn a_log_that_a_reader_gives(rt: HostRuntime) -> Result<(), Fail> {
         workers: 1,
         seed: seed_of(ZEROS)?,
     };
-    let merged = merge_readers(&rt, rt.alloc(), &mut readers, &options, &NoGate)?;
+    let asked = Asked {
+        options: &options,
+        reporting: None,
+    };
+    let merged = merge_readers(&rt, rt.alloc(), &mut readers, &asked, &NoGate)?;
     assert_eq!(rt; merged.log.as_str(), MERGED);
     assert_eq!(rt; merged.verdict, Verdict::Pass);
     Ok(())
