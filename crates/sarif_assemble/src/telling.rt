@@ -16,7 +16,7 @@ use crate::left::absent_states;
 use crate::told::Told;
 use sarif_judge::{OpenedRun, Spot, list_spots};
 use sarif_records::State;
-use sarif_report::{Finding, Reporting, finding_of};
+use sarif_report::{Finding, Reporting, TOLD_MEMBERS, finding_of};
 use sarif_write::Draft;
 use std::alloc::{AllocError, Global};
 use std::thread;
@@ -85,7 +85,7 @@ fn list_told<'w, 't, 'a>(
 }
 
 /// What is told of one of them.
-#[tactic(auto, using(sarif_report::proofs::RunsAlike::told_bare))]
+#[tactic(auto, using(sarif_report::proofs::ResultsAlike::told_picked))]
 fn tell(
     alloc: Global,
     reporting: &Reporting,
@@ -93,7 +93,7 @@ fn tell(
 ) -> Result<Finding, AllocError>
     ensures { IfOk result (λ finding. finding ≡ told_by reporting.now told.now) }
 {
-    let found = told.run.result(alloc, told.seq)?;
+    let found = told.run.picked(alloc, told.seq, &TOLD_MEMBERS)?;
     let run = told.run.bare();
     finding_of(alloc, reporting, run, &found, told.level, told.state)
 }

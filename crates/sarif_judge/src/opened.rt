@@ -1,5 +1,5 @@
 //! A run with what its results need of it.
-ghost use Rattle.std.specs.Prelude.{◌≡◌, ◌<◌, ◌≤◌, false, is_some, length, IfOk};
+ghost use Rattle.std.specs.Prelude.{◌≡◌, ◌<◌, ◌≤◌, false, is_some, length, map, IfOk};
 ghost use Rattle.serde_json.specs.View.{view};
 ghost use Rattle.serde_json.specs.Written.{has_float};
 ghost use Rattle.sarif_records.specs.Indexed.{run_of};
@@ -47,6 +47,7 @@ impl<'t, 'a> OpenedRun<'t, 'a> {
     ghost use Rattle.sarif_judge.specs.Judging.{opening_fault};
     ghost use Rattle.sarif_judge.specs.Opened.{placed_of};
     ghost use Rattle.sarif_records.specs.Bare.{bare};
+    ghost use Rattle.sarif_records.specs.Picked.{picked};
     ghost use Rattle.sarif_records.specs.Run.{result_at, results_array, results_of};
 
     /// Opens a run that holds no number with a fraction. The tables of its head hash with `seed`, on which no
@@ -106,12 +107,14 @@ impl<'t, 'a> OpenedRun<'t, 'a> {
         self.run.bare()
     }
 
-    /// Result `seq` of the run, counted from 0. `AllocError` where memory for its value is wanting.
-    pub fn result(&self, alloc: Global, seq: u32) -> Result<Value, AllocError>
+    /// Result `seq` of the run, counted from 0, with those of its members alone that have one of these names.
+    /// `AllocError` where memory for them is wanting.
+    pub fn picked(&self, alloc: Global, seq: u32, names: &[&str]) -> Result<Value, AllocError>
         requires { seq < length (results_of (placed_of self.now).run) }
-        ensures { IfOk result (λ found. view found ≡ result_at (placed_of self.now).run seq) }
+        ensures { IfOk result (λ found. view found ≡ picked (map (λ name. name.now) names.now)
+            (result_at (placed_of self.now).run seq)) }
     {
-        self.run.result(alloc, seq)
+        self.run.picked(alloc, seq, names)
     }
 
     /// The run without its results, taken out.

@@ -15,3 +15,4 @@ pub mod ListRuns
 pub mod IndexEach
 pub mod SameMembers
 pub mod ReadResults
+pub mod PickedMembers

@@ -15,3 +15,4 @@ pub mod Bare
 pub mod Listed
 pub mod Indexed
 pub mod IndexFault
+pub mod Picked

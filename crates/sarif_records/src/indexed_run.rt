@@ -6,6 +6,7 @@ ghost use Rattle.sarif_records.specs.Listed.{nodes_of};
 
 use crate::filling::{values_of, with_results};
 use crate::listed::Listed;
+use crate::picking::pick_members;
 use crate::run::RawRun;
 use serde_json::Value;
 use std::alloc::{AllocError, Global};
@@ -22,12 +23,13 @@ pub struct IndexedRun<'t, 'a> {
 }
 
 impl<'t, 'a> IndexedRun<'t, 'a> {
-    ghost use Rattle.std.specs.Prelude.{◌≡◌, ◌<◌, ◌≤◌, length, is_some, IfOk, IsTrue};
+    ghost use Rattle.std.specs.Prelude.{◌≡◌, ◌<◌, ◌≤◌, length, map, is_some, IfOk, IsTrue};
     ghost use Rattle.serde_json.specs.View.{view};
     ghost use Rattle.sarif_records.specs.Run.{results_of, results_array, result_at};
     ghost use Rattle.sarif_records.specs.Bare.{bare, is_bare};
     ghost use Rattle.sarif_records.specs.Listed.{nodes_of};
     ghost use Rattle.sarif_records.specs.Indexed.{run_of};
+    ghost use Rattle.sarif_records.specs.Picked.{picked};
 
     /// A run of an object without results, and of its results.
     pub(crate) fn new(bare: Value, results: Listed<'t, 'a>) -> IndexedRun<'t, 'a>
@@ -85,6 +87,20 @@ impl<'t, 'a> IndexedRun<'t, 'a> {
     {
         match &self.results {
             Listed::Array(nodes) => nodes[seq as usize].to_value(alloc),
+            Listed::Missing | Listed::Null => Ok(Value::Null),
+        }
+    }
+
+    /// Result `seq` of the run, with those of its members alone that have one of these names. `AllocError` where
+    /// memory for them is wanting.
+    #[tactic(auto, using(crate::proofs::RunOf::count_results, crate::proofs::RunOf::nth_result))]
+    pub fn picked(&self, alloc: Global, seq: u32, names: &[&str]) -> Result<Value, AllocError>
+        requires { seq < length (results_of (run_of self.now)) }
+        ensures { IfOk result (λ value. view value
+            ≡ picked (map (λ name. name.now) names.now) (result_at (run_of self.now) seq)) }
+    {
+        match &self.results {
+            Listed::Array(nodes) => pick_members(alloc, &nodes[seq as usize], names),
             Listed::Missing | Listed::Null => Ok(Value::Null),
         }
     }

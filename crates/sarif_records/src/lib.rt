@@ -16,6 +16,7 @@ mod message;
 mod nodes;
 mod own_members;
 mod parts;
+mod picking;
 mod place;
 mod reading;
 mod record;

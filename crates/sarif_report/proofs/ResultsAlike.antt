@@ -1,18 +1,21 @@
 -- What is told of a result, beside its level and its state, rests on five of its members.
-use Rattle.std.proofs.Common.{◌≡◌, ℕ, List, [], Option, Some, None, codes, refl, ap, ◌∙◌}
+use Rattle.std.proofs.Common.{◌≡◌, ℕ, List, [], ◌∷◌, Option, Some, None, codes, refl, ap, ◌∙◌}
 use Rattle.std.specs.Prelude.{chars, is_some, option_and_then, unwrap_or, if◌then◌else◌}
 use Rattle.std.specs.Option.{option_or}
 use Rattle.serde_json.specs.Data.{Data}
 use Rattle.serde_json.specs.Find.{get, as_str, as_array, as_number, as_u64}
 use Rattle.sarif_records.specs.declared.kinds.Level.{Level}
 use Rattle.sarif_records.specs.declared.kinds.State.{State}
+use Rattle.sarif_records.specs.Bare.{bare}
 use Rattle.sarif_records.specs.Members.{first_of}
+use Rattle.sarif_records.specs.Picked.{picked}
 use Rattle.sarif_records.specs.Run.{elements_or_none}
+use Rattle.sarif_records.proofs.PickedMembers.{picked_get}
 use Rattle.sarif_report.specs.declared.reporting.Reporting.{Reporting}
 use Rattle.sarif_report.specs.Lookup.{text_in, number_in, own_rule_id, index_of_rule, rule_index, component_by, component_of, driver_of, rule_by, rule_in, descriptor_of, descriptor_id, rule_id, elements_in, location_uri, physical_location, position_in, position_number}
 use Rattle.sarif_report.specs.Message.{string_named, strings_of, own_string, shared_string, looked_up, text_by, message_of, filled, arguments_in, arguments_of}
 use Rattle.sarif_report.specs.Reported.{help_in, link_of, path_in, shown_path, finding_of}
-use Rattle.sarif_report.proofs.RunsAlike.{AreAlike, run_same}
+use Rattle.sarif_report.proofs.RunsAlike.{bare_alike, run_same, AreAlike}
 
 pub record AreToldAlike (x y : Data) : Type 0 where
   pub rule_id : get (codes "ruleId") x ≡ get (codes "ruleId") y
@@ -116,3 +119,23 @@ pub same_told : (reporting : Reporting) (a b x y : Data) (level : Level) (state 
     → finding_of reporting a x level state ≡ finding_of reporting b y level state
 same_told reporting a b x y level state runs results =
     run_same reporting a b x level state runs ∙ result_same reporting b x y level state results
+
+-- ---- as much of a result as is told
+
+told_names : List (List ℕ)
+told_names = codes "ruleId" ∷ codes "rule" ∷ codes "ruleIndex" ∷ codes "message" ∷ codes "locations" ∷ []
+
+picked_alike : (x : Data) → AreToldAlike (picked told_names x) x
+unfolding told_names
+picked_alike x = record {
+  rule_id = picked_get (codes "ruleId") told_names x refl;
+  rule = picked_get (codes "rule") told_names x refl;
+  rule_index = picked_get (codes "ruleIndex") told_names x refl;
+  message = picked_get (codes "message") told_names x refl;
+  locations = picked_get (codes "locations") told_names x refl;
+}
+
+-- what is told of a result is told by these members, and by the run without its results
+pub told_picked : (reporting : Reporting) (run x : Data) (level : Level) (state : State)
+    → finding_of reporting (bare run) (picked told_names x) level state ≡ finding_of reporting run x level state
+told_picked reporting run x level state = same_told reporting (bare run) run (picked told_names x) x level state (bare_alike run) (picked_alike x)

@@ -93,13 +93,8 @@ unfolding finding_of
 run_same reporting a b x level state same =
     rw (tool_same a b same, rule_same a b x same, message_same a b x same, path_same reporting a b x same, help_same a b x same) refl
 
-bare_alike : (run : Data) → AreAlike (bare run) run
+pub bare_alike : (run : Data) → AreAlike (bare run) run
 bare_alike run = record {
   tool = bare_get (codes "tool") run refl;
   artifacts = bare_get (codes "artifacts") run refl;
 }
-
--- it doesn't rest on the run's results
-pub told_bare : (reporting : Reporting) (run x : Data) (level : Level) (state : State)
-    → finding_of reporting (bare run) x level state ≡ finding_of reporting run x level state
-told_bare reporting run x level state = run_same reporting (bare run) run x level state (bare_alike run)

@@ -34,7 +34,7 @@ pub use laws::{
 };
 pub use markdown_table::markdown_report;
 pub use report::{Report, Told, report_text};
-pub use reported_results::{finding_of, reported};
+pub use reported_results::{TOLD_MEMBERS, finding_of, reported};
 pub use reporting::Reporting;
 pub use shown_text::{MOST_CHARACTERS, shown};
 pub use text_lines::text_report;

@@ -123,8 +123,11 @@ fn message_in(alloc: Global, run: &Value, found: &Value) -> Result<Text, AllocEr
     Text::from_string(message)
 }
 
+/// The members of a result that are told of, beside its level and its state: what is told rests on no other.
+pub const TOLD_MEMBERS: [&str; 5] = ["ruleId", "rule", "ruleIndex", "message", "locations"];
+
 /// What is told of a result of a run that has this level and this baseline state. Of the run its results aren't
-/// looked at. `AllocError` where memory is wanting.
+/// looked at, nor are other members of the result than `TOLD_MEMBERS`. `AllocError` where memory is wanting.
 #[tactic(auto, unfolding(crate::specs::Reported::finding_of))]
 pub fn finding_of(
     alloc: Global,
