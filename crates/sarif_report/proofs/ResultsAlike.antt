@@ -122,11 +122,10 @@ same_told reporting a b x y level state runs results =
 
 -- ---- as much of a result as is told
 
-told_names : List (List ℕ)
+abbrev pub told_names : List (List ℕ)
 told_names = codes "ruleId" ∷ codes "rule" ∷ codes "ruleIndex" ∷ codes "message" ∷ codes "locations" ∷ []
 
 picked_alike : (x : Data) → AreToldAlike (picked told_names x) x
-unfolding told_names
 picked_alike x = record {
   rule_id = picked_get (codes "ruleId") told_names x refl;
   rule = picked_get (codes "rule") told_names x refl;
