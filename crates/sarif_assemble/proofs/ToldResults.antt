@@ -1,9 +1,9 @@
 -- What is told of results by their drafts is what is told of them as they are written.
-use Rattle.std.proofs.Common.{◌≡◌, ℕ, Bool, true, false, ◌&&◌, not, List, [], ◌∷◌, Option, Some, None, map, length, codes, bytes_eq, refl, sym, ap, ◌∙◌, arith}
+use Rattle.std.proofs.Common.{◌≡◌, ℕ, Bool, true, false, ◌&&◌, not, List, [], ◌∷◌, Some, None, map, length, codes, refl, sym, ap, ◌∙◌, arith}
 use Rattle.std.specs.Prelude.{option_and_then, if◌then◌else◌}
 use Rattle.std.specs.List.{AllByRecursion, cons_option, filter_map}
 use Rattle.serde_json.specs.Data.{Data, null, boolean, number, string, array, object, Items, Members, put}
-use Rattle.serde_json.specs.Find.{as_str, get, get_member}
+use Rattle.serde_json.specs.Find.{as_str, get_member}
 use Rattle.serde_json.proofs.Views.{get_member-put_other}
 use Rattle.sarif_records.specs.declared.kinds.Level.{Level}
 use Rattle.sarif_records.specs.declared.kinds.Level.TheVariants.{NoLevel, Note, Warning, Error}
@@ -15,12 +15,10 @@ use Rattle.sarif_records.specs.State.{state_name, state_named}
 use Rattle.sarif_suppress.specs.declared.suppressions.Applied.{Applied}
 use Rattle.sarif_counts.specs.CountOf.{items_in, suppresses}
 use Rattle.sarif_counts.specs.Policy.{is_listed}
-use Rattle.sarif_report.specs.declared.finding.Finding.{Finding}
 use Rattle.sarif_report.specs.declared.reporting.Reporting.{Reporting}
 use Rattle.sarif_report.specs.Reported.{finding_by, finding_if, finding_of, is_active, level_in, state_in}
 use Rattle.sarif_report.proofs.ResultsAlike.{same_told, AreToldAlike}
 use Rattle.sarif_report.proofs.RunsAlike.{AreAlike}
-use Rattle.sarif_write.specs.declared.draft.Draft.{Draft}
 use Rattle.sarif_write.specs.Annotated.{annotated_members}
 use Rattle.sarif_write.specs.Drafts.{draft_by, drafts_by, listed_in, members_in, unapplied, unless_taken, IsObject}
 use Rattle.sarif_write.specs.MergedRuns.{Listing, unmatched, written, written_all}

@@ -1,8 +1,7 @@
 -- What is told of the runs of a merged log, from the drafts of their results.
-use Rattle.std.proofs.Common.{◌≡◌, ◌≤◌, ◌+◌, ◌++◌, ℕ, zero, suc, Bool, true, false, List, [], ◌∷◌, Option, Some, None, map, take, drop, length, length-append, append_assoc, codes, refl, sym, ap, ◌∙◌, arith}
+use Rattle.std.proofs.Common.{◌≡◌, ◌+◌, ◌++◌, ℕ, zero, suc, Bool, true, false, List, [], ◌∷◌, Option, Some, None, map, take, drop, length, length-append, append_assoc, codes, refl, sym, ap, ◌∙◌, arith}
 use Rattle.std.proofs.Math.Seq.{take-append_seam, drop-append_seam, get_or-append_seam}
 use Rattle.std.proofs.lemmas.List.{map-append, take-map, drop-map, drop_all, drop_more, length-map, length-take-le, length-drop}
-use Rattle.std.proofs.lemmas.List.Concat.{flat_map-append}
 use Rattle.std.specs.Prelude.{flat_map, option_and_then}
 use Rattle.std.proofs.lemmas.List.Elements.{All-cons, All-drop, All-nil}
 use Rattle.std.specs.List.{All, AllByRecursion, cons_option, filter_map, range_with_len}
@@ -23,7 +22,7 @@ use Rattle.sarif_judge.specs.declared.spots.Spot.{Spot}
 use Rattle.sarif_judge.specs.Judging.{run_values}
 use Rattle.sarif_judge.specs.Leftover.{not_taken}
 use Rattle.sarif_judge.specs.Placed.{Placed}
-use Rattle.sarif_judge.specs.Spots.{no_run, placed_at, spots_from}
+use Rattle.sarif_judge.specs.Spots.{no_run, placed_at, spots_from, spots_in}
 use Rattle.sarif_report.specs.declared.finding.Finding.{Finding}
 use Rattle.sarif_report.specs.declared.reporting.Reporting.{Reporting}
 use Rattle.sarif_report.specs.Reported.{finding_if, reported_in}
@@ -250,16 +249,19 @@ many all p run a (suc m) is whole =
     ∙ ap (λ ps. (p.run, result_at p.run a) ∷ ps) (many all p run (a + 1) m is (omega (arith, whole)))
     ∙ sym (ap (with_run p.run) (drop_more (results_of p.run) a null (omega (arith, whole))))
 
+of_run : (all : List Placed) (p : Placed) (run : ℕ) → placed_at all run ≡ p
+    → map (pair_at all) (spots_in run (length (results_of p.run))) ≡ own_results p.run
+of_run all p run is = many all p run 0 (length (results_of p.run)) is (omega arith)
+
 from : (done rest : List Placed) (n : ℕ) → n ≡ length done → map (pair_at (done ++ rest)) (spots_from n rest) ≡ flat_map own_results (run_values rest)
 from done [] n is = refl
 from done (p ∷ rest) n is =
     let all = done ++ p ∷ rest in
     let here : placed_at all n ≡ p = ap (placed_at all) is ∙ get_or-append_seam done p rest no_run in
     let again : (done ++ p ∷ []) ++ rest ≡ all = append_assoc done (p ∷ []) rest in
-    let these = map (λ seq. record { run = n; seq = seq }) (range_with_len 0 (length (results_of p.run))) in
     let later = spots_from (n + 1) rest in
-    map-append (pair_at all) these later
-    ∙ ap (λ ps. ps ++ map (pair_at all) later) (many all p n 0 (length (results_of p.run)) here (omega arith))
+    map-append (pair_at all) (spots_in n (length (results_of p.run))) later
+    ∙ ap (λ ps. ps ++ map (pair_at all) later) (of_run all p n here)
     ∙ ap (λ ps. own_results p.run ++ map (pair_at ps) later) (sym again)
     ∙ ap (λ ps. own_results p.run ++ ps) (from (done ++ p ∷ []) rest (n + 1) (omega (arith, is, length-append done (p ∷ []))))
 

@@ -1,5 +1,5 @@
 -- What is told of results before their log is written. No public clause of the merge speaks of it.
-use Rattle.std.specs.Prelude.{Bool, not, ◌&&◌, List, [], ◌∷◌, map, Option, Some, None, if◌then◌else◌}
+use Rattle.std.specs.Prelude.{not, ◌&&◌, List, [], ◌∷◌, map, Option, Some, None, if◌then◌else◌}
 use Rattle.std.specs.List.{cons_option}
 use Rattle.serde_json.specs.Data.{Data}
 use Rattle.sarif_records.specs.declared.kinds.State.{State}

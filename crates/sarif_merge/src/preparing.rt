@@ -1,5 +1,5 @@
 //! What a merge writes: the sources are indexed, their results judged and matched.
-ghost use Rattle.std.specs.Prelude.{◌≡◌, ◌≤◌, ◌+◌, ◌++◌, ℕ, List, length, map, option_map, IfOk};
+ghost use Rattle.std.specs.Prelude.{◌≡◌, ◌≤◌, ◌+◌, ◌++◌, ℕ, List, length, option_map, IfOk};
 ghost use Rattle.sarif_judge.specs.Judging.{faults_of_runs};
 ghost use Rattle.sarif_sources.specs.Failing.{IsQuiet};
 ghost use Rattle.sarif_assemble.specs.Prepared.{IsPrepared};

@@ -1,4 +1,4 @@
-use Rattle.std.proofs.Common.{◌≡◌, map, length, ap, ◌∙◌, arith}
+use Rattle.std.proofs.Common.{map, length, ap, arith}
 use Rattle.std.proofs.lemmas.List.{length-map}
 use Rattle.sarif_judge.specs.Judging.{run_values}
 use Rattle.sarif_judge.specs.Opened.{placed_of}

@@ -1,11 +1,11 @@
-use Rattle.std.proofs.Common.{rules, ◌≡◌, Some, map, length, sym, ap, ◌∙◌, subst, arith}
+use Rattle.std.proofs.Common.{length, sym, ap, ◌∙◌, subst, arith}
 use Rattle.std.specs.List.{flat_map}
 use Rattle.sarif_records.specs.Run.{results_of}
 use Rattle.sarif_judge.specs.Judging.{records_of, run_values}
 use Rattle.sarif_judge.specs.Leftover.{not_taken}
 use Rattle.sarif_write.specs.Drafts.{own_count, ArePartsOf}
 use Rattle.sarif_assemble.specs.Baselines.{baseline_drafts, IsLeft}
-use Rattle.sarif_assemble.specs.LogBy.{states_of, taken_of}
+use Rattle.sarif_assemble.specs.LogBy.{taken_of}
 use Rattle.sarif_assemble.proofs.Sides.{results_long, taken_long, without_results}
 use Rattle.sarif_assemble.proofs.WrittenSides.{current_long, current_side, left_few, left_is_side, written}
 use Rattle.sarif_assemble.proofs.preparing.prepare_sides.Goals as goal

@@ -1,13 +1,12 @@
-use Rattle.std.proofs.Common.{◌≡◌, ◌++◌, Some, map, length, sym, ap, ◌∙◌, arith}
+use Rattle.std.proofs.Common.{◌++◌, Some, map, length, sym, ap, ◌∙◌}
 use Rattle.std.proofs.lemmas.List.{length-map}
 use Rattle.sarif_records.specs.declared.kinds.State.TheVariants.{Absent}
 use Rattle.sarif_match.specs.Partners.{partners_of}
 use Rattle.sarif_judge.specs.Leftover.{found_at, not_taken}
-use Rattle.sarif_judge.specs.Opened.{placed_of}
 use Rattle.sarif_judge.specs.Spots.{spots_from}
 use Rattle.sarif_judge.proofs.AllSpots.{spots_count}
 use Rattle.sarif_assemble.specs.Baselines.{baseline_drafts}
-use Rattle.sarif_assemble.specs.LogBy.{states_of, taken_of}
+use Rattle.sarif_assemble.specs.LogBy.{states_of}
 use Rattle.sarif_assemble.specs.Telling.{pair_at, told_each}
 use Rattle.sarif_assemble.specs.Told.{if_asked, reporting_in}
 use Rattle.sarif_assemble.proofs.LeftTexts.{long}
