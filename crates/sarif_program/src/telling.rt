@@ -42,7 +42,8 @@ fn text_of<T: Threads + Sync>(
     Ok(Some(Text::from_string(text)?))
 }
 
-/// The texts of the reports that there are writers for, but of that for GitLab.
+/// The texts of the reports that there are writers for, but of that for GitLab. The two that tell of each result
+/// are made beside each other.
 #[tactic(auto, using(crate::proofs::Asked::asked_text))]
 fn texts_beside<W, T: Threads + Sync>(
     rt: &T,
@@ -53,8 +54,21 @@ fn texts_beside<W, T: Threads + Sync>(
     ensures { IfOk result (λ texts. AreBeside writers.now (λ one. report_of one
         (count_at told.now.counts.now) told.now.policy.now told.now.findings.now) texts) }
 {
-    let text = text_of(rt, alloc, told, Report::Text, writers.text.is_some(), 1)?;
-    let github = text_of(rt, alloc, told, Report::Github, writers.github.is_some(), 1)?;
+    let has_text = writers.text.is_some();
+    let has_github = writers.github.is_some();
+    let lines = move || -> Result<Option<Text>, AllocError>
+        ensures { IfOk result (λ text. text ≡ (if has_text then Some (report_of kind.Text
+            (count_at told.entry.now.counts.now) told.entry.now.policy.now
+            told.entry.now.findings.now) else None)) }
+    { text_of(rt, alloc, told, Report::Text, has_text, 1) };
+    let commands = move || -> Result<Option<Text>, AllocError>
+        ensures { IfOk result (λ text. text ≡ (if has_github then Some (report_of kind.Github
+            (count_at told.entry.now.counts.now) told.entry.now.policy.now
+            told.entry.now.findings.now) else None)) }
+    { text_of(rt, alloc, told, Report::Github, has_github, 1) };
+    let (text, github) = thread::join(rt, lines, commands);
+    let text = text?;
+    let github = github?;
     let markdown = text_of(
         rt,
         alloc,

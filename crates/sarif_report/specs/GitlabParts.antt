@@ -12,7 +12,7 @@ use Rattle.serde_json.specs.Written.{compact_text}
 use Rattle.sarif_records.specs.declared.kinds.Level.{Level}
 use Rattle.sarif_report.specs.declared.finding.Finding.{Finding}
 use Rattle.sarif_report.specs.declared.identities.Identity.{Identity}
-use Rattle.sarif_report.specs.GitlabReport.{path_or_null, or_unknown, severity}
+use Rattle.sarif_report.specs.GitlabReport.{mark_of, or_unknown, path_or_null, quality_of, severity}
 
 -- whether a byte stands in a string of JSON as it is
 abbrev pub stands_in_string : ℕ → Bool
@@ -31,9 +31,13 @@ identity_of f =
 abbrev pub rank_text : ℕ → List ℕ
 rank_text rank = codes "," ++ (decimal rank ++ codes "]")
 
--- the same, and the hash of what is hashed of the first result with it
+-- the same, the hash of what is hashed of the first result with it, and the object of that one
 abbrev pub identity_with : Finding → Identity
-identity_with f = record { text = identity_of f; first = sha256 (identity_of f ++ rank_text 0) }
+identity_with f = record {
+  text = identity_of f;
+  first = sha256 (identity_of f ++ rank_text 0);
+  object = compact_text (quality_of f (mark_of f 0));
+}
 
 -- the first 64 bits of a digest
 abbrev pub number_in : List ℕ → ℕ

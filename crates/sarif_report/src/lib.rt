@@ -14,6 +14,7 @@ mod lookup;
 mod markdown_table;
 mod message;
 mod path;
+mod quality;
 mod quoted;
 mod report;
 mod reported_results;

@@ -1,7 +1,7 @@
 use Rattle.std.proofs.Common.{◌++◌, codes, ◌∙◌}
 use Rattle.sarif_report.specs.GitlabParts.{quoted_text, rule_text, location_text, severity_text}
 use Rattle.sarif_report.proofs.GitlabMore.{quality_parts, joined, joined_before}
-use Rattle.sarif_report.proofs.gitlab_array.push_quality.Goals as goal
+use Rattle.sarif_report.proofs.quality.push_quality.Goals as goal
 
 pub returns : goal.returns
 returns c =

@@ -2,7 +2,7 @@ use Rattle.std.proofs.Common.{rules, ◌≡◌, ◌++◌, codes, sym}
 use Rattle.sarif_report.specs.GitlabReport.{or_unknown}
 use Rattle.sarif_report.specs.GitlabParts.{quoted_text, rule_text}
 use Rattle.sarif_report.proofs.GitlabMore.{joined}
-use Rattle.sarif_report.proofs.gitlab_array.push_rule.Goals as goal
+use Rattle.sarif_report.proofs.quality.push_rule.Goals as goal
 
 pub returns : goal.returns
 unfolding rule_text
