@@ -2,6 +2,7 @@ pub mod LogBy
 pub mod Assembled
 pub mod Halves
 pub mod Baselines
+pub mod Beside
 pub mod Together
 pub mod Judged
 pub mod Written

@@ -1,34 +1,39 @@
 //! Assembling the merged log.
-ghost use Rattle.std.specs.Prelude.{List, Option, IfOk};
+ghost use Rattle.std.specs.Prelude.{List, Ok, Option, IfOk};
 ghost use Rattle.sarif_suppress.specs.File.{File};
 ghost use Rattle.sarif_judge.specs.Placed.{Placed};
 ghost use Rattle.sarif_report.specs.declared.reporting.Reporting.{Reporting};
+ghost use Rattle.sarif_assemble.specs.Beside.{IsMadeBy};
 ghost use Rattle.sarif_assemble.specs.Assembled.{IsMergedBy};
 ghost use Rattle.sarif_assemble.specs.Prepared.{IsPrepared};
 
 use crate::merged::Merged;
 use crate::prepared::Prepared;
-use crate::written::{Beside, write_log};
-use sarif_counts::Policy;
+use crate::written::write_log;
+use sarif_counts::{Counts, Policy};
+use sarif_report::Finding;
 use std::alloc::{AllocError, Global};
+use std::thread::Threads;
 
-/// The merged log of what was prepared, with the gate of this policy. An error is want of memory.
-pub fn assemble(alloc: Global, prepared: Prepared, policy: &Policy) -> Result<Merged, AllocError>
-    ensures { IfOk result (λ merged. (file : File) (now before : List Placed)
+/// The merged log of what was prepared, with the gate of this policy, and what `tell` makes of its counts and of what
+/// reports tell of its results. That is made while the log's text is. An error is want of memory.
+pub fn assemble<
+    R: Threads + Sync,
+    B: Drop,
+    Tell: FnOnce(&Counts, &Vec<Finding>) -> Result<B, AllocError>,
+>(
+    rt: &R,
+    alloc: Global,
+    prepared: Prepared,
+    policy: &Policy,
+    tell: Tell,
+) -> Result<(Merged, B), AllocError>
+    requires tells { Tell.IsAlwaysCallable tell }
+    ensures merged { IfOk result (λ made. (file : File) (now before : List Placed)
         (asked : Option Reporting) → IsPrepared file now before asked prepared
-        → IsMergedBy file now before policy.now asked merged) }
+        → IsMergedBy file now before policy.now asked made.0) }
+    ensures told { IfOk result (λ made. IsMadeBy Tell.FnOnce tell
+        made.0.counts made.0.findings (Ok made.1)) }
 {
-    let Prepared {
-        current,
-        baseline,
-        without,
-        unused,
-        findings,
-    } = prepared;
-    let beside = Beside {
-        without,
-        unused,
-        findings,
-    };
-    write_log(alloc, current, baseline, beside, policy)
+    write_log(rt, alloc, prepared, policy, tell)
 }

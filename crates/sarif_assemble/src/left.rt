@@ -14,7 +14,7 @@ ghost use Rattle.sarif_judge.specs.Judging.{run_values};
 
 use crate::baselines::Baselines;
 use sarif_judge::{OpenedRun, draft_leftovers, list_leftovers};
-use sarif_records::State;
+use sarif_records::{Record, State};
 use sarif_write::{Draft, RunParts, Side, make_parts};
 use std::alloc::{AllocError, Global};
 use std::thread::Threads;
@@ -106,25 +106,39 @@ pub(crate) fn absent_states(
     Ok(states)
 }
 
+/// What is written of the runs of baselines.
+#[derive(Drop)]
+pub(crate) struct Left {
+    pub(crate) side: Side,
+    /// The records of all their results.
+    pub(crate) records: Vec<Record>,
+}
+
 /// What is left of the runs of baselines, of whose results these are taken and the others have these drafts.
 pub(crate) fn left_side(
     alloc: Global,
     baselines: Baselines<'_, '_>,
     taken: &[bool],
     drafts: Vec<Draft>,
-) -> Result<Side, AllocError>
+) -> Result<Left, AllocError>
     requires baselines { (runs : List Placed) × AreBaselines runs baselines }
     requires taken { length taken.now ≡ length baselines.records.items }
-    ensures { IfOk result (λ side. (runs : List Placed) → AreBaselines runs baselines.entry
+    ensures { IfOk result (λ left. (runs : List Placed) → AreBaselines runs baselines.entry
         → drafts.items ≡ not_taken taken.now (baseline_drafts runs)
-        → IsLeft runs taken.now side) }
+        → IsLeft runs taken.now left.side) }
 {
-    let Baselines { runs, counts, .. } = baselines;
+    let Baselines {
+        runs,
+        counts,
+        records,
+        ..
+    } = baselines;
     let runs = left_parts(alloc, runs, &counts, taken)?;
     let states = absent_states(alloc, &drafts)?;
-    Ok(Side {
+    let side = Side {
         runs,
         drafts,
         states,
-    })
+    };
+    Ok(Left { side, records })
 }

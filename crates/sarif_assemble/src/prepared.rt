@@ -3,8 +3,16 @@ ghost use Rattle.std.specs.Prelude.{◌≤◌, ◌+◌, length};
 ghost use Rattle.std.proofs.Props.{props};
 ghost use Rattle.sarif_write.specs.Side.{IsSide};
 
+use sarif_records::Record;
 use sarif_report::Finding;
 use sarif_write::Side;
+
+/// The records of results that were matched. Nothing is made of them any more.
+#[derive(Drop)]
+pub(crate) struct Spent {
+    pub(crate) current: Vec<Record>,
+    pub(crate) baseline: Vec<Record>,
+}
 
 /// All that is written of a merged log. What it was read from is needed no more.
 #[derive(Drop)]
@@ -17,6 +25,8 @@ pub struct Prepared {
     pub(crate) unused: u32,
     /// What reports tell of its results, in their order.
     pub(crate) findings: Vec<Finding>,
+    /// What is only let go.
+    pub(crate) spent: Spent,
     ghost current_is: { IsSide current } by { Prim.hlevel props },
     ghost baseline_is: { IsSide baseline } by { Prim.hlevel props },
     ghost few: { length current.drafts.items + length baseline.drafts.items ≤ 2000000 },

@@ -22,10 +22,10 @@ use crate::halves::{Half, current_half, current_parts};
 use crate::judged::Judged;
 use crate::left::{left_drafts, left_side};
 use crate::matched::{Matched, match_records};
-use crate::prepared::Prepared;
+use crate::prepared::{Prepared, Spent};
 use crate::telling::{tell_current, tell_left};
 use sarif_counts::Options;
-use sarif_records::State;
+use sarif_records::{Record, State};
 use sarif_report::Finding;
 use sarif_suppress::Suppressions;
 use sarif_write::{Draft, Side, count_without};
@@ -51,6 +51,8 @@ struct Current {
     without: u32,
     /// How many entries of the suppression file match no result.
     unused: u32,
+    /// The records of their results.
+    records: Vec<Record>,
 }
 
 /// Matches the results of logs with those of baselines.
@@ -119,7 +121,11 @@ fn current_side(
         → current.entry.drafts.items ≡ drafts_by (listing_of file.now) (applied_of file.now) rs ds
         → made.unused ≡ unused_of file.now rs) }
 {
-    let Half { runs, drafts, .. } = current;
+    let Half {
+        runs,
+        records,
+        drafts,
+    } = current;
     let unused = count_unused(alloc, file, &drafts)?;
     let runs = current_parts(alloc, runs)?;
     let without = count_without(&runs);
@@ -132,6 +138,7 @@ fn current_side(
         side,
         without,
         unused,
+        records,
     })
 }
 
@@ -157,18 +164,24 @@ fn prepare_sides<R: Threads + Sync>(
         taken,
         left,
     } = paired;
-    let baseline = left_side(alloc, baselines, &taken, left)?;
+    let unmatched = left_side(alloc, baselines, &taken, left)?;
     let Current {
         side,
         without,
         unused,
+        records,
     } = current_side(alloc, current, states, file)?;
+    let spent = Spent {
+        current: records,
+        baseline: unmatched.records,
+    };
     Ok(Prepared {
         current: side,
-        baseline,
+        baseline: unmatched.side,
         without,
         unused,
         findings,
+        spent,
     })
 }
 

@@ -170,7 +170,7 @@ pub(crate) fn tell_current<R: Threads + Sync>(
     let spots = list_spots(alloc, &current.runs)?;
     let drafts = &current.drafts;
     let told = list_told(alloc, reporting, &current.runs, &spots, drafts, states)?;
-    tell_all(rt, alloc, reporting, &told, asked.options.workers + 1)
+    tell_all(rt, alloc, reporting, &told, asked.options.workers)
 }
 
 /// Adds a place, unless it is taken.
@@ -221,5 +221,5 @@ pub(crate) fn tell_left<R: Threads + Sync>(
     let spots = left_spots(alloc, &baselines.spots, taken)?;
     let states = absent_states(alloc, drafts)?;
     let told = list_told(alloc, reporting, &baselines.runs, &spots, drafts, &states)?;
-    tell_all(rt, alloc, reporting, &told, asked.options.workers + 1)
+    tell_all(rt, alloc, reporting, &told, asked.options.workers)
 }

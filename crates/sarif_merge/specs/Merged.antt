@@ -1,15 +1,14 @@
 -- What an accepted merge gives.
-use Rattle.std.specs.Prelude.{◌≡◌, ℕ, ◌++◌, ◌⊎◌, List, [], Option, Some, Result, Ok, Err}
+use Rattle.std.specs.Prelude.{◌≡◌, ℕ, ◌++◌, List, [], Option}
 use Rattle.serde_json.specs.Data.{Data}
 use Rattle.serde_json.specs.Written.{compact_text}
-use Rattle.sarif_sources.specs.declared.fault.MergeFault.{MergeFault}
 use Rattle.sarif_counts.specs.declared.policy.Policy.{Policy}
 use Rattle.sarif_report.specs.declared.reporting.Reporting.{Reporting}
 use Rattle.sarif_write.specs.Log.{log_with}
 use Rattle.sarif_assemble.specs.declared.merged.Merged.{Merged}
 use Rattle.sarif_assemble.specs.Assembled.{HasGate}
 use Rattle.sarif_assemble.specs.Told.{told_of}
-use Rattle.sarif_inputs.specs.Faults.{IsWanting, faults_of, first_fault}
+use Rattle.sarif_inputs.specs.Faults.{faults_of}
 use Rattle.sarif_inputs.specs.Inputs.{Inputs}
 use Rattle.sarif_merge.specs.MergedLog.{output_text, runs_written, unused_in, without_of, written_inputs}
 
@@ -25,8 +24,3 @@ pub record IsMerged (inputs : Inputs) (policy : Policy) (asked : Option Reportin
   pub log : merged.log ≡ output_text inputs policy
   pub gate : HasGate (runs_written inputs) policy (without_of inputs) (unused_in inputs) merged
   pub told : merged.findings.items ≡ told_of asked (runs_written inputs)
-
--- the answer of a merge: the defined merge, or the first fault of the inputs, or want of memory or of a thread
-abbrev pub IsMergeOf : Inputs → Policy → Option Reporting → Result Merged MergeFault → Type 0
-IsMergeOf inputs policy asked (Ok merged) = IsMerged inputs policy asked merged
-IsMergeOf inputs policy asked (Err fault) = IsWanting fault ⊎ (first_fault inputs ≡ Some fault)

@@ -1,70 +1,99 @@
 //! The merge of logs.
-ghost use Rattle.std.specs.Prelude.{◌≡◌, ◌≤◌, ◌⊎◌, [], List, Option, Some, length, IfOk, IfErr};
+ghost use Rattle.std.specs.Prelude.{◌≡◌, ◌≤◌, ◌⊎◌, [], List, Ok, Option, Some, length, IfOk, IfErr};
 ghost use Rattle.sarif_suppress.specs.File.{File};
 ghost use Rattle.sarif_judge.specs.Placed.{Placed};
 ghost use Rattle.sarif_report.specs.declared.reporting.Reporting.{Reporting};
 ghost use Rattle.sarif_sources.specs.Failing.{IsQuiet};
+ghost use Rattle.sarif_assemble.specs.Beside.{IsMadeBy};
 ghost use Rattle.sarif_assemble.specs.Assembled.{HasGate, IsMergedBy};
 ghost use Rattle.sarif_assemble.specs.Prepared.{IsPrepared};
 ghost use Rattle.sarif_assemble.specs.Told.{reporting_in};
 ghost use Rattle.sarif_inputs.specs.Faults.{IsWanting, faults_of, first_fault};
 ghost use Rattle.sarif_merge.specs.Given.{inputs_of};
-ghost use Rattle.sarif_merge.specs.Merged.{HoldsFirst, IsMergeOf};
+ghost use Rattle.sarif_merge.specs.Merged.{HoldsFirst, IsMerged};
 ghost use Rattle.sarif_merge.specs.MergedLog.{output_text, runs_written, without_of, unused_in, written_inputs};
 
 use crate::preparing::{make_scratches, prepare_few};
 use json::Scratch;
 use sarif_assemble::{Asked, Merged, Prepared, assemble};
-use sarif_counts::{Options, Policy};
+use sarif_counts::{Counts, Options, Policy};
 use sarif_gather::Gate;
 use sarif_inputs::check_numbers;
+use sarif_report::Finding;
 use sarif_sources::{MergeFault, SourceBytes};
 use std::alloc::{AllocError, Global};
 use std::sync::Wait;
 use std::thread;
 use std::thread::Threads;
 
-/// The merged log of what was prepared, made while the scratches are let go.
-fn assemble_beside<R: Threads + Sync>(
+/// The merged log of what was prepared, and what `tell` makes of it, made while the scratches are let go.
+fn assemble_beside<
+    R: Threads + Sync,
+    B: Drop,
+    Tell: FnOnce(&Counts, &Vec<Finding>) -> Result<B, AllocError>,
+>(
     rt: &R,
     alloc: Global,
     prepared: Prepared,
     policy: &Policy,
     scratches: Vec<Scratch>,
-) -> Result<Merged, AllocError>
-    ensures { IfOk result (λ merged. (file : File) (now before : List Placed)
+    tell: Tell,
+) -> Result<(Merged, B), AllocError>
+    requires tells { Tell.IsAlwaysCallable tell }
+    ensures merged { IfOk result (λ made. (file : File) (now before : List Placed)
         (asked : Option Reporting) → IsPrepared file now before asked prepared
-        → IsMergedBy file now before policy.now asked merged) }
+        → IsMergedBy file now before policy.now asked made.0) }
+    ensures told { IfOk result (λ made. IsMadeBy Tell.FnOnce tell
+        made.0.counts made.0.findings (Ok made.1)) }
 {
-    let write = move || -> Result<Merged, AllocError>
-        ensures { IfOk result (λ merged. (file : File) (now before : List Placed)
+    let write = move || -> Result<(Merged, B), AllocError>
+        requires { Tell.IsAlwaysCallable tell }
+        ensures merged { IfOk result (λ made. (file : File) (now before : List Placed)
             (asked : Option Reporting) → IsPrepared file now before asked prepared
-            → IsMergedBy file now before policy.entry.now asked merged) }
-    { assemble(alloc, prepared, policy) };
+            → IsMergedBy file now before policy.entry.now asked made.0) }
+        ensures told { IfOk result (λ made. IsMadeBy Tell.FnOnce tell
+            made.0.counts made.0.findings (Ok made.1)) }
+    { assemble(rt, alloc, prepared, policy, tell) };
     let let_go = move || drop(scratches);
-    let (_, merged) = thread::join(rt, let_go, write);
-    merged
+    let (_, made) = thread::join(rt, let_go, write);
+    made
 }
 
-/// Merges sources of which there are not too many.
-pub(crate) fn merge_few<G: Gate + Sync, R: Threads + Wait + Sync>(
+/// Merges sources of which there are not too many, and gives what `tell` makes of the merge beside it.
+pub(crate) fn merge_few<
+    G: Gate + Sync,
+    R: Threads + Wait + Sync,
+    B: Drop,
+    Tell: FnOnce(&Counts, &Vec<Finding>) -> Result<B, AllocError>,
+>(
     rt: &R,
     alloc: Global,
     sources: &SourceBytes,
     asked: &Asked<'_>,
     observer: &G,
-) -> Result<Merged, MergeFault>
+    tell: Tell,
+) -> Result<(Merged, B), MergeFault>
     requires few_logs { length sources.now.logs.items ≤ 1000 }
     requires few_baselines { length sources.now.baselines.items ≤ 1000 }
-    ensures merge { IsMergeOf (inputs_of sources.now asked.now.options.now)
-        asked.now.options.now.policy (reporting_in asked.now) result }
+    requires tells { Tell.IsAlwaysCallable tell }
+    ensures merged { IfOk result (λ made. IsMerged (inputs_of sources.now asked.now.options.now)
+        asked.now.options.now.policy (reporting_in asked.now) made.0) }
+    ensures told { IfOk result (λ made. IsMadeBy Tell.FnOnce tell
+        made.0.counts made.0.findings (Ok made.1)) }
+    ensures refused { IfErr result (λ fault. IsWanting fault
+        ⊎ (first_fault (inputs_of sources.now asked.now.options.now) ≡ Some fault)) }
     ensures quiet { IsQuiet result }
 {
     let count = sources.logs.len() + sources.baselines.len();
     let mut scratches = make_scratches(alloc, count)?;
     let prepared = prepare_few(rt, alloc, sources, &mut scratches, asked, observer)?;
-    let merged = assemble_beside(rt, alloc, prepared, &asked.options.policy, scratches)?;
-    Ok(merged)
+    let made = assemble_beside(rt, alloc, prepared, &asked.options.policy, scratches, tell)?;
+    Ok(made)
+}
+
+/// Nothing, of any merge.
+pub(crate) fn tell_nothing(_counts: &Counts, _findings: &Vec<Finding>) -> Result<(), AllocError> {
+    Ok(())
 }
 
 /// Merges logs with baselines: gives each current result its effective level, its baseline state and its
@@ -105,6 +134,6 @@ pub fn merge_bytes<G: Gate + Sync, R: Threads + Wait + Sync>(
         options,
         reporting: None,
     };
-    let merged = merge_few(rt, alloc, sources, &asked, observer)?;
+    let (merged, ()) = merge_few(rt, alloc, sources, &asked, observer, tell_nothing)?;
     Ok(merged)
 }

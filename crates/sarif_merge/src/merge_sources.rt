@@ -1,10 +1,11 @@
 //! The merge from readers into a writer.
-ghost use Rattle.std.specs.Prelude.{◌≡◌, ◌<◌, ◌^◌, false, None, IfOk, IfErr};
+ghost use Rattle.std.specs.Prelude.{◌≡◌, ◌<◌, ◌^◌, false, Ok, None, IfOk, IfErr};
 ghost use Rattle.std.specs.List.{All};
 ghost use Rattle.std.specs.Io.KnownBytes.{Appends};
 ghost use Rattle.sarif_sources.specs.Counted.{inner_of, failed_calls, RisesIf};
 ghost use Rattle.sarif_sources.specs.Failing.{read_failed_in, write_failed_in};
 ghost use Rattle.sarif_sources.specs.OptionalReader.{failed_calls_if};
+ghost use Rattle.sarif_assemble.specs.Beside.{IsMadeBy};
 ghost use Rattle.sarif_assemble.specs.Told.{reporting_in};
 ghost use Rattle.sarif_merge.specs.FromReaders.{IsMergedFrom, IsPartlyWritten, IsRefused};
 ghost use Rattle.sarif_sources.specs.WereRead.{failures, NoNumberFalls};
@@ -12,13 +13,14 @@ ghost use Rattle.sarif_sources.specs.declared.fault.At.TheVariants.{Whole};
 ghost use Rattle.sarif_sources.specs.declared.fault.Cause.TheVariants.{WriteFailed};
 ghost use Rattle.sarif_sources.specs.declared.fault.Source.TheVariants.{Output};
 
-use crate::merge::merge_few;
+use crate::merge::{merge_few, tell_nothing};
 use sarif_assemble::{Asked, Merged};
-use sarif_counts::Options;
+use sarif_counts::{Counts, Options};
 use sarif_gather::Gate;
 use sarif_inputs::check_numbers;
+use sarif_report::Finding;
 use sarif_sources::{At, Cause, Counted, MergeFault, Readers, Source, read_sources, write_out};
-use std::alloc::Global;
+use std::alloc::{AllocError, Global};
 use std::io::{Read, Write};
 use std::sync::Wait;
 use std::thread::Threads;
@@ -28,22 +30,35 @@ use std::thread::Threads;
 ///
 /// A refusal is `TooMany` for more than 1,000 logs or else more than 1,000 baselines; else `ReadFailed` or
 /// `TooLong` at the first source that can't be read to its end; else the first fault of what was read. Want of
-/// memory or of a thread stands nowhere. Where reports are asked for, what they tell stands beside the log.
+/// memory or of a thread stands nowhere. Where reports are asked for, what they tell stands beside the log; and beside
+/// the merge stands what `tell` makes of its counts and of that, while the log's text is made. An error of `tell` is
+/// want of memory.
 #[tactic(auto, using(sarif_sources::proofs::QuietFaults::same_failure, sarif_sources::proofs::QuietFaults::no_write))]
-pub fn merge_readers<R: Read, G: Gate + Sync, T: Threads + Wait + Sync>(
+pub fn merge_readers<
+    R: Read,
+    G: Gate + Sync,
+    T: Threads + Wait + Sync,
+    B: Drop,
+    Tell: FnOnce(&Counts, &Vec<Finding>) -> Result<B, AllocError>,
+>(
     rt: &T,
     alloc: Global,
     readers: &mut Readers<R>,
     asked: &Asked<'_>,
     observer: &G,
-) -> Result<Merged, MergeFault>
+    tell: Tell,
+) -> Result<(Merged, B), MergeFault>
     requires logs { All (λ reader. failed_calls reader < 2 ^ 63) readers.old.logs.items }
     requires baselines { All (λ reader. failed_calls reader < 2 ^ 63) readers.old.baselines.items }
     requires suppressions { failed_calls_if readers.old.suppressions < 2 ^ 63 }
+    requires tells { Tell.IsAlwaysCallable tell }
     // Ok comes only where all sources were read and nothing is at fault in them; it is the merge of these, with what
     // reports tell of it.
-    ensures merged { IfOk result (IsMergedFrom R.remaining readers.old readers.new
-        asked.now.options.now.today asked.now.options.now.policy (reporting_in asked.now)) }
+    ensures merged { IfOk result (λ made. IsMergedFrom R.remaining readers.old readers.new
+        asked.now.options.now.today asked.now.options.now.policy (reporting_in asked.now) made.0) }
+    // And what was made of it.
+    ensures told { IfOk result (λ made. IsMadeBy Tell.FnOnce tell
+        made.0.counts made.0.findings (Ok made.1)) }
     ensures refused { IfErr result
         (IsRefused R.remaining readers.old readers.new asked.now.options.now.today) }
     // A failed read is answered as such, and only one.
@@ -54,8 +69,8 @@ pub fn merge_readers<R: Read, G: Gate + Sync, T: Threads + Wait + Sync>(
 {
     check_numbers(readers.logs.len(), readers.baselines.len())?;
     let sources = read_sources(alloc, readers)?;
-    let merged = merge_few(rt, alloc, &sources, asked, observer)?;
-    Ok(merged)
+    let made = merge_few(rt, alloc, &sources, asked, observer, tell)?;
+    Ok(made)
 }
 
 /// Merges logs and baselines from readers into a writer: reads and merges as [`merge_readers`] does, then writes.
@@ -101,7 +116,7 @@ pub fn merge_to<R: Read, W: Write, G: Gate + Sync, T: Threads + Wait + Sync>(
         options,
         reporting: None,
     };
-    let merged = merge_readers(rt, alloc, readers, &asked, observer)?;
+    let (merged, ()) = merge_readers(rt, alloc, readers, &asked, observer, tell_nothing)?;
     match write_out(out, merged.log.as_str().as_bytes()) {
         Ok(()) => Ok(merged),
         Err(_) => Err(MergeFault::found(At::Whole(Source::Output), Cause::WriteFailed)),

@@ -1,3 +1,4 @@
 pub mod Asked
 pub mod Ended
 pub mod Quiet
+pub mod Taken

@@ -1,8 +1,12 @@
 -- What the reports of a run are, and that they were written.
 use Rattle.std.specs.Prelude.{◌≡◌, ◌<◌, ◌+◌, ◌^◌, ℕ, List, Option, Some, None, is_some, if◌then◌else◌}
 use Rattle.std.specs.Io.KnownBytes.{Appends}
+use Rattle.std.specs.declared.alloc.Global.{Global}
+use Rattle.std.specs.declared.vec.Vec.{Vec}
 use Rattle.sarif_assemble.specs.declared.merged.Merged.{Merged}
+use Rattle.sarif_counts.specs.declared.counts.Counts.{Counts}
 use Rattle.sarif_counts.specs.Counts.{count_at}
+use Rattle.sarif_report.specs.declared.finding.Finding.{Finding}
 use Rattle.sarif_report.specs.declared.report.Report.{Report}
 use Rattle.sarif_report.specs.declared.report.Report.TheVariants as report
 use Rattle.sarif_report.specs.declared.reporting.Reporting.{Reporting}
@@ -22,9 +26,13 @@ reporting_of request = record { policy = request.options.policy; root = request.
 abbrev pub reporting_for : {W : Type 0} → Request → Reports W → Option Reporting
 reporting_for request writers = if are_none writers then None else Some (reporting_of request)
 
+-- the text of a report of a merged log with these counts, of which this is told
+abbrev pub report_with : Request → Counts → Vec Finding Global → Report → List ℕ
+report_with request counts findings one = report_of one (count_at counts) request.options.policy findings.items
+
 -- the text of a report of a merged log
 abbrev pub report_for : Request → Merged → Report → List ℕ
-report_for request merged one = report_of one (count_at merged.counts) request.options.policy merged.findings.items
+report_for request merged = report_with request merged.counts merged.findings
 
 -- a text where there is a writer for it
 abbrev pub text_if : {W : Type 0} → Option W → List ℕ → Option (List ℕ)

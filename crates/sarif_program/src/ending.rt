@@ -2,23 +2,18 @@
 ghost use Rattle.std.specs.Prelude.{◌≡◌, ◌<◌, ◌≤◌, ◌^◌, Some, nat_eq};
 ghost use Rattle.std.specs.Io.KnownBytes.{Appends};
 ghost use Rattle.sarif_sources.specs.Counted.{inner_of, failed_calls, RisesIf};
-ghost use Rattle.sarif_counts.specs.Counts.{count_at};
 ghost use Rattle.sarif_sources.specs.Fault.{exit_status};
-ghost use Rattle.sarif_counts.specs.Summary.{summary_of};
-ghost use Rattle.sarif_program.specs.Reports.{AreWritten, HaveRoom, report_for};
+ghost use Rattle.sarif_program.specs.Reports.{AreTaken, HaveRoom};
 ghost use Rattle.sarif_program.specs.Status.{verdict_status};
 ghost use Rattle.sarif_program.specs.Writing.{writer_failures};
 ghost use Rattle.sarif_program.specs.declared.complaint.Complaint.TheVariants.{Fault};
 
 use crate::complaint::{Complaint, Complaints};
-use crate::telling::texts_of;
+use crate::telling::Texts;
 use crate::writers::Writers;
 use crate::writing::{Lost, put_all};
 use sarif_merge::{At, Cause, MergeFault, Merged, Source, Verdict};
-use sarif_request::Request;
-use std::alloc::Global;
 use std::io::Write;
-use std::thread::Threads;
 
 /// The status of an accepted merge.
 fn status_of_verdict(verdict: Verdict) -> u8
@@ -59,14 +54,11 @@ fn tell_lost<E: Write>(complaints: &mut Complaints<E>, lost: Lost) -> u8
     3
 }
 
-/// Writes an accepted merge: its log, then the reports that there are writers for, and then its summary, all of
-/// which are made before the first write. The status is that of the verdict, or 3 where one of them was not
-/// written, or 2 where memory was wanting, and then nothing was written.
-pub(crate) fn accept<W: Write, S: Write, P: Write, E: Write, T: Threads + Sync>(
-    rt: &T,
-    alloc: Global,
+/// Writes an accepted merge: its log, then the reports that there are writers for, and then its summary. The status
+/// is that of the verdict, or 3 where one of them was not written.
+pub(crate) fn accept<W: Write, S: Write, P: Write, E: Write>(
     merged: &Merged,
-    request: &Request,
+    texts: &Texts,
     writers: &mut Writers<W, S, P>,
     complaints: &mut Complaints<E>,
 ) -> u8
@@ -77,21 +69,17 @@ pub(crate) fn accept<W: Write, S: Write, P: Write, E: Write, T: Threads + Sync>(
     ensures status { result < 2 → result ≡ verdict_status merged.now.verdict }
     ensures written { result < 2 → Appends (W.contents (inner_of writers.old.out))
         (W.contents (inner_of writers.new.out)) merged.now.log }
-    ensures reported { result < 2 → AreWritten P.contents (report_for request.now merged.now)
-        writers.old.reports writers.new.reports }
+    ensures reported { result < 2
+        → AreTaken P.contents texts.now.reports writers.old.reports writers.new.reports }
     ensures said { result < 2 → Appends (S.contents (inner_of writers.old.say))
-        (S.contents (inner_of writers.new.say))
-        (summary_of (count_at merged.now.counts) request.now.options.policy) }
-    ensures untouched { result ≡ 2 → writers.new ≡ writers.old }
+        (S.contents (inner_of writers.new.say)) texts.now.summary }
+    ensures decided { result ≡ 2 → ⊥ }
     ensures failed { RisesIf (nat_eq result 3)
         (writer_failures writers.old) (writer_failures writers.new) }
     ensures known { result ≤ 3 }
 {
-    match texts_of(rt, alloc, merged, request, &writers.reports) {
-        Ok(texts) => match put_all(writers, &merged.log, &texts) {
-            Ok(()) => status_of_verdict(merged.verdict),
-            Err(lost) => tell_lost(complaints, lost),
-        },
-        Err(error) => refuse(complaints, MergeFault::from(error)),
+    match put_all(writers, &merged.log, texts) {
+        Ok(()) => status_of_verdict(merged.verdict),
+        Err(lost) => tell_lost(complaints, lost),
     }
 }

@@ -1,8 +1,9 @@
 //! Doing what a request asks for, over readers and writers of any kind.
-ghost use Rattle.std.specs.Prelude.{◌≡◌, [], ◌<◌, ◌≤◌, ◌+◌, ◌^◌, false, nat_eq, IfOk};
+ghost use Rattle.std.specs.Prelude.{◌≡◌, [], ◌<◌, ◌≤◌, ◌+◌, ◌^◌, false, nat_eq, IfOk, Ok};
 ghost use Rattle.std.specs.List.{All};
 ghost use Rattle.std.specs.Io.KnownBytes.{Appends};
 ghost use Rattle.sarif_assemble.specs.declared.merged.Merged.{Merged as Outcome};
+ghost use Rattle.sarif_assemble.specs.Beside.{IsMadeBy};
 ghost use Rattle.sarif_sources.specs.Counted.{inner_of, failed_calls, RisesIf};
 ghost use Rattle.sarif_sources.specs.Failing.{read_failed_in, write_failed_in};
 ghost use Rattle.sarif_counts.specs.Counts.{count_at};
@@ -12,18 +13,20 @@ ghost use Rattle.sarif_counts.specs.Summary.{summary_of};
 ghost use Rattle.sarif_merge.specs.FromReaders.{IsMergedFrom};
 ghost use Rattle.sarif_merge.specs.Given.{given_by};
 ghost use Rattle.sarif_sources.specs.WereRead.{failures, AllTell, NoNumberFalls, SourceContents, WereRead};
-ghost use Rattle.sarif_program.specs.Reports.{AreWritten, HaveRoom, report_for, reporting_for};
+ghost use Rattle.sarif_program.specs.Reports.{AreWritten, HaveRoom, report_for, report_with, reporting_for, texts_for};
 ghost use Rattle.sarif_program.specs.Status.{verdict_status};
 ghost use Rattle.sarif_program.specs.Writing.{writer_failures};
 
 use crate::complaint::Complaints;
 use crate::ending::{accept, refuse};
+use crate::telling::{Texts, texts_of};
 use crate::writers::Writers;
 use sarif_merge::{
-    Asked, MergeFault, Merged, NoGate, Options, Readers, merge_readers, sources_are_read_in_one_way,
+    Asked, Counts, MergeFault, Merged, NoGate, Options, Readers, merge_readers,
+    sources_are_read_in_one_way,
 };
 use sarif_records::Text;
-use sarif_report::Reporting;
+use sarif_report::{Finding, Reporting};
 use sarif_request::{Reports, Request};
 use std::alloc::{AllocError, Global};
 use std::io::{Read, Write};
@@ -47,19 +50,30 @@ fn reporting_of<W>(
     Ok(Some(Reporting { policy, root }))
 }
 
-/// Merges what the readers give, with what reports tell of it, where that is asked for.
-fn merge_told<'o, R: Read, T: Threads + Wait + Sync>(
+/// Merges what the readers give, with what reports tell of it, where that is asked for, and gives what `tell` makes
+/// of it.
+fn merge_told<
+    'o,
+    R: Read,
+    T: Threads + Wait + Sync,
+    B: Drop,
+    Tell: FnOnce(&Counts, &Vec<Finding>) -> Result<B, AllocError>,
+>(
     rt: &T,
     alloc: Global,
     options: &'o Options,
     made: &'o Option<Reporting>,
     readers: &mut Readers<R>,
-) -> Result<Merged, MergeFault>
+    tell: Tell,
+) -> Result<(Merged, B), MergeFault>
     requires logs { All (λ reader. failed_calls reader < 2 ^ 63) readers.old.logs.items }
     requires baselines { All (λ reader. failed_calls reader < 2 ^ 63) readers.old.baselines.items }
     requires suppressions { failed_calls_if readers.old.suppressions < 2 ^ 63 }
-    ensures merged { IfOk result (IsMergedFrom R.remaining readers.old readers.new
-        options.now.today options.now.policy made.now) }
+    requires tells { Tell.IsAlwaysCallable tell }
+    ensures merged { IfOk result (λ all. IsMergedFrom R.remaining readers.old readers.new
+        options.now.today options.now.policy made.now all.0) }
+    ensures told { IfOk result (λ all. IsMadeBy Tell.FnOnce tell
+        all.0.counts all.0.findings (Ok all.1)) }
     ensures read_failed { RisesIf (read_failed_in result)
         (failures readers.old) (failures readers.new) }
     ensures risen { NoNumberFalls readers.old readers.new }
@@ -67,30 +81,40 @@ fn merge_told<'o, R: Read, T: Threads + Wait + Sync>(
 {
     let reporting = made.as_ref();
     let asked = Asked { options, reporting };
-    merge_readers(rt, alloc, readers, &asked, &NoGate)
+    merge_readers(rt, alloc, readers, &asked, &NoGate, tell)
 }
 
-/// The same for a request whose reports have these writers.
+/// The same for a request whose reports have these writers, with the texts of these.
 fn merge_for<R: Read, W, T: Threads + Wait + Sync>(
     rt: &T,
     alloc: Global,
     request: &Request,
     readers: &mut Readers<R>,
     writers: &Reports<W>,
-) -> Result<Merged, MergeFault>
+) -> Result<(Merged, Texts), MergeFault>
     requires logs { All (λ reader. failed_calls reader < 2 ^ 63) readers.old.logs.items }
     requires baselines { All (λ reader. failed_calls reader < 2 ^ 63) readers.old.baselines.items }
     requires suppressions { failed_calls_if readers.old.suppressions < 2 ^ 63 }
-    ensures merged { IfOk result (IsMergedFrom R.remaining readers.old readers.new
+    ensures merged { IfOk result (λ all. IsMergedFrom R.remaining readers.old readers.new
         «request».now.options.today «request».now.options.policy
-        (reporting_for «request».now writers.now)) }
+        (reporting_for «request».now writers.now) all.0) }
+    ensures summary { IfOk result (λ all. all.1.summary
+        ≡ summary_of (count_at all.0.counts) «request».now.options.policy) }
+    ensures reports { IfOk result (λ all. all.1.reports
+        ≡ texts_for writers.now (report_for «request».now all.0)) }
     ensures read_failed { RisesIf (read_failed_in result)
         (failures readers.old) (failures readers.new) }
     ensures risen { NoNumberFalls readers.old readers.new }
     ensures unwritten { write_failed_in result ≡ false }
 {
     let made = reporting_of(alloc, request, writers)?;
-    merge_told(rt, alloc, &request.options, &made, readers)
+    let tell = move |counts: &Counts, findings: &Vec<Finding>| -> Result<Texts, AllocError>
+        ensures summary { IfOk result (λ texts. texts.summary
+            ≡ summary_of (count_at counts.now) «request».entry.now.options.policy) }
+        ensures reports { IfOk result (λ texts. texts.reports ≡ texts_for writers.entry.now
+            (report_with «request».entry.now counts.now findings.now)) }
+    { texts_of(rt, alloc, counts, findings, request, writers) };
+    merge_told(rt, alloc, &request.options, &made, readers, tell)
 }
 
 /// Merges what the readers give, and writes the merged log, then the reports that there are writers for, and then
@@ -143,7 +167,7 @@ pub fn run_request<R: Read, W: Write, S: Write, P: Write, E: Write, T: Threads +
 {
     sources_are_read_in_one_way::<R>();
     match merge_for(rt, alloc, request, readers, &writers.reports) {
-        Ok(merged) => accept(rt, alloc, &merged, request, writers, complaints),
+        Ok((merged, texts)) => accept(&merged, &texts, writers, complaints),
         Err(fault) => refuse(complaints, fault),
     }
 }

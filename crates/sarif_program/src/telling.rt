@@ -5,11 +5,11 @@ ghost use Rattle.sarif_counts.specs.Summary.{summary_of};
 ghost use Rattle.sarif_report.specs.declared.report.Report.TheVariants as kind;
 ghost use Rattle.sarif_report.specs.Report.{report_of};
 ghost use Rattle.sarif_program.specs.Beside.{AreBeside};
-ghost use Rattle.sarif_program.specs.Reports.{report_for, texts_for};
+ghost use Rattle.sarif_program.specs.Reports.{report_with, texts_for};
 
-use sarif_merge::{Counts, Merged, Policy, summary};
+use sarif_merge::{Counts, Policy, summary};
 use sarif_records::Text;
-use sarif_report::{Report, Told, report_text};
+use sarif_report::{Finding, Report, Told, report_text};
 use sarif_request::{Reports, Request};
 use std::alloc::{AllocError, Global};
 use std::thread;
@@ -130,44 +130,46 @@ fn texts_told<W, T: Threads + Sync>(
     })
 }
 
-/// The texts of the reports that there are writers for.
+/// The texts of the reports that there are writers for, of a merge with these counts.
 fn reports_of<W, T: Threads + Sync>(
     rt: &T,
     alloc: Global,
-    merged: &Merged,
+    counts: &Counts,
+    findings: &Vec<Finding>,
     request: &Request,
     writers: &Reports<W>,
 ) -> Result<Reports<Text>, AllocError>
-    ensures { IfOk result
-        (λ texts. texts ≡ texts_for writers.now (report_for request.now merged.now)) }
+    ensures { IfOk result (λ texts. texts ≡ texts_for writers.now
+        (report_with request.now counts.now findings.now)) }
 {
     if writers.are_none() {
         return Ok(Reports::none());
     }
     let told = Told {
-        counts: &merged.counts,
+        counts,
         policy: &request.options.policy,
-        findings: merged.findings.as_slice(),
+        findings: findings.as_slice(),
     };
     texts_told(rt, alloc, &told, writers, request.options.workers)
 }
 
-/// The summary of a merge, and the texts of the reports that there are writers for. The threads of the options
-/// share the work of reports.
+/// The summary of a merge with these counts, and the texts of the reports that there are writers for. The threads of
+/// the options share the work of reports.
 pub(crate) fn texts_of<W, T: Threads + Sync>(
     rt: &T,
     alloc: Global,
-    merged: &Merged,
+    counts: &Counts,
+    findings: &Vec<Finding>,
     request: &Request,
     writers: &Reports<W>,
 ) -> Result<Texts, AllocError>
     ensures summary { IfOk result (λ texts. texts.summary
-        ≡ summary_of (count_at merged.now.counts) request.now.options.policy) }
-    ensures reports { IfOk result
-        (λ texts. texts.reports ≡ texts_for writers.now (report_for request.now merged.now)) }
+        ≡ summary_of (count_at counts.now) request.now.options.policy) }
+    ensures reports { IfOk result (λ texts. texts.reports
+        ≡ texts_for writers.now (report_with request.now counts.now findings.now)) }
 {
-    let summary = summary(alloc, &merged.counts, &request.options.policy)?;
+    let summary = summary(alloc, counts, &request.options.policy)?;
     let summary = Text::from_string(summary)?;
-    let reports = reports_of(rt, alloc, merged, request, writers)?;
+    let reports = reports_of(rt, alloc, counts, findings, request, writers)?;
     Ok(Texts { reports, summary })
 }

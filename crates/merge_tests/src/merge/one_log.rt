@@ -40,7 +40,14 @@ fn a_log_that_a_reader_gives(rt: HostRuntime) -> Result<(), Fail> {
         options: &options,
         reporting: None,
     };
-    let merged = merge_readers(&rt, rt.alloc(), &mut readers, &asked, &NoGate)?;
+    let (merged, ()) = merge_readers(
+        &rt,
+        rt.alloc(),
+        &mut readers,
+        &asked,
+        &NoGate,
+        |_, _| Ok(()),
+    )?;
     assert_eq!(rt; merged.log.as_str(), MERGED);
     assert_eq!(rt; merged.verdict, Verdict::Pass);
     Ok(())

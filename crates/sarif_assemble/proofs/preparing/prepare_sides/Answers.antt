@@ -22,10 +22,10 @@ invariant_of-result g c =
     let before = c.requires.1 in
     let q = c.in_ok-paired.ensures in
     let s = c.in_ok-side.field-0.side in
-    let t = c.in_ok-baseline.baseline in
+    let t = c.in_ok-unmatched.unmatched.side in
     let taken = c.deref.result.now in
     let left =
-    c.in_ok-baseline.ensures before h.are_baselines (q.left before h.are_baselines ∙ ap (λ ts. not_taken ts (baseline_drafts before)) (sym c.deref.ensures.value)) in
+    c.in_ok-unmatched.ensures before h.are_baselines (q.left before h.are_baselines ∙ ap (λ ts. not_taken ts (baseline_drafts before)) (sym c.deref.ensures.value)) in
     let taken_all =
     ap length (c.deref.ensures.value ∙ q.taken) ∙ taken_long c.args.current.records.items c.args.baselines.records.items ∙ ap length h.are_baselines.records in
     let many = current_long file now before c.args.current c.args.baselines h in
@@ -44,10 +44,10 @@ returns g c = λ now before h.
     let file = c.args.file.now in
     let q = c.in_ok-paired.ensures in
     let s = c.in_ok-side.field-0.side in
-    let t = c.in_ok-baseline.baseline in
+    let t = c.in_ok-unmatched.unmatched.side in
     let parts = subst (λ ps. ArePartsOf own_count s.runs.items (run_values ps)) h.is_current.opened c.in_ok-side.ensures.parts in
     let left =
-    c.in_ok-baseline.ensures before h.are_baselines (q.left before h.are_baselines ∙ ap (λ ts. not_taken ts (baseline_drafts before)) (sym c.deref.ensures.value)) in
+    c.in_ok-unmatched.ensures before h.are_baselines (q.left before h.are_baselines ∙ ap (λ ts. not_taken ts (baseline_drafts before)) (sym c.deref.ensures.value)) in
     let taken =
     c.deref.ensures.value ∙ q.taken ∙ ap (λ rs. taken_of rs c.args.baselines.records.items) h.is_current.records
     ∙ ap (taken_of (records_of now)) h.are_baselines.records in record {

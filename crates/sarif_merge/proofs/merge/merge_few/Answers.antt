@@ -3,8 +3,8 @@ use Rattle.sarif_merge.specs.Given.{inputs_of}
 use Rattle.sarif_merge.proofs.MergeAnswers.{assembled_is}
 use Rattle.sarif_merge.proofs.merge.merge_few.Goals as goal
 
-pub returns-clause-merge : goal.returns-clause-merge
-returns-clause-merge g c =
+pub returns-clause-merged : goal.returns-clause-merged
+returns-clause-merged g c =
     let options = c.args.asked.now.options.now in
-    assembled_is (inputs_of c.args.sources.now options) options.policy (reporting_in c.args.asked.now) c.in_ok-prepared.prepared c.in_ok-merged.merged
-    c.in_ok-prepared.ensures.preparation c.in_ok-merged.ensures
+    assembled_is (inputs_of c.args.sources.now options) options.policy (reporting_in c.args.asked.now) c.in_ok-prepared.prepared c.in_ok-made.made.0
+    c.in_ok-prepared.ensures.preparation c.in_ok-made.ensures.merged

@@ -10,10 +10,10 @@ returns-in_err-check_numbers-clause-risen g c =
     let all = c.args.readers.now in
     record { logs = none_has_fallen all.logs.items; baselines = none_has_fallen all.baselines.items; suppressions = omega arith }
 
-pub returns-in_err-merged-clause-refused : goal.returns-in_err-merged-clause-refused
-returns-in_err-merged-clause-refused g c =
-    let fault = c.in_err-merged.field-0.0 in
-    let p = err_from_is_err_and c.from_residual-in_err-merged.result c.from_residual-in_err-merged.ensures.1 in
-    let is : c.from_residual-in_err-merged.result ≡ Err fault = rw (p.1, p.2) refl in
+pub returns-in_err-made-clause-refused : goal.returns-in_err-made-clause-refused
+returns-in_err-made-clause-refused g c =
+    let fault = c.in_err-made.field-0.0 in
+    let p = err_from_is_err_and c.from_residual-in_err-made.result c.from_residual-in_err-made.ensures.1 in
+    let is : c.from_residual-in_err-made.result ≡ Err fault = rw (p.1, p.2) refl in
     let few : AreFew c.args.readers.now = (search rules, search rules) in
-    rw is (inr (few, inr (contents_of c.in_ok-sources.sources, c.in_ok-sources.ensures.read, c.in_err-merged.ensures.merge)))
+    rw is (inr (few, inr (contents_of c.in_ok-sources.sources, c.in_ok-sources.ensures.read, c.in_err-made.ensures.refused)))

@@ -1,8 +1,21 @@
-use Rattle.std.proofs.Common.{arith}
+use Rattle.std.proofs.Common.{◌≡◌, Ok, arith, rules, subst}
+use Rattle.std.proofs.lemmas.Result.{IfOk-weaker}
+use Rattle.sarif_assemble.specs.Beside.{IsMadeBy}
 use Rattle.sarif_sources.proofs.ReadersRead.{none_has_fallen}
+use Rattle.sarif_program.specs.Reports.{report_for, report_with, texts_for}
 use Rattle.sarif_program.proofs.run.merge_for.Goals as goal
 
 pub returns-in_err-made-clause-risen : goal.returns-in_err-made-clause-risen
 returns-in_err-made-clause-risen g c =
     let all = c.args.readers.now in
     record { logs = none_has_fallen all.logs.items; baselines = none_has_fallen all.baselines.items; suppressions = omega arith }
+
+pub returns-clause-reports : goal.returns-clause-reports
+returns-clause-reports g c =
+    let request = c.args.request.now in
+    let writers = c.args.writers.now in
+    IfOk-weaker c.merge_told.result _ (λ all. all.1.reports ≡ texts_for writers (report_for request all.0))
+    (λ all told.
+    subst (λ findings. all.1.reports ≡ texts_for writers (report_with request all.0.counts findings)) {x = told.1.now} {y = all.0.findings} told.4
+    (subst (λ counts. all.1.reports ≡ texts_for writers (report_with request counts told.1.now)) {x = told.0.now} {y = all.0.counts} told.3 (search rules)))
+    c.merge_told.ensures.told

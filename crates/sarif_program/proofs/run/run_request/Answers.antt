@@ -1,16 +1,30 @@
-use Rattle.std.proofs.Common.{ap, arith, nat_eq, subst, sym, ◌∙◌, ◌+◌}
+use Rattle.std.proofs.Common.{ℕ, List, ap, arith, nat_eq, subst, sym, ◌∙◌, ◌+◌}
+use Rattle.std.specs.Io.KnownBytes.{Appends}
 use Rattle.sarif_inputs.specs.Faults.{faults_of}
 use Rattle.sarif_merge.specs.Given.{given_by}
 use Rattle.sarif_sources.proofs.ReadersRead.{were_read_quiet}
-use Rattle.sarif_sources.specs.Counted.{RisesIf}
+use Rattle.sarif_sources.specs.Counted.{inner_of, RisesIf}
 use Rattle.sarif_sources.specs.WereRead.{failures}
+use Rattle.sarif_program.specs.Reports.{report_for}
 use Rattle.sarif_program.specs.Writing.{writer_failures}
 use Rattle.sarif_program.proofs.Quiet.{quiet_status, no_rise, refused_rise}
+use Rattle.sarif_program.proofs.Taken.{taken_written}
 use Rattle.sarif_program.proofs.run.run_request.Goals as goal
 
 pub returns-in-Ok-clause-accepted : goal.returns-in-Ok-clause-accepted
-returns-in-Ok-clause-accepted g c =
-    λ low. (c.in-Ok.merged, c.accept.ensures.status low, c.in-Ok.ensures.merged, c.accept.ensures.written low, c.accept.ensures.reported low, c.accept.ensures.said low)
+returns-in-Ok-clause-accepted g c = λ low.
+    let merged = c.in-Ok.merged in
+    let request = c.args.request.now in
+    let old = c.args.writers.now in
+    let new = c.accept.new.writers in (
+      merged,
+      c.accept.ensures.status low,
+      c.in-Ok.ensures.merged,
+      c.accept.ensures.written low,
+      taken_written g.P.Write.contents (report_for request merged) c.in-Ok.texts.reports old.reports new.reports c.in-Ok.ensures.reports (c.accept.ensures.reported low),
+      subst (λ (text : List ℕ). Appends (g.S.Write.contents (inner_of old.say)) (g.S.Write.contents (inner_of new.say)) text)
+          c.in-Ok.ensures.summary (c.accept.ensures.said low),
+    )
 
 pub returns-in-Ok-clause-unread : goal.returns-in-Ok-clause-unread
 returns-in-Ok-clause-unread g c = λ failed. absurd (omega (arith, failed, c.in-Ok.ensures.read_failed))
