@@ -4,7 +4,7 @@ use sarif_sources::Cause;
 /// The sentence that says what to do.
 pub(crate) fn advice_on(cause: Cause) -> &'static str {
     match cause {
-        Cause::NotJson => "see whether what wrote the file ended well and wrote it to its end",
+        Cause::NotJson => "mend it there, or see whether what wrote the file wrote it to its end",
         Cause::NotLog => "see that the file is a SARIF log, and no file was named in its place",
         Cause::WrongVersion => "have the file written in a version that is read",
         Cause::BadRun | Cause::BadRules => {

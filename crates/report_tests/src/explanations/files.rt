@@ -15,7 +15,7 @@ fn a_file_has_a_version_and_a_list_within_the_limit(rt: HostRuntime) -> Result<(
   line: 1
   column: 2
   wanted: JSON in UTF-8, nested at most 127 deep
-  advice: see whether what wrote the file ended well and wrote it to its end
+  advice: mend it there, or see whether what wrote the file wrote it to its end
 "#,
         ),
         (

@@ -15,7 +15,7 @@ fn json_tells_where_its_reading_stopped(rt: HostRuntime) -> Result<(), Fail> {
   line: 1
   column: 27
   wanted: JSON in UTF-8, nested at most 127 deep
-  advice: see whether what wrote the file ended well and wrote it to its end
+  advice: mend it there, or see whether what wrote the file wrote it to its end
 "#,
         ),
         (
@@ -24,7 +24,7 @@ fn json_tells_where_its_reading_stopped(rt: HostRuntime) -> Result<(), Fail> {
   line: 2
   column: 2
   wanted: JSON in UTF-8, nested at most 127 deep
-  advice: see whether what wrote the file ended well and wrote it to its end
+  advice: mend it there, or see whether what wrote the file wrote it to its end
 "#,
         ),
     ] {
