@@ -40,7 +40,8 @@ fn merge_nothing<R: Threads + Sync>(
         reporting: None,
     };
     let prepared = prepare(rt, alloc, no_runs(alloc), no_runs(alloc), file, &asked)?;
-    assemble(alloc, prepared, &options.policy)
+    let (merged, ()) = assemble(rt, alloc, prepared, &options.policy, |_, _| Ok(()))?;
+    Ok(merged)
 }
 
 fn merge_without_file<R: Threads + Sync>(
