@@ -15,7 +15,8 @@ use std::thread::Threads;
 const LOG: &str = r#"{"version":"2.1.0","runs":[{"tool":{"driver":{"name":"T"}},"results":[
 {"ruleId":"A","level":"error","message":{"text":"known"}},
 {"ruleId":"B","level":"error","message":{"text":"hidden"},"suppressions":[{"kind":"inSource"}]},
-{"ruleId":"C","message":{"text":"{0} is new","arguments":["this"]},"locations":[{"physicalLocation":{"artifactLocation":{"uri":"file:///b/a.c"},"region":{"startLine":3}}}]}]}]}"#;
+{"ruleId":"C","message":{"text":"{0} is new","arguments":["this"]},"locations":[
+{"physicalLocation":{"artifactLocation":{"uri":"file:///b/a.c"},"region":{"startLine":3}}}]}]}]}"#;
 
 /// The first of these, one that is absent already, and one that is gone.
 const BASELINE: &str = r#"{"version":"2.1.0","runs":[{"tool":{"driver":{"name":"T"}},"results":[
