@@ -11,6 +11,7 @@ mod reading;
 mod refusing;
 mod seeds;
 mod suppressing;
+mod telling;
 mod workers;
 
 /// The log of one result without a level, merged: it counts as a new warning.
