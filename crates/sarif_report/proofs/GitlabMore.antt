@@ -234,3 +234,41 @@ pub number_told : (identity digest : List ℕ) (number : ℕ) → digest ≡ sha
     → number ≡ number_of identity
 unfolding number_of
 number_told identity digest number p q = q ∙ ap number_in p
+
+rank_is : (old : tree.BTreeMap (ℕ × List ℕ) ℕ) (key : ℕ × List ℕ) → key.0 ≡ number_of key.1
+    → unwrap_or (tree.get key_cmp old key) 0 ≡ counted old key.1
+rank_is old key is = ap (λ n. unwrap_or (tree.get key_cmp old (n, key.1)) 0) is
+
+-- a result with an identity that none was counted with
+pub counted_first : (old new : tree.BTreeMap (ℕ × List ℕ) ℕ) (key : ℕ × List ℕ) (text other : List ℕ) → key.0 ≡ number_of key.1 → key.1 ≡ text
+    → None ≡ tree.get key_cmp old key
+    → ((q : ℕ × List ℕ) → tree.get key_cmp new q ≡ cond (is_eq (key_cmp key q)) (Some 1) (tree.get key_cmp old q))
+    → counted new other ≡ counted old other + (if bytes_eq other text then 1 else 0)
+counted_first old new key text other is same none updates =
+    counted_more old new key other 0 is (ap (λ o. unwrap_or o 0) none ∙ rank_is old key is) updates
+    ∙ ap (λ t. counted old other + (if bytes_eq other t then 1 else 0)) same
+
+put_twice : {X : Type 0} (b : Bool) (old mid new first last : Option X) → mid ≡ cond b first old → new ≡ cond b last mid → new ≡ cond b last old
+put_twice true old mid new first last p q = q
+put_twice false old mid new first last p q = q ∙ p
+
+-- how many were counted with an identity
+pub rank_some : (old : tree.BTreeMap (ℕ × List ℕ) ℕ) (key : ℕ × List ℕ) (text : List ℕ) (rank : ℕ) → key.0 ≡ number_of key.1 → key.1 ≡ text
+    → Some rank ≡ tree.get key_cmp old key → rank ≡ counted old text
+rank_some old key text rank is same some = ap (λ o. unwrap_or o 0) some ∙ rank_is old key is ∙ ap (counted old) same
+
+pub same_keys : (key again : ℕ × List ℕ) (text : List ℕ) → key.0 ≡ number_of key.1 → again.0 ≡ number_of again.1 → key.1 ≡ text → again.1 ≡ text → key ≡ again
+same_keys key again text is be p q =
+    let texts : key.1 ≡ again.1 = p ∙ sym q in
+    ap₂ (λ n t. (n, t)) (is ∙ ap number_of texts ∙ sym be) texts
+
+-- a result with an identity that some were counted with
+pub counted_again : (old mid new : tree.BTreeMap (ℕ × List ℕ) ℕ) (key again : ℕ × List ℕ) (text other : List ℕ) (rank : ℕ) → key.0 ≡ number_of key.1
+    → key.1 ≡ text → key ≡ again → Some rank ≡ tree.get key_cmp old key
+    → ((q : ℕ × List ℕ) → tree.get key_cmp mid q ≡ cond (is_eq (key_cmp key q)) (Some 1) (tree.get key_cmp old q))
+    → ((q : ℕ × List ℕ) → tree.get key_cmp new q ≡ cond (is_eq (key_cmp again q)) (Some (rank + 1)) (tree.get key_cmp mid q))
+    → counted new other ≡ counted old other + (if bytes_eq other text then 1 else 0)
+counted_again old mid new key again text other rank is same twice some first last =
+    let updates : (q : ℕ × List ℕ) → tree.get key_cmp new q ≡ cond (is_eq (key_cmp key q)) (Some (rank + 1)) (tree.get key_cmp old q) = λ q. put_twice (is_eq (key_cmp key q)) (tree.get key_cmp old q) (tree.get key_cmp mid q) (tree.get key_cmp new q) (Some 1) (Some (rank + 1)) (first q) (last q ∙ ap (λ k. cond (is_eq (key_cmp k q)) (Some (rank + 1)) (tree.get key_cmp mid q)) (sym twice)) in
+    counted_more old new key other rank is (ap (λ o. unwrap_or o 0) some ∙ rank_is old key is) updates
+    ∙ ap (λ t. counted old other + (if bytes_eq other t then 1 else 0)) same

@@ -59,31 +59,19 @@ fn key_of(identity: &Identity) -> Result<(u64, Text), AllocError>
     Ok((number_in(&identity.first), text))
 }
 
-/// How many results with this identity were counted.
-fn rank_of(ranks: &BTreeMap<(u64, Text), u64>, key: &(u64, Text)) -> u64
-    requires { key.now.0 ≡ number_of key.now.1 }
-    ensures { result ≡ counted ranks.now key.now.1 }
+/// Counts a result with this identity: how many with it were counted before. Most have none, and are looked up once.
+fn count(ranks: &mut BTreeMap<(u64, Text), u64>, identity: &Identity) -> Result<u64, AllocError>
+    requires room { counted ranks.old identity.now.text < 2 ^ 63 }
+    requires first { identity.now.first ≡ sha256 (identity.now.text ++ rank_text 0) }
+    ensures rank { IfOk result (λ rank. rank ≡ counted ranks.old identity.now.text) }
+    ensures counted { OnOk result ((other : List ℕ) → counted ranks.new other
+        ≡ counted ranks.old other + (if bytes_eq other identity.now.text then 1 else 0)) }
 {
-    match ranks.get(key) {
-        Some(rank) => *rank,
-        None => 0,
-    }
-}
-
-/// Counts a result with this identity, which has so many like it before it.
-fn count(
-    ranks: &mut BTreeMap<(u64, Text), u64>,
-    key: (u64, Text),
-    rank: u64,
-) -> Result<(), AllocError>
-    requires room { rank < 2 ^ 63 }
-    requires number { key.0 ≡ number_of key.1 }
-    requires rank { rank ≡ counted ranks.old key.1 }
-    ensures { OnOk result ((other : List ℕ) → counted ranks.new other
-        ≡ counted ranks.old other + (if bytes_eq other key.1 then 1 else 0)) }
-{
-    ranks.insert(key, rank + 1)?;
-    Ok(())
+    let Some(rank) = ranks.insert(key_of(identity)?, 1)? else {
+        return Ok(0);
+    };
+    ranks.insert(key_of(identity)?, rank + 1)?;
+    Ok(rank)
 }
 
 /// Adds the object of a result with this identity, which has so many like it before it.
@@ -123,9 +111,7 @@ fn push_next(
     ensures counted { OnOk result ((other : List ℕ) → counted ranks.new other
         ≡ counted ranks.old other + (if bytes_eq other (identity_of finding.now) then 1 else 0)) }
 {
-    let key = key_of(identity)?;
-    let rank = rank_of(ranks, &key);
-    count(ranks, key, rank)?;
+    let rank = count(ranks, identity)?;
     push_ranked(alloc, text, finding, identity, rank)?;
     Ok(())
 }
