@@ -7,6 +7,7 @@ pub mod Marked
 pub mod Sides
 pub mod LeftTexts
 pub mod WrittenSides
+pub mod ListedTold
 pub mod ToldResults
 pub mod ToldRuns
 pub mod ToldSides

@@ -16,6 +16,7 @@ use Rattle.sarif_report.specs.Reported.{finding_of}
 use Rattle.sarif_write.specs.declared.draft.Draft.{Draft}
 use Rattle.sarif_write.specs.MergedRuns.{present}
 use Rattle.sarif_assemble.specs.declared.told.Told.{Told}
+use Rattle.sarif_assemble.specs.declared.told.ToldRun.{ToldRun}
 
 -- what is told of a result of this run, by its draft and its state, where it is written
 abbrev pub told_as : Reporting → Data → Data → Draft → Option State → Option Finding
@@ -47,7 +48,11 @@ present_in run = with_run run (present (results_of run))
 abbrev pub pair_at : List Placed → Spot → Data × Data
 pair_at runs spot = ((placed_at runs spot.run).run, found_at runs spot)
 
+-- the run, as the definitions see it
+abbrev pub placed_told : ToldRun → Placed
+placed_told run = placed_of run.opened.now
+
 -- what is told of one that is reported
 abbrev pub told_by : Reporting → Told → Finding
 told_by reporting told =
-    finding_of reporting (placed_of told.run.now).run (result_at (placed_of told.run.now).run told.seq) told.level told.state
+    finding_of reporting (placed_told told.run.now).run (result_at (placed_told told.run.now).run told.seq) told.level told.state

@@ -6,17 +6,17 @@ ghost use Rattle.sarif_records.specs.Run.{result_at, results_of};
 ghost use Rattle.sarif_judge.specs.Leftover.{not_taken};
 ghost use Rattle.sarif_judge.specs.Opened.{placed_of};
 ghost use Rattle.sarif_judge.specs.Spots.{spots_from, IsSpotOf};
-ghost use Rattle.sarif_assemble.specs.Telling.{pair_at, told_as, told_by, told_each};
+ghost use Rattle.sarif_assemble.specs.Telling.{pair_at, placed_told, told_as, told_by, told_each};
 ghost use Rattle.sarif_assemble.specs.Told.{if_asked, reporting_in};
 
 use crate::asked::Asked;
 use crate::baselines::Baselines;
 use crate::halves::Half;
 use crate::left::absent_states;
-use crate::told::Told;
+use crate::told::{Told, ToldRun};
 use sarif_judge::{OpenedRun, Spot, list_spots};
 use sarif_records::State;
-use sarif_report::{Finding, Reporting, TOLD_MEMBERS, finding_of};
+use sarif_report::{Finding, NamedRun, Reporting, TOLD_MEMBERS, finding_of};
 use sarif_write::Draft;
 use std::alloc::{AllocError, Global};
 use std::thread;
@@ -25,19 +25,35 @@ use std::thread::Threads;
 /// Of fewer results a thread of their own is not worth its start.
 const FEWEST_SHARED: usize = 64;
 
+/// Each of these runs, with the names that are looked up for its results.
+#[tactic(auto, using(sarif_report::proofs::RunsAlike::bare_told))]
+fn name_runs<'w, 't, 'a>(
+    alloc: Global,
+    runs: &'w [OpenedRun<'t, 'a>],
+) -> Result<Vec<ToldRun<'w, 't, 'a>>, AllocError>
+    ensures { IfOk result (λ made. map placed_told made.items ≡ map placed_of runs.now) }
+{
+    let mut made = Vec::with_capacity(alloc, runs.len())?;
+    for opened in runs {
+        let named = NamedRun::new(alloc, opened.bare())?;
+        made.push(ToldRun { opened, named })?;
+    }
+    Ok(made)
+}
+
 /// Adds the result at this place of a run, where it is written and reported.
-fn push_told<'w, 't, 'a>(
-    told: &mut Vec<Told<'w, 't, 'a>>,
+fn push_told<'l, 'w, 't, 'a>(
+    told: &mut Vec<Told<'l, 'w, 't, 'a>>,
     reporting: &Reporting,
-    run: &'w OpenedRun<'t, 'a>,
+    run: &'l ToldRun<'w, 't, 'a>,
     seq: u32,
     draft: &Draft,
     state: Option<State>,
 ) -> Result<(), AllocError>
-    requires { seq < length (results_of (placed_of run.now).run) }
+    requires { seq < length (results_of (placed_told run.now).run) }
     ensures { OnOk result (map (told_by reporting.now) told.new.items
         ≡ map (told_by reporting.now) told.old.items ++ cons_option (told_as reporting.now
-        (placed_of run.now).run (result_at (placed_of run.now).run seq) draft.now state) []) }
+        (placed_told run.now).run (result_at (placed_told run.now).run seq) draft.now state) []) }
 {
     let Some(state) = state else {
         return Ok(());
@@ -55,19 +71,19 @@ fn push_told<'w, 't, 'a>(
 }
 
 /// Those of the results at these places that are reported. There are a draft and a state, or none, for each.
-fn list_told<'w, 't, 'a>(
+fn list_told<'l, 'w, 't, 'a>(
     alloc: Global,
     reporting: &Reporting,
-    runs: &'w [OpenedRun<'t, 'a>],
+    runs: &'l [ToldRun<'w, 't, 'a>],
     spots: &[Spot],
     drafts: &[Draft],
     states: &[Option<State>],
-) -> Result<Vec<Told<'w, 't, 'a>>, AllocError>
-    requires within { All (IsSpotOf (map placed_of runs.now)) spots.now }
+) -> Result<Vec<Told<'l, 'w, 't, 'a>>, AllocError>
+    requires within { All (IsSpotOf (map placed_told runs.now)) spots.now }
     requires drafts { length drafts.now ≡ length spots.now }
     requires states { length states.now ≡ length spots.now }
     ensures { IfOk result (λ told. map (told_by reporting.now) told.items ≡ told_each reporting.now
-        (map (pair_at (map placed_of runs.now)) spots.now) drafts.now states.now) }
+        (map (pair_at (map placed_told runs.now)) spots.now) drafts.now states.now) }
 {
     let mut told = Vec::new(alloc);
     for (number, spot) in spots.iter().enumerate() {
@@ -85,24 +101,24 @@ fn list_told<'w, 't, 'a>(
 }
 
 /// What is told of one of them.
-#[tactic(auto, using(sarif_report::proofs::ResultsAlike::told_picked))]
+#[tactic(auto, using(sarif_report::proofs::ResultsAlike::told_members))]
 fn tell(
     alloc: Global,
     reporting: &Reporting,
-    told: &Told<'_, '_, '_>,
+    told: &Told<'_, '_, '_, '_>,
 ) -> Result<Finding, AllocError>
     ensures { IfOk result (λ finding. finding ≡ told_by reporting.now told.now) }
 {
-    let found = told.run.picked(alloc, told.seq, &TOLD_MEMBERS)?;
-    let run = told.run.bare();
-    finding_of(alloc, reporting, run, &found, told.level, told.state)
+    let run = told.run;
+    let found = run.opened.picked(alloc, told.seq, &TOLD_MEMBERS)?;
+    finding_of(alloc, reporting, &run.named, &found, told.level, told.state)
 }
 
 /// What is told of these, one after another.
 fn tell_in_turn(
     alloc: Global,
     reporting: &Reporting,
-    told: &[Told<'_, '_, '_>],
+    told: &[Told<'_, '_, '_, '_>],
 ) -> Result<Vec<Finding>, AllocError>
     ensures { IfOk result (λ findings. findings.items ≡ map (told_by reporting.now) told.now) }
 {
@@ -119,7 +135,7 @@ fn tell_all<R: Threads + Sync>(
     rt: &R,
     alloc: Global,
     reporting: &Reporting,
-    told: &[Told<'_, '_, '_>],
+    told: &[Told<'_, '_, '_, '_>],
     threads: u32,
 ) -> Result<Vec<Finding>, AllocError>
     requires { 1 ≤ threads }
@@ -168,8 +184,9 @@ pub(crate) fn tell_current<R: Threads + Sync>(
         return Ok(Vec::new(alloc));
     };
     let spots = list_spots(alloc, &current.runs)?;
+    let runs = name_runs(alloc, &current.runs)?;
     let drafts = &current.drafts;
-    let told = list_told(alloc, reporting, &current.runs, &spots, drafts, states)?;
+    let told = list_told(alloc, reporting, &runs, &spots, drafts, states)?;
     tell_all(rt, alloc, reporting, &told, asked.options.workers)
 }
 
@@ -220,6 +237,7 @@ pub(crate) fn tell_left<R: Threads + Sync>(
     };
     let spots = left_spots(alloc, &baselines.spots, taken)?;
     let states = absent_states(alloc, drafts)?;
-    let told = list_told(alloc, reporting, &baselines.runs, &spots, drafts, &states)?;
+    let runs = name_runs(alloc, &baselines.runs)?;
+    let told = list_told(alloc, reporting, &runs, &spots, drafts, &states)?;
     tell_all(rt, alloc, reporting, &told, asked.options.workers)
 }

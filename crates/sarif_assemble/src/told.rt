@@ -1,20 +1,38 @@
-//! A result that is reported.
-ghost use Rattle.std.specs.Prelude.{◌<◌, length};
+//! Results that are reported, and the runs that they stand in.
+ghost use Rattle.std.specs.Prelude.{◌≡◌, ◌<◌, length};
+ghost use Rattle.std.specs.Coded.{codes};
+ghost use Rattle.serde_json.specs.Data.{Data};
+ghost use Rattle.serde_json.specs.View.{view};
 ghost use Rattle.sarif_records.specs.Run.{results_of};
+ghost use Rattle.sarif_records.specs.declared.kinds.Level.{Level as AnyLevel};
+ghost use Rattle.sarif_records.specs.declared.kinds.State.{State as AnyState};
 ghost use Rattle.sarif_judge.specs.Opened.{placed_of};
+ghost use Rattle.sarif_report.specs.declared.reporting.Reporting.{Reporting as AnyReporting};
+ghost use Rattle.sarif_report.specs.Reported.{finding_of};
 
 use sarif_judge::OpenedRun;
 use sarif_records::{Level, State};
+use sarif_report::NamedRun;
+
+/// A run whose results reports may tell of, with the names that are looked up for each of them.
+#[derive(Drop)]
+pub(crate) struct ToldRun<'w, 't: 'w, 'a: 't> {
+    pub(crate) opened: &'w OpenedRun<'t, 'a>,
+    pub(crate) named: NamedRun<'w>,
+    ghost named_is: { (reporting : AnyReporting) (found : Data) (level : AnyLevel) (state : AnyState)
+        → finding_of reporting (view named) found level state
+        ≡ finding_of reporting (placed_of opened.now).run found level state },
+}
 
 /// A result that reports tell of.
 #[derive(Clone, Copy)]
-pub(crate) struct Told<'w, 't: 'w, 'a: 't> {
-    pub(crate) run: &'w OpenedRun<'t, 'a>,
+pub(crate) struct Told<'l, 'w: 'l, 't: 'w, 'a: 't> {
+    pub(crate) run: &'l ToldRun<'w, 't, 'a>,
     /// Its number in its run.
     pub(crate) seq: u32,
     /// Its effective level.
     pub(crate) level: Level,
     /// Its baseline state.
     pub(crate) state: State,
-    ghost in_run: { seq < length (results_of (placed_of run.now).run) },
+    ghost in_run: { seq < length (results_of (placed_of run.now.opened.now).run) },
 }

@@ -1,4 +1,5 @@
 pub mod ArrayRead
+pub mod ArtifactsMore
 pub mod ByHalves
 pub mod CharsBack
 pub mod EscapedApart
@@ -14,9 +15,11 @@ pub mod PathMore
 pub mod ReportedMore
 pub mod ResultsAlike
 pub mod RowsApart
+pub mod RulesMore
 pub mod RunsAlike
 pub mod SeenMore
 pub mod SeenTexts
+pub mod Shared
 pub mod ShownMore
 pub mod ShownWhole
 pub mod TagsCounted

@@ -6,7 +6,6 @@ use Rattle.serde_json.specs.Data.{Data}
 use Rattle.serde_json.specs.Find.{get, as_str, as_array, as_number, as_u64}
 use Rattle.sarif_records.specs.declared.kinds.Level.{Level}
 use Rattle.sarif_records.specs.declared.kinds.State.{State}
-use Rattle.sarif_records.specs.Bare.{bare}
 use Rattle.sarif_records.specs.Members.{first_of}
 use Rattle.sarif_records.specs.Picked.{picked}
 use Rattle.sarif_records.specs.Run.{elements_or_none}
@@ -15,7 +14,7 @@ use Rattle.sarif_report.specs.declared.reporting.Reporting.{Reporting}
 use Rattle.sarif_report.specs.Lookup.{text_in, number_in, own_rule_id, index_of_rule, rule_index, component_by, component_of, driver_of, rule_by, rule_in, descriptor_of, descriptor_id, rule_id, elements_in, location_uri, physical_location, position_in, position_number}
 use Rattle.sarif_report.specs.Message.{string_named, strings_of, own_string, shared_string, looked_up, text_by, message_of, filled, arguments_in, arguments_of}
 use Rattle.sarif_report.specs.Reported.{help_in, link_of, path_in, shown_path, finding_of}
-use Rattle.sarif_report.proofs.RunsAlike.{bare_alike, run_same, AreAlike}
+use Rattle.sarif_report.proofs.RunsAlike.{run_same, AreAlike}
 
 pub record AreToldAlike (x y : Data) : Type 0 where
   pub rule_id : get (codes "ruleId") x ≡ get (codes "ruleId") y
@@ -134,7 +133,7 @@ picked_alike x = record {
   locations = picked_get (codes "locations") told_names x refl;
 }
 
--- what is told of a result is told by these members, and by the run without its results
-pub told_picked : (reporting : Reporting) (run x : Data) (level : Level) (state : State)
-    → finding_of reporting (bare run) (picked told_names x) level state ≡ finding_of reporting run x level state
-told_picked reporting run x level state = same_told reporting (bare run) run (picked told_names x) x level state (bare_alike run) (picked_alike x)
+-- what is told of a result is told by these members
+pub told_members : (reporting : Reporting) (run x : Data) (level : Level) (state : State)
+    → finding_of reporting run (picked told_names x) level state ≡ finding_of reporting run x level state
+told_members reporting run x level state = result_same reporting run (picked told_names x) x level state (picked_alike x)

@@ -98,3 +98,8 @@ bare_alike run = record {
   tool = bare_get (codes "tool") run refl;
   artifacts = bare_get (codes "artifacts") run refl;
 }
+
+-- what is told of a run's results is told by the run without them
+pub bare_told : (reporting : Reporting) (run x : Data) (level : Level) (state : State)
+    → finding_of reporting (bare run) x level state ≡ finding_of reporting run x level state
+bare_told reporting run x level state = run_same reporting (bare run) run x level state (bare_alike run)

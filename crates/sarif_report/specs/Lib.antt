@@ -1,3 +1,4 @@
+pub mod ArtifactsOf
 pub mod CountRow
 pub mod Escaped
 pub mod EscapedBytes
@@ -18,8 +19,10 @@ pub mod Message
 pub mod PathOf
 pub mod Report
 pub mod Reported
+pub mod RulesOf
 pub mod Shown
 pub mod ShownLaws
 pub mod ShownSoFar
+pub mod Subject
 pub mod TextLaws
 pub mod TextReport

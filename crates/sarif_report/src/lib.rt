@@ -1,6 +1,7 @@
 //! Reports for people and review services over the finished merged log of a SARIF merge.
 #![tactic(auto)]
 
+mod artifacts;
 mod count_row;
 mod escaping;
 mod finding;
@@ -13,14 +14,17 @@ mod laws;
 mod lookup;
 mod markdown_table;
 mod message;
+mod named_run;
 mod path;
 mod quality;
 mod quoted;
 mod report;
 mod reported_results;
 mod reporting;
+mod rules;
 mod shown_text;
 mod spot;
+mod subject;
 mod text_lines;
 
 pub use finding::Finding;
@@ -34,6 +38,7 @@ pub use laws::{
     shown_texts_are_seen, text_reports_have_a_line_a_result,
 };
 pub use markdown_table::markdown_report;
+pub use named_run::NamedRun;
 pub use report::{Report, Told, report_text};
 pub use reported_results::{TOLD_MEMBERS, finding_of, reported};
 pub use reporting::Reporting;

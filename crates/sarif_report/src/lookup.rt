@@ -1,9 +1,11 @@
 //! What a result of a merged log names: its rule, and artifacts of its run. A member of another kind than is looked
 //! for counts as absent.
-ghost use Rattle.std.specs.Prelude.{◌≡◌, map, option_map, option_and_then, find};
+ghost use Rattle.std.specs.Prelude.{◌≡◌, map, option_map, option_and_then};
 ghost use Rattle.serde_json.specs.View.{view};
 ghost use Rattle.sarif_report.specs.Lookup as said;
+ghost use Rattle.sarif_report.specs.Subject.{IsDescribed};
 
+use crate::subject::Subject;
 use serde_json::Value;
 
 /// The text `name` of an object.
@@ -57,7 +59,7 @@ fn index_of_rule(found: &Value) -> Option<u64>
 }
 
 /// `rule.index`, else `ruleIndex`.
-fn rule_index(found: &Value) -> Option<u64>
+pub(crate) fn rule_index(found: &Value) -> Option<u64>
     ensures { result ≡ said.rule_index (view found.now) }
 {
     match index_of_rule(found) {
@@ -67,7 +69,7 @@ fn rule_index(found: &Value) -> Option<u64>
 }
 
 /// `rule.toolComponent.index`.
-fn extension_index(found: &Value) -> Option<u64>
+pub(crate) fn extension_index(found: &Value) -> Option<u64>
     ensures { result ≡ said.extension_index (view found.now) }
 {
     number_in(found.get("rule")?.get("toolComponent")?, "index")
@@ -98,61 +100,23 @@ pub(crate) fn component_of<'a>(run: &'a Value, found: &Value) -> Option<&'a Valu
     }
 }
 
-fn has_id(rule: &Value, id: &str) -> bool
-    ensures { result ≡ said.has_id id.now (view rule.now) }
-{
-    match text_in(rule, "id") {
-        Some(own) => id == own,
-        None => false,
-    }
-}
-
-/// The first rule with that id.
-fn rule_with_id<'a>(rules: &'a [Value], id: &str) -> Option<&'a Value>
-    ensures { option_map (λ v. view v.now) result ≡ find (said.has_id id.now) (map view rules.now) }
-{
-    for rule in rules {
-        if has_id(rule, id) {
-            return Some(rule);
-        }
-    }
-    None
-}
-
-/// The rule of a component that a result names.
-fn rule_in<'a>(found: &Value, component: &'a Value) -> Option<&'a Value>
-    ensures { option_map (λ v. view v.now) result
-        ≡ said.rule_in (view found.now) (view component.now) }
-{
-    match rule_index(found) {
-        Some(index) => element_at(component, "rules", index),
-        None => rule_with_id(elements_in(component, "rules"), own_rule_id(found)?),
-    }
-}
-
-/// The descriptor of a result of a run.
-pub(crate) fn descriptor_of<'a>(run: &'a Value, found: &Value) -> Option<&'a Value>
-    ensures { option_map (λ v. view v.now) result
-        ≡ said.descriptor_of (view run.now) (view found.now) }
-{
-    rule_in(found, component_of(run, found)?)
-}
-
-/// The id of the descriptor of a result of a run.
-fn descriptor_id<'a>(run: &'a Value, found: &Value) -> Option<&'a str>
+/// The id of the descriptor of a result.
+fn descriptor_id<'a>(subject: &Subject<'a>) -> Option<&'a str>
+    requires { IsDescribed subject.now }
     ensures { option_map (λ s. s.now) result
-        ≡ said.descriptor_id (view run.now) (view found.now) }
+        ≡ said.descriptor_id (view subject.now.run.now) (view subject.now.found.now) }
 {
-    text_in(descriptor_of(run, found)?, "id")
+    text_in(subject.descriptor?, "id")
 }
 
 /// The result's own rule id, else that of its descriptor, else the empty text.
-pub(crate) fn rule_id<'a>(run: &'a Value, found: &'a Value) -> &'a str
-    ensures { result.now ≡ said.rule_id (view run.now) (view found.now) }
+pub(crate) fn rule_id<'a>(subject: &Subject<'a>) -> &'a str
+    requires { IsDescribed subject.now }
+    ensures { result.now ≡ said.rule_id (view subject.now.run.now) (view subject.now.found.now) }
 {
-    match own_rule_id(found) {
+    match own_rule_id(subject.found) {
         Some(id) => id,
-        None => match descriptor_id(run, found) {
+        None => match descriptor_id(subject) {
             Some(id) => id,
             None => "",
         },
@@ -160,15 +124,10 @@ pub(crate) fn rule_id<'a>(run: &'a Value, found: &'a Value) -> &'a str
 }
 
 /// The address of a page on the rule.
-pub(crate) fn help_uri<'a>(run: &'a Value, found: &Value) -> Option<&'a str>
-    ensures { option_map (λ s. s.now) result ≡ said.help_uri (view run.now) (view found.now) }
+pub(crate) fn help_uri<'a>(subject: &Subject<'a>) -> Option<&'a str>
+    requires { IsDescribed subject.now }
+    ensures { option_map (λ s. s.now) result
+        ≡ said.help_uri (view subject.now.run.now) (view subject.now.found.now) }
 {
-    text_in(descriptor_of(run, found)?, "helpUri")
-}
-
-/// `artifacts[index].location.uri`.
-pub(crate) fn artifact_uri(run: &Value, index: u64) -> Option<&str>
-    ensures { option_map (λ s. s.now) result ≡ said.artifact_uri (view run.now) index }
-{
-    text_in(element_at(run, "artifacts", index)?.get("location")?, "uri")
+    text_in(subject.descriptor?, "helpUri")
 }

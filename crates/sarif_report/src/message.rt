@@ -6,9 +6,11 @@ ghost use Rattle.serde_json.specs.Data.{Data};
 ghost use Rattle.serde_json.specs.View.{view};
 ghost use Rattle.sarif_report.specs.Message as said;
 ghost use Rattle.sarif_report.specs.ShownSoFar.{Takes, Writes};
+ghost use Rattle.sarif_report.specs.Subject.{IsDescribed};
 
-use crate::lookup::{component_of, descriptor_of, driver_of, elements_in, text_in};
+use crate::lookup::{component_of, driver_of, elements_in, text_in};
 use crate::shown_text::ShownText;
+use crate::subject::Subject;
 use serde_json::Value;
 use std::alloc::{AllocError, Global};
 
@@ -21,68 +23,75 @@ fn string_named<'a>(value: &'a Value, table: &str, name: &str) -> Option<&'a str
 }
 
 /// The component whose strings a result's message may be one of.
-fn strings_of<'a>(run: &'a Value, found: &Value) -> Option<&'a Value>
+fn strings_of<'a>(subject: &Subject<'a>) -> Option<&'a Value>
+    requires { IsDescribed subject.now }
     ensures { option_map (λ v. view v.now) result
-        ≡ said.strings_of (view run.now) (view found.now) }
+        ≡ said.strings_of (view subject.now.run.now) (view subject.now.found.now) }
 {
-    if descriptor_of(run, found).is_some() {
-        component_of(run, found)
+    if subject.descriptor.is_some() {
+        component_of(subject.run, subject.found)
     } else {
-        driver_of(run)
+        driver_of(subject.run)
     }
 }
 
 /// The string of that name of the descriptor.
-fn own_string<'a>(run: &'a Value, found: &Value, name: &str) -> Option<&'a str>
+fn own_string<'a>(subject: &Subject<'a>, name: &str) -> Option<&'a str>
+    requires { IsDescribed subject.now }
     ensures { option_map (λ s. s.now) result
-        ≡ said.own_string (view run.now) (view found.now) name.now }
+        ≡ said.own_string (view subject.now.run.now) (view subject.now.found.now) name.now }
 {
-    string_named(descriptor_of(run, found)?, "messageStrings", name)
+    string_named(subject.descriptor?, "messageStrings", name)
 }
 
 /// The string of that name of the component.
-fn shared_string<'a>(run: &'a Value, found: &Value, name: &str) -> Option<&'a str>
+fn shared_string<'a>(subject: &Subject<'a>, name: &str) -> Option<&'a str>
+    requires { IsDescribed subject.now }
     ensures { option_map (λ s. s.now) result
-        ≡ said.shared_string (view run.now) (view found.now) name.now }
+        ≡ said.shared_string (view subject.now.run.now) (view subject.now.found.now) name.now }
 {
-    string_named(strings_of(run, found)?, "globalMessageStrings", name)
+    string_named(strings_of(subject)?, "globalMessageStrings", name)
 }
 
 /// The string of that name of the descriptor, else of the component.
-fn looked_up<'a>(run: &'a Value, found: &Value, name: &str) -> Option<&'a str>
+fn looked_up<'a>(subject: &Subject<'a>, name: &str) -> Option<&'a str>
+    requires { IsDescribed subject.now }
     ensures { option_map (λ s. s.now) result
-        ≡ said.looked_up (view run.now) (view found.now) name.now }
+        ≡ said.looked_up (view subject.now.run.now) (view subject.now.found.now) name.now }
 {
-    match own_string(run, found, name) {
+    match own_string(subject, name) {
         Some(text) => Some(text),
-        None => shared_string(run, found, name),
+        None => shared_string(subject, name),
     }
 }
 
 /// The message's own text, else the one that its id names.
-fn text_by<'a>(run: &'a Value, found: &Value, message: &'a Value) -> Option<&'a str>
+fn text_by<'a>(subject: &Subject<'a>, message: &'a Value) -> Option<&'a str>
+    requires { IsDescribed subject.now }
     ensures { option_map (λ s. s.now) result
-        ≡ said.text_by (view run.now) (view found.now) (view message.now) }
+        ≡ said.text_by (view subject.now.run.now) (view subject.now.found.now) (view message.now) }
 {
     match text_in(message, "text") {
         Some(text) => Some(text),
-        None => looked_up(run, found, text_in(message, "id")?),
+        None => looked_up(subject, text_in(message, "id")?),
     }
 }
 
 /// The message's text, where it has one.
-fn found_text<'a>(run: &'a Value, found: &'a Value) -> Option<&'a str>
+fn found_text<'a>(subject: &Subject<'a>) -> Option<&'a str>
+    requires { IsDescribed subject.now }
     ensures { option_map (λ s. s.now) result
-        ≡ said.found_text (view run.now) (view found.now) }
+        ≡ said.found_text (view subject.now.run.now) (view subject.now.found.now) }
 {
-    text_by(run, found, found.get("message")?)
+    text_by(subject, subject.found.get("message")?)
 }
 
 /// The message's text with its placeholders, or the empty text.
-fn message_text<'a>(run: &'a Value, found: &'a Value) -> &'a str
-    ensures { result.now ≡ said.message_text (view run.now) (view found.now) }
+fn message_text<'a>(subject: &Subject<'a>) -> &'a str
+    requires { IsDescribed subject.now }
+    ensures { result.now ≡ said.message_text (view subject.now.run.now) (view subject.now.found.now) }
 {
-    match found_text(run, found) {
+    match found_text(subject) {
         Some(text) => text,
         None => "",
     }
@@ -258,19 +267,31 @@ fn stays(text: &str) -> bool
     are_unbraced(text.as_bytes())
 }
 
+/// The longest text, in bytes, that is looked through for braces before it is shown. Of a longer one no more is read
+/// than is shown.
+const LONGEST_LOOKED_THROUGH: usize = 4_096;
+
+/// Whether a text is found to have nothing that is filled in, whatever the arguments.
+fn is_plain(text: &str) -> bool
+    ensures { OnTrue result ((args : List Data)
+        → said.filled args (chars text.now) ≡ chars text.now) }
+{
+    text.len() <= LONGEST_LOOKED_THROUGH && stays(text)
+}
+
 /// Shows the message of a result of a run.
 pub(crate) fn push_message(
     alloc: Global,
     so_far: &mut ShownText,
-    run: &Value,
-    found: &Value,
+    subject: &Subject<'_>,
 ) -> Result<(), AllocError>
-    ensures { OnOk result
-        (Takes so_far.old so_far.new (said.message_of (view run.now) (view found.now))) }
+    requires { IsDescribed subject.now }
+    ensures { OnOk result (Takes so_far.old so_far.new
+        (said.message_of (view subject.now.run.now) (view subject.now.found.now))) }
 {
-    let text = message_text(run, found);
-    let args = arguments_of(found);
-    if args.is_empty() || stays(text) {
+    let text = message_text(subject);
+    let args = arguments_of(subject.found);
+    if args.is_empty() || is_plain(text) {
         so_far.push_str(text)?;
         return Ok(());
     }

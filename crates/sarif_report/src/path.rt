@@ -56,21 +56,23 @@ fn without_root<'a>(root: &str, path: &'a str) -> &'a str
     }
 }
 
-/// Shows a uri as a path.
-pub(crate) fn push_path(
-    alloc: Global,
-    so_far: &mut ShownText,
-    root: &str,
-    uri: &str,
-) -> Result<(), AllocError>
-    ensures { OnOk result (Takes so_far.old so_far.new (chars (said.path_of root.now uri.now))) }
+/// What the escapes of a uri stand for, where all of them are whole and that is a text; else the uri as it stands.
+pub(crate) fn decoded(alloc: Global, uri: &str) -> Result<CowStr<'_, Global>, AllocError>
+    ensures { IfOk result (λ s. cow_str_bytes s ≡ said.decoded uri.now) }
 {
     if is_escaped(uri.as_bytes()) {
-        if let Some(path) = decode(alloc, uri)? {
-            so_far.push_str(without_root(root, path.as_str()))?;
-            return Ok(());
+        if let Some(text) = decode(alloc, uri)? {
+            return Ok(text);
         }
     }
-    so_far.push_str(without_root(root, uri))?;
+    Ok(CowStr::Borrowed(uri))
+}
+
+/// Shows a path, less the root.
+pub(crate) fn push_path(so_far: &mut ShownText, root: &str, path: &str) -> Result<(), AllocError>
+    ensures { OnOk result
+        (Takes so_far.old so_far.new (chars (said.without_root root.now path.now))) }
+{
+    so_far.push_str(without_root(root, path))?;
     Ok(())
 }

@@ -1,20 +1,24 @@
 //! What is told of a result of a finished merged log, where it is reported.
-ghost use Rattle.std.specs.Prelude.{◌≡◌, ◌++◌, Some, IfOk, OnOk, chars, string_bytes};
+ghost use Rattle.std.specs.Prelude.{◌≡◌, ◌++◌, Some, IfOk, OnOk, chars, map, string_bytes};
+ghost use Rattle.std.specs.List.{filter_map};
 ghost use Rattle.sarif_report.specs.Message.{message_of};
 ghost use Rattle.serde_json.specs.View.{view};
 ghost use Rattle.sarif_counts.specs.CountOf.{suppresses, items_in};
 ghost use Rattle.sarif_counts.specs.Policy.{severity as rank};
 ghost use Rattle.sarif_report.specs.Shown.{shown as text_shown};
 ghost use Rattle.sarif_report.specs.Reported as said;
+ghost use Rattle.sarif_report.specs.Subject.{IsDescribed};
 
 use crate::finding::Finding;
 use crate::lookup::{elements_in, help_uri, rule_id, text_in};
 use crate::message::push_message;
+use crate::named_run::NamedRun;
 use crate::reporting::Reporting;
-use crate::shown_text::{ShownText, shown};
+use crate::shown_text::{ShownText, shown, shown_copy};
 use crate::spot::{Spot, spot_of};
+use crate::subject::Subject;
 use sarif_counts::is_suppressing;
-use sarif_records::{Level, State, Text, driver_name};
+use sarif_records::{Level, State, Text};
 use serde_json::Value;
 use std::alloc::{AllocError, Global};
 
@@ -62,13 +66,6 @@ fn state_in(found: &Value) -> Option<State>
     State::from_name(text_in(found, "baselineState")?)
 }
 
-/// What is shown of a text.
-fn shown_copy(alloc: Global, text: &str) -> Result<Text, AllocError>
-    ensures { IfOk result (λ t. t ≡ text_shown (chars text.now)) }
-{
-    Text::from_string(shown(alloc, text)?)
-}
-
 /// Whether an address is one of the web, all of whose characters are shown.
 fn is_link(alloc: Global, uri: &str) -> Result<bool, AllocError>
     ensures { IfOk result (λ b. b ≡ said.is_link uri.now) }
@@ -81,10 +78,12 @@ fn is_link(alloc: Global, uri: &str) -> Result<bool, AllocError>
 }
 
 /// The address of a page on a result's rule, where it can be a link.
-fn help_in(alloc: Global, run: &Value, found: &Value) -> Result<Option<Text>, AllocError>
-    ensures { IfOk result (λ o. o ≡ said.help_in (view run.now) (view found.now)) }
+fn help_in(alloc: Global, subject: &Subject<'_>) -> Result<Option<Text>, AllocError>
+    requires { IsDescribed subject.now }
+    ensures { IfOk result
+        (λ o. o ≡ said.help_in (view subject.now.run.now) (view subject.now.found.now)) }
 {
-    let Some(uri) = help_uri(run, found) else {
+    let Some(uri) = help_uri(subject) else {
         return Ok(None);
     };
     if is_link(alloc, uri)? {
@@ -93,30 +92,23 @@ fn help_in(alloc: Global, run: &Value, found: &Value) -> Result<Option<Text>, Al
     Ok(None)
 }
 
-fn tool_name(run: &Value) -> &str
-    ensures { result.now ≡ said.tool_in (view run.now) }
-{
-    match driver_name(run) {
-        Some(name) => name,
-        None => "",
-    }
-}
-
 /// What is shown of a result's message.
-fn shown_message(alloc: Global, run: &Value, found: &Value) -> Result<String, AllocError>
+fn shown_message(alloc: Global, subject: &Subject<'_>) -> Result<String, AllocError>
+    requires { IsDescribed subject.now }
     ensures { IfOk result (λ s. string_bytes s
-        ≡ text_shown (message_of (view run.now) (view found.now))) }
+        ≡ text_shown (message_of (view subject.now.run.now) (view subject.now.found.now))) }
 {
     let mut so_far = ShownText::new(alloc);
-    push_message(alloc, &mut so_far, run, found)?;
+    push_message(alloc, &mut so_far, subject)?;
     Ok(so_far.finish())
 }
 
-fn message_in(alloc: Global, run: &Value, found: &Value) -> Result<Text, AllocError>
-    ensures { IfOk result (λ t. t
-        ≡ said.or_no_message (text_shown (message_of (view run.now) (view found.now)))) }
+fn message_in(alloc: Global, subject: &Subject<'_>) -> Result<Text, AllocError>
+    requires { IsDescribed subject.now }
+    ensures { IfOk result (λ t. t ≡ said.or_no_message
+        (text_shown (message_of (view subject.now.run.now) (view subject.now.found.now)))) }
 {
-    let message = shown_message(alloc, run, found)?;
+    let message = shown_message(alloc, subject)?;
     if message.is_empty() {
         return Text::copy_of(alloc, "(no message)");
     }
@@ -132,7 +124,7 @@ pub const TOLD_MEMBERS: [&str; 5] = ["ruleId", "rule", "ruleIndex", "message", "
 pub fn finding_of(
     alloc: Global,
     reporting: &Reporting,
-    run: &Value,
+    run: &NamedRun<'_>,
     found: &Value,
     level: Level,
     state: State,
@@ -140,10 +132,11 @@ pub fn finding_of(
     ensures { IfOk result (λ finding. finding
         ≡ said.finding_of reporting.now (view run.now) (view found.now) level state) }
 {
-    let tool = shown_copy(alloc, tool_name(run))?;
-    let rule = shown_copy(alloc, rule_id(run, found))?;
-    let message = message_in(alloc, run, found)?;
-    let help = help_in(alloc, run, found)?;
+    let subject = run.subject(found);
+    let tool = run.tool().clone()?;
+    let rule = shown_copy(alloc, rule_id(&subject))?;
+    let message = message_in(alloc, &subject)?;
+    let help = help_in(alloc, &subject)?;
     let Spot { path, line, column } = spot_of(alloc, reporting, run, found)?;
     let hit = severity(reporting.policy.fail_on) <= severity(level);
     Ok(Finding {
@@ -164,11 +157,10 @@ pub fn finding_of(
 fn finding_if(
     alloc: Global,
     reporting: &Reporting,
-    run: &Value,
+    run: &NamedRun<'_>,
     found: &Value,
 ) -> Result<Option<Finding>, AllocError>
-    ensures { IfOk result
-        (λ o. o ≡ said.finding_if reporting.now (view run.now) (view found.now)) }
+    ensures { IfOk result (λ o. o ≡ said.finding_if reporting.now (view run.now) (view found.now)) }
 {
     let Some(level) = level_in(found) else {
         return Ok(None);
@@ -183,6 +175,25 @@ fn finding_if(
     Ok(Some(finding))
 }
 
+/// Adds what is told of those of these results of a run that are reported.
+fn push_told(
+    alloc: Global,
+    findings: &mut Vec<Finding>,
+    reporting: &Reporting,
+    run: &NamedRun<'_>,
+    results: &[Value],
+) -> Result<(), AllocError>
+    ensures { OnOk result (findings.new.items ≡ findings.old.items
+        ++ filter_map (said.finding_if reporting.now (view run.now)) (map view results.now)) }
+{
+    for found in results {
+        if let Some(finding) = finding_if(alloc, reporting, run, found)? {
+            findings.push(finding)?;
+        }
+    }
+    Ok(())
+}
+
 /// Adds what is told of the reported results of a run.
 fn push_reported(
     alloc: Global,
@@ -193,11 +204,14 @@ fn push_reported(
     ensures { OnOk result (findings.new.items
         ≡ findings.old.items ++ said.reported_in reporting.now (view run.now)) }
 {
-    for found in elements_in(run, "results") {
-        if let Some(finding) = finding_if(alloc, reporting, run, found)? {
-            findings.push(finding)?;
-        }
-    }
+    let named = NamedRun::new(alloc, run)?;
+    push_told(
+        alloc,
+        findings,
+        reporting,
+        &named,
+        elements_in(run, "results"),
+    )?;
     Ok(())
 }
 

@@ -5,6 +5,7 @@ ghost use Rattle.std.specs.List.{list_all};
 ghost use Rattle.sarif_report.specs.Shown as said;
 ghost use Rattle.sarif_report.specs.ShownSoFar as so_far;
 
+use sarif_records::Text;
 use std::alloc::{AllocError, Global};
 
 /// The most characters that are shown of a text.
@@ -211,4 +212,11 @@ pub fn shown(alloc: Global, text: &str) -> Result<String, AllocError>
     let mut so_far = ShownText::new(alloc);
     so_far.push_str(text)?;
     Ok(so_far.finish())
+}
+
+/// What is shown of a text, as a text that clones share.
+pub(crate) fn shown_copy(alloc: Global, text: &str) -> Result<Text, AllocError>
+    ensures { IfOk result (λ t. t ≡ said.shown (chars text.now)) }
+{
+    Text::from_string(shown(alloc, text)?)
 }

@@ -3,12 +3,14 @@ ghost use Rattle.std.specs.Prelude.{◌≡◌, option_map, option_and_then, code
 ghost use Rattle.serde_json.specs.Find.{get};
 ghost use Rattle.serde_json.specs.View.{view};
 ghost use Rattle.sarif_report.specs.Lookup as lookup;
-ghost use Rattle.sarif_report.specs.PathOf.{path_of};
+ghost use Rattle.sarif_report.specs.PathOf as path_of;
+ghost use Rattle.sarif_report.specs.PathOf.{without_root};
 ghost use Rattle.sarif_report.specs.Reported as said;
 ghost use Rattle.sarif_report.specs.Shown.{shown as text_shown};
 
-use crate::lookup::{artifact_uri, elements_in, number_in, text_in};
-use crate::path::push_path;
+use crate::lookup::{elements_in, number_in, text_in};
+use crate::named_run::NamedRun;
+use crate::path::{decoded, push_path};
 use crate::reporting::Reporting;
 use crate::shown_text::ShownText;
 use sarif_records::Text;
@@ -33,59 +35,89 @@ fn physical_location(found: &Value) -> Option<&Value>
     }
 }
 
-/// The uri of an artifact location, else that of the artifact whose index it has.
-fn location_uri<'a>(run: &'a Value, location: &'a Value) -> Option<&'a str>
-    ensures { option_map (λ s. s.now) result
-        ≡ lookup.location_uri (view run.now) (view location.now) }
-{
-    match text_in(location, "uri") {
-        Some(uri) => Some(uri),
-        None => artifact_uri(run, number_in(location, "index")?),
-    }
-}
-
-/// The uri of a physical location.
-fn uri_of<'a>(run: &'a Value, physical: &'a Value) -> Option<&'a str>
-    ensures { option_map (λ s. s.now) result ≡ option_and_then
-        (lookup.location_uri (view run.now)) (get (codes "artifactLocation") (view physical.now)) }
-{
-    location_uri(run, physical.get("artifactLocation")?)
-}
-
-/// What is shown of a uri as a path.
-fn shown_uri(alloc: Global, root: &str, uri: &str) -> Result<String, AllocError>
+/// What is shown of a path, less the root.
+fn text_of_path(alloc: Global, root: &str, path: &str) -> Result<String, AllocError>
     ensures { IfOk result
-        (λ s. string_bytes s ≡ text_shown (chars (path_of root.now uri.now))) }
+        (λ s. string_bytes s ≡ text_shown (chars (without_root root.now path.now))) }
 {
     let mut so_far = ShownText::new(alloc);
-    push_path(alloc, &mut so_far, root, uri)?;
+    push_path(&mut so_far, root, path)?;
     Ok(so_far.finish())
 }
 
-fn shown_path(alloc: Global, root: &str, uri: &str) -> Result<Option<Text>, AllocError>
-    ensures { IfOk result (λ o. o ≡ said.shown_path root.now uri.now) }
+fn shown_path(alloc: Global, root: &str, path: &str) -> Result<Option<Text>, AllocError>
+    ensures { IfOk result (λ o. o ≡ said.none_if_empty
+        (text_shown (chars (without_root root.now path.now)))) }
 {
-    let path = shown_uri(alloc, root, uri)?;
-    if path.is_empty() {
+    let shown = text_of_path(alloc, root, path)?;
+    if shown.is_empty() {
         return Ok(None);
     }
-    Ok(Some(Text::from_string(path)?))
+    Ok(Some(Text::from_string(shown)?))
+}
+
+/// What is shown of a uri as a path.
+fn shown_uri(alloc: Global, root: &str, uri: &str) -> Result<Option<Text>, AllocError>
+    ensures { IfOk result (λ o. o ≡ said.shown_path root.now uri.now) }
+{
+    let path = decoded(alloc, uri)?;
+    shown_path(alloc, root, path.as_str())
+}
+
+/// The path of the artifact whose index an artifact location has.
+fn artifact_path<'r>(run: &'r NamedRun<'_>, location: &Value) -> Option<&'r Text>
+    ensures { option_map (λ path. path.now) result ≡ option_map path_of.decoded (option_and_then
+        (lookup.artifact_uri (view run.now)) (lookup.number_in (codes "index") (view location.now))) }
+{
+    run.artifact_path(number_in(location, "index")?)
+}
+
+/// What is shown as a path of that artifact.
+fn shown_artifact(
+    alloc: Global,
+    root: &str,
+    run: &NamedRun<'_>,
+    location: &Value,
+) -> Result<Option<Text>, AllocError>
+    ensures { IfOk result (λ o. o ≡ option_and_then (said.shown_path root.now) (option_and_then
+        (lookup.artifact_uri (view run.now)) (lookup.number_in (codes "index") (view location.now)))) }
+{
+    match artifact_path(run, location) {
+        None => Ok(None),
+        Some(path) => shown_path(alloc, root, path.as_str()),
+    }
+}
+
+/// What is shown as a path of the uri of an artifact location, else of that of the artifact whose index it has.
+fn shown_location(
+    alloc: Global,
+    root: &str,
+    run: &NamedRun<'_>,
+    location: &Value,
+) -> Result<Option<Text>, AllocError>
+    ensures { IfOk result (λ o. o ≡ option_and_then (said.shown_path root.now)
+        (lookup.location_uri (view run.now) (view location.now))) }
+{
+    match text_in(location, "uri") {
+        Some(uri) => shown_uri(alloc, root, uri),
+        None => shown_artifact(alloc, root, run, location),
+    }
 }
 
 /// What is shown of the uri of a physical location as a path.
 fn path_in(
     alloc: Global,
     root: &str,
-    run: &Value,
+    run: &NamedRun<'_>,
     physical: &Value,
 ) -> Result<Option<Text>, AllocError>
     ensures { IfOk result (λ o. o ≡ option_and_then (said.shown_path root.now)
         (option_and_then (lookup.location_uri (view run.now))
         (get (codes "artifactLocation") (view physical.now)))) }
 {
-    match uri_of(run, physical) {
+    match physical.get("artifactLocation") {
         None => Ok(None),
-        Some(uri) => shown_path(alloc, root, uri),
+        Some(location) => shown_location(alloc, root, run, location),
     }
 }
 
@@ -119,7 +151,7 @@ fn position_with<T>(beside: &Option<T>, physical: &Value, name: &str) -> Option<
 pub(crate) fn spot_of(
     alloc: Global,
     reporting: &Reporting,
-    run: &Value,
+    run: &NamedRun<'_>,
     found: &Value,
 ) -> Result<Spot, AllocError>
     ensures path { IfOk result (λ spot. spot.path

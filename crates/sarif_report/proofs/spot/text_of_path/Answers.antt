@@ -1,5 +1,5 @@
 use Rattle.sarif_report.proofs.ShownMore.{shown_whole}
-use Rattle.sarif_report.proofs.spot.shown_uri.Goals as goal
+use Rattle.sarif_report.proofs.spot.text_of_path.Goals as goal
 
 pub returns : goal.returns
 returns c =
