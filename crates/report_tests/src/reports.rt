@@ -75,6 +75,14 @@ const HOSTILE_ROWS: [&str; 6] = [
     ">R2<",
 ];
 
+/// Two rules of the driver have one id, and so have two of the second extension.
+const SAME_IDS: &str = r#"{"runs":[{"results":[
+{"baselineState":"new","level":"error","message":{"id":"default"},"ruleId":"R"},
+{"baselineState":"new","level":"error","message":{"id":"default"},"ruleId":"R","ruleIndex":1},
+{"baselineState":"new","level":"error","message":{"id":"default"},"rule":{"id":"R","toolComponent":{"index":1}}},
+{"baselineState":"new","level":"error","message":{"id":"default"},"rule":{"id":"R","toolComponent":{"index":0}}}
+],"tool":{"driver":{"name":"T","rules":[{"id":"R","helpUri":"https://e.org/first","messageStrings":{"default":{"text":"first"}}},{"id":"R","helpUri":"https://e.org/second","messageStrings":{"default":{"text":"second"}}}]},"extensions":[{"name":"E","rules":[{"id":"Q"}]},{"name":"F","rules":[{"id":"R","helpUri":"https://e.org/third","messageStrings":{"default":{"text":"third"}}},{"id":"R"}]}]}}]}"#;
+
 fn findings_in<R: AllocGlobal>(rt: &R, text: &str) -> Result<Vec<Finding>, Fail> {
     let alloc = rt.alloc();
     let reporting = Reporting {
@@ -155,6 +163,19 @@ fn active_results_of_listed_states_are_reported(rt: HostRuntime) -> Result<(), F
     assert!(rt; !findings[0].hit);
     assert!(rt; findings[1].hit);
     assert!(rt; !findings[2].hit);
+    Ok(())
+}
+
+#[test]
+fn of_rules_with_one_id_the_first_is_meant(rt: HostRuntime) -> Result<(), Fail> {
+    let findings = findings_in(&rt, SAME_IDS)?;
+    assert_eq!(rt; findings.len(), 4);
+    for (number, wanted) in ["first", "second", "third"].iter().enumerate() {
+        assert_eq!(rt; findings[number].message.as_str(), *wanted);
+        assert!(rt; findings[number].help.is_some());
+    }
+    assert_eq!(rt; findings[3].message.as_str(), "(no message)");
+    assert!(rt; findings[3].help.is_none());
     Ok(())
 }
 
