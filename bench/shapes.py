@@ -14,6 +14,7 @@ LONG = "n" * 100_000
 # where their seed is its default.
 SAME_HASH = "p9zdi529cnqp5de7tP_z'E{$", "/v1/v1/v1/v1/v1/"
 OTHER_HASH = "another-beginning-of-it_", "/v1/v1/v1/v1/v1/"
+REPORTS = "text", "github", "markdown", "gitlab", "html"
 
 
 @dataclass
@@ -24,6 +25,7 @@ class Input:
     baselines: list = field(default_factory=list)
     suppress: Optional[str] = None
     workers: int = 1
+    are_reported: bool = False
 
     def files(self, folder):
         """Writes the files: the words that merge them."""
@@ -32,6 +34,8 @@ class Input:
             words += ["--baseline", put(folder / f"baseline{number}", text)]
         if self.suppress is not None:
             words += ["--suppress", put(folder / "suppressions", self.suppress)]
+        if self.are_reported:
+            words += [word for it in REPORTS for word in (f"--{it}", str(folder / it))]
         return [*words, *(put(folder / f"log{n}", text) for n, text in enumerate(self.logs))]
 
     def bytes(self):
@@ -318,6 +322,38 @@ def arguments(count):
         yield Input([text], [text])
 
 
+# ---- Reports
+
+
+def told_rule(count):
+    """Results that name the last of as many rules by its id, beside ones that name the first."""
+    rules = [{"id": f"R{i:06}"} for i in range(count)]
+    for number in (count - 1, 0):
+        results = [{"ruleId": f"R{number:06}"}] * count
+        yield Input([log(run(results, {"rules": rules}))], are_reported=True)
+
+
+def told_path(count):
+    """Results at one artifact with a long uri, beside one of as much as is shown."""
+    for location in ({"uri": LONG}, {"uri": LONG[:1001], "x": LONG}):
+        results = [placed(index=0)] * count
+        text = log(run(results, artifacts=[{"location": location}]))
+        yield Input([text], are_reported=True)
+
+
+def told_message(count, texts=(LONG + "{0}", LONG[:1001] + "{0}"), argument="a"):
+    """Results with one long message of their rule, beside one of as much as is shown."""
+    for text, other in (texts, texts[::-1]):
+        rule = {"id": "R", "messageStrings": {"m": {"text": text, "x": other}}}
+        result = {"ruleIndex": 0, "message": {"id": "m", "arguments": [argument]}}
+        yield Input([log(run([result] * count, {"rules": [rule]}))], are_reported=True)
+
+
+def told_nothing(count):
+    """The same of a message of placeholders that nothing stands for, beside ones that stay."""
+    yield from told_message(count, ("{0}" * 33_000, "{1}" * 33_000), "")
+
+
 # ---- JSON
 
 
@@ -415,6 +451,11 @@ SHAPES = {
     "equal_prints": (equal_prints, 20_000),
     "many_names": (many_names, 20_000),
     "arguments": (arguments, 100_000),
+    # What reports tell of results that share it.
+    "told_rule": (told_rule, 20_000),
+    "told_path": (told_path, 20_000),
+    "told_message": (told_message, 20_000),
+    "told_nothing": (told_nothing, 2_000),
     "fractions": (fractions, 100_000),
     "fractions_in_lists": (fractions_in_lists, 200_000),
     "reversed_members": (reversed_members, 100_000),
