@@ -1,6 +1,6 @@
 -- What is told of results, one after another.
-use Rattle.std.proofs.Common.{◌≡◌, ◌<◌, ◌+◌, ◌++◌, ℕ, List, [], ◌∷◌, Option, Some, None, map, drop, length, get_or, append_assoc, refl, sym, ap, ◌∙◌, arith}
-use Rattle.std.proofs.lemmas.List.{drop_more, get_or-map, length-map}
+use Rattle.std.proofs.Common.{◌≡◌, ◌<◌, ◌+◌, ◌++◌, ℕ, List, [], ◌∷◌, Option, Some, None, map, drop, length, get_or, append_assoc, refl, sym, ap, ◌∙◌}
+use Rattle.std.proofs.lemmas.List.{drop_more, get_or-map}
 use Rattle.std.specs.List.{cons_option}
 use Rattle.sarif_records.specs.declared.kinds.State.{State}
 use Rattle.sarif_records.specs.Run.{result_at}

@@ -1,15 +1,16 @@
 -- The report for GitLab, put together from its parts.
-use Rattle.std.proofs.Common.{◌≡◌, ◌<◌, ◌≤◌, ◌==◌, ne_eqb, ℕ, Bool, true, false, List, [], ◌∷◌, ◌++◌, length, take, drop, Option, Some, None, codes, bytes_eq, refl, sym, ap, ap₂, cond, ◌∙◌, append_assoc, arith}
+use Rattle.std.proofs.Common.{◌≡◌, ◌<◌, ◌≤◌, ◌==◌, ne_eqb, ℕ, Bool, true, false, List, [], ◌∷◌, ◌++◌, length, map, take, drop, Option, Some, None, codes, bytes_eq, refl, sym, ap, ap₂, cond, ◌∙◌, append_assoc, arith}
 use Rattle.std.specs.List.{count_by}
 use Rattle.std.proofs.Common.{◌+◌, get_or, if◌then◌else◌}
 use Rattle.std.proofs.lemmas.Bool.{and_parts, and_from}
 use Rattle.std.proofs.lemmas.Slice.Eq.{bytes_eq-Decides}
-use Rattle.std.proofs.lemmas.List.{append_cancel_left, drop_more, take_more}
+use Rattle.std.proofs.lemmas.List.{append_cancel_left, drop_more, take_more, map-append, length-map}
 use Rattle.std.proofs.lemmas.List.Sums.{sum_by-cons, count_by_more_yes, count_by_more_no}
 use Rattle.std.specs.BTreeMap as tree
 use Rattle.std.specs.Ordering.{is_eq, nat_cmp}
 use Rattle.std.specs.Cmp.{tied_then, unsigned_ties}
 use Rattle.std.specs.Cmp.Lexicographic.{slice_cmp, texts_ties}
+use Rattle.hex.specs.Hex.{encode_lower}
 use Rattle.sha2.specs.Sha256.{sha256}
 use Rattle.std.specs.List.{list_all}
 use Rattle.std.specs.Prelude.{nat_lt, unwrap_or}
@@ -18,10 +19,14 @@ use Rattle.std.proofs.lemmas.Bool.Decides.{nat_tests}
 use Rattle.json.specs.Print.{quoted, escape, escape_byte}
 use Rattle.json.specs.Text.{content, plain}
 use Rattle.json.proofs.Printed.Strings.{content-escape}
+use Rattle.serde_json.specs.Data.{Data, item}
+use Rattle.serde_json.specs.View.{items_of}
 use Rattle.serde_json.specs.Written.{compact_text, items_text, comma_if}
 use Rattle.serde_json.proofs.OnLiterals.{serde_json_on_literals}
 use Rattle.sarif_report.specs.declared.finding.Finding.{Finding}
-use Rattle.sarif_report.specs.GitlabReport.{quality_of, hashed_text, are_alike, same_path, path_or_null, rank_among, items_after, mark_of}
+use Rattle.sarif_report.specs.declared.ranked.Ranked.{Ranked}
+use Rattle.sarif_report.specs.GitlabObjects.{object_of, objects_after, joined_objects}
+use Rattle.sarif_report.specs.GitlabReport.{quality_of, hashed_text, are_alike, same_path, path_or_null, rank_among, items_after, mark_of, gitlab_of}
 use Rattle.sarif_report.specs.GitlabParts.{stands_in_string, quoted_text, identity_of, rank_text, rule_text, location_text, severity_text, number_in, number_of, key_cmp, counted}
 
 -- ---- an object and a text that is hashed, by their parts
@@ -145,18 +150,77 @@ pub count_step : (q : List ℕ) (fs : List Finding) (i : ℕ) (f : Finding) (old
     → new ≡ count_by (λ g. bytes_eq q (identity_of g)) (take (i + 1) fs)
 count_step q fs i f old new within is counted next = count_by_case (bytes_eq q (identity_of f)) q fs i f old new within is counted refl next
 
--- the next object of the array
-pub next_item : (fs : List Finding) (i : ℕ) (f : Finding) (rank : ℕ) (later : Bool) → i < length fs → f ≡ get_or fs i f
+-- the next object
+pub next_object : (fs : List Finding) (i : ℕ) (f : Finding) (rank : ℕ) → i < length fs → f ≡ get_or fs i f
     → rank ≡ count_by (λ g. bytes_eq (identity_of f) (identity_of g)) (take i fs)
-    → items_text later (items_after (take i fs) (drop i fs))
-    ≡ comma_if later ++ (compact_text (quality_of f (mark_of f rank)) ++ items_text true (items_after (take (i + 1) fs) (drop (i + 1) fs)))
-next_item fs i f rank later within is counted =
+    → objects_after (take i fs) (drop i fs) ≡ quality_of f (mark_of f rank) ∷ objects_after (take (i + 1) fs) (drop (i + 1) fs)
+next_object fs i f rank within is counted =
     let left : drop i fs ≡ f ∷ drop (i + 1) fs = drop_more fs i f within ∙ ap (λ x. x ∷ drop (i + 1) fs) (sym is) in
     let taken : take i fs ++ f ∷ [] ≡ take (i + 1) fs = ap (λ x. take i fs ++ x ∷ []) is ∙ sym (take_more fs i f within) in
     let ranked : rank_among (take i fs) f ≡ rank = rank_told f (take i fs) ∙ sym counted in
-    ap (λ ds. items_text later (items_after (take i fs) ds)) left
-    ∙ ap (λ n. comma_if later ++ (compact_text (quality_of f (mark_of f n)) ++ items_text true (items_after (take i fs ++ f ∷ []) (drop (i + 1) fs)))) ranked
-    ∙ ap (λ front. comma_if later ++ (compact_text (quality_of f (mark_of f rank)) ++ items_text true (items_after front (drop (i + 1) fs)))) taken
+    ap (objects_after (take i fs)) left
+    ∙ ap (λ n. quality_of f (mark_of f n) ∷ objects_after (take i fs ++ f ∷ []) (drop (i + 1) fs)) ranked
+    ∙ ap (λ front. quality_of f (mark_of f rank) ∷ objects_after front (drop (i + 1) fs)) taken
+
+-- a result more with its rank
+pub ranked_more : (old new : List Ranked) (ranked : Ranked) (d : Data) (rest before whole : List Data) → new ≡ old ++ ranked ∷ [] → object_of ranked ≡ d
+    → before ≡ d ∷ rest → map object_of old ++ before ≡ whole → map object_of new ++ rest ≡ whole
+ranked_more old new ranked d rest before whole pushed is next held =
+    ap (λ xs. map object_of xs ++ rest) pushed
+    ∙ ap (λ xs. xs ++ rest) (map-append object_of old (ranked ∷ []))
+    ∙ append_assoc (map object_of old) (object_of ranked ∷ []) rest
+    ∙ ap (λ x. map object_of old ++ (x ∷ rest)) is
+    ∙ ap (λ t. map object_of old ++ t) (sym next)
+    ∙ held
+
+-- a fingerprint, by the identity that is hashed
+pub mark_is : (f : Finding) (rank : ℕ) (identity text : List ℕ) → identity ≡ identity_of f → text ≡ encode_lower (sha256 (identity ++ rank_text rank))
+    → text ≡ mark_of f rank
+mark_is f rank identity text is made =
+    made ∙ ap (λ i. encode_lower (sha256 (i ++ rank_text rank))) is ∙ ap (λ t. encode_lower (sha256 t)) (sym (hashed_parts f rank))
+
+-- ---- the array
+
+items_are : (earlier fs : List Finding) → items_of (objects_after earlier fs) ≡ items_after earlier fs
+items_are earlier [] = refl
+items_are earlier (f ∷ fs) = ap (item (quality_of f (mark_of f (rank_among earlier f)))) (items_are (earlier ++ f ∷ []) fs)
+
+joined_items : (later : Bool) (ds : List Data) → joined_objects later ds ++ 93 ∷ [] ≡ items_text later (items_of ds)
+joined_items later [] = refl
+joined_items later (d ∷ ds) =
+    append_assoc (comma_if later) (compact_text d ++ joined_objects true ds) (93 ∷ [])
+    ∙ ap (λ t. comma_if later ++ t) (append_assoc (compact_text d) (joined_objects true ds) (93 ∷ []) ∙ ap (λ t. compact_text d ++ t) (joined_items true ds))
+
+-- all objects, between brackets
+pub whole_array : (fs : List Finding) (ds : List Data) (objects text : List ℕ) → ds ≡ objects_after [] fs → objects ≡ 91 ∷ joined_objects false ds
+    → text ≡ objects ++ 93 ∷ [] → text ≡ gitlab_of fs
+whole_array fs ds objects text are is whole =
+    whole ∙ ap (λ t. t ++ 93 ∷ []) (is ∙ ap (λ xs. 91 ∷ joined_objects false xs) are)
+    ∙ ap (λ t. 91 ∷ t) (joined_items false (objects_after [] fs) ∙ ap (items_text false) (items_are [] fs))
+
+joined_on : (xs ys : List Data) → joined_objects true xs ++ joined_objects true ys ≡ joined_objects true (xs ++ ys)
+joined_on [] ys = refl
+joined_on (x ∷ xs) ys = ap (λ t. 44 ∷ t) (append_assoc (compact_text x) (joined_objects true xs) (joined_objects true ys) ∙ ap (λ t. compact_text x ++ t) (joined_on xs ys))
+
+joined_apart : (xs ys : List Data) → 0 < length xs → 0 < length ys → joined_objects false xs ++ 44 ∷ joined_objects false ys ≡ joined_objects false (xs ++ ys)
+joined_apart [] ys some more = absurd (omega (arith, some))
+joined_apart (x ∷ xs) [] some more = absurd (omega (arith, more))
+joined_apart (x ∷ xs) (y ∷ ys) some more =
+    append_assoc (compact_text x) (joined_objects true xs) (joined_objects true (y ∷ ys)) ∙ ap (λ t. compact_text x ++ t) (joined_on xs (y ∷ ys))
+
+-- the objects of two halves, behind a text
+pub joined_halves : (begin first rest text : List ℕ) (low high xs : List Ranked) → low ++ high ≡ xs → 0 < length low → 0 < length high
+    → first ≡ begin ++ joined_objects false (map object_of low) → rest ≡ 44 ∷ joined_objects false (map object_of high) → text ≡ first ++ rest
+    → text ≡ begin ++ joined_objects false (map object_of xs)
+joined_halves begin first rest text low high xs whole some more front back both =
+    let ls = map object_of low in
+    let hs = map object_of high in
+    let are : ls ++ hs ≡ map object_of xs = sym (map-append object_of low high) ∙ ap (map object_of) whole in
+    let low_some : 0 < length ls = rw (length-map low object_of) some in
+    let high_some : 0 < length hs = rw (length-map high object_of) more in
+    both ∙ ap₂ (λ a b. a ++ b) front back
+    ∙ append_assoc begin (joined_objects false ls) (44 ∷ joined_objects false hs)
+    ∙ ap (λ t. begin ++ t) (joined_apart ls hs low_some high_some ∙ ap (joined_objects false) are)
 
 -- ---- a text in which nothing is escaped
 

@@ -12,7 +12,7 @@ use Rattle.serde_json.specs.Written.{compact_text}
 use Rattle.sarif_records.specs.declared.kinds.Level.{Level}
 use Rattle.sarif_report.specs.declared.finding.Finding.{Finding}
 use Rattle.sarif_report.specs.declared.identities.Identity.{Identity}
-use Rattle.sarif_report.specs.GitlabReport.{mark_of, or_unknown, path_or_null, quality_of, severity}
+use Rattle.sarif_report.specs.GitlabReport.{or_unknown, path_or_null, severity}
 
 -- whether a byte stands in a string of JSON as it is
 abbrev pub stands_in_string : ℕ → Bool
@@ -31,12 +31,11 @@ identity_of f =
 abbrev pub rank_text : ℕ → List ℕ
 rank_text rank = codes "," ++ (decimal rank ++ codes "]")
 
--- the same, the hash of what is hashed of the first result with it, and the object of that one
+-- the same, and the hash of what is hashed of the first result with it
 abbrev pub identity_with : Finding → Identity
 identity_with f = record {
   text = identity_of f;
   first = sha256 (identity_of f ++ rank_text 0);
-  object = compact_text (quality_of f (mark_of f 0));
 }
 
 -- the first 64 bits of a digest

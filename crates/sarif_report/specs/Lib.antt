@@ -6,6 +6,7 @@ pub mod EscapedLaws
 pub mod Finding
 pub mod GithubLaws
 pub mod GithubReport
+pub mod GitlabObjects
 pub mod GitlabParts
 pub mod GitlabReport
 pub mod HtmlFixed

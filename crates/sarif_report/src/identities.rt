@@ -1,4 +1,4 @@
-//! What GitLab's fingerprints are made from, hashed in threads, with the objects that most of them stand in.
+//! What GitLab's fingerprints are made from, hashed in threads.
 ghost use Rattle.std.specs.Prelude.{◌≡◌, ◌≤◌, ◌++◌, map, string_bytes, IfOk, OnOk};
 ghost use Rattle.sha2.specs.Sha256.{sha256};
 ghost use Rattle.serde_json.specs.Written.{compact_text};
@@ -6,7 +6,6 @@ ghost use Rattle.sarif_report.specs.GitlabReport as said;
 ghost use Rattle.sarif_report.specs.GitlabParts.{quoted_text, identity_of, identity_with, rank_text};
 
 use crate::finding::Finding;
-use crate::quality::push_quality;
 use crate::quoted::push_quoted;
 use sarif_records::Text;
 use sha2::{Digest, Sha256};
@@ -27,8 +26,6 @@ pub(crate) struct Identity {
     pub(crate) text: Text,
     /// What is hashed of the first result with it, hashed.
     pub(crate) first: [u8; 32],
-    /// The object of this result, where it is the first of them.
-    pub(crate) object: Text,
 }
 
 /// Adds a path as JSON writes it, or `null`.
@@ -71,30 +68,12 @@ fn first_digest(identity: &str) -> [u8; 32]
     hasher.finalize()
 }
 
-/// The object of a result that has none like it before it, by what is hashed of it, hashed.
-#[tactic(auto, using(crate::proofs::GitlabMore::hashed_parts))]
-fn first_object(alloc: Global, finding: &Finding, first: [u8; 32]) -> Result<Text, AllocError>
-    requires { first ≡ sha256 (identity_of finding.now ++ rank_text 0) }
-    ensures { IfOk result (λ object. object
-        ≡ compact_text (said.quality_of finding.now (said.mark_of finding.now 0))) }
-{
-    let mark = hex::encode(alloc, first)?;
-    let mut object = String::with_capacity(alloc, FIRST_ROOM)?;
-    push_quality(alloc, &mut object, finding, mark.as_str())?;
-    Text::from_string(object)
-}
-
 fn identify(alloc: Global, finding: &Finding) -> Result<Identity, AllocError>
     ensures { IfOk result (λ made. made ≡ identity_with finding.now) }
 {
     let text = Text::from_string(identity_text(alloc, finding)?)?;
     let first = first_digest(text.as_str());
-    let object = first_object(alloc, finding, first)?;
-    Ok(Identity {
-        text,
-        first,
-        object,
-    })
+    Ok(Identity { text, first })
 }
 
 /// The identities of these results, one after another.

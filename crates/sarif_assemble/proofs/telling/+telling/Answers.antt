@@ -14,7 +14,6 @@ use Rattle.sarif_rules.proofs.head.RunHead.TheSendSync as head
 use Rattle.sarif_report.proofs.reporting.Reporting.TheSendSync as reporting
 use Rattle.sarif_records.specs.contracts.indexed_run.IndexedRun as IndexedRun
 use Rattle.sarif_judge.specs.contracts.opened.OpenedRun as OpenedRun
-use Rattle.sarif_report.specs.contracts.named_run.NamedRun as NamedRun
 use Rattle.sarif_report.proofs.Shared.{named_sync}
 use Rattle.sarif_report.specs.contracts.reporting.Reporting as Reporting
 use Rattle.sarif_assemble.specs.contracts.told.Told as Told

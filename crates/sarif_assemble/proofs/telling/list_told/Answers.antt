@@ -1,4 +1,4 @@
-use Rattle.std.proofs.Common.{◌<◌, map, length, get_or, sym, ap, arith}
+use Rattle.std.proofs.Common.{◌<◌, length, arith}
 use Rattle.std.proofs.lemmas.List.{length-map}
 use Rattle.sarif_judge.specs.declared.spots.Spot.{Spot}
 use Rattle.sarif_assemble.specs.Telling.{placed_told}

@@ -2,24 +2,24 @@ use Rattle.std.proofs.Common.{rules, ◌≡◌, ◌<◌, ◌^◌, Some, None, ar
 use Rattle.std.specs.BTreeMap as tree
 use Rattle.sarif_report.specs.GitlabParts.{key_cmp, counted}
 use Rattle.sarif_report.proofs.GitlabMore.{counted_first, counted_again, rank_some, same_keys}
-use Rattle.sarif_report.proofs.gitlab_array.count.Goals as goal
+use Rattle.sarif_report.proofs.ranking.count.Goals as goal
 
 pub overflow_add-rank : goal.overflow_add-rank
 overflow_add-rank c =
     let key = c.in_ok-key_of.field-0 in
     let held = c.in_ok-key_of.ensures in
     let text = c.args.identity.now.text in
-    let some : Some c.in-Some.rank ≡ tree.get key_cmp c.args.ranks.now key = search rules in
-    let rank : c.in-Some.rank ≡ counted c.args.ranks.now text = rank_some c.args.ranks.now key text c.in-Some.rank held.number held.text some in
-    let room : counted c.args.ranks.now text < 2 ^ 63 = c.requires.room in
+    let some : Some c.in-Some.rank ≡ tree.get key_cmp c.args.counts.now key = search rules in
+    let rank : c.in-Some.rank ≡ counted c.args.counts.now text = rank_some c.args.counts.now key text c.in-Some.rank held.number held.text some in
+    let room : counted c.args.counts.now text < 2 ^ 63 = c.requires.room in
     omega (arith, rank, room)
 
 pub returns-in_default-clause-counted : goal.returns-in_default-clause-counted
 returns-in_default-clause-counted c = λ other.
     let key = c.in_ok-key_of.field-0 in
     let held = c.in_ok-key_of.ensures in
-    let none : None ≡ tree.get key_cmp c.args.ranks.now key = search rules in
-    counted_first c.args.ranks.now c.insert.new.self key c.args.identity.now.text other held.number held.text none c.in_ok-rank.ensures.updates.0
+    let none : None ≡ tree.get key_cmp c.args.counts.now key = search rules in
+    counted_first c.args.counts.now c.insert.new.self key c.args.identity.now.text other held.number held.text none c.in_ok-rank.ensures.updates.0
 
 pub returns-clause-counted : goal.returns-clause-counted
 returns-clause-counted c = λ other.
@@ -28,6 +28,6 @@ returns-clause-counted c = λ other.
     let held = c.in_ok-key_of.ensures in
     let more = c.in_ok-key_of-2.ensures in
     let text = c.args.identity.now.text in
-    let some : Some c.in-Some.rank ≡ tree.get key_cmp c.args.ranks.now key = search rules in
-    counted_again c.args.ranks.now c.insert.new.self c.insert-2.new.self key again text other c.in-Some.rank held.number held.text
+    let some : Some c.in-Some.rank ≡ tree.get key_cmp c.args.counts.now key = search rules in
+    counted_again c.args.counts.now c.insert.new.self c.insert-2.new.self key again text other c.in-Some.rank held.number held.text
     (same_keys key again text held.number more.number held.text more.text) some c.in_ok-rank.ensures.updates.0 c.in_ok-insert.ensures.updates.0
