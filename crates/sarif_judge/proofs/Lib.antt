@@ -3,3 +3,4 @@ pub mod Shards
 pub mod WholeResults
 pub mod AllSpots
 pub mod SpotsWithin
+pub mod RecordMembers

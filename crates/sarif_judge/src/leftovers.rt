@@ -23,7 +23,8 @@ fn push_unless<'w, 't, 'a>(
     one: Leftover<'w, 't, 'a>,
 ) -> Result<(), AllocError>
     ensures { OnOk result (map leftover_draft left.new.items
-        ≡ map leftover_draft left.old.items ++ not_taken (is_taken ∷ []) (leftover_draft one.entry ∷ [])) }
+        ≡ map leftover_draft left.old.items
+        ++ not_taken (is_taken ∷ []) (leftover_draft one.entry ∷ [])) }
 {
     if !is_taken {
         left.push(one)?;

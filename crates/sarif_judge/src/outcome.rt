@@ -1,8 +1,8 @@
 //! Judging one result.
-ghost use Rattle.std.specs.Prelude.{◌≡◌, ◌<◌, ℕ, false, length, IfOk};
+ghost use Rattle.std.specs.Prelude.{◌≡◌, ◌<◌, true, false, length, IfOk};
 ghost use Rattle.serde_json.specs.View.{view};
 ghost use Rattle.serde_json.specs.Written.{has_float};
-ghost use Rattle.sarif_records.specs.Run.{results_of, result_at};
+ghost use Rattle.sarif_records.specs.Run.{results_of};
 ghost use Rattle.sarif_judge.specs.Judging.{item_of, skips};
 ghost use Rattle.sarif_judge.specs.Opened.{placed_of};
 ghost use Rattle.sarif_judge.specs.Outcomes.{draft_beside, outcome_of};
@@ -27,6 +27,23 @@ pub struct Outcome {
     pub draft: Option<Draft>,
 }
 
+/// The members of a result that its record is made of (SARIF 2.1.0, "result object").
+const RECORD_MEMBERS: [&str; 13] = [
+    "baselineState",
+    "kind",
+    "level",
+    "correlationGuid",
+    "fingerprints",
+    "partialFingerprints",
+    "suppressions",
+    "message",
+    "ruleId",
+    "ruleIndex",
+    "rule",
+    "provenance",
+    "locations",
+];
+
 /// Whether results that are absent already are skipped: those of a baseline are.
 fn skips_absent(source: Source) -> bool
     ensures { result ≡ skips source }
@@ -50,42 +67,58 @@ fn read_record(alloc: Global, opened: &OpenedRun<'_, '_>, found: &Value) -> Resu
     }
 }
 
-/// What is known of a result of the run before results are matched.
-#[tactic(auto, unfolding(sarif_rules::specs::Record::record_of))]
-fn judge_item(alloc: Global, opened: &OpenedRun<'_, '_>, found: &Value) -> Result<Item, AllocError>
-    ensures { (seq : ℕ) → view found.now ≡ result_at (placed_of opened.now).run seq
-        → IfOk result (λ item. item ≡ item_of (placed_of opened.now) seq) }
+/// What is known of a result of a baseline before results are matched. Of its value no more is made than tells it.
+#[tactic(auto, using(crate::proofs::RecordMembers::absent_members))]
+fn judge_known(alloc: Global, opened: &OpenedRun<'_, '_>, seq: u32) -> Result<Item, AllocError>
+    requires in_run { seq < length (results_of (placed_of opened.now).run) }
+    requires known { skips (placed_of opened.now).source ≡ true }
+    ensures { IfOk result (λ item. item ≡ item_of (placed_of opened.now) seq) }
 {
-    if skips_absent(opened.source) && is_marked_absent(found) {
+    let found = opened.run.picked(alloc, seq, &RECORD_MEMBERS)?;
+    if is_marked_absent(&found) {
         return Ok(Item::Skipped);
     }
-    let item = read_record(alloc, opened, found)?;
+    let item = read_record(alloc, opened, &found)?;
     Ok(item)
 }
 
-/// The draft of a result of a source, where it is a log and the result has a record.
-fn draft_result(
+/// The draft of a result of a log, where it has a record.
+fn draft_item(
     alloc: Global,
-    source: Source,
     found: Value,
     item: &Item,
     file: &Suppressions,
 ) -> Result<Option<Draft>, AllocError>
     requires whole { has_float (view found) ≡ false }
     ensures { IfOk result
-        (λ draft. draft ≡ draft_beside file.now (skips source) (view found) item.now) }
+        (λ draft. draft ≡ draft_beside file.now false (view found) item.now) }
 {
-    if skips_absent(source) {
-        return Ok(None);
-    }
     match item {
         Item::Sound(record) => Ok(Some(draft_current(alloc, found, record, file)?)),
         Item::Bad(_) | Item::Skipped => Ok(None),
     }
 }
 
+/// Judges a result of a log.
+#[tactic(auto, using(crate::proofs::WholeResults::result_whole), unfolding(sarif_rules::specs::Record::record_of))]
+fn judge_current(
+    alloc: Global,
+    opened: &OpenedRun<'_, '_>,
+    seq: u32,
+    file: &Suppressions,
+) -> Result<Outcome, AllocError>
+    requires in_run { seq < length (results_of (placed_of opened.now).run) }
+    requires current { skips (placed_of opened.now).source ≡ false }
+    ensures { IfOk result
+        (λ outcome. outcome ≡ outcome_of file.now (placed_of opened.now) seq) }
+{
+    let found = opened.run.result(alloc, seq)?;
+    let item = read_record(alloc, opened, &found)?;
+    let draft = draft_item(alloc, found, &item, file)?;
+    Ok(Outcome { item, draft })
+}
+
 /// Judges the result of a run with that number.
-#[tactic(auto, using(crate::proofs::WholeResults::result_whole))]
 pub(crate) fn judge_result(
     alloc: Global,
     opened: &OpenedRun<'_, '_>,
@@ -96,8 +129,10 @@ pub(crate) fn judge_result(
     ensures { IfOk result
         (λ outcome. outcome ≡ outcome_of file.now (placed_of opened.now) seq) }
 {
-    let found = opened.run.result(alloc, seq)?;
-    let item = judge_item(alloc, opened, &found)?;
-    let draft = draft_result(alloc, opened.source, found, &item, file)?;
-    Ok(Outcome { item, draft })
+    if skips_absent(opened.source) {
+        let item = judge_known(alloc, opened, seq)?;
+        return Ok(Outcome { item, draft: None });
+    }
+    let outcome = judge_current(alloc, opened, seq, file)?;
+    Ok(outcome)
 }

@@ -89,7 +89,8 @@ fn found_text<'a>(subject: &Subject<'a>) -> Option<&'a str>
 /// The message's text with its placeholders, or the empty text.
 fn message_text<'a>(subject: &Subject<'a>) -> &'a str
     requires { IsDescribed subject.now }
-    ensures { result.now ≡ said.message_text (view subject.now.run.now) (view subject.now.found.now) }
+    ensures { result.now
+        ≡ said.message_text (view subject.now.run.now) (view subject.now.found.now) }
 {
     match found_text(subject) {
         Some(text) => text,
