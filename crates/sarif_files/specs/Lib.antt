@@ -1,3 +1,5 @@
+pub mod Given
 pub mod Kept
 pub mod Named
+pub mod Taken
 pub mod Writing

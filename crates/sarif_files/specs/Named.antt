@@ -4,6 +4,6 @@ use Rattle.sarif_files.specs.declared.input.Input.{Input}
 use Rattle.sarif_files.specs.declared.input.Input.TheVariants.{File, Standard}
 
 -- standard input has the name `-`
-abbrev pub input_name : {R F D I : Type 0} → Input R F D I → List ℕ
+abbrev pub input_name : {R I F D : Type 0} → Input R I F D → List ℕ
 input_name (File file) = file.name.now
 input_name (Standard standard) = codes "-"

@@ -2,6 +2,7 @@
 ghost use Rattle.std.specs.Prelude.{◌≡◌, ◌<◌, None, Ok, IfOk, OnErr, length};
 ghost use Rattle.std.specs.Io.{ReadsAtMost};
 ghost use Rattle.std.specs.Io.KnownBytes.{IsAtEnd, ReadConsumes};
+ghost use Rattle.sarif_files.specs.Given.{GivesAs};
 ghost use Rattle.sarif_files.specs.declared.files.Stage.TheVariants.{Unopened, Open, Ended};
 
 use std::fs;
@@ -44,6 +45,8 @@ impl<R: Files> Read for InputFile<'_, R> {
         ensures bound { ReadsAtMost result buf.new }
         ensures bytes { ReadConsumes None None result buf.new }
         ensures name { self.new.name.now ≡ self.old.name.now }
+        // What it gives is what the file gave.
+        ensures given { GivesAs R.File.remaining self.old.stage self.new.stage result buf.new }
         // Bytes come from an open file alone.
         ensures open { IfOk result (λ n. 0 < n → (file : _) × (self.new.stage ≡ Open file)) }
         // Only a read that gives none ends it, and it stays ended.

@@ -2,6 +2,7 @@
 ghost use Rattle.std.specs.Prelude.{◌≡◌, None};
 ghost use Rattle.std.specs.Io.{ReadsAtMost};
 ghost use Rattle.std.specs.Io.KnownBytes.{ReadConsumes};
+ghost use Rattle.sarif_files.specs.Given.{InputGivesAs};
 ghost use Rattle.sarif_files.specs.Named.{input_name};
 
 use crate::files::InputFile;
@@ -33,6 +34,9 @@ impl<R: Files, I: Read> Read for Input<'_, R, I> {
     fn read(&mut self, buf: &mut [u8]) -> io::Result<usize>
         ensures bound { ReadsAtMost result buf.new }
         ensures bytes { ReadConsumes None None result buf.new }
+        // What it gives is what the file or the stream gave.
+        ensures given { InputGivesAs R.File.remaining I.remaining self.old self.new
+            result buf.new }
     {
         match self {
             Input::File(file) => file.read(buf),

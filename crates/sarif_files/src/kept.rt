@@ -1,5 +1,5 @@
 //! What is kept of a source or an output for an explanation.
-ghost use Rattle.std.specs.Prelude.{◌≡◌, None};
+ghost use Rattle.std.specs.Prelude.{◌≡◌};
 ghost use Rattle.std.specs.Io.{ReadsAtMost, WritesAtMost};
 ghost use Rattle.std.specs.Io.KnownBytes.{Keeps, ReadConsumes, WriteAppends};
 ghost use Rattle.sarif_files.specs.Kept.{kept_in};
@@ -54,9 +54,14 @@ impl<D> Kept<D> {
 }
 
 impl<D: Read> Read for Kept<D> {
+    ghost use Rattle.sarif_files.specs.Kept.{kept_in};
+
+    ghost remaining = { λ k. D.remaining (kept_in k) };
+
     fn read(&mut self, buf: &mut [u8]) -> io::Result<usize>
         ensures bound { ReadsAtMost result buf.new }
-        ensures bytes { ReadConsumes None None result buf.new }
+        ensures bytes { ReadConsumes (D.remaining (kept_in self.old))
+            (D.remaining (kept_in self.new)) result buf.new }
     {
         match self.inner.read(buf) {
             Ok(taken) => {
@@ -72,9 +77,14 @@ impl<D: Read> Read for Kept<D> {
 }
 
 impl<D: Write> Write for Kept<D> {
+    ghost use Rattle.sarif_files.specs.Kept.{kept_in};
+
+    ghost contents = { λ k. D.contents (kept_in k) };
+
     fn write(&mut self, buf: &[u8]) -> io::Result<usize>
         ensures bound { WritesAtMost result buf.now }
-        ensures bytes { WriteAppends None None result buf.now }
+        ensures bytes { WriteAppends (D.contents (kept_in self.old))
+            (D.contents (kept_in self.new)) result buf.now }
     {
         match self.inner.write(buf) {
             Ok(taken) => Ok(taken),
@@ -86,7 +96,7 @@ impl<D: Write> Write for Kept<D> {
     }
 
     fn flush(&mut self) -> io::Result<()>
-        ensures bytes { Keeps None None }
+        ensures bytes { Keeps (D.contents (kept_in self.old)) (D.contents (kept_in self.new)) }
     {
         self.inner.flush()
     }

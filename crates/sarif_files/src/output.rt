@@ -1,7 +1,8 @@
 //! An output that is whole or untouched.
-ghost use Rattle.std.specs.Prelude.{◌≡◌, ◌<◌, None, Some, IfOk, IsErr, IsOk, IsSome, OnErr, OnOk, length};
+ghost use Rattle.std.specs.Prelude.{◌≡◌, ◌<◌, None, IfOk, IsErr, IsOk, IsSome, OnErr, OnOk, length};
 ghost use Rattle.std.specs.Io.{WritesAtMost};
 ghost use Rattle.std.specs.Io.KnownBytes.{Keeps, WriteAppends};
+ghost use Rattle.sarif_files.specs.Taken.{TakesAs};
 ghost use Rattle.sarif_files.specs.Writing.{file_of};
 ghost use Rattle.sarif_files.specs.declared.output.Writing.TheVariants.{Unopened, Over};
 
@@ -98,9 +99,8 @@ impl<R: Files> OutputFile<'_, R, R::File> {
         ensures open { OnOk result (IsSome (file_of self.new.writing)) }
         ensures over { self.old.writing ≡ Over → self.new.writing ≡ Over }
         ensures spent { self.old.writing ≡ Over → IsErr result }
-        ensures handed { (before after : _) → file_of self.old.writing ≡ Some before
-            → file_of self.new.writing ≡ Some after
-            → WriteAppends (R.File.contents before) (R.File.contents after) result buf.now }
+        ensures handed { TakesAs R.File.contents (file_of self.old.writing)
+            (file_of self.new.writing) result buf.now }
     {
         if matches!(self.writing, Writing::Unopened) {
             self.writing = start(self.files, &self.place)?;
@@ -121,9 +121,8 @@ impl<R: Files> Write for OutputFile<'_, R, R::File> {
         // Bytes are taken by an open file alone.
         ensures open { IfOk result (λ n. 0 < n → IsSome (file_of self.new.writing)) }
         // What is handed on is what the file took.
-        ensures handed { (before after : _) → file_of self.old.writing ≡ Some before
-            → file_of self.new.writing ≡ Some after
-            → WriteAppends (R.File.contents before) (R.File.contents after) result buf.now }
+        ensures handed { TakesAs R.File.contents (file_of self.old.writing)
+            (file_of self.new.writing) result buf.now }
         // Where a write fails the text is given up, and no more is taken.
         ensures failed { OnErr result (self.new.writing ≡ Over) }
         ensures spent { self.old.writing ≡ Over → IsErr result }

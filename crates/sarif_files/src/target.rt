@@ -2,6 +2,7 @@
 ghost use Rattle.std.specs.Prelude.{None};
 ghost use Rattle.std.specs.Io.{WritesAtMost};
 ghost use Rattle.std.specs.Io.KnownBytes.{Keeps, WriteAppends};
+ghost use Rattle.sarif_files.specs.Taken.{TargetTakesAs, console_held};
 
 use crate::output::OutputFile;
 use crate::place::Place;
@@ -39,6 +40,9 @@ impl<R: Files, O: Write> Write for Target<'_, R, O> {
     fn write(&mut self, buf: &[u8]) -> io::Result<usize>
         ensures bound { WritesAtMost result buf.now }
         ensures bytes { WriteAppends None None result buf.now }
+        // What it takes is what the file or the stream took.
+        ensures handed { TargetTakesAs R.File.contents O.contents self.old self.new
+            result buf.now }
     {
         match self {
             Target::File(file) => file.write(buf),
@@ -64,9 +68,14 @@ pub enum Console<O, E> {
 }
 
 impl<O: Write, E: Write> Write for Console<O, E> {
+    ghost use Rattle.sarif_files.specs.Taken.{console_held};
+
+    ghost contents = { console_held O.contents E.contents };
+
     fn write(&mut self, buf: &[u8]) -> io::Result<usize>
         ensures bound { WritesAtMost result buf.now }
-        ensures bytes { WriteAppends None None result buf.now }
+        ensures bytes { WriteAppends (console_held O.contents E.contents self.old)
+            (console_held O.contents E.contents self.new) result buf.now }
     {
         match self {
             Console::Output(output) => output.write(buf),
@@ -75,7 +84,8 @@ impl<O: Write, E: Write> Write for Console<O, E> {
     }
 
     fn flush(&mut self) -> io::Result<()>
-        ensures bytes { Keeps None None }
+        ensures bytes { Keeps (console_held O.contents E.contents self.old)
+            (console_held O.contents E.contents self.new) }
     {
         match self {
             Console::Output(output) => output.flush(),
