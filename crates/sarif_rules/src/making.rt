@@ -60,7 +60,7 @@ pub fn copy_tool_name(alloc: Global, run: &Value) -> Result<Text, AllocError>
     }
 }
 
-// The record of a result with these members of its own.
+/// The record of a result with these members of its own.
 #[tactic(auto, unfolding(crate::specs::Record::record_by))]
 fn finish_record(alloc: Global, head: &RunHead, tool: Text, parts: Parts) -> Result<Record, Fault>
     ensures { Gives result (record_by head.now tool parts) }

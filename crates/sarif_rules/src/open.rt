@@ -88,7 +88,7 @@ fn read_driver(alloc: Global, seed: RandomState, driver: Option<&Value>) -> Resu
     }
 }
 
-// Puts the extensions behind the components so far.
+/// Puts the extensions behind the components so far.
 fn read_extensions(
     alloc: Global,
     seed: RandomState,
@@ -169,7 +169,7 @@ fn read_artifact(alloc: Global, artifact: &Value) -> Result<Place, Fault>
     Ok(Place { uri, base })
 }
 
-// A copy of a text, where there is one.
+/// A copy of a text, where there is one.
 fn copy_if_there(alloc: Global, text: Option<&str>) -> Result<Option<Text>, AllocError>
     ensures { IfOk result (λ copy. copy ≡ option_map (λ s. s.now) text.entry) }
 {
@@ -193,7 +193,7 @@ fn read_invocations(
     read_lists(alloc, seed, components, lists.as_slice())
 }
 
-// The overrides of each invocation, as they stand.
+/// The overrides of each invocation, as they stand.
 fn override_lists<'a>(alloc: Global, invocations: &'a [Value]) -> Result<Vec<&'a [Value]>, Fault>
     ensures ok { IfOk result (λ lists. override_lists (map view invocations.now)
         ≡ Ok (map (λ l. map view l.now) lists.items)) }
