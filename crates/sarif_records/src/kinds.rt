@@ -8,7 +8,7 @@ ghost use Rattle.sarif_records.specs.Status.{status_name, status_named};
 /// The severity of a result, in rising order (SARIF 2.1.0, "level property").
 #[derive(Clone, Copy, Debug, PartialEq, Eq, PartialOrd, Ord, Hash)]
 pub enum Level {
-    /// The text `none`: the result tells of no problem, as where its kind isn't `fail`.
+    /// The text `none`: severity doesn't apply, as where the kind isn't `fail`.
     NoLevel,
     /// The text `note`: a minor problem, or what could be better.
     Note,

@@ -125,7 +125,8 @@ impl RunHead {
 
     /// The artifact of the result's first location (SARIF 2.1.0, "artifactLocation object").
     ///
-    /// `BadIndex` where there is no `uri` and the artifact is past its table; `OutOfMemory`.
+    /// `BadIndex` where there is no `uri` and the artifact is past its table; `OutOfMemory` where
+    /// memory is wanting.
     pub fn place(&self, parts: &Parts) -> Result<Place, Fault>
         ensures ok { IfOk result (λ place. place_of self.now.artifacts parts.now ≡ Ok place) }
         ensures err { IfErr result (λ fault. (fault ≡ OutOfMemory → ⊥)

@@ -31,7 +31,7 @@ use std::hash::RandomState;
 /// - of the invocations `BadMember`, and then override by override `BadMember`, `BadIndex`,
 ///   `BadLevel`.
 ///
-/// `OutOfMemory` may come in place of any of them. The head's tables hash with `seed`, which no log can know; no
+/// `OutOfMemory` may come in place of any of them, where memory is wanting. The head's tables hash with `seed`, which no log can know; no
 /// answer depends on it.
 #[tactic(auto, unfolding(crate::specs::Head::head_of))]
 pub fn open_value(alloc: Global, seed: RandomState, run: &Value) -> Result<RunHead, Fault>
@@ -49,7 +49,8 @@ pub fn open_value(alloc: Global, seed: RandomState, run: &Value) -> Result<RunHe
     })
 }
 
-/// Reads the rules, overrides and artifacts of a run that was read, as [`open_value`] does.
+/// Reads the rules, overrides and artifacts of a run that was read. The faults, their order and the use of `seed` are
+/// those of [`open_value`].
 pub fn open_run(alloc: Global, seed: RandomState, run: &RawRun) -> Result<RunHead, Fault>
     ensures ok { IfOk result (λ head. head_of (view run.now) ≡ Ok head) }
     ensures err { IfErr result
