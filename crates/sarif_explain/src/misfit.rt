@@ -8,9 +8,11 @@ use std::alloc::{AllocError, Global};
 /// A value that isn't as it is wanted, or an object in which a member is wanting.
 #[derive(Drop)]
 pub(crate) struct Misfit<'a> {
+    /// Where it stands.
     pub place: Place<'a>,
     /// The name of the member that is wanting there.
     pub missing: Option<&'static str>,
+    /// What is wanted there.
     pub wanted: Wanted,
 }
 
