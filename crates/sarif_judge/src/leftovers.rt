@@ -31,8 +31,8 @@ fn push_unless<'w, 't, 'a>(
     Ok(())
 }
 
-/// The results of baselines that aren't taken: of each result of `runs` there are a place, a record, and whether it is
-/// taken. `AllocError` where memory for the list is wanting.
+/// The results of baselines at these places of `runs` that aren't taken. Of each place there are, in the same order,
+/// the record of its result and whether that is taken. `AllocError` where memory for the list is wanting.
 pub fn list_leftovers<'w, 't, 'a>(
     alloc: Global,
     runs: &'w [OpenedRun<'t, 'a>],

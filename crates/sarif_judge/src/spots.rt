@@ -9,7 +9,7 @@ use std::alloc::{AllocError, Global};
 /// The place of a result among the results of all runs.
 #[derive(Clone, Copy, Debug)]
 pub struct Spot {
-    /// The number of its run among all the runs that are judged, from 0.
+    /// The number of its run in the list of all runs, from 0.
     pub run: u32,
     /// Its number in that run, from 0.
     pub seq: u32,

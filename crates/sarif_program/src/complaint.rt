@@ -31,7 +31,9 @@ impl fmt::Display for Complaint {
 /// Where complaints go, and the last of them.
 #[derive(Debug, Drop)]
 pub struct Complaints<E> {
+    /// Where complaints are written, a line each.
     pub out: Counted<E>,
+    /// The last complaint, whether its line was taken or not; `None` where there was none.
     pub last: Option<Complaint>,
 }
 

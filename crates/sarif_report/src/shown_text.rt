@@ -205,7 +205,8 @@ impl ShownText {
     }
 }
 
-/// What is shown of a text: one line of at most 1,000 characters, none of which hides or steers.
+/// What is shown of a text: one line of at most 1,000 characters, none of which hides or steers, and `…` behind them
+/// where there were more. `AllocError` where memory for it is wanting.
 pub fn shown(alloc: Global, text: &str) -> Result<String, AllocError>
     ensures { IfOk result (λ s. string_bytes s ≡ said.shown (chars text.now)) }
 {
