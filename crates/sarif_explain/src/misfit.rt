@@ -105,7 +105,8 @@ pub(crate) fn misfit_in<'a>(alloc: Global, place: &Place<'a>, checks: &[Check]) 
     Ok(None)
 }
 
-/// The same in the first such element of the array at the end of the way.
+/// What is at fault in the first element of the array at the end of the way that doesn't pass one
+/// of these checks.
 pub(crate) fn misfit_in_each<'a>(
     alloc: Global,
     place: &Place<'a>,

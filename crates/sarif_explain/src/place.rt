@@ -24,7 +24,7 @@ impl<'a> Place<'a> {
         }
     }
 
-    /// The same place.
+    /// A copy of this place.
     fn again(&self, alloc: Global) -> Result<Place<'a>, AllocError> {
         Ok(Place {
             pointer: String::from_str(alloc, self.pointer.as_str())?,

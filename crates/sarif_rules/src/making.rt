@@ -36,7 +36,8 @@ pub fn make_record_of(
 }
 
 /// Makes the record of result `seq` of a run, counted from 0, with the head that was opened from
-/// that run and the name of the run's driver. The faults are those of [`make_record_of`].
+/// that run and the name of the run's driver. The faults are those of [`make_record_of`], so also
+/// `BadIndex` and `OutOfMemory`.
 #[tactic(auto, unfolding(crate::specs::Record::record_of))]
 pub fn make_record(alloc: Global, head: &RunHead, run: &RawRun, seq: u32) -> Result<Record, Fault>
     requires opened { head_of (view run.now) ≡ Ok head.now }

@@ -49,8 +49,8 @@ pub fn open_value(alloc: Global, seed: RandomState, run: &Value) -> Result<RunHe
     })
 }
 
-/// Reads the rules, overrides and artifacts of a run that was read. The faults, their order and the use of `seed` are
-/// those of [`open_value`].
+/// Reads the rules, overrides and artifacts of a run that was read. `BadRules`, `BadLevel`, `BadLocation`, `BadMember`,
+/// `BadIndex` and `OutOfMemory` come where [`open_value`] answers them; `seed` is as there.
 pub fn open_run(alloc: Global, seed: RandomState, run: &RawRun) -> Result<RunHead, Fault>
     ensures ok { IfOk result (λ head. head_of (view run.now) ≡ Ok head) }
     ensures err { IfErr result

@@ -133,9 +133,11 @@ pub fn read_rules(
     read_rules_with(alloc, hasher, bytes, today)
 }
 
-/// Reads a suppression file for the day `today`, as [`read_rules`] does, with the same faults. The
-/// tables of the entries hash with `hasher`: a `RandomState`, say, whose seed no log can know. The
-/// answers are the same whatever it is.
+/// Reads a suppression file for the day `today`, as [`read_rules`] does. The tables of the entries
+/// hash with `hasher`: a `RandomState`, say, whose seed no log can know. The answers are the same
+/// whatever it is: also here the first of `NotJson`, `NotList`, `WrongVersion` and `TooMany`, and
+/// then of `BadEntry`, `EmptyMatch` and `NeedsToday` of each entry in turn, or `OutOfMemory` where
+/// memory is wanting.
 #[tactic(auto, unfolding(crate::specs::File::file_of))]
 pub fn read_rules_with<S: BuildHasher + Copy>(
     alloc: Global,
