@@ -77,7 +77,8 @@ impl<'t, 'a> OpenedRun<'t, 'a> {
         })
     }
 
-    /// Why the run can't be opened, where that is so.
+    /// Why the run can't be opened, where that is so: the first fault that [`open_value`](sarif_rules::open_value)
+    /// answers of it.
     pub fn fault(&self) -> Option<Fault>
         ensures { result ≡ opening_fault (placed_of self.now) }
     {

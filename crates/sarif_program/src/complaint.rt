@@ -38,7 +38,7 @@ pub struct Complaints<E> {
 }
 
 impl<E> Complaints<E> {
-    /// Nothing was complained of.
+    /// Complaints that are written to `out`; there is none so far.
     pub fn new(out: E) -> Complaints<E>
         ensures none { failed_calls result.out ≡ 0 }
     {
