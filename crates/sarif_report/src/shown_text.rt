@@ -1,4 +1,4 @@
-//! What a report shows of a log's text: one line, no character that hides or steers, and at most so many.
+//! What a report shows of a log's text: one line, no character that hides or steers, and at most 1,000.
 ghost use Rattle.std.specs.Prelude.{◌≡◌, ℕ, List, ◌∷◌, ◌++◌, [], OnOk, IfOk, true, false, chars, string_bytes};
 ghost use Rattle.std.specs.Prelude.{encode_utf8_all, if◌then◌else◌, Bool};
 ghost use Rattle.std.specs.List.{list_all};

@@ -31,8 +31,8 @@ use std::hash::RandomState;
 /// - of the invocations `BadMember`, and then override by override `BadMember`, `BadIndex`,
 ///   `BadLevel`.
 ///
-/// `OutOfMemory` may come in place of any of them, where memory is wanting. The head's tables hash with `seed`, which no log can know; no
-/// answer depends on it.
+/// `OutOfMemory` may come in place of any of them, where memory is wanting. The head's tables hash
+/// with `seed`, which no log can know; no answer depends on it.
 #[tactic(auto, unfolding(crate::specs::Head::head_of))]
 pub fn open_value(alloc: Global, seed: RandomState, run: &Value) -> Result<RunHead, Fault>
     ensures ok { IfOk result (λ head. head_of (view run.now) ≡ Ok head) }

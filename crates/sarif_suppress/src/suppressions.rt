@@ -99,7 +99,7 @@ impl<S: BuildHasher + Copy> Suppressions<S> {
     }
 
     /// Which entries match the result, and whether it is then suppressed (SARIF 2.1.0, result
-    /// object, "suppressions property"). `AllocError` where memory for their numbers is wanting.
+    /// object, "suppressions property"). `AllocError` where memory is wanting.
     pub fn apply(&self, alloc: Global, record: &Record) -> Result<Applied, AllocError>
         ensures entries { IfOk result
             (λ applied. applied.entries ≡ matching_numbers self.now «record».now) }
