@@ -42,6 +42,10 @@ impl<'a> Model for Index<'a> {
 }
 
 /// Indexes a text, whose strings and places `scratch` keeps.
+///
+/// `NotJson` where the bytes are no UTF-8 or no JSON, nest deeper than 127, or hold a number too
+/// large for a float; `OutOfMemory` where memory is wanting, or the text is longer than
+/// `json::MAX_LEN` bytes.
 pub fn index_text<'a>(
     alloc: Global,
     bytes: &'a [u8],

@@ -15,13 +15,16 @@ use std::alloc::{AllocError, Global};
 impl<'t, 'a> Node<'t, 'a> {
     /// The value without each object member whose value is a number that isn't held as a whole
     /// number, or an array that holds such a number directly or within arrays only, at every depth.
+    /// `AllocError` where memory for it is wanting.
     pub fn to_value(&self, alloc: Global) -> Result<Value, AllocError>
         ensures { IfOk result (λ v. view v ≡ stripped (data_of self.now)) }
     {
         make_value(alloc, self)
     }
 
-    /// The same, without this object's own member of that name.
+    /// The value as `to_value` makes it, but without the member `name` of this object itself; an
+    /// object within keeps its own. What is no object is made whole. `AllocError` where memory for
+    /// it is wanting.
     pub fn to_value_without(&self, alloc: Global, name: &str) -> Result<Value, AllocError>
         ensures { IfOk result
             (λ v. view v ≡ stripped (without_member name.now (data_of self.now))) }

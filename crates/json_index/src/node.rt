@@ -79,7 +79,8 @@ impl<'t, 'a> Node<'t, 'a> {
         self.elements().is_some()
     }
 
-    /// The elements, where this is an array.
+    /// The elements, where this is an array; `None` of all else. `AllocError` where memory for the
+    /// list is wanting.
     pub fn items(&self, alloc: Global) -> Result<Option<Vec<Node<'t, 'a>>>, AllocError>
         ensures { IfOk result (λ found. option_map (λ v. items_of (map data_of v.items)) found
             ≡ as_array (data_of self.now)) }

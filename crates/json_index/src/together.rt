@@ -11,7 +11,9 @@ use std::thread::Threads;
 /// A text to be indexed, and what keeps its strings and places.
 #[derive(Drop)]
 pub struct Job<'a> {
+    /// The text.
     pub bytes: &'a [u8],
+    /// Keeps the strings and the places of its index.
     pub scratch: &'a mut Scratch,
 }
 
@@ -31,7 +33,8 @@ fn index_in_turn<'a>(
     Ok(found)
 }
 
-/// Indexes texts in at most so many threads, this one among them, and gives what each gave in their order.
+/// Indexes texts in at most `threads` threads, this one among them, and gives in their order what each text gave: its
+/// index, or its own fault. `AllocError` where memory for the list is wanting.
 #[cycle(together)]
 pub fn index_texts<'a, R: Threads + Sync>(
     rt: &R,

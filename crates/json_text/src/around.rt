@@ -44,8 +44,8 @@ impl Around {
         self.after.as_str()
     }
 
-    /// Adds the text of the object, with this value at the open place. Where memory is wanting, some
-    /// of it may have been added.
+    /// Adds the text of the object, with `value`, the text of a JSON value, at the open place.
+    /// `AllocError` where memory is wanting; then some of it may have been added.
     pub fn push_filled(&self, text: &mut String, value: &str) -> Result<(), AllocError>
         ensures added { OnOk result
             (string_bytes text.new ≡ string_bytes text.old ++ filled self.now value.now) }
@@ -125,8 +125,9 @@ fn rest_of(alloc: Global, members: Map<String, Value>) -> Result<String, AllocEr
     Ok(text)
 }
 
-/// The compact text of an object with these members, open at the value of the member of that name.
-/// No member may hold a number with a fraction. What stands at that name is dropped.
+/// The compact text of an object with these members, open at the value of the member `name`. No
+/// member may hold a number with a fraction. What stands at that name is dropped. `AllocError`
+/// where memory is wanting.
 pub fn text_around(
     alloc: Global,
     members: Map<String, Value>,

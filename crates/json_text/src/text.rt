@@ -7,8 +7,8 @@ ghost use Rattle.json_text.specs.Around.{name_text};
 use serde_json::Value;
 use std::alloc::{AllocError, Global};
 
-/// Adds the compact text of a value that holds no number with a fraction. Where memory is wanting,
-/// some of it may have been added.
+/// Adds the compact text of a value that holds no number with a fraction. `AllocError` where memory
+/// is wanting; then some of it may have been added.
 pub fn push_value(alloc: Global, text: &mut String, value: &Value) -> Result<(), AllocError>
     requires whole { has_float (view value.now) ≡ false }
     ensures added { OnOk result

@@ -16,7 +16,8 @@ use std::alloc::{AllocError, Global};
 use std::thread::Threads;
 
 /// The merged log of what was prepared, with the gate of this policy, and what `tell` makes of its counts and of what
-/// reports tell of its results. That is made while the log's text is. An error is want of memory.
+/// reports tell of its results. `tell` is called while the log's text is made. `AllocError` where memory is wanting, or
+/// where `tell` answers it.
 pub fn assemble<
     R: Threads + Sync,
     B: Drop,

@@ -68,7 +68,7 @@ fn left_parts(
     Ok(all)
 }
 
-/// The drafts of the results that are left, made in at most so many threads.
+/// The drafts of the results that are left, made in at most `threads` threads, this one among them.
 pub(crate) fn left_drafts<R: Threads + Sync>(
     rt: &R,
     alloc: Global,

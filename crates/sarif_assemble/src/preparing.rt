@@ -185,11 +185,11 @@ fn prepare_sides<R: Threads + Sync>(
     })
 }
 
-/// What is written of runs of logs and of runs of baselines, in which nothing is at fault: each current result
-/// with its level, its baseline state and its suppressions, and the unmatched results of the baselines as absent
-/// (SARIF 2.1.0, "baselineState property"). They are found by tables that hash with the options' seed, on which
-/// no answer depends; the threads of the options share the work. Beside it stands what reports tell of these
-/// results, where that is asked for. An error is want of memory.
+/// What is written of runs of logs and of runs of baselines, in which nothing is at fault: each current result with its
+/// level, its baseline state and its suppressions, and the unmatched results of the baselines as absent (SARIF 2.1.0,
+/// "baselineState property"). They are found by tables that hash with the options' seed, on which no answer depends;
+/// the threads of the options share the work. Beside it stands what reports tell of these results, where that is asked
+/// for. `AllocError` where memory is wanting.
 pub fn prepare<R: Threads + Sync>(
     rt: &R,
     alloc: Global,

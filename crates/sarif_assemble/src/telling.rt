@@ -129,7 +129,7 @@ fn tell_in_turn(
     Ok(findings)
 }
 
-/// What is told of these, in at most so many threads, this one among them.
+/// What is told of these, in at most `threads` threads, this one among them.
 #[cycle(telling)]
 fn tell_all<R: Threads + Sync>(
     rt: &R,

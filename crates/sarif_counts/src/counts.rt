@@ -21,7 +21,7 @@ impl Counts {
     ghost use Rattle.std.specs.Prelude.{◌≡◌};
     ghost use Rattle.sarif_counts.specs.Counts.{count_at, tally_at, total_of, HoldsNothing, AddsOne};
 
-    /// No results.
+    /// The counts of no results.
     pub fn new() -> Counts
         ensures nothing { HoldsNothing result }
         ensures total { total_of result ≡ 0 }
@@ -34,7 +34,7 @@ impl Counts {
         }
     }
 
-    /// Counts one more result.
+    /// Counts one more result, which is the 4,294,967,295th at most.
     pub fn add(&mut self, state: State, level: Level, suppressed: bool)
         requires { total_of self.old < 4294967295 }
         ensures one { AddsOne self.old self.new state level suppressed }
@@ -48,7 +48,8 @@ impl Counts {
         }
     }
 
-    /// How many results of this state and level are suppressed, or active.
+    /// How many results there are of this state and level that are suppressed, or, where
+    /// `suppressed` is false, active.
     pub fn get(&self, state: State, level: Level, suppressed: bool) -> u32
         ensures { result ≡ count_at self.now state level suppressed }
     {

@@ -8,7 +8,8 @@ use crate::counts::Counts;
 use crate::policy::{Policy, Verdict};
 use sarif_records::State;
 
-/// How many active results the policy counts.
+/// How many hits there are: active results of a state that the policy lists, at least of its level
+/// `fail_on`.
 pub fn hits(counts: &Counts, policy: &Policy) -> u32
     ensures { result ≡ hits_of (count_at counts.now) policy.now }
 {
@@ -18,7 +19,7 @@ pub fn hits(counts: &Counts, policy: &Policy) -> u32
         + hits_in(counts, policy, State::Absent)
 }
 
-/// Those of one state.
+/// How many of the hits are of one state.
 fn hits_in(counts: &Counts, policy: &Policy, state: State) -> u32
     ensures hits { result ≡ hits_at (count_at counts.now) policy.now state }
     ensures bound { result ≤ tally_total (tally_at counts.now state) }

@@ -7,11 +7,13 @@ use sarif_records::{Level, State};
 /// Which baseline states the gate looks at.
 #[derive(Clone, Copy, Debug, PartialEq, Eq)]
 pub struct States {
-    /// Results of a baseline that no log has.
+    /// Results of a baseline that are no current result's partner.
     pub absent: bool,
-    /// Results that no baseline has: the state `new`.
+    /// Results without a partner in a baseline: the state `new`.
     pub fresh: bool,
+    /// Results with a partner in a baseline that is equal in kind, level, message and place.
     pub unchanged: bool,
+    /// Results with a partner in a baseline that differs in one of these.
     pub updated: bool,
 }
 
@@ -62,7 +64,9 @@ impl Default for Policy {
 /// What the gate says of a merged log.
 #[derive(Clone, Copy, Debug, PartialEq, Eq)]
 pub enum Verdict {
+    /// There are no more hits than the policy's `max`.
     Pass,
+    /// There are more hits than that.
     Fail,
 }
 

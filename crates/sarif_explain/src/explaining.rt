@@ -113,8 +113,8 @@ fn push_system(
 /// The lines of an explanation, each two spaces, a name, a colon, a space, a text and a newline. Those that are known
 /// of stand in this order: `file`; `where`, a JSON pointer (RFC 6901) to the value at fault or, where a member is
 /// wanting, to the object that should hold it; `line` and `column`, where the reading of JSON stopped; `found`, the
-/// beginning of the value's compact text, or `nothing`; `wanted`; `system`; `advice`. Texts are shown as those of a
-/// log are in reports.
+/// beginning of the value's compact text, or `nothing`; `wanted`; `system`; `advice`. Texts are shown as those of a log
+/// are in reports. `AllocError` where memory is wanting.
 pub fn explanation(
     alloc: Global,
     fault: &MergeFault,

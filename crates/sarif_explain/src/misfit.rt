@@ -8,9 +8,11 @@ use std::alloc::{AllocError, Global};
 /// A value that isn't as it is wanted, or an object in which a member is wanting.
 #[derive(Drop)]
 pub(crate) struct Misfit<'a> {
+    /// Where it stands.
     pub place: Place<'a>,
     /// The name of the member that is wanting there.
     pub missing: Option<&'static str>,
+    /// What is wanted there.
     pub wanted: Wanted,
 }
 
@@ -103,7 +105,8 @@ pub(crate) fn misfit_in<'a>(alloc: Global, place: &Place<'a>, checks: &[Check]) 
     Ok(None)
 }
 
-/// The same in the first such element of the array at the end of the way.
+/// What is at fault in the first element of the array at the end of the way that doesn't pass one
+/// of these checks.
 pub(crate) fn misfit_in_each<'a>(
     alloc: Global,
     place: &Place<'a>,

@@ -6,7 +6,9 @@ use std::alloc::{AllocError, Global};
 /// A value of a source, and the JSON pointer to it.
 #[derive(Drop)]
 pub(crate) struct Place<'a> {
+    /// The JSON pointer from the whole source to it.
     pub pointer: String,
+    /// The value itself.
     pub value: &'a Value,
     /// Whether a number with a fraction counts as absent, with the member that holds it: so in a log.
     pub stripped: bool,
@@ -22,7 +24,7 @@ impl<'a> Place<'a> {
         }
     }
 
-    /// The same place.
+    /// A copy of this place.
     fn again(&self, alloc: Global) -> Result<Place<'a>, AllocError> {
         Ok(Place {
             pointer: String::from_str(alloc, self.pointer.as_str())?,

@@ -27,7 +27,7 @@ pub struct InputFile<'a, R: Files> {
 }
 
 impl<'a, R: Files> InputFile<'a, R> {
-    /// Opens nothing yet.
+    /// The file of this name. Nothing is opened yet.
     pub fn new(files: &'a R, name: &'a str) -> InputFile<'a, R>
         ensures name { result.name.now ≡ name.now }
         ensures unopened { result.stage ≡ Unopened }

@@ -13,7 +13,9 @@ use std::rt::Files;
 /// A file, or standard input.
 #[derive(Drop)]
 pub enum Input<'a, R: Files, I> {
+    /// A file, opened at its first read.
     File(InputFile<'a, R>),
+    /// Standard input.
     Standard(I),
 }
 

@@ -40,7 +40,7 @@ pub struct OutputFile<'a, R, F> {
 }
 
 impl<'a, R, F> OutputFile<'a, R, F> {
-    /// Opens nothing yet: nothing is known of `R` here by which it could.
+    /// An output to this place. Nothing is opened yet: nothing is known of `R` here by which it could be.
     pub fn new(files: &'a R, place: Place) -> OutputFile<'a, R, F>
         ensures place { result.place ≡ place }
         ensures unopened { result.writing ≡ Unopened }

@@ -20,8 +20,9 @@ pub enum Place {
 }
 
 impl Place {
-    /// Follows the links of `name`; the name beside what they lead to has `number` in it. This looks at links
-    /// alone, and opens and changes nothing.
+    /// Follows the links of `name`; the name beside what they lead to has `number` in it. This looks at links alone,
+    /// and opens and changes nothing. `AllocError` where memory for the names is wanting; links that can't be followed
+    /// to their end give the place `Lost`.
     pub fn of<R: Files>(
         files: &R,
         alloc: Global,

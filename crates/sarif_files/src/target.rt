@@ -14,13 +14,15 @@ use std::rt::Files;
 /// A file that is whole or untouched, or standard output.
 #[derive(Drop)]
 pub enum Target<'a, R: Files, O> {
+    /// A file, which is whole or untouched.
     File(OutputFile<'a, R, R::File>),
+    /// Standard output, which takes a text as it comes.
     Standard(O),
 }
 
 impl<'a, R: Files, O: Drop> Target<'a, R, O> {
     /// The output of a name: `-` is standard output. Nothing is opened yet; a new file beside that of the name has
-    /// `number` in its name.
+    /// `number` in its name. `AllocError` where memory for the names is wanting.
     pub fn of(
         files: &'a R,
         standard: O,
@@ -63,7 +65,9 @@ impl<R: Files, O: Write> Write for Target<'_, R, O> {
 /// Standard output, or standard error where the merged log goes to standard output.
 #[derive(Drop)]
 pub enum Console<O, E> {
+    /// Standard output.
     Output(O),
+    /// Standard error.
     Error(E),
 }
 

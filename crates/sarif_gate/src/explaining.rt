@@ -14,8 +14,11 @@ use std::io;
 /// What a run was asked for, and what it read and wrote.
 #[derive(Clone, Copy)]
 pub struct Ended<'a, 'b> {
+    /// What the words asked for: the names of all sources and outputs.
     pub request: &'b Request,
+    /// The sources, each beside what was read of it and what its last failed call said.
     pub readers: &'b Readers<Reading<'a>>,
+    /// The outputs, each beside what its last failed call said.
     pub writers: &'b Outputs<'a>,
 }
 

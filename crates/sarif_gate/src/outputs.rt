@@ -20,7 +20,8 @@ pub type Output<'a> = Kept<Target<'a, HostRuntime, Stdout>>;
 /// The outputs of the program.
 pub type Outputs<'a> = Writers<Output<'a>, Console<Stdout, Stderr>, Output<'a>>;
 
-/// The outputs that a request names, none of them opened.
+/// The outputs that a request names, none of them opened. `AllocError` where memory for their names
+/// is wanting.
 pub fn outputs_of<'a>(rt: &'a HostRuntime, request: &Request) -> Result<Outputs<'a>, AllocError>
     // There is a writer for just those reports that are asked for.
     ensures asked { IfOk result

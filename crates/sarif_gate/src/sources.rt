@@ -17,6 +17,7 @@ use std::io::Stdin;
 pub type Source<'a> = Kept<Input<'a, HostRuntime, Stdin>>;
 
 /// The sources that a request names, none of them opened. What is read of them is kept where a fault is explained.
+/// `AllocError` where memory for their lists is wanting.
 pub fn sources_of<'a>(
     rt: &'a HostRuntime,
     request: &'a Request,

@@ -14,12 +14,16 @@ use std::alloc::Global;
 /// run has no close.
 #[derive(Clone, Copy, Debug, PartialEq, Eq)]
 pub struct CollectFault {
+    /// The number of the arrival, from 0, or how many there are.
     pub at: u32,
+    /// Why it is refused.
     pub why: Why,
 }
 
 /// What these arrivals assemble to, exactly where they are lawful and there is memory; else the
-/// first fault. Where there is no memory for a collector, that is told at 0.
+/// first fault: the number of the first arrival that is refused, with the reason that
+/// [`Collector::accept`] gives, or the number of all arrivals with `Unclosed`, where a run has no
+/// close. Where there is no memory for a collector, that is `OutOfMemory` at 0.
 pub fn collect<T: Drop, C: Drop>(
     alloc: Global,
     runs: u32,

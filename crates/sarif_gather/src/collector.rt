@@ -37,6 +37,8 @@ impl<T, C> Model for Collector<T, C> {
 }
 
 impl<T: Drop, C: Drop> Collector<T, C> {
+    /// A collector of `runs` runs, at most 10,000, all of them open and without items. `AllocError`
+    /// where memory for it is wanting.
     pub fn new(alloc: Global, runs: u32) -> Result<Self, AllocError>
         requires { runs ≤ 10000 }
         ensures { IfOk result (λ c. c ≡ replicate runs empty_run) }
@@ -52,7 +54,11 @@ impl<T: Drop, C: Drop> Collector<T, C> {
         })
     }
 
-    /// Takes in a piece, or hands it back with the first reason against it.
+    /// Takes in a piece, or hands it back with the first reason against it; then all stays as it
+    /// was. The reason is `Stranger` where its run isn't one of these; `AfterClose` where its run
+    /// is closed; `Double` where its run has an item with its number; `Short` where it is a close
+    /// and the items of its run aren't just those up to its count; `OutOfMemory` where memory for
+    /// it is wanting.
     pub fn accept(&mut self, piece: Piece<T, C>) -> Result<(), Refused<T, C>>
         ensures ok { OnOk result ((refusal_of self.old piece ≡ None)
             × (self.new ≡ with_piece self.old piece)) }
@@ -69,7 +75,8 @@ impl<T: Drop, C: Drop> Collector<T, C> {
         self.slots[run].accept(self.alloc, piece)
     }
 
-    /// The runs' items and tails, or the least run that has no close.
+    /// The runs' items and tails. Where a run has no close, the error is the least such run, with
+    /// the collector as it was.
     pub fn finish(self) -> Result<Lists<T, C>, (u32, Self)>
         ensures ok { IfOk result (λ l. self ≡ map closed_run l) }
         ensures err { IfErr result (λ e. (e.1 ≡ self) × (first_open self ≡ Some e.0)) }

@@ -30,11 +30,13 @@ pub struct Mailbox<P> {
 /// The mailbox was full. The parcel comes back.
 #[derive(Debug, Drop, PartialEq, Eq)]
 pub struct Full<P> {
+    /// The parcel that wasn't sent.
     pub parcel: P,
 }
 
 impl<P: Drop> Mailbox<P> {
-    /// A mailbox that holds `room` parcels, a post for each sender, in order, and the taker's desk.
+    /// A mailbox that holds `room` parcels, 1 to 4,096, a post for each of `senders` senders, 1 to
+    /// 64, in order, and the taker's desk. `AllocError` where memory for them is wanting.
     pub fn new(
         alloc: Global,
         room: u32,
@@ -58,8 +60,8 @@ impl<P: Drop> Mailbox<P> {
         Ok((mailbox, posts, Desk::new(pass)))
     }
 
-    /// Puts a parcel at the back, and wakes the taker if it sleeps. The parcel comes back only where
-    /// the mailbox was full.
+    /// Puts a parcel at the back, and wakes the taker if it sleeps. `Full`, with the parcel, only
+    /// where the mailbox was full.
     pub fn send<R: Wait>(&self, rt: &R, post: &mut Post<P>, parcel: P) -> Result<(), Full<P>>
         requires { IsPostOf self.now post.old }
         ensures post { IsPostOf self.now post.new × (number_of post.new ≡ number_of post.old) }

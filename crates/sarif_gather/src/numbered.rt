@@ -29,6 +29,7 @@ impl<T> Model for Numbered<T> {
 }
 
 impl<T: Drop> Numbered<T> {
+    /// No bodies; this takes no memory.
     pub fn new(alloc: Global) -> Self
         ensures { result ≡ [] }
     {
@@ -38,13 +39,15 @@ impl<T: Drop> Numbered<T> {
         }
     }
 
+    /// Whether there is a body with this number.
     pub fn contains(&self, seq: u32) -> bool
         ensures { result ≡ has_number seq self.now }
     {
         (seq as usize) < self.row.len() || self.early.contains_key(&seq)
     }
 
-    /// A body that finds no memory comes back.
+    /// Puts a body at a number that has none. Where memory is wanting, the body comes back, and all
+    /// stays as it was.
     pub fn insert(&mut self, seq: u32, body: T) -> Result<(), T>
         requires { has_number seq self.old ≡ false }
         ensures ok { OnOk result (self.new ≡ insert_entry nat_cmp self.old seq body) }
@@ -78,7 +81,8 @@ impl<T: Drop> Numbered<T> {
         next == count as u64
     }
 
-    /// The bodies in the order of their numbers. Where there is no memory, all comes back.
+    /// The bodies in the order of their numbers, which must be just those from 0 on. Where memory
+    /// for the list is wanting, all bodies come back.
     pub fn into_list(self) -> Result<Vec<T>, Numbered<T>>
         requires { (count : ℕ) × (counts_up 0 count self ≡ true) }
         ensures ok { IfOk result (λ v. self ≡ enumerate_from 0 v.items) }

@@ -25,6 +25,7 @@ impl<T, C> Piece<T, C> {
 /// What stands in a mailbox.
 #[derive(Debug, Drop, PartialEq, Eq)]
 pub enum Parcel<T, C> {
+    /// A piece for the collector.
     Carry(Piece<T, C>),
     /// The sender's last parcel. It is short where the sender found no memory for all of its work.
     End { short: bool },
@@ -50,6 +51,8 @@ pub enum Why {
 /// A piece that wasn't taken.
 #[derive(Debug, Drop, PartialEq, Eq)]
 pub struct Refused<T, C> {
+    /// The piece, as it was handed in.
     pub piece: Piece<T, C>,
+    /// The first reason against it.
     pub why: Why,
 }

@@ -9,15 +9,19 @@ use crate::piece::{Piece, Refused, Why};
 use std::alloc::Global;
 use std::mem;
 
-/// The runs are closed one by one.
+/// A run in a collector.
 #[derive(Drop)]
 pub enum Slot<T, C> {
+    /// Its close has not come: the items that came so far, by their numbers.
     Open(Numbered<T>),
+    /// Its close has come: its items, in the order of their numbers, and its tail.
     Closed(Vec<T>, C),
 }
 
 impl<T: Drop, C: Drop> Slot<T, C> {
-    /// Takes in a piece of this run.
+    /// Takes in a piece of this run, or hands it back with the first reason against it:
+    /// `AfterClose`, `Double`, `Short` or `OutOfMemory`, as for
+    /// [`Collector::accept`](crate::Collector::accept). Then all stays as it was.
     pub fn accept(&mut self, alloc: Global, piece: Piece<T, C>) -> Result<(), Refused<T, C>>
         ensures ok { OnOk result ((refusal_at (held_of self.old) piece ≡ None)
             × (held_of self.new ≡ step_at (held_of self.old) piece)) }

@@ -9,8 +9,10 @@ pub trait Work {
     /// What a worker keeps of a run while it reads it.
     type Head: Send + Drop;
 
+    /// What a worker makes of an item, and the collector gets.
     type Item: Send + Drop;
 
+    /// What stands at the end of a run, behind its items.
     type Tail: Send + Drop;
 
     // How many runs there are.
@@ -32,7 +34,7 @@ pub trait Work {
     fn runs(&self) -> u32
         ensures { result ≡ run_count self.now };
 
-    /// A head of a run.
+    /// A head of run `run`, counted from 0. `AllocError` where memory for it is wanting.
     fn start(&self, alloc: Global, run: u32) -> Result<Self::Head, AllocError>
         requires { run < run_count self.now }
         ensures { IfOk result (IsHeadOf self.now run) };
@@ -43,7 +45,7 @@ pub trait Work {
         ensures { (run : ℕ) → run < run_count self.now → IsHeadOf self.now run head.now
             → result ≡ count self.now run };
 
-    /// An item of the head's run, by its number.
+    /// Item `seq` of the head's run, counted from 0. `AllocError` where memory for it is wanting.
     fn make(&self, alloc: Global, head: &Self::Head, seq: u32) -> Result<Self::Item, AllocError>
         requires { (run : ℕ) × (run < run_count self.now) × IsHeadOf self.now run head.now
             × (seq < count self.now run) }

@@ -35,8 +35,9 @@ fn add_jobs<'a>(
 }
 
 /// The indexes of all sources, the logs and then the baselines, each without its leading byte order
-/// mark. At most so many threads index them, this one among them; each source has a scratch of its
-/// own. `AllocError` where memory for the list is wanting; a source's own fault stands in the list.
+/// mark. At most `threads` threads index them, this one among them; each source has a scratch of
+/// its own. `AllocError` where memory for the list is wanting; a source's own fault stands in the
+/// list.
 pub fn index_sources<'a, R: Threads + Sync>(
     rt: &R,
     alloc: Global,

@@ -42,7 +42,7 @@ fn open_in_turn<'t, 'a>(
     Ok(opened)
 }
 
-/// Opens runs in at most so many threads, this one among them, and gives them in their order.
+/// Opens runs in at most `threads` threads, this one among them, and gives them in their order.
 #[cycle(opening)]
 pub(crate) fn open_each<'t, 'a, R: Threads + Sync>(
     rt: &R,

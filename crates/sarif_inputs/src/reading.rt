@@ -46,7 +46,7 @@ fn halves<'t, T>(items: &'t [T]) -> (&'t [T], &'t [T])
     items.split_at(items.len() / 2)
 }
 
-/// What each index gives, in their order: the runs of its log, or why it is none. They are read in at most so many
+/// What each index gives, in their order: the runs of its log, or why it is none. They are read in at most `threads`
 /// threads, this one among them.
 #[cycle(reading)]
 pub(crate) fn read_each<'t, 'a, R: Threads + Sync>(
@@ -79,7 +79,8 @@ pub(crate) fn read_each<'t, 'a, R: Threads + Sync>(
     Ok(read)
 }
 
-/// What the indexes of so many logs give, and those of the baselines behind them.
+/// What the first `logs` indexes give, and what those of the baselines behind them give. They are read in at most
+/// `threads` threads, this one among them.
 pub(crate) fn read_kinds<'t, 'a, R: Threads + Sync>(
     rt: &R,
     alloc: Global,

@@ -32,10 +32,12 @@ use std::thread::Threads;
 /// How many sources of each kind a merge may have.
 const MOST_SOURCES: usize = 1_000;
 
-/// The runs of the logs and those of the baselines, each in order.
+/// The runs of all sources of a merge, opened.
 #[derive(Drop)]
 pub struct Runs<'t, 'a> {
+    /// The runs of the logs, in the order of logs and runs.
     pub current: Vec<OpenedRun<'t, 'a>>,
+    /// The runs of the baselines, in the order of baselines and runs.
     pub baseline: Vec<OpenedRun<'t, 'a>>,
 }
 
@@ -47,7 +49,8 @@ struct AllRuns<'t, 'a> {
     inputs: u32,
 }
 
-/// At most 1,000 logs and 1,000 baselines: else `TooMany` at the first past the limit.
+/// At most 1,000 logs and 1,000 baselines: else `TooMany` at the first log past the limit, or else at the first
+/// baseline past it.
 pub fn check_numbers(logs: usize, baselines: usize) -> Result<(), MergeFault>
     ensures faults { (ls bs : List (List ℕ)) → length ls ≡ logs → length bs ≡ baselines
         → Answers (number_faults Source.Log ls ++ number_faults Source.Baseline bs) result }
@@ -96,7 +99,7 @@ fn log_of_source<'t, 'a>(
     }
 }
 
-/// At most so many runs and results, with this source the last: else `TooMany` at it.
+/// At most 10,000 runs and 1,000,000 results in the sources up to this one: else `TooMany` at it.
 fn check_limits(source: Source, runs: usize, results: u32) -> Result<(), MergeFault>
     ensures faults { Answers (limit_faults source runs results) result }
     ensures few_runs { OnOk result (runs ≤ 10000) }
@@ -213,8 +216,8 @@ impl<'t, 'a> Reading<'t, 'a> {
     }
 }
 
-/// The runs of all sources, whose indexes are those of so many logs and then those of the baselines. They are read
-/// in at most so many threads, this one among them.
+/// The runs of all sources, of which the first `logs` indexes are those of the logs, and the others those of the
+/// baselines. They are read in at most `threads` threads, this one among them.
 fn read_all<'t, 'a, R: Threads + Sync>(
     rt: &R,
     alloc: Global,
@@ -245,11 +248,14 @@ fn read_all<'t, 'a, R: Threads + Sync>(
     Ok(AllRuns { all, inputs })
 }
 
-/// Opens the runs of the logs, which are the first so many of the indexes, and those of the baselines.
-/// A refusal is the first fault of the sources in order: of reading one, or `TooMany` at the first with
-/// which there are more than 10,000 runs or 1,000,000 results; or `OutOfMemory`. The tables of their rules and
-/// overrides hash with `seed`, on which no answer depends. The runs are read, and their heads made, in at most so many
-/// threads, this one among them.
+/// Opens the runs of the logs, which are the first `logs` of the indexes, and those of the baselines. The runs are
+/// read, and their heads made, in at most `threads` threads, this one among them. The tables of their rules and
+/// overrides hash with `seed`, on which no answer depends.
+///
+/// A refusal is the first fault of the sources in order: `NotJson`, `NotLog` or `WrongVersion` of a source; `TooMany`
+/// at a source of more than 10,000 runs, or with which there are more than 10,000 runs or 1,000,000 results; `BadRun`,
+/// `ExternalProperties` or `TooMany` at a run. Want of memory is `OutOfMemory`, nowhere. A fault of a run's head is no
+/// refusal: it is kept with the run.
 pub fn open_sources<'t, 'a, R: Threads + Sync>(
     rt: &R,
     alloc: Global,

@@ -8,8 +8,12 @@ use sarif_suppress::{Suppressions, read_rules_with};
 use std::alloc::Global;
 use std::hash::RandomState;
 
-/// The entries of the suppression file for that day, where there is one; without it there are none.
-/// Their tables hash with `seed`, on which no answer depends.
+/// The entries of the suppression file for the day `today`, as yyyymmdd, where there is a file;
+/// without one there are none. Their tables hash with `seed`, on which no answer depends.
+///
+/// A refusal is the first fault of the file: `NotJson`, `NotList`, `WrongVersion` or `TooMany` at
+/// the file, or `BadEntry`, `EmptyMatch` or `NeedsToday` at an entry. Want of memory is
+/// `OutOfMemory`, nowhere.
 #[tactic(auto, using(sarif_sources::proofs::QuietFaults::quiet_file, crate::proofs::FileAnswers::file_refused))]
 pub fn read_file(
     alloc: Global,

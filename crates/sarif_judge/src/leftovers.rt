@@ -32,7 +32,8 @@ fn push_unless<'w, 't, 'a>(
     Ok(())
 }
 
-/// The results of baselines that aren't taken, by the places and the records of all of them.
+/// The results of baselines at these places of `runs` that aren't taken. Of each place there are, in the same order,
+/// the record of its result and whether that is taken. `AllocError` where memory for the list is wanting.
 pub fn list_leftovers<'w, 't, 'a>(
     alloc: Global,
     runs: &'w [OpenedRun<'t, 'a>],
@@ -80,7 +81,7 @@ fn draft_in_turn(alloc: Global, left: &[Leftover<'_, '_, '_>]) -> Result<Vec<Dra
     Ok(drafts)
 }
 
-/// The drafts of results of baselines that are left, made in at most so many threads, this one among them.
+/// The drafts of results of baselines that are left, made in at most `threads` threads, this one among them.
 /// `AllocError` where memory for one is wanting.
 #[cycle(leftovers)]
 pub fn draft_leftovers<R: Threads + Sync>(

@@ -17,6 +17,7 @@ use std::hash::RandomState;
 /// fault (SARIF 2.1.0, "run object").
 #[derive(Drop)]
 pub struct OpenedRun<'t, 'a> {
+    /// The log or the baseline that it stands in.
     pub source: Source,
     /// Its number in its source, from 0.
     pub number: u32,
@@ -50,8 +51,9 @@ impl<'t, 'a> OpenedRun<'t, 'a> {
     ghost use Rattle.sarif_records.specs.Picked.{picked};
     ghost use Rattle.sarif_records.specs.Run.{result_at, results_array, results_of};
 
-    /// Opens a run that holds no number with a fraction. The tables of its head hash with `seed`, on which no
-    /// answer depends.
+    /// Opens run `number` of a source, which holds no number with a fraction. The tables of its head hash with `seed`,
+    /// on which no answer depends. `AllocError` where memory is wanting; a fault of the run is no error, but is kept
+    /// with it (see `fault`).
     #[tactic(auto, using(sarif_rules::proofs::Beside::bare_head, sarif_rules::proofs::Beside::bare_tool_name))]
     pub fn open(
         alloc: Global,
@@ -75,7 +77,8 @@ impl<'t, 'a> OpenedRun<'t, 'a> {
         })
     }
 
-    /// Why the run can't be opened, where that is so.
+    /// Why the run can't be opened, where that is so: the first fault that [`open_value`](sarif_rules::open_value)
+    /// answers of it.
     pub fn fault(&self) -> Option<Fault>
         ensures { result ≡ opening_fault (placed_of self.now) }
     {

@@ -56,10 +56,10 @@ fn flatten(alloc: Global, mut stack: Vec<Vec<Shard>>) -> Result<Vec<Outcome>, Al
     Ok(all)
 }
 
-/// Judges all results of these runs by so many workers: the item and the draft of each, in the order of runs
+/// Judges all results of these runs by `workers` threads, 1 to 64: the item and the draft of each, in the order of runs
 /// and results, whichever worker was the first. `observer` looks on while shards are judged.
 ///
-/// A refusal is `OutOfMemory`, or `NoWorker` where a thread can't be started.
+/// A refusal is `OutOfMemory` where memory is wanting, or `NoWorker` where a thread can't be started.
 pub fn judge<G: Gate + Sync, R: Threads + Wait + Sync>(
     rt: &R,
     alloc: Global,

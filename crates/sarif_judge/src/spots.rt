@@ -6,10 +6,12 @@ ghost use Rattle.sarif_judge.specs.Spots.{spots_from, spots_in};
 use crate::opened::OpenedRun;
 use std::alloc::{AllocError, Global};
 
-/// The place of a result: the number of its run among all runs, and its number there.
+/// The place of a result among the results of all runs.
 #[derive(Clone, Copy, Debug)]
 pub struct Spot {
+    /// The number of its run in the list of all runs, from 0.
     pub run: u32,
+    /// Its number in that run, from 0.
     pub seq: u32,
 }
 

@@ -10,7 +10,8 @@ use crate::tier_key::Key;
 use sarif_records::{Record, Text};
 use std::alloc::AllocError;
 
-/// The key of a result at a tier, or `None` where it has none. It borrows, so it always succeeds.
+/// The key of a result at a tier, or `None` where it has none. The key borrows, so `AllocError`
+/// never comes.
 pub fn key<'a>(finding: &'a Record, tier: &Tier) -> Result<Option<Key<'a>>, AllocError>
     ensures { IsOkAnd result (λ k. option_map parts_of k ≡ key_of finding.now tier.now) }
 {

@@ -64,7 +64,8 @@ impl Matching {
 /// Pairs each current result with at most one baseline result, tier by tier. At each tier the
 /// results that are left over are paired where their keys are equal, the first with the first, the
 /// second with the second, and so on. Each list has at most 1,000,000 results. The tables have the
-/// seed of the standard hasher, which who writes a log may know: see `match_all_with`.
+/// seed of the standard hasher, which who writes a log may know: see [`match_all_with`].
+/// `AllocError` where memory is wanting.
 pub fn match_all<'a>(
     alloc: Global,
     current: &'a [Record],
@@ -78,8 +79,10 @@ pub fn match_all<'a>(
     match_all_with(alloc, hasher, current, baseline)
 }
 
-/// The same by tables that hash with `hasher`, as a `RandomState`, whose seed no log can know. The
-/// partners are the same whatever it is. Without a baseline no table is made.
+/// Pairs each current result with at most one baseline result, as [`match_all`] does, by tables
+/// that hash with `hasher`: a `RandomState`, say, whose seed no log can know. The partners are the
+/// same whatever it is. Each list has at most 1,000,000 results. Without a baseline no table is
+/// made. `AllocError` where memory is wanting.
 pub fn match_all_with<'a, S: BuildHasher + Copy>(
     alloc: Global,
     hasher: S,

@@ -11,6 +11,7 @@ use std::collections::BTreeSet;
 
 /// The tiers of a merge of these results, in the order in which it goes through them: one for each
 /// fingerprint name of either list, the greatest first, stands between `Guid` and the others.
+/// `AllocError` where memory for the list is wanting.
 pub fn tiers(
     alloc: Global,
     current: &[Record],

@@ -30,10 +30,10 @@ fn refusal_of(fault: GatherFault) -> MergeFault
     MergeFault::found(At::Nowhere, cause)
 }
 
-/// Judges the results of runs by so many workers. `observer` looks on.
+/// Has `workers` threads judge the results of runs. `observer` looks on.
 ///
-/// A refusal is the first fault of the runs and their results in order, whichever worker was the first, or
-/// want of memory or of a thread.
+/// A refusal is the first fault of the runs and their results in order, whichever worker was the first, or want of
+/// memory or of a thread.
 #[tactic(auto, using(crate::proofs::Wants::wants, crate::proofs::Wants::quiet_want))]
 pub(crate) fn judge_runs<'t, 'a, G: Gate + Sync, R: Threads + Wait + Sync>(
     rt: &R,

@@ -96,13 +96,17 @@ pub(crate) fn tell_nothing(_counts: &Counts, _findings: &Vec<Finding>) -> Result
     Ok(())
 }
 
-/// Merges logs with baselines: gives each current result its effective level, its baseline state and its
-/// suppressions, adds the unmatched results of the baselines as absent, and says what the gate makes of it.
+/// Merges logs with baselines: gives each current result its effective level, its baseline state and its suppressions,
+/// adds the unmatched results of the baselines as absent, and says what the gate makes of it.
 ///
-/// The merged log and its counts depend on the sources, the policy and the day alone, and neither on the number
-/// of workers nor on the order in which these are done. `observer` looks on while results are judged.
+/// The merged log and its counts depend on the sources, the policy and the day alone, and neither on the number of
+/// workers nor on the order in which these are done. `observer` looks on while results are judged.
 ///
-/// A refusal is the first fault of the inputs with its place, or `OutOfMemory` or `NoWorker` nowhere.
+/// A refusal is the first fault of the inputs with its place: `TooMany` where there are too many logs or baselines, and
+/// then the faults of reading the logs and the baselines, of the suppression file, of the logs' runs and results, and
+/// of the baselines' runs and results. Its cause may be any but `TooLong`, `ReadFailed` and `WriteFailed`.
+/// `OutOfMemory`, where memory is wanting, and `NoWorker`, where a thread can't be started, stand nowhere, and may come
+/// in place of each of these.
 pub fn merge_bytes<G: Gate + Sync, R: Threads + Wait + Sync>(
     rt: &R,
     alloc: Global,

@@ -25,14 +25,15 @@ use std::io::{Read, Write};
 use std::sync::Wait;
 use std::thread::Threads;
 
-/// Merges logs and baselines from readers, as [`merge_bytes`](crate::merge_bytes) does with bytes: reads all sources, the
-/// logs, the baselines and the suppression file, then merges what was read, and writes nothing.
+/// Merges logs and baselines from readers, as [`merge_bytes`](crate::merge_bytes) does with bytes: reads all sources,
+/// the logs, the baselines and the suppression file, then merges what was read, and writes nothing. Where reports are
+/// asked for, what they tell stands beside the log; and beside the merge stands what `tell` makes of its counts and of
+/// that, while the log's text is made.
 ///
-/// A refusal is `TooMany` for more than 1,000 logs or else more than 1,000 baselines; else `ReadFailed` or
-/// `TooLong` at the first source that can't be read to its end; else the first fault of what was read. Want of
-/// memory or of a thread stands nowhere. Where reports are asked for, what they tell stands beside the log; and beside
-/// the merge stands what `tell` makes of its counts and of that, while the log's text is made. An error of `tell` is
-/// want of memory.
+/// A refusal is `TooMany` for more than 1,000 logs or else more than 1,000 baselines; else `ReadFailed` or `TooLong` at
+/// the first source that can't be read to its end; else the first fault of what was read, as
+/// [`merge_bytes`](crate::merge_bytes) answers it. `OutOfMemory`, where memory is wanting, also in `tell`, and
+/// `NoWorker`, where a thread can't be started, stand nowhere.
 #[tactic(auto, using(sarif_sources::proofs::QuietFaults::same_failure, sarif_sources::proofs::QuietFaults::no_write))]
 pub fn merge_readers<
     R: Read,
@@ -73,10 +74,11 @@ pub fn merge_readers<
     Ok(made)
 }
 
-/// Merges logs and baselines from readers into a writer: reads and merges as [`merge_readers`] does, then writes.
+/// Merges logs and baselines from readers into a writer: reads and merges as [`merge_readers`] does, then writes the
+/// text of the log.
 ///
-/// A refusal of [`merge_readers`] has written nothing. With `WriteFailed` at the output a part of the text was
-/// written.
+/// The refusals are those of [`merge_readers`], which have written nothing, and `WriteFailed` at the output, where a
+/// write failed: a part of the text may have been written then.
 pub fn merge_to<R: Read, W: Write, G: Gate + Sync, T: Threads + Wait + Sync>(
     rt: &T,
     alloc: Global,

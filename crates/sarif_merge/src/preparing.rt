@@ -22,7 +22,7 @@ use std::alloc::{AllocError, Global};
 use std::sync::Wait;
 use std::thread::Threads;
 
-/// Judges the runs that were read by workers, and matches their results.
+/// Has workers judge the results of the runs that were read, and matches them.
 fn prepare_runs<G: Gate + Sync, R: Threads + Wait + Sync>(
     rt: &R,
     alloc: Global,
@@ -48,7 +48,8 @@ fn prepare_runs<G: Gate + Sync, R: Threads + Wait + Sync>(
     Ok(prepared)
 }
 
-/// The same with the suppression file.
+/// Reads the suppression file, has workers judge the results of the runs that were read, and
+/// matches them.
 fn prepare_read<G: Gate + Sync, R: Threads + Wait + Sync>(
     rt: &R,
     alloc: Global,

@@ -31,12 +31,14 @@ impl fmt::Display for Complaint {
 /// Where complaints go, and the last of them.
 #[derive(Debug, Drop)]
 pub struct Complaints<E> {
+    /// Where complaints are written, a line each.
     pub out: Counted<E>,
+    /// The last complaint, whether its line was taken or not; `None` where there was none.
     pub last: Option<Complaint>,
 }
 
 impl<E> Complaints<E> {
-    /// Nothing was complained of.
+    /// Complaints that are written to `out`; there is none so far.
     pub fn new(out: E) -> Complaints<E>
         ensures none { failed_calls result.out ≡ 0 }
     {

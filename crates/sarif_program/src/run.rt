@@ -84,7 +84,8 @@ fn merge_told<
     merge_readers(rt, alloc, readers, &asked, &NoGate, tell)
 }
 
-/// The same for a request whose reports have these writers, with the texts of these.
+/// Merges what the readers give, for a request whose reports have these writers, and makes the summary and the texts of
+/// these reports.
 fn merge_for<R: Read, W, T: Threads + Wait + Sync>(
     rt: &T,
     alloc: Global,

@@ -22,7 +22,7 @@ pub(crate) struct Texts {
     pub(crate) summary: Text,
 }
 
-/// The text of a report, where it is asked for, made in at most so many threads.
+/// The text of a report, where it is asked for, made in at most `threads` threads, this one among them.
 fn text_of<T: Threads + Sync>(
     rt: &T,
     alloc: Global,
@@ -88,7 +88,7 @@ fn texts_beside<W, T: Threads + Sync>(
 }
 
 /// The texts of the reports that there are writers for. That for GitLab hashes each result, and is made in at most
-/// so many threads beside the others.
+/// `threads` threads, beside the others.
 fn texts_told<W, T: Threads + Sync>(
     rt: &T,
     alloc: Global,

@@ -79,7 +79,7 @@ impl<'t, 'a> IndexedRun<'t, 'a> {
         bare
     }
 
-    /// Result `seq` of the run, counted from 0, stripped.
+    /// Result `seq` of the run, counted from 0, stripped. `AllocError` where memory for it is wanting.
     #[tactic(auto, using(crate::proofs::RunOf::count_results, crate::proofs::RunOf::nth_result))]
     pub fn result(&self, alloc: Global, seq: u32) -> Result<Value, AllocError>
         requires { seq < length (results_of (run_of self.now)) }
@@ -121,7 +121,8 @@ impl<'t, 'a> IndexedRun<'t, 'a> {
         }
     }
 
-    /// The run with all its results, as a log is read without its index.
+    /// The run with all its results, as [`read_log`](crate::read_log) gives it. `AllocError` where memory for the
+    /// results is wanting.
     #[tactic(auto, using(crate::proofs::RunOf::few_whole))]
     pub fn into_raw(self, alloc: Global) -> Result<RawRun, AllocError>
         ensures { IfOk result (λ run. view run ≡ run_of self.entry) }

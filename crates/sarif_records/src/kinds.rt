@@ -8,10 +8,13 @@ ghost use Rattle.sarif_records.specs.Status.{status_name, status_named};
 /// The severity of a result, in rising order (SARIF 2.1.0, "level property").
 #[derive(Clone, Copy, Debug, PartialEq, Eq, PartialOrd, Ord, Hash)]
 pub enum Level {
-    /// The text `none`.
+    /// The text `none`: severity doesn't apply, as where the kind isn't `fail`.
     NoLevel,
+    /// The text `note`: a minor problem, or what could be better.
     Note,
+    /// The text `warning`: a problem.
     Warning,
+    /// The text `error`: a serious problem.
     Error,
 }
 
@@ -49,12 +52,18 @@ impl Level {
 /// What a result says of its rule (SARIF 2.1.0, "kind property").
 #[derive(Clone, Copy, Debug, PartialEq, Eq, PartialOrd, Ord, Hash)]
 pub enum Kind {
+    /// The text `pass`: the rule was evaluated, and no problem was found.
     Pass,
-    /// The text `open`.
+    /// The text `open`: the rule was evaluated, and whether there is a problem could not be told.
     Undecided,
+    /// The text `informational`: the result only tells something.
     Informational,
+    /// The text `notApplicable`: the rule was not evaluated, as it doesn't apply there.
     NotApplicable,
+    /// The text `review`: a person is to look whether there is a problem.
     Review,
+    /// The text `fail`: the rule was evaluated, and a problem was found. A result without a kind
+    /// has this one.
     Fail,
 }
 
@@ -98,9 +107,13 @@ impl Kind {
 /// How a result stands to the baseline (SARIF 2.1.0, "baselineState property").
 #[derive(Clone, Copy, Debug, PartialEq, Eq, PartialOrd, Ord, Hash)]
 pub enum State {
+    /// The text `new`: no result of the baseline is its partner.
     New,
+    /// The text `unchanged`: its partner has the same kind, level, message and place.
     Unchanged,
+    /// The text `updated`: its partner differs in one of these.
     Updated,
+    /// The text `absent`: a result of the baseline that is the partner of no current result.
     Absent,
 }
 
@@ -138,8 +151,11 @@ impl State {
 /// How far a suppression was reviewed (SARIF 2.1.0, suppression object, "status property").
 #[derive(Clone, Copy, Debug, PartialEq, Eq, PartialOrd, Ord, Hash)]
 pub enum Status {
+    /// The text `accepted`: the suppression holds. A suppression without a status has this one.
     Accepted,
+    /// The text `underReview`: it is not decided, and the result is active.
     UnderReview,
+    /// The text `rejected`: the suppression was refused, and the result is active.
     Rejected,
 }
 

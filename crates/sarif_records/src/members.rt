@@ -18,7 +18,8 @@ pub fn member_at<'a>(value: &'a Value, name: &str) -> Option<&'a Value>
     }
 }
 
-/// The text `name` of an object.
+/// The text `name` of an object; `None` where the member is absent or null, or where this is no
+/// object. `wrong` where the member is no text.
 pub fn text_at<'a, E: Drop>(value: &'a Value, name: &str, wrong: E) -> Result<Option<&'a str>, E>
     ensures { result_map (option_map (λ s. s.now)) result
         ≡ said.text_at wrong name.now (view value.now) }
@@ -32,7 +33,8 @@ pub fn text_at<'a, E: Drop>(value: &'a Value, name: &str, wrong: E) -> Result<Op
     }
 }
 
-/// The object `name` of an object.
+/// The object `name` of an object; `None` where the member is absent or null, or where this is no
+/// object. `wrong` where the member is no object.
 pub fn object_at<'a, E: Drop>(
     value: &'a Value,
     name: &str,
@@ -53,7 +55,8 @@ pub fn object_at<'a, E: Drop>(
     }
 }
 
-/// The elements of the array `name` of an object; absent they are none.
+/// The elements of the array `name` of an object; where the member is absent or null there are
+/// none. `wrong` where the member is no array.
 #[tactic(auto, using(crate::proofs::Elements::elements_items_view))]
 pub fn elements_at<'a, E: Drop>(value: &'a Value, name: &str, wrong: E) -> Result<&'a [Value], E>
     ensures { result_map (λ vs. map view vs.now) result
@@ -80,7 +83,8 @@ fn are_objects(values: &[Value]) -> bool
     true
 }
 
-/// The elements of the array of objects `name` of an object; absent they are none.
+/// The elements of the array of objects `name` of an object; where the member is absent or null
+/// there are none. `wrong` where the member is no array, or one of its elements is no object.
 #[tactic(auto, using(crate::proofs::Elements::elements_items_view))]
 pub fn objects_at<'a, E: Drop>(value: &'a Value, name: &str, wrong: E) -> Result<&'a [Value], E>
     ensures { result_map (λ vs. map view vs.now) result
@@ -101,7 +105,8 @@ pub fn objects_at<'a, E: Drop>(value: &'a Value, name: &str, wrong: E) -> Result
     }
 }
 
-/// The index `name` of an object: a whole number from -1 to 2^32 - 1, of which -1 means absent.
+/// The index `name` of an object: a whole number from 0 to 2^32 - 1. `None` where the member is
+/// absent, null or -1. `wrong` where it is anything else.
 pub fn index_at<E: Drop>(value: &Value, name: &str, wrong: E) -> Result<Option<u32>, E>
     ensures { result ≡ said.index_at wrong name.now (view value.now) }
 {
@@ -118,7 +123,8 @@ pub fn index_at<E: Drop>(value: &Value, name: &str, wrong: E) -> Result<Option<u
     }
 }
 
-/// The member `name` of an object that may be absent itself.
+/// The member `name` of an object that may be absent itself; `None` where the object or the member
+/// is absent, or the member is null.
 pub fn member_within<'a>(value: Option<&'a Value>, name: &str) -> Option<&'a Value>
     ensures { option_map (λ v. view v.now) result
         ≡ option_and_then (said.member_at name.now) (option_map (λ v. view v.now) value.entry) }
@@ -129,7 +135,8 @@ pub fn member_within<'a>(value: Option<&'a Value>, name: &str) -> Option<&'a Val
     }
 }
 
-/// The text `name` of an object that may be absent itself.
+/// The text `name` of an object that may be absent itself; `None` where the object or the member is
+/// absent, or the member is null. `wrong` where the member is no text.
 pub fn text_within<'a, E: Drop>(
     value: Option<&'a Value>,
     name: &str,
@@ -144,7 +151,8 @@ pub fn text_within<'a, E: Drop>(
     }
 }
 
-/// The object `name` of an object that may be absent itself.
+/// The object `name` of an object that may be absent itself; `None` where the outer object or the
+/// member is absent, or the member is null. `wrong` where the member is no object.
 pub fn object_within<'a, E: Drop>(
     value: Option<&'a Value>,
     name: &str,
@@ -159,7 +167,9 @@ pub fn object_within<'a, E: Drop>(
     }
 }
 
-/// The index `name` of an object that may be absent itself.
+/// The index `name` of an object that may be absent itself, a whole number from 0 to 2^32 - 1;
+/// `None` where the object or the member is absent, or the member is null or -1. `wrong` where the
+/// member is anything else.
 pub fn index_within<E: Drop>(value: Option<&Value>, name: &str, wrong: E) -> Result<Option<u32>, E>
     ensures { result
         ≡ said.if_there (said.index_at wrong name.now) (option_map (λ v. view v.now) value.entry) }
@@ -170,7 +180,8 @@ pub fn index_within<E: Drop>(value: Option<&Value>, name: &str, wrong: E) -> Res
     }
 }
 
-/// The first of these, which must be an object where there is one.
+/// The first of these values; `None` where there are none. `wrong` where it is no object, also
+/// where it is null.
 pub fn first_object<'a, E: Drop>(values: &'a [Value], wrong: E) -> Result<Option<&'a Value>, E>
     ensures { result_map (option_map (λ v. view v.now)) result
         ≡ said.if_object wrong (said.first_of (map view values.now)) }

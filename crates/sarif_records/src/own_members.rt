@@ -92,7 +92,7 @@ fn read_correlation_guid(result_value: &Value) -> Result<Option<u128>, Fault>
 /// 8. `BadIndex` for the indexes in `ruleIndex`, `rule` and `provenance`
 /// 9. `BadLocation` for the first of `locations`, then `BadIndex` for its artifact
 ///
-/// `OutOfMemory` may come in place of each of these but the first four.
+/// `OutOfMemory` may come in place of each of these but the first four, where memory is wanting.
 #[tactic(auto, unfolding(crate::specs::OwnMembers::parts_of))]
 pub fn read_members(alloc: Global, result_value: &Value) -> Result<Parts, Fault>
     ensures ok { IfOk result (λ parts. parts_of (seen result_value.now) ≡ Ok parts) }
@@ -127,7 +127,8 @@ pub fn read_members(alloc: Global, result_value: &Value) -> Result<Parts, Fault>
 }
 
 /// The own members of result `seq` of `run`, counted from 0 (SARIF 2.1.0, run object, "results
-/// property"), or its first fault, as [`read_members`] gives them.
+/// property"), or its first fault: the faults are those of [`read_members`], in the same order, and
+/// `OutOfMemory` where memory is wanting.
 pub fn read_parts(alloc: Global, run: &RawRun, seq: u32) -> Result<Parts, Fault>
     requires { seq < length (results_of (seen run.now)) }
     ensures ok { IfOk result (λ parts. parts_of (result_at (seen run.now) seq) ≡ Ok parts) }

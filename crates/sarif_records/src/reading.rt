@@ -76,9 +76,11 @@ pub(crate) fn check_external(run: &Value) -> Result<(), Fault>
 }
 
 /// Reads a log (SARIF 2.1.0, "sarifLog object"): the JSON after one leading byte order mark,
-/// stripped, with the form of the log and of its runs. Want of memory is `OutOfMemory`, without a
-/// run; each other refusal is the first fault of the bytes, `NotJson`, `NotLog`, `WrongVersion` or
-/// `TooMany` without a run, `BadRun`, `ExternalProperties` or `TooMany` with the run's number.
+/// stripped, with the form of the log and of its runs.
+///
+/// Want of memory is `OutOfMemory`, without a run; each other refusal is the first fault of the
+/// bytes: `NotJson`, `NotLog`, `WrongVersion` or `TooMany` without a run, `BadRun`,
+/// `ExternalProperties` or `TooMany` with the run's number, counted from 0.
 #[tactic(auto, using(crate::proofs::Utf8::read_steps), unfolding(crate::specs::Reading::log_of))]
 pub fn read_log(alloc: Global, bytes: &[u8]) -> Result<Log, ReadFault>
     ensures ok { IfOk result (λ log. said.log_of bytes.now ≡ Ok (map view log)) }

@@ -43,7 +43,8 @@ impl<T> Sequence<T> {
 }
 
 impl<T: Drop> Sequence<T> {
-    /// Puts `item` at the end. Where memory is wanting, the list stays as it was.
+    /// Puts `item` at the end. `AllocError` where memory is wanting; then the list is as it was,
+    /// and the item is let go.
     pub fn push(&mut self, item: T) -> Result<(), AllocError>
         ensures ok { OnOk result (self.new ≡ self.old ++ item ∷ []) }
         ensures err { OnErr result (self.new ≡ self.old) }

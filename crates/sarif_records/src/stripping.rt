@@ -9,6 +9,7 @@ use std::alloc::AllocError;
 
 /// A copy of `value` without each object member whose value is a number that isn't held as a whole
 /// number, or an array that holds such a number directly or within arrays only, at every depth.
+/// `AllocError` where memory for the copy is wanting.
 pub fn strip(value: &Value) -> Result<Value, AllocError>
     ensures { IfOk result (λ v. view v ≡ stripped (view value.now)) }
 {

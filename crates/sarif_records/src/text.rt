@@ -52,7 +52,7 @@ fn digest(text: &str) -> u64
 }
 
 impl Text {
-    /// A copy of `text`.
+    /// A copy of `text`. `AllocError` where memory for it is wanting.
     pub fn copy_of(alloc: Global, text: &str) -> Result<Text, AllocError>
         ensures { IfOk result (λ t. t ≡ text.now) }
     {
@@ -61,7 +61,8 @@ impl Text {
         Ok(Text { content, digest })
     }
 
-    /// The text that `text` is. Its bytes are neither copied nor looked at.
+    /// The text that `text` is. Its bytes are neither copied nor looked at. `AllocError` where
+    /// memory for it is wanting.
     pub fn from_string(text: String) -> Result<Text, AllocError>
         ensures { IfOk result (λ t. t ≡ string_bytes text) }
     {

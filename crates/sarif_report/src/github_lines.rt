@@ -99,7 +99,9 @@ fn push_line(alloc: Global, text: &mut String, finding: &Finding) -> Result<(), 
     Ok(())
 }
 
-/// One workflow command a result: `::COMMAND file=PATH,line=LINE,col=COLUMN,title=TITLE::MESSAGE`.
+/// The report for GitHub Actions, one workflow command a result:
+/// `::COMMAND file=PATH,line=LINE,col=COLUMN,title=TITLE::MESSAGE`. `AllocError` where memory for it
+/// is wanting.
 pub fn github_report(alloc: Global, findings: &[Finding]) -> Result<String, AllocError>
     ensures { IfOk result (λ s. string_bytes s ≡ said.github_of findings.now) }
 {

@@ -9,10 +9,10 @@ use crate::ranking::rank_all;
 use std::alloc::{AllocError, Global};
 use std::thread::Threads;
 
-/// One object a result, with a fingerprint that no other has: a result's tool, rule, path and message, and how many
-/// results with the same four stand before it. These are hashed, and the objects are made, in at most so many threads,
-/// this one among them.
-/// `AllocError` where memory is wanting.
+/// The report for GitLab's code quality widget, a JSON array. It has one object a result, with a fingerprint that no
+/// other has: it is hashed from the result's tool, rule, path and message, and how many results with the same four
+/// stand before it. The results are hashed, and the objects are made, in at most `threads` threads, this one among
+/// them. `AllocError` where memory is wanting.
 #[tactic(auto, using(crate::proofs::GitlabMore::whole_array))]
 pub fn gitlab_report<R: Threads + Sync>(
     rt: &R,

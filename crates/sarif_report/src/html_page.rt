@@ -305,7 +305,8 @@ fn push_results(alloc: Global, text: &mut String, findings: &[Finding]) -> Resul
     Ok(())
 }
 
-/// The verdict, the counts, and a table of the first 10,000 reported results.
+/// The page: the verdict, the counts, and a table of the first 10,000 reported results.
+/// `AllocError` where memory for it is wanting.
 #[tactic(auto, unfolding(crate::specs::HtmlReport::html_of))]
 pub fn html_report(
     alloc: Global,

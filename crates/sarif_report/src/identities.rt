@@ -95,7 +95,7 @@ fn halves(findings: &[Finding]) -> (&[Finding], &[Finding])
     findings.split_at(findings.len() / 2)
 }
 
-/// The identities of these results, made in at most so many threads, this one among them.
+/// The identities of these results, made in at most `threads` threads, this one among them.
 #[cycle(identities)]
 #[tactic(auto, using(crate::proofs::ByHalves::made_halves))]
 pub(crate) fn identities_of<R: Threads + Sync>(

@@ -207,7 +207,8 @@ fn push_results(alloc: Global, text: &mut String, findings: &[Finding]) -> Resul
     Ok(())
 }
 
-/// The verdict, the counts, and a table of the first 200 reported results.
+/// The report for job summaries and comments on a change: the verdict, the counts, and a table of
+/// the first 200 reported results. `AllocError` where memory for it is wanting.
 pub fn markdown_report(
     alloc: Global,
     counts: &Counts,

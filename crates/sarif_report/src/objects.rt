@@ -85,7 +85,8 @@ fn halves<'s, 'f>(ranked: &'s [Ranked<'f>]) -> (&'s [Ranked<'f>], &'s [Ranked<'f
     ranked.split_at(ranked.len() / 2)
 }
 
-/// The objects of these results behind a text, made in at most so many threads, this one among them.
+/// The objects of these results behind a text, made in at most `threads` threads, this one among
+/// them.
 #[cycle(objects)]
 pub(crate) fn objects_of<R: Threads + Sync>(
     rt: &R,

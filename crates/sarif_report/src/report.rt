@@ -46,12 +46,15 @@ impl Report {
 /// What reports are made of: the counts and the policy of the gate, and the results that are told of.
 #[derive(Clone, Copy, Drop)]
 pub struct Told<'a> {
+    /// How many results the merged log has, by baseline state, level and suppression.
     pub counts: &'a Counts,
+    /// The policy of the gate, by which the hits and the verdict are told.
     pub policy: &'a Policy,
+    /// The results that are told of, in the order of the merged log.
     pub findings: &'a [Finding],
 }
 
-/// The text of a report, made in at most so many threads, this one among them. `AllocError` where memory is wanting.
+/// The text of a report, made in at most `threads` threads, this one among them. `AllocError` where memory is wanting.
 pub fn report_text<R: Threads + Sync>(
     rt: &R,
     alloc: Global,

@@ -1,4 +1,4 @@
-//! What a report shows of a log's text: one line, no character that hides or steers, and at most so many.
+//! What a report shows of a log's text: one line, no character that hides or steers, and at most 1,000.
 ghost use Rattle.std.specs.Prelude.{◌≡◌, ℕ, List, ◌∷◌, ◌++◌, [], OnOk, IfOk, true, false, chars, string_bytes};
 ghost use Rattle.std.specs.Prelude.{encode_utf8_all, if◌then◌else◌, Bool};
 ghost use Rattle.std.specs.List.{list_all};
@@ -205,7 +205,8 @@ impl ShownText {
     }
 }
 
-/// What is shown of a text: one line of at most 1,000 characters, none of which hides or steers.
+/// What is shown of a text: one line of at most 1,000 characters, none of which hides or steers, and `…` behind them
+/// where there were more. `AllocError` where memory for it is wanting.
 pub fn shown(alloc: Global, text: &str) -> Result<String, AllocError>
     ensures { IfOk result (λ s. string_bytes s ≡ said.shown (chars text.now)) }
 {

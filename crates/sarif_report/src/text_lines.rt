@@ -55,7 +55,8 @@ fn push_line(alloc: Global, text: &mut String, finding: &Finding) -> Result<(), 
     Ok(())
 }
 
-/// One line a result: `PLACE: LEVEL: MESSAGE [RULE] (TOOL, STATE)`.
+/// The report for people, editors and problem matchers, one line a result:
+/// `PLACE: LEVEL: MESSAGE [RULE] (TOOL, STATE)`. `AllocError` where memory for it is wanting.
 pub fn text_report(alloc: Global, findings: &[Finding]) -> Result<String, AllocError>
     ensures { IfOk result (λ s. string_bytes s ≡ said.text_lines_of findings.now) }
 {

@@ -12,34 +12,49 @@ use std::alloc::{AllocError, Global};
 pub const VERSION: &str = "1.0.0";
 
 // The ids of the arguments.
+/// The id of the words that have no name before them: the logs to merge.
 pub const LOG: &str = "log";
 
+/// The id of `--baseline`: a log of known results.
 pub const BASELINE: &str = "baseline";
 
+/// The id of `--suppress`: the suppression file.
 pub const SUPPRESS: &str = "suppress";
 
+/// The id of `--today`: the day on which entries of the suppression file expire or not.
 pub const TODAY: &str = "today";
 
+/// The id of `--workers`: how many threads work, 1 to 64.
 pub const WORKERS: &str = "workers";
 
+/// The id of `--fail-on`: the least level that counts.
 pub const FAIL_ON: &str = "fail-on";
 
+/// The id of `--max`: how many hits still pass.
 pub const MAX: &str = "max";
 
+/// The id of `--out`: where the merged log is written.
 pub const OUT: &str = "out";
 
+/// The id of `--text`: where the report of lines is written.
 pub const TEXT: &str = "text";
 
+/// The id of `--github`: where the report for GitHub Actions is written.
 pub const GITHUB: &str = "github";
 
+/// The id of `--markdown`: where the report for job summaries and comments is written.
 pub const MARKDOWN: &str = "markdown";
 
+/// The id of `--gitlab`: where the report for GitLab's code quality widget is written.
 pub const GITLAB: &str = "gitlab";
 
+/// The id of `--html`: where the page is written.
 pub const HTML: &str = "html";
 
+/// The id of `--root`: what the paths of reports are shown without.
 pub const ROOT: &str = "root";
 
+/// The id of `--explain`: whether a fault is explained.
 pub const EXPLAIN: &str = "explain";
 
 const ABOUT: &str = "Merges SARIF 2.1.0 logs, compares their results with a baseline, and fails \
@@ -84,7 +99,8 @@ const ROOT_HELP: &str =
 
 static LEVELS: [&str; 4] = ["error", "warning", "note", "none"];
 
-/// The command without the program's name before its words.
+/// The command without the program's name before its words. `AllocError` where memory for it is
+/// wanting.
 pub fn command<'a>(alloc: Global) -> Result<Command<'a>, AllocError>
     ensures { IfOk result (λ c. IsProgram (app_of c)) }
 {

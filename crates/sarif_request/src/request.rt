@@ -32,6 +32,7 @@ pub struct Request {
 
 impl Request {
     /// To merge one log from standard input to standard output, with one worker, the default policy and no report.
+    /// `AllocError` where memory for it is wanting.
     pub fn of_standard_streams(alloc: Global, seed: RandomState) -> Result<Request, AllocError>
         ensures logs { IfOk result (λ request. request.logs.items ≡ codes "-" ∷ []) }
         ensures out { IfOk result (λ request. request.out ≡ codes "-") }

@@ -54,8 +54,10 @@ impl From<AllocError> for WordsFault {
     }
 }
 
-/// What the words after the program's name ask for. `Usage` where they are wrong, also where names among them can't
-/// stand together; `Help` where they ask for the help or the version. The tables of the merge hash with `seed`.
+/// What the words after the program's name ask for. The tables of the merge hash with `seed`.
+///
+/// `Usage` where the words are wrong, also where names among them can't stand together; `Help` where they ask for the
+/// help or the version; `OutOfMemory` where memory is wanting.
 pub fn read_words(alloc: Global, seed: RandomState, words: &[String]) -> Result<Request, WordsFault>
     ensures { Answers (map string_bytes words.now) result }
 {

@@ -24,7 +24,7 @@ pub struct Rule {
 #[derive(Drop)]
 pub struct Component {
     rules: Vec<Rule>,
-    // The first place of each id.
+    /// The first place of each id.
     first: IndexMap<String, usize, RandomState>,
 }
 
@@ -70,7 +70,7 @@ impl Component {
     }
 }
 
-// Puts the place at an id that has none yet.
+/// Puts the place at an id that has none yet.
 fn add_first(
     alloc: Global,
     table: &mut IndexMap<String, usize, RandomState>,
@@ -87,7 +87,7 @@ fn add_first(
     Ok(())
 }
 
-// The table of the first place of each id.
+/// The table of the first place of each id.
 fn first_places(
     alloc: Global,
     seed: RandomState,

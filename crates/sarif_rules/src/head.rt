@@ -64,7 +64,7 @@ impl RunHead {
         Ok(first_level(parts.kind, parts.level, overriding, default))
     }
 
-    // The level of the first override of the invocation that specifies the descriptor.
+    /// The level of the first override of the invocation that specifies the descriptor.
     fn overriding_level(
         &self,
         invocation: Option<u32>,
@@ -103,7 +103,7 @@ impl RunHead {
         }
     }
 
-    // The rule of a descriptor.
+    /// The rule of a descriptor.
     fn rule(&self, descriptor: Option<(usize, usize)>) -> Option<&Rule>
         ensures { option_copied result
             ≡ option_and_then (effective.rule_at self.now.components) descriptor }
@@ -116,7 +116,7 @@ impl RunHead {
             .get(place)
     }
 
-    // The default level of the descriptor's rule.
+    /// The default level of the descriptor's rule.
     fn default_level(&self, descriptor: Option<(usize, usize)>) -> Option<Level>
         ensures { result ≡ effective.default_level self.now.components descriptor }
     {
@@ -125,7 +125,8 @@ impl RunHead {
 
     /// The artifact of the result's first location (SARIF 2.1.0, "artifactLocation object").
     ///
-    /// `BadIndex` where there is no `uri` and the artifact is past its table; `OutOfMemory`.
+    /// `BadIndex` where there is no `uri` and the artifact is past its table; `OutOfMemory` where
+    /// memory is wanting.
     pub fn place(&self, parts: &Parts) -> Result<Place, Fault>
         ensures ok { IfOk result (λ place. place_of self.now.artifacts parts.now ≡ Ok place) }
         ensures err { IfErr result (λ fault. (fault ≡ OutOfMemory → ⊥)
@@ -162,7 +163,7 @@ impl RunHead {
         Ok(Place { uri, base })
     }
 
-    // The place `own`, with the texts of the artifact where they are the same.
+    /// The place `own`, with the texts of the artifact where they are the same.
     fn share_place(&self, own: Place, artifact: Option<u32>) -> Result<Place, AllocError>
         ensures { IfOk result (λ place. place ≡ own) }
     {
@@ -180,7 +181,7 @@ impl RunHead {
     }
 }
 
-// The first level that applies to a result of that kind.
+/// The first level that applies to a result of that kind.
 fn first_level(
     kind: Kind,
     own: Option<Level>,
@@ -200,14 +201,14 @@ fn first_level(
     }
 }
 
-// The text `own`, as `held` where that is the same text, so that it is held once.
+/// The text `own`, as `held` where that is the same text, so that it is held once.
 fn share(own: Text, held: &Text) -> Result<Text, AllocError>
     ensures { IfOk result (λ text. text ≡ own) }
 {
     if own == *held { held.clone() } else { Ok(own) }
 }
 
-// The same for a text that may be absent.
+/// The text `own`, where there is one, as `held` where that is there and is the same text.
 fn share_if_there(own: Option<Text>, held: &Option<Text>) -> Result<Option<Text>, AllocError>
     ensures { IfOk result (λ text. text ≡ own) }
 {
@@ -217,7 +218,7 @@ fn share_if_there(own: Option<Text>, held: &Option<Text>) -> Result<Option<Text>
     }
 }
 
-// A text, where there is one; it isn't copied.
+/// A text, where there is one; it isn't copied.
 fn copied(text: &Option<Text>) -> Result<Option<Text>, AllocError>
     ensures { IfOk result (λ copy. copy ≡ text.now) }
 {
@@ -252,7 +253,7 @@ pub(crate) fn find_descriptor(
     }
 }
 
-// The place of the rule with that index, else of the first with that id.
+/// The place of the rule with that index, else of the first with that id.
 fn find_rule(
     component: &Component,
     index: Option<u32>,

@@ -26,7 +26,7 @@ pub struct Override {
 #[derive(Drop)]
 pub struct Invocation {
     overrides: Vec<Override>,
-    // The first place of each descriptor.
+    /// The first place of each descriptor.
     first: IndexMap<(usize, usize), usize, RandomState>,
 }
 
@@ -69,7 +69,7 @@ impl Invocation {
     }
 }
 
-// Puts the place at a descriptor that has none yet.
+/// Puts the place at a descriptor that has none yet.
 fn add_first(
     table: &mut IndexMap<(usize, usize), usize, RandomState>,
     descriptor: (usize, usize),
@@ -84,7 +84,7 @@ fn add_first(
     Ok(())
 }
 
-// The table of the first place of each descriptor.
+/// The table of the first place of each descriptor.
 fn first_places(
     alloc: Global,
     seed: RandomState,

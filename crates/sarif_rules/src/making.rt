@@ -15,9 +15,9 @@ use std::alloc::{AllocError, Global};
 /// Makes the record of a result of a run with that head and that tool (SARIF 2.1.0, "result
 /// object").
 ///
-/// The faults are those of `read_members`, and then `BadIndex` where the component, the rule, the
-/// invocation or, with no `uri`, the artifact is past its table. `OutOfMemory` may come in place of
-/// any of them.
+/// The faults are those of [`read_members`](sarif_records::read_members), and then `BadIndex` where
+/// the component, the rule, the invocation or, with no `uri`, the artifact is past its table.
+/// `OutOfMemory` may come in place of any of them, where memory is wanting.
 #[tactic(auto, unfolding(crate::specs::Record::record_in))]
 pub fn make_record_of(
     alloc: Global,
@@ -35,8 +35,9 @@ pub fn make_record_of(
     finish_record(alloc, head, tool, parts)
 }
 
-/// Makes the record of result `seq` of a run, with the head that was opened from that run, as
-/// [`make_record_of`] does with the name of the run's driver.
+/// Makes the record of result `seq` of a run, counted from 0, with the head that was opened from
+/// that run and the name of the run's driver. The faults are those of [`make_record_of`], so also
+/// `BadIndex` and `OutOfMemory`.
 #[tactic(auto, unfolding(crate::specs::Record::record_of))]
 pub fn make_record(alloc: Global, head: &RunHead, run: &RawRun, seq: u32) -> Result<Record, Fault>
     requires opened { head_of (view run.now) ≡ Ok head.now }
@@ -50,7 +51,7 @@ pub fn make_record(alloc: Global, head: &RunHead, run: &RawRun, seq: u32) -> Res
 }
 
 /// The name of the run's driver (SARIF 2.1.0, toolComponent object, "name property"); where there
-/// is none, the empty text.
+/// is none, the empty text. `AllocError` where memory for it is wanting.
 pub fn copy_tool_name(alloc: Global, run: &Value) -> Result<Text, AllocError>
     ensures { IfOk result (λ name. name ≡ tool_name (view run.now)) }
 {
@@ -60,7 +61,7 @@ pub fn copy_tool_name(alloc: Global, run: &Value) -> Result<Text, AllocError>
     }
 }
 
-// The record of a result with these members of its own.
+/// The record of a result with these members of its own.
 #[tactic(auto, unfolding(crate::specs::Record::record_by))]
 fn finish_record(alloc: Global, head: &RunHead, tool: Text, parts: Parts) -> Result<Record, Fault>
     ensures { Gives result (record_by head.now tool parts) }

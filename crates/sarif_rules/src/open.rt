@@ -31,8 +31,8 @@ use std::hash::RandomState;
 /// - of the invocations `BadMember`, and then override by override `BadMember`, `BadIndex`,
 ///   `BadLevel`.
 ///
-/// `OutOfMemory` may come in place of any of them. The head's tables hash with `seed`, which no log can know; no
-/// answer depends on it.
+/// `OutOfMemory` may come in place of any of them, where memory is wanting. The head's tables hash
+/// with `seed`, which no log can know; no answer depends on it.
 #[tactic(auto, unfolding(crate::specs::Head::head_of))]
 pub fn open_value(alloc: Global, seed: RandomState, run: &Value) -> Result<RunHead, Fault>
     ensures ok { IfOk result (λ head. head_of (view run.now) ≡ Ok head) }
@@ -49,7 +49,8 @@ pub fn open_value(alloc: Global, seed: RandomState, run: &Value) -> Result<RunHe
     })
 }
 
-/// Reads the rules, overrides and artifacts of a run that was read, as [`open_value`] does.
+/// Reads the rules, overrides and artifacts of a run that was read. `BadRules`, `BadLevel`, `BadLocation`, `BadMember`,
+/// `BadIndex` and `OutOfMemory` come where [`open_value`] answers them; `seed` is as there.
 pub fn open_run(alloc: Global, seed: RandomState, run: &RawRun) -> Result<RunHead, Fault>
     ensures ok { IfOk result (λ head. head_of (view run.now) ≡ Ok head) }
     ensures err { IfErr result
@@ -88,7 +89,7 @@ fn read_driver(alloc: Global, seed: RandomState, driver: Option<&Value>) -> Resu
     }
 }
 
-// Puts the extensions behind the components so far.
+/// Puts the extensions behind the components so far.
 fn read_extensions(
     alloc: Global,
     seed: RandomState,
@@ -169,7 +170,7 @@ fn read_artifact(alloc: Global, artifact: &Value) -> Result<Place, Fault>
     Ok(Place { uri, base })
 }
 
-// A copy of a text, where there is one.
+/// A copy of a text, where there is one.
 fn copy_if_there(alloc: Global, text: Option<&str>) -> Result<Option<Text>, AllocError>
     ensures { IfOk result (λ copy. copy ≡ option_map (λ s. s.now) text.entry) }
 {
@@ -193,7 +194,7 @@ fn read_invocations(
     read_lists(alloc, seed, components, lists.as_slice())
 }
 
-// The overrides of each invocation, as they stand.
+/// The overrides of each invocation, as they stand.
 fn override_lists<'a>(alloc: Global, invocations: &'a [Value]) -> Result<Vec<&'a [Value]>, Fault>
     ensures ok { IfOk result (λ lists. override_lists (map view invocations.now)
         ≡ Ok (map (λ l. map view l.now) lists.items)) }

@@ -20,7 +20,7 @@ pub struct Counted<D> {
 }
 
 impl<D> Counted<D> {
-    /// Beside the number 0.
+    /// A reader or a writer none of whose calls failed yet.
     pub fn new(inner: D) -> Counted<D>
         ensures inner { inner_of result ≡ inner }
         ensures none { failed_calls result ≡ 0 }
@@ -28,14 +28,14 @@ impl<D> Counted<D> {
         Counted { inner, faults: 0 }
     }
 
-    /// What is counted.
+    /// The reader or the writer whose calls are counted.
     pub fn inner(&self) -> &D
         ensures { result.now ≡ inner_of self.now }
     {
         &self.inner
     }
 
-    /// How many calls failed.
+    /// How many of its calls failed.
     pub fn faults(&self) -> u64
         ensures { result ≡ failed_calls self.now }
     {

@@ -7,7 +7,9 @@ use crate::fault::Source;
 /// Whether a source is a log or a baseline.
 #[derive(Clone, Copy, Debug, PartialEq, Eq)]
 pub enum SourceKind {
+    /// A log that is merged.
     Log,
+    /// A log of known results, with which those of the merged logs are compared.
     Baseline,
 }
 

@@ -6,8 +6,8 @@ ghost use Rattle.sarif_sources.specs.Counted.{inner_of, failed_calls, RisesIf};
 use crate::counted::Counted;
 use std::io::Write;
 
-/// Writes all of `bytes`. A write that fails or takes nothing ends it: the number of bytes that
-/// were taken is answered, and these are so many of the first.
+/// Writes all of `bytes`. The first write that fails, or takes none of them, ends it. Then the
+/// error is the number of bytes that were taken, which are the first ones and never all.
 pub fn write_out<W: Write>(out: &mut Counted<W>, bytes: &[u8]) -> Result<(), u64>
     requires { failed_calls out.old < 2 ^ 63 }
     ensures ok { OnOk result (Appends (W.contents (inner_of out.old))

@@ -7,16 +7,22 @@ use thiserror::Error;
 /// What a merge reads: the logs, the baselines, and the suppression file, where there is one.
 #[derive(Debug, Drop)]
 pub struct Readers<R> {
+    /// A reader for each log, in order.
     pub logs: Vec<Counted<R>>,
+    /// A reader for each baseline, in order.
     pub baselines: Vec<Counted<R>>,
+    /// The reader of the suppression file, where there is one.
     pub suppressions: Option<Counted<R>>,
 }
 
 /// The bytes that the readers of a merge gave, each up to its end.
 #[derive(Debug, Drop)]
 pub struct SourceBytes {
+    /// The bytes of each log, in order.
     pub logs: Vec<Vec<u8>>,
+    /// The bytes of each baseline, in order.
     pub baselines: Vec<Vec<u8>>,
+    /// The bytes of the suppression file, where there is one.
     pub suppressions: Option<Vec<u8>>,
 }
 

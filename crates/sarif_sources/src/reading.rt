@@ -84,10 +84,11 @@ fn read_optional<R: Read>(
     }
 }
 
-/// Reads all sources to their ends: the logs, the baselines, the suppression file.
+/// Reads all sources to their ends, in this order: the logs, the baselines, the suppression file.
 ///
-/// The first source at which a read fails, or that is too long, ends it, as does want of memory: what stands
-/// before it was read, and what comes after it is untouched.
+/// The first source that can't be read ends it: `ReadFailed` where a read of it failed, `TooLong` where it has more
+/// than 67,108,864 bytes, each with the source; `OutOfMemory` where memory is wanting. What stands before it was read,
+/// and what comes after it is untouched.
 pub fn read_sources<R: Read>(
     alloc: Global,
     readers: &mut Readers<R>,

@@ -39,8 +39,10 @@ impl From<AllocError> for SourceFault {
     }
 }
 
-/// All bytes up to the read that gives none. It stops at the first read that fails, of whatever
-/// cause, and after one byte past the limit, so also where the reader has no end. What was read
+/// All bytes up to the read that gives none, at most 67,108,864.
+///
+/// `ReadFailed` at the first read that fails, of whatever cause; `TooLong` after one byte past the
+/// limit, so also where the reader has no end; `OutOfMemory` where memory is wanting. What was read
 /// stays read.
 pub fn read_source<R: Read>(alloc: Global, source: &mut Counted<R>) -> Result<Vec<u8>, SourceFault>
     requires { failed_calls source.old < 2 ^ 63 }

@@ -34,7 +34,8 @@ fn is_wanted(wanted: &Option<Text>, found: &Text) -> bool
     }
 }
 
-/// The same where a result may have no such text; then it isn't the one that is asked for.
+/// Whether there is a text `found` and it is the one that is asked for; where none is asked for
+/// that holds.
 fn is_there(wanted: &Option<Text>, found: &Option<Text>) -> bool
     ensures { result ≡ said.is_there wanted.now found.now }
 {

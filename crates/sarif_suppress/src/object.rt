@@ -61,7 +61,8 @@ fn holds_object(values: &[Value], entry: &Entry) -> bool
     false
 }
 
-/// The same for the entry of that number, if there is one.
+/// Puts the object of the entry of that number at the end, if there is such an entry, unless an
+/// equal one stands in the list already.
 fn add_object_at(
     alloc: Global,
     list: &mut Vec<Value>,
@@ -77,7 +78,8 @@ fn add_object_at(
     }
 }
 
-/// The same for the entries of these numbers, one by one.
+/// Puts the objects of the entries of these numbers at the end, one by one, each unless an equal
+/// one stands in the list already.
 fn add_objects(
     alloc: Global,
     list: &mut Vec<Value>,

@@ -113,7 +113,9 @@ fn read_value<S: BuildHasher + Copy>(
 }
 
 /// Reads a suppression file, an object with `version` and `suppressions`; `docs/formats.md`
-/// describes it. `today` is the day as the number yyyymmdd, if one is known: no clock is read.
+/// describes it. `today` is the day as the number yyyymmdd, if one is known: no clock is read. The
+/// tables have the seed of the standard hasher, which who writes a log may know: see
+/// [`read_rules_with`].
 ///
 /// The checks are made in this order, and the first that fails is answered: `NotJson`, `NotList`,
 /// `WrongVersion`, `TooMany`, and then for each entry in turn `BadEntry`, `EmptyMatch` and
@@ -131,8 +133,11 @@ pub fn read_rules(
     read_rules_with(alloc, hasher, bytes, today)
 }
 
-/// The same, by tables that hash with `hasher`, as a `RandomState`, whose seed no log can know. The
-/// answers are the same whatever it is.
+/// Reads a suppression file for the day `today`, as [`read_rules`] does. The tables of the entries
+/// hash with `hasher`: a `RandomState`, say, whose seed no log can know. The answers are the same
+/// whatever it is: also here the first of `NotJson`, `NotList`, `WrongVersion` and `TooMany`, and
+/// then of `BadEntry`, `EmptyMatch` and `NeedsToday` of each entry in turn, or `OutOfMemory` where
+/// memory is wanting.
 #[tactic(auto, unfolding(crate::specs::File::file_of))]
 pub fn read_rules_with<S: BuildHasher + Copy>(
     alloc: Global,

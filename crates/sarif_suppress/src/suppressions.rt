@@ -54,7 +54,8 @@ pub struct Applied {
 }
 
 impl<S: BuildHasher + Copy> Suppressions<S> {
-    /// No entries: what stands where there is no suppression file.
+    /// No entries: what stands where there is no suppression file. `AllocError` where memory for
+    /// the empty tables is wanting.
     pub fn none(alloc: Global, hasher: S, today: Option<u32>) -> Result<Suppressions<S>, AllocError>
         ensures { IfOk result (λ s. s ≡ record { entries = []; today = today }) }
     {
@@ -98,7 +99,7 @@ impl<S: BuildHasher + Copy> Suppressions<S> {
     }
 
     /// Which entries match the result, and whether it is then suppressed (SARIF 2.1.0, result
-    /// object, "suppressions property").
+    /// object, "suppressions property"). `AllocError` where memory is wanting.
     pub fn apply(&self, alloc: Global, record: &Record) -> Result<Applied, AllocError>
         ensures entries { IfOk result
             (λ applied. applied.entries ≡ matching_numbers self.now «record».now) }
@@ -124,6 +125,7 @@ impl<S: BuildHasher + Copy> Suppressions<S> {
 
     /// The object that is written for entry `n`, counted from 0: its `kind`, which is `external`,
     /// its `status`, and its `justification` where it has one (SARIF 2.1.0, suppression object).
+    /// `AllocError` where memory for it is wanting.
     pub fn object(&self, alloc: Global, n: u32) -> Result<Value, AllocError>
         requires { n < length self.now.entries }
         ensures { IfOk result
@@ -134,7 +136,7 @@ impl<S: BuildHasher + Copy> Suppressions<S> {
 
     /// What is written of a result to which the file was applied: its `own` suppressions as they
     /// stand, and then the objects of the entries that match, in file order, without each that
-    /// equals one that stands before it.
+    /// equals one that stands before it. `AllocError` where memory for the list is wanting.
     pub fn written(
         &self,
         alloc: Global,
@@ -150,7 +152,7 @@ impl<S: BuildHasher + Copy> Suppressions<S> {
         Ok(list)
     }
 
-    /// A mark for each entry, none of them set.
+    /// A mark for each entry, none of them set. `AllocError` where memory for them is wanting.
     #[tactic(auto, using(crate::proofs::Marked::unset))]
     pub fn marks(&self, alloc: Global) -> Result<Marks, AllocError>
         ensures { IfOk result (λ marks. marks ≡ marks_of self.now []) }

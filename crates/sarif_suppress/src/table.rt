@@ -206,7 +206,7 @@ fn numbers_with_guid<S: BuildHasher + Copy>(
     }
 }
 
-/// The same of a text that may be absent.
+/// The numbers of the entries that are filed under `text`; without one there are none.
 fn numbers_with_text<'a, S: BuildHasher + Copy>(
     table: &'a IndexMap<Text, Vec<u32>, S>,
     text: &Option<Text>,

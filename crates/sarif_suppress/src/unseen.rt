@@ -63,7 +63,8 @@ fn add_unseen<'a, S: BuildHasher + Copy>(
     Ok(())
 }
 
-/// The same for the entry of that number, if there is one.
+/// Puts the object of the entry of that number, if there is one, at the end of the list, and its
+/// key among the keys, unless it is one of them.
 fn add_unseen_at<'a, S: BuildHasher + Copy>(
     alloc: Global,
     keys: &mut IndexSet<Key<'a>, S>,

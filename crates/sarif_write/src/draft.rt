@@ -74,8 +74,9 @@ fn finish_draft(
     })
 }
 
-/// A result of a log, with its effective level, its own suppressions and those that the suppression
-/// file gives it.
+/// The draft of the result `found` of a log, which holds no number with a fraction: with its
+/// effective level, its own suppressions and those that the suppression file gives it. `AllocError`
+/// where memory for it is wanting.
 pub fn draft_current(
     alloc: Global,
     found: Value,
@@ -96,7 +97,8 @@ pub fn draft_current(
     Ok(draft)
 }
 
-/// A result of a baseline, with its effective level and its own suppressions.
+/// The draft of the result `found` of a baseline, which holds no number with a fraction: with its
+/// effective level and its own suppressions. `AllocError` where memory for it is wanting.
 pub fn draft_absent(alloc: Global, found: Value, record: &Record) -> Result<Draft, AllocError>
     requires whole { has_float (view found) ≡ false }
     ensures { IfOk result (λ draft. draft ≡ draft_by (λ _ own. own) unapplied

@@ -27,7 +27,8 @@ fn drop_member(members: &mut Map<String, Value>, name: &str)
     let _ = members.remove(name);
 }
 
-/// The parts of a run that was kept without its results, of which it has so many.
+/// The parts of a run that was kept without its results. `results` is how many it has, where it has
+/// an array of them.
 pub fn make_parts(alloc: Global, run: Value, results: Option<u32>) -> RunParts
     requires whole { has_float (view run) ≡ false }
     ensures members { members_view result.members.entries

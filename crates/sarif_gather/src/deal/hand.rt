@@ -5,7 +5,8 @@ ghost use Rattle.sarif_gather.specs.Claims.{hand_view};
 use crate::deal::rule::HandView;
 use atomic_table::Seat;
 
-/// It shows the runs that it drew, and whether it drew none.
+/// A hand of a deal, which draws runs. It shows the runs that it drew, and whether it found none
+/// left.
 #[derive(Drop)]
 pub struct Hand {
     pub(crate) seat: Seat<(), HandView>,

@@ -8,21 +8,28 @@ use std::collections::LinkedList;
 /// How many runs are dealt, and to how many hands.
 #[derive(Clone, Copy)]
 pub struct Terms {
+    /// How many runs are dealt.
     pub runs: u32,
+    /// To how many hands they are dealt.
     pub hands: u32,
 }
 
 /// What a hand knows. No value of it is made.
 pub struct HandView {
-    /// The terms of the deal.
+    /// How many runs are dealt.
     pub runs: u32,
+    /// To how many hands they are dealt.
     pub hands: u32,
-    /// How many hands it stands for, and how many of these found no run.
+    /// How many hands it stands for.
     pub parts: u32,
+    /// How many of these found no run.
     pub marks: u32,
+    /// The runs that these drew.
     pub drawn: LinkedList<u32>,
 }
 
+/// The rule that the word of a deal keeps with its hands: each run below the word is drawn once, by
+/// one hand.
 pub struct Dealing;
 
 impl TableRule<(), HandView, Terms> for Dealing {

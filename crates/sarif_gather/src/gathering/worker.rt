@@ -15,11 +15,14 @@ use crate::work::{Gate, Work};
 use std::alloc::{AllocError, Global};
 use std::sync::Wait;
 
-/// What a worker gives back. It is short where the worker found no memory for all of its work.
+/// What a worker gives back.
 #[derive(Drop)]
 pub struct Back<P> {
+    /// The post by which it sent.
     pub post: Post<P>,
+    /// The hand by which it drew.
     pub hand: Hand,
+    /// Whether it found no memory for all of its work.
     pub short: bool,
 }
 

@@ -24,6 +24,8 @@ pub enum View<P> {
     Gone,
 }
 
+/// The rule that the mailbox keeps with its ends: what each sender sent is what was taken of it,
+/// and then what stands in the mailbox of it.
 pub struct Delivery;
 
 impl<P> Protocol<(u32, P), View<P>> for Delivery {

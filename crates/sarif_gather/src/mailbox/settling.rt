@@ -16,12 +16,14 @@ use std::sync::Wait;
 /// What stood in the mailbox in the end, front first, each parcel with its sender.
 #[derive(Drop)]
 pub struct Settled<P> {
+    /// The parcels, each with the number of its sender.
     pub left: Vec<(u32, P)>,
 }
 
 impl<P: Drop> Mailbox<P> {
     /// Ends the mailbox: what was taken, and then what is left, is what each sender sent. Where
-    /// there is no memory for what is left, all comes back.
+    /// memory for what is left is wanting, the mailbox, the desk and the posts come back as they
+    /// were.
     pub fn settle<R: Wait>(
         self,
         rt: &R,
