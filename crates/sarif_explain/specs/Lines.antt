@@ -1,4 +1,5 @@
 -- The lines of an explanation.
+-- No clause of the program speaks of it.
 use Rattle.std.specs.Prelude.{ℕ, zero, suc, List, [], ◌∷◌, ◌++◌, codes, chars, encode_utf8}
 use Rattle.sarif_report.specs.Shown.{shown}
 

@@ -1,4 +1,4 @@
--- Pairs that can be put in one after another.
+-- Pairs that can be put in one after another. No public clause of the merge speaks of it.
 use Rattle.std.specs.Prelude.{◌≡◌, ℕ, ◌<◌, List, [], ◌∷◌, Option, Some, false, length, slice_set}
 use Rattle.sarif_match.specs.Partners.{has_partner}
 

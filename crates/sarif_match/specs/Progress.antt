@@ -1,4 +1,4 @@
--- What the marks of an unfinished matching say.
+-- What the marks of an unfinished matching say. No public clause of the merge speaks of it.
 use Rattle.std.specs.Prelude.{◌≡◌, ℕ, false, length, slice_index_or}
 use Rattle.sarif_match.specs.declared.progress.Progress.{Progress}
 use Rattle.sarif_match.specs.Partners.{has_partner, is_taken}

@@ -1,4 +1,4 @@
--- What the index of a side says.
+-- What the index of a side says. No public clause of the merge speaks of it.
 use Rattle.std.specs.Prelude.{◌≡◌, ◌<◌, ◌^◌, ℕ, List, length}
 use Rattle.sarif_match.specs.declared.side.Side.{Side}
 use Rattle.sarif_match.specs.declared.tier.Tier.TheVariants.{Fingerprint}

@@ -1,4 +1,4 @@
--- The refusals where memory or a thread was wanting.
+-- The refusals where memory or a thread was wanting. No public clause of the merge speaks of it.
 use Rattle.sarif_gather.specs.declared.gathering.GatherFault.{GatherFault}
 use Rattle.sarif_gather.specs.declared.gathering.GatherFault.TheVariants.{NoWorker, OutOfMemory}
 use Rattle.sarif_sources.specs.declared.fault.MergeFault.{MergeFault}

@@ -74,10 +74,7 @@ fn prepare_read<G: Gate + Sync, R: Threads + Wait + Sync>(
 fn slice_of(bytes: &Option<Vec<u8>>) -> Option<&[u8]>
     ensures { option_map (λ b. b.now) result ≡ option_map (λ v. v.items) bytes.now }
 {
-    match bytes {
-        Some(bytes) => Some(bytes.as_slice()),
-        None => None,
-    }
+    bytes.as_ref().map(Vec::as_slice)
 }
 
 /// So many scratches, in which sources are indexed.

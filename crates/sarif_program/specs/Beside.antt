@@ -1,4 +1,5 @@
 -- The texts of reports that are made one after another, beside that for GitLab.
+-- No public clause of the merge speaks of it.
 use Rattle.std.specs.Prelude.{◌≡◌, ℕ, List}
 use Rattle.sarif_report.specs.declared.report.Report.{Report}
 use Rattle.sarif_report.specs.declared.report.Report.TheVariants as report

@@ -132,10 +132,7 @@ fn list_runs<'t, 'a>(alloc: Global, log: &Node<'t, 'a>) -> Result<Vec<Node<'t, '
     if is_null(&found) {
         return Ok(Vec::new(alloc));
     }
-    match elements_of(alloc, &found)? {
-        Some(nodes) => Ok(nodes),
-        None => Err(Fault::NotLog),
-    }
+    elements_of(alloc, &found)?.ok_or(Fault::NotLog)
 }
 
 /// The `version` is the text `2.1.0`: else `WrongVersion`.

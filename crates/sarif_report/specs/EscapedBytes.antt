@@ -1,4 +1,5 @@
 -- Texts written in another way, byte by byte: only ASCII characters are.
+-- No clause of the program speaks of it.
 use Rattle.std.specs.Prelude.{ℕ, Bool, ◌||◌, List, [], ◌∷◌, ◌==◌, if◌then◌else◌}
 use Rattle.sarif_report.specs.declared.escaping.Escaping.{Escaping}
 use Rattle.sarif_report.specs.declared.escaping.Escaping.TheVariants.{Message, Property, Markdown, Page}

@@ -1,4 +1,5 @@
 -- A text that is being shown, character by character.
+-- No clause of the program speaks of it.
 use Rattle.std.specs.Prelude.{◌≡◌, ℕ, Bool, not, ◌&&◌, ◌==◌, List, [], ◌∷◌, ◌++◌, map, if◌then◌else◌, encode_utf8_all, string_bytes}
 use Rattle.sarif_report.specs.declared.shown_text.ShownText.{ShownText}
 use Rattle.sarif_report.specs.Shown.{is_between, kept, parted, parted_signs, plain}

@@ -11,7 +11,7 @@ use crate::html_fixed::{
     style, table_end, title_end,
 };
 use sarif_counts::{Counts, Policy, Verdict, hits, verdict};
-use sarif_records::State;
+use sarif_records::{State, Text};
 use std::alloc::{AllocError, Global};
 
 /// How many results stand in the table.
@@ -233,10 +233,7 @@ fn is_same_file(above: Option<&str>, path: Option<&str>) -> bool
 fn path_of(finding: &Finding) -> Option<&str>
     ensures { option_map (λ s. s.now) result ≡ finding.now.path }
 {
-    match &finding.path {
-        Some(path) => Some(path.as_str()),
-        None => None,
-    }
+    finding.path.as_ref().map(Text::as_str)
 }
 
 fn push_rows(alloc: Global, text: &mut String, findings: &[Finding]) -> Result<(), AllocError>

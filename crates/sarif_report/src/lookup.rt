@@ -116,10 +116,7 @@ pub(crate) fn rule_id<'a>(subject: &Subject<'a>) -> &'a str
 {
     match own_rule_id(subject.found) {
         Some(id) => id,
-        None => match descriptor_id(subject) {
-            Some(id) => id,
-            None => "",
-        },
+        None => descriptor_id(subject).unwrap_or(""),
     }
 }
 

@@ -92,10 +92,7 @@ fn message_text<'a>(subject: &Subject<'a>) -> &'a str
     ensures { result.now
         ≡ said.message_text (view subject.now.run.now) (view subject.now.found.now) }
 {
-    match found_text(subject) {
-        Some(text) => text,
-        None => "",
-    }
+    found_text(subject).unwrap_or("")
 }
 
 /// The arguments of a result's message.

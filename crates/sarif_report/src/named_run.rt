@@ -60,10 +60,7 @@ impl<'r> Model for NamedRun<'r> {
 fn tool_name(run: &Value) -> &str
     ensures { result.now ≡ tool_in (view run.now) }
 {
-    match driver_name(run) {
-        Some(name) => name,
-        None => "",
-    }
+    driver_name(run).unwrap_or("")
 }
 
 fn driver_rules<'r>(run: &'r Value) -> &'r [Value]

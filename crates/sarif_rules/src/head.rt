@@ -29,10 +29,7 @@ impl RunHead {
     pub fn descriptor(&self, parts: &Parts) -> Result<Option<(usize, usize)>, Fault>
         ensures { result ≡ descriptor_of self.now.components (reference_of parts.now) }
     {
-        let id = match &parts.rule_id {
-            Some(id) => Some(id.as_str()),
-            None => None,
-        };
+        let id = parts.rule_id.as_ref().map(Text::as_str);
         find_descriptor(
             self.components.as_slice(),
             parts.component,
@@ -191,12 +188,7 @@ fn first_level(
     ensures { result ≡ effective.first_level (effective.is_fail kind) own overriding default }
 {
     match kind {
-        Kind::Fail => match (own, overriding, default) {
-            (Some(level), _, _) => level,
-            (None, Some(level), _) => level,
-            (None, None, Some(level)) => level,
-            (None, None, None) => Level::Warning,
-        },
+        Kind::Fail => own.or(overriding).or(default).unwrap_or(Level::Warning),
         _ => Level::NoLevel,
     }
 }

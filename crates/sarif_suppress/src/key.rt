@@ -7,7 +7,7 @@ ghost use Rattle.sarif_suppress.specs.Written as said;
 ghost use Rattle.sarif_suppress.specs.declared.key.Key.{Key};
 
 use crate::entry::Entry;
-use sarif_records::Status;
+use sarif_records::{Status, Text};
 use serde_json::{Map, Value};
 
 /// The status and the justification of an entry. Objects of entries are equal just where these are.
@@ -22,13 +22,9 @@ pub(crate) fn key_of(entry: &Entry) -> Key<'_>
     ensures status { result.status ≡ entry.now.status }
     ensures justification { justification_of result ≡ entry.now.justification }
 {
-    let justification = match &entry.justification {
-        Some(text) => Some(text.as_str()),
-        None => None,
-    };
     Key {
         status: entry.status,
-        justification,
+        justification: entry.justification.as_ref().map(Text::as_str),
     }
 }
 

@@ -14,6 +14,9 @@ use sarif_records::Text;
 use std::alloc::{AllocError, Global};
 use std::hash::BuildHasher;
 
+/// Hashes are numbers below it; it is prime, the largest below 2^32.
+const MODULUS: u64 = 4_294_967_291;
+
 /// The numbers of the entries, rising, by the hash of the prefix that each is filed under.
 #[derive(Drop)]
 pub(crate) struct PrefixTable<S: BuildHasher + Copy> {
@@ -35,7 +38,7 @@ impl<S: BuildHasher + Copy> PrefixTable<S> {
         requires { length entries.now ≤ 10000 }
         ensures { IfOk result (said.IsPrefixTable entries.now) }
     {
-        let base = (hasher.hash_one(0u64) % 4_294_967_291) as u32;
+        let base = (hasher.hash_one(0u64) % MODULUS) as u32;
         Ok(PrefixTable {
             base,
             lengths: lengths_of(alloc, entries)?,
@@ -95,7 +98,7 @@ fn next_hash(base: u32, hash: u32, byte: u8) -> u32
     ensures { result ≡ said.next_hash base hash byte }
 {
     let product = u64::from(base) * u64::from(hash);
-    ((product + u64::from(byte) + 1) % 4_294_967_291) as u32
+    ((product + u64::from(byte) + 1) % MODULUS) as u32
 }
 
 /// The hash of a text.

@@ -172,10 +172,7 @@ fn status_at(entry: &Value, name: &str, wrong: SuppressFault) -> Result<Status, 
 {
     match text_at(entry, name, wrong)? {
         None => Ok(Status::Accepted),
-        Some(text) => match Status::from_name(text) {
-            Some(status) => Ok(status),
-            None => Err(wrong),
-        },
+        Some(text) => Status::from_name(text).ok_or(wrong),
     }
 }
 

@@ -27,10 +27,7 @@ pub(super) struct MessageAndRule {
 fn read_text(value: &Value) -> Result<&str, Fault>
     ensures { result_map (λ text. text.now) result ≡ text_of (seen value.now) }
 {
-    match value.as_str() {
-        Some(text) => Ok(text),
-        None => Err(Fault::BadMember),
-    }
+    value.as_str().ok_or(Fault::BadMember)
 }
 
 /// The texts that these values are, in order.

@@ -30,10 +30,10 @@ fn read_status(suppression: &Value) -> Result<Status, Fault>
     check_kind(suppression)?;
     match member_at(suppression, "status") {
         None => Ok(Status::Accepted),
-        Some(member) => match member.as_str().and_then(Status::from_name) {
-            Some(status) => Ok(status),
-            None => Err(Fault::BadSuppression),
-        },
+        Some(member) => {
+            let status = member.as_str().and_then(Status::from_name);
+            status.ok_or(Fault::BadSuppression)
+        }
     }
 }
 
