@@ -29,10 +29,8 @@ today_rule =
 
 abbrev pub fail_on_rule : Bor (List (Bor Text)) → Rule
 fail_on_rule levels =
-    record (option_rule (codes "fail-on")) {
-      parser = Some (Names levels);
-      defaults = codes "error" ∷ []
-    }
+    record (option_rule (codes "fail-on"))
+    { parser = Some (Names levels); defaults = codes "error" ∷ [] }
 
 abbrev pub max_rule : Rule
 max_rule = record (option_rule (codes "max")) {
