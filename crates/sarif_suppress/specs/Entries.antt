@@ -143,8 +143,7 @@ members_of wrong d = do
   expires ← day_at wrong (codes "expires") d
   status ← status_at wrong (codes "status") d
   justification ← text_at wrong (codes "justification") d
-  Ok (record
-      { conditions = conditions; expires = expires; status = status; justification = justification })
+  Ok (record { conditions = conditions; expires = expires; status = status; justification = justification })
 
 -- an entry names at least one condition
 abbrev pub check_condition : ℕ → Entry → Result ⊤ SuppressFault
