@@ -52,5 +52,5 @@ pub record AreNewHands (runs hands : ℕ) (deal : Deal) (all : List Hand) : Type
 abbrev pub joined : HandView → List Hand → HandView
 joined v [] = v
 joined v (h ∷ hs) =
-    joined (hand_view v.runs v.hands (v.parts + h.seat.me.0.parts) (v.marks + h.seat.me.0.marks)
-    (v.drawn ++ drawn_by h)) hs
+    joined (hand_view v.runs v.hands
+    (v.parts + h.seat.me.0.parts) (v.marks + h.seat.me.0.marks) (v.drawn ++ drawn_by h)) hs
