@@ -16,4 +16,7 @@ data_of ts = unwrap_or (option_and_then (λ p. of_json p.0) (value max_depth ts)
 
 -- the tokens begin with a value that is read, nested at most 127 deep
 abbrev pub IsReadable : List Token → Type 0
-IsReadable ts = (j : Json) × (rest : List Token) × (d : Data) × (value max_depth ts ≡ Some (j, rest)) × (of_json j ≡ Some d)
+IsReadable ts =
+    (j : Json) × (rest : List Token) × (d : Data)
+    × (value max_depth ts ≡ Some (j, rest))
+    × (of_json j ≡ Some d)

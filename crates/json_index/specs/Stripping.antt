@@ -33,4 +33,5 @@ abbrev mutual
 
   pub stripped_members : Members → Members
   stripped_members no_members = no_members
-  stripped_members (member k d ms) = if is_fractional d then stripped_members ms else member k (stripped d) (stripped_members ms)
+  stripped_members (member k d ms) =
+      if is_fractional d then stripped_members ms else member k (stripped d) (stripped_members ms)

@@ -23,12 +23,14 @@ begins_at name (member k d ms) = match_ordering (slice_cmp nat_cmp name k) false
 abbrev pub texts_before : List ℕ → Members → List ℕ
 texts_before name no_members = []
 texts_before name (member k d ms) =
-    match_ordering (slice_cmp nat_cmp name k) [] [] (name_text k ++ (compact_text d ++ (44 ∷ texts_before name ms)))
+    match_ordering (slice_cmp nat_cmp name k) [] []
+    (name_text k ++ (compact_text d ++ (44 ∷ texts_before name ms)))
 
 -- the members whose names are above this one
 abbrev pub members_after : List ℕ → Members → Members
 members_after name no_members = no_members
-members_after name (member k d ms) = match_ordering (slice_cmp nat_cmp name k) (member k d ms) ms (members_after name ms)
+members_after name (member k d ms) =
+    match_ordering (slice_cmp nat_cmp name k) (member k d ms) ms (members_after name ms)
 
 -- an object's text before the value of the member of that name, and after it
 pub record Surrounding : Type 0 where

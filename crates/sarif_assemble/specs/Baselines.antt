@@ -35,7 +35,8 @@ with_spot Skipped spot spots = spots
 abbrev pub spots_with_record : List Item → List Spot → List Spot
 spots_with_record [] spots = []
 spots_with_record (item ∷ items) [] = []
-spots_with_record (item ∷ items) (spot ∷ spots) = with_spot item spot (spots_with_record items spots)
+spots_with_record (item ∷ items) (spot ∷ spots) =
+    with_spot item spot (spots_with_record items spots)
 
 -- these runs of baselines, with a record and a place of each result that isn't absent already
 pub record AreBaselines (runs : List Placed) (baselines : Baselines) : Type 0 where
@@ -49,7 +50,8 @@ pub record AreBaselines (runs : List Placed) (baselines : Baselines) : Type 0 wh
 
 -- the drafts of all results that aren't absent already
 abbrev pub baseline_drafts : List Placed → List Draft
-baseline_drafts runs = drafts_by (λ _ own. own) unapplied (records_of runs) (present_results (run_values runs))
+baseline_drafts runs =
+    drafts_by (λ _ own. own) unapplied (records_of runs) (present_results (run_values runs))
 
 -- how many aren't taken
 abbrev pub left_count : List Bool → ℕ
@@ -62,7 +64,8 @@ AreLeftParts [] taken (run ∷ runs) = ⊥
 AreLeftParts (parts ∷ more) taken [] = ⊥
 AreLeftParts (parts ∷ more) taken (run ∷ runs) =
     let n = length (present (results_of run)) in
-    (members_view parts.members.entries ≡ bare (members_in run)) × (parts.results ≡ Some (left_count (take n taken)))
+    (members_view parts.members.entries ≡ bare (members_in run))
+    × (parts.results ≡ Some (left_count (take n taken)))
     × AreLeftParts more (drop n taken) runs
 
 -- what is left of these runs of baselines

@@ -8,7 +8,10 @@ use Rattle.sarif_counts.specs.declared.counts.Counts.{Counts}
 use Rattle.sarif_report.specs.declared.finding.Finding.{Finding}
 
 -- a call of this function at these counts and at what reports tell may give this
-abbrev pub IsMadeBy : {F R : Type 0} → Once F (Bor Counts × (Bor (Vec Finding Global) × Unit {0})) R → F → Counts → Vec Finding Global → R → Type 0
+abbrev pub IsMadeBy : {F R : Type 0}
+    → Once F (Bor Counts × (Bor (Vec Finding Global) × Unit {0})) R
+    → F → Counts → Vec Finding Global → R → Type 0
 IsMadeBy call tell counts findings made =
-    (counted : Bor Counts) × (found : Bor (Vec Finding Global)) × FnOnceReturns call tell (counted, (found, tt)) made
+    (counted : Bor Counts) × (found : Bor (Vec Finding Global))
+    × FnOnceReturns call tell (counted, (found, tt)) made
     × (counted.now ≡ counts) × (found.now ≡ findings)

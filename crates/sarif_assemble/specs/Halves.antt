@@ -25,4 +25,6 @@ drafts_in (outcome ∷ outcomes) = with_draft outcome.draft (drafts_in outcomes)
 pub record IsCurrent (file : File) (runs : List Placed) (half : Half) : Type 0 where
   pub opened : map placed_of half.runs.items ≡ runs
   pub records : half.records.items ≡ records_of runs
-  pub drafts : half.drafts.items ≡ drafts_by (listing_of file) (applied_of file) (records_of runs) (flat_map results_of (run_values runs))
+  pub drafts : half.drafts.items
+      ≡ drafts_by (listing_of file) (applied_of file) (records_of runs)
+      (flat_map results_of (run_values runs))

@@ -28,7 +28,8 @@ partner_in bs partner = option_and_then (slice_get bs) partner
 abbrev pub states_from : List Record → List (Option ℕ) → ℕ → List Record → List State
 states_from bs partners n [] = []
 states_from bs partners n (r ∷ rs) =
-    state_of r (partner_in bs (slice_index_or partners n None)) ∷ states_from bs partners (n + 1) rs
+    state_of r (partner_in bs (slice_index_or partners n None))
+    ∷ states_from bs partners (n + 1) rs
 
 -- the baseline state of each current result, by its partner in the baseline
 abbrev pub states_of : List Record → List Record → List State
@@ -47,15 +48,18 @@ listing_of file r own = suppressions_of own file r
 -- the input runs, each result with its level, its state and its suppressions
 abbrev pub current_runs : File → List Placed → List Placed → List Data
 current_runs file current baseline =
-    merged_runs (listing_of file) (records_of current) (states_of (records_of current) (records_of baseline)) (run_values current)
+    merged_runs (listing_of file) (records_of current)
+    (states_of (records_of current) (records_of baseline)) (run_values current)
 
 -- the baseline runs with a result that is nobody's partner, with just these
 abbrev pub leftover_runs : List Placed → List Placed → List Data
 leftover_runs current baseline =
-    absent_runs (records_of baseline) (taken_of (records_of current) (records_of baseline)) (run_values baseline)
+    absent_runs (records_of baseline)
+    (taken_of (records_of current) (records_of baseline)) (run_values baseline)
 
 abbrev pub runs_by : File → List Placed → List Placed → List Data
-runs_by file current baseline = current_runs file current baseline ++ leftover_runs current baseline
+runs_by file current baseline =
+    current_runs file current baseline ++ leftover_runs current baseline
 
 -- how many of the runs have no results
 abbrev pub runs_without_results : List Data → ℕ
@@ -68,4 +72,5 @@ log_by runs policy without unused = log_with (gate_of (count_of runs) policy wit
 -- the log of these input runs, baseline runs and suppression file
 abbrev pub merged_by : File → List Placed → List Placed → Policy → Data
 merged_by file current baseline policy =
-    log_by (runs_by file current baseline) policy (runs_without_results (run_values current)) (unused_of file (records_of current))
+    log_by (runs_by file current baseline) policy
+    (runs_without_results (run_values current)) (unused_of file (records_of current))

@@ -11,7 +11,8 @@ use Rattle.sarif_assemble.specs.Told.{told_of}
 use Rattle.sarif_assemble.specs.Written.{AreWritten}
 
 -- all that is written of the merge of these input runs, these baseline runs and this suppression file, and what is told
-pub record IsPrepared (file : File) (current baseline : List Placed) (asked : Option Reporting) (prepared : Prepared) : Type 0 where
+pub record IsPrepared (file : File) (current baseline : List Placed) (asked : Option Reporting)
+    (prepared : Prepared) : Type 0 where
   pub written : AreWritten prepared.current prepared.baseline (runs_by file current baseline)
   pub without : prepared.without ≡ runs_without_results (run_values current)
   pub unused : prepared.unused ≡ unused_of file (records_of current)

@@ -22,15 +22,18 @@ use Rattle.sarif_assemble.specs.declared.told.ToldRun.{ToldRun}
 abbrev pub told_as : Reporting → Data → Data → Draft → Option State → Option Finding
 told_as reporting run result draft None = None
 told_as reporting run result draft (Some state) =
-    if is_listed reporting.policy.states state && not draft.suppressed then Some (finding_of reporting run result draft.level state) else None
+    if is_listed reporting.policy.states state && not draft.suppressed
+    then Some (finding_of reporting run result draft.level state) else None
 
 -- the same of results, each with its run
-abbrev pub told_each : Reporting → List (Data × Data) → List Draft → List (Option State) → List Finding
+abbrev pub told_each : Reporting → List (Data × Data) → List Draft → List (Option State)
+    → List Finding
 told_each reporting [] drafts states = []
 told_each reporting (found ∷ more) [] states = []
 told_each reporting (found ∷ more) (draft ∷ drafts) [] = []
 told_each reporting (found ∷ more) (draft ∷ drafts) (state ∷ states) =
-    cons_option (told_as reporting found.0 found.1 draft state) (told_each reporting more drafts states)
+    cons_option (told_as reporting found.0 found.1 draft state)
+    (told_each reporting more drafts states)
 
 -- results of a run, each with it
 abbrev pub with_run : Data → List Data → List (Data × Data)
@@ -55,4 +58,5 @@ placed_told run = placed_of run.opened.now
 -- what is told of one that is reported
 abbrev pub told_by : Reporting → Told → Finding
 told_by reporting told =
-    finding_of reporting (placed_told told.run.now).run (result_at (placed_told told.run.now).run told.seq) told.level told.state
+    finding_of reporting (placed_told told.run.now).run
+    (result_at (placed_told told.run.now).run told.seq) told.level told.state

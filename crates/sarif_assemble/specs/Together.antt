@@ -1,5 +1,5 @@
--- The runs of all logs and those of all baselines, with a record of each result that is matched. No public clause of the
--- merge speaks of it.
+-- The runs of all logs and those of all baselines, with a record of each result that is matched. No public clause of
+-- the merge speaks of it.
 use Rattle.std.specs.Prelude.{◌≡◌, ◌≤◌, List, Some, length, map}
 use Rattle.std.specs.List.{AllByRecursion}
 use Rattle.sarif_records.specs.Run.{results_total}
@@ -16,7 +16,8 @@ use Rattle.sarif_assemble.specs.Halves.{IsCurrent}
 use Rattle.sarif_assemble.specs.LogBy.{states_of, taken_of}
 
 -- a record of each result of the logs, and of each that is there of the baselines
-pub record AreTogether (file : File) (now before : List Placed) (current : Half) (baselines : Baselines) : Type 0 where
+pub record AreTogether (file : File) (now before : List Placed) (current : Half)
+    (baselines : Baselines) : Type 0 where
   pub is_current : IsCurrent file now current
   pub are_baselines : AreBaselines before baselines
   pub now_runs : AllByRecursion IsRun (run_values now)
@@ -28,6 +29,8 @@ pub record AreTogether (file : File) (now before : List Placed) (current : Half)
 
 -- the state of each current result, which baseline results are taken, and the drafts of the others
 pub record IsPaired (current : Half) (baselines : Baselines) (paired : Paired) : Type 0 where
-  pub states : paired.states.items ≡ map Some (states_of current.records.items baselines.records.items)
+  pub states : paired.states.items
+      ≡ map Some (states_of current.records.items baselines.records.items)
   pub taken : paired.taken.items ≡ taken_of current.records.items baselines.records.items
-  pub left : (before : List Placed) → AreBaselines before baselines → paired.left.items ≡ not_taken paired.taken.items (baseline_drafts before)
+  pub left : (before : List Placed) → AreBaselines before baselines
+      → paired.left.items ≡ not_taken paired.taken.items (baseline_drafts before)

@@ -23,12 +23,14 @@ tally_at counts Absent = counts.absent
 
 -- the counts that are held
 abbrev pub count_at : Counts → Count
-count_at counts state level suppressed = at_level (at_side (tally_at counts state) suppressed) level
+count_at counts state level suppressed =
+    at_level (at_side (tally_at counts state) suppressed) level
 
 -- how many results were counted
 abbrev pub total_of : Counts → ℕ
 total_of counts =
-    tally_total counts.absent + tally_total counts.fresh + tally_total counts.unchanged + tally_total counts.updated
+    tally_total counts.absent + tally_total counts.fresh
+    + tally_total counts.unchanged + tally_total counts.updated
 
 abbrev pub HoldsNothing : Counts → Type 0
 HoldsNothing counts = (s : State) (l : Level) (b : Bool) → count_at counts s l b ≡ 0
@@ -37,4 +39,5 @@ HoldsNothing counts = (s : State) (l : Level) (b : Bool) → count_at counts s l
 abbrev pub AddsOne : Counts → Counts → State → Level → Bool → Type 0
 AddsOne old new state level suppressed = (s : State) (l : Level) (b : Bool) →
     count_at new s l b
-    ≡ count_at old s l b + count_if (same_state s state && (same_level l level && same_side b suppressed)) 1
+    ≡ count_at old s l b
+    + count_if (same_state s state && (same_level l level && same_side b suppressed)) 1

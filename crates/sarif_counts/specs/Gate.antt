@@ -42,7 +42,8 @@ if_listed states state = if is_listed states state then string (state_name state
 
 abbrev pub listed_names : States → List Data
 listed_names states =
-    if_listed states Absent ++ if_listed states New ++ if_listed states Unchanged ++ if_listed states Updated
+    if_listed states Absent ++ if_listed states New
+    ++ if_listed states Unchanged ++ if_listed states Updated
 
 -- the gate over these counts, this policy, so many runs without results and so many unused suppressions
 abbrev pub gate_of : Count → Policy → ℕ → ℕ → Data

@@ -53,12 +53,14 @@ severe_of active least =
 -- the active results of one state that count
 abbrev pub hits_at : Count → Policy → State → ℕ
 hits_at count policy state =
-    count_if (is_listed policy.states state) (severe_of (λ level. count state level false) policy.fail_on)
+    count_if (is_listed policy.states state)
+    (severe_of (λ level. count state level false) policy.fail_on)
 
 -- the active results of a listed state whose level is at least that of the policy
 abbrev pub hits_of : Count → Policy → ℕ
 hits_of count policy =
-    hits_at count policy New + hits_at count policy Unchanged + hits_at count policy Updated + hits_at count policy Absent
+    hits_at count policy New + hits_at count policy Unchanged
+    + hits_at count policy Updated + hits_at count policy Absent
 
 -- fail where there are more hits than the policy lets pass
 abbrev pub verdict_of : Count → Policy → Verdict

@@ -31,7 +31,8 @@ number_column n = right_in 11 (decimal n)
 
 -- all suppressed results of a state, of whatever level
 abbrev pub suppressed_of : (Level → Bool → ℕ) → ℕ
-suppressed_of numbers = numbers Error true + numbers Warning true + numbers Note true + numbers NoLevel true
+suppressed_of numbers =
+    numbers Error true + numbers Warning true + numbers Note true + numbers NoLevel true
 
 -- a state's active results by falling level, and its suppressed ones
 abbrev pub row_of : List ℕ → (Level → Bool → ℕ) → List ℕ

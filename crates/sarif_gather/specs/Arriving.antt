@@ -10,26 +10,36 @@ module _ {T C : Type 0} where
   -- against no arrival is there a reason
   abbrev pub AllAccepted : List (Held T C) → List (Piece T C) → Type 0
   AllAccepted runs [] = Unit {0}
-  AllAccepted runs (piece ∷ pieces) = (refusal_of runs piece ≡ None) × AllAccepted (with_piece runs piece) pieces
+  AllAccepted runs (piece ∷ pieces) =
+      (refusal_of runs piece ≡ None) × AllAccepted (with_piece runs piece) pieces
 
   -- this is the first reason against the arrival at this place
   abbrev pub RefusesAt : List (Held T C) → List (Piece T C) → ℕ → Why → Type 0
-  RefusesAt runs arrivals at why = (piece : Piece T C) × (slice_get arrivals at ≡ Some piece) × (refusal_of (all_after runs (take at arrivals)) piece ≡ Some why)
+  RefusesAt runs arrivals at why =
+      (piece : Piece T C)
+      × (slice_get arrivals at ≡ Some piece)
+      × (refusal_of (all_after runs (take at arrivals)) piece ≡ Some why)
 
   -- there is no reason against the arrival at this place
   abbrev pub AcceptsAt : List (Held T C) → List (Piece T C) → ℕ → Type 0
-  AcceptsAt runs arrivals at = (piece : Piece T C) × (slice_get arrivals at ≡ Some piece) × (refusal_of (all_after runs (take at arrivals)) piece ≡ None)
+  AcceptsAt runs arrivals at =
+      (piece : Piece T C)
+      × (slice_get arrivals at ≡ Some piece)
+      × (refusal_of (all_after runs (take at arrivals)) piece ≡ None)
 
-  -- what the reason says of the place. For want of memory an arrival was refused against which there is no other reason, or no collector was made at all
+  -- what the reason says of the place. For want of memory an arrival was refused against which there is no other
+  -- reason, or no collector was made at all
   abbrev pub FaultHere : List (Held T C) → List (Piece T C) → ℕ → Why → Type 0
   FaultHere runs arrivals at OutOfMemory = (at ≡ 0) ⊎ AcceptsAt runs arrivals at
-  FaultHere runs arrivals at (Unclosed run) = (at ≡ length arrivals) × (first_open (all_after runs arrivals) ≡ Some run)
+  FaultHere runs arrivals at (Unclosed run) =
+      (at ≡ length arrivals) × (first_open (all_after runs arrivals) ≡ Some run)
   FaultHere runs arrivals at Stranger = RefusesAt runs arrivals at Stranger
   FaultHere runs arrivals at AfterClose = RefusesAt runs arrivals at AfterClose
   FaultHere runs arrivals at Double = RefusesAt runs arrivals at Double
   FaultHere runs arrivals at Short = RefusesAt runs arrivals at Short
 
   -- no arrival before this place has a reason against it, and what is told holds there
-  pub record IsFirstFault (runs : List (Held T C)) (arrivals : List (Piece T C)) (at : ℕ) (why : Why) : Type 0 where
+  pub record IsFirstFault (runs : List (Held T C)) (arrivals : List (Piece T C)) (at : ℕ)
+      (why : Why) : Type 0 where
     pub before : AllAccepted runs (take at arrivals)
     pub here : FaultHere runs arrivals at why

@@ -11,9 +11,12 @@ use Rattle.sarif_gather.specs.Ends.{IsNewPost, IsDeskOf, taken_by}
 use Rattle.sarif_gather.specs.Hands.{IsHandOf, drawn_by}
 
 -- post k has the number k and sent nothing; a hand drew nothing; there are as many of both; the desk took nothing
-pub record AreNewcomers {T C : Type 0} (mailbox : Mailbox (Parcel T C)) (deal : Deal) (crew : Crew T C) : Type 0 where
-  pub posts : (k : ℕ) (post : Post (Parcel T C)) → slice_get crew.posts.items k ≡ Some post → IsNewPost mailbox k post
-  pub hands : (i : ℕ) (hand : Hand) → slice_get crew.hands.items i ≡ Some hand → IsHandOf deal hand × (drawn_by hand ≡ [])
+pub record AreNewcomers {T C : Type 0} (mailbox : Mailbox (Parcel T C)) (deal : Deal)
+    (crew : Crew T C) : Type 0 where
+  pub posts : (k : ℕ) (post : Post (Parcel T C)) → slice_get crew.posts.items k ≡ Some post
+      → IsNewPost mailbox k post
+  pub hands : (i : ℕ) (hand : Hand) → slice_get crew.hands.items i ≡ Some hand
+      → IsHandOf deal hand × (drawn_by hand ≡ [])
   pub count : length crew.hands.items ≡ length crew.posts.items
   pub desk : IsDeskOf mailbox crew.desk
   pub taken : taken_by crew.desk ≡ []

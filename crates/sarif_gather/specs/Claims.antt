@@ -20,13 +20,18 @@ abbrev pub once_below : ℕ → ℕ → ℕ
 once_below x n = if nat_lt x n then 1 else 0
 
 abbrev pub hand_view : ℕ → ℕ → ℕ → ℕ → List ℕ → HandView
-hand_view runs hands parts marks drawn = record { runs = runs; hands = hands; parts = parts; marks = marks; drawn = drawn }
+hand_view runs hands parts marks drawn =
+    record { runs = runs; hands = hands; parts = parts; marks = marks; drawn = drawn }
 
 -- after a draw that found this word: the run was drawn, or none was left
 abbrev pub drew : ℕ → HandView → HandView
-drew found v = if nat_lt found v.runs then (hand_view v.runs v.hands v.parts v.marks (v.drawn ++ found ∷ [])) else (hand_view v.runs v.hands v.parts (v.marks + 1) v.drawn)
+drew found v =
+    if nat_lt found v.runs
+    then (hand_view v.runs v.hands v.parts v.marks (v.drawn ++ found ∷ []))
+    else (hand_view v.runs v.hands v.parts (v.marks + 1) v.drawn)
 
--- what a hand knows fits the word: where it found no run, all were claimed. A view that was left behind has no part, and has drawn nothing
+-- what a hand knows fits the word: where it found no run, all were claimed. A view that was left behind has no part,
+-- and has drawn nothing
 pub record Fits (k : Terms) (word : ℕ) (v : HandView) : Type 0 where
   pub marks : v.marks ≤ v.parts
   pub spent : 0 < v.marks → k.runs ≤ word
@@ -39,10 +44,14 @@ pub record Dealt (k : Terms) (s : State (Unit {0}) HandView) : Type 0 where
   pub small : (k.runs < 2 ^ 32) × (k.hands < 2 ^ 32)
   pub parts : total (λ v. v.parts) s.views ≡ k.hands
   pub word : slice_index s.words 0 ≤ k.runs + total (λ v. v.marks) s.views
-  pub each : (j : ℕ) (v : HandView) → get_elem? s.views j ≡ some v → Fits k (slice_index s.words 0) v
-  pub drawn : (x : ℕ) → total (λ v. times x v.drawn) s.views ≡ once_below x (min (slice_index s.words 0) k.runs)
+  pub each : (j : ℕ) (v : HandView) → get_elem? s.views j ≡ some v
+      → Fits k (slice_index s.words 0) v
+  pub drawn : (x : ℕ)
+      → total (λ v. times x v.drawn) s.views ≡ once_below x (min (slice_index s.words 0) k.runs)
 
--- what a look at the word tells: where a hand of those that it stands for found no run, all are claimed; and who stands for all hands has drawn the first runs, each once
+-- what a look at the word tells: where a hand of those that it stands for found no run, all are claimed; and who stands
+-- for all hands has drawn the first runs, each once
 pub record Learns (v : HandView) (word : ℕ) : Type 0 where
   pub spent : 0 < v.marks → v.runs ≤ word
-  pub drawn : v.parts ≡ v.hands → 0 < v.parts → (x : ℕ) → times x v.drawn ≡ once_below x (min word v.runs)
+  pub drawn : v.parts ≡ v.hands → 0 < v.parts
+      → (x : ℕ) → times x v.drawn ≡ once_below x (min word v.runs)

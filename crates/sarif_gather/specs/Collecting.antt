@@ -14,7 +14,8 @@ module _ {T C : Type 0} where
   -- the reason against a piece of an open run with these bodies
   abbrev pub refusal_of_open : List (ℕ × T) → Piece T C → Option Why
   refusal_of_open bodies (Item run seq body) = if has_number seq bodies then Some Double else None
-  refusal_of_open bodies (Close run count tail) = if counts_up 0 count bodies then None else Some Short
+  refusal_of_open bodies (Close run count tail) =
+      if counts_up 0 count bodies then None else Some Short
 
   abbrev pub refusal_by_tail : Option C → List (ℕ × T) → Piece T C → Option Why
   refusal_by_tail (Some tail) bodies piece = Some AfterClose
@@ -26,7 +27,8 @@ module _ {T C : Type 0} where
 
   -- the run with the piece
   abbrev pub step_at : Held T C → Piece T C → Held T C
-  step_at h (Item run seq body) = record { bodies = insert_entry nat_cmp h.bodies seq body; tail = h.tail }
+  step_at h (Item run seq body) =
+      record { bodies = insert_entry nat_cmp h.bodies seq body; tail = h.tail }
   step_at h (Close run count tail) = record { bodies = h.bodies; tail = Some tail }
 
   abbrev pub refusal_in : Option (Held T C) → Piece T C → Option Why

@@ -39,10 +39,13 @@ module _ {P : Type 0} where
   FitsSender now k (Sender number sent) = (number ≡ k) × (sent ≡ now)
   FitsSender now k Gone = Unit {0}
 
-  -- what the taker learns: later senders sent nothing, and what each returned sender sent arrived, or stands in the mailbox
-  pub record Settles (taken : List (ℕ × P)) (made : ℕ) (settled : List (ℕ × List P)) (items : List (ℕ × P)) : Type 0 where
+  -- what the taker learns: later senders sent nothing, and what each returned sender sent arrived, or stands in the
+  -- mailbox
+  pub record Settles (taken : List (ℕ × P)) (made : ℕ) (settled : List (ℕ × List P))
+      (items : List (ℕ × P)) : Type 0 where
     pub strangers : (k : ℕ) → made ≤ k → of_sender k (taken ++ items) ≡ []
-    pub past : (i k : ℕ) (s : List P) → get_elem? settled i ≡ some (k, s) → s ≡ of_sender k (taken ++ items)
+    pub past : (i k : ℕ) (s : List P) → get_elem? settled i ≡ some (k, s)
+        → s ≡ of_sender k (taken ++ items)
 
   -- the taker has the first end, and sender k the end k + 1
   pub record Delivers (items : List (ℕ × P)) (views : List (View P)) : Type 0 where
@@ -51,6 +54,8 @@ module _ {P : Type 0} where
     pub settled : List (ℕ × List P)
     pub taker : get_elem? views 0 ≡ some (Taker taken made settled)
     pub count : length views ≡ made + 1
-    pub senders : (k : ℕ) (v : View P) → get_elem? views (suc k) ≡ some v → FitsSender (of_sender k (taken ++ items)) k v
+    pub senders : (k : ℕ) (v : View P) → get_elem? views (suc k) ≡ some v
+        → FitsSender (of_sender k (taken ++ items)) k v
     pub strangers : (k : ℕ) → made ≤ k → of_sender k (taken ++ items) ≡ []
-    pub past : (i k : ℕ) (s : List P) → get_elem? settled i ≡ some (k, s) → (s ≡ of_sender k (taken ++ items)) × (get_elem? views (suc k) ≡ some Gone)
+    pub past : (i k : ℕ) (s : List P) → get_elem? settled i ≡ some (k, s)
+        → (s ≡ of_sender k (taken ++ items)) × (get_elem? views (suc k) ≡ some Gone)

@@ -36,7 +36,8 @@ module _ {P : Type 0} where
     pub sent : sent_by end ≡ []
 
   -- a new mailbox with this room for so many senders, its posts and its desk
-  pub record AreNew (room senders : ℕ) (mailbox : Mailbox P) (posts : List (Post P)) (desk : Desk P) : Type 0 where
+  pub record AreNew (room senders : ℕ) (mailbox : Mailbox P) (posts : List (Post P))
+      (desk : Desk P) : Type 0 where
     pub room_is : ruled_capacity mailbox.line ≡ room
     pub senders_are : mailbox.senders ≡ senders
     pub desk_is : IsDeskOf mailbox desk
@@ -51,9 +52,12 @@ module _ {P : Type 0} where
   -- these posts are of this mailbox, and each sender's is among them
   pub record AreAllPosts (mailbox : Mailbox P) (posts : List (Post P)) : Type 0 where
     pub each : (i : ℕ) (post : Post P) → slice_get posts i ≡ Some post → IsPostOf mailbox post
-    pub all : (k : ℕ) → k < mailbox.senders → (i : ℕ) × (post : Post P) × (slice_get posts i ≡ Some post) × (number_of post ≡ k)
+    pub all : (k : ℕ) → k < mailbox.senders
+        → (i : ℕ) × (post : Post P) × (slice_get posts i ≡ Some post) × (number_of post ≡ k)
 
   -- of each post's sender arrived what it sent, whole, once and in order, and of nobody else anything
-  pub record AreWhole (mailbox : Mailbox P) (posts : List (Post P)) (arrived : List (ℕ × P)) : Type 0 where
-    pub each : (i : ℕ) (post : Post P) → slice_get posts i ≡ Some post → of_sender (number_of post) arrived ≡ sent_by post
+  pub record AreWhole (mailbox : Mailbox P) (posts : List (Post P)) (arrived : List (ℕ × P))
+      : Type 0 where
+    pub each : (i : ℕ) (post : Post P) → slice_get posts i ≡ Some post
+        → of_sender (number_of post) arrived ≡ sent_by post
     pub strangers : (k : ℕ) → mailbox.senders ≤ k → of_sender k arrived ≡ []

@@ -14,9 +14,11 @@ use Rattle.sarif_gather.specs.Served.{IsServed}
 
 module _ {T C : Type 0} (count : ℕ → ℕ) (item : ℕ → ℕ → T) (end : ℕ → C) where
   -- each worker sent all of its runs, and an end of each was taken; the collector took in all that was taken
-  pub record IsGathered (mailbox : Mailbox (Parcel T C)) (deal : Deal) (before : List (Held T C)) (workers : ℕ) (g : Gathered T C) : Type 0 where
+  pub record IsGathered (mailbox : Mailbox (Parcel T C)) (deal : Deal) (before : List (Held T C))
+      (workers : ℕ) (g : Gathered T C) : Type 0 where
     pub desk_of : IsDeskOf mailbox g.desk
     pub ends : ends_in (parcels_in (taken_by g.desk)) ≡ workers
     pub collected : g.collector ≡ all_after before (carried (parcels_in (taken_by g.desk)))
     pub backs : length g.backs.items ≡ workers
-    pub each : (k : ℕ) (back : Back (Parcel T C)) → slice_get g.backs.items k ≡ Some back → IsServed count item end mailbox deal k back × (back.short ≡ false)
+    pub each : (k : ℕ) (back : Back (Parcel T C)) → slice_get g.backs.items k ≡ Some back
+        → IsServed count item end mailbox deal k back × (back.short ≡ false)

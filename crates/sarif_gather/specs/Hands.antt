@@ -25,7 +25,8 @@ abbrev pub hands_of : Deal → ℕ
 hands_of deal = deal.claims.shared.key.hands
 
 -- a seat of this table, which knows its terms
-pub record IsSeatOf (claims : Table (Unit {0}) HandView Terms Dealing Global) (seat : Seat (Unit {0}) HandView) : Type 0 where
+pub record IsSeatOf (claims : Table (Unit {0}) HandView Terms Dealing Global)
+    (seat : Seat (Unit {0}) HandView) : Type 0 where
   pub table : seat.table_id ≡ claims.shared.table_id
   pub runs : seat.me.0.runs ≡ claims.shared.key.runs
   pub hands : seat.me.0.hands ≡ claims.shared.key.hands
@@ -44,9 +45,12 @@ pub record AreNewHands (runs hands : ℕ) (deal : Deal) (all : List Hand) : Type
   pub runs_are : runs_dealt deal ≡ runs
   pub hands_are : hands_of deal ≡ hands
   pub all_of : AreAllHands deal all
-  pub fresh : (i : ℕ) (hand : Hand) → slice_get all i ≡ Some hand → (drawn_by hand ≡ []) × (is_marked hand ≡ false)
+  pub fresh : (i : ℕ) (hand : Hand) → slice_get all i ≡ Some hand
+      → (drawn_by hand ≡ []) × (is_marked hand ≡ false)
 
 -- what a hand knows once it took in these
 abbrev pub joined : HandView → List Hand → HandView
 joined v [] = v
-joined v (h ∷ hs) = joined (hand_view v.runs v.hands (v.parts + h.seat.me.0.parts) (v.marks + h.seat.me.0.marks) (v.drawn ++ drawn_by h)) hs
+joined v (h ∷ hs) =
+    joined (hand_view v.runs v.hands
+    (v.parts + h.seat.me.0.parts) (v.marks + h.seat.me.0.marks) (v.drawn ++ drawn_by h)) hs

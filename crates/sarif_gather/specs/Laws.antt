@@ -9,8 +9,13 @@ use Rattle.sarif_gather.specs.Lawful.{IsLawful, assembled}
 module _ {T C : Type 0} where
   -- arrivals are lawful just where none of them is refused and they leave no run open
   abbrev pub AreTakenWhereLawful : ℕ → List (Piece T C) → Type 0
-  AreTakenWhereLawful runs arrivals = IsLawful runs arrivals ↔ (AllAccepted (replicate runs empty_run) arrivals × (first_open (all_after (replicate runs empty_run) arrivals) ≡ None))
+  AreTakenWhereLawful runs arrivals =
+      IsLawful runs arrivals
+      ↔ (AllAccepted (replicate runs empty_run) arrivals
+      × (first_open (all_after (replicate runs empty_run) arrivals) ≡ None))
 
   -- after lawful arrivals each run is closed, and is what they assemble to
   abbrev pub AreAssembled : ℕ → List (Piece T C) → Type 0
-  AreAssembled runs arrivals = IsLawful runs arrivals → all_after (replicate runs empty_run) arrivals ≡ map closed_run (assembled runs arrivals)
+  AreAssembled runs arrivals =
+      IsLawful runs arrivals
+      → all_after (replicate runs empty_run) arrivals ≡ map closed_run (assembled runs arrivals)

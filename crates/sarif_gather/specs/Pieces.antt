@@ -11,11 +11,13 @@ use Rattle.sarif_gather.specs.Piece.{run_in}
 module _ {T C : Type 0} where
   -- the items of a run in the order of their numbers, then its close
   abbrev pub pieces_of : ℕ → (ℕ → T) → ℕ → C → List (Piece T C)
-  pieces_of run item count end = map (λ seq. Item run seq (item seq)) (range_with_len 0 count) ++ Close run count end ∷ []
+  pieces_of run item count end =
+      map (λ seq. Item run seq (item seq)) (range_with_len 0 count) ++ Close run count end ∷ []
 
   -- the pieces of these runs, one run after the other
   abbrev pub pieces_of_runs : (ℕ → ℕ) → (ℕ → ℕ → T) → (ℕ → C) → List ℕ → List (Piece T C)
-  pieces_of_runs count item end runs = flat_map (λ run. pieces_of run (item run) (count run) (end run)) runs
+  pieces_of_runs count item end runs =
+      flat_map (λ run. pieces_of run (item run) (count run) (end run)) runs
 
   -- what a worker with memory enough sends: the pieces of its runs, then its end
   abbrev pub parcels_of : (ℕ → ℕ) → (ℕ → ℕ → T) → (ℕ → C) → List ℕ → List (Parcel T C)
@@ -36,7 +38,8 @@ module _ {T C : Type 0} where
   whole_run count item end = record { items = map item (range_with_len 0 count); tail = end }
 
   abbrev pub lists_of : (ℕ → ℕ) → (ℕ → ℕ → T) → (ℕ → C) → ℕ → List (Whole T C)
-  lists_of count item end runs = map (λ run. whole_run (count run) (item run) (end run)) (range_with_len 0 runs)
+  lists_of count item end runs =
+      map (λ run. whole_run (count run) (item run) (end run)) (range_with_len 0 runs)
 
 -- what stands in a list, without the senders
 abbrev pub parcels_in : {P : Type 0} → List (ℕ × P) → List P

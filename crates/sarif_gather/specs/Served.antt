@@ -12,8 +12,10 @@ use Rattle.sarif_gather.specs.Pieces.{parcels_of}
 
 module _ {T C : Type 0} (count : ℕ → ℕ) (item : ℕ → ℕ → T) (end : ℕ → C) where
   -- a worker's post and hand: with memory enough, it sent its runs and its end, and found no run left
-  pub record IsServed (mailbox : Mailbox (Parcel T C)) (deal : Deal) (worker : ℕ) (back : Back (Parcel T C)) : Type 0 where
+  pub record IsServed (mailbox : Mailbox (Parcel T C)) (deal : Deal) (worker : ℕ)
+      (back : Back (Parcel T C)) : Type 0 where
     pub post_of : IsPostOf mailbox back.post
     pub number : number_of back.post ≡ worker
     pub hand_of : IsHandOf deal back.hand
-    pub all : OnFalse back.short ((is_marked back.hand ≡ true) × (sent_by back.post ≡ parcels_of count item end (drawn_by back.hand)))
+    pub all : OnFalse back.short ((is_marked back.hand ≡ true)
+        × (sent_by back.post ≡ parcels_of count item end (drawn_by back.hand)))

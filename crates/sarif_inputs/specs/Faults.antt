@@ -21,7 +21,8 @@ number_faults name sources =
 abbrev pub IsTooMany : ℕ → ℕ → MergeFault → Type 0
 IsTooMany logs baselines fault =
     ((1000 < logs) × (fault ≡ record { at = Whole (Log 1000); cause = TooMany }))
-    ⊎ ((logs ≤ 1000) × (1000 < baselines) × (fault ≡ record { at = Whole (Baseline 1000); cause = TooMany }))
+    ⊎ ((logs ≤ 1000) × (1000 < baselines)
+    × (fault ≡ record { at = Whole (Baseline 1000); cause = TooMany }))
 
 -- the suppression file, where there is one; without it there are no entries
 abbrev pub file_or_none : Option (List ℕ) → Option ℕ → Result File SuppressFault

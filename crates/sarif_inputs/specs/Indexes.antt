@@ -6,7 +6,8 @@ use Rattle.json_index.specs.Together.{AreIndexed}
 use Rattle.sarif_records.specs.Reading.{without_mark}
 
 -- these are the indexes of so many logs, and then of the baselines
-pub record AreIndexesOf (logs baselines : List (List ℕ)) (indexes : List (Result (List Token) IndexFault)) (first : ℕ) : Type 0 where
+pub record AreIndexesOf (logs baselines : List (List ℕ))
+    (indexes : List (Result (List Token) IndexFault)) (first : ℕ) : Type 0 where
   pub count : length logs ≡ first
   pub few_logs : length logs ≤ 1000
   pub few_baselines : length baselines ≤ 1000

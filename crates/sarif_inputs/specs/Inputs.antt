@@ -8,7 +8,8 @@ use Rattle.sarif_records.specs.Reading.{log_of}
 use Rattle.sarif_sources.specs.declared.fault.Source.{Source}
 use Rattle.sarif_sources.specs.declared.fault.Source.TheVariants.{Log, Baseline}
 
--- the bytes of the logs, of the baselines and of the suppression file, where there is one, and the day, where one is known
+-- the bytes of the logs, of the baselines and of the suppression file, where there is one, and the day, where one is
+-- known
 pub record Inputs : Type 0 where
   pub logs : List (List ℕ)
   pub baselines : List (List ℕ)
@@ -23,7 +24,8 @@ pub record Sourced : Type 0 where
 -- the sources in order, from number n on
 abbrev pub numbered : (ℕ → Source) → ℕ → List (List ℕ) → List Sourced
 numbered name n [] = []
-numbered name n (bytes ∷ rest) = record { source = name n; bytes = bytes } ∷ numbered name (n + 1) rest
+numbered name n (bytes ∷ rest) =
+    record { source = name n; bytes = bytes } ∷ numbered name (n + 1) rest
 
 abbrev pub log_sources : Inputs → List Sourced
 log_sources inputs = numbered Log 0 inputs.logs
@@ -37,7 +39,8 @@ all_sources inputs = log_sources inputs ++ baseline_sources inputs
 
 abbrev pub placed_from : Source → ℕ → List Data → List Placed
 placed_from source n [] = []
-placed_from source n (run ∷ runs) = record { source = source; number = n; run = run } ∷ placed_from source (n + 1) runs
+placed_from source n (run ∷ runs) =
+    record { source = source; number = n; run = run } ∷ placed_from source (n + 1) runs
 
 -- the runs of a source; one that can't be read gives none
 abbrev pub readable : Result (List Data) ReadFault → List Data

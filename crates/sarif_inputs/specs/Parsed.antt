@@ -13,7 +13,8 @@ use Rattle.sarif_records.specs.declared.fault.ReadFault.{ReadFault}
 use Rattle.sarif_records.specs.declared.fault.Fault.TheVariants.{OutOfMemory}
 
 -- the log of these bytes, within the limits of one, or its fault, or want of memory
-pub record IsParsedFrom (bytes : List ℕ) (parsed : Result (Vec IndexedRun Global) ReadFault) : Type 0 where
+pub record IsParsedFrom (bytes : List ℕ) (parsed : Result (Vec IndexedRun Global) ReadFault)
+    : Type 0 where
   pub ok : IfOk parsed (λ log. log_of bytes ≡ Ok (map run_of log.items))
   pub few_runs : IfOk parsed (λ log. length log.items ≤ 10000)
   pub few_results : IfOk parsed (λ log. results_total (map run_of log.items) ≤ 1000000)
@@ -24,13 +25,17 @@ abbrev pub AreParsedFrom : List (List ℕ) → List (Result (Vec IndexedRun Glob
 AreParsedFrom [] [] = ⊤
 AreParsedFrom [] (one ∷ parsed) = ⊥
 AreParsedFrom (bytes ∷ sources) [] = ⊥
-AreParsedFrom (bytes ∷ sources) (one ∷ parsed) = IsParsedFrom bytes one × AreParsedFrom sources parsed
+AreParsedFrom (bytes ∷ sources) (one ∷ parsed) =
+    IsParsedFrom bytes one × AreParsedFrom sources parsed
 
 -- this was read of this index, of whatever bytes it is
-abbrev pub IsReadFrom : Result (List Token) IndexFault → Result (Vec IndexedRun Global) ReadFault → Type 0
-IsReadFrom index read = (bytes : List ℕ) → IsIndexed (without_mark bytes) index → IsParsedFrom bytes read
+abbrev pub IsReadFrom : Result (List Token) IndexFault → Result (Vec IndexedRun Global) ReadFault
+    → Type 0
+IsReadFrom index read =
+    (bytes : List ℕ) → IsIndexed (without_mark bytes) index → IsParsedFrom bytes read
 
-abbrev pub AreReadFrom : List (Result (List Token) IndexFault) → List (Result (Vec IndexedRun Global) ReadFault) → Type 0
+abbrev pub AreReadFrom : List (Result (List Token) IndexFault)
+    → List (Result (Vec IndexedRun Global) ReadFault) → Type 0
 AreReadFrom [] [] = ⊤
 AreReadFrom [] (one ∷ read) = ⊥
 AreReadFrom (index ∷ indexes) [] = ⊥

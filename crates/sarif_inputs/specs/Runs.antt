@@ -14,7 +14,9 @@ pub record AreRunsOf (logs baselines : List (List ℕ)) (runs : Runs) : Type 0 w
   pub current : map placed_of runs.current.items ≡ placed (numbered Log 0 logs)
   pub baseline : map placed_of runs.baseline.items ≡ placed (numbered Baseline 0 baselines)
   pub few : length runs.current.items + length runs.baseline.items ≤ 10000
-  pub few_results : results_total (run_values (map placed_of runs.current.items)) + results_total (run_values (map placed_of runs.baseline.items)) ≤ 1000000
+  pub few_results : results_total (run_values (map placed_of runs.current.items))
+      + results_total (run_values (map placed_of runs.baseline.items))
+      ≤ 1000000
   pub few_logs : length logs ≤ 1000
   pub few_baselines : length baselines ≤ 1000
   pub faultless : source_faults 0 0 (sources_of logs baselines) ≡ []

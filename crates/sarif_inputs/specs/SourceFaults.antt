@@ -32,11 +32,12 @@ abbrev pub limit_faults : Source → ℕ → ℕ → List MergeFault
 limit_faults source runs results =
     if is_past_limits runs results then fault_at (Whole source) TooMany ∷ [] else []
 
--- the faults of the sources in order, after so many runs and results of the sources before them: the reading of each, and
--- then whether the runs or the results of this and all earlier ones pass the limits
+-- the faults of the sources in order, after so many runs and results of the sources before them: the reading of each,
+-- and then whether the runs or the results of this and all earlier ones pass the limits
 abbrev pub source_faults : ℕ → ℕ → List Sourced → List MergeFault
 source_faults runs results [] = []
 source_faults runs results (s ∷ rest) =
     let now = runs + length (runs_in s) in
     let all = results + results_total (runs_in s) in
-    (reading_faults s.source (log_of s.bytes) ++ limit_faults s.source now all) ++ source_faults now all rest
+    (reading_faults s.source (log_of s.bytes) ++ limit_faults s.source now all)
+    ++ source_faults now all rest

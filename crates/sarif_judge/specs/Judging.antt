@@ -31,7 +31,8 @@ item_by (Err fault) = Bad fault
 -- the result of a run with that number: its record, its first fault, or skipped
 abbrev pub item_of : Placed → ℕ → Item
 item_of p seq =
-    if skips p.source && is_absent_result (result_at p.run seq) then Skipped else item_by (record_of p.run seq)
+    if skips p.source && is_absent_result (result_at p.run seq) then Skipped
+    else item_by (record_of p.run seq)
 
 -- the results of a run, in order
 abbrev pub items_of : Placed → List Item

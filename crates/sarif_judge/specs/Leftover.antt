@@ -17,7 +17,8 @@ found_at runs spot = result_at (placed_at runs spot.run).run spot.seq
 -- a draft with the result's own suppressions
 abbrev pub leftover_draft : Leftover → Draft
 leftover_draft left =
-    draft_by (λ _ own. own) unapplied left.«record».now (members_in (result_at (placed_of left.run.now).run left.seq))
+    draft_by (λ _ own. own) unapplied left.«record».now
+    (members_in (result_at (placed_of left.run.now).run left.seq))
 
 -- those of a list that aren't marked as taken
 abbrev pub not_taken : {X : Type 0} → List Bool → List X → List X

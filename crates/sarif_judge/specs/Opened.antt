@@ -4,4 +4,5 @@ use Rattle.sarif_judge.specs.declared.opened.OpenedRun.{OpenedRun}
 use Rattle.sarif_judge.specs.Placed.{Placed}
 
 abbrev pub placed_of : OpenedRun → Placed
-placed_of opened = record { source = opened.source; number = opened.number; run = run_of opened.run }
+placed_of opened =
+    record { source = opened.source; number = opened.number; run = run_of opened.run }

@@ -16,9 +16,11 @@ use Rattle.sarif_judge.specs.Placed.{Placed}
 
 -- the draft of a result of a log: with its own suppressions, and with those that the file gives it
 abbrev pub draft_in : File → Record → Data → Draft
-draft_in file r d = draft_by (λ r own. suppressions_of own file r) (applied_of file) r (members_in d)
+draft_in file r d =
+    draft_by (λ r own. suppressions_of own file r) (applied_of file) r (members_in d)
 
--- only a result of a log has a draft at once, where it has a record: of a baseline (true) matching tells which are written
+-- only a result of a log has a draft at once, where it has a record: of a baseline (true) matching tells which are
+-- written
 abbrev pub draft_beside : File → Bool → Data → Item → Option Draft
 draft_beside file true d item = None
 draft_beside file false d (Sound r) = Some (draft_in file r d)

@@ -1,5 +1,5 @@
--- How the results of all runs are shared out among workers: as places in one list, some of them to each shard. No public
--- clause of the merge speaks of it.
+-- How the results of all runs are shared out among workers: as places in one list, some of them to each shard. No
+-- public clause of the merge speaks of it.
 use Rattle.std.specs.Prelude.{◌≡◌, ℕ, ◌+◌, ◌*◌, ◌<◌, List, [], ◌∷◌, ◌++◌, map, take, drop, length, slice_index_or}
 use Rattle.std.specs.List.{range_with_len}
 use Rattle.serde_json.specs.Data.{null}
@@ -33,7 +33,8 @@ outcome_at file runs spot = outcome_of file (placed_at runs spot.run) spot.seq
 
 -- a place is that of a result
 abbrev pub IsSpotOf : List Placed → Spot → Type 0
-IsSpotOf runs spot = (spot.run < length runs) × (spot.seq < length (results_of (placed_at runs spot.run).run))
+IsSpotOf runs spot =
+    (spot.run < length runs) × (spot.seq < length (results_of (placed_at runs spot.run).run))
 
 -- the places of shard k, where each has so many
 abbrev pub shard_of : ℕ → List Spot → ℕ → List Spot

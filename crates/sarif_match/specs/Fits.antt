@@ -6,4 +6,7 @@ use Rattle.sarif_match.specs.Partners.{has_partner}
 abbrev pub Fits : ℕ → List (Option ℕ) → List (ℕ × ℕ) → Type 0
 Fits m partners [] = Unit {0}
 Fits m partners (pair ∷ pairs) =
-    (pair.0 < length partners) × (has_partner partners pair.0 ≡ false) × (pair.1 < m) × Fits m (slice_set partners pair.0 (Some pair.1)) pairs
+    (pair.0 < length partners)
+    × (has_partner partners pair.0 ≡ false)
+    × (pair.1 < m)
+    × Fits m (slice_set partners pair.0 (Some pair.1)) pairs

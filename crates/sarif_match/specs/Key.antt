@@ -24,7 +24,8 @@ key_of r Guid = option_map (λ guid. guid_parts r.tool guid) r.guid
 key_of r (Fingerprint name) =
     option_map (λ value. fingerprint_parts r.tool name value) (value_of name r.full)
 key_of r PartialHere =
-    if is_empty r.partial then None else Some (partial_here_parts r.tool r.rule_id r.place r.partial)
+    if is_empty r.partial then None
+    else Some (partial_here_parts r.tool r.rule_id r.place r.partial)
 key_of r PartialMoved =
     if is_empty r.partial then None else Some (partial_moved_parts r.tool r.rule_id r.partial)
 key_of r Place =

@@ -18,7 +18,8 @@ abbrev pub group_of : Option (Vec (ℕ × Key) Global) → List (ℕ × Key)
 group_of group = option_map_or (λ group. group.items) group []
 
 -- the results that have a fingerprint with this name
-abbrev pub group_at : {S : Type 0} → HashMap (Bor (List ℕ)) (Vec (ℕ × Key) Global) S → List ℕ → List (ℕ × Key)
+abbrev pub group_at : {S : Type 0} → HashMap (Bor (List ℕ)) (Vec (ℕ × Key) Global) S → List ℕ
+    → List (ℕ × Key)
 group_at named name = group_of (get_by (λ own. bytes_eq name own.now) named)
 
 -- whether the last of these results has this number

@@ -17,17 +17,20 @@ abbrev pub rank : (ℕ → Bool) → KeyParts → ℕ → List (ℕ × KeyParts)
 rank is_left key i keyed =
     length (filter (λ e. nat_lt e.0 i && (is_left e.0 && same_parts e.1 key)) keyed)
 
--- Current result i and baseline result j are paired at a tier: both are left over, their keys are there and equal, and as many
--- left-over current results with that key precede i as left-over baseline results with it precede j.
-pub record IsPairedAt (current baseline : List Record) (partners : List (Option ℕ)) (tier : Tier) (i j : ℕ) : Type 0 where
+-- Current result i and baseline result j are paired at a tier: both are left over, their keys are there and equal, and
+-- as many left-over current results with that key precede i as left-over baseline results with it precede j.
+pub record IsPairedAt (current baseline : List Record) (partners : List (Option ℕ)) (tier : Tier)
+    (i j : ℕ) : Type 0 where
   pub key : KeyParts
   pub current_key : key_at tier current i ≡ Some key
   pub baseline_key : key_at tier baseline j ≡ Some key
   pub current_left : has_partner partners i ≡ false
   pub baseline_left : is_taken partners j ≡ false
-  pub ranks : rank (λ n. not (has_partner partners n)) key i (keyed_from tier 0 current) ≡ rank (λ n. not (is_taken partners n)) key j (keyed_from tier 0 baseline)
+  pub ranks : rank (λ n. not (has_partner partners n)) key i (keyed_from tier 0 current)
+      ≡ rank (λ n. not (is_taken partners n)) key j (keyed_from tier 0 baseline)
 
--- Baseline result j is the partner of current result i: the two are paired at one tier, by what the tiers before it left over.
+-- Baseline result j is the partner of current result i: the two are paired at one tier, by what the tiers before it
+-- left over.
 pub record ArePartners (current baseline : List Record) (i j : ℕ) : Type 0 where
   pub before : List Tier
   pub tier : Tier

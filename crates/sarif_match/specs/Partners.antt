@@ -27,7 +27,8 @@ has_partner partners i = is_some (slice_index_or partners i None)
 
 -- whether baseline result j is somebody's partner
 abbrev pub is_taken : List (Option ℕ) → ℕ → Bool
-is_taken partners j = list_any (λ partner. option_map_or (λ taken. taken == j) partner false) partners
+is_taken partners j =
+    list_any (λ partner. option_map_or (λ taken. taken == j) partner false) partners
 
 -- the current results that are left over
 abbrev pub left : {K : Type 0} → List (Option ℕ) → List (ℕ × K) → List (ℕ × K)
@@ -46,7 +47,8 @@ module _ (current baseline : List Record) where
   -- the pairs of a tier: equal keys, and equal ranks among what the tiers before have left over
   abbrev pub pairs_at : List (Option ℕ) → Tier → List (ℕ × ℕ)
   pairs_at partners tier =
-      pairs_from same_parts [] (left partners (keyed_from tier 0 current)) (free partners (keyed_from tier 0 baseline))
+      pairs_from same_parts []
+      (left partners (keyed_from tier 0 current)) (free partners (keyed_from tier 0 baseline))
 
   -- the partners after one tier more
   abbrev pub after_tier : List (Option ℕ) → Tier → List (Option ℕ)

@@ -5,8 +5,10 @@ use Rattle.sarif_match.specs.Partners.{has_partner, is_taken}
 
 -- a list of marks for n current and m baseline results, which say just who has a partner and who is one
 pub record IsSound (n m : ℕ) (progress : Progress) : Type 0 where
-  pub paired : (i : ℕ) → slice_index_or progress.paired.items i false ≡ has_partner progress.partners.items i
-  pub taken : (j : ℕ) → slice_index_or progress.taken.items j false ≡ is_taken progress.partners.items j
+  pub paired : (i : ℕ)
+      → slice_index_or progress.paired.items i false ≡ has_partner progress.partners.items i
+  pub taken : (j : ℕ)
+      → slice_index_or progress.taken.items j false ≡ is_taken progress.partners.items j
   pub partner_count : length progress.partners.items ≡ n
   pub paired_count : length progress.paired.items ≡ n
   pub taken_count : length progress.taken.items ≡ m

@@ -7,5 +7,6 @@ use Rattle.sarif_match.specs.Partners.{keyed_from}
 
 -- for each name the index has just the results with a key at that name's tier
 pub record IsIndexed {S H : Type 0} (side : Side S H) : Type 0 where
-  pub indexed : (name : List ℕ) → with_parts (group_at side.named name) ≡ keyed_from (Fingerprint name) 0 side.findings.now
+  pub indexed : (name : List ℕ)
+      → with_parts (group_at side.named name) ≡ keyed_from (Fingerprint name) 0 side.findings.now
   pub small : length side.findings.now < 2 ^ 32

@@ -27,7 +27,9 @@ level_number Error = 3
 -- whether kind, effective level, message and place are equal
 abbrev pub is_unchanged : Record → Record → Bool
 is_unchanged current partner =
-    (kind_number current.kind == kind_number partner.kind) && ((level_number current.level == level_number partner.level) && (message_eq current.message partner.message && place_eq current.place partner.place))
+    (kind_number current.kind == kind_number partner.kind)
+    && ((level_number current.level == level_number partner.level)
+    && (message_eq current.message partner.message && place_eq current.place partner.place))
 
 -- the state of a current result with this partner
 abbrev pub state_of : Record → Option Record → State

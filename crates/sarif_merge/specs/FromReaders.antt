@@ -15,12 +15,16 @@ use Rattle.sarif_merge.specs.Merged.{IsMerged}
 use Rattle.sarif_merge.specs.MergedLog.{output_text}
 
 -- reading ended at one of the sources, and the refusal says so
-abbrev pub IsStopped : {R : Type 0} → (R → Option (List ℕ)) → Readers R → Readers R → MergeFault → Type 0
+abbrev pub IsStopped : {R : Type 0} → (R → Option (List ℕ)) → Readers R → Readers R → MergeFault
+    → Type 0
 IsStopped remaining old new fault =
-    (stopped : ReadersFault) × HasStoppedAt remaining old new stopped × (fault ≡ fault_of_readers stopped)
+    (stopped : ReadersFault) × HasStoppedAt remaining old new stopped
+    × (fault ≡ fault_of_readers stopped)
 
--- all sources were read, and the merge of what was read is refused: memory or a thread was wanting, or this is the first fault
-abbrev pub IsAtFault : {R : Type 0} → (R → Option (List ℕ)) → Readers R → Readers R → Option ℕ → MergeFault → Type 0
+-- all sources were read, and the merge of what was read is refused: memory or a thread was wanting, or this is the
+-- first fault
+abbrev pub IsAtFault : {R : Type 0} → (R → Option (List ℕ)) → Readers R → Readers R
+    → Option ℕ → MergeFault → Type 0
 IsAtFault remaining old new today fault =
     (contents : SourceContents) × WereRead remaining old new contents
     × (IsWanting fault ⊎ (first_fault (given_by contents today) ≡ Some fault))
@@ -29,20 +33,26 @@ IsAtFault remaining old new today fault =
 abbrev pub AreFew : {R : Type 0} → Readers R → Type 0
 AreFew all = (length all.logs.items ≤ 1000) × (length all.baselines.items ≤ 1000)
 
--- a refusal before anything is written: too many sources, else what ended reading, else the first fault of what was read
-abbrev pub IsRefused : {R : Type 0} → (R → Option (List ℕ)) → Readers R → Readers R → Option ℕ → MergeFault → Type 0
+-- a refusal before anything is written: too many sources, else what ended reading, else the first fault of what was
+-- read
+abbrev pub IsRefused : {R : Type 0} → (R → Option (List ℕ)) → Readers R → Readers R
+    → Option ℕ → MergeFault → Type 0
 IsRefused remaining old new today fault =
     IsTooMany (length old.logs.items) (length old.baselines.items) fault
     ⊎ (AreFew old × (IsStopped remaining old new fault ⊎ IsAtFault remaining old new today fault))
 
 -- all sources were read, and this is the merge of what was read
-abbrev pub IsMergedFrom : {R : Type 0} → (R → Option (List ℕ)) → Readers R → Readers R → Option ℕ → Policy → Option Reporting → Merged → Type 0
+abbrev pub IsMergedFrom : {R : Type 0} → (R → Option (List ℕ)) → Readers R → Readers R
+    → Option ℕ → Policy → Option Reporting → Merged → Type 0
 IsMergedFrom remaining old new today policy asked merged =
-    (contents : SourceContents) × WereRead remaining old new contents × IsMerged (given_by contents today) policy asked merged
+    (contents : SourceContents) × WereRead remaining old new contents
+    × IsMerged (given_by contents today) policy asked merged
 
 -- all sources were read, nothing is at fault in them, and a proper front of the text was written
-abbrev pub IsPartlyWritten : {R : Type 0} → (R → Option (List ℕ)) → Readers R → Readers R → Option ℕ → Policy → Option (List ℕ) → Option (List ℕ) → Type 0
+abbrev pub IsPartlyWritten : {R : Type 0} → (R → Option (List ℕ)) → Readers R → Readers R
+    → Option ℕ → Policy → Option (List ℕ) → Option (List ℕ) → Type 0
 IsPartlyWritten remaining old new today policy before after =
-    (contents : SourceContents) × WereRead remaining old new contents × (faults_of (given_by contents today) ≡ [])
+    (contents : SourceContents) × WereRead remaining old new contents
+    × (faults_of (given_by contents today) ≡ [])
     × ((n : ℕ) × (n < length (output_text (given_by contents today) policy))
     × Appends before after (take n (output_text (given_by contents today) policy)))

@@ -40,7 +40,8 @@ abbrev pub unused_in : Inputs → ℕ
 unused_in inputs = unused_of (file_given inputs) (current_of inputs)
 
 abbrev pub merged_log : Inputs → Policy → Data
-merged_log inputs policy = merged_by (file_given inputs) (input_runs inputs) (baseline_runs inputs) policy
+merged_log inputs policy =
+    merged_by (file_given inputs) (input_runs inputs) (baseline_runs inputs) policy
 
 -- the text that is written: compact, members in the byte order of their names, nothing after it
 abbrev pub output_text : Inputs → Policy → List ℕ

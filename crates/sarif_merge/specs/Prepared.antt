@@ -10,9 +10,12 @@ use Rattle.sarif_inputs.specs.Inputs.{Inputs, numbered, placed}
 use Rattle.sarif_merge.specs.MergedLog.{file_in}
 
 -- nothing is at fault, and all that is written of the merge is there
-pub record IsPreparedFor (inputs : Inputs) (asked : Option Reporting) (prepared : Prepared) : Type 0 where
+pub record IsPreparedFor (inputs : Inputs) (asked : Option Reporting) (prepared : Prepared)
+    : Type 0 where
   pub faultless : faults_of inputs ≡ []
-  pub written : IsPrepared (file_in (file_or_none inputs.suppressions inputs.today)) (placed (numbered Log 0 inputs.logs)) (placed (numbered Baseline 0 inputs.baselines)) asked prepared
+  pub written : IsPrepared (file_in (file_or_none inputs.suppressions inputs.today))
+      (placed (numbered Log 0 inputs.logs)) (placed (numbered Baseline 0 inputs.baselines))
+      asked prepared
 
 -- that, or the first fault of the inputs, or want of memory or of a thread
 abbrev pub IsPreparationOf : Inputs → Option Reporting → Result Prepared MergeFault → Type 0

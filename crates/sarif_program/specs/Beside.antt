@@ -7,7 +7,8 @@ use Rattle.sarif_request.specs.declared.reports.Reports.{Reports}
 use Rattle.sarif_program.specs.Reports.{text_if}
 
 -- these are the texts of the reports that there are writers for, but for that for GitLab
-pub record AreBeside {W : Type 0} (writers : Reports W) (told : Report → List ℕ) (texts : Reports (List ℕ)) : Type 0 where
+pub record AreBeside {W : Type 0} (writers : Reports W) (told : Report → List ℕ)
+    (texts : Reports (List ℕ)) : Type 0 where
   pub text : texts.text ≡ text_if writers.text (told report.Text)
   pub github : texts.github ≡ text_if writers.github (told report.Github)
   pub markdown : texts.markdown ≡ text_if writers.markdown (told report.Markdown)

@@ -28,7 +28,8 @@ reporting_for request writers = if are_none writers then None else Some (reporti
 
 -- the text of a report of a merged log with these counts, of which this is told
 abbrev pub report_with : Request → Counts → Vec Finding Global → Report → List ℕ
-report_with request counts findings one = report_of one (count_at counts) request.options.policy findings.items
+report_with request counts findings one =
+    report_of one (count_at counts) request.options.policy findings.items
 
 -- the text of a report of a merged log
 abbrev pub report_for : Request → Merged → Report → List ℕ
@@ -50,13 +51,16 @@ texts_for writers told = record {
 }
 
 -- a writer that there is takes the text that there is
-abbrev pub IsTaken : {W : Type 0} → (W → Option (List ℕ)) → Option (List ℕ) → Option (Counted W) → Option (Counted W) → Type 0
+abbrev pub IsTaken : {W : Type 0} → (W → Option (List ℕ)) → Option (List ℕ)
+    → Option (Counted W) → Option (Counted W) → Type 0
 IsTaken contents text None new = new ≡ None
 IsTaken contents None (Some old) new = new ≡ Some old
 IsTaken contents (Some text) (Some old) None = ⊥
-IsTaken contents (Some text) (Some old) (Some new) = Appends (contents (inner_of old)) (contents (inner_of new)) text
+IsTaken contents (Some text) (Some old) (Some new) =
+    Appends (contents (inner_of old)) (contents (inner_of new)) text
 
-pub record AreTaken {W : Type 0} (contents : W → Option (List ℕ)) (texts : Reports (List ℕ)) (old new : Reports (Counted W)) : Type 0 where
+pub record AreTaken {W : Type 0} (contents : W → Option (List ℕ)) (texts : Reports (List ℕ))
+    (old new : Reports (Counted W)) : Type 0 where
   pub text : IsTaken contents texts.text old.text new.text
   pub github : IsTaken contents texts.github old.github new.github
   pub markdown : IsTaken contents texts.markdown old.markdown new.markdown
@@ -64,13 +68,16 @@ pub record AreTaken {W : Type 0} (contents : W → Option (List ℕ)) (texts : R
   pub html : IsTaken contents texts.html old.html new.html
 
 -- the writer that there is for a report took its text
-abbrev pub IsWritten : {W : Type 0} → (W → Option (List ℕ)) → List ℕ → Option (Counted W) → Option (Counted W) → Type 0
+abbrev pub IsWritten : {W : Type 0} → (W → Option (List ℕ)) → List ℕ
+    → Option (Counted W) → Option (Counted W) → Type 0
 IsWritten contents text None new = new ≡ None
 IsWritten contents text (Some old) None = ⊥
-IsWritten contents text (Some old) (Some new) = Appends (contents (inner_of old)) (contents (inner_of new)) text
+IsWritten contents text (Some old) (Some new) =
+    Appends (contents (inner_of old)) (contents (inner_of new)) text
 
 -- each report that there is a writer for was written
-pub record AreWritten {W : Type 0} (contents : W → Option (List ℕ)) (told : Report → List ℕ) (old new : Reports (Counted W)) : Type 0 where
+pub record AreWritten {W : Type 0} (contents : W → Option (List ℕ)) (told : Report → List ℕ)
+    (old new : Reports (Counted W)) : Type 0 where
   pub text : IsWritten contents (told report.Text) old.text new.text
   pub github : IsWritten contents (told report.Github) old.github new.github
   pub markdown : IsWritten contents (told report.Markdown) old.markdown new.markdown
@@ -80,7 +87,8 @@ pub record AreWritten {W : Type 0} (contents : W → Option (List ℕ)) (told : 
 -- how many calls of the writers of reports failed
 abbrev pub report_failures : {W : Type 0} → Reports (Counted W) → ℕ
 report_failures reports =
-    failed_calls_if reports.text + failed_calls_if reports.github + failed_calls_if reports.markdown
+    failed_calls_if reports.text + failed_calls_if reports.github
+    + failed_calls_if reports.markdown
     + failed_calls_if reports.gitlab + failed_calls_if reports.html
 
 -- one more failure of each can be counted

@@ -9,7 +9,8 @@ use Rattle.sha2.specs.Sha256.{sha256}
 -- the first 64 bits of a digest
 abbrev pub first_bits : List ℕ → ℕ
 first_bits d =
-    from_be_bytes w64 (slice_index d 0 ∷ slice_index d 1 ∷ slice_index d 2 ∷ slice_index d 3 ∷ slice_index d 4 ∷ slice_index d 5 ∷ slice_index d 6 ∷ slice_index d 7 ∷ [])
+    from_be_bytes w64 (slice_index d 0 ∷ slice_index d 1 ∷ slice_index d 2 ∷ slice_index d 3
+    ∷ slice_index d 4 ∷ slice_index d 5 ∷ slice_index d 6 ∷ slice_index d 7 ∷ [])
 
 -- those of the SHA-256 digest of a text (FIPS 180-4)
 unfoldable pub digest_of : List ℕ → ℕ

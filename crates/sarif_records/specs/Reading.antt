@@ -31,10 +31,13 @@ is_array_or_null (object ms) = false
 
 -- an object with `runs`, an array or null
 abbrev pub check_runs : Data → Result ⊤ Fault
-check_runs log = unless_fault (unwrap_or (option_map is_array_or_null (get (codes "runs") log)) false) NotLog
+check_runs log =
+    unless_fault (unwrap_or (option_map is_array_or_null (get (codes "runs") log)) false) NotLog
 
 abbrev pub check_version : Data → Result ⊤ Fault
-check_version log = unless_fault (is_text (codes "2.1.0") (option_and_then as_str (get (codes "version") log))) WrongVersion
+check_version log =
+    unless_fault (is_text (codes "2.1.0") (option_and_then as_str (get (codes "version") log)))
+    WrongVersion
 
 -- the elements of `runs`; null is no runs
 abbrev pub runs_of : Data → List Data
@@ -47,7 +50,10 @@ check_count log = unless_fault (not (nat_lt 10000 (length (runs_of log)))) TooMa
 
 -- the text `name` of the object `driver` of the object `tool`
 abbrev pub driver_name : Data → Option (List ℕ)
-driver_name run = option_and_then as_str (option_and_then (get (codes "name")) (option_and_then (get (codes "driver")) (get (codes "tool") run)))
+driver_name run =
+    option_and_then as_str
+    (option_and_then (get (codes "name"))
+    (option_and_then (get (codes "driver")) (get (codes "tool") run)))
 
 abbrev pub check_tool : Data → Result ⊤ Fault
 check_tool run = unless_fault (is_some (driver_name run)) BadRun
@@ -62,7 +68,10 @@ is_empty_object d = unwrap_or (option_map has_no_members (as_object d)) false
 -- no external property files are named
 abbrev pub check_external : Data → Result ⊤ Fault
 check_external run =
-    unless_fault (unwrap_or (option_map is_empty_object (member_at (codes "externalPropertyFileReferences") run)) true) ExternalProperties
+    unless_fault
+    (unwrap_or
+    (option_map is_empty_object (member_at (codes "externalPropertyFileReferences") run)) true)
+    ExternalProperties
 
 -- an array of objects, or absent
 abbrev pub check_results : Data → Result ⊤ Fault
@@ -70,7 +79,9 @@ check_results run = objects_at BadRun (codes "results") run >>= λ _. Ok tt
 
 -- the results of this and of all earlier runs of the log
 abbrev pub count_results : ℕ → Data → Result ℕ Fault
-count_results before run = if nat_lt 1000000 (before + length (results_of run)) then Err TooMany else Ok (before + length (results_of run))
+count_results before run =
+    if nat_lt 1000000 (before + length (results_of run)) then Err TooMany
+    else Ok (before + length (results_of run))
 
 -- the number of results before a run, and the number with it
 unfoldable pub check_run : ℕ → Data → Result ℕ Fault

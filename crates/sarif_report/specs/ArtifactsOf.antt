@@ -7,7 +7,8 @@ use Rattle.sarif_report.specs.PathOf.{decoded}
 
 -- `location.uri`
 abbrev pub uri_of_artifact : Data → Option (List ℕ)
-uri_of_artifact artifact = option_and_then (text_in (codes "uri")) (get (codes "location") artifact)
+uri_of_artifact artifact =
+    option_and_then (text_in (codes "uri")) (get (codes "location") artifact)
 
 -- the same, its escapes read
 abbrev pub path_of_artifact : Data → Option (List ℕ)

@@ -18,11 +18,13 @@ numbers_of numbers = record {
 
 abbrev pub row_begin : List ℕ → ℕ → ℕ → List ℕ
 row_begin name error warning =
-    codes "| " ++ (name ++ (codes " | " ++ (decimal error ++ (codes " | " ++ (decimal warning ++ codes " | ")))))
+    codes "| " ++ (name ++ (codes " | " ++ (decimal error
+    ++ (codes " | " ++ (decimal warning ++ codes " | ")))))
 
 abbrev pub row_end : ℕ → ℕ → ℕ → List ℕ
 row_end note none suppressed =
-    decimal note ++ (codes " | " ++ (decimal none ++ (codes " | " ++ (decimal suppressed ++ codes " |\n"))))
+    decimal note ++ (codes " | " ++ (decimal none
+    ++ (codes " | " ++ (decimal suppressed ++ codes " |\n"))))
 
 -- | STATE | ERROR | WARNING | NOTE | NONE | SUPPRESSED |
 abbrev pub row_of : List ℕ → Row → List ℕ

@@ -9,8 +9,11 @@ use Rattle.sarif_report.specs.Escaped.{is_mark}
 -- whether an entity of the five stands first
 abbrev pub begins_entity : List ℕ → Bool
 begins_entity bs =
-    starts_with nat_eq bs (codes "&amp;") || (starts_with nat_eq bs (codes "&lt;") || (starts_with nat_eq bs (codes "&gt;")
-    || (starts_with nat_eq bs (codes "&quot;") || starts_with nat_eq bs (codes "&#39;"))))
+    starts_with nat_eq bs (codes "&amp;")
+    || (starts_with nat_eq bs (codes "&lt;")
+    || (starts_with nat_eq bs (codes "&gt;")
+    || (starts_with nat_eq bs (codes "&quot;")
+    || starts_with nat_eq bs (codes "&#39;"))))
 
 -- `<`, `>`, `"` and `'`
 abbrev pub is_markup : ℕ → Bool
@@ -19,7 +22,8 @@ is_markup b = b == 60 || (b == 62 || (b == 34 || b == 39))
 -- whether none of these stands in it, and each `&` begins an entity
 abbrev pub is_element_text : List ℕ → Bool
 is_element_text [] = true
-is_element_text (b ∷ bs) = not (is_markup b) && ((not (b == 38) || begins_entity (b ∷ bs)) && is_element_text bs)
+is_element_text (b ∷ bs) =
+    not (is_markup b) && ((not (b == 38) || begins_entity (b ∷ bs)) && is_element_text bs)
 
 -- ---- in Markdown
 

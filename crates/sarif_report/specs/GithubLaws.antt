@@ -5,7 +5,9 @@ use Rattle.std.specs.List.{starts_with}
 -- whether one of the three commands stands first
 abbrev pub begins_command : List ℕ → Bool
 begins_command bs =
-    starts_with nat_eq bs (codes "::error ") || (starts_with nat_eq bs (codes "::warning ") || starts_with nat_eq bs (codes "::notice "))
+    starts_with nat_eq bs (codes "::error ")
+    || (starts_with nat_eq bs (codes "::warning ")
+    || starts_with nat_eq bs (codes "::notice "))
 
 -- whether each line begins with a command, also one at the front where a line begins there
 abbrev pub are_commands : Bool → List ℕ → Bool

@@ -26,20 +26,24 @@ number_property name (Some n) = name ++ (decimal n ++ codes ",")
 -- RULE (TOOL), or TOOL where there is no rule
 abbrev pub title : List ℕ → List ℕ → List ℕ
 title [] tool = escaped Property tool
-title (b ∷ bs) tool = escaped Property (b ∷ bs) ++ (codes " (" ++ (escaped Property tool ++ codes ")"))
+title (b ∷ bs) tool =
+    escaped Property (b ∷ bs) ++ (codes " (" ++ (escaped Property tool ++ codes ")"))
 
 abbrev pub position_of : Finding → List ℕ
 position_of finding =
     file_property finding.path
-    ++ (number_property (codes "line=") finding.line ++ number_property (codes "col=") finding.column)
+    ++ (number_property (codes "line=") finding.line
+    ++ number_property (codes "col=") finding.column)
 
 abbrev pub title_and_message : Finding → List ℕ
 title_and_message finding =
-    codes "title=" ++ (title finding.rule finding.tool ++ (codes "::" ++ (escaped Message finding.message ++ codes "\n")))
+    codes "title=" ++ (title finding.rule finding.tool
+    ++ (codes "::" ++ (escaped Message finding.message ++ codes "\n")))
 
 -- ::COMMAND file=PATH,line=LINE,col=COLUMN,title=TITLE::MESSAGE
 abbrev pub github_line : Finding → List ℕ
-github_line finding = command_of finding.level ++ (position_of finding ++ title_and_message finding)
+github_line finding =
+    command_of finding.level ++ (position_of finding ++ title_and_message finding)
 
 abbrev pub github_of : List Finding → List ℕ
 github_of findings = flat_map github_line findings

@@ -13,7 +13,8 @@ object_of ranked = quality_of ranked.finding.now (mark_of ranked.finding.now ran
 -- those of these results, which stand after the earlier ones
 abbrev pub objects_after : List Finding → List Finding → List Data
 objects_after earlier [] = []
-objects_after earlier (f ∷ fs) = quality_of f (mark_of f (rank_among earlier f)) ∷ objects_after (earlier ++ f ∷ []) fs
+objects_after earlier (f ∷ fs) =
+    quality_of f (mark_of f (rank_among earlier f)) ∷ objects_after (earlier ++ f ∷ []) fs
 
 -- their texts with commas between them, and one before them where others stand there
 abbrev pub joined_objects : Bool → List Data → List ℕ

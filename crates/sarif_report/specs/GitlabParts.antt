@@ -25,7 +25,10 @@ quoted_text text = quoted text
 -- [TOOL,RULE,PATH,MESSAGE of a text that is hashed
 unfoldable pub identity_of : Finding → List ℕ
 identity_of f =
-    codes "[" ++ (quoted_text f.tool ++ (codes "," ++ (quoted_text f.rule ++ (codes "," ++ (compact_text (path_or_null f.path) ++ (codes "," ++ quoted_text f.message))))))
+    codes "[" ++ (quoted_text f.tool
+    ++ (codes "," ++ (quoted_text f.rule
+    ++ (codes "," ++ (compact_text (path_or_null f.path)
+    ++ (codes "," ++ quoted_text f.message))))))
 
 -- ,RANK] of such a text
 abbrev pub rank_text : ℕ → List ℕ
@@ -41,7 +44,8 @@ identity_with f = record {
 -- the first 64 bits of a digest
 abbrev pub number_in : List ℕ → ℕ
 number_in d =
-    from_be_bytes w64 (slice_index d 0 ∷ slice_index d 1 ∷ slice_index d 2 ∷ slice_index d 3 ∷ slice_index d 4 ∷ slice_index d 5 ∷ slice_index d 6 ∷ slice_index d 7 ∷ [])
+    from_be_bytes w64 (slice_index d 0 ∷ slice_index d 1 ∷ slice_index d 2 ∷ slice_index d 3
+    ∷ slice_index d 4 ∷ slice_index d 5 ∷ slice_index d 6 ∷ slice_index d 7 ∷ [])
 
 -- the number that an identity is looked up by: that of the first result with it
 unfoldable pub number_of : List ℕ → ℕ
@@ -57,7 +61,8 @@ counted ranks identity = unwrap_or (tree.get key_cmp ranks (number_of identity, 
 
 unfoldable pub rule_text : Finding → List ℕ
 rule_text f =
-    (codes "{\"check_name\":" ++ quoted_text (or_unknown f.rule)) ++ (codes ",\"description\":" ++ quoted_text f.message)
+    (codes "{\"check_name\":" ++ quoted_text (or_unknown f.rule))
+    ++ (codes ",\"description\":" ++ quoted_text f.message)
 
 unfoldable pub location_text : Finding → List ℕ
 location_text f =

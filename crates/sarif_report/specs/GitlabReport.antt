@@ -24,7 +24,9 @@ same_path (Some path) (Some other) = bytes_eq path other
 -- whether two results have the same tool, rule, path and message
 abbrev pub are_alike : Finding → Finding → Bool
 are_alike f g =
-    bytes_eq f.tool g.tool && (bytes_eq f.rule g.rule && (same_path f.path g.path && bytes_eq f.message g.message))
+    bytes_eq f.tool g.tool
+    && (bytes_eq f.rule g.rule
+    && (same_path f.path g.path && bytes_eq f.message g.message))
 
 -- how many of the earlier results are like this one
 abbrev pub rank_among : List Finding → Finding → ℕ
@@ -33,12 +35,18 @@ rank_among earlier finding = count_by (are_alike finding) earlier
 -- [TOOL, RULE, PATH, MESSAGE, RANK]
 unfoldable pub hashed_text : Finding → ℕ → List ℕ
 hashed_text f rank =
-    compact_text (array (item (string f.tool) (item (string f.rule) (item (path_or_null f.path) (item (string f.message) (item (number (unsigned rank)) no_items))))))
+    compact_text (array
+    (item (string f.tool)
+    (item (string f.rule)
+    (item (path_or_null f.path)
+    (item (string f.message)
+    (item (number (unsigned rank)) no_items))))))
 
 -- what is hashed of these results, which stand after the earlier ones
 abbrev pub texts_after : List Finding → List Finding → List (List ℕ)
 texts_after earlier [] = []
-texts_after earlier (f ∷ fs) = hashed_text f (rank_among earlier f) ∷ texts_after (earlier ++ f ∷ []) fs
+texts_after earlier (f ∷ fs) =
+    hashed_text f (rank_among earlier f) ∷ texts_after (earlier ++ f ∷ []) fs
 
 abbrev pub hashed_texts : List Finding → List (List ℕ)
 hashed_texts findings = texts_after [] findings
@@ -64,7 +72,8 @@ lines_of f = object (member (codes "begin") (number (unsigned (unwrap_or f.line 
 
 abbrev pub location_of : Finding → Data
 location_of f =
-    object (member (codes "lines") (lines_of f) (member (codes "path") (string (unwrap_or f.path (codes "unknown"))) no_members))
+    object (member (codes "lines") (lines_of f)
+    (member (codes "path") (string (unwrap_or f.path (codes "unknown"))) no_members))
 
 -- a result, by its fingerprint
 unfoldable pub quality_of : Finding → List ℕ → Data
@@ -78,7 +87,8 @@ quality_of f mark =
 -- these results, which stand after the earlier ones
 abbrev pub items_after : List Finding → List Finding → Items
 items_after earlier [] = no_items
-items_after earlier (f ∷ fs) = item (quality_of f (mark_of f (rank_among earlier f))) (items_after (earlier ++ f ∷ []) fs)
+items_after earlier (f ∷ fs) =
+    item (quality_of f (mark_of f (rank_among earlier f))) (items_after (earlier ++ f ∷ []) fs)
 
 abbrev pub gitlab_of : List Finding → List ℕ
 gitlab_of findings = compact_text (array (items_after [] findings))

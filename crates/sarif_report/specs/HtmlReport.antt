@@ -27,7 +27,8 @@ page_head verdict = page_begin ++ (verdict_name verdict ++ (title_end ++ (style 
 unfoldable pub heading : Verdict → ℕ → ℕ → List ℕ
 heading verdict hits max =
     codes "<h1 class=\"" ++ (verdict_name verdict ++ (codes "\">Gate: " ++ (verdict_name verdict
-    ++ (codes "</h1>\n<p>" ++ (decimal hits ++ (codes " hits, " ++ (decimal max ++ codes " allowed</p>\n")))))))
+    ++ (codes "</h1>\n<p>" ++ (decimal hits
+    ++ (codes " hits, " ++ (decimal max ++ codes " allowed</p>\n")))))))
 
 -- ---- the counts
 
@@ -66,10 +67,13 @@ row_class false = codes "<tr"
 
 abbrev pub row_data : List ℕ → List ℕ → List ℕ → List ℕ
 row_data level state hit =
-    codes " data-level=\"" ++ (level ++ (codes "\" data-state=\"" ++ (state ++ (codes "\" data-hit=\"" ++ (hit ++ codes "\">")))))
+    codes " data-level=\"" ++ (level
+    ++ (codes "\" data-state=\"" ++ (state
+    ++ (codes "\" data-hit=\"" ++ (hit ++ codes "\">")))))
 
 abbrev pub hit_cells : List ℕ → List ℕ → List ℕ
-hit_cells hit level = codes "<td>" ++ (hit ++ (codes "</td><td>" ++ (level ++ codes "</td><td><code>")))
+hit_cells hit level =
+    codes "<td>" ++ (hit ++ (codes "</td><td>" ++ (level ++ codes "</td><td><code>")))
 
 -- what the row is, its hit and its level
 unfoldable pub row_front : Bool → Finding → List ℕ
@@ -80,7 +84,8 @@ row_front again f =
 -- a rule that links to its page
 unfoldable pub linked_to : List ℕ → List ℕ → List ℕ
 linked_to rule uri =
-    codes "<a href=\"" ++ (escaped Page uri ++ (codes "\" rel=\"noopener noreferrer\">" ++ (escaped Page rule ++ codes "</a>")))
+    codes "<a href=\"" ++ (escaped Page uri
+    ++ (codes "\" rel=\"noopener noreferrer\">" ++ (escaped Page rule ++ codes "</a>")))
 
 -- a rule, which links to its page where there is one
 abbrev pub linked : List ℕ → Option (List ℕ) → List ℕ
@@ -97,7 +102,8 @@ place_text f = escaped Page (spot_text f)
 
 unfoldable pub place_cells : Finding → List ℕ
 place_cells f =
-    place_text f ++ (codes "</code></td><td><code>" ++ (rule_cell f.rule f.help ++ codes "</code></td><td>"))
+    place_text f ++ (codes "</code></td><td><code>"
+    ++ (rule_cell f.rule f.help ++ codes "</code></td><td>"))
 
 unfoldable pub message_cells : Finding → List ℕ
 message_cells f =
@@ -120,11 +126,15 @@ rows_below above (f ∷ fs) = result_row (is_same_file above f.path) f ++ rows_b
 -- how many results are left out
 unfoldable pub others_line : ℕ → List ℕ
 others_line count =
-    if nat_lt 10000 count then codes "<p>" ++ (decimal (count - 10000) ++ codes " more results are in the merged log.</p>\n") else []
+    if nat_lt 10000 count
+    then codes "<p>"
+    ++ (decimal (count - 10000) ++ codes " more results are in the merged log.</p>\n")
+    else []
 
 unfoldable pub table_of : List Finding → List ℕ
 table_of findings =
-    filters ++ (results_begin ++ (rows_below None (take 10000 findings) ++ (table_end ++ others_line (length findings))))
+    filters ++ (results_begin ++ (rows_below None (take 10000 findings)
+    ++ (table_end ++ others_line (length findings))))
 
 unfoldable pub results_table : List Finding → List ℕ
 results_table findings = if length findings == 0 then nothing_reported else table_of findings

@@ -7,16 +7,16 @@ unfoldable pub style : List ℕ
 style =
     codes "<style>\n" ++ (
     codes ":root{color-scheme:light dark;--page:#fff;--soft:#f6f8fa;--line:#d0d7de;--text:#1f2328;--dim:#57606a}\n" ++ (
-    codes ":root{--error:#b42318;--warning:#8a5a00;--note:#0b5cad;--none:#57606a;--pass:#1a7f37}\n" ++ (
-    codes "@media (prefers-color-scheme:dark){\n" ++ (
+    codes ":root{--error:#b42318;--warning:#8a5a00;--note:#0b5cad;--none:#57606a;--pass:#1a7f37}\n"
+    ++ (codes "@media (prefers-color-scheme:dark){\n" ++ (
     codes ":root{--page:#0d1117;--soft:#161b22;--line:#3d444d;--text:#e6edf3;--dim:#9da7b1}\n" ++ (
-    codes ":root{--error:#ff8a80;--warning:#e3b341;--note:#79c0ff;--none:#9da7b1;--pass:#56d364}\n" ++ (
-    codes "}\n" ++ (
+    codes ":root{--error:#ff8a80;--warning:#e3b341;--note:#79c0ff;--none:#9da7b1;--pass:#56d364}\n"
+    ++ (codes "}\n" ++ (
     codes "*{box-sizing:border-box}\n" ++ (
     codes "body{margin:0;background:var(--page);color:var(--text);font:1rem/1.5 system-ui,sans-serif}\n" ++ (
     codes "main{max-width:100rem;margin:0 auto;padding:2rem 1.5rem}\n" ++ (
-    codes "h1{margin:0;padding-left:1rem;border-left:.5rem solid;font-size:2rem;line-height:1.2}\n" ++ (
-    codes "h1.pass{color:var(--pass)}\n" ++ (
+    codes "h1{margin:0;padding-left:1rem;border-left:.5rem solid;font-size:2rem;line-height:1.2}\n"
+    ++ (codes "h1.pass{color:var(--pass)}\n" ++ (
     codes "h1.fail{color:var(--error)}\n" ++ (
     codes "p{margin:.5rem 0 1.5rem;color:var(--dim)}\n" ++ (
     codes "h1+p{padding-left:1.5rem}\n" ++ (
@@ -27,14 +27,14 @@ style =
     codes "th,td{padding:.375rem .75rem;text-align:left;vertical-align:top}\n" ++ (
     codes "thead th{background:var(--soft);font-weight:600}\n" ++ (
     codes ".counts{font-size:.875rem}\n" ++ (
-    codes ".counts td,.counts thead th+th{text-align:right;font-variant-numeric:tabular-nums}\n" ++ (
-    codes ".counts tbody th{font-weight:400}\n" ++ (
-    codes ".counts tbody th,.counts td{padding-block:.25rem;border-bottom:1px solid var(--line)}\n" ++ (
-    codes "fieldset{display:inline-block;margin:0 .5rem .75rem 0;padding:0 .75rem .25rem}\n" ++ (
-    codes "fieldset{border:1px solid var(--line);border-radius:.5rem}\n" ++ (
+    codes ".counts td,.counts thead th+th{text-align:right;font-variant-numeric:tabular-nums}\n"
+    ++ (codes ".counts tbody th{font-weight:400}\n" ++ (
+    codes ".counts tbody th,.counts td{padding-block:.25rem;border-bottom:1px solid var(--line)}\n"
+    ++ (codes "fieldset{display:inline-block;margin:0 .5rem .75rem 0;padding:0 .75rem .25rem}\n"
+    ++ (codes "fieldset{border:1px solid var(--line);border-radius:.5rem}\n" ++ (
     codes "legend{padding:0 .25rem;color:var(--dim);font-size:.875rem}\n" ++ (
-    codes "label{display:inline-block;margin-right:.75rem;padding:.125rem 0;white-space:nowrap}\n" ++ (
-    codes ".results{width:100%}\n" ++ (
+    codes "label{display:inline-block;margin-right:.75rem;padding:.125rem 0;white-space:nowrap}\n"
+    ++ (codes ".results{width:100%}\n" ++ (
     codes ".results tr.again td:nth-child(3){color:var(--dim)}\n" ++ (
     codes ".results td{overflow-wrap:anywhere}\n" ++ (
     codes ".results td:nth-child(-n+2),.results td:nth-child(7){white-space:nowrap}\n" ++ (
@@ -65,9 +65,9 @@ style =
     codes "fieldset{display:block;margin-right:0}\n" ++ (
     codes ".results,.results caption,.results tbody,.results td{display:block}\n" ++ (
     codes ".results thead{position:absolute;width:1px;height:1px;overflow:hidden;clip-path:inset(50%)}\n" ++ (
-    codes ".results tr{display:grid;grid-template-columns:auto auto 1fr auto;gap:.125rem .75rem}\n" ++ (
-    codes ".results tr{padding:.625rem 0 .625rem .875rem;border-top:1px solid var(--line)}\n" ++ (
-    codes ".results tr.again{border-top-style:dotted}\n" ++ (
+    codes ".results tr{display:grid;grid-template-columns:auto auto 1fr auto;gap:.125rem .75rem}\n"
+    ++ (codes ".results tr{padding:.625rem 0 .625rem .875rem;border-top:1px solid var(--line)}\n"
+    ++ (codes ".results tr.again{border-top-style:dotted}\n" ++ (
     codes ".results tr[data-hit=\"yes\"]{box-shadow:inset .375rem 0 var(--error)}\n" ++ (
     codes ".results td{padding:0}\n" ++ (
     codes ".results td:first-child::before{content:\"hit: \"}\n" ++ (
@@ -95,4 +95,5 @@ style =
     codes "tr{break-inside:avoid}\n" ++ (
     codes ".results thead th{position:static}\n" ++ (
     codes "}\n" ++ (
-    codes "</style>\n"))))))))))))))))))))))))))))))))))))))))))))))))))))))))))))))))))))))))))))))))))))))))))
+    codes "</style>\n"
+    ))))))))))))))))))))))))))))))))))))))))))))))))))))))))))))))))))))))))))))))))))))))))))

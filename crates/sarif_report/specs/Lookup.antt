@@ -23,7 +23,9 @@ element_at name d n = slice_get (elements_in name d) n
 
 -- `ruleId`, else `rule.id`
 abbrev pub own_rule_id : Data → Option (List ℕ)
-own_rule_id result = option_or (text_in (codes "ruleId") result) (option_and_then (text_in (codes "id")) (get (codes "rule") result))
+own_rule_id result =
+    option_or (text_in (codes "ruleId") result)
+    (option_and_then (text_in (codes "id")) (get (codes "rule") result))
 
 -- `rule.index`
 abbrev pub index_of_rule : Data → Option ℕ
@@ -36,13 +38,15 @@ rule_index result = option_or (index_of_rule result) (number_in (codes "ruleInde
 -- `rule.toolComponent.index`
 abbrev pub extension_index : Data → Option ℕ
 extension_index result =
-    option_and_then (number_in (codes "index")) (option_and_then (get (codes "toolComponent")) (get (codes "rule") result))
+    option_and_then (number_in (codes "index"))
+    (option_and_then (get (codes "toolComponent")) (get (codes "rule") result))
 
 abbrev pub driver_of : Data → Option Data
 driver_of run = option_and_then (get (codes "driver")) (get (codes "tool") run)
 
 abbrev pub extension_at : Data → ℕ → Option Data
-extension_at run n = option_and_then (λ tool. element_at (codes "extensions") tool n) (get (codes "tool") run)
+extension_at run n =
+    option_and_then (λ tool. element_at (codes "extensions") tool n) (get (codes "tool") run)
 
 -- the extension of that number, or the driver
 abbrev pub component_by : Data → Option ℕ → Option Data
@@ -62,7 +66,8 @@ rule_by None (Some id) rules = find (has_id id) rules
 rule_by None None rules = None
 
 abbrev pub rule_in : Data → Data → Option Data
-rule_in result component = rule_by (rule_index result) (own_rule_id result) (elements_in (codes "rules") component)
+rule_in result component =
+    rule_by (rule_index result) (own_rule_id result) (elements_in (codes "rules") component)
 
 -- the descriptor of a result of a run
 abbrev pub descriptor_of : Data → Data → Option Data
@@ -84,7 +89,9 @@ help_uri run result = option_and_then (text_in (codes "helpUri")) (descriptor_of
 
 -- `locations[0].physicalLocation`
 abbrev pub physical_location : Data → Option Data
-physical_location result = option_and_then (get (codes "physicalLocation")) (first_of (elements_in (codes "locations") result))
+physical_location result =
+    option_and_then (get (codes "physicalLocation"))
+    (first_of (elements_in (codes "locations") result))
 
 -- `artifacts[n].location.uri`
 abbrev pub artifact_uri : Data → ℕ → Option (List ℕ)
@@ -95,12 +102,14 @@ artifact_uri run n =
 -- the uri of an artifact location, else that of the artifact whose index it has
 abbrev pub location_uri : Data → Data → Option (List ℕ)
 location_uri run location =
-    option_or (text_in (codes "uri") location) (option_and_then (artifact_uri run) (number_in (codes "index") location))
+    option_or (text_in (codes "uri") location)
+    (option_and_then (artifact_uri run) (number_in (codes "index") location))
 
 -- the uri of a result's place
 abbrev pub uri_of : Data → Data → Option (List ℕ)
 uri_of run result =
-    option_and_then (location_uri run) (option_and_then (get (codes "artifactLocation")) (physical_location result))
+    option_and_then (location_uri run)
+    (option_and_then (get (codes "artifactLocation")) (physical_location result))
 
 -- lines and columns are counted from 1
 abbrev pub position_number : ℕ → Option ℕ
@@ -110,4 +119,5 @@ position_number n = if nat_le 1 n && nat_lt n (2 ^ 32) then Some n else None
 abbrev pub position_in : List ℕ → Data → Option ℕ
 position_in name result =
     option_and_then position_number
-    (option_and_then (number_in name) (option_and_then (get (codes "region")) (physical_location result)))
+    (option_and_then (number_in name)
+    (option_and_then (get (codes "region")) (physical_location result)))

@@ -22,7 +22,9 @@ code_of (b ∷ bs) = codes "<code>" ++ (escaped Markdown (b ∷ bs) ++ codes "</
 
 abbrev pub heading : Verdict → ℕ → ℕ → List ℕ
 heading verdict hits max =
-    codes "## Gate: " ++ (verdict_name verdict ++ (codes ", " ++ (decimal hits ++ (codes " hits, " ++ (decimal max ++ codes " allowed\n\n")))))
+    codes "## Gate: " ++ (verdict_name verdict
+    ++ (codes ", " ++ (decimal hits
+    ++ (codes " hits, " ++ (decimal max ++ codes " allowed\n\n")))))
 
 abbrev pub count_row : State → (Level → Bool → ℕ) → List ℕ
 count_row state numbers = row_of (state_name state) (numbers_of numbers)
@@ -30,7 +32,10 @@ count_row state numbers = row_of (state_name state) (numbers_of numbers)
 abbrev pub counts_table : Count → List ℕ
 counts_table count =
     codes "| | error | warning | note | none | suppressed |\n|---|--:|--:|--:|--:|--:|\n"
-    ++ (count_row New (count New) ++ (count_row Unchanged (count Unchanged) ++ (count_row Updated (count Updated) ++ count_row Absent (count Absent))))
+    ++ (count_row New (count New)
+    ++ (count_row Unchanged (count Unchanged)
+    ++ (count_row Updated (count Updated)
+    ++ count_row Absent (count Absent))))
 
 abbrev pub hit_cell : Bool → List ℕ
 hit_cell true = codes "| yes | "
@@ -38,13 +43,16 @@ hit_cell false = codes "|  | "
 
 abbrev pub place_cells : Finding → List ℕ
 place_cells finding =
-    hit_cell finding.hit ++ (level_name finding.level ++ (codes " | " ++ (code_of (spot_text finding) ++ codes " | ")))
+    hit_cell finding.hit ++ (level_name finding.level
+    ++ (codes " | " ++ (code_of (spot_text finding) ++ codes " | ")))
 
 abbrev pub rule_cells : Finding → List ℕ
-rule_cells finding = code_of finding.rule ++ (codes " | " ++ (code_of finding.message ++ codes " | "))
+rule_cells finding =
+    code_of finding.rule ++ (codes " | " ++ (code_of finding.message ++ codes " | "))
 
 abbrev pub tool_cells : Finding → List ℕ
-tool_cells finding = code_of finding.tool ++ (codes " | " ++ (state_name finding.state ++ codes " |\n"))
+tool_cells finding =
+    code_of finding.tool ++ (codes " | " ++ (state_name finding.state ++ codes " |\n"))
 
 -- | HIT | LEVEL | PLACE | RULE | MESSAGE | TOOL | STATE |
 abbrev pub result_row : Finding → List ℕ
@@ -53,11 +61,14 @@ result_row finding = place_cells finding ++ (rule_cells finding ++ tool_cells fi
 -- how many results are left out
 abbrev pub others_line : ℕ → List ℕ
 others_line count =
-    if nat_lt 200 count then codes "\n" ++ (decimal (count - 200) ++ codes " more results are in the merged log.\n") else []
+    if nat_lt 200 count
+    then codes "\n" ++ (decimal (count - 200) ++ codes " more results are in the merged log.\n")
+    else []
 
 abbrev pub table_of : List Finding → List ℕ
 table_of findings =
-    codes "\n| hit | level | place | rule | message | tool | state |\n|---|---|---|---|---|---|---|\n"
+    codes
+    "\n| hit | level | place | rule | message | tool | state |\n|---|---|---|---|---|---|---|\n"
     ++ (flat_map result_row (take 200 findings) ++ others_line (length findings))
 
 -- nothing where nothing is reported
@@ -66,4 +77,5 @@ results_table findings = if length findings == 0 then [] else table_of findings
 
 abbrev pub markdown_of : Count → Policy → List Finding → List ℕ
 markdown_of count policy findings =
-    heading (verdict_of count policy) (hits_of count policy) policy.max ++ (counts_table count ++ results_table findings)
+    heading (verdict_of count policy) (hits_of count policy) policy.max
+    ++ (counts_table count ++ results_table findings)

@@ -12,17 +12,21 @@ use Rattle.sarif_report.specs.Lookup.{text_in, elements_in, descriptor_of, compo
 
 -- the text of the member of that name of a table of message strings
 abbrev pub string_named : List ℕ → List ℕ → Data → Option (List ℕ)
-string_named table name d = option_and_then (text_in (codes "text")) (option_and_then (get name) (get table d))
+string_named table name d =
+    option_and_then (text_in (codes "text")) (option_and_then (get name) (get table d))
 
 -- the component whose strings a result's message may be one of
 abbrev pub strings_of : Data → Data → Option Data
-strings_of run result = if is_some (descriptor_of run result) then component_of run result else driver_of run
+strings_of run result =
+    if is_some (descriptor_of run result) then component_of run result else driver_of run
 
 abbrev pub own_string : Data → Data → List ℕ → Option (List ℕ)
-own_string run result name = option_and_then (string_named (codes "messageStrings") name) (descriptor_of run result)
+own_string run result name =
+    option_and_then (string_named (codes "messageStrings") name) (descriptor_of run result)
 
 abbrev pub shared_string : Data → Data → List ℕ → Option (List ℕ)
-shared_string run result name = option_and_then (string_named (codes "globalMessageStrings") name) (strings_of run result)
+shared_string run result name =
+    option_and_then (string_named (codes "globalMessageStrings") name) (strings_of run result)
 
 -- the string of that name of the descriptor, else of the component
 abbrev pub looked_up : Data → Data → List ℕ → Option (List ℕ)
@@ -31,7 +35,8 @@ looked_up run result name = option_or (own_string run result name) (shared_strin
 -- the message's own text, else the one that its id names
 abbrev pub text_by : Data → Data → Data → Option (List ℕ)
 text_by run result message =
-    option_or (text_in (codes "text") message) (option_and_then (looked_up run result) (text_in (codes "id") message))
+    option_or (text_in (codes "text") message)
+    (option_and_then (looked_up run result) (text_in (codes "id") message))
 
 abbrev pub found_text : Data → Data → Option (List ℕ)
 found_text run result = option_and_then (text_by run result) (get (codes "message") result)
@@ -90,7 +95,8 @@ piece_of args c cs =
 -- the text with its placeholders filled in, from left to right; the first `skip` characters are read already
 abbrev pub filled_from : List Data → ℕ → List ℕ → List ℕ
 filled_from args skip [] = []
-filled_from args zero (c ∷ cs) = (piece_of args c cs).0 ++ filled_from args (piece_of args c cs).1 cs
+filled_from args zero (c ∷ cs) =
+    (piece_of args c cs).0 ++ filled_from args (piece_of args c cs).1 cs
 filled_from args (suc skip) (c ∷ cs) = filled_from args skip cs
 
 -- any other byte than `{` and `}`

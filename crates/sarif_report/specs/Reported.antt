@@ -49,16 +49,19 @@ only_with (Some x) o = o
 
 -- there is a line only with a path
 abbrev pub line_in : Reporting → Data → Data → Option ℕ
-line_in reporting run result = only_with (path_in reporting run result) (position_in (codes "startLine") result)
+line_in reporting run result =
+    only_with (path_in reporting run result) (position_in (codes "startLine") result)
 
 -- there is a column only with a line
 abbrev pub column_in : Reporting → Data → Data → Option ℕ
-column_in reporting run result = only_with (line_in reporting run result) (position_in (codes "startColumn") result)
+column_in reporting run result =
+    only_with (line_in reporting run result) (position_in (codes "startColumn") result)
 
 -- whether an address is one of the web, all of whose characters are shown
 abbrev pub is_link : List ℕ → Bool
 is_link uri =
-    (starts_with nat_eq uri (codes "https://") || starts_with nat_eq uri (codes "http://")) && bytes_eq (shown (chars uri)) uri
+    (starts_with nat_eq uri (codes "https://") || starts_with nat_eq uri (codes "http://"))
+    && bytes_eq (shown (chars uri)) uri
 
 abbrev pub link_of : List ℕ → Option (List ℕ)
 link_of uri = if is_link uri then Some uri else None
@@ -92,13 +95,16 @@ abbrev pub finding_by : Reporting → Data → Data → Option Level → Option 
 finding_by reporting run result None state = None
 finding_by reporting run result (Some level) None = None
 finding_by reporting run result (Some level) (Some state) =
-    if is_reported reporting result state then Some (finding_of reporting run result level state) else None
+    if is_reported reporting result state
+    then Some (finding_of reporting run result level state) else None
 
 abbrev pub finding_if : Reporting → Data → Data → Option Finding
-finding_if reporting run result = finding_by reporting run result (level_in result) (state_in result)
+finding_if reporting run result =
+    finding_by reporting run result (level_in result) (state_in result)
 
 abbrev pub reported_in : Reporting → Data → List Finding
-reported_in reporting run = filter_map (finding_if reporting run) (elements_in (codes "results") run)
+reported_in reporting run =
+    filter_map (finding_if reporting run) (elements_in (codes "results") run)
 
 abbrev pub reported_of : Reporting → Data → List Finding
 reported_of reporting log = flat_map (reported_in reporting) (elements_in (codes "runs") log)

@@ -11,7 +11,8 @@ use Rattle.sarif_report.specs.Lookup.{elements_in}
 
 -- the rule that a table has at an id
 abbrev pub rule_at : tree.BTreeMap (Bor (List ℕ)) (Bor Value) → List ℕ → Option Data
-rule_at table id = option_map (λ rule. view rule.now) (tree.get_by (λ key. slice_cmp nat_cmp id key.now) table)
+rule_at table id =
+    option_map (λ rule. view rule.now) (tree.get_by (λ key. slice_cmp nat_cmp id key.now) table)
 
 -- the rules of a component
 abbrev pub rules_in : Data → List Data

@@ -12,13 +12,16 @@ is_control c = is_between 0 0x1F c || is_between 0x7F 0x9F c || is_between 0x202
 -- characters that turn the order in which a text is read, or join or steer what stands beside them unseen
 abbrev pub is_unseen_mark : ℕ → Bool
 is_unseen_mark c =
-    c == 0xAD || c == 0x34F || c == 0x61C || is_between 0x180B 0x180F c || is_between 0x200B 0x200F c
-    || is_between 0x202A 0x202E c || is_between 0x2060 0x206F c || is_between 0xFE00 0xFE0F c || c == 0xFEFF
+    c == 0xAD || c == 0x34F || c == 0x61C
+    || is_between 0x180B 0x180F c || is_between 0x200B 0x200F c
+    || is_between 0x202A 0x202E c || is_between 0x2060 0x206F c
+    || is_between 0xFE00 0xFE0F c || c == 0xFEFF
     || is_between 0xFFF9 0xFFFB c || is_between 0x1D173 0x1D17A c || is_between 0xE0000 0xE0FFF c
 
 -- letters that are drawn as nothing
 abbrev pub is_blank_letter : ℕ → Bool
-is_blank_letter c = is_between 0x115F 0x1160 c || is_between 0x17B4 0x17B5 c || c == 0x3164 || c == 0xFFA0
+is_blank_letter c =
+    is_between 0x115F 0x1160 c || is_between 0x17B4 0x17B5 c || c == 0x3164 || c == 0xFFA0
 
 abbrev pub is_concealed : ℕ → Bool
 is_concealed c = is_control c || (is_unseen_mark c || is_blank_letter c)

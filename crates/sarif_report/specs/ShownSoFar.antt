@@ -12,7 +12,8 @@ stands b = is_between 32 126 b && not (b == 35)
 abbrev pub shown_with : ShownText → List ℕ → List ℕ
 shown_with so_far cs =
     string_bytes so_far.text
-    ++ (if so_far.full then [] else encode_utf8_all (kept so_far.room (parted_signs so_far.after_sign (map plain cs))))
+    ++ (if so_far.full then []
+    else encode_utf8_all (kept so_far.room (parted_signs so_far.after_sign (map plain cs))))
 
 -- these characters were taken, and others may follow
 abbrev pub Takes : ShownText → ShownText → List ℕ → Type 0

@@ -6,4 +6,6 @@ use Rattle.sarif_report.specs.Lookup.{descriptor_of}
 
 -- the descriptor that is given with the result is the result's
 abbrev pub IsDescribed : Subject → Type 0
-IsDescribed subject = option_map (λ rule. view rule.now) subject.descriptor ≡ descriptor_of (view subject.run.now) (view subject.found.now)
+IsDescribed subject =
+    option_map (λ rule. view rule.now) subject.descriptor
+    ≡ descriptor_of (view subject.run.now) (view subject.found.now)

@@ -11,15 +11,18 @@ bracketed [] = []
 bracketed (b ∷ bs) = codes " [" ++ ((b ∷ bs) ++ codes "]")
 
 abbrev pub level_and_message : Finding → List ℕ
-level_and_message finding = codes ": " ++ (level_name finding.level ++ (codes ": " ++ finding.message))
+level_and_message finding =
+    codes ": " ++ (level_name finding.level ++ (codes ": " ++ finding.message))
 
 abbrev pub tool_and_state : Finding → List ℕ
-tool_and_state finding = codes " (" ++ (finding.tool ++ (codes ", " ++ (state_name finding.state ++ codes ")\n")))
+tool_and_state finding =
+    codes " (" ++ (finding.tool ++ (codes ", " ++ (state_name finding.state ++ codes ")\n")))
 
 -- PLACE: LEVEL: MESSAGE [RULE] (TOOL, STATE)
 abbrev pub text_line : Finding → List ℕ
 text_line finding =
-    spot_text finding ++ (level_and_message finding ++ (bracketed finding.rule ++ tool_and_state finding))
+    spot_text finding ++ (level_and_message finding
+    ++ (bracketed finding.rule ++ tool_and_state finding))
 
 abbrev pub text_lines_of : List Finding → List ℕ
 text_lines_of findings = flat_map text_line findings

@@ -11,7 +11,8 @@ abbrev pub option_rule : Text → Rule
 option_rule name = record (new_rule name) { long = Some name; value_names = 1 }
 
 abbrev pub log_rule : Rule
-log_rule = record (new_rule (codes "log")) { value_names = 1; action = Some Append; required = true }
+log_rule =
+    record (new_rule (codes "log")) { value_names = 1; action = Some Append; required = true }
 
 abbrev pub out_rule : Rule
 out_rule = record (option_rule (codes "out")) { required = true }
@@ -23,11 +24,13 @@ abbrev pub suppress_rule : Rule
 suppress_rule = option_rule (codes "suppress")
 
 abbrev pub today_rule : Rule
-today_rule = record (option_rule (codes "today")) { parser = Some (Signed (pos 10000101) (pos 99991231)) }
+today_rule =
+    record (option_rule (codes "today")) { parser = Some (Signed (pos 10000101) (pos 99991231)) }
 
 abbrev pub fail_on_rule : Bor (List (Bor Text)) → Rule
 fail_on_rule levels =
-    record (option_rule (codes "fail-on")) { parser = Some (Names levels); defaults = codes "error" ∷ [] }
+    record (option_rule (codes "fail-on"))
+    { parser = Some (Names levels); defaults = codes "error" ∷ [] }
 
 abbrev pub max_rule : Rule
 max_rule = record (option_rule (codes "max")) {
@@ -43,7 +46,8 @@ workers_rule = record (option_rule (codes "workers")) {
 
 -- a word with no value: `--explain`
 abbrev pub explain_rule : Rule
-explain_rule = record (new_rule (codes "explain")) { long = Some (codes "explain"); action = Some SetTrue }
+explain_rule =
+    record (new_rule (codes "explain")) { long = Some (codes "explain"); action = Some SetTrue }
 
 -- the names of the levels, as `--fail-on` takes them
 abbrev pub level_texts : List Text
@@ -55,20 +59,24 @@ AreLevels levels = map (λ level. level.now) levels.now ≡ level_texts
 
 -- a command with a version, whose words begin with no name of the program
 abbrev pub start : App
-start = on_top (λ s. record s { no_binary_name = true; has_version = true }) (new_app (codes "sarif_gate"))
+start =
+    on_top (λ s. record s { no_binary_name = true; has_version = true })
+    (new_app (codes "sarif_gate"))
 
 -- the words for the merge; `levels` refers to the names of the levels
 abbrev pub merging : Bor (List (Bor Text)) → App
 merging levels =
     with_rule (with_rule (with_rule (with_rule (with_rule (with_rule (with_rule (with_rule start
-    log_rule) out_rule) baseline_rule) suppress_rule) today_rule) (fail_on_rule levels)) max_rule) workers_rule
+    log_rule) out_rule) baseline_rule) suppress_rule)
+    today_rule) (fail_on_rule levels)) max_rule) workers_rule
 
 -- and those for reports and explanations
 abbrev pub reporting : App → App
 reporting app =
     with_rule (with_rule (with_rule (with_rule (with_rule (with_rule (with_rule app
-    (option_rule (codes "text"))) (option_rule (codes "github"))) (option_rule (codes "markdown")))
-    (option_rule (codes "gitlab"))) (option_rule (codes "html"))) (option_rule (codes "root"))) explain_rule
+    (option_rule (codes "text"))) (option_rule (codes "github")))
+    (option_rule (codes "markdown"))) (option_rule (codes "gitlab")))
+    (option_rule (codes "html"))) (option_rule (codes "root"))) explain_rule
 
 -- all words
 unfoldable pub program : Bor (List (Bor Text)) → App

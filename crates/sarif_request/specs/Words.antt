@@ -39,7 +39,9 @@ values_of name rows = unwrap_or (all_of name rows) []
 
 -- a text of digits that writes a number of 32 bits
 abbrev pub IsWhole : Text → Type 0
-IsWhole text = IsNumeral 10 (without_leading_plus text) × (digits_value 10 (without_leading_plus text) < 2 ^ 32)
+IsWhole text =
+    IsNumeral 10 (without_leading_plus text)
+    × (digits_value 10 (without_leading_plus text) < 2 ^ 32)
 
 -- the number that a text writes, where there is a text and it writes one
 abbrev pub IsRead : Option Text → Option ℕ → Type 0
@@ -57,7 +59,9 @@ in_range n = max 1 (min n 64)
 
 -- the least level that counts
 abbrev pub fail_on_in : List Row → Level
-fail_on_in rows = unwrap_or (option_and_then level_named (first_of (codes "fail-on") rows)) default_policy.fail_on
+fail_on_in rows =
+    unwrap_or (option_and_then level_named (first_of (codes "fail-on") rows))
+    default_policy.fail_on
 
 -- the names of the reports that are asked for
 abbrev pub reports_in : List Row → Reports Text
@@ -83,7 +87,8 @@ pub record AsksFor (rows : List Row) (request : Request) : Type 0 where
   pub root : request.root ≡ unwrap_or (first_of (codes "root") rows) []
   pub explain : request.explain ≡ is_set (codes "explain") rows
   pub today : IsRead (one_of (codes "today") rows) request.options.today
-  pub workers : (n : ℕ) × IsReadOr 1 (one_of (codes "workers") rows) n × (request.options.workers ≡ in_range n)
+  pub workers : (n : ℕ) × IsReadOr 1 (one_of (codes "workers") rows) n
+      × (request.options.workers ≡ in_range n)
   pub fail_on : request.options.policy.fail_on ≡ fail_on_in rows
   pub states : request.options.policy.states ≡ default_policy.states
   pub max : IsReadOr default_policy.max (one_of (codes "max") rows) request.options.policy.max
@@ -113,7 +118,8 @@ IsUsageOrWanting OutOfMemory = ⊤
 -- any text
 abbrev pub IsFaultOf : List Text → WordsFault → Type 0
 IsFaultOf words (Usage text) = (levels : Bor (List (Bor Text))) × AreLevels levels
-    × (((k : ErrorKind) × IsAmong k (fault_of (program levels) words) × (¬ IsAsked k)) ⊎ HaveClash (program levels) words)
+    × (((k : ErrorKind) × IsAmong k (fault_of (program levels) words) × (¬ IsAsked k))
+    ⊎ HaveClash (program levels) words)
 IsFaultOf words (Help text) = (levels : Bor (List (Bor Text))) × AreLevels levels
     × (k : ErrorKind) × IsAmong k (fault_of (program levels) words) × IsAsked k
 IsFaultOf words OutOfMemory = ⊤

@@ -26,7 +26,8 @@ component_number (Some extension) = extension + 1
 
 -- the index goes before the id, of which the first rule counts; an index past the rules is a fault
 abbrev pub rule_number : List Rule → Option ℕ → Option (List ℕ) → Result (Option ℕ) Fault
-rule_number rules (Some index) id = if nat_lt index (length rules) then Ok (Some index) else Err BadIndex
+rule_number rules (Some index) id =
+    if nat_lt index (length rules) then Ok (Some index) else Err BadIndex
 rule_number rules None (Some id) = Ok (first_with_id id rules)
 rule_number rules None None = Ok None
 

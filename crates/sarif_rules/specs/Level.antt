@@ -42,9 +42,11 @@ abbrev pub overriding_level : List Override → Option (ℕ × ℕ) → Option L
 overriding_level overrides None = None
 overriding_level overrides (Some d) = option_and_then (λ o. o.level) (find (specifies d) overrides)
 
-abbrev pub overriding_level_at : List (List Override) → Option ℕ → Option (ℕ × ℕ) → Result (Option Level) Fault
+abbrev pub overriding_level_at : List (List Override) → Option ℕ → Option (ℕ × ℕ)
+    → Result (Option Level) Fault
 overriding_level_at invocations invocation descriptor =
-    result_map (λ overrides. overriding_level overrides descriptor) (overrides_at invocations invocation)
+    result_map (λ overrides. overriding_level overrides descriptor)
+    (overrides_at invocations invocation)
 
 -- the rule of a descriptor
 abbrev pub rule_at : List (List Rule) → ℕ × ℕ → Option Rule

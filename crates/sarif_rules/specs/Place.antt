@@ -21,7 +21,8 @@ unfoldable pub artifacts_of : Data → Result (List Place) Fault
 artifacts_of run = objects_at BadLocation (codes "artifacts") run >>= read_each artifact_of
 
 -- a `uri` stands with the base beside it; without it the artifact's place, in one step; else both are absent
-abbrev pub place_by : List Place → Option (List ℕ) → Option (List ℕ) → Option ℕ → Result Place Fault
+abbrev pub place_by : List Place → Option (List ℕ) → Option (List ℕ) → Option ℕ
+    → Result Place Fault
 place_by artifacts (Some uri) base artifact = Ok (record { uri = Some uri; base = base })
 place_by artifacts None base (Some index) = ok_or (slice_get artifacts index) BadIndex
 place_by artifacts None base None = Ok (record { uri = None; base = None })

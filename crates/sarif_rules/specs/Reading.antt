@@ -17,7 +17,8 @@ abbrev pub before : {X E : Type 0} → List X → Result (List X) E → Result (
 before done rest = result_map (λ xs. done ++ xs) rest
 
 -- the list that is read of a value; where it is absent the list is empty
-abbrev pub list_if_there : {X E : Type 0} → (Data → Result (List X) E) → Option Data → Result (List X) E
+abbrev pub list_if_there : {X E : Type 0}
+    → (Data → Result (List X) E) → Option Data → Result (List X) E
 list_if_there read None = Ok []
 list_if_there read (Some d) = read d
 

@@ -18,7 +18,8 @@ IsRead remaining old new bytes =
     × (failed_calls new ≡ failed_calls old)
 
 -- each of the readers did
-abbrev pub AreRead : {R : Type 0} → (R → Option (List ℕ)) → List (Counted R) → List (Counted R) → List (List ℕ) → Type 0
+abbrev pub AreRead : {R : Type 0} → (R → Option (List ℕ))
+    → List (Counted R) → List (Counted R) → List (List ℕ) → Type 0
 AreRead remaining [] [] [] = ⊤
 AreRead remaining [] [] (bytes ∷ rest) = ⊥
 AreRead remaining [] (new ∷ news) all = ⊥
@@ -29,16 +30,22 @@ AreRead remaining (old ∷ olds) (new ∷ news) (bytes ∷ rest) =
 
 -- why reading this source ended: a read of it failed, which is counted; it is too long, which it is where it tells; or
 -- memory was wanting
-abbrev pub HasStopped : {R : Type 0} → (R → Option (List ℕ)) → Source → Counted R → Counted R → ReadersFault → Type 0
-HasStopped remaining source old new (ReadFailed at) = (at ≡ source) × (failed_calls new ≡ failed_calls old + 1)
+abbrev pub HasStopped : {R : Type 0} → (R → Option (List ℕ)) → Source
+    → Counted R → Counted R → ReadersFault → Type 0
+HasStopped remaining source old new (ReadFailed at) =
+    (at ≡ source) × (failed_calls new ≡ failed_calls old + 1)
 HasStopped remaining source old new (TooLong at) =
-    (at ≡ source) × (failed_calls new ≡ failed_calls old) × IfSome (remaining (inner_of old)) IsPastLimit
+    (at ≡ source)
+    × (failed_calls new ≡ failed_calls old)
+    × IfSome (remaining (inner_of old)) IsPastLimit
 HasStopped remaining source old new OutOfMemory = failed_calls new ≡ failed_calls old
 
 -- reading the sources, from number n on, ended at one of them: those before it were read, those after it untouched
-abbrev pub StopsIn : {R : Type 0} → (R → Option (List ℕ)) → (ℕ → Source) → ℕ → List (Counted R) → List (Counted R) → ReadersFault → Type 0
+abbrev pub StopsIn : {R : Type 0} → (R → Option (List ℕ)) → (ℕ → Source) → ℕ
+    → List (Counted R) → List (Counted R) → ReadersFault → Type 0
 StopsIn remaining name n [] news fault = ⊥
 StopsIn remaining name n (old ∷ olds) [] fault = ⊥
 StopsIn remaining name n (old ∷ olds) (new ∷ news) fault =
     (HasStopped remaining (name n) old new fault × (news ≡ olds))
-    ⊎ (((bytes : List ℕ) × IsRead remaining old new bytes) × StopsIn remaining name (n + 1) olds news fault)
+    ⊎ (((bytes : List ℕ) × IsRead remaining old new bytes)
+    × StopsIn remaining name (n + 1) olds news fault)

@@ -15,5 +15,7 @@ abbrev pub at_text : At → List ℕ
 at_text Nowhere = []
 at_text (Whole source) = source_text source
 at_text (Run source run) = source_text source ++ (codes ", run " ++ decimal run)
-at_text (Single source run number) = source_text source ++ (codes ", run " ++ (decimal run ++ (codes ", result " ++ decimal number)))
+at_text (Single source run number) =
+    source_text source ++ (codes ", run " ++ (decimal run
+    ++ (codes ", result " ++ decimal number)))
 at_text (Entry entry) = codes "suppressions, entry " ++ decimal entry

@@ -27,7 +27,8 @@ contents_of bytes = record {
 -- how many calls of the readers failed
 abbrev pub failures : {R : Type 0} → Readers R → ℕ
 failures all =
-    failed_calls_in all.logs.items + (failed_calls_in all.baselines.items + failed_calls_if all.suppressions)
+    failed_calls_in all.logs.items
+    + (failed_calls_in all.baselines.items + failed_calls_if all.suppressions)
 
 -- of none of them did the number of failed calls fall
 pub record NoNumberFalls {R : Type 0} (old new : Readers R) : Type 0 where
@@ -36,7 +37,8 @@ pub record NoNumberFalls {R : Type 0} (old new : Readers R) : Type 0 where
   pub suppressions : failed_calls_if old.suppressions ≤ failed_calls_if new.suppressions
 
 -- a reader that may be there gave its bytes, where it is there
-abbrev pub IsReadIf : {R : Type 0} → (R → Option (List ℕ)) → Option (Counted R) → Option (Counted R) → Option (List ℕ) → Type 0
+abbrev pub IsReadIf : {R : Type 0} → (R → Option (List ℕ))
+    → Option (Counted R) → Option (Counted R) → Option (List ℕ) → Type 0
 IsReadIf remaining None None None = ⊤
 IsReadIf remaining None None (Some bytes) = ⊥
 IsReadIf remaining None (Some new) bytes = ⊥
@@ -45,26 +47,34 @@ IsReadIf remaining (Some old) (Some new) None = ⊥
 IsReadIf remaining (Some old) (Some new) (Some bytes) = IsRead remaining old new bytes
 
 -- each reader gave the bytes of its source, and is at its end
-pub record WereRead {R : Type 0} (remaining : R → Option (List ℕ)) (old new : Readers R) (contents : SourceContents) : Type 0 where
+pub record WereRead {R : Type 0} (remaining : R → Option (List ℕ)) (old new : Readers R)
+    (contents : SourceContents) : Type 0 where
   pub logs : AreRead remaining old.logs.items new.logs.items contents.logs
   pub baselines : AreRead remaining old.baselines.items new.baselines.items contents.baselines
   pub suppressions : IsReadIf remaining old.suppressions new.suppressions contents.suppressions
 
 -- a reader that may be there ended reading
-abbrev pub HasStoppedIf : {R : Type 0} → (R → Option (List ℕ)) → Option (Counted R) → Option (Counted R) → ReadersFault → Type 0
+abbrev pub HasStoppedIf : {R : Type 0} → (R → Option (List ℕ))
+    → Option (Counted R) → Option (Counted R) → ReadersFault → Type 0
 HasStoppedIf remaining None new fault = ⊥
 HasStoppedIf remaining (Some old) None fault = ⊥
 HasStoppedIf remaining (Some old) (Some new) fault = HasStopped remaining Suppress old new fault
 
 -- reading ended at one of the sources: logs, then baselines, then the suppression file; those before it were read, and
 -- those after it are as they were
-abbrev pub HasStoppedAt : {R : Type 0} → (R → Option (List ℕ)) → Readers R → Readers R → ReadersFault → Type 0
+abbrev pub HasStoppedAt : {R : Type 0} → (R → Option (List ℕ))
+    → Readers R → Readers R → ReadersFault → Type 0
 HasStoppedAt remaining old new fault =
-    (StopsIn remaining Log 0 old.logs.items new.logs.items fault × (new.baselines ≡ old.baselines) × (new.suppressions ≡ old.suppressions))
+    (StopsIn remaining Log 0 old.logs.items new.logs.items fault
+    × (new.baselines ≡ old.baselines)
+    × (new.suppressions ≡ old.suppressions))
     ⊎ (((logs : List (List ℕ)) × AreRead remaining old.logs.items new.logs.items logs
-    × StopsIn remaining Baseline 0 old.baselines.items new.baselines.items fault × (new.suppressions ≡ old.suppressions))
-    ⊎ ((logs : List (List ℕ)) × (baselines : List (List ℕ)) × AreRead remaining old.logs.items new.logs.items logs
-    × AreRead remaining old.baselines.items new.baselines.items baselines × HasStoppedIf remaining old.suppressions new.suppressions fault))
+    × StopsIn remaining Baseline 0 old.baselines.items new.baselines.items fault
+    × (new.suppressions ≡ old.suppressions))
+    ⊎ ((logs : List (List ℕ)) × (baselines : List (List ℕ))
+    × AreRead remaining old.logs.items new.logs.items logs
+    × AreRead remaining old.baselines.items new.baselines.items baselines
+    × HasStoppedIf remaining old.suppressions new.suppressions fault))
 
 -- a reader tells what it has left
 abbrev pub Tells : {R : Type 0} → (R → Option (List ℕ)) → Counted R → Type 0

@@ -18,7 +18,14 @@ use Rattle.sarif_suppress.specs.Matching.{is_any}
 -- an entry of the first version may have a member of that name
 abbrev pub is_first_member : List ℕ → Bool
 is_first_member name =
-    bytes_eq name (codes "tool") || (bytes_eq name (codes "ruleId") || (bytes_eq name (codes "uri") || (bytes_eq name (codes "guid") || (bytes_eq name (codes "fingerprints") || (bytes_eq name (codes "partialFingerprints") || (bytes_eq name (codes "status") || bytes_eq name (codes "justification")))))))
+    bytes_eq name (codes "tool")
+    || (bytes_eq name (codes "ruleId")
+    || (bytes_eq name (codes "uri")
+    || (bytes_eq name (codes "guid")
+    || (bytes_eq name (codes "fingerprints")
+    || (bytes_eq name (codes "partialFingerprints")
+    || (bytes_eq name (codes "status")
+    || bytes_eq name (codes "justification")))))))
 
 -- the same for an entry of either version
 abbrev pub has_member : Version → List ℕ → Bool
@@ -71,11 +78,13 @@ abbrev pub pairs_of : Members → List (List ℕ × List ℕ)
 pairs_of no_members = []
 pairs_of (member name d ms) = with_pair name (as_str d) (pairs_of ms)
 
-abbrev pub pairs_or : SuppressFault → Option Members → Result (List (List ℕ × List ℕ)) SuppressFault
+abbrev pub pairs_or : SuppressFault → Option Members
+    → Result (List (List ℕ × List ℕ)) SuppressFault
 pairs_or wrong None = Err wrong
 pairs_or wrong (Some ms) = if are_texts ms then Ok (pairs_of ms) else Err wrong
 
-abbrev pub pairs_of_member : SuppressFault → Option Data → Result (List (List ℕ × List ℕ)) SuppressFault
+abbrev pub pairs_of_member : SuppressFault → Option Data
+    → Result (List (List ℕ × List ℕ)) SuppressFault
 pairs_of_member wrong None = Ok []
 pairs_of_member wrong (Some d) = pairs_or wrong (as_object d)
 
@@ -88,7 +97,8 @@ is_within least greatest n = nat_le least n && nat_le n greatest
 
 -- a day yyyymmdd from 10000101 to 99991231, of a month 1 to 12 and a day 1 to 31; the lengths of months don't count
 abbrev pub is_day : ℕ → Bool
-is_day n = is_within 10000101 99991231 n && (is_within 1 12 (n / 100 % 100) && is_within 1 31 (n % 100))
+is_day n =
+    is_within 10000101 99991231 n && (is_within 1 12 (n / 100 % 100) && is_within 1 31 (n % 100))
 
 abbrev pub day_or : SuppressFault → Option ℕ → Result (Option ℕ) SuppressFault
 day_or wrong None = Err wrong

@@ -39,7 +39,8 @@ abbrev pub check_count : List Data → Result ⊤ SuppressFault
 check_count ds = unless_fault (nat_le (length ds) 10000) TooMany
 
 -- the entries from number n on, or the fault of the first that has one
-unfoldable pub entries_from : Version → Option ℕ → ℕ → List Data → Result (List Entry) SuppressFault
+unfoldable pub entries_from : Version → Option ℕ → ℕ → List Data
+    → Result (List Entry) SuppressFault
 entries_from version today n [] = Ok []
 entries_from version today n (d ∷ ds) = do
   e ← entry_of version today n d

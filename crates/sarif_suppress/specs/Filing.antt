@@ -57,7 +57,14 @@ asks_for_text which text e =
 abbrev pub asks_for_none : Entry → Bool
 asks_for_none e = has_no_key e.conditions
 
--- the numbers of the entries that are filed under what a result has, but for prefixes, and of those that are filed nowhere
+-- the numbers of the entries that are filed under what a result has, but for prefixes, and of those that are filed
+-- nowhere
 abbrev pub candidates : List Entry → Record → List ℕ
 candidates es r =
-    option_map_or (λ guid. numbers_from (asks_for_guid guid) 0 es) r.guid [] ++ (flat_map (λ pair. numbers_from (asks_for_pair Full pair) 0 es) r.full ++ (flat_map (λ pair. numbers_from (asks_for_pair Partial pair) 0 es) r.partial ++ (option_map_or (λ uri. numbers_from (asks_for_text Uri uri) 0 es) r.place.uri [] ++ (numbers_from (asks_for_text RuleId r.rule_id) 0 es ++ (numbers_from (asks_for_text Tool r.tool) 0 es ++ numbers_from asks_for_none 0 es)))))
+    option_map_or (λ guid. numbers_from (asks_for_guid guid) 0 es) r.guid []
+    ++ (flat_map (λ pair. numbers_from (asks_for_pair Full pair) 0 es) r.full
+    ++ (flat_map (λ pair. numbers_from (asks_for_pair Partial pair) 0 es) r.partial
+    ++ (option_map_or (λ uri. numbers_from (asks_for_text Uri uri) 0 es) r.place.uri []
+    ++ (numbers_from (asks_for_text RuleId r.rule_id) 0 es
+    ++ (numbers_from (asks_for_text Tool r.tool) 0 es
+    ++ numbers_from asks_for_none 0 es)))))

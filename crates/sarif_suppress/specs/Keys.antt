@@ -15,7 +15,8 @@ use Rattle.sarif_suppress.specs.Written.{are_just}
 -- the members of an object with that status and that justification, if any
 abbrev pub texts_with : Status → Option (List ℕ) → List (List ℕ × List ℕ)
 texts_with status justification =
-    with_pair (codes "justification") justification ((codes "kind", codes "external") ∷ (codes "status", status_name status) ∷ [])
+    with_pair (codes "justification") justification
+    ((codes "kind", codes "external") ∷ (codes "status", status_name status) ∷ [])
 
 -- the value is that object
 abbrev pub is_object_with : Status → Option (List ℕ) → Data → Bool

@@ -43,12 +43,22 @@ is_empty (x ∷ xs) = false
 -- at least one condition is named
 abbrev pub is_any : Conditions → Bool
 is_any c =
-    is_some c.tool || (is_some c.rule_id || (is_some c.uri || (is_some c.uri_prefix || (is_some c.guid || (not (is_empty c.full) || not (is_empty c.partial))))))
+    is_some c.tool
+    || (is_some c.rule_id
+    || (is_some c.uri
+    || (is_some c.uri_prefix
+    || (is_some c.guid
+    || (not (is_empty c.full) || not (is_empty c.partial))))))
 
 -- every condition that is named holds of the result
 abbrev pub hold : Conditions → Record → Bool
 hold c r =
-    is_wanted c.rule_id r.rule_id && (is_wanted c.tool r.tool && (is_there c.uri r.place.uri && (begins c.uri_prefix r.place.uri && (is_guid c.guid r.guid && (are_among c.full r.full && are_among c.partial r.partial)))))
+    is_wanted c.rule_id r.rule_id
+    && (is_wanted c.tool r.tool
+    && (is_there c.uri r.place.uri
+    && (begins c.uri_prefix r.place.uri
+    && (is_guid c.guid r.guid
+    && (are_among c.full r.full && are_among c.partial r.partial)))))
 
 -- the last day lies before today; with no last day, or where no day is known, an entry doesn't expire
 abbrev pub is_past : Option ℕ → Option ℕ → Bool
@@ -70,7 +80,8 @@ pub record Meets (c : Conditions) (r : Record) : Type 0 where
   pub tool : (text : List ℕ) → c.tool ≡ Some text → r.tool ≡ text
   pub rule_id : (text : List ℕ) → c.rule_id ≡ Some text → r.rule_id ≡ text
   pub uri : (text : List ℕ) → c.uri ≡ Some text → r.place.uri ≡ Some text
-  pub uri_prefix : (prefix : List ℕ) → c.uri_prefix ≡ Some prefix → (rest : List ℕ) × (r.place.uri ≡ Some (prefix ++ rest))
+  pub uri_prefix : (prefix : List ℕ) → c.uri_prefix ≡ Some prefix
+      → (rest : List ℕ) × (r.place.uri ≡ Some (prefix ++ rest))
   pub guid : (guid : ℕ) → c.guid ≡ Some guid → r.guid ≡ Some guid
   pub full : (pair : List ℕ × List ℕ) → Contains c.full pair → Contains r.full pair
   pub partial : (pair : List ℕ × List ℕ) → Contains c.partial pair → Contains r.partial pair

@@ -38,9 +38,12 @@ abbrev pub is_length : ℕ → List Entry → Bool
 is_length n entries = list_any (has_length n) entries
 
 -- the table has the lengths and the hashes of the prefixes of these entries
-pub record IsPrefixTable {S H : Type 0} (entries : List Entry) (table : PrefixTable S H) : Type 0 where
+pub record IsPrefixTable {S H : Type 0} (entries : List Entry) (table : PrefixTable S H)
+    : Type 0 where
   pub lengths : (n : ℕ) → is_listed table.lengths.items n ≡ is_length n entries
-  pub hashes : (hash : ℕ) → numbers_at nat_eq table.by_hash hash ≡ numbers_from (asks_for_hash table.base hash) 0 entries
+  pub hashes : (hash : ℕ)
+      → numbers_at nat_eq table.by_hash hash
+      ≡ numbers_from (asks_for_hash table.base hash) 0 entries
 
 module _ {S H : Type 0} (table : PrefixTable S H) where
   -- the numbers of the entries that the table has for a text of that length and hash

@@ -11,19 +11,28 @@ use Rattle.sarif_suppress.specs.Matching.{is_pair}
 use Rattle.sarif_suppress.specs.Numbers.{numbers_from, numbers_at}
 
 -- each table has just the entries that are filed under a fingerprint of its kind
-pub record ArePairTables {S H : Type 0} (entries : List Entry) (tables : PairTables S H) : Type 0 where
-  pub full : (pair : List ℕ × List ℕ) → numbers_at is_pair tables.full pair ≡ numbers_from (asks_for_pair Full pair) 0 entries
-  pub partial : (pair : List ℕ × List ℕ) → numbers_at is_pair tables.partial pair ≡ numbers_from (asks_for_pair Partial pair) 0 entries
+pub record ArePairTables {S H : Type 0} (entries : List Entry) (tables : PairTables S H)
+    : Type 0 where
+  pub full : (pair : List ℕ × List ℕ)
+      → numbers_at is_pair tables.full pair ≡ numbers_from (asks_for_pair Full pair) 0 entries
+  pub partial : (pair : List ℕ × List ℕ)
+      → numbers_at is_pair tables.partial pair
+      ≡ numbers_from (asks_for_pair Partial pair) 0 entries
 
 -- each table has just the entries that are filed under a text of its kind
-pub record AreTextTables {S H : Type 0} (entries : List Entry) (tables : TextTables S H) : Type 0 where
-  pub uris : (uri : List ℕ) → numbers_at bytes_eq tables.uris uri ≡ numbers_from (asks_for_text Uri uri) 0 entries
-  pub rules : (rule : List ℕ) → numbers_at bytes_eq tables.rules rule ≡ numbers_from (asks_for_text RuleId rule) 0 entries
-  pub tools : (tool : List ℕ) → numbers_at bytes_eq tables.tools tool ≡ numbers_from (asks_for_text Tool tool) 0 entries
+pub record AreTextTables {S H : Type 0} (entries : List Entry) (tables : TextTables S H)
+    : Type 0 where
+  pub uris : (uri : List ℕ)
+      → numbers_at bytes_eq tables.uris uri ≡ numbers_from (asks_for_text Uri uri) 0 entries
+  pub rules : (rule : List ℕ)
+      → numbers_at bytes_eq tables.rules rule ≡ numbers_from (asks_for_text RuleId rule) 0 entries
+  pub tools : (tool : List ℕ)
+      → numbers_at bytes_eq tables.tools tool ≡ numbers_from (asks_for_text Tool tool) 0 entries
 
 -- each table has just the entries that are filed in it
 pub record IsTable {S H : Type 0} (entries : List Entry) (table : Table S H) : Type 0 where
-  pub guids : (guid : ℕ) → numbers_at nat_eq table.guids guid ≡ numbers_from (asks_for_guid guid) 0 entries
+  pub guids : (guid : ℕ)
+      → numbers_at nat_eq table.guids guid ≡ numbers_from (asks_for_guid guid) 0 entries
   pub pairs : ArePairTables entries table.pairs
   pub texts : AreTextTables entries table.texts
   pub rest : table.others.items ≡ numbers_from asks_for_none 0 entries

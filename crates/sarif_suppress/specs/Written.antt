@@ -14,13 +14,15 @@ use Rattle.sarif_suppress.specs.Suppressing.{matching}
 -- the members of an entry's object, each a text, in the order of their names
 abbrev pub texts_of : Entry → List (List ℕ × List ℕ)
 texts_of e =
-    with_pair (codes "justification") e.justification ((codes "kind", codes "external") ∷ (codes "status", status_name e.status) ∷ [])
+    with_pair (codes "justification") e.justification
+    ((codes "kind", codes "external") ∷ (codes "status", status_name e.status) ∷ [])
 
 abbrev pub text_members : List (List ℕ × List ℕ) → Members
 text_members [] = no_members
 text_members (p ∷ ps) = member p.0 (string p.1) (text_members ps)
 
--- the object that is written for an entry: `kind`, which is `external`, `status`, and `justification` where there is one
+-- the object that is written for an entry: `kind`, which is `external`, `status`, and `justification` where there is
+-- one
 abbrev pub object_of : Entry → Data
 object_of e = object (text_members (texts_of e))
 
@@ -59,4 +61,5 @@ with_object_if list (Some e) = with_object list e
 -- the same for the entries with these numbers
 abbrev pub with_objects_at : List Data → List Entry → List ℕ → List Data
 with_objects_at list entries [] = list
-with_objects_at list entries (n ∷ ns) = with_objects_at (with_object_if list (slice_get entries n)) entries ns
+with_objects_at list entries (n ∷ ns) =
+    with_objects_at (with_object_if list (slice_get entries n)) entries ns

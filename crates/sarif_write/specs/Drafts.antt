@@ -62,7 +62,8 @@ listed_in listed r ms = items_of (listed r (elements (own_suppressions ms)))
 
 -- its members with its level and these suppressions
 abbrev pub drafted_members : Level → Items → Members → Members
-drafted_members level list ms = put (codes "level") (string (level_name level)) (put (codes "suppressions") (array list) ms)
+drafted_members level list ms =
+    put (codes "level") (string (level_name level)) (put (codes "suppressions") (array list) ms)
 
 abbrev pub draft_by : Listing → (Record → Applied) → Record → Members → Draft
 draft_by listed applied r ms = record {
@@ -76,7 +77,8 @@ draft_by listed applied r ms = record {
 abbrev pub drafts_by : Listing → (Record → Applied) → List Record → List Data → List Draft
 drafts_by listed applied [] ds = []
 drafts_by listed applied (r ∷ rs) [] = []
-drafts_by listed applied (r ∷ rs) (d ∷ ds) = draft_by listed applied r (members_in d) ∷ drafts_by listed applied rs ds
+drafts_by listed applied (r ∷ rs) (d ∷ ds) =
+    draft_by listed applied r (members_in d) ∷ drafts_by listed applied rs ds
 
 -- ---- texts
 
@@ -103,7 +105,8 @@ texts_of (draft ∷ drafts) (state ∷ states) = with_text state draft (texts_of
 -- a run's text with the texts of its results, where it is written with results
 abbrev pub run_text : Members → Option (List (List ℕ)) → List ℕ
 run_text ms None = compact_text (object ms)
-run_text ms (Some ts) = filled (surrounding (codes "results") ms) (91 ∷ (joined false ts ++ 93 ∷ []))
+run_text ms (Some ts) =
+    filled (surrounding (codes "results") ms) (91 ∷ (joined false ts ++ 93 ∷ []))
 
 -- ---- counts
 
@@ -116,7 +119,8 @@ counts_as (Some state) draft s l b =
 abbrev pub tallied : List Draft → List (Option State) → Count
 tallied [] states s l b = 0
 tallied (draft ∷ drafts) [] s l b = 0
-tallied (draft ∷ drafts) (state ∷ states) s l b = counts_as state draft s l b + tallied drafts states s l b
+tallied (draft ∷ drafts) (state ∷ states) s l b =
+    counts_as state draft s l b + tallied drafts states s l b
 
 -- ---- runs
 
@@ -130,14 +134,17 @@ counts_in_parts (parts ∷ more) = count_in_parts parts + counts_in_parts more
 
 -- a run's text, with these of its results
 abbrev pub parts_text : RunParts → List Draft → List (Option State) → List ℕ
-parts_text parts drafts states = run_text (members_view parts.members.entries) (option_map (λ _. texts_of drafts states) parts.results)
+parts_text parts drafts states =
+    run_text (members_view parts.members.entries)
+    (option_map (λ _. texts_of drafts states) parts.results)
 
 -- the texts of runs in order; the drafts and states are those of all their results
 abbrev pub runs_texts : List RunParts → List Draft → List (Option State) → List (List ℕ)
 runs_texts [] drafts states = []
 runs_texts (parts ∷ more) drafts states =
     let n = count_in_parts parts in
-    parts_text parts (take n drafts) (take n states) ∷ runs_texts more (drop n drafts) (drop n states)
+    parts_text parts (take n drafts) (take n states)
+    ∷ runs_texts more (drop n drafts) (drop n states)
 
 abbrev pub text_if : Bool → List ℕ → List (List ℕ) → List (List ℕ)
 text_if true t ts = t ∷ ts
@@ -148,7 +155,9 @@ abbrev pub left_texts : List RunParts → List Draft → List (Option State) →
 left_texts [] drafts states = []
 left_texts (parts ∷ more) drafts states =
     let n = count_in_parts parts in
-    text_if (list_any is_some (take n states)) (parts_text parts (take n drafts) (take n states)) (left_texts more (drop n drafts) (drop n states))
+    text_if (list_any is_some (take n states))
+    (parts_text parts (take n drafts) (take n states))
+    (left_texts more (drop n drafts) (drop n states))
 
 -- none of these runs holds a number with a fraction
 abbrev pub IsWholeRun : RunParts → Type 0
@@ -170,7 +179,9 @@ ArePartsOf count [] [] = ⊤
 ArePartsOf count [] (run ∷ runs) = ⊥
 ArePartsOf count (parts ∷ more) [] = ⊥
 ArePartsOf count (parts ∷ more) (run ∷ runs) =
-    (members_view parts.members.entries ≡ bare (members_in run)) × (parts.results ≡ count run) × ArePartsOf count more runs
+    (members_view parts.members.entries ≡ bare (members_in run))
+    × (parts.results ≡ count run)
+    × ArePartsOf count more runs
 
 -- a run is an object, and so is each of its results
 abbrev pub IsRun : Data → Type 0

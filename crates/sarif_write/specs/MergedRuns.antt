@@ -31,7 +31,8 @@ Listing = Record → List Data → List Data
 -- a result as it is written, by its record and its baseline state
 abbrev pub written : Listing → Record → State → Data → Data
 written listed r state =
-    on_members (λ ms. annotated_members r.level state (items_of (listed r (elements (own_suppressions ms)))) ms)
+    on_members (λ ms. annotated_members r.level state
+    (items_of (listed r (elements (own_suppressions ms)))) ms)
 
 -- ---- input runs
 
@@ -40,21 +41,25 @@ abbrev pub written_all : Listing → List Record → List State → List Data �
 written_all listed [] states ds = ds
 written_all listed (r ∷ rs) [] ds = ds
 written_all listed (r ∷ rs) (state ∷ states) [] = []
-written_all listed (r ∷ rs) (state ∷ states) (d ∷ ds) = written listed r state d ∷ written_all listed rs states ds
+written_all listed (r ∷ rs) (state ∷ states) (d ∷ ds) =
+    written listed r state d ∷ written_all listed rs states ds
 
 abbrev pub annotated_items : Listing → List Record → List State → Option Items → Option Items
 annotated_items listed rs states None = None
-annotated_items listed rs states (Some ds) = Some (items_of (written_all listed rs states (elements ds)))
+annotated_items listed rs states (Some ds) =
+    Some (items_of (written_all listed rs states (elements ds)))
 
 abbrev pub merged_run : Listing → List Record → List State → Data → Data
-merged_run listed rs states = on_members (λ ms. with_results (annotated_items listed rs states (own_results ms)) (bare ms))
+merged_run listed rs states =
+    on_members (λ ms. with_results (annotated_items listed rs states (own_results ms)) (bare ms))
 
 -- the runs in order; the records and states are those of all their results, in the order of runs and results
 abbrev pub merged_runs : Listing → List Record → List State → List Data → List Data
 merged_runs listed rs states [] = []
 merged_runs listed rs states (run ∷ runs) =
     let count = length (results_of run) in
-    merged_run listed (take count rs) (take count states) run ∷ merged_runs listed (drop count rs) (drop count states) runs
+    merged_run listed (take count rs) (take count states) run
+    ∷ merged_runs listed (drop count rs) (drop count states) runs
 
 -- ---- baseline runs
 
@@ -71,7 +76,8 @@ abbrev pub unmatched : List Record → List Bool → List Data → List Data
 unmatched [] taken ds = []
 unmatched (r ∷ rs) [] ds = []
 unmatched (r ∷ rs) (t ∷ taken) [] = []
-unmatched (r ∷ rs) (t ∷ taken) (d ∷ ds) = keep_if (not t) (written (λ _ own. own) r Absent d) (unmatched rs taken ds)
+unmatched (r ∷ rs) (t ∷ taken) (d ∷ ds) =
+    keep_if (not t) (written (λ _ own. own) r Absent d) (unmatched rs taken ds)
 
 abbrev pub with_absent : List Data → Data → Data
 with_absent ds = on_members (λ ms. with_results (Some (items_of ds)) (bare ms))
