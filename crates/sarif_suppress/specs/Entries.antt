@@ -134,7 +134,15 @@ conditions_of wrong d = do
   guid ← guid_at wrong (codes "guid") d
   full ← pairs_at wrong (codes "fingerprints") d
   partial ← pairs_at wrong (codes "partialFingerprints") d
-  Ok (record { tool = tool; rule_id = rule_id; uri = uri; uri_prefix = uri_prefix; guid = guid; full = full; partial = partial })
+  Ok (record {
+    tool = tool;
+    rule_id = rule_id;
+    uri = uri;
+    uri_prefix = uri_prefix;
+    guid = guid;
+    full = full;
+    partial = partial;
+  })
 
 -- the members of an entry, each of its kind or null
 unfoldable pub members_of : SuppressFault → Data → Result Entry SuppressFault
@@ -143,7 +151,12 @@ members_of wrong d = do
   expires ← day_at wrong (codes "expires") d
   status ← status_at wrong (codes "status") d
   justification ← text_at wrong (codes "justification") d
-  Ok (record { conditions = conditions; expires = expires; status = status; justification = justification })
+  Ok (record {
+    conditions = conditions;
+    expires = expires;
+    status = status;
+    justification = justification;
+  })
 
 -- an entry names at least one condition
 abbrev pub check_condition : ℕ → Entry → Result ⊤ SuppressFault
