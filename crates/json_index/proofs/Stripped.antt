@@ -18,7 +18,8 @@ cmp = slice_cmp nat_cmp
 abbrev pub unless_fractional : Data → Option Data
 unless_fractional d = if is_fractional d then None else Some (stripped d)
 
-absent_below : (k : List ℕ) (ms : Members) → IsBelow k ms → get_member k ms ≡ None
+-- below all names, there is none
+pub absent_below : (k : List ℕ) (ms : Members) → IsBelow k ms → get_member k ms ≡ None
 absent_below k no_members h = refl
 absent_below k (member l e ms) h = rw h.0 (absent_below k ms h.1)
 
@@ -99,7 +100,8 @@ get-without_other k r (string s) apart = refl
 get-without_other k r (array ds) apart = refl
 get-without_other k r (object ms) apart = get_member-without_other k r ms apart
 
-differ : (r l : List ℕ) → bytes_eq r l ≡ false → r ≡ l → ⊥
+-- texts that the test tells apart are not the same
+pub differ : (r l : List ℕ) → bytes_eq r l ≡ false → r ≡ l → ⊥
 differ r l e same = true≢false (sym ((bytes_eq-Decides r l).1 same) ∙ e)
 
 same_turn : (b : Bool) (r l : List ℕ) (d : Data) (ms : Members) → bytes_eq r l ≡ b → get_member r (without r ms) ≡ None → get_member r (if b then without r ms else member l d (without r ms)) ≡ None

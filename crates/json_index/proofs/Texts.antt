@@ -2,6 +2,7 @@
 use Rattle.std.proofs.Common.{◌≡◌, ℕ, ◌≤◌, List, [], ◌∷◌, Option, Some, None, option_and_then, is_some, Bool, true, false, ◌&&◌, nat_le, true≢false, refl, sym, ap, ◌∙◌, arith}
 use Rattle.std.specs.Prelude.{IsSome, IsUtf8}
 use Rattle.std.specs.Str.{is_utf8}
+use Rattle.std.proofs.lemmas.Bool.{and_parts}
 use Rattle.std.proofs.lemmas.Str.{is_utf8-from_IsUtf8, IsUtf8-from_is_utf8}
 use Rattle.json.specs.Token.{Token}
 use Rattle.json.specs.Lex.{tokens}
@@ -55,14 +56,6 @@ not_readable text h =
     let near : nat_le (depth j) 127 ≡ true = grind (arith, le) in
     absent (of_json j) (ap (λ b. b && is_some (of_json j)) (sym near) ∙ h j (127, e)))
 
-left_true : (a b : Bool) → (a && b) ≡ true → a ≡ true
-left_true true b e = refl
-left_true false b e = e
-
-right_true : (a b : Bool) → (a && b) ≡ true → b ≡ true
-right_true true b e = e
-right_true false b e = absurd (true≢false (sym e))
-
 present : {A : Type 0} (o : Option A) → is_some o ≡ true → (a : A) × (o ≡ Some a)
 present None e = absurd (true≢false (sym e))
 present (Some a) e = (a, refl)
@@ -71,9 +64,9 @@ readable_from : (text : List ℕ) (o : Option Json) → document text ≡ o → 
 readable_from text None e some h = absurd (true≢false (sym some))
 readable_from text (Some j) e some h =
     let at : value 128 (tokens text) ≡ Some (j, []) = last (value 128 (tokens text)) j e in
-    let passed = h j (128, at) in
-    let d = present (of_json j) (right_true (nat_le (depth j) 127) (is_some (of_json j)) passed) in
-    let near = left_true (nat_le (depth j) 127) (is_some (of_json j)) passed in
+    let parts = and_parts (nat_le (depth j) 127) (is_some (of_json j)) (h j (128, at)) in
+    let d = present (of_json j) parts.1 in
+    let near = parts.0 in
     let le : depth j ≤ 127 = grind (arith, near) in
     let r = found (tokens text) j d.0 (128, [], at) le d.1 in
     let here = value_at 128 127 (tokens text) [] j at le in

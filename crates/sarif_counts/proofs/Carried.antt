@@ -15,7 +15,7 @@ use Rattle.sarif_records.specs.Run.{is_text}
 use Rattle.sarif_counts.specs.CountOf.{carries, suppresses, suppressions_in}
 
 -- two states have one text where they are one
-same_state_name : (s t : State) → bytes_eq (state_name s) (state_name t) ≡ same_state s t
+pub same_state_name : (s t : State) → bytes_eq (state_name s) (state_name t) ≡ same_state s t
 same_state_name New New = refl
 same_state_name New Unchanged = refl
 same_state_name New Updated = refl
@@ -33,7 +33,8 @@ same_state_name Absent Unchanged = refl
 same_state_name Absent Updated = refl
 same_state_name Absent Absent = refl
 
-same_level_name : (l k : Level) → bytes_eq (level_name l) (level_name k) ≡ same_level l k
+-- two levels have one text where they are one
+pub same_level_name : (l k : Level) → bytes_eq (level_name l) (level_name k) ≡ same_level l k
 same_level_name NoLevel NoLevel = refl
 same_level_name NoLevel Note = refl
 same_level_name NoLevel Warning = refl

@@ -7,6 +7,7 @@ use Rattle.std.proofs.lemmas.List.{length-replicate}
 use Rattle.std.proofs.lemmas.List.Sums.{fold-append}
 use Rattle.std.proofs.lemmas.Bool.{true≢false, cases_lt}
 use Rattle.std.proofs.lemmas.Bool.Decides.{eqb_tells}
+use Rattle.std.proofs.lemmas.Option.{same_Some}
 use Rattle.sarif_records.specs.declared.record.Record.{Record}
 use Rattle.sarif_match.specs.declared.tier.Tier.{Tier}
 use Rattle.sarif_match.specs.KeyParts.{KeyParts, same_parts}
@@ -18,7 +19,7 @@ use Rattle.sarif_match.proofs.FitsLemmas.{Fits-pairs_at}
 use Rattle.sarif_match.proofs.PairedLemmas.{pair-of, paired-of, stands_keyed}
 use Rattle.sarif_match.proofs.PartsLemmas.{parts_refl}
 use Rattle.sarif_match.proofs.PutLemmas.{slice_index_or-slice_set}
-use Rattle.sarif_match.proofs.SplitLemmas.{HasPair, none_is_no_some, some_same, rank-split, rank-more}
+use Rattle.sarif_match.proofs.SplitLemmas.{HasPair, none_is_no_some, rank-split, rank-more}
 
 module _ (partners : List (Option ℕ)) (p : ℕ × ℕ) (i j : ℕ) (within : p.0 < length partners) where
   at_place : slice_index_or (slice_set partners p.0 (Some p.1)) i None ≡ cond (p.0 == i) (Some p.1) (slice_index_or partners i None)
@@ -34,7 +35,7 @@ module _ (partners : List (Option ℕ)) (p : ℕ × ℕ) (i j : ℕ) (within : p
       same : ((p.0 == i) ≡ true) × (p.0 ≡ i) → (p ≡ (i, j)) ⊎ (slice_index_or partners i None ≡ Some j)
       same e =
           let from : p.0 ≡ i = e.1 in
-          let to : p.1 ≡ j = some_same p.1 j (by_test true e.0) in
+          let to : p.1 ≡ j = same_Some p.1 j (by_test true e.0) in
           inl (λ k. (from k, to k))
 
       other : ((p.0 == i) ≡ false) × (p.0 ≢ i) → (p ≡ (i, j)) ⊎ (slice_index_or partners i None ≡ Some j)
@@ -185,7 +186,7 @@ module _ (current baseline : List Record) where
   paired_once : (partners : List (Option ℕ)) (tier : Tier) (i k j : ℕ) → IsPairedAt current baseline partners tier i j → IsPairedAt current baseline partners tier k j → i ≡ k
   paired_once partners tier i k j a b =
       let test = λ (n : ℕ). not (has_partner partners n) in
-      let same : b.key ≡ a.key = some_same b.key a.key (sym b.baseline_key ∙ a.baseline_key) in
+      let same : b.key ≡ a.key = same_Some b.key a.key (sym b.baseline_key ∙ a.baseline_key) in
       let b_key : key_at tier current k ≡ Some a.key = b.current_key ∙ ap Some same in
       let ranks : rank test a.key i (keyed_from tier 0 current) ≡ rank test a.key k (keyed_from tier 0 current) = a.ranks ∙ ap (λ (key : KeyParts). rank (λ n. not (is_taken partners n)) key j (keyed_from tier 0 baseline)) (sym same) ∙ sym b.ranks ∙ ap (λ (key : KeyParts). rank test key k (keyed_from tier 0 current)) same in
       ⊎_elim (λ lt. absurd (omega (arith, ranks, rank-rises partners tier a.key i k a.current_key a.current_left lt))) (λ ge. ⊎_elim (λ lt. absurd (omega (arith, ranks, rank-rises partners tier a.key k i b_key b.current_left lt))) (λ le. omega (arith, ge, le)) (cases_lt k i)) (cases_lt i k)

@@ -8,6 +8,7 @@ use Rattle.std.specs.Option.{option_map_or}
 use Rattle.sarif_match.specs.declared.progress.Progress.{Progress}
 use Rattle.sarif_match.specs.Partners.{has_partner, is_taken}
 use Rattle.sarif_match.specs.Progress.{IsSound}
+use Rattle.sarif_match.proofs.SortedLemmas.{or_swap}
 
 -- a list at each place after a write
 pub slice_index_or-slice_set : {X : Type 0} (xs : List X) (i q : ℕ) (v d : X) → i < length xs → slice_index_or (slice_set xs i v) q d ≡ cond (i == q) v (slice_index_or xs q d)
@@ -26,12 +27,6 @@ has_partner-put partners i j q within =
     at : (b : Bool) (o : Option ℕ) → is_some (cond b (Some j) o) ≡ cond b true (is_some o)
     at true o = refl
     at false o = refl
-
-or_swap : (a b c : Bool) → a || (b || c) ≡ b || (a || c)
-or_swap true true c = refl
-or_swap true false c = refl
-or_swap false true c = refl
-or_swap false false c = refl
 
 pub is_taken-put : (partners : List (Option ℕ)) (i j q : ℕ) → i < length partners → has_partner partners i ≡ false → is_taken (slice_set partners i (Some j)) q ≡ (j == q) || is_taken partners q
 is_taken-put [] i j q within none = absurd (omega arith)

@@ -53,7 +53,7 @@ pub sorted_names : (current baseline : List Record) → IsStrictlySortedBy text_
 sorted_names current baseline =
     sorted_with (names_of baseline) (with_names [] (names_of current)) (sorted_with (names_of current) [] no_names)
 
-or_swap : (a b c : Bool) → a || (b || c) ≡ b || (a || c)
+pub or_swap : (a b c : Bool) → a || (b || c) ≡ b || (a || c)
 or_swap true true c = refl
 or_swap true false c = refl
 or_swap false true c = refl

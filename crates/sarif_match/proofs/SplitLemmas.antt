@@ -1,8 +1,9 @@
 -- Where a result stands in a list of numbered keys, and what that says of places, ranks and pairs.
-use Rattle.std.proofs.Common.{◌≡◌, ℕ, ◌+◌, ◌<◌, ◌≤◌, zero, suc, Bool, true, false, cond, ◌&&◌, ◌⊎◌, inl, inr, List, [], ◌∷◌, ◌++◌, Option, Some, None, length, nat_lt, map, filter, slice_get, refl, sym, ap, ◌∙◌, subst, arith, append_assoc, length-append, append-nil}
+use Rattle.std.proofs.Common.{◌≡◌, ℕ, ◌+◌, ◌<◌, zero, suc, Bool, true, false, cond, ◌&&◌, ◌⊎◌, inl, inr, List, [], ◌∷◌, ◌++◌, Option, Some, None, length, nat_lt, map, filter, slice_get, refl, sym, ap, ◌∙◌, subst, arith, append_assoc, length-append, append-nil}
 use Rattle.std.proofs.lemmas.List.{map-append}
 use Rattle.std.proofs.lemmas.List.Elements.{filter-append}
-use Rattle.std.proofs.lemmas.Bool.Decides.{nat_tests}
+use Rattle.std.proofs.lemmas.Bool.{lt-ltb, le-ltb}
+use Rattle.std.proofs.lemmas.Option.{same_Some}
 use Rattle.sarif_match.specs.Named.{IsBelow}
 use Rattle.sarif_match.specs.Pairing.{places, pairs_from, with_pair}
 use Rattle.sarif_match.proofs.ListLemmas.{slice_get-middle}
@@ -11,12 +12,6 @@ use Rattle.sarif_match.proofs.ListLemmas.{slice_get-middle}
 abbrev pub HasPair : List (ℕ × ℕ) → ℕ → ℕ → Type 0
 HasPair [] i j = ⊥
 HasPair (p ∷ ps) i j = (p ≡ (i, j)) ⊎ HasPair ps i j
-
-nat_lt-yes : (a b : ℕ) → a < b → nat_lt a b ≡ true
-nat_lt-yes a b h = grind (arith, nat_tests)
-
-nat_lt-no : (a b : ℕ) → b ≤ a → nat_lt a b ≡ false
-nat_lt-no a b h = grind (arith, nat_tests)
 
 module _ {X : Type 0} where
   pub cons_first : (x y : X) (xs ys : List X) → x ∷ xs ≡ y ∷ ys → x ≡ y
@@ -34,9 +29,6 @@ module _ {X : Type 0} where
 
   pub none_is_no_some : (x : X) → None ≡ Some x → ⊥
   none_is_no_some x e = cc
-
-  pub some_same : (x y : X) → Some x ≡ Some y → x ≡ y
-  some_same x y e = cc
 
   module _ (p : X → Bool) where
     -- what is kept stands between what is kept of both sides
@@ -144,7 +136,7 @@ module _ {K : Type 0} where
     }
 
     stands_by : (key : K) (e : ℕ × K) (es : List (ℕ × K)) (r j : ℕ) (b : Bool) → eq e.1 key ≡ b → slice_get (map (λ (x : ℕ × K). x.0) (cond b (e ∷ filter (λ (x : ℕ × K). eq x.1 key) es) (filter (λ (x : ℕ × K). eq x.1 key) es))) r ≡ Some j → ((q : ℕ) → slice_get (places eq key es) q ≡ Some j → StandsInPlaces key es q j) → StandsInPlaces key (e ∷ es) r j
-    stands_by key e es zero j true is found rest = stands_here key e es j is (some_same e.0 j found)
+    stands_by key e es zero j true is found rest = stands_here key e es j is (same_Some e.0 j found)
     stands_by key e es (suc r) j true is found rest = stands_further key e es r j is (rest r found)
     stands_by key e es r j false is found rest = stands_past key e es r j is (rest r found)
 
@@ -209,7 +201,7 @@ module _ {K : Type 0} where
     rank-before : (test : ℕ → Bool) (key : K) (i : ℕ) (before : List (ℕ × K)) → IsBelow i before → length (filter (ranked test key i) before) ≡ length (places eq key (filter (λ (e : ℕ × K). test e.0) before))
     rank-before test key i [] below = refl
     rank-before test key i (e ∷ before) below =
-        ap (λ (b : Bool). length (cond (b && (test e.0 && eq e.1 key)) (e ∷ filter (ranked test key i) before) (filter (ranked test key i) before))) (nat_lt-yes e.0 i below.0) ∙ by_tests (test e.0) (eq e.1 key) refl (rank-before test key i before below.1)
+        ap (λ (b : Bool). length (cond (b && (test e.0 && eq e.1 key)) (e ∷ filter (ranked test key i) before) (filter (ranked test key i) before))) (lt-ltb e.0 i below.0) ∙ by_tests (test e.0) (eq e.1 key) refl (rank-before test key i before below.1)
       where
         by_tests : (b c : Bool) → eq e.1 key ≡ c → length (filter (ranked test key i) before) ≡ length (places eq key (filter (λ (e : ℕ × K). test e.0) before)) → length (cond (b && c) (e ∷ filter (ranked test key i) before) (filter (ranked test key i) before)) ≡ length (places eq key (cond b (e ∷ filter (λ (e : ℕ × K). test e.0) before) (filter (λ (e : ℕ × K). test e.0) before)))
         by_tests true true is rest = ap suc rest ∙ sym (ap (λ (b : Bool). length (map (λ (x : ℕ × K). x.0) (cond b (e ∷ filter (λ (x : ℕ × K). eq x.1 key) (filter (λ (e : ℕ × K). test e.0) before)) (filter (λ (x : ℕ × K). eq x.1 key) (filter (λ (e : ℕ × K). test e.0) before))))) is)
@@ -220,11 +212,11 @@ module _ {K : Type 0} where
     rank-after test key i [] above = refl
     rank-after test key i (e ∷ after) above =
         let past : i < e.0 = above.0 in
-        ap (λ (b : Bool). cond (b && (test e.0 && eq e.1 key)) (e ∷ filter (ranked test key i) after) (filter (ranked test key i) after)) (nat_lt-no e.0 i (omega arith)) ∙ rank-after test key i after above.1
+        ap (λ (b : Bool). cond (b && (test e.0 && eq e.1 key)) (e ∷ filter (ranked test key i) after) (filter (ranked test key i) after)) (le-ltb e.0 i (omega arith)) ∙ rank-after test key i after above.1
 
     pub rank-split : (test : ℕ → Bool) (key : K) (i : ℕ) (own : K) (before after : List (ℕ × K)) → IsBelow i before → IsAbove i after → length (filter (ranked test key i) (before ++ ((i, own) ∷ after))) ≡ length (places eq key (filter (λ (e : ℕ × K). test e.0) before))
     rank-split test key i own before after below above =
-        let here : filter (ranked test key i) ((i, own) ∷ after) ≡ [] = ap (λ (b : Bool). cond (b && (test i && eq own key)) ((i, own) ∷ filter (ranked test key i) after) (filter (ranked test key i) after)) (nat_lt-no i i (omega arith)) ∙ rank-after test key i after above in
+        let here : filter (ranked test key i) ((i, own) ∷ after) ≡ [] = ap (λ (b : Bool). cond (b && (test i && eq own key)) ((i, own) ∷ filter (ranked test key i) after) (filter (ranked test key i) after)) (le-ltb i i (omega arith)) ∙ rank-after test key i after above in
         ap length (filter-append (ranked test key i) before ((i, own) ∷ after) ∙ ap (λ (xs : List (ℕ × K)). filter (ranked test key i) before ++ xs) here ∙ append-nil (filter (ranked test key i) before)) ∙ rank-before test key i before below
 
     IsBelow-from : (i k : ℕ) (es : List (ℕ × K)) → i < k → IsBelow i es → IsBelow k es
@@ -234,7 +226,7 @@ module _ {K : Type 0} where
     -- a rank rises from one result with the key to the next
     pub rank-more : (test : ℕ → Bool) (key : K) (i k : ℕ) (own : K) (before after : List (ℕ × K)) → IsBelow i before → i < k → test i ≡ true → eq own key ≡ true → length (places eq key (filter (λ (e : ℕ × K). test e.0) before)) < length (filter (ranked test key k) (before ++ ((i, own) ∷ after)))
     rank-more test key i k own before after below lt is_left same =
-        let here : ranked test key k (i, own) ≡ true = ap (λ (b : Bool). b && (test i && eq own key)) (nat_lt-yes i k lt) ∙ ap (λ (b : Bool). b && eq own key) is_left ∙ same in
+        let here : ranked test key k (i, own) ≡ true = ap (λ (b : Bool). b && (test i && eq own key)) (lt-ltb i k lt) ∙ ap (λ (b : Bool). b && eq own key) is_left ∙ same in
         let split : length (filter (ranked test key k) (before ++ ((i, own) ∷ after))) ≡ length (filter (ranked test key k) before) + suc (length (filter (ranked test key k) after)) = ap length (filter-split (ranked test key k) before (i, own) after here) ∙ length-append (filter (ranked test key k) before) ((i, own) ∷ filter (ranked test key k) after) in
         let front = rank-before test key k before (IsBelow-from i k before lt below) in
         omega (arith, split, front)

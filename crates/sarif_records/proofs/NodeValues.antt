@@ -1,7 +1,7 @@
 -- What stripping leaves of a value's kind.
 use Rattle.std.proofs.Common.{◌≡◌, ℕ, List, [], ◌∷◌, map, true, false, Some, None, is_some, option_map, refl, sym, ap, ◌∙◌}
 use Rattle.json.specs.Token.{Token}
-use Rattle.serde_json.specs.Data.{Data, null, boolean, number, string, array, object, Items, item}
+use Rattle.serde_json.specs.Data.{Data, null, boolean, number, string, array, object, item}
 use Rattle.serde_json.specs.Find.{get, as_null, as_str, as_array, as_object}
 use Rattle.serde_json.specs.View.{items_of}
 use Rattle.json_index.specs.Indexed.{data_of}
@@ -49,15 +49,6 @@ stripped_each (node ∷ nodes) = ap (λ ds. item (value_at node) ds) (stripped_e
 pub items_apart : (nodes : List (List Token)) → AreItemsOrdered (items_of (map data_of nodes)) → AreOrdered nodes
 items_apart [] ordered = tt
 items_apart (node ∷ nodes) ordered = (ordered.0, items_apart nodes ordered.1)
-
-pub array_ordered : (d : Data) (ds : Items) → IsOrdered d → as_array d ≡ Some ds → AreItemsOrdered ds
-array_ordered null ds ordered is = cc
-array_ordered (boolean b) ds ordered is = cc
-array_ordered (number n) ds ordered is = cc
-array_ordered (string s) ds ordered is = cc
-array_ordered (array es) ds ordered is =
-    let same : es ≡ ds = cc in rw same at ordered
-array_ordered (object ms) ds ordered is = cc
 
 -- a member that isn't found, that stripping leaves out, or that it leaves
 pub kept_none : (k : List ℕ) (d : Data) → IsOrdered d → None ≡ get k d → None ≡ get k (stripped d)

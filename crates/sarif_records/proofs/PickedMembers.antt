@@ -1,5 +1,5 @@
 -- Members that are picked are those of the value.
-use Rattle.std.proofs.Common.{◌≡◌, ◌||◌, ℕ, Bool, true, false, List, [], ◌∷◌, Option, Some, None, bytes_eq, refl, sym, ap, ◌∙◌, true≢false}
+use Rattle.std.proofs.Common.{◌≡◌, ◌||◌, ℕ, Bool, true, false, List, [], ◌∷◌, Option, Some, None, bytes_eq, refl, sym, ap, ◌∙◌}
 use Rattle.std.specs.Prelude.{option_and_then, unwrap_or}
 use Rattle.std.specs.List.{list_any}
 use Rattle.std.proofs.lemmas.Slice.Eq.{bytes_eq-Decides}
@@ -12,6 +12,7 @@ use Rattle.serde_json.proofs.Views.{get_member-put, get_member-put_other}
 use Rattle.json_index.specs.Indexed.{data_of}
 use Rattle.json_index.specs.Ordered.{IsOrdered}
 use Rattle.json_index.proofs.Order.{read_ordered}
+use Rattle.json_index.proofs.Stripped.{differ}
 use Rattle.sarif_records.specs.Picked.{picked, picked_onto, with_own}
 
 -- ---- what tokens stand for has ordered members
@@ -37,9 +38,6 @@ own_here k (Some d) ms rest = get_member-put k d ms
 own_other : (k n : List ℕ) (o : Option Data) (ms : Members) → (k ≡ n → ⊥) → get_member k (with_own n o ms) ≡ get_member k ms
 own_other k n None ms apart = refl
 own_other k n (Some d) ms apart = get_member-put_other k n d ms apart
-
-differ : (k n : List ℕ) → bytes_eq k n ≡ false → k ≡ n → ⊥
-differ k n test same = true≢false (sym ((bytes_eq-Decides k n).1 same) ∙ test)
 
 own_again : (b : Bool) (k n : List ℕ) (d : Data) (ms : Members) → bytes_eq k n ≡ b → get_member k ms ≡ get k d
     → get_member k (with_own n (get n d) ms) ≡ get k d

@@ -17,7 +17,9 @@ use Rattle.serde_json.specs.declared.value.Value.TheVariants.{Array as json_arra
 use Rattle.json_index.specs.Stripping.{is_fractional, stripped, stripped_items, stripped_members}
 use Rattle.json_index.specs.Without.{without, without_member}
 use Rattle.json_index.specs.Ordered.{IsOrdered, AreItemsOrdered, IsBelow, AreMembersOrdered}
+use Rattle.json_index.proofs.Kept.{put_below}
 use Rattle.json_index.proofs.Order.{below_all}
+use Rattle.json_index.proofs.Stripped.{absent_below}
 use Rattle.sarif_records.specs.declared.listed.Listed.{Listed}
 use Rattle.sarif_records.specs.declared.listed.Listed.TheVariants.{Missing, Null, Array}
 use Rattle.sarif_records.specs.declared.indexed_run.IndexedRun.{IndexedRun}
@@ -135,26 +137,18 @@ nth_result run i tokens below =
 
 -- ---- a run is its parts
 
-put_first : (k : List ℕ) (d : Data) (ms : Members) → IsBelow k ms → put k d ms ≡ member k d ms
-put_first k d no_members below = refl
-put_first k d (member l e ms) below = rw (below.0) refl
-
-pub none_below : (k : List ℕ) (ms : Members) → IsBelow k ms → get_member k ms ≡ None
-none_below k no_members below = refl
-none_below k (member l d ms) below = rw (below.0) (none_below k ms below.1)
-
 rebuilt_step : (o : Ordering) (r l : List ℕ) (x d : Data) (ms : Members)
     → slice_cmp nat_cmp r l ≡ o → IsBelow l ms
     → match_ordering o (get_member r ms) (Some d) (get_member r ms) ≡ Some x
     → (get_member r ms ≡ Some x → put r x (without r ms) ≡ ms)
     → put r x (if bytes_eq r l then without r ms else member l d (without r ms)) ≡ member l d ms
 rebuilt_step Less r l x d ms is below found later =
-    let none : get_member r ms ≡ None = none_below r ms (below_all r l ms is below) in cc
+    let none : get_member r ms ≡ None = absent_below r ms (below_all r l ms is below) in cc
 rebuilt_step Equal r l x d ms is below found later =
     let same : r ≡ l = (bytes_eq-Decides r l).0 (same_name r l is) in
     let value : d ≡ x = cc in
     let under : IsBelow r ms = rw same below in
-    rw (same_name r l is, without_none r ms (none_below r ms under), put_first r x ms under) (cc)
+    rw (same_name r l is, without_none r ms (absent_below r ms under), put_below r x ms under) (cc)
 rebuilt_step Greater r l x d ms is below found later =
     rw (other_name Greater r l is, is) (ap (λ rest. member l d rest) (later found))
 

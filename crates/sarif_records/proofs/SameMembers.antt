@@ -12,7 +12,7 @@ use Rattle.serde_json.specs.Data.{Data, Members, no_members, member}
 use Rattle.serde_json.specs.Find.{get_member}
 use Rattle.json_index.specs.Ordered.{IsBelow, AreMembersOrdered}
 use Rattle.json_index.proofs.Order.{below_all}
-use Rattle.sarif_records.proofs.RunOf.{none_below}
+use Rattle.json_index.proofs.Stripped.{absent_below}
 
 some≢none : {A : Type 0} {x : A} → Some x ≡ None → ⊥
 some≢none e = cc
@@ -30,7 +30,7 @@ later : (o : Ordering) (q k : List ℕ) (d e : Data) (ms ns : Members)
 later Less q k d e ms ns is below under same = same
 later Equal q k d e ms ns is below under same =
     let name : q ≡ k = (bytes_eq-Decides q k).0 (sym (is_eq-slice_cmp q k) ∙ ap is_eq is) in
-    rw (name, none_below k ms below, none_below k ns under) refl
+    rw (name, absent_below k ms below, absent_below k ns under) refl
 later Greater q k d e ms ns is below under same = same
 
 first : (o : Ordering) (k l : List ℕ) (d e : Data) (ms ns : Members)
@@ -38,13 +38,13 @@ first : (o : Ordering) (k l : List ℕ) (d e : Data) (ms ns : Members)
     → ((q : List ℕ) → get_member q (member k d ms) ≡ get_member q (member l e ns))
     → (k ≡ l) × (d ≡ e)
 first Less k l d e ms ns is back below under same =
-    absurd (some≢none (sym (here k d ms) ∙ same k ∙ none_below k (member l e ns) (is, below_all k l ns is under)))
+    absurd (some≢none (sym (here k d ms) ∙ same k ∙ absent_below k (member l e ns) (is, below_all k l ns is under)))
 first Equal k l d e ms ns is back below under same =
     let name : k ≡ l = (bytes_eq-Decides k l).0 (sym (is_eq-slice_cmp k l) ∙ ap is_eq is) in
     let found : Some d ≡ Some e = sym (here k d ms) ∙ same k ∙ rw is refl in
     (name, (cc))
 first Greater k l d e ms ns is back below under same =
-    absurd (some≢none (sym (here l e ns) ∙ sym (same l) ∙ none_below l (member k d ms) (back, below_all l k ms back below)))
+    absurd (some≢none (sym (here l e ns) ∙ sym (same l) ∙ absent_below l (member k d ms) (back, below_all l k ms back below)))
 
 pub same_members : (ms ns : Members) → AreMembersOrdered ms → AreMembersOrdered ns → ((q : List ℕ) → get_member q ms ≡ get_member q ns) → ms ≡ ns
 same_members no_members no_members ordered rising same = refl

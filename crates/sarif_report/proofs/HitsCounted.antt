@@ -14,44 +14,9 @@ use Rattle.sarif_counts.specs.Policy.{Count, count_if, severe_of, hits_at, hits_
 use Rattle.sarif_counts.specs.Counts.{same_state}
 use Rattle.sarif_counts.specs.Tally.{same_level, same_side}
 use Rattle.sarif_records.specs.Run.{is_text}
+use Rattle.sarif_counts.proofs.Carried.{same_state_name, same_level_name}
 
 -- ---- states and levels by their names
-
-states_apart : (s t : State) → bytes_eq (state_name s) (state_name t) ≡ same_state s t
-states_apart New New = refl
-states_apart New Unchanged = refl
-states_apart New Updated = refl
-states_apart New Absent = refl
-states_apart Unchanged New = refl
-states_apart Unchanged Unchanged = refl
-states_apart Unchanged Updated = refl
-states_apart Unchanged Absent = refl
-states_apart Updated New = refl
-states_apart Updated Unchanged = refl
-states_apart Updated Updated = refl
-states_apart Updated Absent = refl
-states_apart Absent New = refl
-states_apart Absent Unchanged = refl
-states_apart Absent Updated = refl
-states_apart Absent Absent = refl
-
-levels_apart : (l m : Level) → bytes_eq (level_name l) (level_name m) ≡ same_level l m
-levels_apart NoLevel NoLevel = refl
-levels_apart NoLevel Note = refl
-levels_apart NoLevel Warning = refl
-levels_apart NoLevel Error = refl
-levels_apart Note NoLevel = refl
-levels_apart Note Note = refl
-levels_apart Note Warning = refl
-levels_apart Note Error = refl
-levels_apart Warning NoLevel = refl
-levels_apart Warning Note = refl
-levels_apart Warning Warning = refl
-levels_apart Warning Error = refl
-levels_apart Error NoLevel = refl
-levels_apart Error Note = refl
-levels_apart Error Warning = refl
-levels_apart Error Error = refl
 
 abbrev pub is_state : State → Option State → Bool
 is_state s None = false
@@ -66,7 +31,7 @@ other_text name text e =
     false_from_ne_true _ (λ same. true≢false (sym ((bytes_eq-Decides text name).1 (sym ((bytes_eq-Decides name text).0 same))) ∙ e))
 
 same_as : (text : List ℕ) (s t : State) → bytes_eq text (state_name t) ≡ true → bytes_eq (state_name s) text ≡ same_state s t
-same_as text s t e = ap (bytes_eq (state_name s)) ((bytes_eq-Decides text (state_name t)).0 e) ∙ states_apart s t
+same_as text s t e = ap (bytes_eq (state_name s)) ((bytes_eq-Decides text (state_name t)).0 e) ∙ same_state_name s t
 
 no_state : (s : State) (text : List ℕ) → bytes_eq text (state_name New) ≡ false → bytes_eq text (state_name Unchanged) ≡ false
     → bytes_eq text (state_name Updated) ≡ false → bytes_eq text (state_name Absent) ≡ false → bytes_eq (state_name s) text ≡ false
@@ -90,7 +55,7 @@ state_tells s None = refl
 state_tells s (Some text) = state_by _ _ _ _ s text refl refl refl refl
 
 same_level_as : (text : List ℕ) (l m : Level) → bytes_eq text (level_name m) ≡ true → bytes_eq (level_name l) text ≡ same_level l m
-same_level_as text l m e = ap (bytes_eq (level_name l)) ((bytes_eq-Decides text (level_name m)).0 e) ∙ levels_apart l m
+same_level_as text l m e = ap (bytes_eq (level_name l)) ((bytes_eq-Decides text (level_name m)).0 e) ∙ same_level_name l m
 
 no_level : (l : Level) (text : List ℕ) → bytes_eq text (level_name NoLevel) ≡ false → bytes_eq text (level_name Note) ≡ false
     → bytes_eq text (level_name Warning) ≡ false → bytes_eq text (level_name Error) ≡ false → bytes_eq (level_name l) text ≡ false

@@ -1,5 +1,5 @@
 -- A path and its root.
-use Rattle.std.proofs.Common.{◌≡◌, ℕ, List, Some, Bool, true, false, refl, sym, subst}
+use Rattle.std.proofs.Common.{ℕ, List, Some, sym, subst}
 use Rattle.std.specs.Str.{IsCharBoundary}
 use Rattle.std.specs.Str.Pattern.{FindsTextPrefix, HasPrefixMatch}
 
@@ -8,8 +8,3 @@ pub found_prefix : (root path : List ℕ) (n : ℕ) → FindsTextPrefix root pat
 found_prefix root path n found =
     let P : ℕ → Type 0 = λ k. IsCharBoundary path k in
     (n, found, subst P (sym found.0) found.2)
-
--- a test that can't be passed
-pub refuted : (b : Bool) → (b ≡ true → ⊥) → b ≡ false
-refuted true h = absurd (h refl)
-refuted false h = refl

@@ -1,5 +1,6 @@
 -- The text report, line by line.
 use Rattle.std.proofs.Common.{◌≡◌, ◌<◌, ◌^◌, ◌+◌, ◌%◌, ◌==◌, ◌++◌, ℕ, zero, suc, Bool, true, false, not, ◌&&◌, ◌||◌, List, [], ◌∷◌, Option, Some, None, IfSome, codes, decimal, length, if◌then◌else◌, refl, sym, ap, ap₂, ◌∙◌, cond, append_assoc, subst, arith}
+use mathlib.Core.Bool.{and-false}
 use Rattle.std.specs.Prelude.{encode_utf8_all, nat_lt}
 use Rattle.std.specs.Char.{encode_utf8}
 use Rattle.std.specs.List.{AllByRecursion, count_by, list_all}
@@ -43,10 +44,6 @@ is_plain c = is_seen c && (not (c == 35) && nat_lt c 128)
 pub seen_in_line : (c : ℕ) → is_seen c ≡ true → (c == 10) ≡ false
 seen_in_line c h = false_from_ne_true _ (λ same. true≢false (sym h ∙ ap is_seen (eqb-true c 10 same)))
 
-and_false : (b : Bool) → (b && false) ≡ false
-and_false true = refl
-and_false false = refl
-
 -- no newline more
 pub same_ends : (n c : ℕ) (cs : List ℕ) → (c == 10) ≡ false → count_by (λ c. c == 10) cs ≡ n → count_by (λ c. c == 10) (c ∷ cs) ≡ n
 same_ends n c cs e h =
@@ -72,7 +69,7 @@ plain_more n c cs h rest =
     let apart : has_two_signs (c == 35) cs ≡ false = ap (λ b. has_two_signs b cs) sign ∙ rest.signs in
     record {
       within = seen_more n c cs parts.0 apart rest;
-      signs = λ b. or_from (b && c == 35) (has_two_signs (c == 35) cs) (ap (λ t. b && t) sign ∙ and_false b) apart;
+      signs = λ b. or_from (b && c == 35) (has_two_signs (c == 35) cs) (ap (λ t. b && t) sign ∙ and-false b) apart;
     }
 
 plains_within : (n : ℕ) (ws cs : List ℕ) → list_all is_plain ws ≡ true → Within n cs → Within n (ws ++ cs)
@@ -107,7 +104,7 @@ line_ends n cs h =
     let held = h.ends in
     record {
       within = record { ends = omega (arith, first, held); seen = h.seen; colons = h.colons; signs = h.signs };
-      signs = λ b. or_from (b && false) (has_two_signs false cs) (and_false b) h.signs;
+      signs = λ b. or_from (b && false) (has_two_signs false cs) (and-false b) h.signs;
     }
 
 -- a line's first character is no colon

@@ -1,6 +1,6 @@
 -- An entry that is filed under a prefix is found for each uri that begins with it.
-use Rattle.std.proofs.Common.{◌≡◌, ℕ, zero, suc, ◌+◌, ◌-◌, ◌<◌, Bool, true, false, ◌||◌, List, [], ◌∷◌, ◌++◌, map, length, take, Option, Some, None, nat_eq, refl, ap, ◌∙◌, arith, if◌then◌else◌}
-use Rattle.std.proofs.lemmas.Option.{slice_get_within}
+use Rattle.std.proofs.Common.{◌≡◌, ℕ, zero, suc, ◌+◌, ◌-◌, ◌<◌, Bool, true, false, List, [], ◌∷◌, ◌++◌, map, length, take, Option, Some, None, nat_eq, refl, ap, ◌∙◌, arith, if◌then◌else◌}
+use Rattle.std.proofs.lemmas.Option.{slice_get_within, same_Some}
 use Rattle.std.proofs.lemmas.Bool.{or_left, or_right}
 use Rattle.std.specs.List.{flat_map, list_any}
 use Rattle.std.specs.Option.{option_map_or}
@@ -33,10 +33,7 @@ under_beginning n under (b ∷ prefix) rest found =
 
 any_at : (test : Entry → Bool) (es : List Entry) (n : ℕ) (e : Entry) → slice_get es n ≡ Some e → test e ≡ true → list_any test es ≡ true
 any_at test [] n e is t = let never : ⊥ = cc in absurd never
-any_at test (x ∷ es) zero e is t = let same : x ≡ e = some_same x e is in or_left (test x) (list_any test es) (ap test same ∙ t)
-  where
-    some_same : (a b : Entry) → ◌≡◌ {A = Option Entry} (Some a) (Some b) → a ≡ b
-    some_same a b e = cc
+any_at test (x ∷ es) zero e is t = let same : x ≡ e = same_Some x e is in or_left (test x) (list_any test es) (ap test same ∙ t)
 any_at test (x ∷ es) (suc n) e is t = or_right (test x) (list_any test es) (any_at test es n e is t)
 
 -- a length that is marked is within the marks

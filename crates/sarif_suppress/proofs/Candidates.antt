@@ -1,6 +1,6 @@
 -- The entries that may match a result: all that match it are among them.
 use Rattle.std.proofs.Common.{◌≡◌, ℕ, Bool, true, false, not, ◌&&◌, ◌||◌, List, [], ◌∷◌, ◌++◌, filter, Option, Some, None, nat_eq, bytes_eq, refl, sym, ap, ◌∙◌, arith}
-use Rattle.std.proofs.lemmas.Bool.{or_left, or_right}
+use Rattle.std.proofs.lemmas.Bool.{and_parts, or_left, or_right}
 use Rattle.std.specs.List.{flat_map, list_any}
 use Rattle.std.specs.Option.{option_map_or}
 use Rattle.std.specs.Prelude.{slice_get}
@@ -62,14 +62,6 @@ has_candidates es r n e is =
 
 -- ---- an entry that matches is filed under what the result has
 
-and_left : (a b : Bool) → (a && b) ≡ true → a ≡ true
-and_left true b t = refl
-and_left false b t = t
-
-and_right : (a b : Bool) → (a && b) ≡ true → b ≡ true
-and_right true b t = t
-and_right false b t = let never : ⊥ = let no : false ≡ true = t in cc in absurd never
-
 its_guid : (g : ℕ) (found : Option ℕ) → is_guid (Some g) found ≡ true → option_map_or (λ guid. nat_eq g guid) found false ≡ true
 its_guid g None t = t
 its_guid g (Some guid) t = t
@@ -105,19 +97,19 @@ parts_of c r holds =
   where
     split : (a b u x g f p : Bool) → is_wanted c.rule_id r.rule_id ≡ a → is_wanted c.tool r.tool ≡ b → is_there c.uri r.place.uri ≡ u → begins c.uri_prefix r.place.uri ≡ x → is_guid c.guid r.guid ≡ g → are_among c.full r.full ≡ f → are_among c.partial r.partial ≡ p → (a && (b && (u && (x && (g && (f && p)))))) ≡ true → Parts c r
     split a b u x g f p ea eb eu ex eg ef ep t =
-        let t1 : (b && (u && (x && (g && (f && p))))) ≡ true = and_right a _ t in
-        let t2 : (u && (x && (g && (f && p)))) ≡ true = and_right b _ t1 in
-        let t3 : (x && (g && (f && p))) ≡ true = and_right u _ t2 in
-        let t4 : (g && (f && p)) ≡ true = and_right x _ t3 in
-        let t5 : (f && p) ≡ true = and_right g _ t4 in
+        let t1 : (b && (u && (x && (g && (f && p))))) ≡ true = (and_parts a _ t).1 in
+        let t2 : (u && (x && (g && (f && p)))) ≡ true = (and_parts b _ t1).1 in
+        let t3 : (x && (g && (f && p))) ≡ true = (and_parts u _ t2).1 in
+        let t4 : (g && (f && p)) ≡ true = (and_parts x _ t3).1 in
+        let t5 : (f && p) ≡ true = (and_parts g _ t4).1 in
         record {
-          rule = ea ∙ and_left a (b && (u && (x && (g && (f && p))))) t;
-          tool = eb ∙ and_left b (u && (x && (g && (f && p)))) t1;
-          uri = eu ∙ and_left u (x && (g && (f && p))) t2;
-          prefix = ex ∙ and_left x (g && (f && p)) t3;
-          guid = eg ∙ and_left g (f && p) t4;
-          full = ef ∙ and_left f p t5;
-          partial = ep ∙ and_right f p t5;
+          rule = ea ∙ (and_parts a (b && (u && (x && (g && (f && p))))) t).0;
+          tool = eb ∙ (and_parts b (u && (x && (g && (f && p)))) t1).0;
+          uri = eu ∙ (and_parts u (x && (g && (f && p))) t2).0;
+          prefix = ex ∙ (and_parts x (g && (f && p)) t3).0;
+          guid = eg ∙ (and_parts g (f && p) t4).0;
+          full = ef ∙ (and_parts f p t5).0;
+          partial = ep ∙ (and_parts f p t5).1;
         }
 
 -- what one of these holds of is asked for
@@ -171,9 +163,9 @@ module _ (e : Entry) (r : Record) (begun : Bool) where
   is_filed (Some g) f p u ru px t is parts found =
       or_left (is_asked e r) begun (or_left by_guid _ (rw is (its_guid g r.guid parts.guid)))
   is_filed None (q ∷ f) p u ru px t is parts found =
-      or_left (is_asked e r) begun (in_full by_guid by_full by_partial by_uri by_rule by_tool (asks_for_none e) (rw is (its_pair q r.full (and_left (list_any (λ o. is_pair o q) r.full) (are_among f r.full) parts.full))))
+      or_left (is_asked e r) begun (in_full by_guid by_full by_partial by_uri by_rule by_tool (asks_for_none e) (rw is (its_pair q r.full (and_parts (list_any (λ o. is_pair o q) r.full) (are_among f r.full) parts.full).0)))
   is_filed None [] (q ∷ p) u ru px t is parts found =
-      or_left (is_asked e r) begun (in_partial by_guid by_full by_partial by_uri by_rule by_tool (asks_for_none e) (rw is (its_pair q r.partial (and_left (list_any (λ o. is_pair o q) r.partial) (are_among p r.partial) parts.partial))))
+      or_left (is_asked e r) begun (in_partial by_guid by_full by_partial by_uri by_rule by_tool (asks_for_none e) (rw is (its_pair q r.partial (and_parts (list_any (λ o. is_pair o q) r.partial) (are_among p r.partial) parts.partial).0)))
   is_filed None [] [] (Some u) ru px t is parts found =
       or_left (is_asked e r) begun (in_uri by_guid by_full by_partial by_uri by_rule by_tool (asks_for_none e) (rw is (its_uri u r.place.uri parts.uri)))
   is_filed None [] [] None (Some ru) px t is parts found =
@@ -193,7 +185,7 @@ among today r es table is n e at match =
     let begun : (prefix : List ℕ) → prefix_key c ≡ Some prefix → begins (Some prefix) r.place.uri ≡ true → has n beginning ≡ true = λ prefix key begins. found_begun es table n e prefix r.place.uri is at key begins in
     list_any-append (λ m. nat_eq m n) (candidates es r) beginning
     ∙ ap (λ b. b || has n beginning) (has_candidates es r n e at)
-    ∙ is_filed e r (has n beginning) c.guid c.full c.partial c.uri c.rule_id c.uri_prefix c.tool refl (parts_of c r (and_right (not (is_expired today e)) (hold c r) match)) begun
+    ∙ is_filed e r (has n beginning) c.guid c.full c.partial c.uri c.rule_id c.uri_prefix c.tool refl (parts_of c r (and_parts (not (is_expired today e)) (hold c r) match).1) begun
 
 -- those of these that match, in order, are all entries that match
 pub selected : {S H : Type 0} (today : Option ℕ) (r : Record) (es : List Entry) (table : PrefixTable S H) (numbers : List ℕ) → IsPrefixTable es table → numbers ≡ candidates es r ++ option_map_or (found_for table) r.place.uri [] → with_numbers [] (filter (passes_at (λ e. matches today e r) es) numbers) ≡ numbers_from (λ e. matches today e r) 0 es

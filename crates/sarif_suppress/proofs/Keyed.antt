@@ -1,10 +1,11 @@
 -- What the keys of a set tell of the objects of entries in a list.
-use Rattle.std.proofs.Common.{◌≡◌, ℕ, zero, suc, ◌+◌, ◌<◌, length, drop, get_or, slice_get, arith, Bool, true, false, ◌&&◌, ◌||◌, List, [], ◌∷◌, ◌++◌, Option, Some, None, Bor, option_map, codes, bytes_eq, refl, sym, ap, ◌∙◌, if◌then◌else◌}
+use Rattle.std.proofs.Common.{◌≡◌, ℕ, zero, suc, ◌+◌, ◌<◌, length, drop, get_or, slice_get, arith, Bool, true, false, ◌&&◌, ◌||◌, List, [], ◌∷◌, ◌++◌, Option, Some, None, Bor, option_map, codes, bytes_eq, refl, sym, ap, ◌∙◌}
 use mathlib.Core.Bool.{or-false}
 use Rattle.std.specs.Bool.{Decides}
 use Rattle.std.specs.List.{list_any}
 use Rattle.std.specs.Option.{option_eq}
 use Rattle.std.proofs.lemmas.Bool.{false≢true, false_from_ne_true}
+use Rattle.std.proofs.lemmas.Bool.Decides.{Decides-and}
 use Rattle.std.proofs.lemmas.List.Folds.{list_any-append}
 use Rattle.std.proofs.lemmas.Slice.Eq.{bytes_eq-Decides}
 use Rattle.indexmap.specs.IndexSet.{IndexSet}
@@ -37,10 +38,6 @@ text_means None (Some b) = (λ t. absurd (false≢true t), λ e. cc)
 text_means (Some a) None = (λ t. absurd (false≢true t), λ e. cc)
 text_means (Some a) (Some b) = (λ t. ap Some ((bytes_eq-Decides a b).0 t), λ e. (bytes_eq-Decides a b).1 cc)
 
-both : {A B : Type 0} (a b : Bool) → Decides a A → Decides b B → Decides (a && b) (A × B)
-both true b first second = (λ t. (first.0 refl, second.0 t), λ p. second.1 p.1)
-both false b first second = (λ t. absurd (false≢true t), λ p. first.1 p.0)
-
 same_texts : (j i : Option (Bor (List ℕ))) → option_eq (λ a b. bytes_eq a.now b.now) j i ≡ option_eq bytes_eq (option_map (λ text. text.now) j) (option_map (λ text. text.now) i)
 same_texts None None = refl
 same_texts None (Some b) = refl
@@ -51,7 +48,7 @@ same_parts : (k q : Key) → same_key k q ≡ (status.ghosts.eq k.status q.statu
 same_parts k q = ap (λ b. status.ghosts.eq k.status q.status && b) (same_texts k.justification q.justification)
 
 key_means : (k q : Key) → Decides (same_key k q) ((k.status ≡ q.status) × (justification_of k ≡ justification_of q))
-key_means k q = rw (same_parts k q) (both _ _ (status_means k.status q.status) (text_means (justification_of k) (justification_of q)))
+key_means k q = rw (same_parts k q) (Decides-and _ _ (status_means k.status q.status) (text_means (justification_of k) (justification_of q)))
 
 -- ---- what is read of an object
 

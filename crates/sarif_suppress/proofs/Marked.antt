@@ -1,10 +1,10 @@
 -- The marks of the entries that matched a result.
-use Rattle.std.proofs.Common.{◌≡◌, ℕ, ◌+◌, ◌<◌, Bool, true, false, ◌||◌, List, [], ◌∷◌, ◌++◌, map, length, nat_lt, refl, sym, ap, ◌∙◌, arith, if◌then◌else◌}
+use Rattle.std.proofs.Common.{◌≡◌, ℕ, ◌+◌, ◌<◌, Bool, true, false, ◌||◌, List, [], ◌∷◌, ◌++◌, map, length, refl, sym, ap, ◌∙◌, arith, if◌then◌else◌}
 use mathlib.Core.Bool.{or-true, or-false}
 use Rattle.std.specs.Prelude.{replicate}
 use Rattle.std.specs.List.{list_any}
 use Rattle.std.proofs.Math.Seq.{set-append_seam}
-use Rattle.std.proofs.lemmas.Bool.Decides.{nat_tests}
+use Rattle.std.proofs.lemmas.Bool.{lt-ltb}
 use Rattle.std.proofs.lemmas.List.{append_assoc, length-append}
 use Rattle.std.proofs.lemmas.List.Folds.{list_any-append}
 use Rattle.sarif_records.specs.declared.record.Record.{Record}
@@ -23,14 +23,11 @@ none_set (e ∷ es) = ap (λ marks. false ∷ marks) (none_set es)
 pub unset : (file : File) → replicate (length file.entries) false ≡ marks_of file []
 unset file = none_set file.entries
 
-is_within : (n all : ℕ) → n < all → nat_lt n all ≡ true
-is_within n all within = grind (arith, nat_tests)
-
 -- what stands behind the front is marked
 with_mark-append : (front : List Bool) (mark : Bool) (rest : List Bool) (n : ℕ) → n ≡ length front → with_mark (front ++ mark ∷ rest) n ≡ front ++ true ∷ rest
 with_mark-append front mark rest n here =
     let within : length front < length (front ++ mark ∷ rest) = omega (arith, length-append front (mark ∷ rest)) in
-    rw (here, is_within _ _ within) (set-append_seam front mark rest true)
+    rw (here, lt-ltb _ _ within) (set-append_seam front mark rest true)
 
 -- the entries that match one result more
 with_marks-append : (was is : Entry → Bool) (front : List Bool) (n : ℕ) (es : List Entry) → n ≡ length front → with_marks (front ++ map was es) (numbers_from is n es) ≡ front ++ map (λ e. was e || is e) es

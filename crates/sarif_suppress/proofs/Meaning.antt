@@ -1,11 +1,11 @@
 -- What the test of an entry against a result means.
-use Rattle.std.proofs.Common.{◌≡◌, ℕ, zero, suc, ◌≤◌, Bool, true, false, not, ◌&&◌, ◌||◌, List, [], ◌∷◌, ◌++◌, take, drop, length, Option, Some, None, nat_lt, refl, sym, ap, ◌∙◌, arith}
+use Rattle.std.proofs.Common.{◌≡◌, ℕ, zero, suc, ◌≤◌, true, not, List, [], ◌∷◌, ◌++◌, take, drop, length, Option, Some, None, nat_lt, refl, sym, ap, ◌∙◌, arith}
 use mathlib.Core.Bool.{or-true}
 use Rattle.std.specs.Bool.{Decides}
 use Rattle.std.specs.List.{All, Contains, list_any}
 use Rattle.std.proofs.Math.Seq.{take-append_seam}
 use Rattle.std.proofs.lemmas.Bool.{false≢true, eqb-true, eq-eqb}
-use Rattle.std.proofs.lemmas.Bool.Decides.{nat_tests, Decides-by_and}
+use Rattle.std.proofs.lemmas.Bool.Decides.{nat_tests, Decides-and, Decides-like, Decides-by_and}
 use Rattle.std.proofs.lemmas.List.{take-append-drop}
 use Rattle.std.proofs.lemmas.List.Elements.{All-contains, Contains-get_or}
 use Rattle.std.proofs.lemmas.Map.Views.{Contains-from_any}
@@ -14,14 +14,6 @@ use Rattle.sarif_records.specs.declared.record.Record.{Record}
 use Rattle.sarif_suppress.specs.declared.conditions.Conditions.{Conditions}
 use Rattle.sarif_suppress.specs.declared.entry.Entry.{Entry}
 use Rattle.sarif_suppress.specs.Matching.{is_wanted, is_there, begins, is_guid, is_pair, are_among, hold, is_past, matches, Meets, Matches}
-
-and_means : {A B : Type 0} (a b : Bool) → Decides a A → Decides b B → Decides (a && b) (A × B)
-and_means true b first second = (λ t. (first.0 refl, second.0 t), λ p. second.1 p.1)
-and_means false b first second = (λ t. absurd (false≢true t), λ p. first.1 p.0)
-
--- both ways of a test, by way of another fact
-decides_by : {A B : Type 0} (b : Bool) → (A → B) → (B → A) → Decides b A → Decides b B
-decides_by b there back is = (λ t. there (is.0 t), λ h. is.1 (back h))
 
 text_means : (wanted : Option (List ℕ)) (found : List ℕ) → Decides (is_wanted wanted found) ((text : List ℕ) → wanted ≡ Some text → found ≡ text)
 text_means None found = (λ _ text is. cc, λ _. refl)
@@ -55,7 +47,7 @@ begins_means (Some wanted) (Some found) = (
 
 pub pair_means : (a b : List ℕ × List ℕ) → Decides (is_pair a b) (a ≡ b)
 pair_means a b =
-    decides_by (is_pair a b) (λ h. pair_from a b h.0 h.1) (λ e. (ap (λ p. p.0) e, ap (λ p. p.1) e)) (and_means _ _ (bytes_eq-Decides a.0 b.0) (bytes_eq-Decides a.1 b.1))
+    Decides-like (is_pair a b) (λ h. pair_from a b h.0 h.1) (λ e. (ap (λ p. p.0) e, ap (λ p. p.1) e)) (Decides-and _ _ (bytes_eq-Decides a.0 b.0) (bytes_eq-Decides a.1 b.1))
   where
     pair_from : (a b : List ℕ × List ℕ) → a.0 ≡ b.0 → a.1 ≡ b.1 → a ≡ b
     pair_from a b e f = λ i. (e i, f i)
@@ -74,15 +66,15 @@ among_found (p ∷ ps) pair (suc k, within, is) =
 among_means : (wanted found : List (List ℕ × List ℕ)) → Decides (are_among wanted found) ((pair : List ℕ × List ℕ) → Contains wanted pair → Contains found pair)
 among_means wanted found =
     let each : Decides (are_among wanted found) (All (Contains found) wanted) = Decides-by_and (λ pair. list_any (λ p. is_pair p pair) found) (Contains found) (λ ps. are_among ps found) (λ pair. (found_among found pair, among_found found pair)) refl (λ _ _. refl) wanted in
-    decides_by (are_among wanted found) (λ all pair is. All-contains (Contains found) wanted pair all is) (λ h k d within. h _ (Contains-get_or wanted k d within)) each
+    Decides-like (are_among wanted found) (λ all pair is. All-contains (Contains found) wanted pair all is) (λ h k d within. h _ (Contains-get_or wanted k d within)) each
 
 -- the conditions, one after another
 pub meets : (c : Conditions) (r : Record) → Decides (hold c r) (Meets c r)
 meets c r =
-    decides_by (hold c r)
+    Decides-like (hold c r)
     (λ h. record { rule_id = h.0; tool = h.1.0; uri = h.1.1.0; uri_prefix = h.1.1.1.0; guid = h.1.1.1.1.0; full = h.1.1.1.1.1.0; partial = h.1.1.1.1.1.1 })
     (λ m. (m.rule_id, (m.tool, (m.uri, (m.uri_prefix, (m.guid, (m.full, m.partial)))))))
-    (and_means _ _ (text_means c.rule_id r.rule_id) (and_means _ _ (text_means c.tool r.tool) (and_means _ _ (there_means c.uri r.place.uri) (and_means _ _ (begins_means c.uri_prefix r.place.uri) (and_means _ _ (guid_means c.guid r.guid) (and_means _ _ (among_means c.full r.full) (among_means c.partial r.partial)))))))
+    (Decides-and _ _ (text_means c.rule_id r.rule_id) (Decides-and _ _ (text_means c.tool r.tool) (Decides-and _ _ (there_means c.uri r.place.uri) (Decides-and _ _ (begins_means c.uri_prefix r.place.uri) (Decides-and _ _ (guid_means c.guid r.guid) (Decides-and _ _ (among_means c.full r.full) (among_means c.partial r.partial)))))))
 
 in_time : (today expires : Option ℕ) → Decides (not (is_past today expires)) ((last day : ℕ) → expires ≡ Some last → today ≡ Some day → day ≤ last)
 in_time None expires = (λ _ last day _ is. let never : ⊥ = cc in absurd never, λ _. refl)
@@ -104,7 +96,7 @@ in_time (Some today) (Some expires) = (
 -- the whole test
 pub means : (today : Option ℕ) (e : Entry) (r : Record) → Decides (matches today e r) (Matches today e r)
 means today e r =
-    decides_by (matches today e r)
+    Decides-like (matches today e r)
     (λ h. record { in_time = h.0; meets = h.1 })
     (λ m. (m.in_time, m.meets))
-    (and_means _ _ (in_time today e.expires) (meets e.conditions r))
+    (Decides-and _ _ (in_time today e.expires) (meets e.conditions r))

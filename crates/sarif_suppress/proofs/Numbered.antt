@@ -1,12 +1,12 @@
 -- The numbers of entries: what stands at each, and the lists of the tables as one.
-use Rattle.std.proofs.Common.{◌≡◌, ℕ, zero, suc, ◌+◌, ◌<◌, ◌≤◌, Bool, true, false, not, ◌&&◌, List, [], ◌∷◌, ◌++◌, map, filter, length, drop, get_or, Option, Some, nat_eq, refl, sym, ap, ◌∙◌, arith, if◌then◌else◌}
+use Rattle.std.proofs.Common.{◌≡◌, ℕ, zero, suc, ◌+◌, ◌<◌, ◌≤◌, Bool, true, false, not, ◌&&◌, List, [], ◌∷◌, ◌++◌, map, filter, length, drop, get_or, Some, nat_eq, refl, sym, ap, ◌∙◌, arith, if◌then◌else◌}
 use Rattle.std.specs.Prelude.{slice_get}
 use Rattle.std.specs.List.{list_all, list_any}
 use Rattle.std.proofs.Math.Seq.{get_or-append_seam}
 use Rattle.std.proofs.lemmas.Bool.Decides.{nat_tests}
 use Rattle.std.proofs.lemmas.List.{append_assoc, append-nil, drop_more, length-append}
 use Rattle.std.proofs.lemmas.List.Folds.{list_all-append}
-use Rattle.std.proofs.lemmas.Option.{slice_get-get_or}
+use Rattle.std.proofs.lemmas.Option.{slice_get-get_or, same_Some}
 use Rattle.sarif_records.specs.declared.kinds.Status.{Status}
 use Rattle.sarif_suppress.specs.declared.entry.Entry.{Entry}
 use Rattle.sarif_suppress.specs.Matching.{is_empty}
@@ -60,7 +60,7 @@ none_before test n s es is = below test n s es (omega arith)
 pub has_from : (test : Entry → Bool) (s m n : ℕ) (es : List Entry) (e : Entry) → m ≡ s + n → slice_get es n ≡ Some e → has m (numbers_from test s es) ≡ test e
 has_from test s m n [] e at is = let never : ⊥ = cc in absurd never
 has_from test s m zero (x ∷ es) e at is =
-    let same : x ≡ e = some_same x e is in
+    let same : x ≡ e = same_Some x e is in
     let here : m ≡ s = omega arith in
     rw (here, same) (
     elim (test e) as (λ b. has s (if b then s ∷ numbers_from test (s + 1) es else numbers_from test (s + 1) es) ≡ b) [
@@ -68,9 +68,6 @@ has_from test s m zero (x ∷ es) e at is =
       | false ↦ none_before test s (s + 1) es refl
     ])
   where
-    some_same : (a b : Entry) → ◌≡◌ {A = Option Entry} (Some a) (Some b) → a ≡ b
-    some_same a b e = cc
-
     self : (s : ℕ) → nat_eq s s ≡ true
     self s = grind (arith, nat_tests)
 has_from test s m (suc n) (x ∷ es) e at is =

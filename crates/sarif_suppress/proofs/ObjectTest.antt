@@ -1,6 +1,6 @@
 -- What the test of a value against an entry's object means, and what follows of the list that is written.
 use Rattle.std.proofs.Common.{◌≡◌, ℕ, Bool, true, false, ◌&&◌, ◌||◌, List, [], ◌∷◌, ◌++◌, Some, None, codes, refl, sym, ap, ◌∙◌, if◌then◌else◌}
-use mathlib.Core.Bool.{and-true}
+use mathlib.Core.Bool.{and-true, and-false}
 use Rattle.std.specs.Bool.{Decides}
 use Rattle.std.specs.List.{list_any, list_all}
 use Rattle.std.specs.Option.{option_map_or}
@@ -101,11 +101,7 @@ not_empty list (e ∷ es) is = not_empty (with_object list e) es (with_object_em
 -- nothing is written just where there is no own suppression and no entry
 pub written_empty : (list : List Data) (es : List Entry) → is_empty (with_objects list es) ≡ (is_empty list && is_empty es)
 written_empty list [] = sym (and-true (is_empty list))
-written_empty list (e ∷ es) = not_empty (with_object list e) es (with_object_empty e list) ∙ sym (and_false (is_empty list))
-  where
-    and_false : (a : Bool) → (a && false) ≡ false
-    and_false true = refl
-    and_false false = refl
+written_empty list (e ∷ es) = not_empty (with_object list e) es (with_object_empty e list) ∙ sym (and-false (is_empty list))
 
 -- the object of an entry holds no number with a fraction
 pub object_float : (e : Entry) → has_float (object_of e) ≡ false
