@@ -121,7 +121,7 @@ pub fn merge_bytes<G: Gate + Sync, R: Threads + Wait + Sync>(
     ensures inputs { IfOk result
         (λ merged. HoldsFirst (written_inputs (inputs_of sources.now options.now)) merged.log) }
     // After these stand just the unmatched results of the baselines, as absent, and nothing after the log.
-    ensures states { IfOk result (λ merged. merged.log
+    ensures log { IfOk result (λ merged. merged.log
         ≡ output_text (inputs_of sources.now options.now) options.now.policy) }
     // Counts, verdict and numbers are those of the log that is written.
     ensures gate { let inputs = inputs_of sources.now options.now in

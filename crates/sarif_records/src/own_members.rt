@@ -45,7 +45,10 @@ fn read_kind(result_value: &Value) -> Result<Kind, Fault>
 {
     match member_at(result_value, "kind") {
         None => Ok(Kind::Fail),
-        Some(member) => member.as_str().and_then(Kind::from_name).ok_or(Fault::BadKind),
+        Some(member) => member
+            .as_str()
+            .and_then(Kind::from_name)
+            .ok_or(Fault::BadKind),
     }
 }
 
