@@ -37,7 +37,7 @@ use Rattle.sarif_assemble.proofs.Sides.{drafts_long, few_present, own_total, res
 pub current_long : (file : File) (now before : List Placed) (c : Half) (b : Baselines) → AreTogether file now before c b → length c.drafts.items ≡ length (records_of now)
 current_long file now before c b h =
     ap length h.is_current.drafts
-    ∙ drafts_long (listing_of file) (applied_of file) (records_of now) (flat_map results_of (run_values now)) (h.now_records ∙ sym (results_long (run_values now)))
+    ∙ drafts_long (listing_of file) (applied_of file) (records_of now) (flat_map results_of (run_values now)) (h.current_records ∙ sym (results_long (run_values now)))
 
 pub current_side : (file : File) (now before : List Placed) (c : Half) (b : Baselines) (s : Side) → AreTogether file now before c b
     → ArePartsOf own_count s.runs.items (run_values now) → AllByRecursion IsWholeRun s.runs.items
@@ -46,7 +46,7 @@ pub current_side : (file : File) (now before : List Placed) (c : Half) (b : Base
 current_side file now before c b s h parts whole drafts states =
     let many = current_long file now before c b h in record {
       whole = whole;
-      drafts = ap length drafts ∙ many ∙ h.now_records ∙ sym (own_total s.runs.items (run_values now) parts);
+      drafts = ap length drafts ∙ many ∙ h.current_records ∙ sym (own_total s.runs.items (run_values now) parts);
       states =
           ap length states ∙ length-map (states_of c.records.items b.records.items) Some
           ∙ states_long b.records.items (partners_of c.records.items b.records.items) 0 c.records.items
@@ -94,7 +94,7 @@ current_texts file now before c b s h parts drafts states =
     ap (λ ds. runs_texts s.runs.items ds s.states.items) (drafts ∙ h.is_current.drafts)
     ∙ ap (runs_texts s.runs.items (drafts_by (listing_of file) (applied_of file) (records_of now) (flat_map results_of (run_values now)))) states
     ∙ runs_written (listing_of file) (applied_of file) (records_of now) (states_of (records_of now) (records_of before)) s.runs.items (run_values now)
-    h.now_runs parts h.now_records (states_long (records_of before) (partners_of (records_of now) (records_of before)) 0 (records_of now))
+    h.current_are_runs parts h.current_records (states_long (records_of before) (partners_of (records_of now) (records_of before)) 0 (records_of now))
 
 baseline_texts : (file : File) (now before : List Placed) (c : Half) (b : Baselines) (t : Side) → AreTogether file now before c b
     → IsLeft before (taken_of (records_of now) (records_of before)) t
@@ -105,7 +105,7 @@ baseline_texts file now before c b t h left =
     let taken_all = taken_long (records_of now) (records_of before) in
     ap (left_texts t.runs.items t.drafts.items) left.states
     ∙ ap (λ es. left_texts t.runs.items es (map (λ _. Some Absent) es)) left.drafts
-    ∙ left_written (records_of before) taken t.runs.items (run_values before) ds h.before_runs left.parts h.are_baselines.count taken_all refl
+    ∙ left_written (records_of before) taken t.runs.items (run_values before) ds h.baseline_are_runs left.parts h.are_baselines.count taken_all refl
     (baseline_long before b h.are_baselines ∙ sym taken_all)
 
 current_counts : (file : File) (now before : List Placed) (c : Half) (b : Baselines) (s : Side) (x : State) (l : Level) (y : Bool) → AreTogether file now before c b
@@ -115,7 +115,7 @@ current_counts file now before c b s x l y h drafts states =
     ap (λ ds. tallied ds s.states.items x l y) (drafts ∙ h.is_current.drafts)
     ∙ ap (λ ss. tallied (drafts_by (listing_of file) (applied_of file) (records_of now) (flat_map results_of (run_values now))) ss x l y) states
     ∙ runs_count (listing_of file) (applied_of file) (records_of now) (states_of (records_of now) (records_of before)) (run_values now) x l y
-    h.now_runs h.now_records (states_long (records_of before) (partners_of (records_of now) (records_of before)) 0 (records_of now))
+    h.current_are_runs h.current_records (states_long (records_of before) (partners_of (records_of now) (records_of before)) 0 (records_of now))
 
 baseline_counts : (file : File) (now before : List Placed) (c : Half) (b : Baselines) (t : Side) (x : State) (l : Level) (y : Bool) → AreTogether file now before c b
     → IsLeft before (taken_of (records_of now) (records_of before)) t
@@ -126,7 +126,7 @@ baseline_counts file now before c b t x l y h left =
     ap (λ ss. tallied t.drafts.items ss x l y) left.states
     ∙ ap (λ es. tallied es (map (λ _. Some Absent) es) x l y) left.drafts
     ∙ counts taken (baseline_drafts before) x l y (baseline_long before b h.are_baselines ∙ sym taken_all)
-    ∙ left_count (records_of before) taken (run_values before) x l y h.before_runs h.are_baselines.count taken_all
+    ∙ left_count (records_of before) taken (run_values before) x l y h.baseline_are_runs h.are_baselines.count taken_all
 
 pub written : (file : File) (now before : List Placed) (c : Half) (b : Baselines) (s t : Side) → AreTogether file now before c b
     → ArePartsOf own_count s.runs.items (run_values now)
@@ -156,10 +156,10 @@ together file current baseline c b j k is_c are_b =
     let present = few_present (run_values before) in record {
       is_current = is_c;
       are_baselines = are_b;
-      now_runs = j.objects;
-      before_runs = k.objects;
-      now_records = records;
+      current_are_runs = j.objects;
+      baseline_are_runs = k.objects;
+      current_records = records;
       few_runs = j.few_runs;
-      few_now = omega (arith, records, j.few_results);
-      few_before = omega (arith, are_b.count, present, k.few_results);
+      few_current = omega (arith, records, j.few_results);
+      few_baseline = omega (arith, are_b.count, present, k.few_results);
     }

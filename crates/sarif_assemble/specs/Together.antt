@@ -16,21 +16,21 @@ use Rattle.sarif_assemble.specs.Halves.{IsCurrent}
 use Rattle.sarif_assemble.specs.LogBy.{states_of, taken_of}
 
 -- a record of each result of the logs, and of each that is there of the baselines
-pub record AreTogether (file : File) (now before : List Placed) (current : Half)
+pub record AreTogether (file : File) (current_runs baseline_runs : List Placed) (current : Half)
     (baselines : Baselines) : Type 0 where
-  pub is_current : IsCurrent file now current
-  pub are_baselines : AreBaselines before baselines
-  pub now_runs : AllByRecursion IsRun (run_values now)
-  pub before_runs : AllByRecursion IsRun (run_values before)
-  pub now_records : length (records_of now) ≡ results_total (run_values now)
-  pub few_runs : length now ≤ 10000
-  pub few_now : length (records_of now) ≤ 1000000
-  pub few_before : length (records_of before) ≤ 1000000
+  pub is_current : IsCurrent file current_runs current
+  pub are_baselines : AreBaselines baseline_runs baselines
+  pub current_are_runs : AllByRecursion IsRun (run_values current_runs)
+  pub baseline_are_runs : AllByRecursion IsRun (run_values baseline_runs)
+  pub current_records : length (records_of current_runs) ≡ results_total (run_values current_runs)
+  pub few_runs : length current_runs ≤ 10000
+  pub few_current : length (records_of current_runs) ≤ 1000000
+  pub few_baseline : length (records_of baseline_runs) ≤ 1000000
 
 -- the state of each current result, which baseline results are taken, and the drafts of the others
 pub record IsPaired (current : Half) (baselines : Baselines) (paired : Paired) : Type 0 where
   pub states : paired.states.items
       ≡ map Some (states_of current.records.items baselines.records.items)
   pub taken : paired.taken.items ≡ taken_of current.records.items baselines.records.items
-  pub left : (before : List Placed) → AreBaselines before baselines
-      → paired.left.items ≡ not_taken paired.taken.items (baseline_drafts before)
+  pub left : (baseline_runs : List Placed) → AreBaselines baseline_runs baselines
+      → paired.left.items ≡ not_taken paired.taken.items (baseline_drafts baseline_runs)

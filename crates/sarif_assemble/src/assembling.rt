@@ -30,9 +30,9 @@ pub fn assemble<
     tell: Tell,
 ) -> Result<(Merged, B), AllocError>
     requires tells { Tell.IsAlwaysCallable tell }
-    ensures merged { IfOk result (λ made. (file : File) (now before : List Placed)
-        (asked : Option Reporting) → IsPrepared file now before asked prepared
-        → IsMergedBy file now before policy.now asked made.0) }
+    ensures merged { IfOk result (λ made. (file : File) (current_runs baseline_runs : List Placed)
+        (asked : Option Reporting) → IsPrepared file current_runs baseline_runs asked prepared
+        → IsMergedBy file current_runs baseline_runs policy.now asked made.0) }
     ensures told { IfOk result (λ made. IsMadeBy Tell.FnOnce tell
         made.0.counts made.0.findings (Ok made.1)) }
 {

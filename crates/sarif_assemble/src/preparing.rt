@@ -63,8 +63,8 @@ fn pair_results<R: Threads + Sync>(
     baselines: &Baselines<'_, '_>,
     options: &Options,
 ) -> Result<Paired, AllocError>
-    requires { (file : File) × (now : List Placed) × (before : List Placed)
-        × AreTogether file now before current.now baselines.now }
+    requires { (file : File) × (current_runs : List Placed) × (baseline_runs : List Placed)
+        × AreTogether file current_runs baseline_runs current.now baselines.now }
     ensures { IfOk result (IsPaired current.now baselines.now) }
 {
     let records = &baselines.records;
@@ -86,12 +86,14 @@ fn tell_results<R: Threads + Sync>(
     baselines: &Baselines<'_, '_>,
     paired: &Paired,
 ) -> Result<Vec<Finding>, AllocError>
-    requires together { (file : File) × (now : List Placed) × (before : List Placed)
-        × AreTogether file now before current.now baselines.now }
+    requires together { (file : File)
+        × (current_runs : List Placed) × (baseline_runs : List Placed)
+        × AreTogether file current_runs baseline_runs current.now baselines.now }
     requires paired { IsPaired current.now baselines.now paired.now }
-    ensures { IfOk result (λ findings. (file : File) (now before : List Placed)
-        → AreTogether file now before current.now baselines.now
-        → findings.items ≡ told_of (reporting_in asked.now) (runs_by file now before)) }
+    ensures { IfOk result (λ findings. (file : File) (current_runs baseline_runs : List Placed)
+        → AreTogether file current_runs baseline_runs current.now baselines.now
+        → findings.items
+        ≡ told_of (reporting_in asked.now) (runs_by file current_runs baseline_runs)) }
 {
     let mut findings = tell_current(rt, alloc, asked, current, &paired.states)?;
     let left = &paired.left;
@@ -151,11 +153,11 @@ fn prepare_sides<R: Threads + Sync>(
     file: &Suppressions,
     asked: &Asked<'_>,
 ) -> Result<Prepared, AllocError>
-    requires { (now : List Placed) × (before : List Placed)
-        × AreTogether file.now now before current baselines }
-    ensures { IfOk result (λ prepared. (now before : List Placed)
-        → AreTogether file.now now before current.entry baselines.entry
-        → IsPrepared file.now now before (reporting_in asked.now) prepared) }
+    requires { (current_runs : List Placed) × (baseline_runs : List Placed)
+        × AreTogether file.now current_runs baseline_runs current baselines }
+    ensures { IfOk result (λ prepared. (current_runs baseline_runs : List Placed)
+        → AreTogether file.now current_runs baseline_runs current.entry baselines.entry
+        → IsPrepared file.now current_runs baseline_runs (reporting_in asked.now) prepared) }
 {
     let paired = pair_results(rt, alloc, &current, &baselines, asked.options)?;
     let findings = tell_results(rt, alloc, asked, &current, &baselines, &paired)?;

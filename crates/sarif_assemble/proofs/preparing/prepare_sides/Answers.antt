@@ -36,7 +36,7 @@ invariant_of-result g c =
           (subst (λ ps. ArePartsOf own_count s.runs.items (run_values ps)) h.is_current.opened c.in_ok-side.ensures.parts)
           c.in_ok-side.ensures.whole c.in_ok-side.ensures.drafts (c.in_ok-side.ensures.states ∙ q.states);
       baseline_is = left_is_side before c.args.baselines taken t h.are_baselines left taken_all;
-      few = omega (arith, many, drafts, fewer, h.few_now, h.few_before);
+      few = omega (arith, many, drafts, fewer, h.few_current, h.few_baseline);
     }
 
 pub returns : goal.returns
@@ -56,6 +56,6 @@ returns g c = λ now before h.
           (subst (λ ts. IsLeft before ts t) taken left);
       without = without_results s.runs.items (run_values now) c.in_ok-side.field-0.without parts c.in_ok-side.ensures.without;
       unused =
-          c.in_ok-side.ensures.unused (records_of now) (flat_map results_of (run_values now)) (h.now_records ∙ sym (results_long (run_values now))) h.is_current.drafts;
+          c.in_ok-side.ensures.unused (records_of now) (flat_map results_of (run_values now)) (h.current_records ∙ sym (results_long (run_values now))) h.is_current.drafts;
       told = c.in_ok-findings.ensures file now before h;
     }

@@ -19,7 +19,7 @@ pub tell_current-requires-clause-drafts : goal.tell_current-requires-clause-draf
 tell_current-requires-clause-drafts g c κs within =
     let h = c.requires.together.3 in
     let now = c.requires.together.1 in
-    current_long c.requires.together.0 now c.requires.together.2 c.args.current.now c.args.baselines.now h ∙ h.now_records
+    current_long c.requires.together.0 now c.requires.together.2 c.args.current.now c.args.baselines.now h ∙ h.current_records
     ∙ sym (spots_count 0 now) ∙ sym (ap (λ ps. length (spots_from 0 ps)) h.is_current.opened)
 
 pub tell_current-requires-clause-states : goal.tell_current-requires-clause-states
