@@ -1,3 +1,6 @@
+mod Grown
+mod Turns
+mod Nodes
 pub mod Deeper
 pub mod Readings
 pub mod Passing

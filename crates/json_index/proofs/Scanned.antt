@@ -1,5 +1,5 @@
 -- One pass over tokens, and the value that they begin with.
-use Rattle.std.proofs.Common.{◌≡◌, ℕ, zero, suc, ◌-◌, ◌<◌, List, [], ◌∷◌, length, Option, Some, None, option_and_then, is_some, Bool, true, false, ◌&&◌, refl, sym, ap, ◌∙◌, arith}
+use Rattle.std.proofs.Common.{◌≡◌, ℕ, zero, suc, ◌-◌, List, [], ◌∷◌, length, Option, Some, None, option_and_then, is_some, Bool, true, false, ◌&&◌, refl, sym, ap, ◌∙◌, arith}
 use mathlib.Core.Bool.{and-true}
 use Rattle.json.specs.Token.{Token}
 use Rattle.json.specs.Json.{Json, null, boolean, number, string, array, object, Items, no_items, item, Members, no_members, member, Parse, parse_map, after_end_array, read_key, items_step, members_step, items, members, value_with, value}

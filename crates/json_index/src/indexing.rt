@@ -5,7 +5,8 @@ ghost use Rattle.json_index.specs.Ordered.{IsOrdered};
 
 use crate::node::Node;
 use crate::readable::is_readable;
-use json::{Error, Scratch, Tape};
+use crate::tape::Tape;
+use json::{Invalid, Scratch};
 use std::alloc::Global;
 use std::marker::Model;
 
@@ -17,8 +18,19 @@ const MAX_DEPTH: usize = 127;
 pub enum IndexFault {
     /// It is no UTF-8, no JSON, nests deeper than 127, or holds a number too large for a float.
     NotJson,
-    /// Memory ran out, or the text is longer than `json::MAX_LEN` bytes.
+    /// Memory ran out.
     OutOfMemory,
+}
+
+impl From<Invalid> for IndexFault {
+    ghost use Rattle.json_index.specs.declared.indexing.IndexFault.TheVariants.{NotJson};
+    ghost use Rattle.std.specs.Prelude.{◌≡◌};
+
+    ghost from_gives = { λ _ fault. fault ≡ NotJson };
+
+    fn from(_: Invalid) -> IndexFault {
+        IndexFault::NotJson
+    }
 }
 
 /// A text that was indexed. Contracts see it as its tokens, of which `data_of` is the value.
@@ -41,11 +53,10 @@ impl<'a> Model for Index<'a> {
     ghost invariant = { λ a. IsReadable a.tape };
 }
 
-/// Indexes a text, whose strings and places `scratch` keeps.
+/// Indexes a text, of which `scratch` keeps the strings with escapes.
 ///
 /// `NotJson` where the bytes are no UTF-8 or no JSON, nest deeper than 127, or hold a number too
-/// large for a float; `OutOfMemory` where memory is wanting, or the text is longer than
-/// `json::MAX_LEN` bytes.
+/// large for a float; `OutOfMemory` where memory is wanting.
 pub fn index_text<'a>(
     alloc: Global,
     bytes: &'a [u8],
@@ -58,13 +69,7 @@ pub fn index_text<'a>(
     let Ok(text) = simdutf8::basic::from_utf8(bytes) else {
         return Err(IndexFault::NotJson);
     };
-    let tape = match Tape::parse(text, scratch, Vec::new(alloc)) {
-        Ok(tape) => tape,
-        Err(Error::Invalid) => return Err(IndexFault::NotJson),
-        Err(Error::OutOfMemory | Error::TooLong | Error::DuplicateKey) => {
-            return Err(IndexFault::OutOfMemory);
-        }
-    };
+    let tape = Tape::parse(alloc, text, scratch)?;
     if !is_readable(tape.nodes(), MAX_DEPTH) {
         return Err(IndexFault::NotJson);
     }

@@ -8,6 +8,7 @@ mod making;
 mod node;
 mod number;
 mod readable;
+mod tape;
 mod together;
 mod walking;
 

@@ -8,8 +8,8 @@ ghost use Rattle.json_index.specs.Stripping.{is_fractional as fractional};
 ghost use Rattle.json_index.specs.Walking.{OpensArray, OpensObject};
 
 use crate::number::parse_number;
+use crate::tape::{Element, Items, Members};
 use crate::walking::next_element;
-use json::{Element, Items, Members};
 use serde_json::Number;
 use std::alloc::{AllocError, Global};
 use std::marker::Model;

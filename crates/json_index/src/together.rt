@@ -8,12 +8,12 @@ use std::alloc::{AllocError, Global};
 use std::thread;
 use std::thread::Threads;
 
-/// A text to be indexed, and what keeps its strings and places.
+/// A text to be indexed, and what keeps its strings.
 #[derive(Drop)]
 pub struct Job<'a> {
     /// The text.
     pub bytes: &'a [u8],
-    /// Keeps the strings and the places of its index.
+    /// Keeps its strings with escapes.
     pub scratch: &'a mut Scratch,
 }
 

@@ -6,7 +6,7 @@ ghost use Rattle.json_index.specs.Ordered.{IsOrdered};
 ghost use Rattle.json_index.specs.Walking.{ElementsAre, MembersAre, NextElement, NextMember};
 
 use crate::node::Node;
-use json::{Items, Members};
+use crate::tape::{Items, Members};
 
 pub(crate) fn next_element<'t, 'a>(items: &mut Items<'t, 'a>) -> Option<Node<'t, 'a>>
     requires { (n : ℕ) × (ds : SpecItems) × ElementsAre n items.old ds }

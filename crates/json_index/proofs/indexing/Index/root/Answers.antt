@@ -5,4 +5,4 @@ use Rattle.json_index.proofs.Order.{readable_ordered}
 use Rattle.json_index.proofs.indexing.Index.root.Goals as goal
 
 pub returns-clause-ordered : goal.returns-clause-ordered
-returns-clause-ordered c = subst (λ ts. IsOrdered (data_of ts)) (sym (c.new.ensures ∙ c.root.ensures.same)) (readable_ordered c.self.inside.tape c.self.invariant)
+returns-clause-ordered c = subst (λ ts. IsOrdered (data_of ts)) (sym (c.new.ensures ∙ c.root.ensures)) (readable_ordered c.self.inside.tape c.self.invariant)
