@@ -101,7 +101,9 @@ fn asked_of<A, Ask: FnOnce(&Plain) -> Result<A, AllocError>>(
     requires { Ask.IsAlwaysCallable ask }
 {
     let rules = rules_of(alloc, file)?;
-    Ok(ask(&rules)?)
+    let answer = ask(&rules);
+    drop(rules);
+    Ok(answer?)
 }
 
 /// What a file that isn't read yet makes of a result with these suppressions of its own.

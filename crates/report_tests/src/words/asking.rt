@@ -1,10 +1,11 @@
 //! Which words ask for what.
 
 use crate::words::seed;
-use sarif_counts::States;
+use sarif_counts::{Options, States};
 use sarif_records::{Level, Text};
-use sarif_request::{Request, WordsFault, read_words};
+use sarif_request::{Reports, Request, WordsFault, read_words};
 use std::alloc::AllocError;
+use std::process::Abort;
 use std::test::Fail;
 
 /// Reads words that are parted by one blank.
@@ -22,32 +23,63 @@ fn accepted(rt: &HostRuntime, line: &str) -> Result<Request, Fail> {
     Ok(read.map_err(|_| "refused")?)
 }
 
+/// Whether these are just the names.
+fn are_named(found: &[Text], names: &[&str]) -> bool {
+    if found.len() != names.len() {
+        return false;
+    }
+    for (one, name) in found.iter().zip(names.iter()) {
+        if one.as_str() != *name {
+            return false;
+        }
+    }
+    true
+}
+
+/// Whether no report is asked for.
+fn asks_for_none(reports: &Reports<Text>) -> bool {
+    reports.text.is_none()
+        && reports.github.is_none()
+        && reports.markdown.is_none()
+        && reports.gitlab.is_none()
+        && reports.html.is_none()
+}
+
 #[test]
-fn defaults_stand_where_no_word_says_more(rt: HostRuntime) -> Result<(), Fail> {
+fn no_file_is_named_where_no_word_does(rt: HostRuntime) -> Result<(), Fail> {
     let request = accepted(&rt, "--out o a.sarif")?;
-    assert_eq!(rt; request.logs.len(), 1);
-    assert!(rt; request.logs[0].as_str() == "a.sarif");
+    check_default_files(&rt, &request)
+}
+
+fn check_default_files(rt: &impl Abort, request: &Request) -> Result<(), Fail> {
+    assert!(rt; are_named(&request.logs, &["a.sarif"]));
     assert!(rt; request.baselines.is_empty());
     assert!(rt; request.suppress.is_none());
     assert!(rt; request.out.as_str() == "o");
-    assert!(rt; request.reports.text.is_none());
-    assert!(rt; request.reports.github.is_none());
-    assert!(rt; request.reports.markdown.is_none());
-    assert!(rt; request.reports.gitlab.is_none());
-    assert!(rt; request.reports.html.is_none());
+    assert!(rt; asks_for_none(&request.reports));
     assert!(rt; request.root.as_str() == "");
     assert!(rt; !request.explain);
-    assert_eq!(rt; request.options.today, None);
-    assert_eq!(rt; request.options.workers, 4);
-    assert_eq!(rt; request.options.policy.fail_on, Level::Error);
-    assert_eq!(rt; request.options.policy.max, 0);
+    Ok(())
+}
+
+#[test]
+fn defaults_stand_where_no_word_says_more(rt: HostRuntime) -> Result<(), Fail> {
+    let request = accepted(&rt, "--out o a.sarif")?;
+    check_default_options(&rt, &request.options)
+}
+
+fn check_default_options(rt: &impl Abort, options: &Options) -> Result<(), Fail> {
+    assert_eq!(rt; options.today, None);
+    assert_eq!(rt; options.workers, 4);
+    assert_eq!(rt; options.policy.fail_on, Level::Error);
+    assert_eq!(rt; options.policy.max, 0);
     let states = States {
         absent: false,
         fresh: true,
         unchanged: false,
         updated: true,
     };
-    assert_eq!(rt; request.options.policy.states, states);
+    assert_eq!(rt; options.policy.states, states);
     Ok(())
 }
 
@@ -56,17 +88,22 @@ fn each_word_is_read(rt: HostRuntime) -> Result<(), Fail> {
     let line = "--baseline b --suppress=s --today 20250131 a --workers 64 --fail-on note \
         --max 4294967295 --baseline c --out o d";
     let request = accepted(&rt, line)?;
-    assert_eq!(rt; request.logs.len(), 2);
-    assert!(rt; request.logs[0].as_str() == "a");
-    assert!(rt; request.logs[1].as_str() == "d");
-    assert_eq!(rt; request.baselines.len(), 2);
-    assert!(rt; request.baselines[0].as_str() == "b");
-    assert!(rt; request.baselines[1].as_str() == "c");
-    assert!(rt; request.suppress.is_some_and(|name| name.as_str() == "s"));
-    assert_eq!(rt; request.options.today, Some(20_250_131));
-    assert_eq!(rt; request.options.workers, 64);
-    assert_eq!(rt; request.options.policy.fail_on, Level::Note);
-    assert_eq!(rt; request.options.policy.max, 4_294_967_295);
+    check_files(&rt, &request)?;
+    check_options(&rt, &request.options)
+}
+
+fn check_files(rt: &impl Abort, request: &Request) -> Result<(), Fail> {
+    assert!(rt; are_named(&request.logs, &["a", "d"]));
+    assert!(rt; are_named(&request.baselines, &["b", "c"]));
+    assert!(rt; is_named(&request.suppress, "s"));
+    Ok(())
+}
+
+fn check_options(rt: &impl Abort, options: &Options) -> Result<(), Fail> {
+    assert_eq!(rt; options.today, Some(20_250_131));
+    assert_eq!(rt; options.workers, 64);
+    assert_eq!(rt; options.policy.fail_on, Level::Note);
+    assert_eq!(rt; options.policy.max, 4_294_967_295);
     Ok(())
 }
 
@@ -75,6 +112,10 @@ fn each_word_on_reports_is_read(rt: HostRuntime) -> Result<(), Fail> {
     let line = "a --text t --github=g --markdown m --root file:///builds/app/ --gitlab - --html h \
         --explain --out o";
     let request = accepted(&rt, line)?;
+    check_reports(&rt, &request)
+}
+
+fn check_reports(rt: &impl Abort, request: &Request) -> Result<(), Fail> {
     let reports = &request.reports;
     assert!(rt; is_named(&reports.text, "t"));
     assert!(rt; is_named(&reports.github, "g"));
@@ -95,17 +136,28 @@ fn is_named(found: &Option<Text>, name: &str) -> bool {
 }
 
 #[test]
-fn ends_of_the_ranges_are_taken(rt: HostRuntime) -> Result<(), Fail> {
-    let least = accepted(
-        &rt,
-        "a --out o --today 10000101 --workers 1 --max 0 --fail-on none",
-    )?;
-    assert_eq!(rt; least.options.today, Some(10_000_101));
-    assert_eq!(rt; least.options.workers, 1);
-    assert_eq!(rt; least.options.policy.fail_on, Level::NoLevel);
-    let most = accepted(&rt, "a --out o --today 99991231 --fail-on warning")?;
-    assert_eq!(rt; most.options.today, Some(99_991_231));
-    assert_eq!(rt; most.options.policy.fail_on, Level::Warning);
+fn the_least_of_each_range_is_taken(rt: HostRuntime) -> Result<(), Fail> {
+    let line = "a --out o --today 10000101 --workers 1 --max 0 --fail-on none";
+    let request = accepted(&rt, line)?;
+    check_least(&rt, &request.options)
+}
+
+fn check_least(rt: &impl Abort, options: &Options) -> Result<(), Fail> {
+    assert_eq!(rt; options.today, Some(10_000_101));
+    assert_eq!(rt; options.workers, 1);
+    assert_eq!(rt; options.policy.fail_on, Level::NoLevel);
+    Ok(())
+}
+
+#[test]
+fn the_last_day_is_taken(rt: HostRuntime) -> Result<(), Fail> {
+    let request = accepted(&rt, "a --out o --today 99991231 --fail-on warning")?;
+    check_last_day(&rt, &request.options)
+}
+
+fn check_last_day(rt: &impl Abort, options: &Options) -> Result<(), Fail> {
+    assert_eq!(rt; options.today, Some(99_991_231));
+    assert_eq!(rt; options.policy.fail_on, Level::Warning);
     Ok(())
 }
 

@@ -1,5 +1,7 @@
 //! A result's own members, read from JSON text.
-use sarif_records::{Fault, Kind, Level, Pairs, Parts, Status, Text, read_log, read_parts};
+use sarif_records::{
+    Fault, Kind, Level, Message, Pairs, Parts, Status, Text, read_log, read_parts,
+};
 use std::alloc::Global;
 use std::process::Abort;
 use std::test::Fail;
@@ -52,19 +54,24 @@ const WHOLE: &str = r#"{"kind":"review","level":"note","ruleId":"R1","ruleIndex"
 #[test]
 fn what_a_result_says_is_read(rt: HostRuntime) -> Result<(), Fail> {
     let parts = accepted(rt.alloc(), WHOLE)?;
-    check_what_it_says(&rt, &parts)
+    check_what_it_is_of(&rt, &parts)?;
+    check_what_it_says(&rt, &parts.message)
 }
 
-fn check_what_it_says(rt: &impl Abort, parts: &Parts) -> Result<(), Fail> {
+fn check_what_it_is_of(rt: &impl Abort, parts: &Parts) -> Result<(), Fail> {
     assert_eq!(rt; parts.kind, Kind::Review);
     assert_eq!(rt; parts.level, Some(Level::Note));
     assert_eq!(rt; shown(&parts.rule_id), Some("R1"));
     assert_eq!(rt; parts.rule_index, Some(4));
     assert_eq!(rt; parts.component, Some(2));
     assert_eq!(rt; parts.invocation, Some(1));
-    assert_eq!(rt; shown(&parts.message.text), Some("m"));
-    assert_eq!(rt; shown(&parts.message.id), Some("i"));
-    let args = parts.message.args.as_slice();
+    Ok(())
+}
+
+fn check_what_it_says(rt: &impl Abort, message: &Message) -> Result<(), Fail> {
+    assert_eq!(rt; shown(&message.text), Some("m"));
+    assert_eq!(rt; shown(&message.id), Some("i"));
+    let args = message.args.as_slice();
     assert_eq!(rt; args.len(), 2);
     assert_eq!(rt; args.first().map(Text::as_str), Some("a"));
     assert_eq!(rt; args.last().map(Text::as_str), Some("b"));
@@ -74,19 +81,24 @@ fn check_what_it_says(rt: &impl Abort, parts: &Parts) -> Result<(), Fail> {
 #[test]
 fn what_a_result_is_known_by_is_read(rt: HostRuntime) -> Result<(), Fail> {
     let parts = accepted(rt.alloc(), WHOLE)?;
-    check_what_it_is_known_by(&rt, &parts)
+    check_where_it_is(&rt, &parts)?;
+    check_pairs(&rt, &parts.full, &[("f/v1", "x"), ("f/v2", "y")])?;
+    check_pairs(&rt, &parts.partial, &[("p/v1", "z")])
 }
 
-fn check_what_it_is_known_by(rt: &impl Abort, parts: &Parts) -> Result<(), Fail> {
+fn check_where_it_is(rt: &impl Abort, parts: &Parts) -> Result<(), Fail> {
     assert_eq!(rt; shown(&parts.uri), Some("a.c"));
     assert_eq!(rt; shown(&parts.base), Some("SRC"));
     assert_eq!(rt; parts.artifact, Some(5));
     assert_eq!(rt; parts.guid, Some(0x0f14d0ab_9605_4a62_a9e4_5ed26688389b));
-    assert_eq!(rt; parts.full.as_slice().len(), 2);
-    assert_eq!(rt; pair(&parts.full, 0), Some(("f/v1", "x")));
-    assert_eq!(rt; pair(&parts.full, 1), Some(("f/v2", "y")));
-    assert_eq!(rt; parts.partial.as_slice().len(), 1);
-    assert_eq!(rt; pair(&parts.partial, 0), Some(("p/v1", "z")));
+    Ok(())
+}
+
+fn check_pairs(rt: &impl Abort, pairs: &Pairs, wanted: &[(&str, &str)]) -> Result<(), Fail> {
+    assert_eq!(rt; pairs.as_slice().len(), wanted.len());
+    for (index, both) in wanted.iter().enumerate() {
+        assert_eq!(rt; pair(pairs, index), Some(*both));
+    }
     Ok(())
 }
 
@@ -199,6 +211,11 @@ fn a_guid_is_read_in_each_of_its_forms(rt: HostRuntime) -> Result<(), Fail> {
     Ok(())
 }
 
+/// The index of the rule of a result that is accepted.
+fn rule_index_of(alloc: Global, text: &str) -> Result<Option<u32>, Fail> {
+    Ok(accepted(alloc, text)?.rule_index)
+}
+
 #[test]
 fn an_index_is_a_whole_number_of_32_bits(rt: HostRuntime) -> Result<(), Fail> {
     for (text, index) in [
@@ -206,8 +223,13 @@ fn an_index_is_a_whole_number_of_32_bits(rt: HostRuntime) -> Result<(), Fail> {
         (r#"{"ruleIndex":4294967295}"#, Some(4_294_967_295)),
         (r#"{"ruleIndex":-1}"#, None),
     ] {
-        assert_eq!(rt; accepted(rt.alloc(), text)?.rule_index, index, "{text}");
+        assert_eq!(rt; rule_index_of(rt.alloc(), text)?, index, "{text}");
     }
+    Ok(())
+}
+
+#[test]
+fn no_other_value_is_an_index(rt: HostRuntime) -> Result<(), Fail> {
     for text in [
         r#"{"ruleIndex":-2}"#,
         r#"{"ruleIndex":4294967296}"#,
@@ -218,7 +240,7 @@ fn an_index_is_a_whole_number_of_32_bits(rt: HostRuntime) -> Result<(), Fail> {
         r#"{"ruleIndex":true}"#,
     ] {
         assert_eq!(rt;
-            read(rt.alloc(), text)?.err(),
+            fault_of(rt.alloc(), text)?,
             Some(Fault::BadIndex),
             "{text}"
         );
