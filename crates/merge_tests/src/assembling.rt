@@ -40,7 +40,7 @@ fn merge_nothing<R: Threads + Sync>(
         reporting: None,
     };
     let prepared = prepare(rt, alloc, no_runs(alloc), no_runs(alloc), file, &asked)?;
-    let (merged, ()) = assemble(rt, alloc, prepared, &options.policy, |_, _| Ok(()))?;
+    let (merged, ()) = assemble(rt, alloc, prepared, options, |_, _| Ok(()))?;
     Ok(merged)
 }
 

@@ -54,7 +54,8 @@ fn left_parts(
     requires taken { length taken.now
         ≡ length (present_results (run_values (map placed_of runs.items))) }
     ensures parts { IfOk result
-        (λ all. AreLeftParts all.items taken.entry.now (run_values (map placed_of runs.entry.items))) }
+        (λ all. AreLeftParts all.items taken.entry.now
+        (run_values (map placed_of runs.entry.items))) }
     ensures whole { IfOk result (λ all. AllByRecursion IsWholeRun all.items) }
 {
     let mut all = Vec::with_capacity(alloc, runs.len())?;

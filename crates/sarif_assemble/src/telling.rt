@@ -178,7 +178,8 @@ pub(crate) fn tell_current<R: Threads + Sync>(
     requires states { length states.now ≡ length current.now.drafts.items }
     ensures { IfOk result (λ findings. findings.items ≡ if_asked (reporting_in asked.now)
         (λ reporting. told_each reporting (map (pair_at (map placed_of current.now.runs.items))
-        (spots_from 0 (map placed_of current.now.runs.items))) current.now.drafts.items states.now)) }
+        (spots_from 0 (map placed_of current.now.runs.items)))
+        current.now.drafts.items states.now)) }
 {
     let Some(reporting) = asked.reporting else {
         return Ok(Vec::new(alloc));

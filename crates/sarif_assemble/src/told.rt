@@ -19,7 +19,8 @@ use sarif_report::NamedRun;
 pub(crate) struct ToldRun<'w, 't: 'w, 'a: 't> {
     pub(crate) opened: &'w OpenedRun<'t, 'a>,
     pub(crate) named: NamedRun<'w>,
-    ghost named_is: { (reporting : AnyReporting) (found : Data) (level : AnyLevel) (state : AnyState)
+    ghost named_is: { (reporting : AnyReporting) (found : Data)
+        (level : AnyLevel) (state : AnyState)
         → finding_of reporting (view named) found level state
         ≡ finding_of reporting (placed_of opened.now).run found level state },
 }

@@ -12,7 +12,7 @@ ghost use Rattle.sarif_assemble.specs.Written.{AreWritten};
 use crate::counting::count_sides;
 use crate::merged::Merged;
 use crate::prepared::Prepared;
-use sarif_counts::{Counts, Policy, gate_value, verdict};
+use sarif_counts::{Counts, Options, gate_value, verdict};
 use sarif_records::Text;
 use sarif_report::Finding;
 use sarif_write::{Side, log_text};
@@ -60,13 +60,13 @@ pub(crate) fn write_log<
     rt: &R,
     alloc: Global,
     prepared: Prepared,
-    policy: &Policy,
+    options: &Options,
     tell: Tell,
 ) -> Result<(Merged, B), AllocError>
     requires tells { Tell.IsAlwaysCallable tell }
     ensures log { IfOk result (λ made. (runs : List Data)
         → AreWritten prepared.current prepared.baseline runs
-        → IsLogOf runs policy.now prepared.without prepared.unused made.0) }
+        → IsLogOf runs options.now.policy prepared.without prepared.unused made.0) }
     ensures findings { IfOk result (λ made. made.0.findings.items ≡ prepared.findings.items) }
     ensures told { IfOk result (λ made. IsMadeBy Tell.FnOnce tell
         made.0.counts made.0.findings (Ok made.1)) }
@@ -79,9 +79,9 @@ pub(crate) fn write_log<
         findings,
         spent,
     } = prepared;
-    let counts = count_sides(&current, &baseline);
-    let verdict = verdict(&counts, policy);
-    let gate = gate_value(alloc, &counts, policy, without, unused)?;
+    let counts = count_sides(rt, &current, &baseline, options.workers);
+    let verdict = verdict(&counts, &options.policy);
+    let gate = gate_value(alloc, &counts, &options.policy, without, unused)?;
     let counted = &counts;
     let found = &findings;
     let say = move || -> Result<B, AllocError>

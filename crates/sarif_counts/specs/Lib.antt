@@ -1,3 +1,4 @@
+pub mod Both
 pub mod CountOf
 pub mod Counts
 pub mod Gate

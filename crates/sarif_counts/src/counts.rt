@@ -19,6 +19,7 @@ pub struct Counts {
 
 impl Counts {
     ghost use Rattle.std.specs.Prelude.{◌≡◌};
+    ghost use Rattle.sarif_counts.specs.Both.{AreOfBoth};
     ghost use Rattle.sarif_counts.specs.Counts.{count_at, tally_at, total_of, HoldsNothing, AddsOne};
 
     /// The counts of no results.
@@ -45,6 +46,20 @@ impl Counts {
             State::Unchanged => self.unchanged.add(level, suppressed),
             State::Updated => self.updated.add(level, suppressed),
             State::Absent => self.absent.add(level, suppressed),
+        }
+    }
+
+    /// The counts of the results of both, which are 4,294,967,295 at most.
+    pub fn plus(self, other: Counts) -> Counts
+        requires { total_of self + total_of other < 4294967296 }
+        ensures both { AreOfBoth self other result }
+        ensures total { total_of result ≡ total_of self + total_of other }
+    {
+        Counts {
+            absent: self.absent.plus(other.absent),
+            fresh: self.fresh.plus(other.fresh),
+            unchanged: self.unchanged.plus(other.unchanged),
+            updated: self.updated.plus(other.updated),
         }
     }
 

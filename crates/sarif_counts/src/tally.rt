@@ -1,5 +1,6 @@
 //! How many results of one baseline state there are, by level and suppression.
 ghost use Rattle.std.specs.Prelude.{◌≡◌, ◌+◌, ◌<◌, ◌≤◌, ◌^◌};
+ghost use Rattle.sarif_counts.specs.Both.{AreOfBothLevels, AreOfBothSides};
 ghost use Rattle.sarif_counts.specs.Policy.{severe_of};
 ghost use Rattle.sarif_counts.specs.Tally.{at_level, level_total, at_side, tally_total, AddsAtLevel, AddsAtSide};
 
@@ -43,6 +44,20 @@ impl ByLevel {
             Level::Note => self.note += 1,
             Level::Warning => self.warning += 1,
             Level::Error => self.error += 1,
+        }
+    }
+
+    /// The numbers of both together.
+    fn plus(self, other: ByLevel) -> ByLevel
+        requires { level_total self + level_total other < 2 ^ 32 }
+        ensures both { AreOfBothLevels self other result }
+        ensures total { level_total result ≡ level_total self + level_total other }
+    {
+        ByLevel {
+            error: self.error + other.error,
+            warning: self.warning + other.warning,
+            note: self.note + other.note,
+            none: self.none + other.none,
         }
     }
 
@@ -101,6 +116,18 @@ impl Tally {
             self.suppressed.add(level);
         } else {
             self.active.add(level);
+        }
+    }
+
+    /// The results of both together.
+    pub(crate) fn plus(self, other: Tally) -> Tally
+        requires { tally_total self + tally_total other < 2 ^ 32 }
+        ensures both { AreOfBothSides self other result }
+        ensures total { tally_total result ≡ tally_total self + tally_total other }
+    {
+        Tally {
+            active: self.active.plus(other.active),
+            suppressed: self.suppressed.plus(other.suppressed),
         }
     }
 }

@@ -58,7 +58,8 @@ impl<'w, 't: 'w, 'a: 't> Work for Judging<'w, 't, 'a> {
 
     ghost count = { λ w run. 1 };
 
-    ghost item = { λ w run seq. judged_shard w.file.now (map placed_of w.runs.now) w.size w.spots.now run };
+    ghost item = { λ w run seq.
+        judged_shard w.file.now (map placed_of w.runs.now) w.size w.spots.now run };
 
     ghost end = { λ w run. tt };
 

@@ -16,7 +16,7 @@ ghost use Rattle.sarif_merge.specs.MergedLog.{output_text, runs_written, without
 use crate::preparing::{make_scratches, prepare_few};
 use json::Scratch;
 use sarif_assemble::{Asked, Merged, Prepared, assemble};
-use sarif_counts::{Counts, Options, Policy};
+use sarif_counts::{Counts, Options};
 use sarif_gather::Gate;
 use sarif_inputs::check_numbers;
 use sarif_report::Finding;
@@ -35,14 +35,14 @@ fn assemble_beside<
     rt: &R,
     alloc: Global,
     prepared: Prepared,
-    policy: &Policy,
+    options: &Options,
     scratches: Vec<Scratch>,
     tell: Tell,
 ) -> Result<(Merged, B), AllocError>
     requires tells { Tell.IsAlwaysCallable tell }
     ensures merged { IfOk result (λ made. (file : File) (current_runs baseline_runs : List Placed)
         (asked : Option Reporting) → IsPrepared file current_runs baseline_runs asked prepared
-        → IsMergedBy file current_runs baseline_runs policy.now asked made.0) }
+        → IsMergedBy file current_runs baseline_runs options.now.policy asked made.0) }
     ensures told { IfOk result (λ made. IsMadeBy Tell.FnOnce tell
         made.0.counts made.0.findings (Ok made.1)) }
 {
@@ -51,10 +51,10 @@ fn assemble_beside<
         ensures merged { IfOk result (λ made. (file : File)
             (current_runs baseline_runs : List Placed) (asked : Option Reporting)
             → IsPrepared file current_runs baseline_runs asked prepared
-            → IsMergedBy file current_runs baseline_runs policy.entry.now asked made.0) }
+            → IsMergedBy file current_runs baseline_runs options.entry.now.policy asked made.0) }
         ensures told { IfOk result (λ made. IsMadeBy Tell.FnOnce tell
             made.0.counts made.0.findings (Ok made.1)) }
-    { assemble(rt, alloc, prepared, policy, tell) };
+    { assemble(rt, alloc, prepared, options, tell) };
     let let_go = move || drop(scratches);
     let (_, made) = thread::join(rt, let_go, write);
     made
@@ -88,7 +88,7 @@ pub(crate) fn merge_few<
     let count = sources.logs.len() + sources.baselines.len();
     let mut scratches = make_scratches(alloc, count)?;
     let prepared = prepare_few(rt, alloc, sources, &mut scratches, asked, observer)?;
-    let made = assemble_beside(rt, alloc, prepared, &asked.options.policy, scratches, tell)?;
+    let made = assemble_beside(rt, alloc, prepared, asked.options, scratches, tell)?;
     Ok(made)
 }
 

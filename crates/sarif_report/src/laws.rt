@@ -67,7 +67,8 @@ pub fn reported_hits_are_counted()
 /// ends, no line that begins with a colon, and nowhere two `#` together.
 pub fn text_reports_have_a_line_a_result()
     ensures { (reporting : Reporting) (log : Data) →
-        IsTextOfLines (length (reported_of reporting log)) (text_lines_of (reported_of reporting log)) }
+        IsTextOfLines (length (reported_of reporting log))
+        (text_lines_of (reported_of reporting log)) }
 {}
 
 /// Each line of the report for GitHub Actions begins with one of its three commands, and there are as many lines as

@@ -66,8 +66,9 @@ fn shown_uri(alloc: Global, root: &str, uri: &str) -> Result<Option<Text>, Alloc
 
 /// The path of the artifact whose index an artifact location has.
 fn artifact_path<'r>(run: &'r NamedRun<'_>, location: &Value) -> Option<&'r Text>
-    ensures { option_map (λ path. path.now) result ≡ option_map path_of.decoded (option_and_then
-        (lookup.artifact_uri (view run.now)) (lookup.number_in (codes "index") (view location.now))) }
+    ensures { option_map (λ path. path.now) result
+        ≡ option_map path_of.decoded (option_and_then (lookup.artifact_uri (view run.now))
+        (lookup.number_in (codes "index") (view location.now))) }
 {
     run.artifact_path(number_in(location, "index")?)
 }
@@ -79,8 +80,9 @@ fn shown_artifact(
     run: &NamedRun<'_>,
     location: &Value,
 ) -> Result<Option<Text>, AllocError>
-    ensures { IfOk result (λ o. o ≡ option_and_then (said.shown_path root.now) (option_and_then
-        (lookup.artifact_uri (view run.now)) (lookup.number_in (codes "index") (view location.now)))) }
+    ensures { IfOk result (λ o. o ≡ option_and_then (said.shown_path root.now)
+        (option_and_then (lookup.artifact_uri (view run.now))
+        (lookup.number_in (codes "index") (view location.now)))) }
 {
     match artifact_path(run, location) {
         None => Ok(None),

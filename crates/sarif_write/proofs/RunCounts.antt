@@ -19,7 +19,7 @@ use Rattle.sarif_write.proofs.RunResults.{bare_results, put_results_found}
 use Rattle.sarif_write.proofs.RunTexts.{drafts_front, drafts_back, present_objects}
 
 -- those before and those after
-tallied_split : (n : ℕ) (ds : List Draft) (ss : List (Option State)) (s : State) (l : Level) (b : Bool)
+pub tallied_split : (n : ℕ) (ds : List Draft) (ss : List (Option State)) (s : State) (l : Level) (b : Bool)
     → tallied ds ss s l b ≡ tallied (take n ds) (take n ss) s l b + tallied (drop n ds) (drop n ss) s l b
 tallied_split zero ds ss s l b = omega arith
 tallied_split (suc n) [] ss s l b = omega arith

@@ -19,7 +19,7 @@ fn push<'a>(nodes: &mut Vec<Node<'a>>, node: Node<'a>) -> Result<(), IndexFault>
     }
 }
 
-/// Adds the node of a bracket that closes, and puts `linked` in the place of the one that opened it.
+/// Adds the node of a bracket that closes, and puts `linked` in the place of that which opened it.
 fn close<'a>(
     nodes: &mut Vec<Node<'a>>,
     at: usize,
@@ -27,7 +27,8 @@ fn close<'a>(
     linked: Node<'a>,
 ) -> Result<(), IndexFault>
     requires { at < length nodes.old.items }
-    ensures ok { OnOk result (nodes.new.items ≡ slice_set (nodes.old.items ++ end.entry ∷ []) at linked.entry) }
+    ensures ok { OnOk result
+        (nodes.new.items ≡ slice_set (nodes.old.items ++ end.entry ∷ []) at linked.entry) }
     ensures err { IfErr result (λ e. e ≡ IndexFault.OutOfMemory) }
 {
     push(nodes, end)?;

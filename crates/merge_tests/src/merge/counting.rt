@@ -35,6 +35,19 @@ fn each_count_is_apart_from_the_others(rt: HostRuntime) {
 }
 
 #[test]
+fn counts_are_added_each_by_itself(rt: HostRuntime) {
+    let mut one = Counts::new();
+    one.add(State::New, Level::Warning, false);
+    let mut other = Counts::new();
+    other.add(State::New, Level::Warning, false);
+    other.add(State::Absent, Level::Error, true);
+    let both = one.plus(other);
+    assert_eq!(rt; both.get(State::New, Level::Warning, false), 2);
+    assert_eq!(rt; both.get(State::Absent, Level::Error, true), 1);
+    assert_eq!(rt; both.get(State::Absent, Level::Error, false), 0);
+}
+
+#[test]
 fn a_warning_fails_at_the_level_warning(rt: HostRuntime) {
     let counts = warned();
     let policy = Policy::default();
