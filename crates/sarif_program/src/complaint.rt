@@ -1,5 +1,5 @@
 //! The line that tells what stopped a run.
-ghost use Rattle.std.specs.Prelude.{◌≡◌, ◌<◌, ◌^◌, Some};
+ghost use Rattle.std.specs.Prelude.{◌≡◌, ◌<◌, ◌^◌, None, Some};
 ghost use Rattle.sarif_sources.specs.Counted.{failed_calls};
 
 use sarif_merge::{Counted, MergeFault, write_out};
@@ -41,6 +41,7 @@ impl<E> Complaints<E> {
     /// Complaints that are written to `out`; there is none so far.
     pub fn new(out: E) -> Complaints<E>
         ensures none { failed_calls result.out ≡ 0 }
+        ensures last { result.last ≡ None }
     {
         Complaints {
             out: Counted::new(out),
