@@ -1,9 +1,10 @@
 //! The log of nothing, worked by hand.
 ghost use Rattle.std.specs.Prelude.{◌≡◌, []};
 
-use sarif_assemble::{Asked, Judged, Merged, assemble, prepare};
 use sarif_counts::{Options, Policy, Verdict};
-use sarif_records::{Level, State};
+use sarif_log::{Asked, Merged, assemble, prepare};
+use sarif_model::{Level, State};
+use sarif_results::Judged;
 use sarif_suppress::Suppressions;
 use std::alloc::{AllocError, Global};
 use std::hash::RandomState;

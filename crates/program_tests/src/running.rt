@@ -1,9 +1,9 @@
 //! What is written, said and complained of, and with which status.
 
-use sarif_merge::{Counted, Readers};
+use sarif_model::Level;
 use sarif_program::{Complaints, Writers, run_request, seed_of};
-use sarif_records::Level;
 use sarif_request::{Reports, Request};
+use sarif_streams::{Counted, Readers};
 use std::alloc::{AllocError, Global};
 use std::cell::RefCell;
 use std::hash::RandomState;

@@ -8,7 +8,7 @@ mod reading;
 mod suppressing;
 
 use sarif_counts::{Counts, Policy, summary};
-use sarif_records::{Level, State};
+use sarif_model::{Level, State};
 use std::alloc::{AllocError, Global};
 use std::hash::RandomState;
 use std::io;

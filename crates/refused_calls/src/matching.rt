@@ -1,8 +1,9 @@
 //! The results of a log's first run beside those of its second, which stand for a baseline.
 use crate::reading::log_of;
 use sarif_match::{key, match_all, tiers};
-use sarif_records::{Fault, RawRun, Record};
-use sarif_rules::{make_record, open_run};
+use sarif_model::{Fault, Record};
+use sarif_read::RawRun;
+use sarif_runs::{make_record, open_run};
 use std::alloc::{AllocError, Global};
 use std::hash::RandomState;
 

@@ -1,8 +1,7 @@
 //! Logs, runs and results.
-use sarif_records::{
-    Fault, Level, Log, Parts, Place, ReadFault, Record, read_log, read_parts, strip,
-};
-use sarif_rules::{make_record, open_run};
+use sarif_model::{Fault, Level, Place, Record};
+use sarif_read::{Log, ReadFault, read_log, strip};
+use sarif_runs::{Parts, make_record, open_run, read_parts};
 use serde_json::Value;
 use std::alloc::{AllocError, Global};
 use std::hash::RandomState;

@@ -1,6 +1,6 @@
 //! Suppression files, read for the last day of January 2025.
 use crate::reading::first_record;
-use sarif_records::Record;
+use sarif_model::Record;
 use sarif_suppress::{Suppressions, read_rules};
 use std::alloc::{AllocError, Global};
 use std::hash::{BuildHasherDefault, FoldHasher, RandomState};

@@ -5,7 +5,7 @@ mod results;
 mod runs;
 
 use sarif_explain::{FaultSource, explanation};
-use sarif_sources::{At, Cause, MergeFault};
+use sarif_model::{At, Cause, MergeFault};
 use std::alloc::Global;
 use std::process::Abort;
 use std::test::Fail;

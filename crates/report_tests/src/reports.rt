@@ -1,9 +1,10 @@
 //! The worked examples of the reports.
 use sarif_counts::{Counts, Policy};
-use sarif_records::{Level, State, Text};
-use sarif_report::{
-    Finding, Report, Reporting, Told, github_report, gitlab_report, html_report, markdown_report,
-    report_text, reported, shown, text_report,
+use sarif_findings::{Finding, Reporting, reported, shown};
+use sarif_model::{Level, State, Text};
+use sarif_reports::{
+    Report, Told, github_report, gitlab_report, html_report, markdown_report, report_text,
+    text_report,
 };
 use serde_json::Value;
 use std::alloc::{AllocError, AllocGlobal, Global};

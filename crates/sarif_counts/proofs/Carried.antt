@@ -3,15 +3,15 @@ use Rattle.std.proofs.Common.{◌≡◌, Bool, ◌&&◌, Option, Some, refl, ap,
 use Rattle.std.specs.Prelude.{codes, bytes_eq, option_and_then}
 use Rattle.serde_json.specs.Data.{Data, string}
 use Rattle.serde_json.specs.Find.{get, as_str}
-use Rattle.sarif_records.specs.declared.kinds.Level.{Level}
-use Rattle.sarif_records.specs.declared.kinds.Level.TheVariants.{NoLevel, Note, Warning, Error}
-use Rattle.sarif_records.specs.declared.kinds.State.{State}
-use Rattle.sarif_records.specs.declared.kinds.State.TheVariants.{New, Unchanged, Updated, Absent}
-use Rattle.sarif_records.specs.Level.{level_name}
-use Rattle.sarif_records.specs.State.{state_name}
+use Rattle.sarif_model.specs.declared.kinds.Level.{Level}
+use Rattle.sarif_model.specs.declared.kinds.Level.TheVariants.{NoLevel, Note, Warning, Error}
+use Rattle.sarif_model.specs.declared.kinds.State.{State}
+use Rattle.sarif_model.specs.declared.kinds.State.TheVariants.{New, Unchanged, Updated, Absent}
+use Rattle.sarif_model.specs.Level.{level_name}
+use Rattle.sarif_model.specs.State.{state_name}
 use Rattle.sarif_counts.specs.Counts.{same_state}
 use Rattle.sarif_counts.specs.Tally.{same_level, same_side}
-use Rattle.sarif_records.specs.Run.{is_text}
+use Rattle.sarif_model.specs.Run.{is_text}
 use Rattle.sarif_counts.specs.CountOf.{carries, suppresses, suppressions_in}
 
 -- two states have one text where they are one

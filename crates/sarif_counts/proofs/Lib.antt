@@ -1,5 +1,5 @@
+pub mod Carried
 pub mod Columns
+pub mod CountAppend
 pub mod GateNumbers
 pub mod Suppressed
-pub mod CountAppend
-pub mod Carried

@@ -1,7 +1,7 @@
 -- What two counts are together. Only counting in threads needs it.
 use Rattle.std.specs.Prelude.{◌≡◌, ◌+◌, Bool}
-use Rattle.sarif_records.specs.declared.kinds.Level.{Level}
-use Rattle.sarif_records.specs.declared.kinds.State.{State}
+use Rattle.sarif_model.specs.declared.kinds.Level.{Level}
+use Rattle.sarif_model.specs.declared.kinds.State.{State}
 use Rattle.sarif_counts.specs.Counts.{count_at}
 use Rattle.sarif_counts.specs.declared.counts.Counts.{Counts}
 use Rattle.sarif_counts.specs.declared.tally.ByLevel.{ByLevel}

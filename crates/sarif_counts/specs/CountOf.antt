@@ -2,14 +2,14 @@
 use Rattle.std.specs.Prelude.{ℕ, ◌+◌, List, [], ◌∷◌, Bool, true, false, ◌&&◌, Option, Some, None, option_and_then, codes}
 use Rattle.serde_json.specs.Data.{Data, null, boolean, number, string, array, object, Items, no_items, item}
 use Rattle.serde_json.specs.Find.{get, as_str}
-use Rattle.sarif_records.specs.declared.kinds.Level.{Level}
-use Rattle.sarif_records.specs.declared.kinds.State.{State}
-use Rattle.sarif_records.specs.declared.kinds.Status.{Status}
-use Rattle.sarif_records.specs.declared.kinds.Status.TheVariants.{Accepted, UnderReview, Rejected}
-use Rattle.sarif_records.specs.Level.{level_name}
-use Rattle.sarif_records.specs.Run.{is_text}
-use Rattle.sarif_records.specs.State.{state_name}
-use Rattle.sarif_records.specs.Status.{status_named}
+use Rattle.sarif_model.specs.declared.kinds.Level.{Level}
+use Rattle.sarif_model.specs.declared.kinds.State.{State}
+use Rattle.sarif_model.specs.declared.kinds.Status.{Status}
+use Rattle.sarif_model.specs.declared.kinds.Status.TheVariants.{Accepted, UnderReview, Rejected}
+use Rattle.sarif_model.specs.Level.{level_name}
+use Rattle.sarif_model.specs.Run.{is_text}
+use Rattle.sarif_model.specs.State.{state_name}
+use Rattle.sarif_model.specs.Status.{status_named}
 use Rattle.sarif_counts.specs.Policy.{Count, count_if}
 use Rattle.sarif_counts.specs.Tally.{same_side}
 

@@ -1,8 +1,8 @@
 -- The results of a merged log, by baseline state, level, and suppressed (true) or active (false).
 use Rattle.std.specs.Prelude.{◌≡◌, ℕ, ◌+◌, Bool, true, false, ◌&&◌}
-use Rattle.sarif_records.specs.declared.kinds.Level.{Level}
-use Rattle.sarif_records.specs.declared.kinds.State.{State}
-use Rattle.sarif_records.specs.declared.kinds.State.TheVariants.{New, Unchanged, Updated, Absent}
+use Rattle.sarif_model.specs.declared.kinds.Level.{Level}
+use Rattle.sarif_model.specs.declared.kinds.State.{State}
+use Rattle.sarif_model.specs.declared.kinds.State.TheVariants.{New, Unchanged, Updated, Absent}
 use Rattle.sarif_counts.specs.declared.counts.Counts.{Counts}
 use Rattle.sarif_counts.specs.declared.tally.Tally.{Tally}
 use Rattle.sarif_counts.specs.Policy.{Count, count_if}

@@ -1,7 +1,7 @@
 -- Numbers by level, for the active and the suppressed results of one baseline state.
 use Rattle.std.specs.Prelude.{◌≡◌, ℕ, ◌+◌, Bool, true, false, ◌&&◌}
-use Rattle.sarif_records.specs.declared.kinds.Level.{Level}
-use Rattle.sarif_records.specs.declared.kinds.Level.TheVariants.{NoLevel, Note, Warning, Error}
+use Rattle.sarif_model.specs.declared.kinds.Level.{Level}
+use Rattle.sarif_model.specs.declared.kinds.Level.TheVariants.{NoLevel, Note, Warning, Error}
 use Rattle.sarif_counts.specs.declared.tally.ByLevel.{ByLevel}
 use Rattle.sarif_counts.specs.declared.tally.Tally.{Tally}
 use Rattle.sarif_counts.specs.Policy.{count_if}

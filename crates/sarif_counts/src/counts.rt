@@ -3,7 +3,7 @@ ghost use Rattle.std.specs.Prelude.{◌+◌, ◌<◌, ◌^◌};
 ghost use Rattle.sarif_counts.specs.Tally.{tally_total};
 
 use crate::tally::Tally;
-use sarif_records::{Level, State};
+use sarif_model::{Level, State};
 
 /// The results of a merged log, counted by baseline state, level, and active or suppressed: fewer
 /// than 2^32 of them.

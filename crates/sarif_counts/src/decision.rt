@@ -6,7 +6,7 @@ ghost use Rattle.sarif_counts.specs.Tally.{tally_total};
 
 use crate::counts::Counts;
 use crate::policy::{Policy, Verdict};
-use sarif_records::State;
+use sarif_model::State;
 
 /// How many hits there are: active results of a state that the policy lists, at least of its level
 /// `fail_on`.

@@ -11,7 +11,7 @@ use crate::counts::Counts;
 use crate::decision::{hits, verdict};
 use crate::policy::{Policy, States};
 use crate::tally::{ByLevel, Tally};
-use sarif_records::State;
+use sarif_model::State;
 use serde_json::{Value, json};
 use std::alloc::{AllocError, Global};
 

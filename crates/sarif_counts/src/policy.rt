@@ -2,7 +2,7 @@
 ghost use Rattle.std.specs.Prelude.{◌≡◌};
 ghost use Rattle.sarif_counts.specs.Policy.{default_policy, is_listed, verdict_name};
 
-use sarif_records::{Level, State};
+use sarif_model::{Level, State};
 
 /// Which baseline states the gate looks at.
 #[derive(Clone, Copy, Debug, PartialEq, Eq)]

@@ -4,7 +4,7 @@ ghost use Rattle.serde_json.specs.Find.{get};
 ghost use Rattle.serde_json.specs.View.{view, items_of};
 ghost use Rattle.sarif_counts.specs.CountOf.{suppresses, all_accepted, accepts};
 
-use sarif_records::Status;
+use sarif_model::Status;
 use serde_json::Value;
 
 /// Whether a suppression's status is `accepted`, as it counts where it is absent.

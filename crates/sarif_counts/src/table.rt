@@ -8,7 +8,7 @@ use crate::counts::Counts;
 use crate::decision::{hits, verdict};
 use crate::policy::{Policy, Verdict};
 use crate::tally::Tally;
-use sarif_records::State;
+use sarif_model::State;
 use std::alloc::{AllocError, Global};
 
 /// The names of the columns: a state's active results by level, and all its suppressed ones.

@@ -4,7 +4,7 @@ ghost use Rattle.sarif_counts.specs.Both.{AreOfBothLevels, AreOfBothSides};
 ghost use Rattle.sarif_counts.specs.Policy.{severe_of};
 ghost use Rattle.sarif_counts.specs.Tally.{at_level, level_total, at_side, tally_total, AddsAtLevel, AddsAtSide};
 
-use sarif_records::Level;
+use sarif_model::Level;
 
 /// A number for each level.
 #[derive(Clone, Copy, Debug, PartialEq, Eq)]

@@ -1,7 +1,7 @@
 -- The lines of an explanation.
 -- No clause of the program speaks of it.
 use Rattle.std.specs.Prelude.{ℕ, zero, suc, List, [], ◌∷◌, ◌++◌, codes, chars, encode_utf8}
-use Rattle.sarif_report.specs.Shown.{shown}
+use Rattle.sarif_findings.specs.Shown.{shown}
 
 -- a line: two spaces, the name, a colon, a space, what is shown of the text, a newline
 abbrev pub line_of : List ℕ → List ℕ → List ℕ

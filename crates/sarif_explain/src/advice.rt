@@ -1,5 +1,5 @@
 //! What to do about a fault: the table of the sentences.
-use sarif_sources::Cause;
+use sarif_model::Cause;
 
 /// The sentence that says what to do.
 pub(crate) fn advice_on(cause: Cause) -> &'static str {

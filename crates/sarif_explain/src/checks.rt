@@ -1,6 +1,6 @@
 //! Which members are looked at for which cause, in the order in which a merge looks at them: the tables.
 use crate::wanted::Wanted;
-use sarif_sources::Cause;
+use sarif_model::Cause;
 
 /// Whether a member may be absent.
 #[derive(Clone, Copy, Debug, PartialEq, Eq)]

@@ -3,7 +3,7 @@ use crate::checks::entry_checks;
 use crate::misfit::{Found, Misfit, misfit_in};
 use crate::place::Place;
 use crate::wanted::Wanted;
-use sarif_sources::Cause;
+use sarif_model::Cause;
 use serde_json::Value;
 use std::alloc::Global;
 

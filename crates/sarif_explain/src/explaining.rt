@@ -3,8 +3,8 @@ use crate::advice::advice_on;
 use crate::lines::{push_line, push_number, shortened};
 use crate::misfit::Misfit;
 use crate::whole::{misfit_of, wanted_by};
-use sarif_records::without_mark;
-use sarif_sources::{Cause, MergeFault};
+use json_parts::without_mark;
+use sarif_model::{Cause, MergeFault};
 use serde_json::{Error, Value};
 use std::alloc::{AllocError, Global};
 

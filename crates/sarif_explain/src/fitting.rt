@@ -1,6 +1,6 @@
 //! Which values are as they are wanted.
 use crate::wanted::Wanted;
-use sarif_records::{Kind, Level, Status, read_guid};
+use sarif_model::{Kind, Level, Status, read_guid};
 use serde_json::Value;
 
 /// Whether the number is a day yyyymmdd of the years 1000 to 9999, of a month 1 to 12 and a day 1 to 31.

@@ -2,7 +2,7 @@
 ghost use Rattle.std.specs.Prelude.{◌≡◌, ◌++◌, IfOk, OnOk, chars, string_bytes};
 ghost use Rattle.sarif_explain.specs.Lines as said;
 
-use sarif_report::shown;
+use sarif_findings::shown;
 use std::alloc::{AllocError, Global};
 
 /// The most characters that are shown of a value.

@@ -5,7 +5,7 @@ use crate::checks::{
 use crate::misfit::{Found, misfit_in, misfit_in_each};
 use crate::past_table::misfit_of_rule;
 use crate::place::Place;
-use sarif_sources::Cause;
+use sarif_model::Cause;
 use std::alloc::Global;
 
 /// In the rules of the driver, or of an extension.

@@ -3,7 +3,7 @@ use crate::checks::{location_checks, result_checks, suppression_checks};
 use crate::misfit::{Found, misfit_in, misfit_in_each};
 use crate::past_table::misfit_past_tables;
 use crate::place::Place;
-use sarif_sources::Cause;
+use sarif_model::Cause;
 use std::alloc::Global;
 
 /// In its first location.

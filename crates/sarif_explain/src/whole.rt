@@ -6,7 +6,7 @@ use crate::place::Place;
 use crate::run::misfit_of_run;
 use crate::single::misfit_of_result;
 use crate::wanted::Wanted;
-use sarif_sources::{At, Cause, MergeFault, Source};
+use sarif_model::{At, Cause, MergeFault, Source};
 use serde_json::Value;
 use std::alloc::{AllocError, Global};
 

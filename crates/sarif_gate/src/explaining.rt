@@ -2,12 +2,11 @@
 use crate::outputs::Outputs;
 use crate::sources::Source as Reading;
 use sarif_explain::{FaultSource, explanation};
-use sarif_files::Kept;
-use sarif_merge::{At, Cause, Counted, MergeFault, Readers, Source};
+use sarif_model::{At, Cause, MergeFault, Source, Text};
 use sarif_program::Complaint;
-use sarif_records::Text;
-use sarif_report::Report;
+use sarif_reports::Report;
 use sarif_request::Request;
+use sarif_streams::{Counted, Kept, Readers};
 use std::alloc::{AllocError, Global};
 use std::io;
 

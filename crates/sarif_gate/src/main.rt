@@ -12,7 +12,7 @@ mod sources;
 
 use explaining::Ended;
 use outputs::outputs_of;
-use sarif_merge::MergeFault;
+use sarif_model::MergeFault;
 use sarif_program::{Complaint, Complaints, run_request, seed_of};
 use sarif_request::{Request, WordsFault, read_words};
 use sources::sources_of;

@@ -1,14 +1,13 @@
 //! The outputs that a request names.
 ghost use Rattle.std.specs.Prelude.{◌≡◌, IfOk, is_some};
-ghost use Rattle.sarif_sources.specs.Counted.{failed_calls};
-ghost use Rattle.sarif_sources.specs.OptionalReader.{failed_calls_if};
+ghost use Rattle.sarif_streams.specs.Counted.{failed_calls};
+ghost use Rattle.sarif_streams.specs.OptionalReader.{failed_calls_if};
 ghost use Rattle.sarif_program.specs.Reports.{AreAsked, report_failures};
 
-use sarif_files::{Console, Kept, STANDARD, Target};
-use sarif_merge::Counted;
+use sarif_model::Text;
 use sarif_program::Writers;
-use sarif_records::Text;
 use sarif_request::{Reports, Request};
+use sarif_streams::{Console, Counted, Kept, STANDARD, Target};
 use std::alloc::AllocError;
 use std::io::{Stderr, Stdout};
 use std::process;

@@ -1,15 +1,14 @@
 //! The sources that a request names.
 ghost use Rattle.std.specs.Prelude.{◌≡◌, IfOk, option_map};
 ghost use Rattle.std.specs.List.{All};
-ghost use Rattle.sarif_sources.specs.Counted.{failed_calls};
-ghost use Rattle.sarif_sources.specs.OptionalReader.{failed_calls_if};
-ghost use Rattle.sarif_files.specs.Named.{input_name};
+ghost use Rattle.sarif_streams.specs.Counted.{failed_calls};
+ghost use Rattle.sarif_streams.specs.OptionalReader.{failed_calls_if};
+ghost use Rattle.sarif_streams.specs.Named.{input_name};
 ghost use Rattle.sarif_gate.specs.Named.{name_of, names_of};
 
-use sarif_files::{Input, InputFile, Kept};
-use sarif_merge::{Counted, Readers};
-use sarif_records::Text;
+use sarif_model::Text;
 use sarif_request::Request;
+use sarif_streams::{Counted, Input, InputFile, Kept, Readers};
 use std::alloc::AllocError;
 use std::io::Stdin;
 

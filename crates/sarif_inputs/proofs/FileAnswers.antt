@@ -3,8 +3,9 @@ use Rattle.std.proofs.Common.{◌≡◌, ◌⊎◌, inl, inr, Some, Result, Err,
 use Rattle.sarif_suppress.specs.File.{File}
 use Rattle.sarif_suppress.specs.declared.fault.SuppressFault.{SuppressFault}
 use Rattle.sarif_suppress.specs.declared.fault.SuppressFault.TheVariants.{NotJson, NotList, WrongVersion, BadEntry, EmptyMatch, TooMany, OutOfMemory, NeedsToday}
-use Rattle.sarif_sources.specs.Fault.{fault_of_file}
-use Rattle.sarif_inputs.specs.Faults.{first, file_faults, IsWanting}
+use Rattle.sarif_suppress.specs.FileFault.{fault_of_file}
+use Rattle.sarif_model.specs.FirstFault.{first, IsWanting}
+use Rattle.sarif_inputs.specs.Faults.{file_faults}
 
 is_first : (said : Result File SuppressFault) (fault : SuppressFault) → said ≡ Err fault → first (file_faults said) ≡ Some (fault_of_file fault)
 is_first said fault same = ap (λ r. first (file_faults r)) same

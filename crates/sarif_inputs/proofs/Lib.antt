@@ -1,9 +1,7 @@
-pub mod ReadFacts
-pub mod SourceRuns
-pub mod SourceAnswers
-pub mod SourceSteps
 pub mod FileAnswers
-pub mod ParsedFaults
-pub mod ReadParts
-pub mod ReadIndexes
 pub mod OpenedParts
+pub mod ReadFacts
+pub mod ReadIndexes
+pub mod ReadParts
+pub mod SourceRuns
+pub mod SourceSteps

@@ -1,13 +1,13 @@
 -- The runs of all sources, taken apart into those of logs and those of baselines.
 use Rattle.std.proofs.Common.{◌≡◌, ◌≤◌, ◌+◌, ℕ, List, [], take, drop, map, length, length-append, arith, sym, ap, ◌∙◌}
 use Rattle.std.proofs.lemmas.List.{length-map, map-append, take-map, drop-map}
-use Rattle.sarif_records.specs.Run.{results_total}
-use Rattle.sarif_sources.specs.declared.fault.Source.TheVariants.{Log, Baseline}
-use Rattle.sarif_judge.specs.declared.opened.OpenedRun.{OpenedRun}
-use Rattle.sarif_judge.specs.Opened.{placed_of}
-use Rattle.sarif_judge.specs.Placed.{Placed}
+use Rattle.sarif_model.specs.Run.{results_total}
+use Rattle.sarif_model.specs.declared.merge_fault.Source.TheVariants.{Log, Baseline}
+use Rattle.sarif_runs.specs.declared.opened.OpenedRun.{OpenedRun}
+use Rattle.sarif_runs.specs.Opened.{placed_of}
+use Rattle.sarif_runs.specs.Placed.{Placed}
 use Rattle.sarif_inputs.specs.declared.sources.Runs.{Runs}
-use Rattle.sarif_judge.specs.Judging.{run_values}
+use Rattle.sarif_runs.specs.Judging.{run_values}
 use Rattle.sarif_inputs.specs.Inputs.{numbered, placed}
 use Rattle.sarif_inputs.specs.ReadSoFar.{sources_of}
 use Rattle.sarif_inputs.specs.Runs.{AreRunsOf}

@@ -7,13 +7,13 @@ use Rattle.std.proofs.Math.Seq.{take-append_seam, drop-append_seam}
 use Rattle.std.specs.List.{AllByRecursion, list_any}
 use Rattle.serde_json.specs.Data.{Data}
 use Rattle.serde_json.specs.Written.{has_float}
-use Rattle.sarif_records.specs.declared.fault.ReadFault.{ReadFault}
-use Rattle.sarif_records.specs.Reading.{log_of}
-use Rattle.sarif_sources.specs.declared.fault.MergeFault.{MergeFault}
-use Rattle.sarif_sources.specs.declared.fault.Source.TheVariants.{Log, Baseline}
+use Rattle.sarif_read.specs.declared.read_fault.ReadFault.{ReadFault}
+use Rattle.sarif_read.specs.Reading.{log_of}
+use Rattle.sarif_model.specs.declared.merge_fault.MergeFault.{MergeFault}
+use Rattle.sarif_model.specs.declared.merge_fault.Source.TheVariants.{Log, Baseline}
 use Rattle.sarif_inputs.specs.Inputs.{Sourced, numbered, placed, placed_from, readable, runs_in}
-use Rattle.sarif_judge.specs.Judging.{skips, run_values}
-use Rattle.sarif_judge.specs.Placed.{Placed}
+use Rattle.sarif_runs.specs.Judging.{skips, run_values}
+use Rattle.sarif_runs.specs.Placed.{Placed}
 use Rattle.sarif_inputs.proofs.SourceRuns.{data_placed}
 
 pub placed-append : (xs ys : List Sourced) → placed (xs ++ ys) ≡ placed xs ++ placed ys

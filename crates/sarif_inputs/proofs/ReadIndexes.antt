@@ -3,19 +3,21 @@ use Rattle.std.proofs.Common.{◌≡◌, ◌≤◌, ℕ, List, map, length, Resu
 use Rattle.std.specs.Prelude.{Ok, Err, Some, IfOk, IfErr}
 use Rattle.std.specs.declared.alloc.Global.{Global}
 use Rattle.json.specs.Token.{Token}
-use Rattle.json_index.specs.Indexed.{data_of}
-use Rattle.json_index.specs.Together.{IsIndexed}
-use Rattle.json_index.specs.declared.indexing.IndexFault.{IndexFault}
-use Rattle.json_index.specs.declared.indexing.IndexFault.TheVariants as index
-use Rattle.sarif_records.specs.Indexed.{run_of}
-use Rattle.sarif_records.specs.IndexFault.{read_fault_of}
-use Rattle.sarif_records.specs.Reading.{json_of, log_of_value, without_mark}
-use Rattle.sarif_records.specs.Run.{results_total}
-use Rattle.sarif_records.specs.Stripping.{stripped}
-use Rattle.sarif_records.specs.declared.indexed_run.IndexedRun.{IndexedRun}
-use Rattle.sarif_records.specs.declared.fault.ReadFault.{ReadFault}
-use Rattle.sarif_records.specs.declared.fault.Fault.TheVariants.{OutOfMemory}
-use Rattle.sarif_records.proofs.Utf8.{log_of_text, log_of_none}
+use Rattle.json_parts.specs.Indexed.{data_of}
+use Rattle.json_parts.specs.Together.{IsIndexed}
+use Rattle.json_parts.specs.declared.indexing.IndexFault.{IndexFault}
+use Rattle.json_parts.specs.declared.indexing.IndexFault.TheVariants as index
+use Rattle.sarif_read.specs.Indexed.{run_of}
+use Rattle.sarif_read.specs.IndexFault.{read_fault_of}
+use Rattle.json_parts.specs.Indexed.{json_of}
+use Rattle.sarif_read.specs.Reading.{log_of_value}
+use Rattle.json_parts.specs.Mark.{without_mark}
+use Rattle.sarif_model.specs.Run.{results_total}
+use Rattle.sarif_read.specs.Stripping.{stripped}
+use Rattle.sarif_read.specs.declared.indexed_run.IndexedRun.{IndexedRun}
+use Rattle.sarif_read.specs.declared.read_fault.ReadFault.{ReadFault}
+use Rattle.sarif_model.specs.declared.fault.Fault.TheVariants.{OutOfMemory}
+use Rattle.sarif_read.proofs.LogText.{log_of_text, log_of_none}
 use Rattle.sarif_inputs.specs.Parsed.{IsParsedFrom}
 
 pub read_of_index : (bytes : List ℕ) (found : List Token) (r : Result (Vec IndexedRun Global) ReadFault)

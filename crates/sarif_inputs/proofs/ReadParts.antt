@@ -4,11 +4,11 @@ use Rattle.std.proofs.lemmas.List.{take_more}
 use Rattle.std.specs.declared.alloc.Global.{Global}
 use Rattle.std.specs.declared.vec.Vec.{Vec}
 use Rattle.json.specs.Token.{Token}
-use Rattle.json_index.specs.declared.indexing.IndexFault.{IndexFault}
-use Rattle.json_index.specs.Together.{AreIndexed}
-use Rattle.sarif_records.specs.Reading.{without_mark}
-use Rattle.sarif_records.specs.declared.fault.ReadFault.{ReadFault}
-use Rattle.sarif_records.specs.declared.indexed_run.IndexedRun.{IndexedRun}
+use Rattle.json_parts.specs.declared.indexing.IndexFault.{IndexFault}
+use Rattle.json_parts.specs.Together.{AreIndexed}
+use Rattle.json_parts.specs.Mark.{without_mark}
+use Rattle.sarif_read.specs.declared.read_fault.ReadFault.{ReadFault}
+use Rattle.sarif_read.specs.declared.indexed_run.IndexedRun.{IndexedRun}
 use Rattle.sarif_inputs.specs.Parsed.{IsParsedFrom, AreParsedFrom, IsReadFrom, AreReadFrom}
 
 abbrev Found : Type 0

@@ -3,15 +3,15 @@ use Rattle.std.proofs.Common.{◌≡◌, false, ℕ, ◌+◌, List, [], ◌∷�
 use Rattle.std.proofs.lemmas.List.{map-append, length-map}
 use Rattle.std.specs.List.{list_any}
 use Rattle.serde_json.specs.Written.{has_float}
-use Rattle.sarif_records.proofs.NoFraction.{neither}
+use Rattle.sarif_read.proofs.NoFraction.{neither}
 use Rattle.serde_json.specs.Data.{Data}
-use Rattle.sarif_records.specs.Indexed.{run_of}
-use Rattle.sarif_records.specs.declared.indexed_run.IndexedRun.{IndexedRun}
-use Rattle.sarif_records.specs.Run.{results_total}
-use Rattle.sarif_sources.specs.declared.fault.Source.{Source}
+use Rattle.sarif_read.specs.Indexed.{run_of}
+use Rattle.sarif_read.specs.declared.indexed_run.IndexedRun.{IndexedRun}
+use Rattle.sarif_model.specs.Run.{results_total}
+use Rattle.sarif_model.specs.declared.merge_fault.Source.{Source}
 use Rattle.sarif_inputs.specs.declared.read_run.ReadRun.{ReadRun}
-use Rattle.sarif_judge.specs.Placed.{Placed}
-use Rattle.sarif_judge.specs.Judging.{run_values}
+use Rattle.sarif_runs.specs.Placed.{Placed}
+use Rattle.sarif_runs.specs.Judging.{run_values}
 use Rattle.sarif_inputs.specs.Inputs.{placed_from}
 use Rattle.sarif_inputs.specs.ReadRun.{placed_read}
 

@@ -1,19 +1,19 @@
 -- One source more, read with no fault: what is left of the sources answers for all of them.
 use Rattle.std.proofs.Common.{◌≡◌, ℕ, ◌+◌, List, [], ◌∷◌, ◌++◌, ◌⊎◌, Some, map, length, refl, sym, ap, ◌∙◌, append_assoc, add-zero, length-append, arith}
 use Rattle.std.proofs.lemmas.List.{length-map, map-append}
-use Rattle.sarif_records.specs.Reading.{log_of}
-use Rattle.sarif_records.specs.Run.{results_total}
-use Rattle.sarif_sources.specs.declared.fault.MergeFault.{MergeFault}
-use Rattle.sarif_sources.specs.declared.fault.Source.{Source}
+use Rattle.sarif_read.specs.Reading.{log_of}
+use Rattle.sarif_model.specs.Run.{results_total}
+use Rattle.sarif_model.specs.declared.merge_fault.MergeFault.{MergeFault}
+use Rattle.sarif_model.specs.declared.merge_fault.Source.{Source}
 use Rattle.sarif_inputs.specs.declared.sources.Reading.{Reading}
-use Rattle.sarif_judge.specs.Placed.{Placed}
-use Rattle.sarif_judge.specs.Judging.{run_values}
+use Rattle.sarif_runs.specs.Placed.{Placed}
+use Rattle.sarif_runs.specs.Judging.{run_values}
 use Rattle.sarif_inputs.specs.Inputs.{Sourced, numbered, placed, placed_from, readable, runs_in}
-use Rattle.sarif_inputs.specs.Faults.{first, IsWanting}
+use Rattle.sarif_model.specs.FirstFault.{first, IsWanting}
 use Rattle.sarif_inputs.specs.ReadRun.{placed_read}
 use Rattle.sarif_inputs.specs.ReadSoFar.{IsCounted, faults_with}
 use Rattle.sarif_inputs.specs.SourceFaults.{source_faults, reading_faults, limit_faults}
-use Rattle.sarif_inputs.proofs.SourceAnswers.{still_first}
+use Rattle.sarif_model.proofs.SourceAnswers.{still_first}
 use Rattle.sarif_inputs.proofs.SourceRuns.{counted_more, total_append, length_placed, data_placed}
 
 faults_step : (name : ℕ → Source) (n runs results now all : ℕ) (bytes : List ℕ) (rest : List (List ℕ))

@@ -2,15 +2,17 @@
 use Rattle.std.specs.Prelude.{◌≡◌, ◌≤◌, ◌<◌, ℕ, nat_lt, List, [], ◌∷◌, ◌++◌, ◌⊎◌, length, Option, Some, None, Result, Ok, Err, if◌then◌else◌}
 use Rattle.sarif_suppress.specs.File.{File, file_of}
 use Rattle.sarif_suppress.specs.declared.fault.SuppressFault.{SuppressFault}
-use Rattle.sarif_sources.specs.declared.fault.Source.{Source}
-use Rattle.sarif_sources.specs.declared.fault.Source.TheVariants.{Log, Baseline}
-use Rattle.sarif_sources.specs.declared.fault.At.TheVariants.{Nowhere, Whole}
-use Rattle.sarif_sources.specs.declared.fault.Cause.TheVariants.{TooMany, NoWorker}
-use Rattle.sarif_sources.specs.declared.fault.MergeFault.{MergeFault}
-use Rattle.sarif_sources.specs.Fault.{fault_at, fault_of_file, out_of_memory}
+use Rattle.sarif_model.specs.declared.merge_fault.Source.{Source}
+use Rattle.sarif_model.specs.declared.merge_fault.Source.TheVariants.{Log, Baseline}
+use Rattle.sarif_model.specs.declared.merge_fault.At.TheVariants.{Whole}
+use Rattle.sarif_model.specs.declared.merge_fault.Cause.TheVariants.{TooMany}
+use Rattle.sarif_model.specs.declared.merge_fault.MergeFault.{MergeFault}
+use Rattle.sarif_model.specs.MergeFault.{fault_at}
+use Rattle.sarif_suppress.specs.FileFault.{fault_of_file}
 use Rattle.sarif_inputs.specs.Inputs.{Inputs, all_sources, all_runs}
 use Rattle.sarif_inputs.specs.SourceFaults.{source_faults}
-use Rattle.sarif_judge.specs.Judging.{faults_of_runs}
+use Rattle.sarif_runs.specs.Judging.{faults_of_runs}
+use Rattle.sarif_model.specs.FirstFault.{first}
 
 -- more than 1,000 sources of a kind
 abbrev pub number_faults : (ℕ → Source) → List (List ℕ) → List MergeFault
@@ -43,23 +45,5 @@ faults_of inputs =
     ++ (file_faults (file_or_none inputs.suppressions inputs.today)
     ++ faults_of_runs (all_runs inputs))))
 
-abbrev pub first : List MergeFault → Option MergeFault
-first [] = None
-first (fault ∷ faults) = Some fault
-
 abbrev pub first_fault : Inputs → Option MergeFault
 first_fault inputs = first (faults_of inputs)
-
--- the refusal where a thread could not be started
-abbrev pub no_worker : MergeFault
-no_worker = record { at = Nowhere; cause = NoWorker }
-
--- memory or a thread was wanting
-abbrev pub IsWanting : MergeFault → Type 0
-IsWanting fault = (fault ≡ out_of_memory) ⊎ (fault ≡ no_worker)
-
--- an answer where these are the faults: Ok only where there is none, and a refusal is the first of them, or want of
--- memory or of a thread
-abbrev pub Answers : {T : Type 0} → List MergeFault → Result T MergeFault → Type 0
-Answers faults (Ok v) = faults ≡ []
-Answers faults (Err fault) = IsWanting fault ⊎ (first faults ≡ Some fault)

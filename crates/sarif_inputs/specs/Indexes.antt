@@ -1,9 +1,9 @@
 -- The indexes of the sources of a merge. No public clause of the merge speaks of it.
 use Rattle.std.specs.Prelude.{◌≡◌, ◌≤◌, ℕ, List, ◌++◌, map, length, Result}
 use Rattle.json.specs.Token.{Token}
-use Rattle.json_index.specs.declared.indexing.IndexFault.{IndexFault}
-use Rattle.json_index.specs.Together.{AreIndexed}
-use Rattle.sarif_records.specs.Reading.{without_mark}
+use Rattle.json_parts.specs.declared.indexing.IndexFault.{IndexFault}
+use Rattle.json_parts.specs.Together.{AreIndexed}
+use Rattle.json_parts.specs.Mark.{without_mark}
 
 -- these are the indexes of so many logs, and then of the baselines
 pub record AreIndexesOf (logs baselines : List (List ℕ))

@@ -2,11 +2,11 @@
 use Rattle.std.specs.Prelude.{ℕ, ◌+◌, List, [], ◌∷◌, ◌++◌, Option, Result, Ok, Err}
 use Rattle.std.specs.List.{flat_map}
 use Rattle.serde_json.specs.Data.{Data}
-use Rattle.sarif_judge.specs.Placed.{Placed}
-use Rattle.sarif_records.specs.declared.fault.ReadFault.{ReadFault}
-use Rattle.sarif_records.specs.Reading.{log_of}
-use Rattle.sarif_sources.specs.declared.fault.Source.{Source}
-use Rattle.sarif_sources.specs.declared.fault.Source.TheVariants.{Log, Baseline}
+use Rattle.sarif_runs.specs.Placed.{Placed}
+use Rattle.sarif_read.specs.declared.read_fault.ReadFault.{ReadFault}
+use Rattle.sarif_read.specs.Reading.{log_of}
+use Rattle.sarif_model.specs.declared.merge_fault.Source.{Source}
+use Rattle.sarif_model.specs.declared.merge_fault.Source.TheVariants.{Log, Baseline}
 
 -- the bytes of the logs, of the baselines and of the suppression file, where there is one, and the day, where one is
 -- known

@@ -3,14 +3,15 @@ use Rattle.std.specs.Prelude.{◌≡◌, ◌≤◌, ℕ, ⊤, List, [], ◌∷�
 use Rattle.std.specs.declared.alloc.Global.{Global}
 use Rattle.std.specs.declared.vec.Vec.{Vec}
 use Rattle.json.specs.Token.{Token}
-use Rattle.json_index.specs.declared.indexing.IndexFault.{IndexFault}
-use Rattle.json_index.specs.Together.{IsIndexed}
-use Rattle.sarif_records.specs.Indexed.{run_of}
-use Rattle.sarif_records.specs.Reading.{log_of, without_mark}
-use Rattle.sarif_records.specs.Run.{results_total}
-use Rattle.sarif_records.specs.declared.indexed_run.IndexedRun.{IndexedRun}
-use Rattle.sarif_records.specs.declared.fault.ReadFault.{ReadFault}
-use Rattle.sarif_records.specs.declared.fault.Fault.TheVariants.{OutOfMemory}
+use Rattle.json_parts.specs.declared.indexing.IndexFault.{IndexFault}
+use Rattle.json_parts.specs.Together.{IsIndexed}
+use Rattle.sarif_read.specs.Indexed.{run_of}
+use Rattle.sarif_read.specs.Reading.{log_of}
+use Rattle.json_parts.specs.Mark.{without_mark}
+use Rattle.sarif_model.specs.Run.{results_total}
+use Rattle.sarif_read.specs.declared.indexed_run.IndexedRun.{IndexedRun}
+use Rattle.sarif_read.specs.declared.read_fault.ReadFault.{ReadFault}
+use Rattle.sarif_model.specs.declared.fault.Fault.TheVariants.{OutOfMemory}
 
 -- the log of these bytes, within the limits of one, or its fault, or want of memory
 pub record IsParsedFrom (bytes : List ℕ) (parsed : Result (Vec IndexedRun Global) ReadFault)

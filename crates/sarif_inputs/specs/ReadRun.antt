@@ -1,6 +1,6 @@
 -- A run that was read, as the definitions see it. No public clause of the merge speaks of it.
-use Rattle.sarif_records.specs.Indexed.{run_of}
-use Rattle.sarif_judge.specs.Placed.{Placed}
+use Rattle.sarif_read.specs.Indexed.{run_of}
+use Rattle.sarif_runs.specs.Placed.{Placed}
 use Rattle.sarif_inputs.specs.declared.read_run.ReadRun.{ReadRun}
 
 abbrev pub placed_read : ReadRun → Placed

@@ -1,14 +1,14 @@
 -- What was read of the sources so far, and the faults of one source more. No public clause of the merge speaks of it.
 use Rattle.std.specs.Prelude.{◌≡◌, ℕ, ◌+◌, ◌≤◌, List, ◌++◌, map, length, Result}
 use Rattle.serde_json.specs.Data.{Data}
-use Rattle.sarif_records.specs.declared.fault.ReadFault.{ReadFault}
-use Rattle.sarif_records.specs.Run.{results_total}
-use Rattle.sarif_sources.specs.declared.fault.MergeFault.{MergeFault}
-use Rattle.sarif_sources.specs.declared.fault.Source.{Source}
-use Rattle.sarif_sources.specs.declared.fault.Source.TheVariants.{Log, Baseline}
+use Rattle.sarif_read.specs.declared.read_fault.ReadFault.{ReadFault}
+use Rattle.sarif_model.specs.Run.{results_total}
+use Rattle.sarif_model.specs.declared.merge_fault.MergeFault.{MergeFault}
+use Rattle.sarif_model.specs.declared.merge_fault.Source.{Source}
+use Rattle.sarif_model.specs.declared.merge_fault.Source.TheVariants.{Log, Baseline}
 use Rattle.sarif_inputs.specs.declared.sources.Reading.{Reading}
 use Rattle.sarif_inputs.specs.Inputs.{Sourced, numbered, readable}
-use Rattle.sarif_judge.specs.Judging.{run_values}
+use Rattle.sarif_runs.specs.Judging.{run_values}
 use Rattle.sarif_inputs.specs.ReadRun.{placed_read}
 use Rattle.sarif_inputs.specs.SourceFaults.{reading_faults, limit_faults}
 

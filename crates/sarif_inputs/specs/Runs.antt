@@ -1,10 +1,10 @@
 -- The runs of all sources of a merge. No public clause of the merge speaks of it.
 use Rattle.std.specs.Prelude.{◌≡◌, ℕ, ◌≤◌, ◌+◌, List, [], map, length}
-use Rattle.sarif_records.specs.Run.{results_total}
-use Rattle.sarif_sources.specs.declared.fault.Source.TheVariants.{Log, Baseline}
-use Rattle.sarif_judge.specs.Opened.{placed_of}
+use Rattle.sarif_model.specs.Run.{results_total}
+use Rattle.sarif_model.specs.declared.merge_fault.Source.TheVariants.{Log, Baseline}
+use Rattle.sarif_runs.specs.Opened.{placed_of}
 use Rattle.sarif_inputs.specs.declared.sources.Runs.{Runs}
-use Rattle.sarif_judge.specs.Judging.{run_values}
+use Rattle.sarif_runs.specs.Judging.{run_values}
 use Rattle.sarif_inputs.specs.Inputs.{numbered, placed}
 use Rattle.sarif_inputs.specs.ReadSoFar.{sources_of}
 use Rattle.sarif_inputs.specs.SourceFaults.{source_faults}

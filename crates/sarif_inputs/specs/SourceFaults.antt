@@ -1,15 +1,15 @@
 -- The faults of reading the sources, in their order, and of the limits of all of them together.
 use Rattle.std.specs.Prelude.{ℕ, ◌+◌, Bool, ◌||◌, nat_lt, List, [], ◌∷◌, ◌++◌, length, Option, Some, None, Result, Ok, Err, if◌then◌else◌}
 use Rattle.serde_json.specs.Data.{Data}
-use Rattle.sarif_records.specs.declared.fault.ReadFault.{ReadFault}
-use Rattle.sarif_records.specs.Reading.{log_of}
-use Rattle.sarif_records.specs.Run.{results_total}
-use Rattle.sarif_sources.specs.declared.fault.Source.{Source}
-use Rattle.sarif_sources.specs.declared.fault.At.{At}
-use Rattle.sarif_sources.specs.declared.fault.At.TheVariants.{Whole, Run}
-use Rattle.sarif_sources.specs.declared.fault.Cause.TheVariants.{TooMany}
-use Rattle.sarif_sources.specs.declared.fault.MergeFault.{MergeFault}
-use Rattle.sarif_sources.specs.Fault.{cause_of, fault_at}
+use Rattle.sarif_read.specs.declared.read_fault.ReadFault.{ReadFault}
+use Rattle.sarif_read.specs.Reading.{log_of}
+use Rattle.sarif_model.specs.Run.{results_total}
+use Rattle.sarif_model.specs.declared.merge_fault.Source.{Source}
+use Rattle.sarif_model.specs.declared.merge_fault.At.{At}
+use Rattle.sarif_model.specs.declared.merge_fault.At.TheVariants.{Whole, Run}
+use Rattle.sarif_model.specs.declared.merge_fault.Cause.TheVariants.{TooMany}
+use Rattle.sarif_model.specs.declared.merge_fault.MergeFault.{MergeFault}
+use Rattle.sarif_model.specs.MergeFault.{cause_of, fault_at}
 use Rattle.sarif_inputs.specs.Inputs.{Sourced, runs_in}
 
 -- where a fault of reading stands: at the run that it names, else at the whole source

@@ -1,11 +1,10 @@
 //! Indexing the sources of a merge, some of them at the same time.
 ghost use Rattle.std.specs.Prelude.{◌≡◌, ◌≤◌, ◌+◌, ◌++◌, IfOk, map, length};
-ghost use Rattle.json_index.specs.Together.{AreIndexed};
-ghost use Rattle.sarif_records.specs.Reading as said;
+ghost use Rattle.json_parts.specs.Together.{AreIndexed};
+ghost use Rattle.json_parts.specs.Mark as said;
 
 use json::Scratch;
-use json_index::{Index, IndexFault, Job, index_texts};
-use sarif_records::without_mark;
+use json_parts::{Index, IndexFault, Job, index_texts, without_mark};
 use std::alloc::{AllocError, Global};
 use std::thread::Threads;
 

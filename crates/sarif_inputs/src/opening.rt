@@ -1,10 +1,10 @@
 //! Opening the runs that were read, some of them at the same time.
 ghost use Rattle.std.specs.Prelude.{◌≡◌, ◌≤◌, IfOk, map};
-ghost use Rattle.sarif_judge.specs.Opened.{placed_of};
+ghost use Rattle.sarif_runs.specs.Opened.{placed_of};
 ghost use Rattle.sarif_inputs.specs.ReadRun.{placed_read};
 
 use crate::read_run::ReadRun;
-use sarif_judge::OpenedRun;
+use sarif_runs::OpenedRun;
 use std::alloc::{AllocError, Global};
 use std::hash::RandomState;
 use std::thread;

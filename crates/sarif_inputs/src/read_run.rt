@@ -1,10 +1,10 @@
 //! A run that was read of a source.
 ghost use Rattle.std.specs.Prelude.{◌≡◌, false};
 ghost use Rattle.serde_json.specs.Written.{has_float};
-ghost use Rattle.sarif_records.specs.Indexed.{run_of};
+ghost use Rattle.sarif_read.specs.Indexed.{run_of};
 
-use sarif_records::IndexedRun;
-use sarif_sources::Source;
+use sarif_model::Source;
+use sarif_read::IndexedRun;
 
 /// A run whose form was checked, and which isn't opened yet (SARIF 2.1.0, "run object").
 #[derive(Drop)]

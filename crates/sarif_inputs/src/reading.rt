@@ -1,12 +1,12 @@
 //! Reading the runs of sources that were indexed, some of them at the same time.
 ghost use Rattle.std.specs.Prelude.{◌≡◌, ◌≤◌, ◌++◌, ℕ, List, IfOk};
-ghost use Rattle.json_index.specs.Together.{IsIndexed};
-ghost use Rattle.sarif_records.specs.Reading.{without_mark};
+ghost use Rattle.json_parts.specs.Together.{IsIndexed};
+ghost use Rattle.json_parts.specs.Mark.{without_mark};
 ghost use Rattle.sarif_inputs.specs.Indexes.{AreIndexesOf};
 ghost use Rattle.sarif_inputs.specs.Parsed.{AreParsedFrom, AreReadFrom, IsParsedFrom};
 
-use json_index::{Index, IndexFault};
-use sarif_records::{IndexedRun, ReadFault, index_log};
+use json_parts::{Index, IndexFault};
+use sarif_read::{IndexedRun, ReadFault, index_log};
 use std::alloc::{AllocError, Global};
 use std::thread;
 use std::thread::Threads;

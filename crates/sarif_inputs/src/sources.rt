@@ -3,13 +3,14 @@ ghost use Rattle.std.specs.Prelude.{◌≡◌, ◌≤◌, ◌+◌, ◌++◌, [],
 ghost use Rattle.std.specs.Prelude.{OnOk, IfErr, IfOk};
 ghost use Rattle.std.specs.List.{list_any};
 ghost use Rattle.serde_json.specs.Written.{has_float};
-ghost use Rattle.sarif_records.specs.Indexed.{run_of};
-ghost use Rattle.sarif_records.specs.Reading.{log_of};
-ghost use Rattle.sarif_records.specs.Run.{results_total};
-ghost use Rattle.sarif_sources.specs.Failing.{IsQuiet};
-ghost use Rattle.sarif_sources.specs.SourceKind.{source_of};
-ghost use Rattle.sarif_inputs.specs.Faults.{Answers, IsTooMany, number_faults};
-ghost use Rattle.sarif_judge.specs.Judging.{run_values};
+ghost use Rattle.sarif_read.specs.Indexed.{run_of};
+ghost use Rattle.sarif_read.specs.Reading.{log_of};
+ghost use Rattle.sarif_model.specs.Run.{results_total};
+ghost use Rattle.sarif_model.specs.MergeFault.{IsQuiet};
+ghost use Rattle.sarif_model.specs.SourceKind.{source_of};
+ghost use Rattle.sarif_model.specs.FirstFault.{Answers};
+ghost use Rattle.sarif_inputs.specs.Faults.{IsTooMany, number_faults};
+ghost use Rattle.sarif_runs.specs.Judging.{run_values};
 ghost use Rattle.sarif_inputs.specs.Inputs.{numbered, placed, placed_from, readable};
 ghost use Rattle.sarif_inputs.specs.Indexes.{AreIndexesOf};
 ghost use Rattle.sarif_inputs.specs.Parsed.{AreParsedFrom, IsParsedFrom};
@@ -21,10 +22,10 @@ ghost use Rattle.sarif_inputs.specs.SourceFaults.{reading_faults, limit_faults, 
 use crate::opening::open_each;
 use crate::read_run::ReadRun;
 use crate::reading::{ReadLog, read_kinds};
-use json_index::{Index, IndexFault};
-use sarif_judge::OpenedRun;
-use sarif_records::{IndexedRun, MOST_RESULTS, MOST_RUNS, ReadFault, read_runs_hold_no_fraction};
-use sarif_sources::{At, Cause, MergeFault, Source, SourceKind};
+use json_parts::{Index, IndexFault};
+use sarif_model::{At, Cause, MOST_RESULTS, MOST_RUNS, MergeFault, Source, SourceKind};
+use sarif_read::{IndexedRun, ReadFault, read_runs_hold_no_fraction};
+use sarif_runs::OpenedRun;
 use std::alloc::{AllocError, Global};
 use std::hash::RandomState;
 use std::thread::Threads;
@@ -75,7 +76,7 @@ fn too_many(source: Source) -> MergeFault
 }
 
 /// The log that was read of a source, or its fault with its place.
-#[tactic(auto, using(sarif_sources::proofs::QuietFaults::quiet_fault))]
+#[tactic(auto, using(sarif_model::proofs::QuietFaults::quiet_fault))]
 fn log_of_source<'t, 'a>(
     source: Source,
     parsed: ReadLog<'t, 'a>,

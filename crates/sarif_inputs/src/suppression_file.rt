@@ -1,9 +1,10 @@
 //! Reading the suppression file of a merge.
 ghost use Rattle.std.specs.Prelude.{◌≡◌, Ok, IfOk, option_map};
-ghost use Rattle.sarif_sources.specs.Failing.{IsQuiet};
-ghost use Rattle.sarif_inputs.specs.Faults.{Answers, file_faults, file_or_none};
+ghost use Rattle.sarif_model.specs.MergeFault.{IsQuiet};
+ghost use Rattle.sarif_model.specs.FirstFault.{Answers};
+ghost use Rattle.sarif_inputs.specs.Faults.{file_faults, file_or_none};
 
-use sarif_sources::MergeFault;
+use sarif_model::MergeFault;
 use sarif_suppress::{Suppressions, read_rules_with};
 use std::alloc::Global;
 use std::hash::RandomState;
@@ -14,7 +15,7 @@ use std::hash::RandomState;
 /// A refusal is the first fault of the file: `NotJson`, `NotList`, `WrongVersion` or `TooMany` at
 /// the file, or `BadEntry`, `EmptyMatch` or `NeedsToday` at an entry. Want of memory is
 /// `OutOfMemory`, nowhere.
-#[tactic(auto, using(sarif_sources::proofs::QuietFaults::quiet_file, crate::proofs::FileAnswers::file_refused))]
+#[tactic(auto, using(sarif_suppress::proofs::QuietFile::quiet_file, crate::proofs::FileAnswers::file_refused))]
 pub fn read_file(
     alloc: Global,
     seed: RandomState,

@@ -1,6 +1,3 @@
-pub mod Places
+pub mod FirstFaults
 pub mod Shards
-pub mod WholeResults
-pub mod AllSpots
-pub mod SpotsWithin
-pub mod RecordMembers
+pub mod Wants

@@ -4,7 +4,7 @@ use Rattle.std.specs.declared.vec.Vec.{Vec}
 use Rattle.std.specs.declared.alloc.Global.{Global}
 use Rattle.std.specs.List.{flat_map}
 use Rattle.sarif_gather.specs.Held.{Whole}
-use Rattle.sarif_judge.specs.declared.outcome.Outcome.{Outcome}
+use Rattle.sarif_results.specs.declared.outcome.Outcome.{Outcome}
 
 -- one list of all
 abbrev pub within_shards : List (List Outcome) → List Outcome

@@ -1,8 +1,2 @@
-pub mod Placed
-pub mod Judging
-pub mod Opened
-pub mod Outcomes
-pub mod Spots
-pub mod Leftover
 pub mod Flattened
-pub mod Found
+pub mod Wanting

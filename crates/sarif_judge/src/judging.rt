@@ -1,14 +1,16 @@
 //! The work of judging: each run of it is a shard of the results.
 ghost use Rattle.std.specs.Prelude.{◌≡◌, ◌≤◌, ◌<◌, ◌*◌, IfOk, map, length};
 ghost use Rattle.std.specs.List.{All};
-ghost use Rattle.sarif_judge.specs.Opened.{placed_of};
-ghost use Rattle.sarif_judge.specs.Spots.{outcome_at, IsSpotOf};
+ghost use Rattle.sarif_runs.specs.Opened.{placed_of};
+ghost use Rattle.sarif_results.specs.OutcomesAt.{outcome_at};
+ghost use Rattle.sarif_runs.specs.Spots.{IsSpotOf};
 
-use crate::opened::OpenedRun;
-use crate::outcome::{Outcome, judge_result};
+use crate::chunk::chunk_of;
+use crate::judged_result::judge_result;
 use crate::shard::Shard;
-use crate::spots::{Spot, chunk_of};
 use sarif_gather::Work;
+use sarif_results::Outcome;
+use sarif_runs::{OpenedRun, Spot};
 use sarif_suppress::Suppressions;
 use std::alloc::{AllocError, Global};
 
@@ -45,8 +47,8 @@ pub(crate) fn judge_spots(
 
 impl<'w, 't: 'w, 'a: 't> Work for Judging<'w, 't, 'a> {
     ghost use Rattle.std.specs.Prelude.{◌≡◌, map};
-    ghost use Rattle.sarif_judge.specs.Opened.{placed_of};
-    ghost use Rattle.sarif_judge.specs.Spots.{judged_shard};
+    ghost use Rattle.sarif_runs.specs.Opened.{placed_of};
+    ghost use Rattle.sarif_results.specs.OutcomesAt.{judged_shard};
 
     type Head = u32;
 

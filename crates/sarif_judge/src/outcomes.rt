@@ -1,17 +1,16 @@
 //! The outcomes of all results, judged by workers.
 ghost use Rattle.std.specs.Prelude.{◌≡◌, ◌≤◌, ◌++◌, map, length, IfOk, OnOk};
 ghost use Rattle.std.specs.List.{flat_map};
-ghost use Rattle.sarif_records.specs.Run.{results_total};
-ghost use Rattle.sarif_judge.specs.Opened.{placed_of};
-ghost use Rattle.sarif_judge.specs.Outcomes.{all_outcomes};
+ghost use Rattle.sarif_model.specs.Run.{results_total};
+ghost use Rattle.sarif_runs.specs.Opened.{placed_of};
+ghost use Rattle.sarif_results.specs.Outcomes.{all_outcomes};
 ghost use Rattle.sarif_judge.specs.Flattened.{flattened, flattened_from, within_shards};
 
 use crate::judging::Judging;
-use crate::opened::OpenedRun;
-use crate::outcome::Outcome;
 use crate::shard::Shard;
-use crate::spots::list_spots;
 use sarif_gather::{Gate, GatherFault, Lists, gather};
+use sarif_results::Outcome;
+use sarif_runs::{OpenedRun, list_spots};
 use sarif_suppress::Suppressions;
 use std::alloc::{AllocError, Global};
 use std::sync::Wait;

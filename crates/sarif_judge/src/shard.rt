@@ -1,5 +1,5 @@
 //! A shard: some results of all runs, which one worker judges in one go.
-use crate::outcome::Outcome;
+use sarif_results::Outcome;
 use std::marker::Model;
 
 /// What was made of a shard. Contracts see the list of its outcomes.
@@ -10,7 +10,7 @@ pub struct Shard {
 
 impl Model for Shard {
     ghost use Rattle.std.specs.Prelude.{List};
-    ghost use Rattle.sarif_judge.specs.declared.outcome.Outcome.{Outcome};
+    ghost use Rattle.sarif_results.specs.declared.outcome.Outcome.{Outcome};
 
     ghost Value = { List Outcome };
 

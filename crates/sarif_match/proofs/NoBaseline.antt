@@ -1,6 +1,6 @@
 -- Without a baseline nobody has a partner.
 use Rattle.std.proofs.Common.{◌≡◌, ℕ, List, [], ◌∷◌, ◌++◌, Bool, Option, None, fold, length, replicate, refl, ap, ◌∙◌, arith}
-use Rattle.sarif_records.specs.declared.record.Record.{Record}
+use Rattle.sarif_model.specs.declared.record.Record.{Record}
 use Rattle.sarif_match.specs.declared.tier.Tier.{Tier}
 use Rattle.sarif_match.specs.KeyParts.{same_parts}
 use Rattle.sarif_match.specs.Pairing.{pairs_from}

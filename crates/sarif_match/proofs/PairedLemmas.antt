@@ -1,7 +1,7 @@
 -- The pairs of a tier are just the results that the rule pairs.
 use Rattle.std.proofs.Common.{◌≡◌, ℕ, ◌+◌, ◌<◌, zero, suc, Bool, not, List, [], ◌∷◌, ◌++◌, Option, Some, None, length, filter, slice_get, refl, sym, ap, ◌∙◌, subst, arith}
 use Rattle.std.proofs.lemmas.Bool.{not-true}
-use Rattle.sarif_records.specs.declared.record.Record.{Record}
+use Rattle.sarif_model.specs.declared.record.Record.{Record}
 use Rattle.sarif_match.specs.declared.tier.Tier.{Tier}
 use Rattle.sarif_match.specs.Key.{key_of}
 use Rattle.sarif_match.specs.KeyParts.{KeyParts, same_parts}

@@ -5,8 +5,8 @@ use Rattle.std.specs.Cmp.Lexicographic.{pointwise}
 use Rattle.std.proofs.lemmas.Bool.{false≢true, and_from, and_parts}
 use Rattle.std.proofs.lemmas.Bool.Decides.{Decides-eqb}
 use Rattle.std.proofs.lemmas.Slice.Eq.{bytes_eq-Decides}
-use Rattle.sarif_records.specs.declared.message.Message.{Message}
-use Rattle.sarif_records.specs.declared.place.Place.{Place}
+use Rattle.sarif_model.specs.declared.message.Message.{Message}
+use Rattle.sarif_model.specs.declared.place.Place.{Place}
 use Rattle.sarif_match.specs.KeyParts.{KeyParts, guid_parts, fingerprint_parts, partial_here_parts, partial_moved_parts, place_parts, same_parts, pairs_eq, place_eq, message_eq}
 use Rattle.sarif_match.specs.declared.tier_key.Key.{Key}
 use Rattle.sarif_match.specs.KeyParts.{parts_of}

@@ -3,12 +3,12 @@ use Rattle.std.proofs.Common.{◌≡◌, ℕ, Bool, true, false, cond, ◌&&◌,
 use Rattle.std.proofs.lemmas.Bool.{and_parts}
 use Rattle.std.specs.Prelude.{Some}
 use Rattle.std.proofs.lemmas.Bool.Decides.{Decides-eqb}
-use Rattle.sarif_records.specs.declared.record.Record.{Record}
-use Rattle.sarif_records.specs.declared.kinds.Kind.{Kind}
-use Rattle.sarif_records.specs.declared.kinds.Kind.TheVariants.{Pass, Undecided, Informational, NotApplicable, Review, Fail}
-use Rattle.sarif_records.specs.declared.kinds.Level.{Level}
-use Rattle.sarif_records.specs.declared.kinds.Level.TheVariants.{NoLevel, Note, Warning, Error}
-use Rattle.sarif_records.specs.declared.kinds.State.TheVariants.{Unchanged, Updated}
+use Rattle.sarif_model.specs.declared.record.Record.{Record}
+use Rattle.sarif_model.specs.declared.kinds.Kind.{Kind}
+use Rattle.sarif_model.specs.declared.kinds.Kind.TheVariants.{Pass, Undecided, Informational, NotApplicable, Review, Fail}
+use Rattle.sarif_model.specs.declared.kinds.Level.{Level}
+use Rattle.sarif_model.specs.declared.kinds.Level.TheVariants.{NoLevel, Note, Warning, Error}
+use Rattle.sarif_model.specs.declared.kinds.State.TheVariants.{Unchanged, Updated}
 use Rattle.sarif_match.specs.KeyParts.{message_eq, place_eq}
 use Rattle.sarif_match.specs.State.{kind_number, level_number, is_unchanged, state_of, IsUnchanged}
 use Rattle.sarif_match.proofs.PartsLemmas.{message_same, message_refl, place_same, place_refl}

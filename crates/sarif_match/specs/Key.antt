@@ -1,7 +1,7 @@
 -- The key of a result at each tier.
 use Rattle.std.specs.Prelude.{ℕ, List, Bool, Option, Some, None, option_map, if◌then◌else◌, is_some, ◌&&◌, not, bytes_eq, length, ◌==◌}
 use Rattle.std.specs.Map.{lookup}
-use Rattle.sarif_records.specs.declared.record.Record.{Record}
+use Rattle.sarif_model.specs.declared.record.Record.{Record}
 use Rattle.sarif_match.specs.declared.tier.Tier.{Tier}
 use Rattle.sarif_match.specs.declared.tier.Tier.TheVariants.{Guid, Fingerprint, PartialHere, PartialMoved, Place}
 use Rattle.sarif_match.specs.KeyParts.{KeyParts, guid_parts, fingerprint_parts, partial_here_parts, partial_moved_parts, place_parts}

@@ -1,8 +1,8 @@
 use Rattle.std.specs.Prelude.{ℕ, List, Bool, false, ◌&&◌, ◌==◌, bytes_eq}
 use Rattle.std.specs.Option.{option_eq}
 use Rattle.std.specs.Cmp.Lexicographic.{pointwise}
-use Rattle.sarif_records.specs.declared.message.Message.{Message}
-use Rattle.sarif_records.specs.declared.place.Place.{Place}
+use Rattle.sarif_model.specs.declared.message.Message.{Message}
+use Rattle.sarif_model.specs.declared.place.Place.{Place}
 use Rattle.sarif_match.specs.declared.tier_key.Key as borrowed
 use Rattle.sarif_match.specs.declared.tier_key.Key.TheVariants.{Guid, Fingerprint, PartialHere, PartialMoved, Place as AtPlace}
 

@@ -1,7 +1,7 @@
 -- Who is paired with whom, in the words of the rule.
 use Rattle.std.specs.Prelude.{◌≡◌, ℕ, List, ◌∷◌, ◌++◌, Bool, false, not, ◌&&◌, Option, Some, filter, length, nat_lt, slice_get}
 use Rattle.std.specs.Option.{option_and_then}
-use Rattle.sarif_records.specs.declared.record.Record.{Record}
+use Rattle.sarif_model.specs.declared.record.Record.{Record}
 use Rattle.sarif_match.specs.declared.tier.Tier.{Tier}
 use Rattle.sarif_match.specs.Key.{key_of}
 use Rattle.sarif_match.specs.KeyParts.{KeyParts, same_parts}

@@ -1,12 +1,12 @@
 -- The state of a result beside its partner in the baseline (SARIF 2.1.0, "baselineState property").
 use Rattle.std.specs.Prelude.{◌≡◌, ℕ, Bool, Option, Some, None, ◌&&◌, ◌==◌, if◌then◌else◌}
-use Rattle.sarif_records.specs.declared.record.Record.{Record}
-use Rattle.sarif_records.specs.declared.kinds.Kind.{Kind}
-use Rattle.sarif_records.specs.declared.kinds.Kind.TheVariants.{Pass, Undecided, Informational, NotApplicable, Review, Fail}
-use Rattle.sarif_records.specs.declared.kinds.Level.{Level}
-use Rattle.sarif_records.specs.declared.kinds.Level.TheVariants.{NoLevel, Note, Warning, Error}
-use Rattle.sarif_records.specs.declared.kinds.State.{State}
-use Rattle.sarif_records.specs.declared.kinds.State.TheVariants.{New, Unchanged, Updated}
+use Rattle.sarif_model.specs.declared.record.Record.{Record}
+use Rattle.sarif_model.specs.declared.kinds.Kind.{Kind}
+use Rattle.sarif_model.specs.declared.kinds.Kind.TheVariants.{Pass, Undecided, Informational, NotApplicable, Review, Fail}
+use Rattle.sarif_model.specs.declared.kinds.Level.{Level}
+use Rattle.sarif_model.specs.declared.kinds.Level.TheVariants.{NoLevel, Note, Warning, Error}
+use Rattle.sarif_model.specs.declared.kinds.State.{State}
+use Rattle.sarif_model.specs.declared.kinds.State.TheVariants.{New, Unchanged, Updated}
 use Rattle.sarif_match.specs.KeyParts.{place_eq, message_eq}
 
 -- the number of each kind and level, in the order of their declaration

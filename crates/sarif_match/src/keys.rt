@@ -7,7 +7,7 @@ ghost use Rattle.sarif_match.specs.declared.tier.Tier.TheVariants.{Guid, Fingerp
 
 use crate::tier::Tier;
 use crate::tier_key::Key;
-use sarif_records::{Record, Text};
+use sarif_model::{Record, Text};
 use std::alloc::AllocError;
 
 /// The key of a result at a tier, or `None` where it has none. The key borrows, so `AllocError`

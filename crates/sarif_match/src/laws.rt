@@ -3,8 +3,8 @@ ghost use Rattle.std.specs.Prelude.{◌≡◌, ◌↔◌, ◌⊎◌, ◌||◌, �
 ghost use Rattle.std.specs.Ordering.{nat_cmp};
 ghost use Rattle.std.specs.Cmp.Lexicographic.{slice_cmp};
 ghost use Rattle.std.specs.List.Sorted.{IsStrictlySortedBy};
-ghost use Rattle.sarif_records.specs.declared.record.Record.{Record};
-ghost use Rattle.sarif_records.specs.declared.kinds.State.TheVariants.{Unchanged};
+ghost use Rattle.sarif_model.specs.declared.record.Record.{Record};
+ghost use Rattle.sarif_model.specs.declared.kinds.State.TheVariants.{Unchanged};
 ghost use Rattle.sarif_match.specs.declared.tier_key.Key.{Key};
 ghost use Rattle.sarif_match.specs.KeyParts.{parts_of};
 ghost use Rattle.sarif_match.specs.Queues.{same_key};

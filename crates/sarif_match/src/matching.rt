@@ -9,7 +9,7 @@ use crate::progress::Progress;
 use crate::side::Side;
 use crate::tier::Tier;
 use crate::tier_list::tiers;
-use sarif_records::Record;
+use sarif_model::Record;
 use std::alloc::{AllocError, Global};
 use std::hash::{BuildHasher, BuildHasherDefault, FoldHasher};
 use std::marker::Model;

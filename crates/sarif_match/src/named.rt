@@ -7,7 +7,7 @@ ghost use Rattle.sarif_match.specs.declared.tier.Tier.TheVariants.{Fingerprint};
 
 use crate::tier_key::Key;
 use indexmap::IndexMap;
-use sarif_records::{Record, Text};
+use sarif_model::{Record, Text};
 use std::alloc::{AllocError, Global};
 use std::hash::BuildHasher;
 

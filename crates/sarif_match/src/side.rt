@@ -9,7 +9,7 @@ use crate::named::by_name;
 use crate::tier::Tier;
 use crate::tier_key::Key;
 use indexmap::IndexMap;
-use sarif_records::{Record, Text};
+use sarif_model::{Record, Text};
 use std::alloc::{AllocError, Global};
 use std::hash::BuildHasher;
 

@@ -3,7 +3,7 @@ ghost use Rattle.std.specs.Prelude.{◌≡◌};
 ghost use Rattle.std.specs.Option.{option_copied};
 ghost use Rattle.sarif_match.specs.State.{state_of};
 
-use sarif_records::{Record, State};
+use sarif_model::{Record, State};
 
 /// The baseline state of a current result beside its partner (SARIF 2.1.0, "baselineState
 /// property"): new without a partner, unchanged where kind, effective level, message and place are

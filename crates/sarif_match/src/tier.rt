@@ -1,5 +1,5 @@
 //! The tiers by which results are compared, from the surest to the weakest.
-use sarif_records::Text;
+use sarif_model::Text;
 
 /// One way to tell that two results are the same. A merge goes through the tiers in order, and each
 /// tier pairs only what the tiers before have left over.

@@ -1,5 +1,5 @@
 //! What two results must have in common to be paired at a tier.
-use sarif_records::{Message, Pairs, Place, Text};
+use sarif_model::{Message, Pairs, Place, Text};
 
 /// The key of a result at a tier, borrowed from the result. Keys of different tiers differ, and
 /// keys of one tier are compared and hashed by their parts.

@@ -5,7 +5,7 @@ ghost use Rattle.sarif_match.specs.Tiers.{names_of, with_names, tiers_of};
 ghost use Rattle.sarif_match.specs.declared.tier.Tier.TheVariants.{Fingerprint};
 
 use crate::tier::Tier;
-use sarif_records::{Record, Text};
+use sarif_model::{Record, Text};
 use std::alloc::{AllocError, Global};
 use std::collections::BTreeSet;
 

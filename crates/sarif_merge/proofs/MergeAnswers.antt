@@ -8,36 +8,37 @@ use Rattle.std.specs.List.{AllByRecursion}
 use Rattle.std.specs.declared.alloc.Global.{Global}
 use Rattle.std.specs.declared.vec.Vec.{Vec}
 use Rattle.json.specs.Token.{Token}
-use Rattle.json_index.specs.declared.indexing.IndexFault.{IndexFault}
-use Rattle.json_index.specs.Together.{AreIndexed}
-use Rattle.sarif_records.specs.Reading.{without_mark}
-use Rattle.sarif_records.specs.Run.{results_total}
+use Rattle.json_parts.specs.declared.indexing.IndexFault.{IndexFault}
+use Rattle.json_parts.specs.Together.{AreIndexed}
+use Rattle.json_parts.specs.Mark.{without_mark}
+use Rattle.sarif_model.specs.Run.{results_total}
 use Rattle.sarif_suppress.specs.File.{File}
 use Rattle.sarif_suppress.specs.Suppressing.{unused_of}
-use Rattle.sarif_sources.specs.declared.fault.MergeFault.{MergeFault}
-use Rattle.sarif_sources.specs.declared.fault.Source.TheVariants.{Log, Baseline}
+use Rattle.sarif_model.specs.declared.merge_fault.MergeFault.{MergeFault}
+use Rattle.sarif_model.specs.declared.merge_fault.Source.TheVariants.{Log, Baseline}
 use Rattle.sarif_counts.specs.declared.policy.Policy.{Policy}
-use Rattle.sarif_report.specs.declared.reporting.Reporting.{Reporting}
+use Rattle.sarif_findings.specs.declared.reporting.Reporting.{Reporting}
 use Rattle.sarif_counts.specs.CountOf.{count_of}
 use Rattle.sarif_counts.specs.Gate.{gate_of}
-use Rattle.sarif_write.specs.Drafts.{IsRun}
-use Rattle.sarif_judge.specs.Judging.{faults_of_runs, records_of, run_faults, skips, run_values}
-use Rattle.sarif_judge.specs.Outcomes.{all_outcomes}
-use Rattle.sarif_judge.specs.Placed.{Placed}
-use Rattle.sarif_assemble.specs.declared.judged.Judged.{Judged}
-use Rattle.sarif_assemble.specs.declared.merged.Merged.{Merged}
-use Rattle.sarif_assemble.specs.declared.prepared.Prepared.{Prepared}
-use Rattle.sarif_assemble.specs.Assembled.{IsMergedBy}
-use Rattle.sarif_assemble.specs.Prepared.{IsPrepared}
-use Rattle.sarif_assemble.specs.Judged.{placed_in, IsJudged}
-use Rattle.sarif_assemble.specs.LogBy.{leftover_runs, runs_by, runs_without_results}
-use Rattle.sarif_inputs.specs.Faults.{IsWanting, faults_of, file_faults, file_or_none, first, number_faults}
+use Rattle.sarif_results.specs.Drafts.{IsRun}
+use Rattle.sarif_runs.specs.Judging.{faults_of_runs, records_of, run_faults, skips, run_values}
+use Rattle.sarif_results.specs.Outcomes.{all_outcomes}
+use Rattle.sarif_runs.specs.Placed.{Placed}
+use Rattle.sarif_results.specs.declared.judged.Judged.{Judged}
+use Rattle.sarif_log.specs.declared.merged.Merged.{Merged}
+use Rattle.sarif_log.specs.declared.prepared.Prepared.{Prepared}
+use Rattle.sarif_log.specs.Assembled.{IsMergedBy}
+use Rattle.sarif_log.specs.Prepared.{IsPrepared}
+use Rattle.sarif_results.specs.Judged.{placed_in, IsJudged}
+use Rattle.sarif_log.specs.LogBy.{leftover_runs, runs_by, runs_without_results}
+use Rattle.sarif_model.specs.FirstFault.{IsWanting, first}
+use Rattle.sarif_inputs.specs.Faults.{faults_of, file_faults, file_or_none, number_faults}
 use Rattle.sarif_inputs.specs.Indexes.{AreIndexesOf}
 use Rattle.sarif_inputs.specs.Inputs.{Inputs, numbered, placed}
 use Rattle.sarif_inputs.specs.ReadSoFar.{sources_of}
 use Rattle.sarif_inputs.specs.SourceFaults.{source_faults}
 use Rattle.sarif_inputs.proofs.ReadFacts.{log_sides, baseline_sides, nothing_before}
-use Rattle.sarif_inputs.proofs.SourceAnswers.{still_first}
+use Rattle.sarif_model.proofs.SourceAnswers.{still_first}
 use Rattle.sarif_merge.specs.Given.{given}
 use Rattle.sarif_merge.specs.Merged.{IsMerged}
 use Rattle.sarif_merge.specs.MergedLog.{file_in}

@@ -7,28 +7,29 @@ use Rattle.serde_json.specs.Data.{Data, null, boolean, number, string, array, ob
 use Rattle.serde_json.specs.Find.{as_array, get_member}
 use Rattle.serde_json.specs.View.{items_of as items_as_data}
 use Rattle.serde_json.proofs.Views.{get_member-put}
-use Rattle.sarif_records.specs.declared.fault.Fault.{Fault}
-use Rattle.sarif_records.specs.declared.kinds.State.{State}
-use Rattle.sarif_records.specs.declared.record.Record.{Record}
-use Rattle.sarif_records.specs.Members.{elements}
-use Rattle.sarif_records.specs.Run.{elements_or_none, is_absent_result, result_at, results_of, results_total}
-use Rattle.sarif_rules.specs.Record.{record_of}
+use Rattle.sarif_model.specs.declared.fault.Fault.{Fault}
+use Rattle.sarif_model.specs.declared.kinds.State.{State}
+use Rattle.sarif_model.specs.declared.record.Record.{Record}
+use Rattle.sarif_model.specs.Members.{elements}
+use Rattle.sarif_model.specs.Run.{elements_or_none, is_absent_result, result_at, results_of, results_total}
+use Rattle.sarif_runs.specs.Record.{record_of}
 use Rattle.sarif_match.specs.Partners.{partners_of}
 use Rattle.sarif_match.specs.State.{state_of}
-use Rattle.sarif_sources.specs.declared.fault.At.{At}
-use Rattle.sarif_sources.specs.declared.fault.At.TheVariants.{Single}
-use Rattle.sarif_sources.specs.declared.fault.Source.TheVariants.{Log, Baseline}
-use Rattle.sarif_judge.specs.declared.item.Item.{Item}
-use Rattle.sarif_judge.specs.declared.item.Item.TheVariants.{Skipped}
-use Rattle.sarif_judge.specs.Judging.{faults_of_runs, first_bad, item_by, item_of, items_of, opening_fault, records_in, records_of, run_faults, skips, with_record, run_values}
-use Rattle.sarif_judge.specs.Placed.{Placed}
-use Rattle.sarif_write.specs.MergedRuns.{Listing, annotated_items, bare, merged_run, merged_runs, own_results, with_results, written, written_all}
-use Rattle.json_index.specs.Without.{without}
-use Rattle.sarif_records.proofs.RunOf.{elements_items_of}
-use Rattle.sarif_write.proofs.RunResults.{still_out, taken_out}
-use Rattle.sarif_assemble.specs.LogBy.{listing_of, partner_in, states_from, states_of}
-use Rattle.sarif_assemble.proofs.JudgedCounts.{no_fault, no_faults_here, no_faults_left, records_of_log, records_of_logs}
-use Rattle.sarif_assemble.proofs.Sides.{states_long}
+use Rattle.sarif_model.specs.declared.merge_fault.At.{At}
+use Rattle.sarif_model.specs.declared.merge_fault.At.TheVariants.{Single}
+use Rattle.sarif_model.specs.declared.merge_fault.Source.TheVariants.{Log, Baseline}
+use Rattle.sarif_runs.specs.declared.item.Item.{Item}
+use Rattle.sarif_runs.specs.declared.item.Item.TheVariants.{Skipped}
+use Rattle.sarif_runs.specs.Judging.{faults_of_runs, first_bad, item_by, item_of, items_of, opening_fault, records_in, records_of, run_faults, skips, with_record, run_values}
+use Rattle.sarif_runs.specs.Placed.{Placed}
+use Rattle.sarif_results.specs.Drafts.{Listing}
+use Rattle.sarif_log.specs.MergedRuns.{annotated_items, bare, merged_run, merged_runs, own_results, with_results, written, written_all}
+use Rattle.json_parts.specs.Without.{without}
+use Rattle.sarif_read.proofs.RunOf.{elements_items_of}
+use Rattle.sarif_log.proofs.RunResults.{still_out, taken_out}
+use Rattle.sarif_log.specs.LogBy.{listing_of, partner_in, states_from, states_of}
+use Rattle.sarif_results.proofs.JudgedCounts.{no_fault, no_faults_here, no_faults_left, records_of_log, records_of_logs}
+use Rattle.sarif_log.proofs.Sides.{states_long}
 use Rattle.sarif_inputs.specs.Faults.{faults_of, file_faults, file_or_none, number_faults}
 use Rattle.sarif_inputs.specs.Inputs.{Inputs, all_runs, all_sources, baseline_runs, input_runs}
 use Rattle.sarif_inputs.specs.SourceFaults.{source_faults}

@@ -5,17 +5,20 @@ use Rattle.std.specs.Prelude.{⊤}
 use Rattle.std.specs.List.{AllByRecursion}
 use Rattle.serde_json.specs.Data.{Data, null, boolean, number, string, array, object}
 use Rattle.serde_json.specs.Find.{get, as_array}
-use Rattle.sarif_records.specs.declared.fault.Fault.{Fault}
-use Rattle.sarif_records.specs.declared.fault.Fault.TheVariants.{BadRun, NotJson}
-use Rattle.sarif_records.specs.declared.fault.ReadFault.{ReadFault}
-use Rattle.sarif_records.specs.Members.{◌>>=◌, are_objects, elements, elements_of, if_objects, of_kind, unless_null}
-use Rattle.sarif_records.specs.Reading.{at_run, at_whole, check_each, check_external, check_log, check_results, check_run, check_tool, json_of, log_of, log_of_value, ok_or, runs_of, without_mark}
-use Rattle.sarif_records.specs.Run.{elements_or_none}
-use Rattle.sarif_records.specs.Stripping.{stripped}
-use Rattle.sarif_records.proofs.WholeRuns.{bind_ok}
-use Rattle.sarif_write.specs.Drafts.{IsObject, IsRun}
-use Rattle.sarif_judge.specs.Placed.{Placed}
-use Rattle.sarif_judge.specs.Judging.{run_values}
+use Rattle.sarif_model.specs.declared.fault.Fault.{Fault}
+use Rattle.sarif_model.specs.declared.fault.Fault.TheVariants.{BadRun, NotJson}
+use Rattle.sarif_read.specs.declared.read_fault.ReadFault.{ReadFault}
+use Rattle.sarif_model.specs.Members.{◌>>=◌, are_objects, elements, elements_of, if_objects, of_kind, unless_null}
+use Rattle.sarif_read.specs.Reading.{at_run, at_whole, check_each, check_external, check_log, check_results, check_run, check_tool, log_of, log_of_value, ok_or}
+use Rattle.json_parts.specs.Indexed.{json_of}
+use Rattle.sarif_model.specs.Run.{runs_of}
+use Rattle.json_parts.specs.Mark.{without_mark}
+use Rattle.sarif_model.specs.Run.{elements_or_none}
+use Rattle.sarif_read.specs.Stripping.{stripped}
+use Rattle.sarif_read.proofs.WholeRuns.{bind_ok}
+use Rattle.sarif_results.specs.Drafts.{IsObject, IsRun}
+use Rattle.sarif_runs.specs.Placed.{Placed}
+use Rattle.sarif_runs.specs.Judging.{run_values}
 use Rattle.sarif_inputs.specs.Inputs.{Sourced, placed, placed_from, readable, runs_in}
 use Rattle.sarif_inputs.proofs.SourceRuns.{data_placed}
 

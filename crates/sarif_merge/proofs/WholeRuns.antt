@@ -7,17 +7,20 @@ use Rattle.serde_json.specs.Data.{Data, string, array, Items, Members, put}
 use Rattle.serde_json.specs.Find.{get_member}
 use Rattle.serde_json.specs.View.{items_of}
 use Rattle.serde_json.specs.Written.{has_float, items_have_float, members_have_float}
-use Rattle.sarif_records.specs.declared.kinds.State.{State}
-use Rattle.sarif_records.specs.declared.kinds.State.TheVariants.{Absent}
-use Rattle.sarif_records.specs.declared.record.Record.{Record}
-use Rattle.sarif_records.specs.Level.{level_name}
-use Rattle.sarif_records.specs.State.{state_name}
-use Rattle.sarif_records.specs.Members.{elements}
-use Rattle.sarif_records.specs.Run.{results_of, is_absent_result}
-use Rattle.sarif_write.specs.Annotated.{annotated_members, own_suppressions}
-use Rattle.sarif_write.specs.MergedRuns.{Listing, written, written_all, annotated_items, own_results, with_results, bare, merged_run, merged_runs, present, keep_if, unmatched, with_absent, if_any, absent_runs}
-use Rattle.sarif_write.proofs.WholeListing.{items_whole}
-use Rattle.sarif_write.proofs.WholeMembers.{put_whole, bare_whole, on_members_whole, list_float, found_whole, items_in_whole, array_whole, elements_whole, results_whole, with_results_whole}
+use Rattle.sarif_model.specs.declared.kinds.State.{State}
+use Rattle.sarif_model.specs.declared.kinds.State.TheVariants.{Absent}
+use Rattle.sarif_model.specs.declared.record.Record.{Record}
+use Rattle.sarif_model.specs.Level.{level_name}
+use Rattle.sarif_model.specs.State.{state_name}
+use Rattle.sarif_model.specs.Members.{elements}
+use Rattle.sarif_model.specs.Run.{results_of, is_absent_result}
+use Rattle.sarif_results.specs.Annotated.{annotated_members, own_suppressions}
+use Rattle.sarif_results.specs.Drafts.{Listing}
+use Rattle.sarif_log.specs.MergedRuns.{written, written_all, annotated_items, own_results, with_results, bare, merged_run, merged_runs, keep_if, unmatched, with_absent, if_any, absent_runs}
+use Rattle.sarif_model.specs.Run.{present}
+use Rattle.sarif_results.proofs.WholeListing.{items_whole}
+use Rattle.sarif_results.proofs.WholeMembers.{put_whole, on_members_whole, list_float, found_whole, items_in_whole, array_whole, elements_whole, results_whole}
+use Rattle.sarif_log.proofs.WholeRunMembers.{bare_whole, with_results_whole}
 
 both : (d : Data) (ds : List Data) → has_float d ≡ false → list_any has_float ds ≡ false → list_any has_float (d ∷ ds) ≡ false
 both d ds of_d of_ds = rw (of_d, of_ds)

@@ -1,15 +1,16 @@
 -- What a merge from readers into a writer gives, and why it is refused.
 use Rattle.std.specs.Prelude.{◌≡◌, ℕ, ◌<◌, ◌≤◌, List, [], ◌⊎◌, Option, Some, length, take}
 use Rattle.std.specs.Io.KnownBytes.{Appends}
-use Rattle.sarif_sources.specs.declared.fault.MergeFault.{MergeFault}
-use Rattle.sarif_sources.specs.declared.readers.Readers.{Readers}
-use Rattle.sarif_sources.specs.declared.readers.ReadersFault.{ReadersFault}
-use Rattle.sarif_sources.specs.Fault.{fault_of_readers}
-use Rattle.sarif_sources.specs.WereRead.{SourceContents, HasStoppedAt, WereRead}
+use Rattle.sarif_model.specs.declared.merge_fault.MergeFault.{MergeFault}
+use Rattle.sarif_streams.specs.declared.readers.Readers.{Readers}
+use Rattle.sarif_streams.specs.declared.readers.ReadersFault.{ReadersFault}
+use Rattle.sarif_streams.specs.ReadersFault.{fault_of_readers}
+use Rattle.sarif_streams.specs.WereRead.{SourceContents, HasStoppedAt, WereRead}
 use Rattle.sarif_counts.specs.declared.policy.Policy.{Policy}
-use Rattle.sarif_report.specs.declared.reporting.Reporting.{Reporting}
-use Rattle.sarif_assemble.specs.declared.merged.Merged.{Merged}
-use Rattle.sarif_inputs.specs.Faults.{IsTooMany, IsWanting, faults_of, first_fault}
+use Rattle.sarif_findings.specs.declared.reporting.Reporting.{Reporting}
+use Rattle.sarif_log.specs.declared.merged.Merged.{Merged}
+use Rattle.sarif_inputs.specs.Faults.{IsTooMany, faults_of, first_fault}
+use Rattle.sarif_model.specs.FirstFault.{IsWanting}
 use Rattle.sarif_merge.specs.Given.{given_by}
 use Rattle.sarif_merge.specs.Merged.{IsMerged}
 use Rattle.sarif_merge.specs.MergedLog.{output_text}

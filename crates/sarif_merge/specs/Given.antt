@@ -1,7 +1,7 @@
 -- What a merge is given.
 use Rattle.std.specs.Prelude.{ℕ, List, Option}
-use Rattle.sarif_sources.specs.declared.readers.SourceBytes.{SourceBytes}
-use Rattle.sarif_sources.specs.WereRead.{SourceContents, contents_of}
+use Rattle.sarif_streams.specs.declared.readers.SourceBytes.{SourceBytes}
+use Rattle.sarif_streams.specs.WereRead.{SourceContents, contents_of}
 use Rattle.sarif_inputs.specs.Inputs.{Inputs}
 use Rattle.sarif_counts.specs.declared.options.Options.{Options}
 

@@ -3,5 +3,4 @@ pub mod Given
 pub mod Merged
 pub mod MergedLog
 pub mod OwnResult
-pub mod Wanting
 pub mod Prepared

@@ -3,11 +3,11 @@ use Rattle.std.specs.Prelude.{◌≡◌, ℕ, ◌++◌, List, [], Option}
 use Rattle.serde_json.specs.Data.{Data}
 use Rattle.serde_json.specs.Written.{compact_text}
 use Rattle.sarif_counts.specs.declared.policy.Policy.{Policy}
-use Rattle.sarif_report.specs.declared.reporting.Reporting.{Reporting}
-use Rattle.sarif_write.specs.Log.{log_with}
-use Rattle.sarif_assemble.specs.declared.merged.Merged.{Merged}
-use Rattle.sarif_assemble.specs.Assembled.{HasGate}
-use Rattle.sarif_assemble.specs.Told.{told_of}
+use Rattle.sarif_findings.specs.declared.reporting.Reporting.{Reporting}
+use Rattle.sarif_log.specs.Log.{log_with}
+use Rattle.sarif_log.specs.declared.merged.Merged.{Merged}
+use Rattle.sarif_log.specs.Assembled.{HasGate}
+use Rattle.sarif_log.specs.Told.{told_of}
 use Rattle.sarif_inputs.specs.Faults.{faults_of}
 use Rattle.sarif_inputs.specs.Inputs.{Inputs}
 use Rattle.sarif_merge.specs.MergedLog.{output_text, runs_written, unused_in, without_of, written_inputs}

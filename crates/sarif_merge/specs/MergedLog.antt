@@ -2,13 +2,13 @@
 use Rattle.std.specs.Prelude.{ℕ, List, [], None, Result, Ok, Err}
 use Rattle.serde_json.specs.Data.{Data}
 use Rattle.serde_json.specs.Written.{compact_text}
-use Rattle.sarif_records.specs.declared.record.Record.{Record}
+use Rattle.sarif_model.specs.declared.record.Record.{Record}
 use Rattle.sarif_suppress.specs.File.{File}
 use Rattle.sarif_suppress.specs.Suppressing.{unused_of}
 use Rattle.sarif_suppress.specs.declared.fault.SuppressFault.{SuppressFault}
 use Rattle.sarif_counts.specs.declared.policy.Policy.{Policy}
-use Rattle.sarif_judge.specs.Judging.{records_of, run_values}
-use Rattle.sarif_assemble.specs.LogBy.{current_runs, merged_by, runs_by, runs_without_results}
+use Rattle.sarif_runs.specs.Judging.{records_of, run_values}
+use Rattle.sarif_log.specs.LogBy.{current_runs, merged_by, runs_by, runs_without_results}
 use Rattle.sarif_inputs.specs.Faults.{file_or_none}
 use Rattle.sarif_inputs.specs.Inputs.{Inputs, input_runs, baseline_runs}
 

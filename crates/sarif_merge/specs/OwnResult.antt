@@ -1,13 +1,13 @@
 -- A result of an input run, and what is written for it.
 use Rattle.std.specs.Prelude.{ℕ, ◌+◌, ◌<◌, List, Option, None, length, slice_index_or, take}
 use Rattle.serde_json.specs.Data.{Data, null}
-use Rattle.sarif_records.specs.declared.record.Record.{Record}
-use Rattle.sarif_records.specs.Run.{results_of, results_total}
+use Rattle.sarif_model.specs.declared.record.Record.{Record}
+use Rattle.sarif_model.specs.Run.{results_of, results_total}
 use Rattle.sarif_match.specs.Partners.{partners_of}
 use Rattle.sarif_match.specs.State.{state_of}
-use Rattle.sarif_judge.specs.Judging.{records_of, run_values}
-use Rattle.sarif_write.specs.MergedRuns.{written}
-use Rattle.sarif_assemble.specs.LogBy.{listing_of, partner_in}
+use Rattle.sarif_runs.specs.Judging.{records_of, run_values}
+use Rattle.sarif_log.specs.MergedRuns.{written}
+use Rattle.sarif_log.specs.LogBy.{listing_of, partner_in}
 use Rattle.sarif_inputs.specs.Inputs.{Inputs, input_runs, baseline_runs}
 use Rattle.sarif_merge.specs.MergedLog.{current_of, file_given, written_inputs}
 

@@ -1,11 +1,12 @@
 -- What reading, judging and matching answer before the log is assembled. No public clause of the merge speaks of it.
 use Rattle.std.specs.Prelude.{◌≡◌, ◌⊎◌, [], Option, Some, Result, Ok, Err}
-use Rattle.sarif_sources.specs.declared.fault.MergeFault.{MergeFault}
-use Rattle.sarif_sources.specs.declared.fault.Source.TheVariants.{Log, Baseline}
-use Rattle.sarif_report.specs.declared.reporting.Reporting.{Reporting}
-use Rattle.sarif_assemble.specs.declared.prepared.Prepared.{Prepared}
-use Rattle.sarif_assemble.specs.Prepared.{IsPrepared}
-use Rattle.sarif_inputs.specs.Faults.{IsWanting, faults_of, file_or_none, first_fault}
+use Rattle.sarif_model.specs.declared.merge_fault.MergeFault.{MergeFault}
+use Rattle.sarif_model.specs.declared.merge_fault.Source.TheVariants.{Log, Baseline}
+use Rattle.sarif_findings.specs.declared.reporting.Reporting.{Reporting}
+use Rattle.sarif_log.specs.declared.prepared.Prepared.{Prepared}
+use Rattle.sarif_log.specs.Prepared.{IsPrepared}
+use Rattle.sarif_model.specs.FirstFault.{IsWanting}
+use Rattle.sarif_inputs.specs.Faults.{faults_of, file_or_none, first_fault}
 use Rattle.sarif_inputs.specs.Inputs.{Inputs, numbered, placed}
 use Rattle.sarif_merge.specs.MergedLog.{file_in}
 

@@ -1,8 +1,6 @@
 //! The merge of SARIF 2.1.0 logs, from bytes or from readers into a writer.
 #![tactic(auto)]
 
-mod first_fault;
-mod judged;
 mod laws;
 mod merge;
 mod merge_sources;
@@ -11,10 +9,11 @@ mod preparing;
 pub use laws::{each_result_is_written_as_its_own, merged_runs_hold_no_fraction};
 pub use merge::merge_bytes;
 pub use merge_sources::{merge_readers, merge_to};
-pub use sarif_assemble::{Asked, Merged};
 pub use sarif_counts::{Counts, Options, Policy, States, Verdict, hits, summary, verdict};
 pub use sarif_gather::{Gate, NoGate};
-pub use sarif_sources::{
-    At, Cause, Counted, Failed, MergeFault, Readers, ReadersFault, Source, SourceBytes,
-    SourceFault, read_source, sources_are_read_in_one_way, write_out,
+pub use sarif_log::{Asked, Merged};
+pub use sarif_model::{At, Cause, MergeFault, Source};
+pub use sarif_streams::{
+    Counted, Failed, Readers, ReadersFault, SourceBytes, SourceFault, read_source,
+    sources_are_read_in_one_way, write_out,
 };

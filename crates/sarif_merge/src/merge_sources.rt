@@ -2,24 +2,25 @@
 ghost use Rattle.std.specs.Prelude.{◌≡◌, ◌<◌, ◌^◌, false, Ok, None, IfOk, IfErr};
 ghost use Rattle.std.specs.List.{All};
 ghost use Rattle.std.specs.Io.KnownBytes.{Appends};
-ghost use Rattle.sarif_sources.specs.Counted.{inner_of, failed_calls, RisesIf};
-ghost use Rattle.sarif_sources.specs.Failing.{read_failed_in, write_failed_in};
-ghost use Rattle.sarif_sources.specs.OptionalReader.{failed_calls_if};
-ghost use Rattle.sarif_assemble.specs.Beside.{IsMadeBy};
-ghost use Rattle.sarif_assemble.specs.Told.{reporting_in};
+ghost use Rattle.sarif_streams.specs.Counted.{inner_of, failed_calls, RisesIf};
+ghost use Rattle.sarif_model.specs.MergeFault.{read_failed_in, write_failed_in};
+ghost use Rattle.sarif_streams.specs.OptionalReader.{failed_calls_if};
+ghost use Rattle.sarif_log.specs.Beside.{IsMadeBy};
+ghost use Rattle.sarif_log.specs.Told.{reporting_in};
 ghost use Rattle.sarif_merge.specs.FromReaders.{IsMergedFrom, IsPartlyWritten, IsRefused};
-ghost use Rattle.sarif_sources.specs.WereRead.{failures, NoNumberFalls};
-ghost use Rattle.sarif_sources.specs.declared.fault.At.TheVariants.{Whole};
-ghost use Rattle.sarif_sources.specs.declared.fault.Cause.TheVariants.{WriteFailed};
-ghost use Rattle.sarif_sources.specs.declared.fault.Source.TheVariants.{Output};
+ghost use Rattle.sarif_streams.specs.WereRead.{failures, NoNumberFalls};
+ghost use Rattle.sarif_model.specs.declared.merge_fault.At.TheVariants.{Whole};
+ghost use Rattle.sarif_model.specs.declared.merge_fault.Cause.TheVariants.{WriteFailed};
+ghost use Rattle.sarif_model.specs.declared.merge_fault.Source.TheVariants.{Output};
 
 use crate::merge::{merge_few, tell_nothing};
-use sarif_assemble::{Asked, Merged};
 use sarif_counts::{Counts, Options};
+use sarif_findings::Finding;
 use sarif_gather::Gate;
 use sarif_inputs::check_numbers;
-use sarif_report::Finding;
-use sarif_sources::{At, Cause, Counted, MergeFault, Readers, Source, read_sources, write_out};
+use sarif_log::{Asked, Merged};
+use sarif_model::{At, Cause, MergeFault, Source};
+use sarif_streams::{Counted, Readers, read_sources, write_out};
 use std::alloc::{AllocError, Global};
 use std::io::{Read, Write};
 use std::sync::Wait;
@@ -34,7 +35,7 @@ use std::thread::Threads;
 /// the first source that can't be read to its end; else the first fault of what was read, as
 /// [`merge_bytes`](crate::merge_bytes) answers it. `OutOfMemory`, where memory is wanting, also in `tell`, and
 /// `NoWorker`, where a thread can't be started, stand nowhere.
-#[tactic(auto, using(sarif_sources::proofs::QuietFaults::same_failure, sarif_sources::proofs::QuietFaults::no_write))]
+#[tactic(auto, using(sarif_streams::proofs::QuietReaders::same_failure, sarif_streams::proofs::QuietReaders::no_write))]
 pub fn merge_readers<
     R: Read,
     G: Gate + Sync,

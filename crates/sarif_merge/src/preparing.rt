@@ -1,22 +1,23 @@
 //! What a merge writes: the sources are indexed, their results judged and matched.
 ghost use Rattle.std.specs.Prelude.{◌≡◌, ◌≤◌, ◌+◌, ◌++◌, ℕ, List, length, option_map, IfOk};
-ghost use Rattle.sarif_judge.specs.Judging.{faults_of_runs};
-ghost use Rattle.sarif_sources.specs.Failing.{IsQuiet};
-ghost use Rattle.sarif_assemble.specs.Prepared.{IsPrepared};
-ghost use Rattle.sarif_assemble.specs.Told.{reporting_in};
-ghost use Rattle.sarif_inputs.specs.Faults.{Answers};
+ghost use Rattle.sarif_runs.specs.Judging.{faults_of_runs};
+ghost use Rattle.sarif_model.specs.MergeFault.{IsQuiet};
+ghost use Rattle.sarif_log.specs.Prepared.{IsPrepared};
+ghost use Rattle.sarif_log.specs.Told.{reporting_in};
+ghost use Rattle.sarif_model.specs.FirstFault.{Answers};
 ghost use Rattle.sarif_inputs.specs.Inputs.{numbered, placed};
 ghost use Rattle.sarif_inputs.specs.Runs.{AreRunsOf};
-ghost use Rattle.sarif_sources.specs.declared.fault.Source.TheVariants as source;
+ghost use Rattle.sarif_model.specs.declared.merge_fault.Source.TheVariants as source;
 ghost use Rattle.sarif_merge.specs.Given.{given, inputs_of};
 ghost use Rattle.sarif_merge.specs.Prepared.{IsPreparationOf};
 
-use crate::judged::judge_runs;
 use json::Scratch;
-use sarif_assemble::{Asked, Prepared, prepare};
 use sarif_gather::Gate;
 use sarif_inputs::{Runs, index_sources, open_sources, read_file};
-use sarif_sources::{MergeFault, SourceBytes};
+use sarif_judge::judge_runs;
+use sarif_log::{Asked, Prepared, prepare};
+use sarif_model::MergeFault;
+use sarif_streams::SourceBytes;
 use sarif_suppress::Suppressions;
 use std::alloc::{AllocError, Global};
 use std::sync::Wait;

@@ -1,7 +1,7 @@
 -- The texts of reports that are asked for.
 use Rattle.std.proofs.Common.{◌≡◌, ℕ, List, Bool, Option, Some, None, is_some, if◌then◌else◌, refl, ap, ◌∙◌}
-use Rattle.sarif_report.specs.declared.report.Report.{Report}
-use Rattle.sarif_report.specs.declared.report.Report.TheVariants as kind
+use Rattle.sarif_reports.specs.declared.report.Report.{Report}
+use Rattle.sarif_reports.specs.declared.report.Report.TheVariants as kind
 use Rattle.sarif_request.specs.declared.reports.Reports.{Reports}
 use Rattle.sarif_program.specs.Beside.{AreBeside}
 use Rattle.sarif_program.specs.Reports.{text_if, texts_for}

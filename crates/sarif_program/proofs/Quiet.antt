@@ -1,10 +1,10 @@
 -- A refusal that is no failed read and no failed write has status 2.
 use Rattle.std.proofs.Common.{◌≡◌, ℕ, ◌+◌, Bool, true, false, nat_eq, arith, refl}
-use Rattle.sarif_sources.specs.declared.fault.Cause.{Cause}
-use Rattle.sarif_sources.specs.declared.fault.Cause.TheVariants.{ReadFailed, WriteFailed}
-use Rattle.sarif_sources.specs.Counted.{RisesIf}
-use Rattle.sarif_sources.specs.Failing.{is_read_failed, is_write_failed}
-use Rattle.sarif_sources.specs.Fault.{exit_status}
+use Rattle.sarif_model.specs.declared.merge_fault.Cause.{Cause}
+use Rattle.sarif_model.specs.declared.merge_fault.Cause.TheVariants.{ReadFailed, WriteFailed}
+use Rattle.sarif_streams.specs.Counted.{RisesIf}
+use Rattle.sarif_model.specs.MergeFault.{is_read_failed, is_write_failed}
+use Rattle.sarif_model.specs.MergeFault.{exit_status}
 
 pub quiet_status : (cause : Cause) → is_read_failed cause ≡ false → is_write_failed cause ≡ false → exit_status cause ≡ 2
 quiet_status ReadFailed read written = cc

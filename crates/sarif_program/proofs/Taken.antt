@@ -1,9 +1,9 @@
 -- Reports whose writers took their texts were written.
 use Rattle.std.proofs.Common.{◌≡◌, ℕ, List, Option, Some, None, subst}
-use Rattle.sarif_report.specs.declared.report.Report.{Report}
-use Rattle.sarif_report.specs.declared.report.Report.TheVariants as kind
+use Rattle.sarif_reports.specs.declared.report.Report.{Report}
+use Rattle.sarif_reports.specs.declared.report.Report.TheVariants as kind
 use Rattle.sarif_request.specs.declared.reports.Reports.{Reports}
-use Rattle.sarif_sources.specs.declared.counted.Counted.{Counted}
+use Rattle.sarif_streams.specs.declared.counted.Counted.{Counted}
 use Rattle.sarif_program.specs.Reports.{text_if, texts_for, AreTaken, AreWritten, IsTaken, IsWritten}
 
 one_taken : {W : Type 0} (contents : W → Option (List ℕ)) (text : List ℕ) (old new : Option (Counted W))

@@ -1,8 +1,8 @@
 -- The texts of reports that are made one after another, beside that for GitLab.
 -- No public clause of the merge speaks of it.
 use Rattle.std.specs.Prelude.{◌≡◌, ℕ, List}
-use Rattle.sarif_report.specs.declared.report.Report.{Report}
-use Rattle.sarif_report.specs.declared.report.Report.TheVariants as report
+use Rattle.sarif_reports.specs.declared.report.Report.{Report}
+use Rattle.sarif_reports.specs.declared.report.Report.TheVariants as report
 use Rattle.sarif_request.specs.declared.reports.Reports.{Reports}
 use Rattle.sarif_program.specs.Reports.{text_if}
 

@@ -3,17 +3,17 @@ use Rattle.std.specs.Prelude.{◌≡◌, ◌<◌, ◌+◌, ◌^◌, ℕ, List, O
 use Rattle.std.specs.Io.KnownBytes.{Appends}
 use Rattle.std.specs.declared.alloc.Global.{Global}
 use Rattle.std.specs.declared.vec.Vec.{Vec}
-use Rattle.sarif_assemble.specs.declared.merged.Merged.{Merged}
+use Rattle.sarif_log.specs.declared.merged.Merged.{Merged}
 use Rattle.sarif_counts.specs.declared.counts.Counts.{Counts}
 use Rattle.sarif_counts.specs.Counts.{count_at}
-use Rattle.sarif_report.specs.declared.finding.Finding.{Finding}
-use Rattle.sarif_report.specs.declared.report.Report.{Report}
-use Rattle.sarif_report.specs.declared.report.Report.TheVariants as report
-use Rattle.sarif_report.specs.declared.reporting.Reporting.{Reporting}
-use Rattle.sarif_report.specs.Report.{report_of}
-use Rattle.sarif_sources.specs.declared.counted.Counted.{Counted}
-use Rattle.sarif_sources.specs.Counted.{inner_of}
-use Rattle.sarif_sources.specs.OptionalReader.{failed_calls_if}
+use Rattle.sarif_findings.specs.declared.finding.Finding.{Finding}
+use Rattle.sarif_reports.specs.declared.report.Report.{Report}
+use Rattle.sarif_reports.specs.declared.report.Report.TheVariants as report
+use Rattle.sarif_findings.specs.declared.reporting.Reporting.{Reporting}
+use Rattle.sarif_reports.specs.Report.{report_of}
+use Rattle.sarif_streams.specs.declared.counted.Counted.{Counted}
+use Rattle.sarif_streams.specs.Counted.{inner_of}
+use Rattle.sarif_streams.specs.OptionalReader.{failed_calls_if}
 use Rattle.sarif_request.specs.declared.reports.Reports.{Reports}
 use Rattle.sarif_request.specs.ForReport.{are_none}
 use Rattle.sarif_request.specs.declared.request.Request.{Request}

@@ -1,6 +1,6 @@
 -- What takes the outputs of a run.
 use Rattle.std.specs.Prelude.{ℕ, ◌+◌}
-use Rattle.sarif_sources.specs.Counted.{failed_calls}
+use Rattle.sarif_streams.specs.Counted.{failed_calls}
 use Rattle.sarif_program.specs.Reports.{report_failures}
 use Rattle.sarif_program.specs.declared.writers.Writers.{Writers}
 

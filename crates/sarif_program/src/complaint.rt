@@ -1,9 +1,10 @@
 //! The line that tells what stopped a run.
 ghost use Rattle.std.specs.Prelude.{◌≡◌, ◌<◌, ◌^◌, None, Some};
-ghost use Rattle.sarif_sources.specs.Counted.{failed_calls};
+ghost use Rattle.sarif_streams.specs.Counted.{failed_calls};
 
-use sarif_merge::{Counted, MergeFault, write_out};
-use sarif_report::Report;
+use sarif_model::MergeFault;
+use sarif_reports::Report;
+use sarif_streams::{Counted, write_out};
 use std::fmt;
 use std::io::{Cursor, Write};
 

@@ -1,8 +1,8 @@
 //! How a run ends: what is told, and with which exit status.
 ghost use Rattle.std.specs.Prelude.{◌≡◌, ◌<◌, ◌≤◌, ◌^◌, Some, nat_eq};
 ghost use Rattle.std.specs.Io.KnownBytes.{Appends};
-ghost use Rattle.sarif_sources.specs.Counted.{inner_of, failed_calls, RisesIf};
-ghost use Rattle.sarif_sources.specs.Fault.{exit_status};
+ghost use Rattle.sarif_streams.specs.Counted.{inner_of, failed_calls, RisesIf};
+ghost use Rattle.sarif_model.specs.MergeFault.{exit_status};
 ghost use Rattle.sarif_program.specs.Reports.{AreTaken, HaveRoom};
 ghost use Rattle.sarif_program.specs.Status.{verdict_status};
 ghost use Rattle.sarif_program.specs.Writing.{writer_failures};
@@ -12,7 +12,9 @@ use crate::complaint::{Complaint, Complaints};
 use crate::telling::Texts;
 use crate::writers::Writers;
 use crate::writing::{Lost, put_all};
-use sarif_merge::{At, Cause, MergeFault, Merged, Source, Verdict};
+use sarif_counts::Verdict;
+use sarif_log::Merged;
+use sarif_model::{At, Cause, MergeFault, Source};
 use std::io::Write;
 
 /// The status of an accepted merge.

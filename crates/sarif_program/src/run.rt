@@ -2,17 +2,17 @@
 ghost use Rattle.std.specs.Prelude.{◌≡◌, [], ◌<◌, ◌≤◌, ◌+◌, ◌^◌, false, nat_eq, IfOk, Ok};
 ghost use Rattle.std.specs.List.{All};
 ghost use Rattle.std.specs.Io.KnownBytes.{Appends};
-ghost use Rattle.sarif_assemble.specs.declared.merged.Merged.{Merged as Outcome};
-ghost use Rattle.sarif_assemble.specs.Beside.{IsMadeBy};
-ghost use Rattle.sarif_sources.specs.Counted.{inner_of, failed_calls, RisesIf};
-ghost use Rattle.sarif_sources.specs.Failing.{read_failed_in, write_failed_in};
+ghost use Rattle.sarif_log.specs.declared.merged.Merged.{Merged as Outcome};
+ghost use Rattle.sarif_log.specs.Beside.{IsMadeBy};
+ghost use Rattle.sarif_streams.specs.Counted.{inner_of, failed_calls, RisesIf};
+ghost use Rattle.sarif_model.specs.MergeFault.{read_failed_in, write_failed_in};
 ghost use Rattle.sarif_counts.specs.Counts.{count_at};
 ghost use Rattle.sarif_inputs.specs.Faults.{faults_of};
-ghost use Rattle.sarif_sources.specs.OptionalReader.{failed_calls_if};
+ghost use Rattle.sarif_streams.specs.OptionalReader.{failed_calls_if};
 ghost use Rattle.sarif_counts.specs.Summary.{summary_of};
 ghost use Rattle.sarif_merge.specs.FromReaders.{IsMergedFrom};
 ghost use Rattle.sarif_merge.specs.Given.{given_by};
-ghost use Rattle.sarif_sources.specs.WereRead.{failures, AllTell, NoNumberFalls, SourceContents, WereRead};
+ghost use Rattle.sarif_streams.specs.WereRead.{failures, AllTell, NoNumberFalls, SourceContents, WereRead};
 ghost use Rattle.sarif_program.specs.Reports.{AreWritten, HaveRoom, report_for, report_with, reporting_for, texts_for};
 ghost use Rattle.sarif_program.specs.Status.{verdict_status};
 ghost use Rattle.sarif_program.specs.Writing.{writer_failures};
@@ -21,13 +21,14 @@ use crate::complaint::Complaints;
 use crate::ending::{accept, refuse};
 use crate::telling::{Texts, texts_of};
 use crate::writers::Writers;
-use sarif_merge::{
-    Asked, Counts, MergeFault, Merged, NoGate, Options, Readers, merge_readers,
-    sources_are_read_in_one_way,
-};
-use sarif_records::Text;
-use sarif_report::{Finding, Reporting};
+use sarif_counts::{Counts, Options};
+use sarif_findings::{Finding, Reporting};
+use sarif_gather::NoGate;
+use sarif_log::{Asked, Merged};
+use sarif_merge::merge_readers;
+use sarif_model::{MergeFault, Text};
 use sarif_request::{Reports, Request};
+use sarif_streams::{Readers, sources_are_read_in_one_way};
 use std::alloc::{AllocError, Global};
 use std::io::{Read, Write};
 use std::sync::Wait;

@@ -2,14 +2,15 @@
 ghost use Rattle.std.specs.Prelude.{◌≡◌, ◌≤◌, IfOk, Some, None, if◌then◌else◌};
 ghost use Rattle.sarif_counts.specs.Counts.{count_at};
 ghost use Rattle.sarif_counts.specs.Summary.{summary_of};
-ghost use Rattle.sarif_report.specs.declared.report.Report.TheVariants as kind;
-ghost use Rattle.sarif_report.specs.Report.{report_of};
+ghost use Rattle.sarif_reports.specs.declared.report.Report.TheVariants as kind;
+ghost use Rattle.sarif_reports.specs.Report.{report_of};
 ghost use Rattle.sarif_program.specs.Beside.{AreBeside};
 ghost use Rattle.sarif_program.specs.Reports.{report_with, texts_for};
 
-use sarif_merge::{Counts, Policy, summary};
-use sarif_records::Text;
-use sarif_report::{Finding, Report, Told, report_text};
+use sarif_counts::{Counts, Policy, summary};
+use sarif_findings::Finding;
+use sarif_model::Text;
+use sarif_reports::{Report, Told, report_text};
 use sarif_request::{Reports, Request};
 use std::alloc::{AllocError, Global};
 use std::thread;

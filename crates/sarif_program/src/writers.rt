@@ -1,6 +1,6 @@
 //! Where the texts of a run go.
-use sarif_merge::Counted;
 use sarif_request::Reports;
+use sarif_streams::Counted;
 
 /// Where the texts of a run go.
 #[derive(Debug, Drop)]

@@ -1,17 +1,17 @@
 //! Writing the texts of an accepted merge.
 ghost use Rattle.std.specs.Prelude.{◌≡◌, ◌<◌, ◌≤◌, ◌^◌, OnOk, IfErr, is_err};
 ghost use Rattle.std.specs.Io.KnownBytes.{Appends};
-ghost use Rattle.sarif_sources.specs.Counted.{inner_of, failed_calls, RisesIf};
-ghost use Rattle.sarif_sources.specs.OptionalReader.{failed_calls_if};
+ghost use Rattle.sarif_streams.specs.Counted.{inner_of, failed_calls, RisesIf};
+ghost use Rattle.sarif_streams.specs.OptionalReader.{failed_calls_if};
 ghost use Rattle.sarif_program.specs.Reports.{AreTaken, HaveRoom, IsTaken, report_failures};
 ghost use Rattle.sarif_program.specs.Writing.{writer_failures};
 
 use crate::telling::Texts;
 use crate::writers::Writers;
-use sarif_merge::{Counted, Failed, write_out};
-use sarif_records::Text;
-use sarif_report::Report;
+use sarif_model::Text;
+use sarif_reports::Report;
 use sarif_request::Reports;
+use sarif_streams::{Counted, Failed, write_out};
 use std::io::Write;
 
 /// What was not written.

@@ -1,7 +1,7 @@
 -- What there is for a report.
 use Rattle.std.specs.Prelude.{Bool, not, ◌&&◌, Option, None, is_some}
-use Rattle.sarif_report.specs.declared.report.Report.{Report}
-use Rattle.sarif_report.specs.declared.report.Report.TheVariants as report
+use Rattle.sarif_reports.specs.declared.report.Report.{Report}
+use Rattle.sarif_reports.specs.declared.report.Report.TheVariants as report
 use Rattle.sarif_request.specs.declared.reports.Reports.{Reports}
 
 abbrev pub for_report : {T : Type 0} → Reports T → Report → Option T

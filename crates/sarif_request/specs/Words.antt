@@ -6,8 +6,8 @@ use Rattle.std.specs.Str.Parse.{IsNumeral, digits_value, without_leading_plus}
 use Rattle.clap.specs.Words.{App, IsAmong, Row, Text, all_of, first_of, one_of, fault_of, matches_of}
 use Rattle.clap.specs.declared.error.kind.ErrorKind.{ErrorKind}
 use Rattle.clap.specs.declared.error.kind.ErrorKind.TheVariants as kind
-use Rattle.sarif_records.specs.declared.kinds.Level.{Level}
-use Rattle.sarif_records.specs.Level.{level_named}
+use Rattle.sarif_model.specs.declared.kinds.Level.{Level}
+use Rattle.sarif_model.specs.Level.{level_named}
 use Rattle.sarif_counts.specs.Policy.{default_policy}
 use Rattle.sarif_request.specs.declared.clash.Clash.{Clash}
 use Rattle.sarif_request.specs.declared.reports.Reports.{Reports}

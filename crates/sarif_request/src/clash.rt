@@ -4,8 +4,8 @@ ghost use Rattle.std.specs.List.{list_any};
 ghost use Rattle.sarif_request.specs.Names as said;
 
 use crate::request::Request;
-use sarif_files::STANDARD;
-use sarif_records::Text;
+use sarif_model::Text;
+use sarif_streams::STANDARD;
 
 /// Why names can't stand together.
 #[derive(Clone, Copy, Debug, PartialEq, Eq)]

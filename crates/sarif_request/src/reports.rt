@@ -2,7 +2,7 @@
 ghost use Rattle.std.specs.Prelude.{◌≡◌, IsTrue, option_map};
 ghost use Rattle.sarif_request.specs.ForReport.{are_none, for_report, no_reports};
 
-use sarif_report::Report;
+use sarif_reports::Report;
 
 /// What there is for each of the five reports, where it was asked for.
 #[derive(Debug, Drop)]

@@ -4,8 +4,8 @@ ghost use Rattle.sarif_counts.specs.Policy.{default_policy};
 
 use crate::reports::Reports;
 use sarif_counts::{Options, Policy};
-use sarif_files::STANDARD;
-use sarif_records::Text;
+use sarif_model::Text;
+use sarif_streams::STANDARD;
 use std::alloc::{AllocError, Global};
 use std::hash::RandomState;
 

@@ -1,7 +1,7 @@
 //! Reading the words of the command line.
 ghost use Rattle.std.specs.Prelude.{◌≡◌, ◌↔◌, IfOk, IsTrue, [], map, unwrap_or, string_bytes, option_and_then, codes};
 ghost use Rattle.clap.specs.Words.{kind_of, rows_of, found_of, first_of, one_of};
-ghost use Rattle.sarif_records.specs.Level.{level_named};
+ghost use Rattle.sarif_model.specs.Level.{level_named};
 ghost use Rattle.sarif_counts.specs.Policy.{default_policy};
 ghost use Rattle.sarif_request.specs.Words.{words_status, Tells, IsAsked, AsksFor, Answers, IsRead, IsReadOr, IsUsageOrWanting};
 ghost use Rattle.sarif_request.specs.Words.{fail_on_in, is_set, reports_in, values_of};
@@ -16,7 +16,7 @@ use crate::request::Request;
 use clap::ArgMatches;
 use clap::error::ErrorKind;
 use sarif_counts::{Options, Policy};
-use sarif_records::{Level, Text};
+use sarif_model::{Level, Text};
 use std::alloc::{AllocError, AllocFailed, Global};
 use std::hash::RandomState;
 

@@ -6,7 +6,7 @@ use Rattle.std.specs.Option.{option_map_or}
 use Rattle.std.specs.Prelude.{slice_get}
 use Rattle.std.proofs.lemmas.List.{append_assoc}
 use Rattle.std.proofs.lemmas.List.Folds.{list_any-append}
-use Rattle.sarif_records.specs.declared.record.Record.{Record}
+use Rattle.sarif_model.specs.declared.record.Record.{Record}
 use Rattle.sarif_suppress.specs.declared.conditions.Conditions.{Conditions}
 use Rattle.sarif_suppress.specs.declared.entry.Entry.{Entry}
 use Rattle.sarif_suppress.specs.declared.filing.PairCondition.TheVariants.{Full, Partial}

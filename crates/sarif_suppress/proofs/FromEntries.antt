@@ -3,7 +3,7 @@ use Rattle.std.proofs.Common.{◌≡◌, ℕ, ◌+◌, ◌<◌, ◌≤◌, List,
 use Rattle.std.proofs.lemmas.List.{append-nil, append_assoc, drop_more, at_drop_all}
 use Rattle.serde_json.specs.declared.value.Value.{Value}
 use Rattle.serde_json.specs.View.{view}
-use Rattle.sarif_records.specs.Members.{◌>>=◌}
+use Rattle.sarif_model.specs.Members.{◌>>=◌}
 use Rattle.sarif_suppress.specs.declared.entry.Entry.{Entry}
 use Rattle.sarif_suppress.specs.declared.fault.SuppressFault.{SuppressFault}
 use Rattle.sarif_suppress.specs.declared.version.Version.{Version}

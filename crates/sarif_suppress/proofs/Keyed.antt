@@ -10,9 +10,9 @@ use Rattle.std.proofs.lemmas.List.Folds.{list_any-append}
 use Rattle.std.proofs.lemmas.Slice.Eq.{bytes_eq-Decides}
 use Rattle.indexmap.specs.IndexSet.{IndexSet}
 use Rattle.serde_json.specs.Data.{Data, object}
-use Rattle.sarif_records.specs.declared.kinds.Status.{Status}
-use Rattle.sarif_records.specs.declared.kinds.Status.TheVariants.{Accepted, UnderReview, Rejected}
-use Rattle.sarif_records.specs.contracts.kinds.StatusPartialEq.TheImpl as status
+use Rattle.sarif_model.specs.declared.kinds.Status.{Status}
+use Rattle.sarif_model.specs.declared.kinds.Status.TheVariants.{Accepted, UnderReview, Rejected}
+use Rattle.sarif_model.specs.contracts.kinds.StatusPartialEq.TheImpl as status
 use Rattle.sarif_suppress.specs.declared.entry.Entry.{Entry}
 use Rattle.sarif_suppress.specs.declared.key.Key.{Key}
 use Rattle.sarif_suppress.specs.Keys.{texts_with, justification_of, has_key, same_key, text_in, status_in, HasKeysOf}

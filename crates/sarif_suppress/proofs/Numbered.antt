@@ -7,7 +7,7 @@ use Rattle.std.proofs.lemmas.Bool.Decides.{nat_tests}
 use Rattle.std.proofs.lemmas.List.{append_assoc, append-nil, drop_more, length-append}
 use Rattle.std.proofs.lemmas.List.Folds.{list_all-append}
 use Rattle.std.proofs.lemmas.Option.{slice_get-get_or, same_Some}
-use Rattle.sarif_records.specs.declared.kinds.Status.{Status}
+use Rattle.sarif_model.specs.declared.kinds.Status.{Status}
 use Rattle.sarif_suppress.specs.declared.entry.Entry.{Entry}
 use Rattle.sarif_suppress.specs.Matching.{is_empty}
 use Rattle.sarif_suppress.specs.Numbers.{numbers_from, passes_at}

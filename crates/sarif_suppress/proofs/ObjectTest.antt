@@ -11,7 +11,7 @@ use Rattle.serde_json.specs.Data.{Data, null, boolean, number, string, array, ob
 use Rattle.sarif_suppress.specs.declared.entry.Entry.{Entry}
 use Rattle.serde_json.specs.Find.{as_object}
 use Rattle.serde_json.specs.Written.{has_float, members_have_float}
-use Rattle.sarif_records.specs.Status.{status_name}
+use Rattle.sarif_model.specs.Status.{status_name}
 use Rattle.sarif_suppress.specs.Entries.{with_pair}
 use Rattle.sarif_suppress.specs.Matching.{is_empty}
 use Rattle.sarif_suppress.specs.Written.{texts_of, text_members, object_of, is_string, are_just, is_object_of, with_object, with_objects}

@@ -4,12 +4,12 @@ use Rattle.std.proofs.lemmas.Bool.{and_from}
 use Rattle.std.specs.List.{list_all}
 use Rattle.std.proofs.lemmas.List.Folds.{list_all-append}
 use Rattle.serde_json.specs.Data.{Data}
-use Rattle.sarif_records.specs.Members.{◌>>=◌, read_each, result_map}
-use Rattle.sarif_records.specs.Suppression.{status_of}
-use Rattle.sarif_records.specs.declared.fault.Fault.{Fault}
-use Rattle.sarif_records.specs.declared.kinds.Status.{Status}
-use Rattle.sarif_records.specs.declared.kinds.Status.TheVariants.{Accepted, UnderReview, Rejected}
-use Rattle.sarif_records.specs.declared.record.Record.{Record}
+use Rattle.sarif_model.specs.Members.{◌>>=◌, read_each, result_map}
+use Rattle.sarif_model.specs.Suppression.{status_of}
+use Rattle.sarif_model.specs.declared.fault.Fault.{Fault}
+use Rattle.sarif_model.specs.declared.kinds.Status.{Status}
+use Rattle.sarif_model.specs.declared.kinds.Status.TheVariants.{Accepted, UnderReview, Rejected}
+use Rattle.sarif_model.specs.declared.record.Record.{Record}
 use Rattle.sarif_suppress.specs.declared.entry.Entry.{Entry}
 use Rattle.sarif_suppress.specs.File.{File}
 use Rattle.sarif_suppress.specs.Matching.{is_empty}

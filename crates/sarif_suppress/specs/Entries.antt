@@ -2,11 +2,11 @@
 use Rattle.std.specs.Prelude.{ℕ, ⊤, Bool, true, false, ◌&&◌, ◌||◌, ◌/◌, ◌%◌, List, [], ◌∷◌, Option, Some, None, Result, Ok, Err, option_and_then, nat_le, bytes_eq, codes, not, is_some, is_none, if◌then◌else◌}
 use Rattle.serde_json.specs.Data.{Data, null, boolean, number, string, array, object, Members, no_members, member}
 use Rattle.serde_json.specs.Find.{as_str, as_object, as_number, as_u64}
-use Rattle.sarif_records.specs.Guid.{guid_of_text}
-use Rattle.sarif_records.specs.Members.{◌>>=◌, member_at, text_at, or_wrong}
-use Rattle.sarif_records.specs.Status.{status_named}
-use Rattle.sarif_records.specs.declared.kinds.Status.{Status}
-use Rattle.sarif_records.specs.declared.kinds.Status.TheVariants.{Accepted}
+use Rattle.sarif_model.specs.Guid.{guid_of_text}
+use Rattle.sarif_model.specs.Members.{◌>>=◌, member_at, text_at, or_wrong}
+use Rattle.sarif_model.specs.Status.{status_named}
+use Rattle.sarif_model.specs.declared.kinds.Status.{Status}
+use Rattle.sarif_model.specs.declared.kinds.Status.TheVariants.{Accepted}
 use Rattle.sarif_suppress.specs.declared.conditions.Conditions.{Conditions}
 use Rattle.sarif_suppress.specs.declared.entry.Entry.{Entry}
 use Rattle.sarif_suppress.specs.declared.fault.SuppressFault.{SuppressFault}

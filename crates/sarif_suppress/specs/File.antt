@@ -2,8 +2,9 @@
 use Rattle.std.specs.Prelude.{ℕ, ◌+◌, ⊤, List, [], ◌∷◌, length, Option, Some, None, Result, Ok, Err, option_and_then, nat_eq, nat_le, codes, if◌then◌else◌}
 use Rattle.serde_json.specs.Data.{Data, Items}
 use Rattle.serde_json.specs.Find.{get, as_array, as_number, as_u64}
-use Rattle.sarif_records.specs.Members.{◌>>=◌, elements}
-use Rattle.sarif_records.specs.Reading.{without_mark, json_of}
+use Rattle.sarif_model.specs.Members.{◌>>=◌, elements}
+use Rattle.json_parts.specs.Mark.{without_mark}
+use Rattle.json_parts.specs.Indexed.{json_of}
 use Rattle.sarif_suppress.specs.declared.entry.Entry.{Entry}
 use Rattle.sarif_suppress.specs.declared.fault.SuppressFault.{SuppressFault}
 use Rattle.sarif_suppress.specs.declared.fault.SuppressFault.TheVariants.{NotJson, NotList, WrongVersion, TooMany}

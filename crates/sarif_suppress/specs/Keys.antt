@@ -5,8 +5,8 @@ use Rattle.std.specs.Option.{option_map_or}
 use Rattle.indexmap.specs.IndexSet.{IndexSet, contains}
 use Rattle.serde_json.specs.Data.{Data}
 use Rattle.serde_json.specs.Find.{get, as_str, as_object}
-use Rattle.sarif_records.specs.Status.{status_name, status_named}
-use Rattle.sarif_records.specs.declared.kinds.Status.{Status}
+use Rattle.sarif_model.specs.Status.{status_name, status_named}
+use Rattle.sarif_model.specs.declared.kinds.Status.{Status}
 use Rattle.sarif_suppress.specs.contracts.key.KeyPartialEq.TheImpl as derived
 use Rattle.sarif_suppress.specs.declared.key.Key.{Key}
 use Rattle.sarif_suppress.specs.Entries.{with_pair}

@@ -1,7 +1,7 @@
 -- Marks of the entries that matched a result. No public clause of the merge speaks of it.
 use Rattle.std.specs.Prelude.{ℕ, Bool, true, List, [], ◌∷◌, length, map, nat_lt, slice_set, if◌then◌else◌}
 use Rattle.std.specs.List.{list_any}
-use Rattle.sarif_records.specs.declared.record.Record.{Record}
+use Rattle.sarif_model.specs.declared.record.Record.{Record}
 use Rattle.sarif_suppress.specs.Matching.{matches}
 use Rattle.sarif_suppress.specs.File.{File}
 

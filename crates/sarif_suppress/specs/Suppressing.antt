@@ -1,9 +1,9 @@
 -- What a suppression file makes of a result (SARIF 2.1.0, result object, "suppressions property").
 use Rattle.std.specs.Prelude.{ℕ, Bool, true, false, not, ◌&&◌, List, ◌++◌, map, filter, count_by}
 use Rattle.std.specs.List.{list_any, list_all}
-use Rattle.sarif_records.specs.declared.kinds.Status.{Status}
-use Rattle.sarif_records.specs.declared.kinds.Status.TheVariants.{Accepted, UnderReview, Rejected}
-use Rattle.sarif_records.specs.declared.record.Record.{Record}
+use Rattle.sarif_model.specs.declared.kinds.Status.{Status}
+use Rattle.sarif_model.specs.declared.kinds.Status.TheVariants.{Accepted, UnderReview, Rejected}
+use Rattle.sarif_model.specs.declared.record.Record.{Record}
 use Rattle.sarif_suppress.specs.declared.entry.Entry.{Entry}
 use Rattle.sarif_suppress.specs.File.{File}
 use Rattle.sarif_suppress.specs.Matching.{is_empty, matches}

@@ -3,7 +3,7 @@ ghost use Rattle.std.specs.Prelude.{◌≡◌, ℕ, IfSome, drop, true};
 ghost use Rattle.std.specs.List.{list_any};
 ghost use Rattle.sarif_suppress.specs.Matching as said;
 
-use sarif_records::{Pairs, Record, Text};
+use sarif_model::{Pairs, Record, Text};
 
 /// The conditions that an entry names. One that is `None`, or an empty map, isn't named.
 #[derive(Debug, Drop)]

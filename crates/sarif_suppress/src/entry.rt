@@ -3,7 +3,7 @@ ghost use Rattle.std.specs.Prelude.{◌≡◌, ◌↔◌, IsTrue};
 ghost use Rattle.sarif_suppress.specs.Matching as said;
 
 use crate::conditions::Conditions;
-use sarif_records::{Record, Status, Text};
+use sarif_model::{Record, Status, Text};
 
 /// An entry of the suppression file: which results it suppresses, until when, and what is written
 /// of it.

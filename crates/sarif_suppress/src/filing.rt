@@ -4,7 +4,7 @@ ghost use Rattle.std.specs.Option.{option_copied};
 ghost use Rattle.sarif_suppress.specs.Filing as said;
 
 use crate::conditions::Conditions;
-use sarif_records::Text;
+use sarif_model::Text;
 
 /// A condition that is a text of the result.
 #[derive(Clone, Copy)]

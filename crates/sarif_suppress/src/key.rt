@@ -7,7 +7,7 @@ ghost use Rattle.sarif_suppress.specs.Written as said;
 ghost use Rattle.sarif_suppress.specs.declared.key.Key.{Key};
 
 use crate::entry::Entry;
-use sarif_records::{Status, Text};
+use sarif_model::{Status, Text};
 use serde_json::{Map, Value};
 
 /// The status and the justification of an entry. Objects of entries are equal just where these are.

@@ -3,9 +3,9 @@ ghost use Rattle.std.specs.Prelude.{◌≡◌, ◌↔◌, ◌&&◌, Bool, List, 
 ghost use Rattle.std.specs.List.{list_all};
 ghost use Rattle.serde_json.specs.Data.{Data};
 ghost use Rattle.serde_json.specs.Written.{has_float};
-ghost use Rattle.sarif_records.specs.Members.{read_each, result_map};
-ghost use Rattle.sarif_records.specs.Suppression.{status_of};
-ghost use Rattle.sarif_records.specs.declared.record.Record.{Record};
+ghost use Rattle.sarif_model.specs.Members.{read_each, result_map};
+ghost use Rattle.sarif_model.specs.Suppression.{status_of};
+ghost use Rattle.sarif_model.specs.declared.record.Record.{Record};
 ghost use Rattle.sarif_suppress.specs.declared.entry.Entry.{Entry};
 ghost use Rattle.sarif_suppress.specs.File.{File};
 ghost use Rattle.sarif_suppress.specs.Matching.{is_empty};

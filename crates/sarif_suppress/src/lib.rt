@@ -5,6 +5,7 @@
 mod conditions;
 mod entry;
 mod fault;
+mod file_fault;
 mod filing;
 mod key;
 mod laws;

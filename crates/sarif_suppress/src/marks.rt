@@ -1,7 +1,7 @@
 //! Marks of the entries that matched a result, so that those that are unused are counted without
 //! going through all results for each of them.
 ghost use Rattle.std.specs.Prelude.{◌≡◌, ◌≤◌, ◌++◌, ◌∷◌, [], List, length, false, not, count_by, replicate, IfOk};
-ghost use Rattle.sarif_records.specs.declared.record.Record.{Record};
+ghost use Rattle.sarif_model.specs.declared.record.Record.{Record};
 ghost use Rattle.sarif_suppress.specs.File.{File};
 ghost use Rattle.sarif_suppress.specs.Marks.{marks_of, with_marks};
 ghost use Rattle.sarif_suppress.specs.Suppressing.{matching_numbers, unused_of};

@@ -10,7 +10,7 @@ ghost use Rattle.sarif_suppress.specs.Prefixes as said;
 use crate::entry::Entry;
 use crate::numbers::{add_number, numbers_for};
 use indexmap::IndexMap;
-use sarif_records::Text;
+use sarif_model::Text;
 use std::alloc::{AllocError, Global};
 use std::hash::BuildHasher;
 

@@ -2,15 +2,15 @@
 //! fault.
 ghost use Rattle.std.specs.Prelude.{◌≡◌, option_map, Ok, Err, IfOk, IfErr};
 ghost use Rattle.serde_json.specs.View.{view, members_view};
-ghost use Rattle.sarif_records.specs.Members as told;
+ghost use Rattle.sarif_model.specs.Members as told;
 ghost use Rattle.sarif_suppress.specs.Entries as said;
 
 use crate::conditions::Conditions;
 use crate::entry::Entry;
 use crate::fault::SuppressFault;
 use crate::version::Version;
-use sarif_records::members::{member_at, text_at};
-use sarif_records::{Pairs, Sequence, Status, Text, read_guid};
+use sarif_model::members::{member_at, text_at};
+use sarif_model::{Pairs, Sequence, Status, Text, read_guid};
 use serde_json::{Map, Value};
 use std::alloc::{AllocError, Global};
 

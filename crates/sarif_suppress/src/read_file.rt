@@ -1,8 +1,8 @@
 //! Reading the suppression file: first its form, and then its entries one after another.
 ghost use Rattle.std.specs.Prelude.{◌≡◌, ◌≤◌, length, map, Ok, Err, Some, None, IfOk, IfErr, OnOk};
 ghost use Rattle.serde_json.specs.View.{view};
-ghost use Rattle.sarif_records.specs.Members.{result_map};
-ghost use Rattle.sarif_records.specs.Reading.{json_of};
+ghost use Rattle.sarif_model.specs.Members.{result_map};
+ghost use Rattle.json_parts.specs.Indexed.{json_of};
 ghost use Rattle.sarif_suppress.specs.File as said;
 
 use crate::entry::Entry;
@@ -10,7 +10,7 @@ use crate::fault::SuppressFault;
 use crate::read_entry::read_entry;
 use crate::suppressions::Suppressions;
 use crate::version::Version;
-use sarif_records::without_mark;
+use json_parts::without_mark;
 use serde_json::Value;
 use std::alloc::Global;
 use std::hash::{BuildHasher, BuildHasherDefault, FoldHasher};
@@ -19,7 +19,7 @@ use std::hash::{BuildHasher, BuildHasherDefault, FoldHasher};
 const MOST_ENTRIES: usize = 10_000;
 
 /// Passes an object with an array `suppressions`, and gives its elements.
-#[tactic(auto, using(sarif_records::proofs::Elements::elements_items_view))]
+#[tactic(auto, using(sarif_model::proofs::Elements::elements_items_view))]
 fn check_list(file: &Value) -> Result<&[Value], SuppressFault>
     ensures { result_map (λ vs. map view vs.now) result ≡ said.check_list (view file.now) }
 {
@@ -75,7 +75,7 @@ fn read_entries(
 }
 
 /// The JSON value of `bytes`.
-#[tactic(auto, using(sarif_records::proofs::Utf8::json_of_read, sarif_records::proofs::Utf8::json_of_refused))]
+#[tactic(auto, using(json_parts::proofs::Utf8::json_of_read, json_parts::proofs::Utf8::json_of_refused))]
 fn read_json(alloc: Global, bytes: &[u8]) -> Result<Value, SuppressFault>
     ensures ok { IfOk result (λ v. json_of bytes.now ≡ Some (view v)) }
     ensures err { IfErr result (λ fault. ¬ (fault ≡ SuppressFault.OutOfMemory)

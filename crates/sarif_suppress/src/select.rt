@@ -8,7 +8,7 @@ ghost use Rattle.sarif_suppress.specs.Numbers.{passes_at, with_numbers};
 ghost use Rattle.sarif_suppress.specs.Suppressing as said;
 
 use crate::entry::Entry;
-use sarif_records::{Record, Sequence, Status};
+use sarif_model::{Record, Sequence, Status};
 use std::alloc::{AllocError, Global};
 use std::collections::BTreeSet;
 

@@ -1,7 +1,7 @@
 //! A suppression file that was read, and what it makes of the results.
 ghost use Rattle.std.specs.Prelude.{◌≡◌, ◌==◌, ◌<◌, ◌≤◌, [], length, map, option_map, slice_get, IfOk};
 ghost use Rattle.serde_json.specs.View.{view};
-ghost use Rattle.sarif_records.specs.declared.record.Record.{Record};
+ghost use Rattle.sarif_model.specs.declared.record.Record.{Record};
 ghost use Rattle.sarif_suppress.specs.Marks.{marks_of};
 ghost use Rattle.sarif_suppress.specs.Written as said;
 ghost use Rattle.sarif_suppress.specs.Suppressing.{matching_numbers, is_suppressed, unused_of};
@@ -12,7 +12,7 @@ use crate::object::{object_of, with_objects};
 use crate::prefixes::PrefixTable;
 use crate::select::{count_unused, do_suppress, select};
 use crate::table::Table;
-use sarif_records::{Record, Sequence};
+use sarif_model::{Record, Sequence};
 use serde_json::Value;
 use std::alloc::{AllocError, Global};
 use std::hash::{BuildHasher, RandomState};

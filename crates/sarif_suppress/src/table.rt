@@ -14,7 +14,7 @@ use crate::entry::Entry;
 use crate::filing::{PairCondition, TextCondition};
 use crate::numbers::{add_number, numbers_for};
 use indexmap::IndexMap;
-use sarif_records::{Record, Text};
+use sarif_model::{Record, Text};
 use std::alloc::{AllocError, Global};
 use std::hash::BuildHasher;
 

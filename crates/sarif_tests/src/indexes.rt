@@ -1,6 +1,6 @@
 //! An indexed text, the values that are looked up in it and those that are made from it.
 use json::Scratch;
-use json_index::{IndexFault, Node, index_text};
+use json_parts::{IndexFault, Node, index_text};
 use serde_json::Value;
 use std::alloc::{AllocError, Global};
 use std::test::Fail;

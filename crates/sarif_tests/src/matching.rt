@@ -3,7 +3,7 @@ mod seeded;
 mod sketch;
 
 use sarif_match::{Matching, Tier, key, match_all, state, tiers};
-use sarif_records::{Kind, Record, State};
+use sarif_model::{Kind, Record, State};
 use sketch::{A, M, Sketch, record, records};
 use std::alloc::{AllocError, Global};
 use std::process::Abort;

@@ -1,7 +1,8 @@
 //! Examples worked by hand, and that each call succeeds with ample memory. A row is an answer and a run, whose first result
 //! gives its descriptor, its level and its place, or a fault.
-use sarif_records::{Fault, Kind, Level, Log, Parts, Place, RawRun, Record, read_log, read_parts};
-use sarif_rules::{RunHead, make_record, open_run};
+use sarif_model::{Fault, Kind, Level, Place, Record};
+use sarif_read::{Log, RawRun, read_log};
+use sarif_runs::{Parts, RunHead, make_record, open_run, read_parts};
 use std::alloc::{AllocError, Global};
 use std::hash::RandomState;
 use std::io;

@@ -7,7 +7,7 @@ mod files;
 mod objects;
 mod prefixes;
 
-use sarif_records::{Kind, Level, Message, Place, Record, Sequence, Status, Text};
+use sarif_model::{Kind, Level, Message, Place, Record, Sequence, Status, Text};
 use sarif_suppress::{SuppressFault, Suppressions, read_rules};
 use serde_json::Value;
 use std::alloc::{AllocError, Global};

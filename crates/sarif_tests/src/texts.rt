@@ -1,5 +1,5 @@
 //! Texts that are put together from parts.
-use json_text::{push_value, text_around};
+use json_parts::{push_value, text_around};
 use serde_json::{Map, Value};
 use std::test::Fail;
 

@@ -3,7 +3,7 @@ use crate::merge::merging::{
     Given, NOTHING, Wanted, beside, expect_log, expect_part, expect_refusal, expect_runs, log_of,
     log_with, merge, one_log,
 };
-use sarif_merge::Merged;
+use sarif_log::Merged;
 use std::alloc::{AllocError, Global};
 use std::process::Abort;
 use std::sync::Wait;

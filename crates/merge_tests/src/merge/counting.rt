@@ -1,6 +1,6 @@
 //! Counts, the gate and the summary.
-use sarif_merge::{Counts, Policy, States, Verdict, hits, summary, verdict};
-use sarif_records::{Level, State};
+use sarif_counts::{Counts, Policy, States, Verdict, hits, summary, verdict};
+use sarif_model::{Level, State};
 use std::test::Fail;
 
 const STATES: [State; 4] = [State::New, State::Unchanged, State::Updated, State::Absent];

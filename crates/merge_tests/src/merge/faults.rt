@@ -1,6 +1,6 @@
 //! The places and causes of faults, their texts and their statuses.
-use sarif_merge::{At, Cause, MergeFault, ReadersFault, Source};
-use sarif_records::Fault;
+use sarif_model::{At, Cause, Fault, MergeFault, Source};
+use sarif_streams::ReadersFault;
 use std::alloc::AllocError;
 use std::test::Fail;
 

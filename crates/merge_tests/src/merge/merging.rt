@@ -1,9 +1,11 @@
 //! Merging texts. A list of runs is written `lint: A M; b: `, so each run is a tool and its results,
 //! each by its name or by its own text, which has no blank.
-use sarif_merge::{
-    Counted, Gate, MergeFault, Merged, NoGate, Options, Policy, Readers, SourceBytes, Verdict,
-    merge_bytes, merge_to,
-};
+use sarif_counts::{Options, Policy, Verdict};
+use sarif_gather::{Gate, NoGate};
+use sarif_log::Merged;
+use sarif_merge::{merge_bytes, merge_to};
+use sarif_model::MergeFault;
+use sarif_streams::{Counted, Readers, SourceBytes};
 use std::alloc::{AllocError, Global};
 use std::hash::RandomState;
 use std::io;

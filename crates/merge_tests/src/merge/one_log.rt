@@ -4,8 +4,12 @@ use crate::merge::merging::{
     Given, NOTHING, Wanted, ZEROS, expect_log, expect_part, expect_runs, log_of, log_with, merge,
     one_log, seed_of,
 };
-use sarif_merge::{Asked, Counted, NoGate, Options, Policy, Readers, Verdict, merge_readers};
-use sarif_records::{Level, State};
+use sarif_counts::{Options, Policy, Verdict};
+use sarif_gather::NoGate;
+use sarif_log::Asked;
+use sarif_merge::merge_readers;
+use sarif_model::{Level, State};
+use sarif_streams::{Counted, Readers};
 use std::alloc::{AllocError, Global};
 use std::test::Fail;
 

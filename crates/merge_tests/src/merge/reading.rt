@@ -1,6 +1,6 @@
 //! Readers and writers that fail, and the limit of a source.
 use crate::merge::MERGED;
-use sarif_merge::{Counted, Failed, SourceFault, read_source, write_out};
+use sarif_streams::{Counted, Failed, SourceFault, read_source, write_out};
 use std::io;
 use std::io::{Read, Write};
 use std::test::Fail;

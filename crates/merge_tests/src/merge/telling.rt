@@ -1,10 +1,13 @@
 //! What reports tell of a merge.
 use crate::merge::merging::{ZEROS, seed_of};
-use sarif_merge::{
-    Asked, Counted, MergeFault, NoGate, Options, Policy, Readers, States, merge_readers,
-};
-use sarif_records::{Level, Text};
-use sarif_report::{Finding, Reporting, text_report};
+use sarif_counts::{Options, Policy, States};
+use sarif_findings::{Finding, Reporting};
+use sarif_gather::NoGate;
+use sarif_log::Asked;
+use sarif_merge::merge_readers;
+use sarif_model::{Level, MergeFault, Text};
+use sarif_reports::text_report;
+use sarif_streams::{Counted, Readers};
 use std::alloc::{AllocError, AllocGlobal, Global};
 use std::process::Abort;
 use std::sync::Wait;

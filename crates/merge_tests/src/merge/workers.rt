@@ -2,7 +2,7 @@
 use crate::merge::merging::{
     NOTHING, Wanted, expect_log, log_of, merge, merge_watched, one_log, write_watched,
 };
-use sarif_merge::Gate;
+use sarif_gather::Gate;
 use std::alloc::{AllocError, Global};
 use std::sync::atomic::{AtomicU64, Ordering};
 use std::test::Fail;

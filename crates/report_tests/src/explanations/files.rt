@@ -1,6 +1,6 @@
 //! Faults of the suppression file.
 use super::check;
-use sarif_sources::{At, Cause, Source};
+use sarif_model::{At, Cause, Source};
 use std::test::Fail;
 
 const FILE: At = At::Whole(Source::Suppress);

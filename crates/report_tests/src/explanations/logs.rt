@@ -1,7 +1,7 @@
 //! Faults of whole logs, and those of no input.
 use super::check;
 use sarif_explain::{FaultSource, explanation};
-use sarif_sources::{At, Cause, MergeFault, Source};
+use sarif_model::{At, Cause, MergeFault, Source};
 use std::test::Fail;
 
 const LOG: At = At::Whole(Source::Log(0));

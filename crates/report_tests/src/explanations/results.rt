@@ -1,6 +1,6 @@
 //! Faults of results.
 use super::check;
-use sarif_sources::{At, Cause, Source};
+use sarif_model::{At, Cause, Source};
 use std::alloc::Global;
 use std::process::Abort;
 use std::test::Fail;

@@ -2,7 +2,7 @@
 
 use crate::words::seed;
 use sarif_counts::{Options, States};
-use sarif_records::{Level, Text};
+use sarif_model::{Level, Text};
 use sarif_request::{Reports, Request, WordsFault, read_words};
 use std::alloc::AllocError;
 use std::process::Abort;

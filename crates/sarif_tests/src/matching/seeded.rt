@@ -3,7 +3,7 @@
 use super::matched;
 use super::sketch::{A, Sketch, record, records};
 use sarif_match::{Matching, Tier, key, match_all_with, state, tiers};
-use sarif_records::{Record, State};
+use sarif_model::{Record, State};
 use std::alloc::{AllocError, Global};
 use std::hash::RandomState;
 use std::io;

@@ -1,5 +1,5 @@
 //! Records by the members that a test names.
-use sarif_records::{Kind, Level, Message, Pairs, Place, Record, Sequence, Text};
+use sarif_model::{Kind, Level, Message, Pairs, Place, Record, Sequence, Text};
 use std::alloc::{AllocError, Global};
 
 /// What a test says of a result.

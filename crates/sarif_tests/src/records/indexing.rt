@@ -1,7 +1,7 @@
 //! A log that is read by its index, a result at a time.
 use json::Scratch;
-use json_index::index_text;
-use sarif_records::{IndexedRun, index_log, read_log};
+use json_parts::index_text;
+use sarif_read::{IndexedRun, index_log, read_log};
 use std::alloc::{AllocError, Global};
 use std::test::Fail;
 

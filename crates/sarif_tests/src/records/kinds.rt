@@ -1,5 +1,5 @@
 //! The texts of each variant, there and back.
-use sarif_records::{Kind, Level, State, Status};
+use sarif_model::{Kind, Level, State, Status};
 use std::test::Fail;
 
 #[test]

@@ -1,7 +1,7 @@
 //! A result's own members, read from JSON text.
-use sarif_records::{
-    Fault, Kind, Level, Message, Pairs, Parts, Status, Text, read_log, read_parts,
-};
+use sarif_model::{Fault, Kind, Level, Message, Pairs, Status, Text};
+use sarif_read::read_log;
+use sarif_runs::{Parts, read_parts};
 use std::alloc::Global;
 use std::process::Abort;
 use std::test::Fail;

@@ -1,5 +1,5 @@
 //! Logs that are read whole.
-use sarif_records::read_log;
+use sarif_read::read_log;
 use std::alloc::Global;
 use std::test::Fail;
 

@@ -1,5 +1,5 @@
 //! Values with fractions in them, and their stripped copies.
-use sarif_records::strip;
+use sarif_read::strip;
 use serde_json::Value;
 use std::test::Fail;
 

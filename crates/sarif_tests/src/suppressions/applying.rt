@@ -3,7 +3,7 @@ use super::{
     FileText, Plain, asked_of, expect_entries, expect_written, first_version, result_at,
     second_version, unused_of, with_own,
 };
-use sarif_records::{Sequence, Status, Text};
+use sarif_model::{Sequence, Status, Text};
 use sarif_suppress::{Marks, SuppressFault, Suppressions};
 use std::alloc::{AllocError, Global};
 use std::hash::{BuildHasherDefault, FoldHasher};

@@ -1,6 +1,6 @@
 //! Which results an entry matches, condition by condition.
 use super::{FileText, expect_written, outcome_of, result_at, second_version, unused_of};
-use sarif_records::{Record, Sequence, Text};
+use sarif_model::{Record, Sequence, Text};
 use sarif_suppress::SuppressFault;
 use std::alloc::{AllocError, Global};
 use std::process::Abort;

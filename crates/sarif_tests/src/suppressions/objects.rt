@@ -1,7 +1,7 @@
 //! What is written of a result: its own suppressions as they stand, and the objects of entries,
 //! each of them once.
 use super::{expect_written, first_version, result_at, unused_of, with_own};
-use sarif_records::{Record, Status};
+use sarif_model::{Record, Status};
 use std::alloc::{AllocError, Global};
 use std::process::Abort;
 use std::test::Fail;

@@ -1,6 +1,6 @@
 use Rattle.std.proofs.Common.{◌≡◌, take}
 use Rattle.std.specs.List.{All}
-use Rattle.sarif_sources.specs.Counted.{failed_calls}
+use Rattle.sarif_streams.specs.Counted.{failed_calls}
 use Rattle.sarif_gate.specs.Named.{names_of}
 use Rattle.sarif_gate.proofs.sources.logs_of.Given as goal
 

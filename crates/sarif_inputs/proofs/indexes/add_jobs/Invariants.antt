@@ -1,5 +1,5 @@
 use Rattle.std.proofs.Common.{◌≡◌, ◌++◌, map, drop}
-use Rattle.sarif_records.specs.Reading as said
+use Rattle.json_parts.specs.Mark as said
 use Rattle.sarif_inputs.proofs.indexes.add_jobs.Given as goal
 
 -- the jobs so far, and the sources that are left

@@ -1,7 +1,7 @@
 use Rattle.std.proofs.Common.{◌≡◌, ◌++◌, ◌/◌, ap, ◌∙◌, map, sym, take}
 use Rattle.std.proofs.lemmas.List.{map-append, take-append-drop}
 use Rattle.std.proofs.lemmas.Result.{IfOk-at_ok}
-use Rattle.sarif_judge.specs.Opened.{placed_of}
+use Rattle.sarif_runs.specs.Opened.{placed_of}
 use Rattle.sarif_inputs.specs.ReadRun.{placed_read}
 use Rattle.sarif_inputs.proofs.opening.+opening.Goals as goal
 

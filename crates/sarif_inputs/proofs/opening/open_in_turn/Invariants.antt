@@ -1,5 +1,5 @@
 use Rattle.std.proofs.Common.{◌≡◌, ◌++◌, map}
-use Rattle.sarif_judge.specs.Opened.{placed_of}
+use Rattle.sarif_runs.specs.Opened.{placed_of}
 use Rattle.sarif_inputs.specs.ReadRun.{placed_read}
 use Rattle.sarif_inputs.proofs.opening.open_in_turn.Given as goal
 

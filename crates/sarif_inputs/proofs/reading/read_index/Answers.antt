@@ -1,8 +1,8 @@
 use Rattle.std.proofs.Common.{rules, ◌≡◌, Err, subst, sym}
 use Rattle.std.specs.Prelude.{Ok}
-use Rattle.json_index.specs.Together.{IsIndexed}
-use Rattle.sarif_records.specs.IndexFault.{read_fault_of}
-use Rattle.sarif_records.specs.Reading.{without_mark}
+use Rattle.json_parts.specs.Together.{IsIndexed}
+use Rattle.sarif_read.specs.IndexFault.{read_fault_of}
+use Rattle.json_parts.specs.Mark.{without_mark}
 use Rattle.sarif_inputs.specs.Parsed.{IsParsedFrom}
 use Rattle.sarif_inputs.proofs.ReadIndexes.{read_of_index, read_without_index}
 use Rattle.sarif_inputs.proofs.reading.read_index.Goals as goal

@@ -1,6 +1,6 @@
 use Rattle.std.proofs.Common.{◌≡◌, ◌+◌, map, drop}
-use Rattle.sarif_records.specs.Indexed.{run_of}
-use Rattle.sarif_records.specs.Run.{results_total}
+use Rattle.sarif_read.specs.Indexed.{run_of}
+use Rattle.sarif_model.specs.Run.{results_total}
 use Rattle.sarif_inputs.proofs.sources.count_results.Given as goal
 
 abbrev pub invariant-loop-run : goal.invariant-loop-run

@@ -1,10 +1,10 @@
 use Rattle.std.proofs.Common.{rules, ◌≡◌, ◌⊎◌, Some, Err, ap, sym, subst}
 use Rattle.std.proofs.lemmas.Result.{IfErr-at_err}
-use Rattle.sarif_records.specs.Reading.{log_of}
-use Rattle.sarif_records.specs.declared.fault.Fault.TheVariants.{OutOfMemory}
-use Rattle.sarif_inputs.specs.Faults.{first, IsWanting}
+use Rattle.sarif_read.specs.Reading.{log_of}
+use Rattle.sarif_model.specs.declared.fault.Fault.TheVariants.{OutOfMemory}
+use Rattle.sarif_model.specs.FirstFault.{first, IsWanting}
 use Rattle.sarif_inputs.specs.SourceFaults.{reading_faults, fault_of_reading, place_of_reading}
-use Rattle.sarif_inputs.proofs.ParsedFaults.{answered}
+use Rattle.sarif_model.proofs.ParsedFaults.{answered}
 use Rattle.sarif_inputs.proofs.sources.log_of_source.Goals as goal
 use Rattle.sarif_inputs.proofs.sources.log_of_source.Goals.{in-Some, in-None}
 

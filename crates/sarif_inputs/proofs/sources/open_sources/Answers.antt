@@ -1,8 +1,8 @@
 use Rattle.std.proofs.Common.{rules, ◌≡◌, ◌≤◌, length, vec_len, arith, ap, ◌∙◌, sym, subst}
 use Rattle.std.proofs.lemmas.List.{length-map}
-use Rattle.sarif_records.specs.Run.{results_total}
-use Rattle.sarif_judge.specs.Opened.{placed_of}
-use Rattle.sarif_judge.specs.Judging.{run_values}
+use Rattle.sarif_model.specs.Run.{results_total}
+use Rattle.sarif_runs.specs.Opened.{placed_of}
+use Rattle.sarif_runs.specs.Judging.{run_values}
 use Rattle.sarif_inputs.specs.ReadRun.{placed_read}
 use Rattle.sarif_inputs.proofs.OpenedParts.{logs_within, are_runs}
 use Rattle.sarif_inputs.proofs.sources.open_sources.Goals as goal

@@ -1,11 +1,12 @@
 use Rattle.std.proofs.Common.{rules, ◌≡◌, ◌<◌, ◌≤◌, ◌+◌, ◌*◌, ◌/◌, [], length, map, ap, ◌∙◌, sym, refl, subst, arith}
 use Rattle.std.specs.List.{All}
-use Rattle.sarif_judge.specs.Opened.{placed_of}
-use Rattle.sarif_judge.specs.Spots.{outcome_at, spots_from, IsSpotOf}
-use Rattle.sarif_judge.proofs.AllSpots.{none_long, spots_count, shard_size, shard_count, shards_enough}
-use Rattle.sarif_judge.proofs.Places.{outcomes_at_spots}
+use Rattle.sarif_runs.specs.Opened.{placed_of}
+use Rattle.sarif_results.specs.OutcomesAt.{outcome_at}
+use Rattle.sarif_runs.specs.Spots.{spots_from, IsSpotOf}
+use Rattle.sarif_runs.proofs.AllSpots.{none_long, spots_count, shard_size, shard_count, shards_enough}
+use Rattle.sarif_results.proofs.Places.{outcomes_at_spots}
 use Rattle.sarif_judge.proofs.Shards.{all_parts}
-use Rattle.sarif_judge.proofs.SpotsWithin.{spots_within}
+use Rattle.sarif_runs.proofs.SpotsWithin.{spots_within}
 use Rattle.sarif_judge.proofs.outcomes.judge.Goals as goal
 
 pub invariant_of-work : goal.invariant_of-work

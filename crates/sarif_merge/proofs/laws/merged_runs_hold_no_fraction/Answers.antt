@@ -4,8 +4,8 @@ use Rattle.std.proofs.lemmas.List.Folds.{list_any-append}
 use Rattle.std.specs.List.{list_any}
 use Rattle.serde_json.specs.Data.{Data}
 use Rattle.serde_json.specs.Written.{has_float}
-use Rattle.sarif_judge.specs.Judging.{records_of, run_values}
-use Rattle.sarif_assemble.specs.LogBy.{current_runs, leftover_runs, states_of, taken_of}
+use Rattle.sarif_runs.specs.Judging.{records_of, run_values}
+use Rattle.sarif_log.specs.LogBy.{current_runs, leftover_runs, states_of, taken_of}
 use Rattle.sarif_inputs.specs.Inputs.{input_runs, baseline_runs, log_sources, baseline_sources}
 use Rattle.sarif_inputs.proofs.ReadFacts.{whole}
 use Rattle.sarif_merge.specs.MergedLog.{file_given}

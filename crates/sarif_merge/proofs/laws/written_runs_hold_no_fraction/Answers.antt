@@ -1,5 +1,5 @@
-use Rattle.sarif_assemble.specs.LogBy.{listing_of}
-use Rattle.sarif_write.proofs.WholeListing.{suppressions_whole}
+use Rattle.sarif_log.specs.LogBy.{listing_of}
+use Rattle.sarif_results.proofs.WholeListing.{suppressions_whole}
 use Rattle.sarif_merge.proofs.WholeRuns.{merged_runs_whole, absent_runs_whole}
 use Rattle.sarif_merge.proofs.laws.written_runs_hold_no_fraction.Goals as goal
 

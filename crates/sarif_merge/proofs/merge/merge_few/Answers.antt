@@ -1,4 +1,4 @@
-use Rattle.sarif_assemble.specs.Told.{reporting_in}
+use Rattle.sarif_log.specs.Told.{reporting_in}
 use Rattle.sarif_merge.specs.Given.{inputs_of}
 use Rattle.sarif_merge.proofs.MergeAnswers.{assembled_is}
 use Rattle.sarif_merge.proofs.merge.merge_few.Goals as goal

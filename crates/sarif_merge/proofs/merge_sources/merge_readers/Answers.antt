@@ -1,8 +1,8 @@
 use Rattle.std.proofs.Common.{◌≡◌, Err, arith, inr, refl, rules}
 use Rattle.std.proofs.lemmas.Result.{err_from_is_err_and}
-use Rattle.sarif_sources.specs.WereRead.{contents_of}
+use Rattle.sarif_streams.specs.WereRead.{contents_of}
 use Rattle.sarif_merge.specs.FromReaders.{AreFew}
-use Rattle.sarif_sources.proofs.ReadersRead.{none_has_fallen}
+use Rattle.sarif_streams.proofs.ReadersRead.{none_has_fallen}
 use Rattle.sarif_merge.proofs.merge_sources.merge_readers.Goals as goal
 
 pub returns-in_err-check_numbers-clause-risen : goal.returns-in_err-check_numbers-clause-risen

@@ -1,8 +1,8 @@
 use Rattle.std.proofs.Common.{◌≤◌, ◌++◌, ℕ, List, Vec, Global, refl, map, length, sym, subst}
 use Rattle.std.specs.Prelude.{option_map}
-use Rattle.json_index.specs.Together.{AreIndexed}
-use Rattle.sarif_records.specs.Reading.{without_mark}
-use Rattle.sarif_assemble.specs.Told.{reporting_in}
+use Rattle.json_parts.specs.Together.{AreIndexed}
+use Rattle.json_parts.specs.Mark.{without_mark}
+use Rattle.sarif_log.specs.Told.{reporting_in}
 use Rattle.sarif_inputs.specs.Indexes.{AreIndexesOf}
 use Rattle.sarif_merge.specs.Given.{given}
 use Rattle.sarif_merge.specs.Prepared.{IsPreparedFor}

@@ -1,8 +1,8 @@
 use Rattle.std.proofs.Common.{◌≡◌, Err, inl, inr, refl, sym, ap, subst, ◌∙◌}
 use Rattle.std.proofs.lemmas.Result.{err_from_is_err_and}
 use Rattle.std.specs.Prelude.{option_map}
-use Rattle.sarif_assemble.specs.Told.{reporting_in}
-use Rattle.sarif_inputs.specs.Faults.{first}
+use Rattle.sarif_log.specs.Told.{reporting_in}
+use Rattle.sarif_model.specs.FirstFault.{first}
 use Rattle.sarif_merge.specs.Given.{given}
 use Rattle.sarif_merge.specs.Prepared.{IsPreparationOf}
 use Rattle.sarif_merge.proofs.MergeAnswers.{faults_are, file_first, prepared_is}

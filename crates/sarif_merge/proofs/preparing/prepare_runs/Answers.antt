@@ -1,12 +1,12 @@
 use Rattle.std.proofs.Common.{◌≡◌, ◌≤◌, ◌⊎◌, Some, map, length, sym, ap, subst, ◌∙◌, arith}
 use Rattle.std.proofs.lemmas.List.{length-map}
 use Rattle.std.proofs.lemmas.Result.{err_from_is_err_and}
-use Rattle.sarif_records.specs.Run.{results_total}
-use Rattle.sarif_sources.specs.declared.fault.Source.TheVariants.{Log, Baseline}
-use Rattle.sarif_judge.specs.Judging.{faults_of_runs, run_values}
-use Rattle.sarif_judge.specs.Opened.{placed_of}
-use Rattle.sarif_assemble.specs.Told.{reporting_in}
-use Rattle.sarif_inputs.specs.Faults.{first, IsWanting}
+use Rattle.sarif_model.specs.Run.{results_total}
+use Rattle.sarif_model.specs.declared.merge_fault.Source.TheVariants.{Log, Baseline}
+use Rattle.sarif_runs.specs.Judging.{faults_of_runs, run_values}
+use Rattle.sarif_runs.specs.Opened.{placed_of}
+use Rattle.sarif_log.specs.Told.{reporting_in}
+use Rattle.sarif_model.specs.FirstFault.{first, IsWanting}
 use Rattle.sarif_inputs.specs.Inputs.{numbered, placed}
 use Rattle.sarif_merge.proofs.MergeAnswers.{judged_logs, judged_baselines, same_runs, refused_by_first, left_after_first}
 use Rattle.sarif_merge.proofs.preparing.prepare_runs.Goals as goal

@@ -1,7 +1,7 @@
 use Rattle.std.proofs.Common.{◌≡◌, Ok, arith, rules, subst}
 use Rattle.std.proofs.lemmas.Result.{IfOk-weaker}
-use Rattle.sarif_assemble.specs.Beside.{IsMadeBy}
-use Rattle.sarif_sources.proofs.ReadersRead.{none_has_fallen}
+use Rattle.sarif_log.specs.Beside.{IsMadeBy}
+use Rattle.sarif_streams.proofs.ReadersRead.{none_has_fallen}
 use Rattle.sarif_program.specs.Reports.{report_for, report_with, texts_for}
 use Rattle.sarif_program.proofs.run.merge_for.Goals as goal
 

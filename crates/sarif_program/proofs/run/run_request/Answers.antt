@@ -2,9 +2,9 @@ use Rattle.std.proofs.Common.{ℕ, List, ap, arith, nat_eq, subst, sym, ◌∙�
 use Rattle.std.specs.Io.KnownBytes.{Appends}
 use Rattle.sarif_inputs.specs.Faults.{faults_of}
 use Rattle.sarif_merge.specs.Given.{given_by}
-use Rattle.sarif_sources.proofs.ReadersRead.{were_read_quiet}
-use Rattle.sarif_sources.specs.Counted.{inner_of, RisesIf}
-use Rattle.sarif_sources.specs.WereRead.{failures}
+use Rattle.sarif_streams.proofs.ReadersRead.{were_read_quiet}
+use Rattle.sarif_streams.specs.Counted.{inner_of, RisesIf}
+use Rattle.sarif_streams.specs.WereRead.{failures}
 use Rattle.sarif_program.specs.Reports.{report_for}
 use Rattle.sarif_program.specs.Writing.{writer_failures}
 use Rattle.sarif_program.proofs.Quiet.{quiet_status, no_rise, refused_rise}

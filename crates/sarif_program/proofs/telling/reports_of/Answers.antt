@@ -1,7 +1,7 @@
 use Rattle.std.proofs.Common.{◌≡◌, IfOk, List, subst}
 use Rattle.sarif_counts.specs.Counts.{count_at}
-use Rattle.sarif_report.specs.declared.finding.Finding.{Finding}
-use Rattle.sarif_report.specs.Report.{report_of}
+use Rattle.sarif_findings.specs.declared.finding.Finding.{Finding}
+use Rattle.sarif_reports.specs.Report.{report_of}
 use Rattle.sarif_program.specs.Reports.{texts_for}
 use Rattle.sarif_program.proofs.telling.reports_of.Goals as goal
 

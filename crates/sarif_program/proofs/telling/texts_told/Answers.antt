@@ -1,9 +1,9 @@
 use Rattle.std.proofs.Common.{◌≡◌, Some, None, if◌then◌else◌}
 use Rattle.std.proofs.lemmas.Result.{IfOk-at_ok}
 use Rattle.sarif_counts.specs.Counts.{count_at}
-use Rattle.sarif_report.specs.declared.report.Report.{Report}
-use Rattle.sarif_report.specs.declared.report.Report.TheVariants as kind
-use Rattle.sarif_report.specs.Report.{report_of}
+use Rattle.sarif_reports.specs.declared.report.Report.{Report}
+use Rattle.sarif_reports.specs.declared.report.Report.TheVariants as kind
+use Rattle.sarif_reports.specs.Report.{report_of}
 use Rattle.sarif_program.specs.Beside.{AreBeside}
 use Rattle.sarif_program.proofs.Asked.{asked_texts}
 use Rattle.sarif_program.proofs.telling.texts_told.Goals as goal

@@ -1,4 +1,4 @@
-use Rattle.sarif_records.specs.declared.kinds.State.TheVariants.{New, Unchanged, Updated, Absent}
+use Rattle.sarif_model.specs.declared.kinds.State.TheVariants.{New, Unchanged, Updated, Absent}
 use Rattle.sarif_counts.proofs.counts.Counts.plus.Goals as goal
 
 pub returns-clause-both : goal.returns-clause-both

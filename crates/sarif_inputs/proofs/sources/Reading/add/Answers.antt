@@ -1,9 +1,9 @@
 use Rattle.std.proofs.Common.{rules, ◌≡◌, ◌≤◌, ◌+◌, ◌⊎◌, Some, length, map, sym, subst, arith}
 use Rattle.std.proofs.lemmas.List.{length-map}
 use Rattle.std.proofs.lemmas.Result.{err_from_is_err_and, IfOk-at_ok}
-use Rattle.sarif_records.specs.Indexed.{run_of}
-use Rattle.sarif_records.specs.Run.{results_total}
-use Rattle.sarif_inputs.specs.Faults.{first, IsWanting}
+use Rattle.sarif_read.specs.Indexed.{run_of}
+use Rattle.sarif_model.specs.Run.{results_total}
+use Rattle.sarif_model.specs.FirstFault.{first, IsWanting}
 use Rattle.sarif_inputs.specs.SourceFaults.{limit_faults}
 use Rattle.sarif_inputs.proofs.SourceRuns.{counted_more}
 use Rattle.sarif_inputs.proofs.sources.Reading.add.Goals as goal

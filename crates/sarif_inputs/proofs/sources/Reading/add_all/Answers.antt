@@ -1,17 +1,17 @@
 use Rattle.std.proofs.Common.{rules, ◌≡◌, ◌⊎◌, ◌+◌, Some, append-nil, ◌++◌, [], ◌∷◌, map, length, sym, ap, ◌∙◌, subst, arith}
 use Rattle.std.proofs.lemmas.List.{nil_from_length}
 use Rattle.std.proofs.lemmas.Result.{err_from_is_err_and}
-use Rattle.sarif_records.specs.Reading.{log_of}
-use Rattle.sarif_records.specs.Run.{results_total}
+use Rattle.sarif_read.specs.Reading.{log_of}
+use Rattle.sarif_model.specs.Run.{results_total}
 use Rattle.sarif_inputs.specs.ReadRun.{placed_read}
-use Rattle.sarif_sources.specs.SourceKind.{source_of}
-use Rattle.sarif_inputs.specs.Faults.{first, IsWanting}
+use Rattle.sarif_model.specs.SourceKind.{source_of}
+use Rattle.sarif_model.specs.FirstFault.{first, IsWanting}
 use Rattle.sarif_inputs.specs.Inputs.{numbered, placed, placed_from, readable}
 use Rattle.sarif_inputs.specs.Parsed.{AreParsedFrom}
 use Rattle.sarif_inputs.specs.ReadSoFar.{faults_with}
 use Rattle.sarif_inputs.specs.SourceFaults.{source_faults}
 use Rattle.sarif_inputs.proofs.ReadParts.{parsed_first, parsed_none}
-use Rattle.sarif_inputs.proofs.SourceAnswers.{still_first}
+use Rattle.sarif_model.proofs.SourceAnswers.{still_first}
 use Rattle.sarif_inputs.proofs.SourceSteps.{source_step}
 use Rattle.sarif_inputs.proofs.sources.Reading.add_all.Goals as goal
 

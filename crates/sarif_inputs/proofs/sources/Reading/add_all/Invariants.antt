@@ -1,7 +1,7 @@
 use Rattle.std.proofs.Common.{◌≡◌, ◌+◌, ◌++◌, ℕ, List, map, length}
 use Rattle.sarif_inputs.specs.Parsed.{AreParsedFrom}
 use Rattle.sarif_inputs.specs.ReadRun.{placed_read}
-use Rattle.sarif_sources.specs.SourceKind.{source_of}
+use Rattle.sarif_model.specs.SourceKind.{source_of}
 use Rattle.sarif_inputs.specs.Inputs.{numbered, placed}
 use Rattle.sarif_inputs.specs.ReadSoFar.{IsCounted}
 use Rattle.sarif_inputs.specs.SourceFaults.{source_faults}

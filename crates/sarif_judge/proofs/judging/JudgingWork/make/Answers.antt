@@ -1,5 +1,5 @@
 use Rattle.std.proofs.Common.{◌≡◌, ◌<◌, ◌≤◌, arith}
-use Rattle.sarif_judge.proofs.AllSpots.{product_fits}
+use Rattle.sarif_runs.proofs.AllSpots.{product_fits}
 use Rattle.sarif_judge.proofs.judging.JudgingWork.make.Goals as goal
 
 pub overflow_mul-start : goal.overflow_mul-start

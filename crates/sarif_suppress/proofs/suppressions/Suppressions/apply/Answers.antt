@@ -1,6 +1,6 @@
 use Rattle.std.proofs.Common.{◌≡◌, List, [], ◌++◌, ap, ◌∙◌}
 use Rattle.std.specs.Option.{option_map_or}
-use Rattle.sarif_records.specs.declared.record.Record.{Record}
+use Rattle.sarif_model.specs.declared.record.Record.{Record}
 use Rattle.sarif_suppress.specs.declared.entry.Entry.{Entry}
 use Rattle.sarif_suppress.specs.Filing.{candidates}
 use Rattle.sarif_suppress.specs.Matching.{matches}

@@ -1,5 +1,0 @@
-use Rattle.json_index.proofs.Stripped.{get-without_same}
-use Rattle.json_index.proofs.laws.the_member_goes.Goals as goal
-
-pub returns : goal.returns
-returns c = get-without_same

@@ -1,0 +1,10 @@
+pub mod Around
+pub mod Indexed
+pub mod Laws
+pub mod Mark
+pub mod Ordered
+pub mod Stripping
+pub mod Together
+pub mod Walking
+pub mod Whole
+pub mod Without

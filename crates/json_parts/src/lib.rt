@@ -1,0 +1,26 @@
+//! Parts of JSON texts: the index of a text and single values read from it; the text of a value, and that
+//! of an object which is open at one member.
+#![tactic(auto)]
+
+mod around;
+mod indexing;
+mod laws;
+mod making;
+mod mark;
+mod node;
+mod number;
+mod readable;
+mod tape;
+mod text;
+mod together;
+mod walking;
+
+pub use around::{Around, text_around};
+pub use indexing::{Index, IndexFault, index_text};
+pub use laws::{
+    members_are_stripped, other_members_stay, stripping_before_or_after, the_member_goes,
+};
+pub use mark::without_mark;
+pub use node::Node;
+pub use text::push_value;
+pub use together::{Job, index_texts};

@@ -1,7 +1,0 @@
-use Rattle.std.proofs.Common.{subst}
-use Rattle.sarif_assemble.specs.Beside.{IsMadeBy}
-use Rattle.sarif_assemble.proofs.written.write_log.Goals as goal
-
-pub returns-clause-told : goal.returns-clause-told
-returns-clause-told g c =
-    subst (IsMadeBy g.Tell.FnOnce c.args.tell c.count_sides-counts.result c.args.prepared.findings) c.in_ok-told.was c.text_beside-text.ensures.said

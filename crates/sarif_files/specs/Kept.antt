@@ -1,5 +1,0 @@
--- What is read or written.
-use Rattle.sarif_files.specs.declared.kept.Kept.{Kept}
-
-abbrev pub kept_in : {D : Type 0} → Kept D → D
-kept_in kept = kept.inner

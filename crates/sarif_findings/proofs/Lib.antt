@@ -1,0 +1,16 @@
+pub mod ArtifactsMore
+pub mod ByHalves
+pub mod CharsBack
+pub mod HighBytes
+pub mod HitsCounted
+pub mod HitsReported
+pub mod MessageMore
+pub mod MessageWhole
+pub mod PathMore
+pub mod ReportedMore
+pub mod RulesMore
+pub mod SeenMore
+pub mod Shared
+pub mod ShownMore
+pub mod ShownWhole
+pub mod ToldFindings

@@ -1,0 +1,104 @@
+-- What is told of a result is shown.
+use Rattle.std.proofs.Common.{◌≡◌, ◌<◌, ◌^◌, ◌++◌, ℕ, Bool, true, false, ◌&&◌, List, [], ◌∷◌, Option, Some, None, IfSome, codes, if◌then◌else◌, refl, arith}
+use Rattle.std.specs.Prelude.{option_and_then, flat_map, nat_le, nat_lt}
+use Rattle.std.specs.Char.{encode_utf8}
+use Rattle.std.specs.List.{AllByRecursion, filter_map, cons_option}
+use Rattle.std.proofs.lemmas.Bool.{and_parts, ltb-true}
+use Rattle.serde_json.specs.Data.{Data}
+use Rattle.serde_json.specs.Find.{get}
+use Rattle.sarif_model.specs.declared.kinds.Level.{Level}
+use Rattle.sarif_model.specs.declared.kinds.State.{State}
+use Rattle.sarif_findings.specs.declared.finding.Finding.{Finding}
+use Rattle.sarif_findings.specs.declared.reporting.Reporting.{Reporting}
+use Rattle.sarif_findings.specs.Lookup.{elements_in, position_number, position_in, number_in, physical_location, uri_of}
+use Rattle.sarif_findings.specs.Shown.{shown, kept}
+use Rattle.sarif_findings.specs.Reported.{reported_of, reported_in, finding_if, finding_by, finding_of, or_no_message, none_if_empty, shown_path, only_with, is_reported, level_in, state_in, path_in, line_in}
+
+abbrev pub IsShown : List ℕ → Type 0
+IsShown text = (cs : List ℕ) × (text ≡ shown cs)
+
+pub record IsPath (text : List ℕ) : Type 0 where
+  pub shown : IsShown text
+  pub some : text ≡ [] → ⊥
+
+pub record IsTold (f : Finding) : Type 0 where
+  pub tool : IsShown f.tool
+  pub rule : IsShown f.rule
+  pub message : IsShown f.message
+  pub path : IfSome f.path IsPath
+  pub line : IfSome f.line (λ n. n < 2 ^ 64)
+  pub column : IfSome f.column (λ n. n < 2 ^ 64)
+
+no_message : codes "(no message)" ≡ shown (codes "(no message)")
+unfolding kept encode_utf8
+no_message = refl
+
+message_by : (cs text : List ℕ) → text ≡ shown cs → IsShown (or_no_message text)
+message_by cs [] e = (codes "(no message)", no_message)
+message_by cs (b ∷ bs) e = (cs, e)
+
+path_by : (cs text : List ℕ) → text ≡ shown cs → IfSome (none_if_empty text) IsPath
+path_by cs [] e = tt
+path_by cs (b ∷ bs) e = record { shown = (cs, e); some = λ none. cc }
+
+path_told : (root : List ℕ) (o : Option (List ℕ)) → IfSome (option_and_then (shown_path root) o) IsPath
+path_told root None = tt
+path_told root (Some uri) = path_by _ _ refl
+
+number_by : (b : Bool) (n : ℕ) → (nat_le 1 n && nat_lt n (2 ^ 32)) ≡ b → IfSome (if b then Some n else None) (λ k. k < 2 ^ 64)
+number_by true n e = let small : n < 2 ^ 32 = ltb-true n (2 ^ 32) (and_parts (nat_le 1 n) (nat_lt n (2 ^ 32)) e).1 in omega (arith, small)
+number_by false n e = tt
+
+number_told : (o : Option ℕ) → IfSome (option_and_then position_number o) (λ k. k < 2 ^ 64)
+number_told None = tt
+number_told (Some n) = number_by _ n refl
+
+with_told : {X : Type 0} (o : Option X) (p : Option ℕ) → IfSome p (λ k. k < 2 ^ 64) → IfSome (only_with o p) (λ k. k < 2 ^ 64)
+with_told None p h = tt
+with_told (Some x) p h = h
+
+finding_told : (reporting : Reporting) (run result : Data) (l : Level) (s : State) → IsTold (finding_of reporting run result l s)
+unfolding finding_of
+finding_told reporting run result l s = record {
+  tool = (_, refl);
+  rule = (_, refl);
+  message = message_by _ _ refl;
+  path = path_told reporting.root (uri_of run result);
+  line = with_told (path_in reporting run result) (position_in (codes "startLine") result)
+      (number_told (option_and_then (number_in (codes "startLine")) (option_and_then (get (codes "region")) (physical_location result))));
+  column = with_told (line_in reporting run result) (position_in (codes "startColumn") result)
+      (number_told (option_and_then (number_in (codes "startColumn")) (option_and_then (get (codes "region")) (physical_location result))));
+}
+
+chosen : (b : Bool) (f : Finding) → IsTold f → IfSome (if b then Some f else None) IsTold
+chosen true f h = h
+chosen false f h = tt
+
+told_by : (reporting : Reporting) (run result : Data) (ol : Option Level) (os : Option State) → IfSome (finding_by reporting run result ol os) IsTold
+told_by reporting run result None os = tt
+told_by reporting run result (Some l) None = tt
+told_by reporting run result (Some l) (Some s) =
+    chosen (is_reported reporting result s) (finding_of reporting run result l s) (finding_told reporting run result l s)
+
+told_more : (o : Option Finding) (fs : List Finding) → IfSome o IsTold → AllByRecursion IsTold fs → AllByRecursion IsTold (cons_option o fs)
+told_more None fs h rest = rest
+told_more (Some f) fs h rest = (h, rest)
+
+told_results : (reporting : Reporting) (run : Data) (results : List Data) → AllByRecursion IsTold (filter_map (finding_if reporting run) results)
+told_results reporting run [] = tt
+told_results reporting run (result ∷ results) =
+    told_more (finding_if reporting run result) (filter_map (finding_if reporting run) results)
+    (told_by reporting run result (level_in result) (state_in result)) (told_results reporting run results)
+
+told_append : (fs gs : List Finding) → AllByRecursion IsTold fs → AllByRecursion IsTold gs → AllByRecursion IsTold (fs ++ gs)
+told_append [] gs h rest = rest
+told_append (f ∷ fs) gs h rest = (h.0, told_append fs gs h.1 rest)
+
+told_runs : (reporting : Reporting) (runs : List Data) → AllByRecursion IsTold (flat_map (reported_in reporting) runs)
+told_runs reporting [] = tt
+told_runs reporting (run ∷ runs) =
+    told_append (reported_in reporting run) (flat_map (reported_in reporting) runs)
+    (told_results reporting run (elements_in (codes "results") run)) (told_runs reporting runs)
+
+pub all_told : (reporting : Reporting) (log : Data) → AllByRecursion IsTold (reported_of reporting log)
+all_told reporting log = told_runs reporting (elements_in (codes "runs") log)

@@ -1,0 +1,6 @@
+use Rattle.sarif_findings.proofs.ShownMore.{shown_whole}
+use Rattle.sarif_findings.proofs.shown_text.shown.Goals as goal
+
+pub returns : goal.returns
+returns c =
+    shown_whole c.new-so_far.result c.push_str.new.self _ _ c.new-so_far.ensures c.in_ok-push_str.ensures c.finish.ensures

@@ -1,0 +1,6 @@
+use Rattle.sarif_findings.proofs.ShownMore.{shown_whole}
+use Rattle.sarif_findings.proofs.spot.text_of_path.Goals as goal
+
+pub returns : goal.returns
+returns c =
+    shown_whole c.new-so_far.result c.push_path.new.so_far _ _ c.new-so_far.ensures c.in_ok-push_path.ensures c.finish.ensures

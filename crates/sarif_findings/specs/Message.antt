@@ -1,0 +1,112 @@
+-- The message of a result (SARIF 2.1.0, "Messages with placeholders", "Message string lookup"). Texts are their
+-- characters here.
+use Rattle.std.specs.Prelude.{ℕ, zero, suc, ◌+◌, ◌-◌, ◌*◌, Bool, false, not, ◌&&◌, ◌||◌, ◌==◌, nat_lt, List, [], ◌∷◌, ◌++◌, Option, Some, None, codes, chars, slice_get, option_and_then, unwrap_or, is_some, if◌then◌else◌}
+use Rattle.std.specs.Char.{is_ascii_digit}
+use Rattle.std.specs.Fmt.{decimal}
+use Rattle.std.specs.Option.{option_or}
+use Rattle.serde_json.specs.Data.{Data}
+use Rattle.serde_json.specs.Find.{get, as_str}
+use Rattle.sarif_findings.specs.Lookup.{text_in, elements_in, descriptor_of, component_of, driver_of}
+
+-- ---- the text
+
+-- the text of the member of that name of a table of message strings
+abbrev pub string_named : List ℕ → List ℕ → Data → Option (List ℕ)
+string_named table name d =
+    option_and_then (text_in (codes "text")) (option_and_then (get name) (get table d))
+
+-- the component whose strings a result's message may be one of
+abbrev pub strings_of : Data → Data → Option Data
+strings_of run result =
+    if is_some (descriptor_of run result) then component_of run result else driver_of run
+
+abbrev pub own_string : Data → Data → List ℕ → Option (List ℕ)
+own_string run result name =
+    option_and_then (string_named (codes "messageStrings") name) (descriptor_of run result)
+
+abbrev pub shared_string : Data → Data → List ℕ → Option (List ℕ)
+shared_string run result name =
+    option_and_then (string_named (codes "globalMessageStrings") name) (strings_of run result)
+
+-- the string of that name of the descriptor, else of the component
+abbrev pub looked_up : Data → Data → List ℕ → Option (List ℕ)
+looked_up run result name = option_or (own_string run result name) (shared_string run result name)
+
+-- the message's own text, else the one that its id names
+abbrev pub text_by : Data → Data → Data → Option (List ℕ)
+text_by run result message =
+    option_or (text_in (codes "text") message)
+    (option_and_then (looked_up run result) (text_in (codes "id") message))
+
+abbrev pub found_text : Data → Data → Option (List ℕ)
+found_text run result = option_and_then (text_by run result) (get (codes "message") result)
+
+-- the text with its placeholders
+abbrev pub message_text : Data → Data → List ℕ
+message_text run result = unwrap_or (found_text run result) []
+
+abbrev pub arguments_in : Option Data → List Data
+arguments_in None = []
+arguments_in (Some message) = elements_in (codes "arguments") message
+
+abbrev pub arguments_of : Data → List Data
+arguments_of result = arguments_in (get (codes "message") result)
+
+-- ---- placeholders
+
+abbrev pub takes_digit : ℕ → ℕ → ℕ → Bool
+takes_digit n count c = is_ascii_digit c && (nat_lt n 100000000 && (count == 0 || not (n == 0)))
+
+-- the number that stands before the next `}` in at most nine digits, with no 0 before another digit, and in how
+-- many digits; n is the number that `count` digits have written so far
+abbrev pub index_from : ℕ → ℕ → List ℕ → Option (ℕ × ℕ)
+index_from n count [] = None
+index_from n count (c ∷ cs) =
+    if c == 125 then (if count == 0 then None else Some (n, count)) else (
+    if takes_digit n count c then index_from (n * 10 + (c - 48)) (count + 1) cs else None)
+
+-- the placeholder of that number, as it stands in a text
+abbrev pub placeholder : ℕ → List ℕ
+placeholder n = codes "{" ++ (decimal n ++ codes "}")
+
+abbrev pub argument_at : List Data → ℕ → Option (List ℕ)
+argument_at args n = option_and_then as_str (slice_get args n)
+
+-- the argument of that number; where no text has it, the placeholder stays whole
+abbrev pub argument_or_placeholder : List Data → ℕ → List ℕ
+argument_or_placeholder args n = unwrap_or (argument_at args n) (placeholder n)
+
+abbrev pub first_is : ℕ → List ℕ → Bool
+first_is c [] = false
+first_is c (d ∷ ds) = d == c
+
+-- what is written for a `{` with such a number after it, and how many characters name it, the `}` too; with no such
+-- number the `{` stays alone
+abbrev pub written_for : List Data → Option (ℕ × ℕ) → List ℕ × ℕ
+written_for args None = (123 ∷ [], 0)
+written_for args (Some index) = (chars (argument_or_placeholder args index.0), index.1 + 1)
+
+-- what is written for a character, and how many of those after it are part of the same placeholder
+abbrev pub piece_of : List Data → ℕ → List ℕ → List ℕ × ℕ
+piece_of args c cs =
+    if c == 123 && not (first_is 123 cs) then written_for args (index_from 0 0 cs) else (
+    if (c == 123 || c == 125) && first_is c cs then (c ∷ [], 1) else (c ∷ [], 0))
+
+-- the text with its placeholders filled in, from left to right; the first `skip` characters are read already
+abbrev pub filled_from : List Data → ℕ → List ℕ → List ℕ
+filled_from args skip [] = []
+filled_from args zero (c ∷ cs) =
+    (piece_of args c cs).0 ++ filled_from args (piece_of args c cs).1 cs
+filled_from args (suc skip) (c ∷ cs) = filled_from args skip cs
+
+-- any other byte than `{` and `}`
+abbrev pub is_unbraced : ℕ → Bool
+is_unbraced b = not (b == 123 || b == 125)
+
+-- without arguments nothing is filled in
+abbrev pub filled : List Data → List ℕ → List ℕ
+filled [] cs = cs
+filled (d ∷ ds) cs = filled_from (d ∷ ds) 0 cs
+
+abbrev pub message_of : Data → Data → List ℕ
+message_of run result = filled (arguments_of result) (chars (message_text run result))

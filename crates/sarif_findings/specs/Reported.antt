@@ -1,0 +1,110 @@
+-- The results of a finished merged log that a report tells of, in the order of the log: the active ones whose
+-- baseline state the policy lists.
+use Rattle.std.specs.Prelude.{ℕ, Bool, not, ◌&&◌, ◌||◌, nat_eq, bytes_eq, List, [], ◌∷◌, Option, Some, None, codes, chars, flat_map, option_and_then, unwrap_or, if◌then◌else◌}
+use Rattle.std.specs.List.{filter_map, starts_with}
+use Rattle.serde_json.specs.Data.{Data}
+use Rattle.sarif_model.specs.declared.kinds.Level.{Level}
+use Rattle.sarif_model.specs.declared.kinds.State.{State}
+use Rattle.sarif_model.specs.Level.{level_named}
+use Rattle.sarif_model.specs.State.{state_named}
+use Rattle.sarif_model.specs.Driver.{driver_name}
+use Rattle.sarif_counts.specs.Policy.{is_listed, is_at_least}
+use Rattle.sarif_counts.specs.CountOf.{suppressions_in, suppresses}
+use Rattle.sarif_findings.specs.declared.finding.Finding.{Finding}
+use Rattle.sarif_findings.specs.declared.reporting.Reporting.{Reporting}
+use Rattle.sarif_findings.specs.Lookup.{text_in, elements_in, rule_id, help_uri, uri_of, position_in}
+use Rattle.sarif_findings.specs.Message.{message_of}
+use Rattle.sarif_findings.specs.PathOf.{path_of}
+use Rattle.sarif_findings.specs.Shown.{shown}
+
+abbrev pub state_in : Data → Option State
+state_in result = option_and_then state_named (text_in (codes "baselineState") result)
+
+abbrev pub level_in : Data → Option Level
+level_in result = option_and_then level_named (text_in (codes "level") result)
+
+abbrev pub is_active : Data → Bool
+is_active result = not (suppresses (suppressions_in result))
+
+-- an empty message is told as such
+abbrev pub or_no_message : List ℕ → List ℕ
+or_no_message [] = codes "(no message)"
+or_no_message (b ∷ bs) = b ∷ bs
+
+abbrev pub none_if_empty : List ℕ → Option (List ℕ)
+none_if_empty [] = None
+none_if_empty (b ∷ bs) = Some (b ∷ bs)
+
+-- a uri as it is shown; an empty path counts as none
+abbrev pub shown_path : List ℕ → List ℕ → Option (List ℕ)
+shown_path root uri = none_if_empty (shown (chars (path_of root uri)))
+
+abbrev pub path_in : Reporting → Data → Data → Option (List ℕ)
+path_in reporting run result = option_and_then (shown_path reporting.root) (uri_of run result)
+
+-- what is told only beside another thing
+abbrev pub only_with : {X Y : Type 0} → Option X → Option Y → Option Y
+only_with None o = None
+only_with (Some x) o = o
+
+-- there is a line only with a path
+abbrev pub line_in : Reporting → Data → Data → Option ℕ
+line_in reporting run result =
+    only_with (path_in reporting run result) (position_in (codes "startLine") result)
+
+-- there is a column only with a line
+abbrev pub column_in : Reporting → Data → Data → Option ℕ
+column_in reporting run result =
+    only_with (line_in reporting run result) (position_in (codes "startColumn") result)
+
+-- whether an address is one of the web, all of whose characters are shown
+abbrev pub is_link : List ℕ → Bool
+is_link uri =
+    (starts_with nat_eq uri (codes "https://") || starts_with nat_eq uri (codes "http://"))
+    && bytes_eq (shown (chars uri)) uri
+
+abbrev pub link_of : List ℕ → Option (List ℕ)
+link_of uri = if is_link uri then Some uri else None
+
+abbrev pub help_in : Data → Data → Option (List ℕ)
+help_in run result = option_and_then link_of (help_uri run result)
+
+abbrev pub tool_in : Data → List ℕ
+tool_in run = unwrap_or (driver_name run) []
+
+-- what is told of a result of this run
+unfoldable pub finding_of : Reporting → Data → Data → Level → State → Finding
+finding_of reporting run result level state = record {
+  tool = shown (chars (tool_in run));
+  rule = shown (chars (rule_id run result));
+  level = level;
+  state = state;
+  message = or_no_message (shown (message_of run result));
+  path = path_in reporting run result;
+  line = line_in reporting run result;
+  column = column_in reporting run result;
+  help = help_in run result;
+  hit = is_at_least reporting.policy.fail_on level;
+}
+
+abbrev pub is_reported : Reporting → Data → State → Bool
+is_reported reporting result state = is_listed reporting.policy.states state && is_active result
+
+-- a result of a merged log has a level and a state; without one of them it isn't told
+abbrev pub finding_by : Reporting → Data → Data → Option Level → Option State → Option Finding
+finding_by reporting run result None state = None
+finding_by reporting run result (Some level) None = None
+finding_by reporting run result (Some level) (Some state) =
+    if is_reported reporting result state
+    then Some (finding_of reporting run result level state) else None
+
+abbrev pub finding_if : Reporting → Data → Data → Option Finding
+finding_if reporting run result =
+    finding_by reporting run result (level_in result) (state_in result)
+
+abbrev pub reported_in : Reporting → Data → List Finding
+reported_in reporting run =
+    filter_map (finding_if reporting run) (elements_in (codes "results") run)
+
+abbrev pub reported_of : Reporting → Data → List Finding
+reported_of reporting log = flat_map (reported_in reporting) (elements_in (codes "runs") log)

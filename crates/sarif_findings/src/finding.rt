@@ -1,0 +1,30 @@
+//! What a report tells of a result.
+use sarif_model::{Level, State, Text};
+
+/// What a report tells of a result of the merged log. Texts are shown texts (see `shown`).
+#[derive(Debug, Drop)]
+pub struct Finding {
+    /// The name of the driver.
+    pub tool: Text,
+    /// The rule id, or the empty text.
+    pub rule: Text,
+    /// The effective level, as the merged log has it.
+    pub level: Level,
+    /// The baseline state, as the merged log has it.
+    pub state: State,
+    /// The message with its placeholders filled in, or `(no message)` where that is empty.
+    pub message: Text,
+    /// The uri of its place, read as a path, without the root; `None` where there is none, or it is
+    /// empty.
+    pub path: Option<Text>,
+    /// `region.startLine` of its first location, from 1; `None` where it isn't there, or where
+    /// there is no path.
+    pub line: Option<u32>,
+    /// `region.startColumn` of its first location, from 1, in the unit of the log; `None` where it
+    /// isn't there, or where there is no line.
+    pub column: Option<u32>,
+    /// The address of a page on the rule, its `helpUri`, as it is in the log.
+    pub help: Option<Text>,
+    /// Whether the gate counts it: its level is at least that of the policy.
+    pub hit: bool,
+}

@@ -1,0 +1,130 @@
+//! What a result of a merged log names: its rule, and artifacts of its run. A member of another kind than is looked
+//! for counts as absent.
+ghost use Rattle.std.specs.Prelude.{◌≡◌, map, option_map, option_and_then};
+ghost use Rattle.serde_json.specs.View.{view};
+ghost use Rattle.sarif_findings.specs.Lookup as said;
+ghost use Rattle.sarif_findings.specs.Subject.{IsDescribed};
+
+use crate::subject::Subject;
+use serde_json::Value;
+
+/// The text `name` of an object.
+pub(crate) fn text_in<'a>(value: &'a Value, name: &str) -> Option<&'a str>
+    ensures { option_map (λ s. s.now) result ≡ said.text_in name.now (view value.now) }
+{
+    value.get(name)?.as_str()
+}
+
+/// The whole number `name` of an object, which is at least 0.
+pub(crate) fn number_in(value: &Value, name: &str) -> Option<u64>
+    ensures { result ≡ said.number_in name.now (view value.now) }
+{
+    value.get(name)?.as_u64()
+}
+
+/// The elements of the array `name` of an object.
+#[tactic(auto, using(sarif_model::proofs::Elements::elements_items_view))]
+pub(crate) fn elements_in<'a>(value: &'a Value, name: &str) -> &'a [Value]
+    ensures { map view result.now ≡ said.elements_in name.now (view value.now) }
+{
+    match value.get(name).and_then(Value::as_array) {
+        Some(items) => items.as_slice(),
+        None => &[],
+    }
+}
+
+/// The element `index` of the array `name` of an object.
+fn element_at<'a>(value: &'a Value, name: &str, index: u64) -> Option<&'a Value>
+    ensures { option_map (λ v. view v.now) result
+        ≡ said.element_at name.now (view value.now) index }
+{
+    elements_in(value, name).get(index as usize)
+}
+
+/// `ruleId`, else `rule.id`.
+pub(crate) fn own_rule_id(found: &Value) -> Option<&str>
+    ensures { option_map (λ s. s.now) result ≡ said.own_rule_id (view found.now) }
+{
+    match text_in(found, "ruleId") {
+        Some(id) => Some(id),
+        None => text_in(found.get("rule")?, "id"),
+    }
+}
+
+/// `rule.index`.
+fn index_of_rule(found: &Value) -> Option<u64>
+    ensures { result ≡ said.index_of_rule (view found.now) }
+{
+    number_in(found.get("rule")?, "index")
+}
+
+/// `rule.index`, else `ruleIndex`.
+pub(crate) fn rule_index(found: &Value) -> Option<u64>
+    ensures { result ≡ said.rule_index (view found.now) }
+{
+    match index_of_rule(found) {
+        Some(index) => Some(index),
+        None => number_in(found, "ruleIndex"),
+    }
+}
+
+/// `rule.toolComponent.index`.
+pub(crate) fn extension_index(found: &Value) -> Option<u64>
+    ensures { result ≡ said.extension_index (view found.now) }
+{
+    number_in(found.get("rule")?.get("toolComponent")?, "index")
+}
+
+/// The driver of a run's tool.
+pub(crate) fn driver_of(run: &Value) -> Option<&Value>
+    ensures { option_map (λ v. view v.now) result ≡ said.driver_of (view run.now) }
+{
+    run.get("tool")?.get("driver")
+}
+
+/// An extension of a run's tool.
+fn extension_at(run: &Value, index: u64) -> Option<&Value>
+    ensures { option_map (λ v. view v.now) result ≡ said.extension_at (view run.now) index }
+{
+    element_at(run.get("tool")?, "extensions", index)
+}
+
+/// The tool component that a result's rule is looked up in.
+pub(crate) fn component_of<'a>(run: &'a Value, found: &Value) -> Option<&'a Value>
+    ensures { option_map (λ v. view v.now) result
+        ≡ said.component_of (view run.now) (view found.now) }
+{
+    match extension_index(found) {
+        None => driver_of(run),
+        Some(index) => extension_at(run, index),
+    }
+}
+
+/// The id of the descriptor of a result.
+fn descriptor_id<'a>(subject: &Subject<'a>) -> Option<&'a str>
+    requires { IsDescribed subject.now }
+    ensures { option_map (λ s. s.now) result
+        ≡ said.descriptor_id (view subject.now.run.now) (view subject.now.found.now) }
+{
+    text_in(subject.descriptor?, "id")
+}
+
+/// The result's own rule id, else that of its descriptor, else the empty text.
+pub(crate) fn rule_id<'a>(subject: &Subject<'a>) -> &'a str
+    requires { IsDescribed subject.now }
+    ensures { result.now ≡ said.rule_id (view subject.now.run.now) (view subject.now.found.now) }
+{
+    match own_rule_id(subject.found) {
+        Some(id) => id,
+        None => descriptor_id(subject).unwrap_or(""),
+    }
+}
+
+/// The address of a page on the rule.
+pub(crate) fn help_uri<'a>(subject: &Subject<'a>) -> Option<&'a str>
+    requires { IsDescribed subject.now }
+    ensures { option_map (λ s. s.now) result
+        ≡ said.help_uri (view subject.now.run.now) (view subject.now.found.now) }
+{
+    text_in(subject.descriptor?, "helpUri")
+}

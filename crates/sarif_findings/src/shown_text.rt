@@ -1,0 +1,223 @@
+//! What a report shows of a log's text: one line, no character that hides or steers, and at most 1,000.
+ghost use Rattle.std.specs.Prelude.{◌≡◌, ℕ, List, ◌∷◌, ◌++◌, [], OnOk, IfOk, true, false, chars, string_bytes};
+ghost use Rattle.std.specs.Prelude.{encode_utf8_all, if◌then◌else◌, Bool};
+ghost use Rattle.std.specs.List.{list_all};
+ghost use Rattle.sarif_findings.specs.Shown as said;
+ghost use Rattle.sarif_findings.specs.ShownSoFar as so_far;
+
+use sarif_model::Text;
+use std::alloc::{AllocError, Global};
+
+/// The most characters that are shown of a text.
+pub const MOST_CHARACTERS: u32 = 1_000;
+
+/// A control character, or a line or paragraph separator.
+fn is_control(c: char) -> bool
+    ensures { result ≡ said.is_control c }
+{
+    matches!(c, '\u{0}'..='\u{1f}' | '\u{7f}'..='\u{9f}' | '\u{2028}'..='\u{2029}')
+}
+
+/// A character that turns the order of reading, or joins or steers what is beside it unseen.
+fn is_unseen_mark(c: char) -> bool
+    ensures { result ≡ said.is_unseen_mark c }
+{
+    matches!(
+        c,
+        '\u{ad}'
+            | '\u{34f}'
+            | '\u{61c}'
+            | '\u{180b}'..='\u{180f}'
+            | '\u{200b}'..='\u{200f}'
+            | '\u{202a}'..='\u{202e}'
+            | '\u{2060}'..='\u{206f}'
+            | '\u{fe00}'..='\u{fe0f}'
+            | '\u{feff}'
+            | '\u{fff9}'..='\u{fffb}'
+            | '\u{1d173}'..='\u{1d17a}'
+            | '\u{e0000}'..='\u{e0fff}'
+    )
+}
+
+/// A letter that is drawn as nothing.
+fn is_blank_letter(c: char) -> bool
+    ensures { result ≡ said.is_blank_letter c }
+{
+    matches!(c, '\u{115f}'..='\u{1160}' | '\u{17b4}'..='\u{17b5}' | '\u{3164}' | '\u{ffa0}')
+}
+
+/// The character, or a space in place of one that isn't shown.
+fn plain(c: char) -> char
+    ensures { result ≡ said.plain c }
+{
+    if is_control(c) || is_unseen_mark(c) || is_blank_letter(c) {
+        ' '
+    } else {
+        c
+    }
+}
+
+/// Whether a byte is a character that is shown as it stands, whatever stands beside it.
+fn stands(byte: u8) -> bool
+    ensures { result ≡ so_far.stands byte }
+{
+    matches!(byte, b' '..=b'~') && byte != b'#'
+}
+
+fn all_stand(bytes: &[u8]) -> bool
+    ensures { result ≡ list_all so_far.stands bytes.now }
+{
+    for byte in bytes {
+        if !stands(*byte) {
+            return false;
+        }
+    }
+    true
+}
+
+/// A text that is being shown: it takes characters, and makes no more than it keeps.
+#[derive(Drop)]
+pub(crate) struct ShownText {
+    text: String,
+    room: u32,
+    after_sign: bool,
+    full: bool,
+}
+
+impl ShownText {
+    ghost use Rattle.std.specs.Prelude.{◌<◌, ◌≤◌, length};
+    ghost use Rattle.std.specs.Bool.{OnTrue};
+    ghost use Rattle.std.specs.List.{list_all};
+    ghost use Rattle.sarif_findings.specs.ShownSoFar.{shown_with, stands, Takes, Keeps, Parts};
+
+    pub(crate) fn new(alloc: Global) -> ShownText
+        ensures { (cs : List ℕ) → shown_with result cs ≡ said.shown cs }
+    {
+        ShownText {
+            text: String::new(alloc),
+            room: MOST_CHARACTERS,
+            after_sign: false,
+            full: false,
+        }
+    }
+
+    /// Whether no further character is taken.
+    pub(crate) fn is_full(&self) -> bool
+        ensures { result ≡ self.now.full }
+    {
+        self.full
+    }
+
+    /// Keeps a character that is shown as it stands, or ends the text.
+    fn keep(&mut self, c: char) -> Result<(), AllocError>
+        ensures { OnOk result ((cs : List ℕ) → Keeps self.old self.new c cs) }
+    {
+        if self.full {
+            return Ok(());
+        }
+        if self.room == 0 {
+            self.text.push('…')?;
+            self.full = true;
+            return Ok(());
+        }
+        self.text.push(c)?;
+        self.room -= 1;
+        Ok(())
+    }
+
+    /// Keeps a space, where the character is the second of two `#`.
+    fn part(&mut self, c: char) -> Result<(), AllocError>
+        ensures { OnOk result ((cs : List ℕ) → Parts self.old self.new c cs) }
+    {
+        if self.after_sign && c == '#' {
+            self.keep(' ')?;
+        }
+        Ok(())
+    }
+
+    /// Takes the next character of the text.
+    pub(crate) fn push(&mut self, c: char) -> Result<(), AllocError>
+        ensures { OnOk result (Takes self.old self.new (c ∷ [])) }
+    {
+        let c = plain(c);
+        self.part(c)?;
+        self.keep(c)?;
+        self.after_sign = c == '#';
+        Ok(())
+    }
+
+    /// Takes the characters of a text, one after another.
+    fn push_each(&mut self, text: &str) -> Result<(), AllocError>
+        ensures { OnOk result (Takes self.old self.new (chars text.now)) }
+    {
+        for c in text.chars() {
+            if self.full {
+                return Ok(());
+            }
+            self.push(c)?;
+        }
+        Ok(())
+    }
+
+    /// Whether a text is shown as it stands, and there is room for it.
+    fn has_room(&self, text: &str) -> bool
+        ensures some { OnTrue result (0 < length text.now) }
+        ensures stands { OnTrue result (list_all stands text.now ≡ true) }
+        ensures room { OnTrue result (length text.now ≤ self.now.room) }
+        ensures going { OnTrue result (self.now.full ≡ false) }
+    {
+        !self.full
+            && 0 < text.len()
+            && text.len() <= self.room as usize
+            && all_stand(text.as_bytes())
+    }
+
+    /// Takes a text that is shown as it stands.
+    fn push_whole(&mut self, text: &str) -> Result<(), AllocError>
+        requires some { 0 < length text.now }
+        requires stands { list_all stands text.now ≡ true }
+        requires room { length text.now ≤ self.old.room }
+        requires going { self.old.full ≡ false }
+        ensures { OnOk result (Takes self.old self.new (chars text.now)) }
+    {
+        self.text.push_str(text)?;
+        self.room = (self.room as usize - text.len()) as u32;
+        self.after_sign = false;
+        Ok(())
+    }
+
+    /// Takes the characters of a text.
+    pub(crate) fn push_str(&mut self, text: &str) -> Result<(), AllocError>
+        ensures { OnOk result (Takes self.old self.new (chars text.now)) }
+    {
+        if self.has_room(text) {
+            return self.push_whole(text);
+        }
+        self.push_each(text)
+    }
+
+    /// The text that is shown.
+    pub(crate) fn finish(self) -> String
+        ensures { string_bytes result ≡ shown_with self [] }
+    {
+        let ShownText { text, .. } = self;
+        text
+    }
+}
+
+/// What is shown of a text: one line of at most 1,000 characters, none of which hides or steers, and `…` behind them
+/// where there were more. `AllocError` where memory for it is wanting.
+pub fn shown(alloc: Global, text: &str) -> Result<String, AllocError>
+    ensures { IfOk result (λ s. string_bytes s ≡ said.shown (chars text.now)) }
+{
+    let mut so_far = ShownText::new(alloc);
+    so_far.push_str(text)?;
+    Ok(so_far.finish())
+}
+
+/// What is shown of a text, as a text that clones share.
+pub(crate) fn shown_copy(alloc: Global, text: &str) -> Result<Text, AllocError>
+    ensures { IfOk result (λ t. t ≡ said.shown (chars text.now)) }
+{
+    Text::from_string(shown(alloc, text)?)
+}

@@ -1,0 +1,64 @@
+//! Judging runs, up to their first fault.
+ghost use Rattle.std.specs.Prelude.{◌≡◌, ◌≤◌, map, length, IfOk};
+ghost use Rattle.sarif_model.specs.Run.{results_total};
+ghost use Rattle.sarif_runs.specs.Judging.{faults_of_runs, run_values};
+ghost use Rattle.sarif_runs.specs.Opened.{placed_of};
+ghost use Rattle.sarif_results.specs.Outcomes.{all_outcomes};
+ghost use Rattle.sarif_model.specs.MergeFault.{IsQuiet};
+ghost use Rattle.sarif_model.specs.FirstFault.{Answers};
+ghost use Rattle.sarif_results.specs.Judged.{placed_in};
+ghost use Rattle.sarif_judge.specs.Wanting.{wanting_of};
+
+use crate::first_fault::fault_of_runs;
+use crate::outcomes::judge;
+use sarif_gather::{Gate, GatherFault};
+use sarif_model::{At, Cause, MergeFault};
+use sarif_results::Judged;
+use sarif_runs::OpenedRun;
+use sarif_suppress::Suppressions;
+use std::alloc::Global;
+use std::sync::Wait;
+use std::thread::Threads;
+
+/// The refusal for want of memory or of a thread.
+fn refusal_of(fault: GatherFault) -> MergeFault
+    ensures { result ≡ wanting_of fault }
+{
+    let cause = match fault {
+        GatherFault::NoWorker => Cause::NoWorker,
+        GatherFault::OutOfMemory => Cause::OutOfMemory,
+    };
+    MergeFault::found(At::Nowhere, cause)
+}
+
+/// Has `workers` threads judge the results of runs. `observer` looks on.
+///
+/// A refusal is the first fault of the runs and their results in order, whichever worker was the first, or want of
+/// memory or of a thread.
+#[tactic(auto, using(crate::proofs::Wants::wants, crate::proofs::Wants::quiet_want))]
+pub fn judge_runs<'t, 'a, G: Gate + Sync, R: Threads + Wait + Sync>(
+    rt: &R,
+    alloc: Global,
+    runs: Vec<OpenedRun<'t, 'a>>,
+    file: &Suppressions,
+    workers: u32,
+    observer: &G,
+) -> Result<Judged<'t, 'a>, MergeFault>
+    requires workers { (1 ≤ workers) × (workers ≤ 64) }
+    requires few { length runs.items ≤ 10000 }
+    requires few_results { results_total (run_values (map placed_of runs.items)) ≤ 1000000 }
+    ensures runs { IfOk result (λ judged. placed_in judged ≡ map placed_of runs.entry.items) }
+    ensures outcomes { IfOk result
+        (λ judged. judged.outcomes.items ≡ all_outcomes file.now (placed_in judged)) }
+    ensures faults { Answers (faults_of_runs (map placed_of runs.entry.items)) result }
+    ensures quiet { IsQuiet result }
+{
+    let outcomes = match judge(rt, alloc, &runs, file, workers, observer) {
+        Ok(outcomes) => outcomes,
+        Err(fault) => return Err(refusal_of(fault)),
+    };
+    if let Some(fault) = fault_of_runs(&runs, &outcomes) {
+        return Err(fault);
+    }
+    Ok(Judged { runs, outcomes })
+}

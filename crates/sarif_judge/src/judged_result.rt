@@ -1,0 +1,127 @@
+//! Judging one result.
+ghost use Rattle.std.specs.Prelude.{◌≡◌, ◌<◌, true, false, length, IfOk};
+ghost use Rattle.serde_json.specs.View.{view};
+ghost use Rattle.serde_json.specs.Written.{has_float};
+ghost use Rattle.sarif_model.specs.Run.{results_of};
+ghost use Rattle.sarif_runs.specs.Judging.{item_of, skips};
+ghost use Rattle.sarif_runs.specs.Opened.{placed_of};
+ghost use Rattle.sarif_results.specs.Outcomes.{draft_beside, outcome_of};
+ghost use Rattle.sarif_runs.specs.Found.{record_item};
+
+use sarif_model::{Fault, Source};
+use sarif_read::is_marked_absent;
+use sarif_results::{Draft, Outcome, draft_current};
+use sarif_runs::{Item, OpenedRun, make_record_of};
+use sarif_suppress::Suppressions;
+use serde_json::Value;
+use std::alloc::{AllocError, Global};
+
+/// The members of a result that its record is made of (SARIF 2.1.0, "result object").
+const RECORD_MEMBERS: [&str; 13] = [
+    "baselineState",
+    "kind",
+    "level",
+    "correlationGuid",
+    "fingerprints",
+    "partialFingerprints",
+    "suppressions",
+    "message",
+    "ruleId",
+    "ruleIndex",
+    "rule",
+    "provenance",
+    "locations",
+];
+
+/// Whether results that are absent already are skipped: those of a baseline are.
+fn skips_absent(source: Source) -> bool
+    ensures { result ≡ skips source }
+{
+    matches!(source, Source::Baseline(_))
+}
+
+/// The record of a result of the run, or its first fault.
+fn read_record(alloc: Global, opened: &OpenedRun<'_, '_>, found: &Value) -> Result<Item, AllocError>
+    ensures { IfOk result
+        (λ item. item ≡ record_item (placed_of opened.now).run (view found.now)) }
+{
+    let head = match &opened.head {
+        Ok(head) => head,
+        Err(fault) => return Ok(Item::Bad(*fault)),
+    };
+    match make_record_of(alloc, head, &opened.tool, found) {
+        Ok(record) => Ok(Item::Sound(record)),
+        Err(Fault::OutOfMemory) => Err(AllocError),
+        Err(fault) => Ok(Item::Bad(fault)),
+    }
+}
+
+/// What is known of a result of a baseline before results are matched. Of its value no more is made than tells it.
+#[tactic(auto, using(sarif_runs::proofs::RecordMembers::absent_members))]
+fn judge_known(alloc: Global, opened: &OpenedRun<'_, '_>, seq: u32) -> Result<Item, AllocError>
+    requires in_run { seq < length (results_of (placed_of opened.now).run) }
+    requires known { skips (placed_of opened.now).source ≡ true }
+    ensures { IfOk result (λ item. item ≡ item_of (placed_of opened.now) seq) }
+{
+    let found = opened.run.picked(alloc, seq, &RECORD_MEMBERS)?;
+    if is_marked_absent(&found) {
+        return Ok(Item::Skipped);
+    }
+    let item = read_record(alloc, opened, &found)?;
+    Ok(item)
+}
+
+/// The draft of a result of a log, where it has a record.
+fn draft_item(
+    alloc: Global,
+    found: Value,
+    item: &Item,
+    file: &Suppressions,
+) -> Result<Option<Draft>, AllocError>
+    requires whole { has_float (view found) ≡ false }
+    ensures { IfOk result
+        (λ draft. draft ≡ draft_beside file.now false (view found) item.now) }
+{
+    match item {
+        Item::Sound(record) => Ok(Some(draft_current(alloc, found, record, file)?)),
+        Item::Bad(_) | Item::Skipped => Ok(None),
+    }
+}
+
+/// Judges a result of a log.
+#[tactic(auto, using(sarif_results::proofs::WholeResults::result_whole), unfolding(sarif_runs::specs::Record::record_of))]
+fn judge_current(
+    alloc: Global,
+    opened: &OpenedRun<'_, '_>,
+    seq: u32,
+    file: &Suppressions,
+) -> Result<Outcome, AllocError>
+    requires in_run { seq < length (results_of (placed_of opened.now).run) }
+    requires current { skips (placed_of opened.now).source ≡ false }
+    ensures { IfOk result
+        (λ outcome. outcome ≡ outcome_of file.now (placed_of opened.now) seq) }
+{
+    let found = opened.run.result(alloc, seq)?;
+    let item = read_record(alloc, opened, &found)?;
+    let draft = draft_item(alloc, found, &item, file)?;
+    Ok(Outcome { item, draft })
+}
+
+/// Judges the result of a run with that number.
+pub(crate) fn judge_result(
+    alloc: Global,
+    opened: &OpenedRun<'_, '_>,
+    seq: u32,
+    file: &Suppressions,
+) -> Result<Outcome, AllocError>
+    requires in_run { seq < length (results_of (placed_of opened.now).run) }
+    ensures { IfOk result
+        (λ outcome. outcome ≡ outcome_of file.now (placed_of opened.now) seq) }
+{
+    if skips_absent(opened.source) {
+        let item = judge_known(alloc, opened, seq)?;
+        return Ok(Outcome { item, draft: None });
+    }
+    let outcome = judge_current(alloc, opened, seq, file)?;
+    Ok(outcome)
+}

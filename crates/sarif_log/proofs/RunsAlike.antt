@@ -1,0 +1,105 @@
+-- What is told of a result rests on two members of its run: its tool and its artifacts.
+use Rattle.std.proofs.Common.{◌≡◌, ℕ, List, [], Option, Some, None, codes, refl, ap, ◌∙◌}
+use Rattle.std.specs.Prelude.{chars, is_some, slice_get, option_and_then, unwrap_or, if◌then◌else◌}
+use Rattle.std.specs.Option.{option_or}
+use Rattle.serde_json.specs.Data.{Data}
+use Rattle.serde_json.specs.Find.{get, as_str, as_array}
+use Rattle.sarif_model.specs.declared.kinds.Level.{Level}
+use Rattle.sarif_model.specs.declared.kinds.State.{State}
+use Rattle.sarif_read.specs.Bare.{bare}
+use Rattle.sarif_model.specs.Run.{elements_or_none}
+use Rattle.sarif_read.proofs.Beside.{bare_get}
+use Rattle.sarif_findings.specs.declared.reporting.Reporting.{Reporting}
+use Rattle.sarif_findings.specs.Lookup.{text_in, element_at, own_rule_id, rule_in, driver_of, extension_index, component_by, component_of, descriptor_of, rule_id, artifact_uri, location_uri, physical_location, number_in}
+use Rattle.sarif_findings.specs.Message.{string_named, strings_of, own_string, shared_string, looked_up, text_by, message_of, filled, arguments_of}
+use Rattle.sarif_findings.specs.Reported.{tool_in, help_in, link_of, path_in, shown_path, finding_of}
+
+-- two runs have the same tool and the same artifacts
+pub record AreAlike (a b : Data) : Type 0 where
+  pub tool : get (codes "tool") a ≡ get (codes "tool") b
+  pub artifacts : get (codes "artifacts") a ≡ get (codes "artifacts") b
+
+tool_same : (a b : Data) → AreAlike a b → tool_in a ≡ tool_in b
+tool_same a b same =
+    ap (λ tool. unwrap_or (option_and_then as_str (option_and_then (get (codes "name")) (option_and_then (get (codes "driver")) tool))) []) same.tool
+
+-- ---- the rule
+
+driver_same : (a b : Data) → AreAlike a b → driver_of a ≡ driver_of b
+driver_same a b same = ap (option_and_then (get (codes "driver"))) same.tool
+
+component_same : (a b : Data) (o : Option ℕ) → AreAlike a b → component_by a o ≡ component_by b o
+component_same a b None same = driver_same a b same
+component_same a b (Some n) same = ap (option_and_then (λ tool. element_at (codes "extensions") tool n)) same.tool
+
+descriptor_same : (a b x : Data) → AreAlike a b → descriptor_of a x ≡ descriptor_of b x
+descriptor_same a b x same = ap (option_and_then (rule_in x)) (component_same a b (extension_index x) same)
+
+rule_same : (a b x : Data) → AreAlike a b → rule_id a x ≡ rule_id b x
+rule_same a b x same =
+    ap (λ d. unwrap_or (option_or (own_rule_id x) (option_and_then (text_in (codes "id")) d)) []) (descriptor_same a b x same)
+
+help_same : (a b x : Data) → AreAlike a b → help_in a x ≡ help_in b x
+help_same a b x same =
+    ap (λ d. option_and_then link_of (option_and_then (text_in (codes "helpUri")) d)) (descriptor_same a b x same)
+
+-- ---- the place
+
+artifact_same : (a b : Data) (o : Option ℕ) → AreAlike a b → option_and_then (artifact_uri a) o ≡ option_and_then (artifact_uri b) o
+artifact_same a b None same = refl
+artifact_same a b (Some n) same =
+    ap (λ found. option_and_then (text_in (codes "uri")) (option_and_then (get (codes "location")) (slice_get (elements_or_none (option_and_then as_array found)) n))) same.artifacts
+
+location_same : (a b : Data) (o : Option Data) → AreAlike a b → option_and_then (location_uri a) o ≡ option_and_then (location_uri b) o
+location_same a b None same = refl
+location_same a b (Some location) same =
+    ap (λ uri. option_or (text_in (codes "uri") location) uri) (artifact_same a b (number_in (codes "index") location) same)
+
+path_same : (reporting : Reporting) (a b x : Data) → AreAlike a b → path_in reporting a x ≡ path_in reporting b x
+path_same reporting a b x same =
+    ap (option_and_then (shown_path reporting.root)) (location_same a b (option_and_then (get (codes "artifactLocation")) (physical_location x)) same)
+
+-- ---- the message
+
+strings_same : (a b x : Data) → AreAlike a b → strings_of a x ≡ strings_of b x
+strings_same a b x same =
+    ap (λ d. if is_some d then component_of a x else driver_of a) (descriptor_same a b x same)
+    ∙ ap (λ d. if is_some (descriptor_of b x) then d else driver_of a) (component_same a b (extension_index x) same)
+    ∙ ap (λ d. if is_some (descriptor_of b x) then component_of b x else d) (driver_same a b same)
+
+string_same : (a b x : Data) (name : List ℕ) → AreAlike a b → looked_up a x name ≡ looked_up b x name
+string_same a b x name same =
+    ap (λ d. option_or (option_and_then (string_named (codes "messageStrings") name) d) (shared_string a x name)) (descriptor_same a b x same)
+    ∙ ap (λ d. option_or (own_string b x name) (option_and_then (string_named (codes "globalMessageStrings") name) d)) (strings_same a b x same)
+
+named_same : (a b x : Data) (o : Option (List ℕ)) → AreAlike a b → option_and_then (looked_up a x) o ≡ option_and_then (looked_up b x) o
+named_same a b x None same = refl
+named_same a b x (Some name) same = string_same a b x name same
+
+text_same : (a b x : Data) (o : Option Data) → AreAlike a b → option_and_then (text_by a x) o ≡ option_and_then (text_by b x) o
+text_same a b x None same = refl
+text_same a b x (Some message) same =
+    ap (option_or (text_in (codes "text") message)) (named_same a b x (text_in (codes "id") message) same)
+
+message_same : (a b x : Data) → AreAlike a b → message_of a x ≡ message_of b x
+message_same a b x same =
+    ap (λ text. filled (arguments_of x) (chars (unwrap_or text []))) (text_same a b x (get (codes "message") x) same)
+
+-- ---- the whole
+
+pub run_same : (reporting : Reporting) (a b x : Data) (level : Level) (state : State) → AreAlike a b
+    → finding_of reporting a x level state ≡ finding_of reporting b x level state
+unfolding finding_of
+run_same reporting a b x level state same =
+    rw (tool_same a b same, rule_same a b x same, message_same a b x same, path_same reporting a b x same, help_same a b x same) refl
+
+pub bare_alike : (run : Data) → AreAlike (bare run) run
+bare_alike run = record {
+  tool = bare_get (codes "tool") run refl;
+  artifacts = bare_get (codes "artifacts") run refl;
+}
+
+-- what is told of a run's results is told by the run without them
+pub bare_told : (reporting : Reporting) (run x : Data) (level : Level) (state : State)
+    → finding_of reporting (bare run) x level state ≡ finding_of reporting run x level state
+bare_told reporting run x level state = run_same reporting (bare run) run x level state (bare_alike run)

@@ -1,0 +1,40 @@
+-- What assembling the merged log gives.
+use Rattle.std.specs.Prelude.{◌≡◌, ℕ, Bool, List, Option}
+use Rattle.serde_json.specs.Data.{Data}
+use Rattle.serde_json.specs.Written.{compact_text}
+use Rattle.sarif_model.specs.declared.kinds.Level.{Level}
+use Rattle.sarif_model.specs.declared.kinds.State.{State}
+use Rattle.sarif_suppress.specs.File.{File}
+use Rattle.sarif_suppress.specs.Suppressing.{unused_of}
+use Rattle.sarif_counts.specs.declared.policy.Policy.{Policy}
+use Rattle.sarif_counts.specs.CountOf.{count_of}
+use Rattle.sarif_counts.specs.Counts.{count_at}
+use Rattle.sarif_counts.specs.Policy.{verdict_of}
+use Rattle.sarif_findings.specs.declared.reporting.Reporting.{Reporting}
+use Rattle.sarif_runs.specs.Judging.{records_of, run_values}
+use Rattle.sarif_runs.specs.Placed.{Placed}
+use Rattle.sarif_log.specs.declared.merged.Merged.{Merged}
+use Rattle.sarif_log.specs.LogBy.{log_by, runs_by, runs_without_results}
+use Rattle.sarif_log.specs.Told.{told_of}
+
+-- counts, verdict and numbers are those of a log with these runs, which are written
+pub record HasGate (runs : List Data) (policy : Policy) (bare_runs idle_entries : ℕ)
+    (merged : Merged) : Type 0 where
+  pub counts : (state : State) (level : Level) (suppressed : Bool)
+      → count_at merged.counts state level suppressed ≡ count_of runs state level suppressed
+  pub verdict : merged.verdict ≡ verdict_of (count_of runs) policy
+  pub without : merged.without ≡ bare_runs
+  pub unused : merged.unused ≡ idle_entries
+
+-- a merge whose log has these runs
+pub record IsLogOf (runs : List Data) (policy : Policy) (without unused : ℕ)
+    (merged : Merged) : Type 0 where
+  pub log : merged.log ≡ compact_text (log_by runs policy without unused)
+  pub gate : HasGate runs policy without unused merged
+
+-- the merge of these input runs, these baseline runs and this suppression file, and what reports tell of it
+pub record IsMergedBy (file : File) (current baseline : List Placed) (policy : Policy)
+    (asked : Option Reporting) (merged : Merged) : Type 0 where
+  pub written : IsLogOf (runs_by file current baseline) policy
+      (runs_without_results (run_values current)) (unused_of file (records_of current)) merged
+  pub told : merged.findings.items ≡ told_of asked (runs_by file current baseline)

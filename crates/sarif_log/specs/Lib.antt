@@ -1,0 +1,15 @@
+pub mod Assembled
+pub mod Baselines
+pub mod Beside
+pub mod Halves
+pub mod Leftover
+pub mod Log
+pub mod LogBy
+pub mod MergedRuns
+pub mod Prepared
+pub mod Side
+pub mod Telling
+pub mod Texts
+pub mod Together
+pub mod Told
+pub mod Written

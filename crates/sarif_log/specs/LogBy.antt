@@ -1,0 +1,77 @@
+-- The merged log of runs that were read, and of a suppression file (SARIF 2.1.0, "sarifLog object").
+use Rattle.std.specs.Prelude.{ℕ, ◌+◌, Bool, not, List, [], ◌∷◌, ◌++◌, map, length, count_by, is_some, slice_get, slice_index_or, Option, None, option_and_then}
+use Rattle.std.specs.List.{range_with_len}
+use Rattle.serde_json.specs.Data.{Data}
+use Rattle.sarif_model.specs.declared.kinds.State.{State}
+use Rattle.sarif_model.specs.declared.record.Record.{Record}
+use Rattle.sarif_model.specs.Run.{results_array}
+use Rattle.sarif_match.specs.Partners.{partners_of, is_taken}
+use Rattle.sarif_match.specs.State.{state_of}
+use Rattle.sarif_suppress.specs.File.{File}
+use Rattle.sarif_suppress.specs.Suppressing.{unused_of}
+use Rattle.sarif_suppress.specs.Written.{suppressions_of}
+use Rattle.sarif_counts.specs.declared.policy.Policy.{Policy}
+use Rattle.sarif_counts.specs.CountOf.{count_of}
+use Rattle.sarif_counts.specs.Gate.{gate_of}
+use Rattle.sarif_runs.specs.Judging.{records_of, run_values}
+use Rattle.sarif_runs.specs.Placed.{Placed}
+use Rattle.sarif_log.specs.Log.{log_with}
+use Rattle.sarif_results.specs.Drafts.{Listing}
+use Rattle.sarif_log.specs.MergedRuns.{merged_runs, absent_runs}
+
+-- ---- states
+
+-- a partner, by its number in the baseline
+abbrev pub partner_in : List Record → Option ℕ → Option Record
+partner_in bs partner = option_and_then (slice_get bs) partner
+
+-- the baseline state of each of these current results, of which the first has number n
+abbrev pub states_from : List Record → List (Option ℕ) → ℕ → List Record → List State
+states_from bs partners n [] = []
+states_from bs partners n (r ∷ rs) =
+    state_of r (partner_in bs (slice_index_or partners n None))
+    ∷ states_from bs partners (n + 1) rs
+
+-- the baseline state of each current result, by its partner in the baseline
+abbrev pub states_of : List Record → List Record → List State
+states_of cs bs = states_from bs (partners_of cs bs) 0 cs
+
+-- whether each baseline result is somebody's partner
+abbrev pub taken_of : List Record → List Record → List Bool
+taken_of cs bs = map (is_taken (partners_of cs bs)) (range_with_len 0 (length bs))
+
+-- ---- the log
+
+-- the suppressions of a current result: its own, and then what the file's entries add
+abbrev pub listing_of : File → Listing
+listing_of file r own = suppressions_of own file r
+
+-- the input runs, each result with its level, its state and its suppressions
+abbrev pub current_runs : File → List Placed → List Placed → List Data
+current_runs file current baseline =
+    merged_runs (listing_of file) (records_of current)
+    (states_of (records_of current) (records_of baseline)) (run_values current)
+
+-- the baseline runs with a result that is nobody's partner, with just these
+abbrev pub leftover_runs : List Placed → List Placed → List Data
+leftover_runs current baseline =
+    absent_runs (records_of baseline)
+    (taken_of (records_of current) (records_of baseline)) (run_values baseline)
+
+abbrev pub runs_by : File → List Placed → List Placed → List Data
+runs_by file current baseline =
+    current_runs file current baseline ++ leftover_runs current baseline
+
+-- how many of the runs have no results
+abbrev pub runs_without_results : List Data → ℕ
+runs_without_results runs = count_by (λ run. not (is_some (results_array run))) runs
+
+-- its gate counts what stands in its runs
+abbrev pub log_by : List Data → Policy → ℕ → ℕ → Data
+log_by runs policy without unused = log_with (gate_of (count_of runs) policy without unused) runs
+
+-- the log of these input runs, baseline runs and suppression file
+abbrev pub merged_by : File → List Placed → List Placed → Policy → Data
+merged_by file current baseline policy =
+    log_by (runs_by file current baseline) policy
+    (runs_without_results (run_values current)) (unused_of file (records_of current))

@@ -1,0 +1,40 @@
+//! Assembling the merged log.
+ghost use Rattle.std.specs.Prelude.{List, Ok, Option, IfOk};
+ghost use Rattle.sarif_suppress.specs.File.{File};
+ghost use Rattle.sarif_runs.specs.Placed.{Placed};
+ghost use Rattle.sarif_findings.specs.declared.reporting.Reporting.{Reporting};
+ghost use Rattle.sarif_log.specs.Beside.{IsMadeBy};
+ghost use Rattle.sarif_log.specs.Assembled.{IsMergedBy};
+ghost use Rattle.sarif_log.specs.Prepared.{IsPrepared};
+
+use crate::merged::Merged;
+use crate::prepared::Prepared;
+use crate::written::write_log;
+use sarif_counts::{Counts, Options};
+use sarif_findings::Finding;
+use std::alloc::{AllocError, Global};
+use std::thread::Threads;
+
+/// The merged log of what was prepared, with the gate of the policy of `options`, and what `tell` makes of its counts
+/// and of what reports tell of its results. The results are counted by as many threads as there are workers, and `tell`
+/// is called while the log's text is made. `AllocError` where memory is wanting, or where `tell` answers it.
+pub fn assemble<
+    R: Threads + Sync,
+    B: Drop,
+    Tell: FnOnce(&Counts, &Vec<Finding>) -> Result<B, AllocError>,
+>(
+    rt: &R,
+    alloc: Global,
+    prepared: Prepared,
+    options: &Options,
+    tell: Tell,
+) -> Result<(Merged, B), AllocError>
+    requires tells { Tell.IsAlwaysCallable tell }
+    ensures merged { IfOk result (λ made. (file : File) (current_runs baseline_runs : List Placed)
+        (asked : Option Reporting) → IsPrepared file current_runs baseline_runs asked prepared
+        → IsMergedBy file current_runs baseline_runs options.now.policy asked made.0) }
+    ensures told { IfOk result (λ made. IsMadeBy Tell.FnOnce tell
+        made.0.counts made.0.findings (Ok made.1)) }
+{
+    write_log(rt, alloc, prepared, options, tell)
+}

@@ -1,0 +1,22 @@
+//! Laws of what is written, each the contract of a function that does nothing.
+ghost use Rattle.std.specs.Prelude.{◌≡◌, List, Ok};
+ghost use Rattle.serde_json.specs.Data.{Data};
+ghost use Rattle.serde_json.specs.View.{items_of};
+ghost use Rattle.sarif_counts.specs.CountOf.{suppresses};
+ghost use Rattle.sarif_model.specs.Members.{read_each};
+ghost use Rattle.sarif_model.specs.Suppression.{status_of};
+ghost use Rattle.sarif_model.specs.declared.record.Record.{Record};
+ghost use Rattle.sarif_suppress.specs.File.{File};
+ghost use Rattle.sarif_suppress.specs.Suppressing.{is_suppressed};
+ghost use Rattle.sarif_suppress.specs.Written.{suppressions_of};
+
+use sarif_suppress::written_suppressions_say_what_is_suppressed;
+
+/// What is counted of a finished log: where a result's own suppressions have the statuses of its record, the list that
+/// is written for it counts as suppressed just where the result is suppressed.
+pub fn suppressed_results_are_counted_as_suppressed()
+    ensures { (own : List Data) (file : File) (r : Record) → read_each status_of own ≡ Ok r.held
+        → suppresses (items_of (suppressions_of own file r)) ≡ is_suppressed file r }
+{
+    written_suppressions_say_what_is_suppressed();
+}

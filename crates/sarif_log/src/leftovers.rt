@@ -1,0 +1,114 @@
+//! The drafts of results of baselines. They are made once it is known with which of them no current result
+//! is paired, as only these are written.
+ghost use Rattle.std.specs.Prelude.{◌≡◌, ◌≤◌, ◌++◌, ◌∷◌, [], IfOk, OnOk, map, length};
+ghost use Rattle.std.specs.List.{All};
+ghost use Rattle.sarif_results.specs.Drafts.{drafts_by, unapplied};
+ghost use Rattle.sarif_log.specs.Leftover.{found_at, leftover_draft, not_taken};
+ghost use Rattle.sarif_runs.specs.Opened.{placed_of};
+ghost use Rattle.sarif_runs.specs.Spots.{IsSpotOf};
+
+use crate::leftover::Leftover;
+use sarif_model::Record;
+use sarif_results::{Draft, draft_absent};
+use sarif_runs::{OpenedRun, Spot};
+use std::alloc::{AllocError, Global};
+use std::thread;
+use std::thread::Threads;
+
+/// Adds a result, unless it is taken.
+fn push_unless<'w, 't, 'a>(
+    left: &mut Vec<Leftover<'w, 't, 'a>>,
+    is_taken: bool,
+    one: Leftover<'w, 't, 'a>,
+) -> Result<(), AllocError>
+    ensures { OnOk result (map leftover_draft left.new.items
+        ≡ map leftover_draft left.old.items
+        ++ not_taken (is_taken ∷ []) (leftover_draft one.entry ∷ [])) }
+{
+    if !is_taken {
+        left.push(one)?;
+    }
+    Ok(())
+}
+
+/// The results of baselines at these places of `runs` that aren't taken. Of each place there are, in the same order,
+/// the record of its result and whether that is taken. `AllocError` where memory for the list is wanting.
+pub fn list_leftovers<'w, 't, 'a>(
+    alloc: Global,
+    runs: &'w [OpenedRun<'t, 'a>],
+    spots: &[Spot],
+    records: &'w [Record],
+    taken: &[bool],
+) -> Result<Vec<Leftover<'w, 't, 'a>>, AllocError>
+    requires within { All (IsSpotOf (map placed_of runs.now)) spots.now }
+    requires spots { length spots.now ≡ length records.now }
+    requires taken { length taken.now ≡ length records.now }
+    ensures { IfOk result (λ left. map leftover_draft left.items
+        ≡ not_taken taken.now (drafts_by (λ _ own. own) unapplied records.now
+        (map (found_at (map placed_of runs.now)) spots.now))) }
+{
+    let mut left = Vec::new(alloc);
+    for (number, spot) in spots.iter().enumerate() {
+        let one = Leftover {
+            run: &runs[spot.run as usize],
+            seq: spot.seq,
+            record: &records[number],
+        };
+        push_unless(&mut left, taken[number], one)?;
+    }
+    Ok(left)
+}
+
+/// The draft of one of them.
+#[tactic(auto, using(sarif_results::proofs::WholeResults::result_whole))]
+fn draft_leftover(alloc: Global, left: &Leftover<'_, '_, '_>) -> Result<Draft, AllocError>
+    ensures { IfOk result (λ draft. draft ≡ leftover_draft left.now) }
+{
+    let found = left.run.run.result(alloc, left.seq)?;
+    let draft = draft_absent(alloc, found, left.record)?;
+    Ok(draft)
+}
+
+/// The drafts of these, one after another.
+fn draft_in_turn(alloc: Global, left: &[Leftover<'_, '_, '_>]) -> Result<Vec<Draft>, AllocError>
+    ensures { IfOk result (λ drafts. drafts.items ≡ map leftover_draft left.now) }
+{
+    let mut drafts = Vec::with_capacity(alloc, left.len())?;
+    for one in left {
+        drafts.push(draft_leftover(alloc, one)?)?;
+    }
+    Ok(drafts)
+}
+
+/// The drafts of results of baselines that are left, made in at most `threads` threads, this one among them.
+/// `AllocError` where memory for one is wanting.
+#[cycle(leftovers)]
+pub fn draft_leftovers<R: Threads + Sync>(
+    rt: &R,
+    alloc: Global,
+    left: &[Leftover<'_, '_, '_>],
+    threads: u32,
+) -> Result<Vec<Draft>, AllocError>
+    requires { 1 ≤ threads }
+    ensures { IfOk result (λ drafts. drafts.items ≡ map leftover_draft left.now) }
+{
+    if threads < 2 || left.len() < 2 {
+        return draft_in_turn(alloc, left);
+    }
+    let few = threads / 2;
+    let others = threads - few;
+    let (low, high) = left.split_at(left.len() / 2);
+    let front = move || -> Result<Vec<Draft>, AllocError>
+        requires { 1 ≤ few }
+        ensures { IfOk result (λ drafts. drafts.items ≡ map leftover_draft low.entry.now) }
+    { draft_leftovers(rt, alloc, low, few) };
+    let back = move || -> Result<Vec<Draft>, AllocError>
+        requires { 1 ≤ others }
+        ensures { IfOk result (λ drafts. drafts.items ≡ map leftover_draft high.entry.now) }
+    { draft_leftovers(rt, alloc, high, others) };
+    let (first, second) = thread::join(rt, front, back);
+    let mut drafts = first?;
+    let mut rest = second?;
+    drafts.append(&mut rest)?;
+    Ok(drafts)
+}

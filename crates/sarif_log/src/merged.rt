@@ -1,0 +1,21 @@
+//! What a merge gives.
+use sarif_counts::{Counts, Verdict};
+use sarif_findings::Finding;
+use sarif_model::Text;
+
+/// A merged log, and what its gate says.
+#[derive(Debug, Drop)]
+pub struct Merged {
+    /// The text of the merged log.
+    pub log: Text,
+    /// Its results, counted.
+    pub counts: Counts,
+    /// What the policy makes of the counts.
+    pub verdict: Verdict,
+    /// How many input runs have no results.
+    pub without: u32,
+    /// How many entries of the suppression file match no current result.
+    pub unused: u32,
+    /// What reports tell of its results, in the order of the log; nothing where that isn't asked for.
+    pub findings: Vec<Finding>,
+}

@@ -1,0 +1,33 @@
+//! What a merged log is made of.
+ghost use Rattle.std.specs.Prelude.{◌≤◌, ◌+◌, length};
+ghost use Rattle.std.proofs.Props.{props};
+ghost use Rattle.sarif_log.specs.Side.{IsSide};
+
+use crate::merged_text::Side;
+use sarif_findings::Finding;
+use sarif_model::Record;
+
+/// The records of results that were matched. Nothing is made of them any more.
+#[derive(Drop)]
+pub(crate) struct Spent {
+    pub(crate) current: Vec<Record>,
+    pub(crate) baseline: Vec<Record>,
+}
+
+/// All that is written of a merged log. What it was read from is needed no more.
+#[derive(Drop)]
+pub struct Prepared {
+    pub(crate) current: Side,
+    pub(crate) baseline: Side,
+    /// How many input runs have no results.
+    pub(crate) without: u32,
+    /// How many entries of the suppression file match no current result.
+    pub(crate) unused: u32,
+    /// What reports tell of its results, in their order.
+    pub(crate) findings: Vec<Finding>,
+    /// What is only let go.
+    pub(crate) spent: Spent,
+    ghost current_is: { IsSide current } by { Prim.hlevel props },
+    ghost baseline_is: { IsSide baseline } by { Prim.hlevel props },
+    ghost few: { length current.drafts.items + length baseline.drafts.items ≤ 2000000 },
+}

@@ -1,0 +1,214 @@
+//! Matching the results of logs with those of baselines.
+ghost use Rattle.std.specs.Prelude.{◌≡◌, ◌≤◌, false, true, not, is_some, count_by, length, map, List, IfOk};
+ghost use Rattle.std.specs.List.{AllByRecursion};
+ghost use Rattle.serde_json.specs.Data.{Data};
+ghost use Rattle.sarif_model.specs.declared.record.Record.{Record};
+ghost use Rattle.sarif_suppress.specs.File.{File};
+ghost use Rattle.sarif_suppress.specs.Suppressing.{unused_of};
+ghost use Rattle.sarif_runs.specs.Judging.{run_values};
+ghost use Rattle.sarif_runs.specs.Opened.{placed_of};
+ghost use Rattle.sarif_runs.specs.Placed.{Placed};
+ghost use Rattle.sarif_results.specs.Drafts.{applied_of, drafts_by};
+ghost use Rattle.sarif_log.specs.Texts.{own_count, ArePartsOf, IsWholeRun};
+ghost use Rattle.sarif_log.specs.LogBy.{listing_of, runs_by};
+ghost use Rattle.sarif_log.specs.Prepared.{IsPrepared};
+ghost use Rattle.sarif_results.specs.Judged.{placed_in, IsJudged};
+ghost use Rattle.sarif_log.specs.Together.{AreTogether, IsPaired};
+ghost use Rattle.sarif_log.specs.Told.{reporting_in, told_of};
+
+use crate::asked::Asked;
+use crate::baselines::{Baselines, gather_baselines};
+use crate::counting::count_unused;
+use crate::halves::{Half, current_half, current_parts};
+use crate::left::{left_drafts, left_side};
+use crate::matched::{Matched, match_records};
+use crate::merged_text::Side;
+use crate::prepared::{Prepared, Spent};
+use crate::run_parts::count_without;
+use crate::telling::{tell_current, tell_left};
+use sarif_counts::Options;
+use sarif_findings::Finding;
+use sarif_model::{Record, State};
+use sarif_results::{Draft, Judged};
+use sarif_suppress::Suppressions;
+use std::alloc::{AllocError, Global};
+use std::thread::Threads;
+
+/// How the results of logs and of baselines were matched.
+#[derive(Drop)]
+pub(crate) struct Paired {
+    /// The baseline state of each current result.
+    states: Vec<Option<State>>,
+    /// Whether each baseline result is somebody's partner.
+    taken: Vec<bool>,
+    /// The drafts of those that aren't.
+    left: Vec<Draft>,
+}
+
+/// What is written of the runs of logs.
+#[derive(Drop)]
+struct Current {
+    side: Side,
+    /// How many of the runs have no results.
+    without: u32,
+    /// How many entries of the suppression file match no result.
+    unused: u32,
+    /// The records of their results.
+    records: Vec<Record>,
+}
+
+/// Matches the results of logs with those of baselines.
+fn pair_results<R: Threads + Sync>(
+    rt: &R,
+    alloc: Global,
+    current: &Half<'_, '_>,
+    baselines: &Baselines<'_, '_>,
+    options: &Options,
+) -> Result<Paired, AllocError>
+    requires { (file : File) × (current_runs : List Placed) × (baseline_runs : List Placed)
+        × AreTogether file current_runs baseline_runs current.now baselines.now }
+    ensures { IfOk result (IsPaired current.now baselines.now) }
+{
+    let records = &baselines.records;
+    let Matched { states, taken } = match_records(alloc, options.seed, &current.records, records)?;
+    let left = left_drafts(rt, alloc, baselines, &taken, options.workers + 1)?;
+    Ok(Paired {
+        states,
+        taken,
+        left,
+    })
+}
+
+/// What reports tell of the results that are written, where that is asked for.
+fn tell_results<R: Threads + Sync>(
+    rt: &R,
+    alloc: Global,
+    asked: &Asked<'_>,
+    current: &Half<'_, '_>,
+    baselines: &Baselines<'_, '_>,
+    paired: &Paired,
+) -> Result<Vec<Finding>, AllocError>
+    requires together { (file : File)
+        × (current_runs : List Placed) × (baseline_runs : List Placed)
+        × AreTogether file current_runs baseline_runs current.now baselines.now }
+    requires paired { IsPaired current.now baselines.now paired.now }
+    ensures { IfOk result (λ findings. (file : File) (current_runs baseline_runs : List Placed)
+        → AreTogether file current_runs baseline_runs current.now baselines.now
+        → findings.items
+        ≡ told_of (reporting_in asked.now) (runs_by file current_runs baseline_runs)) }
+{
+    let mut findings = tell_current(rt, alloc, asked, current, &paired.states)?;
+    let left = &paired.left;
+    let mut absent = tell_left(rt, alloc, asked, baselines, &paired.taken, left)?;
+    findings.append(&mut absent)?;
+    Ok(findings)
+}
+
+/// What is written of the runs of logs, whose results have these states.
+fn current_side(
+    alloc: Global,
+    current: Half<'_, '_>,
+    states: Vec<Option<State>>,
+    file: &Suppressions,
+) -> Result<Current, AllocError>
+    requires few { length current.runs.items ≤ 10000 }
+    ensures parts { IfOk result (λ made. ArePartsOf own_count made.side.runs.items
+        (run_values (map placed_of current.entry.runs.items))) }
+    ensures whole { IfOk result (λ made. AllByRecursion IsWholeRun made.side.runs.items) }
+    ensures drafts { IfOk result
+        (λ made. made.side.drafts.items ≡ current.entry.drafts.items) }
+    ensures states { IfOk result (λ made. made.side.states.items ≡ states.items) }
+    ensures without { IfOk result (λ made. made.without
+        ≡ count_by (λ parts. not (is_some parts.results)) made.side.runs.items) }
+    ensures unused { IfOk result (λ made. (rs : List Record) (ds : List Data)
+        → length rs ≡ length ds
+        → current.entry.drafts.items ≡ drafts_by (listing_of file.now) (applied_of file.now) rs ds
+        → made.unused ≡ unused_of file.now rs) }
+{
+    let Half {
+        runs,
+        records,
+        drafts,
+    } = current;
+    let unused = count_unused(alloc, file, &drafts)?;
+    let runs = current_parts(alloc, runs)?;
+    let without = count_without(&runs);
+    let side = Side {
+        runs,
+        drafts,
+        states,
+    };
+    Ok(Current {
+        side,
+        without,
+        unused,
+        records,
+    })
+}
+
+/// Matches the results of logs with those of baselines, and takes out of them what is written and told.
+fn prepare_sides<R: Threads + Sync>(
+    rt: &R,
+    alloc: Global,
+    current: Half<'_, '_>,
+    baselines: Baselines<'_, '_>,
+    file: &Suppressions,
+    asked: &Asked<'_>,
+) -> Result<Prepared, AllocError>
+    requires { (current_runs : List Placed) × (baseline_runs : List Placed)
+        × AreTogether file.now current_runs baseline_runs current baselines }
+    ensures { IfOk result (λ prepared. (current_runs baseline_runs : List Placed)
+        → AreTogether file.now current_runs baseline_runs current.entry baselines.entry
+        → IsPrepared file.now current_runs baseline_runs (reporting_in asked.now) prepared) }
+{
+    let paired = pair_results(rt, alloc, &current, &baselines, asked.options)?;
+    let findings = tell_results(rt, alloc, asked, &current, &baselines, &paired)?;
+    let Paired {
+        states,
+        taken,
+        left,
+    } = paired;
+    let unmatched = left_side(alloc, baselines, &taken, left)?;
+    let Current {
+        side,
+        without,
+        unused,
+        records,
+    } = current_side(alloc, current, states, file)?;
+    let spent = Spent {
+        current: records,
+        baseline: unmatched.records,
+    };
+    Ok(Prepared {
+        current: side,
+        baseline: unmatched.side,
+        without,
+        unused,
+        findings,
+        spent,
+    })
+}
+
+/// What is written of runs of logs and of runs of baselines, in which nothing is at fault: each current result with its
+/// level, its baseline state and its suppressions, and the unmatched results of the baselines as absent (SARIF 2.1.0,
+/// "baselineState property"). They are found by tables that hash with the options' seed, on which no answer depends;
+/// the threads of the options share the work. Beside it stands what reports tell of these results, where that is asked
+/// for. `AllocError` where memory is wanting.
+pub fn prepare<R: Threads + Sync>(
+    rt: &R,
+    alloc: Global,
+    current: Judged<'_, '_>,
+    baseline: Judged<'_, '_>,
+    file: &Suppressions,
+    asked: &Asked<'_>,
+) -> Result<Prepared, AllocError>
+    requires current { IsJudged file.now false current }
+    requires baseline { IsJudged file.now true baseline }
+    ensures { IfOk result (IsPrepared file.now (placed_in current.entry)
+        (placed_in baseline.entry) (reporting_in asked.now)) }
+{
+    let current = current_half(alloc, current)?;
+    let baselines = gather_baselines(alloc, baseline)?;
+    let prepared = prepare_sides(rt, alloc, current, baselines, file, asked)?;
+    Ok(prepared)
+}

@@ -1,0 +1,36 @@
+//! Counting the results that are written.
+ghost use Rattle.std.specs.Prelude.{◌≡◌, ◌+◌, ◌<◌, ◌≤◌, Bool, length};
+ghost use Rattle.sarif_model.specs.declared.kinds.Level.{Level as Grade};
+ghost use Rattle.sarif_model.specs.declared.kinds.State.{State as Stand};
+ghost use Rattle.sarif_counts.specs.Counts.{count_at, total_of};
+ghost use Rattle.sarif_log.specs.Texts.{marked, tallied};
+
+use sarif_counts::Counts;
+use sarif_model::State;
+use sarif_results::Draft;
+use sarif_suppress::Marks;
+
+/// Counts those of these results that have a state, by it, their level, and whether they are
+/// suppressed. There is a state, or none, for each result. Takes no memory.
+pub fn count_results(counts: &mut Counts, drafts: &[Draft], states: &[Option<State>])
+    requires count { length states.now ≡ length drafts.now }
+    requires few { total_of counts.old + length drafts.now < 4294967296 }
+    ensures counted { (s : Stand) (l : Grade) (b : Bool) → count_at counts.new s l b
+        ≡ count_at counts.old s l b + tallied drafts.now states.now s l b }
+    ensures total { total_of counts.new ≤ total_of counts.old + length drafts.now }
+{
+    for (at, draft) in drafts.iter().enumerate() {
+        if let Some(state) = states[at] {
+            counts.add(state, draft.level, draft.suppressed);
+        }
+    }
+}
+
+/// Marks the entries of the suppression file that match these results. Takes no memory.
+pub fn mark_entries(marks: &mut Marks, drafts: &[Draft])
+    ensures { marks.new ≡ marked marks.old drafts.now }
+{
+    for draft in drafts {
+        marks.set(&draft.applied);
+    }
+}

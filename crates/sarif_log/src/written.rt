@@ -1,0 +1,107 @@
+//! Writing the log: its gate and its text.
+ghost use Rattle.std.specs.Prelude.{◌≡◌, ◌++◌, List, IfOk, Ok, false, map, string_bytes};
+ghost use Rattle.serde_json.specs.Data.{Data};
+ghost use Rattle.serde_json.specs.View.{view};
+ghost use Rattle.serde_json.specs.Written.{compact_text, has_float};
+ghost use Rattle.sarif_log.specs.Log.{log_with};
+ghost use Rattle.sarif_log.specs.Side.{IsSide, texts_of_left, texts_of_runs};
+ghost use Rattle.sarif_log.specs.Beside.{IsMadeBy};
+ghost use Rattle.sarif_log.specs.Assembled.{IsLogOf};
+ghost use Rattle.sarif_log.specs.Written.{AreWritten};
+
+use crate::counting::count_sides;
+use crate::merged::Merged;
+use crate::merged_text::{Side, log_text};
+use crate::prepared::Prepared;
+use sarif_counts::{Counts, Options, gate_value, verdict};
+use sarif_findings::Finding;
+use sarif_model::Text;
+use serde_json::Value;
+use std::alloc::{AllocError, Global};
+use std::thread;
+use std::thread::Threads;
+
+/// The text of the log with this gate, made in a thread of its own while this one does something else.
+fn text_beside<R: Threads + Sync, T: Drop, Say: FnOnce() -> T>(
+    rt: &R,
+    alloc: Global,
+    gate: Value,
+    current: Side,
+    baseline: Side,
+    say: Say,
+) -> (Result<String, AllocError>, T)
+    requires gate { has_float (view gate) ≡ false }
+    requires current { IsSide current }
+    requires baseline { IsSide baseline }
+    requires says { Say.IsAlwaysCallable say }
+    ensures text { IfOk result.0 (λ s. (runs : List Data)
+        → map compact_text runs ≡ texts_of_runs current ++ texts_of_left baseline
+        → string_bytes s ≡ compact_text (log_with (view gate) runs)) }
+    ensures said { Say.post say result.1 }
+{
+    let write = move || -> Result<String, AllocError>
+        requires gate { has_float (view gate) ≡ false }
+        requires current { IsSide current }
+        requires baseline { IsSide baseline }
+        ensures { IfOk result (λ s. (runs : List Data)
+            → map compact_text runs ≡ texts_of_runs current ++ texts_of_left baseline
+            → string_bytes s ≡ compact_text (log_with (view gate) runs)) }
+    { log_text(alloc, &gate, current, baseline) };
+    thread::join(rt, write, say)
+}
+
+/// The log of what was prepared, with its gate, and what `tell` makes of its counts and of what reports tell of its
+/// results, which is made beside its text.
+pub(crate) fn write_log<
+    R: Threads + Sync,
+    B: Drop,
+    Tell: FnOnce(&Counts, &Vec<Finding>) -> Result<B, AllocError>,
+>(
+    rt: &R,
+    alloc: Global,
+    prepared: Prepared,
+    options: &Options,
+    tell: Tell,
+) -> Result<(Merged, B), AllocError>
+    requires tells { Tell.IsAlwaysCallable tell }
+    ensures log { IfOk result (λ made. (runs : List Data)
+        → AreWritten prepared.current prepared.baseline runs
+        → IsLogOf runs options.now.policy prepared.without prepared.unused made.0) }
+    ensures findings { IfOk result (λ made. made.0.findings.items ≡ prepared.findings.items) }
+    ensures told { IfOk result (λ made. IsMadeBy Tell.FnOnce tell
+        made.0.counts made.0.findings (Ok made.1)) }
+{
+    let Prepared {
+        current,
+        baseline,
+        without,
+        unused,
+        findings,
+        spent,
+    } = prepared;
+    let counts = count_sides(rt, &current, &baseline, options.workers);
+    let verdict = verdict(&counts, &options.policy);
+    let gate = gate_value(alloc, &counts, &options.policy, without, unused)?;
+    let counted = &counts;
+    let found = &findings;
+    let say = move || -> Result<B, AllocError>
+        requires { Tell.IsAlwaysCallable tell }
+        ensures { IsMadeBy Tell.FnOnce tell
+            counted.entry.now found.entry.now result }
+    {
+        drop(spent);
+        tell(counted, found)
+    };
+    let (text, told) = text_beside(rt, alloc, gate, current, baseline, say);
+    let log = Text::from_string(text?)?;
+    let told = told?;
+    let merged = Merged {
+        log,
+        counts,
+        verdict,
+        without,
+        unused,
+        findings,
+    };
+    Ok((merged, told))
+}

@@ -1,0 +1,13 @@
+-- What the elements of an array and the members of an object stand for.
+use Rattle.std.proofs.Common.{◌≡◌, ◌↔◌, suc, List, [], ◌∷◌, map, length, refl, ap}
+use Rattle.serde_json.specs.declared.value.Value.{Value}
+use Rattle.serde_json.specs.View.{view, items_view}
+use Rattle.sarif_model.specs.Members.{elements}
+
+pub elements_items_view : (vs : List Value) → elements (items_view vs) ≡ map view vs
+elements_items_view [] = refl
+elements_items_view (v ∷ vs) = ap (λ ds. view v ∷ ds) (elements_items_view vs)
+
+pub length_elements : (vs : List Value) → length (elements (items_view vs)) ≡ length vs
+length_elements [] = refl
+length_elements (v ∷ vs) = ap (λ n. suc n) (length_elements vs)

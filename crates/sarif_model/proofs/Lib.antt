@@ -1,0 +1,6 @@
+pub mod Elements
+pub mod ParsedFaults
+pub mod PutAgain
+pub mod QuietFaults
+pub mod ReadEach
+pub mod SourceAnswers

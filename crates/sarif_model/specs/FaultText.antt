@@ -1,0 +1,21 @@
+-- The texts of the places at which a fault stands.
+use Rattle.std.specs.Prelude.{ℕ, List, [], ◌++◌, codes, decimal}
+use Rattle.sarif_model.specs.declared.merge_fault.Source.{Source}
+use Rattle.sarif_model.specs.declared.merge_fault.Source.TheVariants.{Log, Baseline, Suppress, Output}
+use Rattle.sarif_model.specs.declared.merge_fault.At.{At}
+use Rattle.sarif_model.specs.declared.merge_fault.At.TheVariants.{Nowhere, Whole, Run, Single, Entry}
+
+abbrev pub source_text : Source → List ℕ
+source_text (Log number) = codes "log " ++ decimal number
+source_text (Baseline number) = codes "baseline " ++ decimal number
+source_text Suppress = codes "suppressions"
+source_text Output = codes "output"
+
+abbrev pub at_text : At → List ℕ
+at_text Nowhere = []
+at_text (Whole source) = source_text source
+at_text (Run source run) = source_text source ++ (codes ", run " ++ decimal run)
+at_text (Single source run number) =
+    source_text source ++ (codes ", run " ++ (decimal run
+    ++ (codes ", result " ++ decimal number)))
+at_text (Entry entry) = codes "suppressions, entry " ++ decimal entry

@@ -1,0 +1,14 @@
+pub mod Driver
+pub mod FaultText
+pub mod FirstFault
+pub mod Guid
+pub mod Hashed
+pub mod Kind
+pub mod Level
+pub mod Members
+pub mod MergeFault
+pub mod Run
+pub mod SourceKind
+pub mod State
+pub mod Status
+pub mod Suppression

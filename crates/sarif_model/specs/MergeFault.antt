@@ -1,0 +1,68 @@
+-- Why a merge is refused: the causes behind the faults of the layers below, and the program's status.
+use Rattle.std.specs.Prelude.{ℕ}
+use Rattle.std.specs.Prelude.{◌≡◌, ◌≤◌, ◌∷◌, Bool, true, false, Result, Ok, Err, IfErr}
+use Rattle.sarif_model.specs.declared.fault.Fault.{Fault}
+use Rattle.sarif_model.specs.declared.merge_fault.At.{At}
+use Rattle.sarif_model.specs.declared.merge_fault.At.TheVariants.{Nowhere}
+use Rattle.sarif_model.specs.declared.merge_fault.Cause.{Cause}
+use Rattle.sarif_model.specs.declared.merge_fault.Cause.TheVariants.{NotJson, NotLog, WrongVersion, BadRun, ExternalProperties, BadRules, BadIndex, BadLevel, BadKind, BadGuid, BadFingerprint, BadLocation, BadSuppression, BadMember, AbsentInput, TooMany, ReadFailed, WriteFailed, OutOfMemory, NoWorker}
+use Rattle.sarif_model.specs.declared.merge_fault.MergeFault.{MergeFault}
+use Rattle.sarif_model.specs.declared.fault.Fault.TheVariants as reading
+
+-- the cause of the same name
+abbrev pub cause_of : Fault → Cause
+cause_of reading.NotJson = NotJson
+cause_of reading.NotLog = NotLog
+cause_of reading.WrongVersion = WrongVersion
+cause_of reading.BadRun = BadRun
+cause_of reading.ExternalProperties = ExternalProperties
+cause_of reading.BadRules = BadRules
+cause_of reading.BadIndex = BadIndex
+cause_of reading.BadLevel = BadLevel
+cause_of reading.BadKind = BadKind
+cause_of reading.BadGuid = BadGuid
+cause_of reading.BadFingerprint = BadFingerprint
+cause_of reading.BadLocation = BadLocation
+cause_of reading.BadSuppression = BadSuppression
+cause_of reading.BadMember = BadMember
+cause_of reading.AbsentInput = AbsentInput
+cause_of reading.TooMany = TooMany
+cause_of reading.OutOfMemory = OutOfMemory
+
+-- the refusal for want of memory
+abbrev pub out_of_memory : MergeFault
+out_of_memory = record { at = Nowhere; cause = OutOfMemory }
+
+-- the cause at its place; want of memory or of a thread is nowhere
+abbrev pub fault_at : At → Cause → MergeFault
+fault_at at OutOfMemory = record { at = Nowhere; cause = OutOfMemory }
+fault_at at NoWorker = record { at = Nowhere; cause = NoWorker }
+fault_at at cause = record { at = at; cause = cause }
+
+-- the program's exit status: 3 where a read or a write failed, else 2
+abbrev pub exit_status : Cause → ℕ
+exit_status ReadFailed = 3
+exit_status WriteFailed = 3
+exit_status _ = 2
+
+abbrev pub is_read_failed : Cause → Bool
+is_read_failed ReadFailed = true
+is_read_failed _ = false
+
+abbrev pub is_write_failed : Cause → Bool
+is_write_failed WriteFailed = true
+is_write_failed _ = false
+
+-- whether the merge was refused since a read failed
+abbrev pub read_failed_in : {T : Type 0} → Result T MergeFault → Bool
+read_failed_in (Ok v) = false
+read_failed_in (Err fault) = is_read_failed fault.cause
+
+-- whether it was refused since a write failed
+abbrev pub write_failed_in : {T : Type 0} → Result T MergeFault → Bool
+write_failed_in (Ok v) = false
+write_failed_in (Err fault) = is_write_failed fault.cause
+
+-- neither a read nor a write failed
+abbrev pub IsQuiet : {T : Type 0} → Result T MergeFault → Type 0
+IsQuiet result = IfErr result (λ fault. exit_status fault.cause ≡ 2)

@@ -1,0 +1,17 @@
+//! Guids as numbers.
+ghost use Rattle.std.specs.Prelude.{◌≡◌};
+ghost use Rattle.sarif_model.specs.Guid.{guid_of_text};
+
+use uuid::Uuid;
+
+/// The guid that `text` stands for in any of the forms of a guid, as a number, or `None` where it
+/// stands for none (RFC 9562).
+#[tactic(auto, unfolding(crate::specs::Guid::guid_of_text))]
+pub fn read_guid(text: &str) -> Option<u128>
+    ensures { result ≡ guid_of_text text.now }
+{
+    match Uuid::try_parse(text) {
+        Ok(guid) => Some(guid.as_u128()),
+        Err(_) => None,
+    }
+}

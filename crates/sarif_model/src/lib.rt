@@ -1,0 +1,29 @@
+//! The vocabulary of a merge: the kinds, texts and sequences, places, records, faults and their places.
+#![tactic(auto)]
+
+mod driver;
+mod fault;
+mod guid;
+mod kinds;
+mod limits;
+pub mod members;
+mod merge_fault;
+mod message;
+mod place;
+mod record;
+mod sequence;
+mod source_kind;
+mod text;
+
+pub use driver::driver_name;
+pub use fault::Fault;
+pub use guid::read_guid;
+pub use kinds::{Kind, Level, State, Status};
+pub use limits::{MOST_RESULTS, MOST_RUNS};
+pub use merge_fault::{At, Cause, MergeFault, Source};
+pub use message::Message;
+pub use place::Place;
+pub use record::Record;
+pub use sequence::{Pairs, Sequence};
+pub use source_kind::SourceKind;
+pub use text::{Text, copy_if_there};

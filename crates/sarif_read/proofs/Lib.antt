@@ -1,0 +1,15 @@
+pub mod Beside
+pub mod CheckEach
+pub mod IndexEach
+pub mod IndexRun
+pub mod ListResults
+pub mod ListRuns
+pub mod LogText
+pub mod NoFraction
+pub mod NoMembers
+pub mod NodeValues
+pub mod PickedMembers
+pub mod ReadResults
+pub mod RunOf
+pub mod Stripped
+pub mod WholeRuns

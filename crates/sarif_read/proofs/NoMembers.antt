@@ -1,0 +1,12 @@
+-- What the elements of an array and the members of an object stand for.
+use Rattle.std.proofs.Common.{◌≡◌, ◌↔◌, Bool, true, false, IsTrue, List, [], ◌∷◌, length, refl, arith}
+use Rattle.serde_json.specs.View.{members_view}
+use Rattle.serde_json.proofs.Views.{Entry}
+use Rattle.sarif_read.specs.Reading.{has_no_members}
+
+-- a test that says whether a map has no entries
+pub has_no_members-entries : (es : List Entry) (b : Bool) → (IsTrue b ↔ (length es ≡ 0)) → b ≡ has_no_members (members_view es)
+has_no_members-entries [] true h = refl
+has_no_members-entries [] false h = h.1 refl
+has_no_members-entries (e ∷ es) true h = absurd (omega (arith, h.0 refl))
+has_no_members-entries (e ∷ es) false h = refl

@@ -1,0 +1,68 @@
+-- What stripping leaves of a value's kind.
+use Rattle.std.proofs.Common.{◌≡◌, ℕ, List, [], ◌∷◌, map, true, false, Some, None, is_some, option_map, refl, sym, ap, ◌∙◌}
+use Rattle.json.specs.Token.{Token}
+use Rattle.serde_json.specs.Data.{Data, null, boolean, number, string, array, object, item}
+use Rattle.serde_json.specs.Find.{get, as_null, as_str, as_array, as_object}
+use Rattle.serde_json.specs.View.{items_of}
+use Rattle.json_parts.specs.Indexed.{data_of}
+use Rattle.json_parts.specs.Ordered.{IsOrdered, AreItemsOrdered}
+use Rattle.json_parts.specs.Stripping.{is_fractional, stripped, stripped_items}
+use Rattle.json_parts.proofs.Stripped.{get-stripped, get-IsOrdered}
+use Rattle.sarif_read.specs.Listed.{value_at, AreOrdered}
+
+pub same_null : (d : Data) → is_some (as_null (stripped d)) ≡ is_some (as_null d)
+same_null null = refl
+same_null (boolean b) = refl
+same_null (number n) = refl
+same_null (string s) = refl
+same_null (array ds) = refl
+same_null (object ms) = refl
+
+pub same_text : (d : Data) → as_str (stripped d) ≡ as_str d
+same_text null = refl
+same_text (boolean b) = refl
+same_text (number n) = refl
+same_text (string s) = refl
+same_text (array ds) = refl
+same_text (object ms) = refl
+
+pub same_object : (d : Data) → is_some (as_object (stripped d)) ≡ is_some (as_object d)
+same_object null = refl
+same_object (boolean b) = refl
+same_object (number n) = refl
+same_object (string s) = refl
+same_object (array ds) = refl
+same_object (object ms) = refl
+
+pub same_array : (d : Data) → as_array (stripped d) ≡ option_map stripped_items (as_array d)
+same_array null = refl
+same_array (boolean b) = refl
+same_array (number n) = refl
+same_array (string s) = refl
+same_array (array ds) = refl
+same_array (object ms) = refl
+
+pub stripped_each : (nodes : List (List Token)) → stripped_items (items_of (map data_of nodes)) ≡ items_of (map value_at nodes)
+stripped_each [] = refl
+stripped_each (node ∷ nodes) = ap (λ ds. item (value_at node) ds) (stripped_each nodes)
+
+pub items_apart : (nodes : List (List Token)) → AreItemsOrdered (items_of (map data_of nodes)) → AreOrdered nodes
+items_apart [] ordered = tt
+items_apart (node ∷ nodes) ordered = (ordered.0, items_apart nodes ordered.1)
+
+-- a member that isn't found, that stripping leaves out, or that it leaves
+pub kept_none : (k : List ℕ) (d : Data) → IsOrdered d → None ≡ get k d → None ≡ get k (stripped d)
+kept_none k d ordered none = sym (get-stripped k d ordered ∙ rw (← none) refl)
+
+pub kept_out : (k : List ℕ) (d e : Data) → IsOrdered d → Some e ≡ get k d → is_fractional e ≡ true → None ≡ get k (stripped d)
+kept_out k d e ordered is fraction = sym (get-stripped k d ordered ∙ rw (← is, fraction) refl)
+
+pub kept_in : (k : List ℕ) (d e : Data) → IsOrdered d → Some e ≡ get k d → is_fractional e ≡ false → Some (stripped e) ≡ get k (stripped d)
+kept_in k d e ordered is fraction = sym (get-stripped k d ordered ∙ rw (← is, fraction) refl)
+
+pub kept_ordered : (k : List ℕ) (d e : Data) → IsOrdered d → Some e ≡ get k d → IsOrdered e
+kept_ordered k d e ordered is = get-IsOrdered k d e ordered (sym is)
+
+pub ruleset kept_steps = (kept_none, kept_out, kept_in, kept_ordered)
+
+pub ruleset node_steps = (same_null, same_text, same_object, same_array, stripped_each, items_apart)

@@ -1,0 +1,132 @@
+//! A run of an indexed log.
+ghost use Rattle.std.specs.Prelude.{◌≤◌, length, IsTrue};
+ghost use Rattle.serde_json.specs.View.{view};
+ghost use Rattle.sarif_read.specs.Bare.{is_bare};
+ghost use Rattle.sarif_read.specs.Listed.{nodes_of};
+
+use crate::filling::{values_of, with_results};
+use crate::listed::Listed;
+use crate::picking::pick_members;
+use crate::run::RawRun;
+use serde_json::Value;
+use std::alloc::{AllocError, Global};
+
+/// A run of a log whose form was checked (SARIF 2.1.0, "run object"): what stands beside its
+/// results, and the places of its results in the log's index. Contracts see it by `run_of`, which is
+/// the whole run, stripped.
+#[derive(Drop)]
+pub struct IndexedRun<'t, 'a> {
+    bare: Value,
+    results: Listed<'t, 'a>,
+    ghost beside: { IsTrue (is_bare (view bare)) },
+    ghost few: { length (nodes_of results) ≤ 1000000 },
+}
+
+impl<'t, 'a> IndexedRun<'t, 'a> {
+    ghost use Rattle.std.specs.Prelude.{◌≡◌, ◌<◌, ◌≤◌, length, map, is_some, IfOk, IsTrue};
+    ghost use Rattle.serde_json.specs.View.{view};
+    ghost use Rattle.sarif_model.specs.Run.{results_of, results_array, result_at};
+    ghost use Rattle.sarif_read.specs.Bare.{bare, is_bare};
+    ghost use Rattle.sarif_read.specs.Listed.{nodes_of};
+    ghost use Rattle.sarif_read.specs.Indexed.{run_of};
+    ghost use Rattle.sarif_read.specs.Picked.{picked};
+
+    /// A run of an object without results, and of its results.
+    pub(crate) fn new(bare: Value, results: Listed<'t, 'a>) -> IndexedRun<'t, 'a>
+        requires beside { IsTrue (is_bare (view bare)) }
+        requires few { length (nodes_of results) ≤ 1000000 }
+        ensures bare { result.bare ≡ bare }
+        ensures results { result.results ≡ results.entry }
+    {
+        IndexedRun { bare, results }
+    }
+
+    /// How many results the run has, at most 1,000,000.
+    #[tactic(auto, using(crate::proofs::RunOf::count_results))]
+    pub fn len(&self) -> u32
+        ensures count { result ≡ length (results_of (run_of self.now)) }
+        ensures few { result ≤ 1000000 }
+    {
+        self.results.len() as u32
+    }
+
+    /// Whether the run has an array of results; where `results` is absent or null it has none.
+    #[tactic(auto, using(crate::proofs::RunOf::has_array))]
+    pub fn has_results(&self) -> bool
+        ensures { result ≡ is_some (results_array (run_of self.now)) }
+    {
+        match &self.results {
+            Listed::Array(_) => true,
+            Listed::Missing | Listed::Null => false,
+        }
+    }
+
+    /// The run without its results.
+    #[tactic(auto, using(crate::proofs::RunOf::bare_run))]
+    pub fn bare(&self) -> &Value
+        ensures { view result.now ≡ bare (run_of self.now) }
+    {
+        &self.bare
+    }
+
+    /// The run without its results, taken out.
+    #[tactic(auto, using(crate::proofs::RunOf::bare_run))]
+    pub fn into_bare(self) -> Value
+        ensures { view result ≡ bare (run_of self.entry) }
+    {
+        let IndexedRun { bare, results } = self;
+        drop(results);
+        bare
+    }
+
+    /// Result `seq` of the run, counted from 0, stripped. `AllocError` where memory for it is wanting.
+    #[tactic(auto, using(crate::proofs::RunOf::count_results, crate::proofs::RunOf::nth_result))]
+    pub fn result(&self, alloc: Global, seq: u32) -> Result<Value, AllocError>
+        requires { seq < length (results_of (run_of self.now)) }
+        ensures { IfOk result (λ value. view value ≡ result_at (run_of self.now) seq) }
+    {
+        match &self.results {
+            Listed::Array(nodes) => nodes[seq as usize].to_value(alloc),
+            Listed::Missing | Listed::Null => Ok(Value::Null),
+        }
+    }
+
+    /// Result `seq` of the run, with those of its members alone that have one of these names. `AllocError` where
+    /// memory for them is wanting.
+    #[tactic(auto, using(crate::proofs::RunOf::count_results, crate::proofs::RunOf::nth_result))]
+    pub fn picked(&self, alloc: Global, seq: u32, names: &[&str]) -> Result<Value, AllocError>
+        requires { seq < length (results_of (run_of self.now)) }
+        ensures { IfOk result (λ value. view value
+            ≡ picked (map (λ name. name.now) names.now) (result_at (run_of self.now) seq)) }
+    {
+        match &self.results {
+            Listed::Array(nodes) => pick_members(alloc, &nodes[seq as usize], names),
+            Listed::Missing | Listed::Null => Ok(Value::Null),
+        }
+    }
+
+    /// The run with all its results, stripped.
+    #[tactic(auto, using(crate::proofs::RunOf::view_array))]
+    fn into_whole(self, alloc: Global) -> Result<Value, AllocError>
+        ensures { IfOk result (λ whole. view whole ≡ run_of self.entry) }
+    {
+        let IndexedRun { bare, results } = self;
+        match results {
+            Listed::Missing => Ok(bare),
+            Listed::Null => with_results(alloc, bare, Value::Null),
+            Listed::Array(nodes) => {
+                let values = values_of(alloc, nodes.as_slice())?;
+                with_results(alloc, bare, Value::Array(values))
+            }
+        }
+    }
+
+    /// The run with all its results, as [`read_log`](crate::read_log) gives it. `AllocError` where memory for the
+    /// results is wanting.
+    #[tactic(auto, using(crate::proofs::RunOf::few_whole))]
+    pub fn into_raw(self, alloc: Global) -> Result<RawRun, AllocError>
+        ensures { IfOk result (λ run. view run ≡ run_of self.entry) }
+    {
+        Ok(RawRun::new(self.into_whole(alloc)?))
+    }
+}

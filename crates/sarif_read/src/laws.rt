@@ -1,0 +1,32 @@
+//! Laws of reading, each the contract of a function that does nothing.
+ghost use Rattle.std.specs.Prelude.{◌≡◌, ℕ, List, Ok, false, is_some, codes};
+ghost use Rattle.std.specs.List.{list_any};
+ghost use Rattle.serde_json.specs.Data.{Data, object, Members};
+ghost use Rattle.serde_json.specs.Written.{has_float};
+ghost use Rattle.sarif_model.specs.Members.{member_at};
+ghost use Rattle.sarif_model.specs.Run.{results_array};
+ghost use Rattle.sarif_read.specs.Reading.{log_of, check_run};
+ghost use Rattle.sarif_read.specs.Stripping.{stripped};
+
+/// What is stripped and stands inside an object holds no number with a fraction.
+pub fn stripped_holds_no_fraction()
+    ensures { (members : Members) → has_float (stripped (object members)) ≡ false }
+{}
+
+/// Stripping twice is stripping once.
+pub fn stripping_twice_is_once()
+    ensures { (value : Data) → stripped (stripped value) ≡ stripped value }
+{}
+
+/// No run that is read holds a number with a fraction.
+pub fn read_runs_hold_no_fraction()
+    ensures { (bytes : List ℕ) (runs : List Data) → log_of bytes ≡ Ok runs
+        → list_any has_float runs ≡ false }
+{}
+
+/// A run that is read has results exactly where `results` is there and not null, and then it is an
+/// array of objects.
+pub fn runs_have_results_where_they_are_listed()
+    ensures { (run : Data) (before now : ℕ) → check_run before run ≡ Ok now
+        → is_some (results_array run) ≡ is_some (member_at (codes "results") run) }
+{}

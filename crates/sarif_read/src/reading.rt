@@ -1,0 +1,74 @@
+//! Reading a log: JSON, stripping, and the form of the log and of its runs.
+ghost use Rattle.std.specs.Prelude.{◌≡◌, ◌≤◌, Ok, Err, None, map, length};
+ghost use Rattle.std.specs.Prelude.{IfOk, IfErr};
+ghost use Rattle.serde_json.specs.View.{view};
+ghost use Rattle.sarif_model.specs.Run.{results_total};
+ghost use Rattle.sarif_model.specs.declared.fault.Fault.TheVariants.{OutOfMemory};
+ghost use Rattle.sarif_read.specs.Reading as said;
+
+use crate::filling::fill_each;
+use crate::indexing::index_log;
+use crate::log::Log;
+use crate::read_fault::ReadFault;
+use json::Scratch;
+use json_parts::{index_text, without_mark};
+use sarif_model::members::member_at;
+use sarif_model::{Fault, driver_name};
+use serde_json::Value;
+use std::alloc::Global;
+
+/// The run is an object with a tool that has a driver that has a name: else `BadRun`.
+pub(crate) fn check_tool(run: &Value) -> Result<(), Fault>
+    ensures { result ≡ said.check_tool (view run.now) }
+{
+    match driver_name(run) {
+        Some(_) => Ok(()),
+        None => Err(Fault::BadRun),
+    }
+}
+
+/// Whether this is an object with no member.
+fn is_empty_object(value: &Value) -> bool
+    ensures { result ≡ said.is_empty_object (view value.now) }
+{
+    match value.as_object() {
+        Some(members) => members.is_empty(),
+        None => false,
+    }
+}
+
+/// The run names no external property files: else `ExternalProperties`.
+pub(crate) fn check_external(run: &Value) -> Result<(), Fault>
+    ensures { result ≡ said.check_external (view run.now) }
+{
+    match member_at(run, "externalPropertyFileReferences") {
+        Some(files) => {
+            if is_empty_object(files) {
+                Ok(())
+            } else {
+                Err(Fault::ExternalProperties)
+            }
+        }
+        None => Ok(()),
+    }
+}
+
+/// Reads a log (SARIF 2.1.0, "sarifLog object"): the JSON after one leading byte order mark,
+/// stripped, with the form of the log and of its runs.
+///
+/// Want of memory is `OutOfMemory`, without a run; each other refusal is the first fault of the
+/// bytes: `NotJson`, `NotLog`, `WrongVersion` or `TooMany` without a run, `BadRun`,
+/// `ExternalProperties` or `TooMany` with the run's number, counted from 0.
+#[tactic(auto, using(crate::proofs::LogText::read_steps), unfolding(crate::specs::Reading::log_of))]
+pub fn read_log(alloc: Global, bytes: &[u8]) -> Result<Log, ReadFault>
+    ensures ok { IfOk result (λ log. said.log_of bytes.now ≡ Ok (map view log)) }
+    ensures few { IfOk result (λ log. results_total (map view log) ≤ 1000000) }
+    ensures few_runs { IfOk result (λ log. length log ≤ 10000) }
+    ensures err { IfErr result (λ e. ¬ (e.fault ≡ OutOfMemory) → said.log_of bytes.now ≡ Err e) }
+    ensures memory { IfErr result (λ e. e.fault ≡ OutOfMemory → e.run ≡ None) }
+{
+    let mut scratch = Scratch::new(alloc);
+    let index = index_text(alloc, without_mark(bytes), &mut scratch)?;
+    let runs = index_log(alloc, &index)?;
+    Ok(Log::new(fill_each(alloc, runs)?))
+}

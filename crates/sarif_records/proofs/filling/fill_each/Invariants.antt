@@ -1,7 +1,0 @@
-use Rattle.std.proofs.Common.{◌≡◌, map}
-use Rattle.serde_json.specs.View.{view}
-use Rattle.sarif_records.specs.Indexed.{run_of}
-use Rattle.sarif_records.proofs.filling.fill_each.Given as goal
-
-abbrev pub invariant-loop-run : goal.invariant-loop-run
-invariant-loop-run l = map view l.filled.items ≡ map run_of l.yielded

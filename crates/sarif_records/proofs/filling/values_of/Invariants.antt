@@ -1,7 +1,0 @@
-use Rattle.std.proofs.Common.{◌≡◌, map, take}
-use Rattle.serde_json.specs.View.{view}
-use Rattle.sarif_records.specs.Listed.{value_at}
-use Rattle.sarif_records.proofs.filling.values_of.Given as goal
-
-abbrev pub invariant-loop-node : goal.invariant-loop-node
-invariant-loop-node l = map view l.values.items ≡ map value_at (take l.node-index l.nodes)

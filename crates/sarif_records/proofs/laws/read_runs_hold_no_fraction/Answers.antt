@@ -1,5 +1,0 @@
-use Rattle.sarif_records.proofs.WholeRuns.{read_whole}
-use Rattle.sarif_records.proofs.laws.read_runs_hold_no_fraction.Goals as goal
-
-pub returns : goal.returns
-returns c = read_whole

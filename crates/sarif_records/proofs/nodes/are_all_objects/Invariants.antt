@@ -1,8 +1,0 @@
-use Rattle.std.proofs.Common.{◌≡◌, map, drop}
-use Rattle.sarif_records.specs.Listed.{value_at}
-use Rattle.sarif_records.specs.Members.{are_objects}
-use Rattle.sarif_records.proofs.nodes.are_all_objects.Given as goal
-
-abbrev pub invariant-loop-node : goal.invariant-loop-node
-invariant-loop-node l =
-    are_objects (map value_at (drop l.node-index l.nodes)) ≡ are_objects (map value_at l.nodes)

@@ -1,2 +1,0 @@
--- Stripping, as the index does it.
-pub use Rattle.json_index.specs.Stripping.{is_fractional, any_fractional, stripped, stripped_items, stripped_members}

@@ -1,8 +1,0 @@
-use Rattle.sarif_report.proofs.GithubApart.{commands_begin, lines_end}
-use Rattle.sarif_report.proofs.laws.github_lines_begin_with_commands.Goals as goal
-
-pub returns-clause-commands : goal.returns-clause-commands
-returns-clause-commands c = commands_begin
-
-pub returns-clause-lines : goal.returns-clause-lines
-returns-clause-lines c = lines_end

@@ -1,5 +1,0 @@
-use Rattle.sarif_report.proofs.HashedApart.{hashed_apart}
-use Rattle.sarif_report.proofs.laws.hashed_texts_differ.Goals as goal
-
-pub returns : goal.returns
-returns c = hashed_apart

@@ -1,5 +1,0 @@
-use Rattle.sarif_report.proofs.EscapedApart.{marks_apart}
-use Rattle.sarif_report.proofs.laws.markdown_texts_hold_no_mark.Goals as goal
-
-pub returns : goal.returns
-returns c = marks_apart

@@ -1,5 +1,0 @@
-use Rattle.sarif_report.proofs.TextApart.{text_lines}
-use Rattle.sarif_report.proofs.laws.text_reports_have_a_line_a_result.Goals as goal
-
-pub returns : goal.returns
-returns c = text_lines

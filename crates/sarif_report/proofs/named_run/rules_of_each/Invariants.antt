@@ -1,8 +1,0 @@
-use Rattle.std.proofs.Common.{◌≡◌, ◌++◌, map, drop}
-use Rattle.serde_json.specs.View.{view}
-use Rattle.sarif_report.specs.RulesOf.{rules_in}
-use Rattle.sarif_report.proofs.named_run.rules_of_each.Given as goal
-
-abbrev pub invariant-loop-component : goal.invariant-loop-component
-invariant-loop-component l =
-    map (map view) l.made.items ++ map rules_in (map view (drop l.component-index l.components)) ≡ map rules_in (map view l.components)

@@ -1,6 +1,0 @@
-use Rattle.sarif_report.proofs.ShownMore.{shown_whole}
-use Rattle.sarif_report.proofs.spot.text_of_path.Goals as goal
-
-pub returns : goal.returns
-returns c =
-    shown_whole c.new-so_far.result c.push_path.new.so_far _ _ c.new-so_far.ensures c.in_ok-push_path.ensures c.finish.ensures

@@ -1,0 +1,10 @@
+pub mod ArrayRead
+pub mod EscapedApart
+pub mod EscapedMore
+pub mod GithubApart
+pub mod GitlabMore
+pub mod HashedApart
+pub mod RowsApart
+pub mod SeenTexts
+pub mod TagsCounted
+pub mod TextApart

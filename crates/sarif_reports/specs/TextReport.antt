@@ -1,0 +1,28 @@
+-- The report that people, editors and problem matchers read: one line a result.
+use Rattle.std.specs.Prelude.{ℕ, List, [], ◌∷◌, ◌++◌, codes, flat_map}
+use Rattle.sarif_model.specs.Level.{level_name}
+use Rattle.sarif_model.specs.State.{state_name}
+use Rattle.sarif_findings.specs.declared.finding.Finding.{Finding}
+use Rattle.sarif_findings.specs.Finding.{spot_text}
+
+-- the rule in brackets, where there is one
+abbrev pub bracketed : List ℕ → List ℕ
+bracketed [] = []
+bracketed (b ∷ bs) = codes " [" ++ ((b ∷ bs) ++ codes "]")
+
+abbrev pub level_and_message : Finding → List ℕ
+level_and_message finding =
+    codes ": " ++ (level_name finding.level ++ (codes ": " ++ finding.message))
+
+abbrev pub tool_and_state : Finding → List ℕ
+tool_and_state finding =
+    codes " (" ++ (finding.tool ++ (codes ", " ++ (state_name finding.state ++ codes ")\n")))
+
+-- PLACE: LEVEL: MESSAGE [RULE] (TOOL, STATE)
+abbrev pub text_line : Finding → List ℕ
+text_line finding =
+    spot_text finding ++ (level_and_message finding
+    ++ (bracketed finding.rule ++ tool_and_state finding))
+
+abbrev pub text_lines_of : List Finding → List ℕ
+text_lines_of findings = flat_map text_line findings

@@ -1,0 +1,41 @@
+//! The numbers of a baseline state in a table of counts.
+ghost use Rattle.std.specs.Prelude.{◌≡◌};
+ghost use Rattle.sarif_counts.specs.Counts.{count_at};
+ghost use Rattle.sarif_counts.specs.Summary.{suppressed_of};
+ghost use Rattle.sarif_reports.specs.CountRow.{numbers_of};
+
+use sarif_counts::Counts;
+use sarif_model::{Level, State};
+
+/// All suppressed results of a state.
+fn suppressed(counts: &Counts, state: State) -> u64
+    ensures { result ≡ suppressed_of (count_at counts.now state) }
+{
+    u64::from(counts.get(state, Level::Error, true))
+        + u64::from(counts.get(state, Level::Warning, true))
+        + u64::from(counts.get(state, Level::Note, true))
+        + u64::from(counts.get(state, Level::NoLevel, true))
+}
+
+/// The numbers of one state's row.
+#[derive(Drop)]
+pub(crate) struct Row {
+    pub(crate) error: u32,
+    pub(crate) warning: u32,
+    pub(crate) note: u32,
+    pub(crate) none: u32,
+    pub(crate) suppressed: u64,
+}
+
+/// The numbers of one state.
+pub(crate) fn row_numbers(counts: &Counts, state: State) -> Row
+    ensures { result ≡ numbers_of (count_at counts.now state) }
+{
+    Row {
+        error: counts.get(state, Level::Error, false),
+        warning: counts.get(state, Level::Warning, false),
+        note: counts.get(state, Level::Note, false),
+        none: counts.get(state, Level::NoLevel, false),
+        suppressed: suppressed(counts, state),
+    }
+}

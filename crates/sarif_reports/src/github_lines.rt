@@ -1,0 +1,113 @@
+//! The report for GitHub Actions.
+ghost use Rattle.std.specs.Prelude.{◌≡◌, ◌++◌, IfOk, OnOk, string_bytes};
+ghost use Rattle.sarif_reports.specs.GithubReport as said;
+
+use crate::escaping::Escaping;
+use sarif_findings::Finding;
+use sarif_model::{Level, Text};
+use std::alloc::{AllocError, Global};
+
+/// The workflow command of a level, with what stands round it.
+fn command(level: Level) -> &'static str
+    ensures { result.now ≡ said.command_of level }
+{
+    match level {
+        Level::Error => "::error ",
+        Level::Warning => "::warning ",
+        Level::Note | Level::NoLevel => "::notice ",
+    }
+}
+
+/// Adds the path, where there is one.
+fn push_file(alloc: Global, text: &mut String, path: &Option<Text>) -> Result<(), AllocError>
+    ensures { OnOk result
+        (string_bytes text.new ≡ string_bytes text.old ++ said.file_property path.now) }
+{
+    if let Some(path) = path {
+        text.push_str("file=")?;
+        Escaping::Property.push_str(alloc, text, path.as_str())?;
+        text.push_str(",")?;
+    }
+    Ok(())
+}
+
+/// Adds a number under a name, where there is one.
+fn push_number(
+    alloc: Global,
+    text: &mut String,
+    name: &str,
+    number: Option<u32>,
+) -> Result<(), AllocError>
+    ensures { OnOk result (string_bytes text.new
+        ≡ string_bytes text.old ++ said.number_property name.now number) }
+{
+    if let Some(number) = number {
+        let written = format!(in alloc; "{name}{number},")?;
+        text.push_str(written.as_str())?;
+    }
+    Ok(())
+}
+
+/// Adds the rule and the tool.
+fn push_title(alloc: Global, text: &mut String, rule: &str, tool: &str) -> Result<(), AllocError>
+    ensures { OnOk result
+        (string_bytes text.new ≡ string_bytes text.old ++ said.title rule.now tool.now) }
+{
+    if rule.is_empty() {
+        Escaping::Property.push_str(alloc, text, tool)?;
+        return Ok(());
+    }
+    Escaping::Property.push_str(alloc, text, rule)?;
+    text.push_str(" (")?;
+    Escaping::Property.push_str(alloc, text, tool)?;
+    text.push_str(")")?;
+    Ok(())
+}
+
+/// Adds the properties that say where the result stands.
+fn push_position(alloc: Global, text: &mut String, finding: &Finding) -> Result<(), AllocError>
+    ensures { OnOk result
+        (string_bytes text.new ≡ string_bytes text.old ++ said.position_of finding.now) }
+{
+    push_file(alloc, text, &finding.path)?;
+    push_number(alloc, text, "line=", finding.line)?;
+    push_number(alloc, text, "col=", finding.column)?;
+    Ok(())
+}
+
+/// Adds the title and the message, and ends the line.
+fn push_said(alloc: Global, text: &mut String, finding: &Finding) -> Result<(), AllocError>
+    ensures { OnOk result
+        (string_bytes text.new ≡ string_bytes text.old ++ said.title_and_message finding.now) }
+{
+    text.push_str("title=")?;
+    push_title(alloc, text, finding.rule.as_str(), finding.tool.as_str())?;
+    text.push_str("::")?;
+    Escaping::Message.push_str(alloc, text, finding.message.as_str())?;
+    text.push_str("\n")?;
+    Ok(())
+}
+
+/// Adds the line of a result.
+fn push_line(alloc: Global, text: &mut String, finding: &Finding) -> Result<(), AllocError>
+    ensures { OnOk result
+        (string_bytes text.new ≡ string_bytes text.old ++ said.github_line finding.now) }
+{
+    text.push_str(command(finding.level))?;
+    push_position(alloc, text, finding)?;
+    push_said(alloc, text, finding)?;
+    Ok(())
+}
+
+/// The report for GitHub Actions, one workflow command a result:
+/// `::COMMAND file=PATH,line=LINE,col=COLUMN,title=TITLE::MESSAGE`. `AllocError` where memory for it
+/// is wanting.
+pub fn github_report(alloc: Global, findings: &[Finding]) -> Result<String, AllocError>
+    ensures { IfOk result (λ s. string_bytes s ≡ said.github_of findings.now) }
+{
+    let mut text = String::new(alloc);
+    for finding in findings {
+        push_line(alloc, &mut text, finding)?;
+    }
+    Ok(text)
+}

@@ -1,0 +1,106 @@
+//! Laws of reports, each the contract of a function that does nothing. A log is written by strangers, so these hold of
+//! any text.
+ghost use Rattle.std.specs.Prelude.{◌≡◌, ◌<◌, ◌==◌, ◌^◌, ℕ, List, true, false, [], Some, None, bytes_eq};
+ghost use Rattle.std.specs.Prelude.{flat_map, length, take};
+ghost use Rattle.std.specs.List.{IsDistinct, count_by, sum_by};
+ghost use Rattle.json.specs.Json.{document};
+ghost use Rattle.serde_json.specs.Data.{Data, array};
+ghost use Rattle.serde_json.specs.Written.{outline};
+ghost use Rattle.sarif_model.specs.Run.{runs_of};
+ghost use Rattle.sarif_counts.specs.Policy.{hits_of};
+ghost use Rattle.sarif_counts.specs.CountOf.{count_of};
+ghost use Rattle.sarif_findings.specs.declared.finding.Finding.{Finding};
+ghost use Rattle.sarif_reports.specs.declared.escaping.Escaping.TheVariants.{Markdown, Page};
+ghost use Rattle.sarif_reports.specs.Escaped.{escaped};
+ghost use Rattle.sarif_reports.specs.EscapedLaws.{has_no_mark, is_element_text};
+ghost use Rattle.sarif_reports.specs.GithubLaws.{are_commands};
+ghost use Rattle.sarif_reports.specs.GithubReport.{github_of};
+ghost use Rattle.sarif_reports.specs.GitlabReport.{gitlab_of, hashed_texts, items_after};
+ghost use Rattle.sarif_findings.specs.declared.reporting.Reporting.{Reporting};
+ghost use Rattle.sarif_reports.specs.HtmlLaws.{row_tags, tags_in};
+ghost use Rattle.sarif_reports.specs.HtmlReport.{rows_below};
+ghost use Rattle.sarif_reports.specs.MarkdownLaws.{have_bars};
+ghost use Rattle.sarif_reports.specs.MarkdownReport.{result_row};
+ghost use Rattle.sarif_findings.specs.Reported.{reported_of};
+ghost use Rattle.sarif_findings.specs.Shown.{shown_chars};
+ghost use Rattle.sarif_findings.specs.ShownLaws.{are_seen, has_two_signs};
+ghost use Rattle.sarif_reports.specs.TextLaws.{IsTextOfLines};
+ghost use Rattle.sarif_reports.specs.TextReport.{text_lines_of};
+
+/// No character of what is shown of a text is a control character, a separator of lines, or one that hides or steers.
+pub fn shown_texts_are_seen()
+    ensures { (cs : List ℕ) → are_seen (shown_chars cs) ≡ true }
+{}
+
+/// Nowhere in what is shown of a text do two `#` stand together.
+pub fn shown_signs_stand_apart()
+    ensures { (cs : List ℕ) → has_two_signs false (shown_chars cs) ≡ false }
+{}
+
+/// What stands of a text in a page has no `<`, `>`, `"` and `'`, and each `&` of it begins an entity: no text makes a
+/// tag or an attribute.
+pub fn page_texts_hold_no_markup()
+    ensures { (text : List ℕ) → is_element_text (escaped Page text) ≡ true }
+{}
+
+/// Each mark of what stands of a text in Markdown is part of a `&#N;`: no text makes a cell, a link, an emphasis or a
+/// tag.
+pub fn markdown_texts_hold_no_mark()
+    ensures { (text : List ℕ) → has_no_mark (escaped Markdown text) ≡ true }
+{}
+
+/// The texts that fingerprints are made of differ from each other, also where results are alike. So the fingerprints
+/// of a report do, where SHA-256 doesn't collide.
+pub fn hashed_texts_differ()
+    ensures { (findings : List Finding) → length findings < 2 ^ 64
+        → IsDistinct bytes_eq (hashed_texts findings) }
+{}
+
+/// Of the reported results of a finished log as many are hits as the gate counts.
+pub fn reported_hits_are_counted()
+    ensures { (reporting : Reporting) (log : Data) →
+        count_by (λ f. f.hit) (reported_of reporting log)
+        ≡ hits_of (count_of (runs_of log)) reporting.policy }
+{}
+
+/// The text report of a log has just as many lines as there are reported results, no control character beside their
+/// ends, no line that begins with a colon, and nowhere two `#` together.
+pub fn text_reports_have_a_line_a_result()
+    ensures { (reporting : Reporting) (log : Data) →
+        IsTextOfLines (length (reported_of reporting log))
+        (text_lines_of (reported_of reporting log)) }
+{}
+
+/// Each line of the report for GitHub Actions begins with one of its three commands, and there are as many lines as
+/// reported results: no log gives the build service a command of its own.
+pub fn github_lines_begin_with_commands()
+    ensures commands { (reporting : Reporting) (log : Data) →
+        are_commands true (github_of (reported_of reporting log)) ≡ true }
+    ensures lines { (reporting : Reporting) (log : Data) →
+        count_by (λ b. b == 10) (github_of (reported_of reporting log))
+        ≡ length (reported_of reporting log) }
+{}
+
+/// In Markdown the table of results has a line a row, and each of its lines has eight bars: no log makes a line or a
+/// cell of its own.
+pub fn markdown_rows_have_their_cells()
+    ensures bars { (reporting : Reporting) (log : Data) →
+        have_bars 8 0 (flat_map result_row (take 200 (reported_of reporting log))) ≡ true }
+    ensures lines { (reporting : Reporting) (log : Data) →
+        count_by (λ b. b == 10) (flat_map result_row (take 200 (reported_of reporting log)))
+        ≡ length (take 200 (reported_of reporting log)) }
+{}
+
+/// Read as JSON, the report for GitLab is the array of its objects, whatever their texts hold: no log makes an object
+/// or a member of its own.
+pub fn gitlab_reports_read_back()
+    ensures { (reporting : Reporting) (log : Data)
+        → document (gitlab_of (reported_of reporting log))
+        ≡ Some (outline (array (items_after [] (reported_of reporting log)))) }
+{}
+
+/// Each row of a page has its own tags, whatever the texts of its result hold: no log makes a tag or a cell of its own.
+pub fn page_rows_have_their_tags()
+    ensures { (findings : List Finding) → tags_in (rows_below None findings)
+        ≡ sum_by row_tags findings }
+{}

@@ -1,0 +1,61 @@
+//! What a report tells of a result.
+ghost use Rattle.std.specs.Prelude.{◌≡◌, ◌++◌, OnOk, string_bytes};
+ghost use Rattle.sarif_findings.specs.Finding as said;
+
+use sarif_findings::Finding;
+use std::alloc::{AllocError, Global};
+
+/// Whether the first character that is no space is a colon.
+fn begins_with_colon(path: &str) -> bool
+    ensures { result ≡ said.begins_with_colon path.now }
+{
+    for byte in path.as_bytes() {
+        if *byte != b' ' {
+            return *byte == b':';
+        }
+    }
+    false
+}
+
+/// Adds a colon and the number, where there is one.
+fn push_numbered(alloc: Global, text: &mut String, number: Option<u32>) -> Result<(), AllocError>
+    ensures { OnOk result (string_bytes text.new ≡ string_bytes text.old ++ said.numbered number) }
+{
+    if let Some(number) = number {
+        let written = format!(in alloc; ":{number}")?;
+        text.push_str(written.as_str())?;
+    }
+    Ok(())
+}
+
+/// Adds a path, which never begins with a colon.
+fn push_path(text: &mut String, path: &str) -> Result<(), AllocError>
+    ensures { OnOk result
+        (string_bytes text.new ≡ string_bytes text.old ++ said.place_path path.now) }
+{
+    if begins_with_colon(path) {
+        text.push_str("./")?;
+    }
+    text.push_str(path)?;
+    Ok(())
+}
+
+/// Adds where the result stands: its path, line and column, as many of these as there are, or `-`.
+pub(crate) fn push_place(
+    alloc: Global,
+    text: &mut String,
+    finding: &Finding,
+) -> Result<(), AllocError>
+    ensures { OnOk result
+        (string_bytes text.new ≡ string_bytes text.old ++ said.spot_text finding.now) }
+{
+    match &finding.path {
+        None => text.push_str("-")?,
+        Some(path) => {
+            push_path(text, path.as_str())?;
+            push_numbered(alloc, text, finding.line)?;
+            push_numbered(alloc, text, finding.column)?;
+        }
+    }
+    Ok(())
+}

@@ -1,0 +1,10 @@
+pub mod AnnotatedResult
+pub mod CountedAgain
+pub mod Drafted
+pub mod JudgedCounts
+pub mod OutcomeItems
+pub mod Places
+pub mod Removed
+pub mod WholeListing
+pub mod WholeMembers
+pub mod WholeResults

@@ -1,0 +1,5 @@
+pub mod Annotated
+pub mod Drafts
+pub mod Judged
+pub mod Outcomes
+pub mod OutcomesAt

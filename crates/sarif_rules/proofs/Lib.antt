@@ -1,2 +1,0 @@
-pub mod FirstPlaces
-pub mod Beside

@@ -1,0 +1,11 @@
+use Rattle.std.proofs.Common.{◌≡◌, map, drop}
+use Rattle.serde_json.specs.View.{view as seen}
+use Rattle.sarif_model.specs.Members.{read_each}
+use Rattle.sarif_model.specs.Suppression.{status_of}
+use Rattle.sarif_model.proofs.ReadEach.{before}
+use Rattle.sarif_runs.proofs.own_members.suppressions.statuses_of.Given as goal
+
+abbrev pub invariant-loop-suppression : goal.invariant-loop-suppression
+invariant-loop-suppression l =
+    before l.held (read_each status_of (map seen (drop l.suppression-index l.suppressions)))
+    ≡ read_each status_of (map seen l.suppressions)

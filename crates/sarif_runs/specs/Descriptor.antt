@@ -1,0 +1,39 @@
+-- Which rule a result or an override means (SARIF 2.1.0, "reportingDescriptorReference object", "ruleIndex
+-- property"). A descriptor is the number of a component, of which 0 is the driver and k + 1 the extension k, and
+-- the place of the rule in that component.
+use Rattle.std.specs.Prelude.{ℕ, ◌+◌, nat_lt, List, length, slice_get, Option, Some, None, Result, Ok, Err, option_map, if◌then◌else◌}
+use Rattle.std.specs.Option.{ok_or}
+use Rattle.sarif_model.specs.declared.fault.Fault.{Fault}
+use Rattle.sarif_model.specs.declared.fault.Fault.TheVariants.{BadIndex}
+use Rattle.sarif_runs.specs.declared.parts.Parts.{Parts}
+use Rattle.sarif_model.specs.Members.{◌>>=◌, result_map}
+use Rattle.sarif_runs.specs.declared.component.Rule.{Rule}
+use Rattle.sarif_runs.specs.Rules.{first_with_id}
+
+-- how a rule is named: by its extension, its index in that component's rules, and its id
+pub record Reference : Type 0 where
+  pub component : Option ℕ
+  pub index : Option ℕ
+  pub id : Option (List ℕ)
+
+abbrev pub reference_of : Parts → Reference
+reference_of parts =
+    record { component = parts.component; index = parts.rule_index; id = parts.rule_id }
+
+abbrev pub component_number : Option ℕ → ℕ
+component_number None = 0
+component_number (Some extension) = extension + 1
+
+-- the index goes before the id, of which the first rule counts; an index past the rules is a fault
+abbrev pub rule_number : List Rule → Option ℕ → Option (List ℕ) → Result (Option ℕ) Fault
+rule_number rules (Some index) id =
+    if nat_lt index (length rules) then Ok (Some index) else Err BadIndex
+rule_number rules None (Some id) = Ok (first_with_id id rules)
+rule_number rules None None = Ok None
+
+-- the descriptor that a reference means, if it means one; a component past the list is a fault
+abbrev pub descriptor_of : List (List Rule) → Reference → Result (Option (ℕ × ℕ)) Fault
+descriptor_of components named = do
+  let number = component_number named.component
+  rules ← ok_or (slice_get components number) BadIndex
+  result_map (option_map (λ i. (number, i))) (rule_number rules named.index named.id)

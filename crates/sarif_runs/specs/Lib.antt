@@ -1,0 +1,15 @@
+pub mod Descriptor
+pub mod Fingerprints
+pub mod Found
+pub mod Head
+pub mod Judging
+pub mod Level
+pub mod Opened
+pub mod Overrides
+pub mod OwnMembers
+pub mod Place
+pub mod Placed
+pub mod Reading
+pub mod Record
+pub mod Rules
+pub mod Spots

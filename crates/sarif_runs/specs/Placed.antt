@@ -1,0 +1,10 @@
+-- A run in the log or the baseline that it stands in.
+use Rattle.std.specs.Prelude.{ℕ}
+use Rattle.serde_json.specs.Data.{Data}
+use Rattle.sarif_model.specs.declared.merge_fault.Source.{Source}
+
+-- a run of a source, with its number there
+pub record Placed : Type 0 where
+  pub source : Source
+  pub number : ℕ
+  pub run : Data

@@ -1,0 +1,59 @@
+-- The record of a result: its own members, and what its run says of it (SARIF 2.1.0, "result object").
+use Rattle.std.specs.Prelude.{ℕ, List, [], Option, Some, None, Result, Ok, option_map, unwrap_or}
+use Rattle.serde_json.specs.Data.{Data}
+use Rattle.sarif_model.specs.declared.fault.Fault.{Fault}
+use Rattle.sarif_runs.specs.declared.parts.Parts.{Parts}
+use Rattle.sarif_model.specs.declared.record.Record.{Record}
+use Rattle.sarif_model.specs.Members.{◌>>=◌}
+use Rattle.sarif_runs.specs.OwnMembers.{parts_of}
+use Rattle.sarif_model.specs.Driver.{driver_name}
+use Rattle.sarif_model.specs.Run.{result_at}
+use Rattle.sarif_runs.specs.declared.component.Rule.{Rule}
+use Rattle.sarif_runs.specs.declared.head.RunHead.{RunHead}
+use Rattle.sarif_runs.specs.Descriptor.{reference_of, descriptor_of}
+use Rattle.sarif_runs.specs.Level.{rule_at, level_of}
+use Rattle.sarif_runs.specs.Place.{place_of}
+use Rattle.sarif_runs.specs.Head.{head_of}
+
+-- the driver's name
+abbrev pub tool_name : Data → List ℕ
+tool_name run = unwrap_or (driver_name run) []
+
+-- the id of a descriptor's rule
+abbrev pub descriptor_id : List (List Rule) → Option (ℕ × ℕ) → Option (List ℕ)
+descriptor_id components None = None
+descriptor_id components (Some d) = option_map (λ rule. rule.id) (rule_at components d)
+
+-- the result's own id, else that of its descriptor, else the empty text
+abbrev pub rule_id_of : List (List Rule) → Option (List ℕ) → Option (ℕ × ℕ) → List ℕ
+rule_id_of components (Some id) descriptor = id
+rule_id_of components None descriptor = unwrap_or (descriptor_id components descriptor) []
+
+-- the record of a result with these members of its own, in a run with that head and that tool
+unfoldable pub record_by : RunHead → List ℕ → Parts → Result Record Fault
+record_by head tool parts = do
+  descriptor ← descriptor_of head.components (reference_of parts)
+  level ← level_of head parts
+  place ← place_of head.artifacts parts
+  Ok (record {
+    tool = tool;
+    rule_id = rule_id_of head.components parts.rule_id descriptor;
+    kind = parts.kind;
+    level = level;
+    message = parts.message;
+    place = place;
+    guid = parts.guid;
+    full = parts.full;
+    partial = parts.partial;
+    held = parts.held;
+  })
+
+-- the record of a result of a run with that head and that tool, or its first fault
+unfoldable pub record_in : RunHead → List ℕ → Data → Result Record Fault
+record_in head tool result = parts_of result >>= record_by head tool
+
+-- the record of the result with that number, or the first fault
+unfoldable pub record_of : Data → ℕ → Result Record Fault
+record_of run seq = do
+  head ← head_of run
+  record_in head (tool_name run) (result_at run seq)

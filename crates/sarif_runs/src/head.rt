@@ -1,0 +1,271 @@
+//! What of a run its results need, and what it gives a result.
+ghost use Rattle.std.specs.Prelude.{◌≡◌, IfOk, IfErr, option_map, option_and_then};
+ghost use Rattle.std.specs.Option.{option_copied};
+ghost use Rattle.sarif_model.specs.declared.fault.Fault.TheVariants.{OutOfMemory};
+ghost use Rattle.sarif_runs.specs.Reading.{Gives};
+ghost use Rattle.sarif_runs.specs.Descriptor.{Reference, reference_of, descriptor_of, rule_number};
+ghost use Rattle.sarif_runs.specs.Level as effective;
+ghost use Rattle.sarif_runs.specs.Record.{rule_id_of};
+ghost use Rattle.sarif_runs.specs.Place.{place_of, place_by};
+
+use crate::component::{Component, Rule};
+use crate::invocation::Invocation;
+use crate::parts::Parts;
+use sarif_model::{Fault, Kind, Level, Place, Sequence, Text};
+use std::alloc::{AllocError, Global};
+
+/// The rules, overrides and artifacts of a run.
+#[derive(Drop)]
+pub struct RunHead {
+    pub(crate) components: Sequence<Component>,
+    pub(crate) invocations: Sequence<Invocation>,
+    pub(crate) artifacts: Sequence<Place>,
+}
+
+impl RunHead {
+    /// The component and the place of the result's rule, if it has one (SARIF 2.1.0, "rule
+    /// property"). Component 0 is the driver, `k + 1` the extension `k`. Takes no memory.
+    ///
+    /// `BadIndex` where the component or the rule is past its table.
+    pub fn descriptor(&self, parts: &Parts) -> Result<Option<(usize, usize)>, Fault>
+        ensures { result ≡ descriptor_of self.now.components (reference_of parts.now) }
+    {
+        let id = parts.rule_id.as_ref().map(Text::as_str);
+        find_descriptor(
+            self.components.as_slice(),
+            parts.component,
+            parts.rule_index,
+            id,
+        )
+    }
+
+    /// The effective level of the result (SARIF 2.1.0, "level property"). Takes no memory.
+    ///
+    /// `BadIndex` where the descriptor or the invocation is past its table, needed or not.
+    pub fn level(&self, parts: &Parts) -> Result<Level, Fault>
+        ensures { result ≡ effective.level_of self.now parts.now }
+    {
+        let descriptor = self.descriptor(parts)?;
+        self.level_with(parts, descriptor)
+    }
+
+    /// The effective level of a result with that descriptor.
+    pub(crate) fn level_with(
+        &self,
+        parts: &Parts,
+        descriptor: Option<(usize, usize)>,
+    ) -> Result<Level, Fault>
+        ensures { result ≡ effective.level_with self.now parts.now descriptor }
+    {
+        let overriding = self.overriding_level(parts.invocation, descriptor)?;
+        let default = self.default_level(descriptor);
+        Ok(first_level(parts.kind, parts.level, overriding, default))
+    }
+
+    /// The level of the first override of the invocation that specifies the descriptor.
+    fn overriding_level(
+        &self,
+        invocation: Option<u32>,
+        descriptor: Option<(usize, usize)>,
+    ) -> Result<Option<Level>, Fault>
+        ensures { result
+            ≡ effective.overriding_level_at self.now.invocations invocation descriptor }
+    {
+        let Some(number) = invocation else {
+            return Ok(None);
+        };
+        let Some(chosen) = self.invocations.as_slice().get(number as usize) else {
+            return Err(Fault::BadIndex);
+        };
+        match descriptor {
+            Some(descriptor) => Ok(chosen.level_of(descriptor)),
+            None => Ok(None),
+        }
+    }
+
+    /// The rule id of a result: its own, else its rule's, else the empty text (SARIF 2.1.0, "ruleId
+    /// property").
+    pub(crate) fn rule_id(
+        &self,
+        alloc: Global,
+        own: Option<Text>,
+        descriptor: Option<(usize, usize)>,
+    ) -> Result<Text, AllocError>
+        ensures { IfOk result (λ id. id ≡ rule_id_of self.now.components own descriptor) }
+    {
+        match (own, self.rule(descriptor)) {
+            (Some(id), Some(rule)) => share(id, &rule.id),
+            (Some(id), None) => Ok(id),
+            (None, Some(rule)) => rule.id.clone(),
+            (None, None) => Text::copy_of(alloc, ""),
+        }
+    }
+
+    /// The rule of a descriptor.
+    fn rule(&self, descriptor: Option<(usize, usize)>) -> Option<&Rule>
+        ensures { option_copied result
+            ≡ option_and_then (effective.rule_at self.now.components) descriptor }
+    {
+        let (component, place) = descriptor?;
+        self.components
+            .as_slice()
+            .get(component)?
+            .rules()
+            .get(place)
+    }
+
+    /// The default level of the descriptor's rule.
+    fn default_level(&self, descriptor: Option<(usize, usize)>) -> Option<Level>
+        ensures { result ≡ effective.default_level self.now.components descriptor }
+    {
+        self.rule(descriptor)?.level
+    }
+
+    /// The artifact of the result's first location (SARIF 2.1.0, "artifactLocation object").
+    ///
+    /// `BadIndex` where there is no `uri` and the artifact is past its table; `OutOfMemory` where
+    /// memory is wanting.
+    pub fn place(&self, parts: &Parts) -> Result<Place, Fault>
+        ensures ok { IfOk result (λ place. place_of self.now.artifacts parts.now ≡ Ok place) }
+        ensures err { IfErr result (λ fault. (fault ≡ OutOfMemory → ⊥)
+            → place_of self.now.artifacts parts.now ≡ Err fault) }
+    {
+        let uri = copied(&parts.uri)?;
+        let base = copied(&parts.base)?;
+        self.place_with(uri, base, parts.artifact)
+    }
+
+    /// The place of a result whose location has this `uri`, `uriBaseId` and `index`.
+    pub(crate) fn place_with(
+        &self,
+        uri: Option<Text>,
+        base: Option<Text>,
+        artifact: Option<u32>,
+    ) -> Result<Place, Fault>
+        ensures { Gives result (place_by self.now.artifacts uri base artifact) }
+    {
+        if uri.is_some() {
+            return Ok(self.share_place(Place { uri, base }, artifact)?);
+        }
+        let Some(index) = artifact else {
+            return Ok(Place {
+                uri: None,
+                base: None,
+            });
+        };
+        let Some(named) = self.artifacts.as_slice().get(index as usize) else {
+            return Err(Fault::BadIndex);
+        };
+        let uri = copied(&named.uri)?;
+        let base = copied(&named.base)?;
+        Ok(Place { uri, base })
+    }
+
+    /// The place `own`, with the texts of the artifact where they are the same.
+    fn share_place(&self, own: Place, artifact: Option<u32>) -> Result<Place, AllocError>
+        ensures { IfOk result (λ place. place ≡ own) }
+    {
+        let held = match artifact {
+            Some(index) => self.artifacts.as_slice().get(index as usize),
+            None => None,
+        };
+        match held {
+            Some(held) => Ok(Place {
+                uri: share_if_there(own.uri, &held.uri)?,
+                base: share_if_there(own.base, &held.base)?,
+            }),
+            None => Ok(own),
+        }
+    }
+}
+
+/// The first level that applies to a result of that kind.
+fn first_level(
+    kind: Kind,
+    own: Option<Level>,
+    overriding: Option<Level>,
+    default: Option<Level>,
+) -> Level
+    ensures { result ≡ effective.first_level (effective.is_fail kind) own overriding default }
+{
+    match kind {
+        Kind::Fail => own.or(overriding).or(default).unwrap_or(Level::Warning),
+        _ => Level::NoLevel,
+    }
+}
+
+/// The text `own`, as `held` where that is the same text, so that it is held once.
+fn share(own: Text, held: &Text) -> Result<Text, AllocError>
+    ensures { IfOk result (λ text. text ≡ own) }
+{
+    if own == *held { held.clone() } else { Ok(own) }
+}
+
+/// The text `own`, where there is one, as `held` where that is there and is the same text.
+fn share_if_there(own: Option<Text>, held: &Option<Text>) -> Result<Option<Text>, AllocError>
+    ensures { IfOk result (λ text. text ≡ own) }
+{
+    match (own, held) {
+        (Some(own), Some(held)) => Ok(Some(share(own, held)?)),
+        (own, _) => Ok(own),
+    }
+}
+
+/// A text, where there is one; it isn't copied.
+fn copied(text: &Option<Text>) -> Result<Option<Text>, AllocError>
+    ensures { IfOk result (λ copy. copy ≡ text.now) }
+{
+    match text {
+        Some(text) => Ok(Some(text.clone()?)),
+        None => Ok(None),
+    }
+}
+
+/// The component and the place of the rule that is named by its extension, its index and its id.
+///
+/// `BadIndex` where the component or the index is past its table.
+pub(crate) fn find_descriptor(
+    components: &[Component],
+    component: Option<u32>,
+    index: Option<u32>,
+    id: Option<&str>,
+) -> Result<Option<(usize, usize)>, Fault>
+    ensures { result ≡ descriptor_of components.now
+        (record { component = component; index = index; id = option_map (λ s. s.now) id.entry }) }
+{
+    let number = match component {
+        Some(extension) => extension as usize + 1,
+        None => 0,
+    };
+    let Some(chosen) = components.get(number) else {
+        return Err(Fault::BadIndex);
+    };
+    match find_rule(chosen, index, id)? {
+        Some(place) => Ok(Some((number, place))),
+        None => Ok(None),
+    }
+}
+
+/// The place of the rule with that index, else of the first with that id.
+fn find_rule(
+    component: &Component,
+    index: Option<u32>,
+    id: Option<&str>,
+) -> Result<Option<usize>, Fault>
+    ensures { result ≡ rule_number component.now index (option_map (λ s. s.now) id.entry) }
+{
+    match index {
+        Some(index) => {
+            let place = index as usize;
+            if place < component.rules().len() {
+                Ok(Some(place))
+            } else {
+                Err(Fault::BadIndex)
+            }
+        }
+        None => match id {
+            Some(id) => Ok(component.first_with_id(id)),
+            None => Ok(None),
+        },
+    }
+}

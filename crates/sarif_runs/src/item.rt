@@ -1,0 +1,13 @@
+//! What is known of a result before results are matched.
+use sarif_model::{Fault, Record};
+
+/// A result of a run as its worker found it.
+#[derive(Debug, Drop)]
+pub enum Item {
+    /// Its record.
+    Sound(Record),
+    /// Its first fault.
+    Bad(Fault),
+    /// A result of a baseline that is absent already.
+    Skipped,
+}

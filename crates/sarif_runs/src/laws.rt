@@ -1,0 +1,14 @@
+//! Laws of reading, each the contract of a function that does nothing.
+ghost use Rattle.std.specs.Prelude.{◌≡◌, ℕ, List};
+ghost use Rattle.serde_json.specs.Data.{Members};
+ghost use Rattle.serde_json.specs.Find.{get_member};
+ghost use Rattle.json_parts.specs.Ordered.{AreMembersOrdered};
+ghost use Rattle.sarif_runs.specs.Fingerprints.{pairs_among};
+
+/// Two objects whose names have the same values give the same pairs, in whatever order their members
+/// stood in the text: in what is read, names rise.
+pub fn same_members_give_the_same_pairs()
+    ensures { (ms ns : Members) → AreMembersOrdered ms → AreMembersOrdered ns
+        → ((name : List ℕ) → get_member name ms ≡ get_member name ns)
+        → pairs_among ms ≡ pairs_among ns }
+{}

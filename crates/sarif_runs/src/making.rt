@@ -1,0 +1,88 @@
+//! The record of a result.
+ghost use Rattle.std.specs.Prelude.{◌≡◌, ◌<◌, length, Ok, Err, IfOk, IfErr};
+ghost use Rattle.serde_json.specs.View.{view};
+ghost use Rattle.sarif_model.specs.declared.fault.Fault.TheVariants.{OutOfMemory};
+ghost use Rattle.sarif_model.specs.Run.{results_of};
+ghost use Rattle.sarif_runs.specs.Reading.{Gives};
+ghost use Rattle.sarif_runs.specs.Head.{head_of};
+ghost use Rattle.sarif_runs.specs.Record.{tool_name, rule_id_of, record_by, record_in, record_of};
+
+use crate::head::RunHead;
+use crate::own_members::read_members;
+use crate::parts::Parts;
+use sarif_model::{Fault, Record, Text, driver_name};
+use sarif_read::RawRun;
+use serde_json::Value;
+use std::alloc::{AllocError, Global};
+
+/// Makes the record of a result of a run with that head and that tool (SARIF 2.1.0, "result
+/// object").
+///
+/// The faults are those of [`read_members`](sarif_runs::read_members), and then `BadIndex` where
+/// the component, the rule, the invocation or, with no `uri`, the artifact is past its table.
+/// `OutOfMemory` may come in place of any of them, where memory is wanting.
+#[tactic(auto, unfolding(crate::specs::Record::record_in))]
+pub fn make_record_of(
+    alloc: Global,
+    head: &RunHead,
+    tool: &Text,
+    result_value: &Value,
+) -> Result<Record, Fault>
+    ensures ok { IfOk result
+        (λ made. record_in head.now tool.now (view result_value.now) ≡ Ok made) }
+    ensures err { IfErr result (λ fault. (fault ≡ OutOfMemory → ⊥)
+        → record_in head.now tool.now (view result_value.now) ≡ Err fault) }
+{
+    let parts = read_members(alloc, result_value)?;
+    let tool = tool.clone()?;
+    finish_record(alloc, head, tool, parts)
+}
+
+/// Makes the record of result `seq` of a run, counted from 0, with the head that was opened from
+/// that run and the name of the run's driver. The faults are those of [`make_record_of`], so also
+/// `BadIndex` and `OutOfMemory`.
+#[tactic(auto, unfolding(crate::specs::Record::record_of))]
+pub fn make_record(alloc: Global, head: &RunHead, run: &RawRun, seq: u32) -> Result<Record, Fault>
+    requires opened { head_of (view run.now) ≡ Ok head.now }
+    requires in_run { seq < length (results_of (view run.now)) }
+    ensures ok { IfOk result (λ made. record_of (view run.now) seq ≡ Ok made) }
+    ensures err { IfErr result (λ fault. (fault ≡ OutOfMemory → ⊥)
+        → record_of (view run.now) seq ≡ Err fault) }
+{
+    let tool = copy_tool_name(alloc, run.value())?;
+    make_record_of(alloc, head, &tool, run.result(seq))
+}
+
+/// The name of the run's driver (SARIF 2.1.0, toolComponent object, "name property"); where there
+/// is none, the empty text. `AllocError` where memory for it is wanting.
+pub fn copy_tool_name(alloc: Global, run: &Value) -> Result<Text, AllocError>
+    ensures { IfOk result (λ name. name ≡ tool_name (view run.now)) }
+{
+    match driver_name(run) {
+        Some(name) => Text::copy_of(alloc, name),
+        None => Text::copy_of(alloc, ""),
+    }
+}
+
+/// The record of a result with these members of its own.
+#[tactic(auto, unfolding(crate::specs::Record::record_by))]
+fn finish_record(alloc: Global, head: &RunHead, tool: Text, parts: Parts) -> Result<Record, Fault>
+    ensures { Gives result (record_by head.now tool parts) }
+{
+    let descriptor = head.descriptor(&parts)?;
+    let level = head.level_with(&parts, descriptor)?;
+    let place = head.place_with(parts.uri, parts.base, parts.artifact)?;
+    let rule_id = head.rule_id(alloc, parts.rule_id, descriptor)?;
+    Ok(Record {
+        tool,
+        rule_id,
+        kind: parts.kind,
+        level,
+        message: parts.message,
+        place,
+        guid: parts.guid,
+        full: parts.full,
+        partial: parts.partial,
+        held: parts.held,
+    })
+}

@@ -1,0 +1,133 @@
+//! A run with what its results need of it.
+ghost use Rattle.std.specs.Prelude.{◌≡◌, ◌<◌, ◌≤◌, false, is_some, length, map, IfOk};
+ghost use Rattle.serde_json.specs.View.{view};
+ghost use Rattle.serde_json.specs.Written.{has_float};
+ghost use Rattle.sarif_read.specs.Indexed.{run_of};
+ghost use Rattle.sarif_runs.specs.Head.{head_of};
+ghost use Rattle.sarif_runs.specs.Record.{tool_name};
+
+use crate::head::RunHead;
+use crate::making::copy_tool_name;
+use crate::open::open_value;
+use sarif_model::{Fault, Source, Text};
+use sarif_read::IndexedRun;
+use serde_json::Value;
+use std::alloc::{AllocError, Global};
+use std::hash::RandomState;
+
+/// A run with the log or the baseline that it stands in, and what opening it gave: its head, or its
+/// fault (SARIF 2.1.0, "run object").
+#[derive(Drop)]
+pub struct OpenedRun<'t, 'a> {
+    /// The log or the baseline that it stands in.
+    pub source: Source,
+    /// Its number in its source, from 0.
+    pub number: u32,
+    pub run: IndexedRun<'t, 'a>,
+    pub tool: Text,
+    pub head: Result<RunHead, Fault>,
+    ghost tool_is: { tool ≡ tool_name (run_of run) },
+    ghost head_is: { head ≡ head_of (run_of run) },
+    ghost whole: { has_float (run_of run) ≡ false },
+}
+
+/// The head of a run, or its fault.
+fn open_head(
+    alloc: Global,
+    seed: RandomState,
+    run: &Value,
+) -> Result<Result<RunHead, Fault>, AllocError>
+    ensures { IfOk result (λ head. head ≡ head_of (view run.now)) }
+{
+    match open_value(alloc, seed, run) {
+        Ok(head) => Ok(Ok(head)),
+        Err(Fault::OutOfMemory) => Err(AllocError),
+        Err(fault) => Ok(Err(fault)),
+    }
+}
+
+impl<'t, 'a> OpenedRun<'t, 'a> {
+    ghost use Rattle.sarif_runs.specs.Judging.{opening_fault};
+    ghost use Rattle.sarif_runs.specs.Opened.{placed_of};
+    ghost use Rattle.sarif_read.specs.Bare.{bare};
+    ghost use Rattle.sarif_read.specs.Picked.{picked};
+    ghost use Rattle.sarif_model.specs.Run.{result_at, results_array, results_of};
+
+    /// Opens run `number` of a source, which holds no number with a fraction. The tables of its head hash with `seed`,
+    /// on which no answer depends. `AllocError` where memory is wanting; a fault of the run is no error, but is kept
+    /// with it (see `fault`).
+    #[tactic(auto, using(crate::proofs::Beside::bare_head, crate::proofs::Beside::bare_tool_name))]
+    pub fn open(
+        alloc: Global,
+        seed: RandomState,
+        source: Source,
+        number: u32,
+        run: IndexedRun<'t, 'a>,
+    ) -> Result<OpenedRun<'t, 'a>, AllocError>
+        requires whole { has_float (run_of run) ≡ false }
+        ensures placed { IfOk result (λ opened. placed_of opened
+            ≡ record { source = source; number = number; run = run_of run.entry }) }
+    {
+        let tool = copy_tool_name(alloc, run.bare())?;
+        let head = open_head(alloc, seed, run.bare())?;
+        Ok(OpenedRun {
+            source,
+            number,
+            run,
+            tool,
+            head,
+        })
+    }
+
+    /// Why the run can't be opened, where that is so: the first fault that [`open_value`](sarif_runs::open_value)
+    /// answers of it.
+    pub fn fault(&self) -> Option<Fault>
+        ensures { result ≡ opening_fault (placed_of self.now) }
+    {
+        match &self.head {
+            Ok(_) => None,
+            Err(fault) => Some(*fault),
+        }
+    }
+
+    /// How many results the run has, at most 1,000,000.
+    pub fn len(&self) -> u32
+        ensures count { result ≡ length (results_of (placed_of self.now).run) }
+        ensures few { result ≤ 1000000 }
+    {
+        self.run.len()
+    }
+
+    /// Whether the run has an array of results; where `results` is absent or null it has none.
+    pub fn has_results(&self) -> bool
+        ensures { result ≡ is_some (results_array (placed_of self.now).run) }
+    {
+        self.run.has_results()
+    }
+
+    /// The run without its results.
+    pub fn bare(&self) -> &Value
+        ensures { view result.now ≡ bare (placed_of self.now).run }
+    {
+        self.run.bare()
+    }
+
+    /// Result `seq` of the run, counted from 0, with those of its members alone that have one of these names.
+    /// `AllocError` where memory for them is wanting.
+    pub fn picked(&self, alloc: Global, seq: u32, names: &[&str]) -> Result<Value, AllocError>
+        requires { seq < length (results_of (placed_of self.now).run) }
+        ensures { IfOk result (λ found. view found ≡ picked (map (λ name. name.now) names.now)
+            (result_at (placed_of self.now).run seq)) }
+    {
+        self.run.picked(alloc, seq, names)
+    }
+
+    /// The run without its results, taken out.
+    pub fn into_bare(self) -> Value
+        ensures value { view result ≡ bare (placed_of self.entry).run }
+        ensures whole { has_float (placed_of self.entry).run ≡ false }
+    {
+        let OpenedRun { run, .. } = self;
+        run.into_bare()
+    }
+}

@@ -1,0 +1,137 @@
+//! A result's own members: nine checks, in order, each of which reads what it checks.
+ghost use Rattle.std.specs.Prelude.{◌≡◌, ◌<◌, length, Ok, Err, IfOk, IfErr};
+ghost use Rattle.serde_json.specs.View.{view as seen};
+ghost use Rattle.sarif_model.specs.Run.{results_of, result_at};
+ghost use Rattle.sarif_runs.specs.OwnMembers.{check_present, own_kind, own_level, own_guid};
+ghost use Rattle.sarif_runs.specs.OwnMembers.{parts_of};
+ghost use Rattle.sarif_model.specs.declared.fault.Fault.TheVariants.{OutOfMemory};
+
+mod fingerprints;
+mod indexes;
+mod location;
+mod message;
+mod suppressions;
+
+use crate::parts::Parts;
+use fingerprints::read_fingerprints;
+use indexes::read_indexes;
+use location::read_location;
+use message::read_message_and_rule;
+use sarif_model::members::member_at;
+use sarif_model::{Fault, Kind, Level, read_guid};
+use sarif_read::{RawRun, is_marked_absent};
+use serde_json::Value;
+use std::alloc::Global;
+use suppressions::read_statuses;
+
+/// `AbsentInput` where the result is marked as absent (SARIF 2.1.0, result object, "baselineState
+/// property").
+fn check_is_present(result_value: &Value) -> Result<(), Fault>
+    ensures { result ≡ check_present (seen result_value.now) }
+{
+    if is_marked_absent(result_value) {
+        Err(Fault::AbsentInput)
+    } else {
+        Ok(())
+    }
+}
+
+/// The kind of a result, or `BadKind`; absent it is `fail` (SARIF 2.1.0, result object, "kind
+/// property").
+fn read_kind(result_value: &Value) -> Result<Kind, Fault>
+    ensures { result ≡ own_kind (seen result_value.now) }
+{
+    match member_at(result_value, "kind") {
+        None => Ok(Kind::Fail),
+        Some(member) => member
+            .as_str()
+            .and_then(Kind::from_name)
+            .ok_or(Fault::BadKind),
+    }
+}
+
+/// The level of a result as it stands, or `BadLevel` (SARIF 2.1.0, result object, "level
+/// property").
+fn read_level(result_value: &Value) -> Result<Option<Level>, Fault>
+    ensures { result ≡ own_level (seen result_value.now) }
+{
+    match member_at(result_value, "level") {
+        None => Ok(None),
+        Some(member) => match member.as_str().and_then(Level::from_name) {
+            Some(level) => Ok(Some(level)),
+            None => Err(Fault::BadLevel),
+        },
+    }
+}
+
+/// The `correlationGuid` of a result as a number, or `BadGuid` (SARIF 2.1.0, result object,
+/// "correlationGuid property").
+fn read_correlation_guid(result_value: &Value) -> Result<Option<u128>, Fault>
+    ensures { result ≡ own_guid (seen result_value.now) }
+{
+    match member_at(result_value, "correlationGuid") {
+        None => Ok(None),
+        Some(member) => match member.as_str().and_then(read_guid) {
+            Some(guid) => Ok(Some(guid)),
+            None => Err(Fault::BadGuid),
+        },
+    }
+}
+
+/// The own members of a result (SARIF 2.1.0, "result object"), or its first fault in this order:
+///
+/// 1. `AbsentInput` where `baselineState` is `absent`
+/// 2. `BadKind` for `kind`
+/// 3. `BadLevel` for `level`
+/// 4. `BadGuid` for `correlationGuid`
+/// 5. `BadFingerprint` for `fingerprints` and `partialFingerprints`
+/// 6. `BadSuppression` for `suppressions`
+/// 7. `BadMember` for `message`, `ruleId`, `rule` and `provenance`
+/// 8. `BadIndex` for the indexes in `ruleIndex`, `rule` and `provenance`
+/// 9. `BadLocation` for the first of `locations`, then `BadIndex` for its artifact
+///
+/// `OutOfMemory` may come in place of each of these but the first four, where memory is wanting.
+#[tactic(auto, unfolding(crate::specs::OwnMembers::parts_of))]
+pub fn read_members(alloc: Global, result_value: &Value) -> Result<Parts, Fault>
+    ensures ok { IfOk result (λ parts. parts_of (seen result_value.now) ≡ Ok parts) }
+    ensures err { IfErr result (λ fault. (fault ≡ OutOfMemory → ⊥)
+        → parts_of (seen result_value.now) ≡ Err fault) }
+{
+    check_is_present(result_value)?;
+    let kind = read_kind(result_value)?;
+    let level = read_level(result_value)?;
+    let guid = read_correlation_guid(result_value)?;
+    let fingerprints = read_fingerprints(alloc, result_value)?;
+    let held = read_statuses(alloc, result_value)?;
+    let said = read_message_and_rule(alloc, result_value)?;
+    let indexes = read_indexes(result_value)?;
+    let location = read_location(alloc, result_value)?;
+    Ok(Parts {
+        kind,
+        level,
+        rule_id: said.rule_id,
+        rule_index: indexes.rule_index,
+        component: indexes.component,
+        invocation: indexes.invocation,
+        message: said.message,
+        uri: location.uri,
+        base: location.base,
+        artifact: location.artifact,
+        guid,
+        full: fingerprints.full,
+        partial: fingerprints.partial,
+        held,
+    })
+}
+
+/// The own members of result `seq` of `run`, counted from 0 (SARIF 2.1.0, run object, "results
+/// property"), or its first fault: the faults are those of [`read_members`], in the same order, and
+/// `OutOfMemory` where memory is wanting.
+pub fn read_parts(alloc: Global, run: &RawRun, seq: u32) -> Result<Parts, Fault>
+    requires { seq < length (results_of (seen run.now)) }
+    ensures ok { IfOk result (λ parts. parts_of (result_at (seen run.now) seq) ≡ Ok parts) }
+    ensures err { IfErr result (λ fault. (fault ≡ OutOfMemory → ⊥)
+        → parts_of (result_at (seen run.now) seq) ≡ Err fault) }
+{
+    read_members(alloc, run.result(seq))
+}

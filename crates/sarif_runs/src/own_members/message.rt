@@ -1,0 +1,106 @@
+//! The message of a result, and the id of its rule.
+ghost use Rattle.std.specs.Prelude.{◌≡◌, Ok, Err, IfOk, IfErr, map, option_map};
+ghost use Rattle.serde_json.specs.View.{view as seen};
+ghost use Rattle.sarif_runs.specs.OwnMembers.{own_message, own_rule_id, own_message_and_rule};
+ghost use Rattle.sarif_runs.specs.OwnMembers.{text_of, texts_within};
+ghost use Rattle.sarif_model.specs.Members.{result_map, read_each};
+ghost use Rattle.sarif_model.specs.declared.fault.Fault.TheVariants.{OutOfMemory};
+
+use sarif_model::members::{elements_at, object_at, object_within, text_at, text_within};
+use sarif_model::{Fault, Message, Sequence, Text, copy_if_there};
+use serde_json::Value;
+use std::alloc::Global;
+
+/// What a result says, and of which rule.
+#[derive(Drop)]
+pub(super) struct MessageAndRule {
+    /// `message`.
+    pub message: Message,
+    /// `ruleId`, else `rule.id`.
+    pub rule_id: Option<Text>,
+}
+
+/// The text that `value` is, or `BadMember`.
+fn read_text(value: &Value) -> Result<&str, Fault>
+    ensures { result_map (λ text. text.now) result ≡ text_of (seen value.now) }
+{
+    value.as_str().ok_or(Fault::BadMember)
+}
+
+/// The texts that these values are, in order.
+#[tactic(auto, using(sarif_model::proofs::ReadEach::read_steps))]
+fn texts_of(alloc: Global, values: &[Value]) -> Result<Sequence<Text>, Fault>
+    ensures ok { IfOk result (λ texts. read_each text_of (map seen values.now) ≡ Ok texts) }
+    ensures err { IfErr result (λ fault. (fault ≡ OutOfMemory → ⊥)
+        → read_each text_of (map seen values.now) ≡ Err fault) }
+{
+    let mut texts = Sequence::new(alloc);
+    for value in values {
+        texts.push(Text::copy_of(alloc, read_text(value)?)?)?;
+    }
+    Ok(texts)
+}
+
+/// The elements of the array of texts `name` of an object that may be absent; absent they are none.
+fn read_texts(alloc: Global, value: Option<&Value>, name: &str) -> Result<Sequence<Text>, Fault>
+    ensures ok { IfOk result (λ texts.
+        texts_within name.now (option_map (λ v. seen v.now) value.entry) ≡ Ok texts) }
+    ensures err { IfErr result (λ fault. (fault ≡ OutOfMemory → ⊥)
+        → texts_within name.now (option_map (λ v. seen v.now) value.entry) ≡ Err fault) }
+{
+    match value {
+        None => Ok(Sequence::new(alloc)),
+        Some(value) => texts_of(alloc, elements_at(value, name, Fault::BadMember)?),
+    }
+}
+
+/// The message of a result; absent it is empty.
+#[tactic(auto, unfolding(crate::specs::OwnMembers::own_message))]
+fn read_message(alloc: Global, result_value: &Value) -> Result<Message, Fault>
+    ensures ok { IfOk result (λ message. own_message (seen result_value.now) ≡ Ok message) }
+    ensures err { IfErr result (λ fault. (fault ≡ OutOfMemory → ⊥)
+        → own_message (seen result_value.now) ≡ Err fault) }
+{
+    let message = object_at(result_value, "message", Fault::BadMember)?;
+    let text = text_within(message, "text", Fault::BadMember)?;
+    let id = text_within(message, "id", Fault::BadMember)?;
+    let args = read_texts(alloc, message, "arguments")?;
+    Ok(Message {
+        text: copy_if_there(alloc, text)?,
+        id: copy_if_there(alloc, id)?,
+        args,
+    })
+}
+
+/// `ruleId` of a result, else its `rule.id`.
+#[tactic(auto, unfolding(crate::specs::OwnMembers::own_rule_id))]
+fn read_rule_id(result_value: &Value) -> Result<Option<&str>, Fault>
+    ensures { result_map (option_map (λ id. id.now)) result ≡ own_rule_id (seen result_value.now) }
+{
+    let own = text_at(result_value, "ruleId", Fault::BadMember)?;
+    let rule = object_at(result_value, "rule", Fault::BadMember)?;
+    let id = text_within(rule, "id", Fault::BadMember)?;
+    object_within(rule, "toolComponent", Fault::BadMember)?;
+    Ok(own.or(id))
+}
+
+/// The message of a result and its rule's id; `BadMember` where a member is of a wrong kind
+/// (SARIF 2.1.0, result object, "message property", "ruleId property", "rule property",
+/// "provenance property").
+#[tactic(auto, unfolding(crate::specs::OwnMembers::own_message_and_rule))]
+pub(super) fn read_message_and_rule(
+    alloc: Global,
+    result_value: &Value,
+) -> Result<MessageAndRule, Fault>
+    ensures ok { IfOk result (λ said. own_message_and_rule (seen result_value.now) ≡ Ok said) }
+    ensures err { IfErr result (λ fault. (fault ≡ OutOfMemory → ⊥)
+        → own_message_and_rule (seen result_value.now) ≡ Err fault) }
+{
+    let message = read_message(alloc, result_value)?;
+    let rule_id = read_rule_id(result_value)?;
+    object_at(result_value, "provenance", Fault::BadMember)?;
+    Ok(MessageAndRule {
+        message,
+        rule_id: copy_if_there(alloc, rule_id)?,
+    })
+}

@@ -1,0 +1,62 @@
+//! The suppressions of a result.
+ghost use Rattle.std.specs.Prelude.{◌≡◌, Ok, Err, IfOk, IfErr, map};
+ghost use Rattle.sarif_model.specs.Members.{read_each};
+ghost use Rattle.serde_json.specs.View.{view as seen};
+ghost use Rattle.sarif_model.specs.Suppression.{check_suppression_kind, status_of};
+ghost use Rattle.sarif_runs.specs.OwnMembers.{own_statuses};
+ghost use Rattle.sarif_model.specs.declared.fault.Fault.TheVariants.{OutOfMemory};
+
+use sarif_model::members::{member_at, objects_at};
+use sarif_model::{Fault, Sequence, Status};
+use serde_json::Value;
+use std::alloc::Global;
+
+/// `BadSuppression` where the `kind` of a suppression isn't one of its two texts.
+fn check_kind(suppression: &Value) -> Result<(), Fault>
+    ensures { result ≡ check_suppression_kind (seen suppression.now) }
+{
+    match member_at(suppression, "kind").and_then(Value::as_str) {
+        Some("inSource" | "external") => Ok(()),
+        _ => Err(Fault::BadSuppression),
+    }
+}
+
+/// The status of a suppression; absent it is accepted.
+fn read_status(suppression: &Value) -> Result<Status, Fault>
+    ensures { result ≡ status_of (seen suppression.now) }
+{
+    check_kind(suppression)?;
+    match member_at(suppression, "status") {
+        None => Ok(Status::Accepted),
+        Some(member) => {
+            let status = member.as_str().and_then(Status::from_name);
+            status.ok_or(Fault::BadSuppression)
+        }
+    }
+}
+
+/// The statuses of these suppressions, in order.
+#[tactic(auto, using(sarif_model::proofs::ReadEach::read_steps))]
+fn statuses_of(alloc: Global, suppressions: &[Value]) -> Result<Sequence<Status>, Fault>
+    ensures ok { IfOk result (λ held. read_each status_of (map seen suppressions.now) ≡ Ok held) }
+    ensures err { IfErr result (λ fault. (fault ≡ OutOfMemory → ⊥)
+        → read_each status_of (map seen suppressions.now) ≡ Err fault) }
+{
+    let mut held = Sequence::new(alloc);
+    for suppression in suppressions {
+        held.push(read_status(suppression)?)?;
+    }
+    Ok(held)
+}
+
+/// The statuses of the suppressions of a result, in order, or `BadSuppression` (SARIF 2.1.0,
+/// result object, "suppressions property").
+#[tactic(auto, unfolding(crate::specs::OwnMembers::own_statuses))]
+pub(super) fn read_statuses(alloc: Global, result_value: &Value) -> Result<Sequence<Status>, Fault>
+    ensures ok { IfOk result (λ held. own_statuses (seen result_value.now) ≡ Ok held) }
+    ensures err { IfErr result (λ fault. (fault ≡ OutOfMemory → ⊥)
+        → own_statuses (seen result_value.now) ≡ Err fault) }
+{
+    let suppressions = objects_at(result_value, "suppressions", Fault::BadSuppression)?;
+    statuses_of(alloc, suppressions)
+}

@@ -1,0 +1,36 @@
+//! A result's own members, before its run is asked.
+use sarif_model::{Kind, Level, Message, Pairs, Sequence, Status, Text};
+
+/// The members of a result that the merge reads (SARIF 2.1.0, "result object"). An index that is
+/// absent or -1 is `None`.
+#[derive(Debug, Drop)]
+pub struct Parts {
+    /// `kind`; absent it is `fail`.
+    pub kind: Kind,
+    /// `level`, as it stands.
+    pub level: Option<Level>,
+    /// `ruleId`, else `rule.id`.
+    pub rule_id: Option<Text>,
+    /// `rule.index`, else `ruleIndex`.
+    pub rule_index: Option<u32>,
+    /// `rule.toolComponent.index`: the extension.
+    pub component: Option<u32>,
+    /// `provenance.invocationIndex`.
+    pub invocation: Option<u32>,
+    /// `message`.
+    pub message: Message,
+    /// `uri` of the first location's artifact.
+    pub uri: Option<Text>,
+    /// `uriBaseId` beside it.
+    pub base: Option<Text>,
+    /// `index` beside it.
+    pub artifact: Option<u32>,
+    /// `correlationGuid`, as a number.
+    pub guid: Option<u128>,
+    /// `fingerprints`.
+    pub full: Pairs,
+    /// `partialFingerprints`.
+    pub partial: Pairs,
+    /// The statuses of `suppressions`, in order.
+    pub held: Sequence<Status>,
+}

@@ -1,3 +1,0 @@
-pub mod QuietFaults
-pub mod ReadersRead
-pub mod ReadOnce

@@ -1,9 +1,0 @@
-pub mod AreRead
-pub mod Counted
-pub mod Failing
-pub mod Fault
-pub mod FaultText
-pub mod OptionalReader
-pub mod Source
-pub mod SourceKind
-pub mod WereRead

@@ -1,0 +1,3 @@
+pub mod QuietReaders
+pub mod ReadOnce
+pub mod ReadersRead

@@ -1,0 +1,87 @@
+-- What reading all sources of a merge from readers does.
+use Rattle.std.specs.Prelude.{◌≡◌, ℕ, ◌+◌, ◌≤◌, List, ◌⊎◌, ⊤, Option, Some, None, IsSome, IfSome, map, option_map}
+use Rattle.std.specs.List.{AllByRecursion}
+use Rattle.sarif_streams.specs.declared.counted.Counted.{Counted}
+use Rattle.sarif_model.specs.declared.merge_fault.Source.TheVariants.{Log, Baseline, Suppress}
+use Rattle.sarif_streams.specs.declared.readers.Readers.{Readers}
+use Rattle.sarif_streams.specs.declared.readers.ReadersFault.{ReadersFault}
+use Rattle.sarif_streams.specs.declared.readers.SourceBytes.{SourceBytes}
+use Rattle.sarif_streams.specs.AreRead.{IsRead, AreRead, HasStopped, StopsIn}
+use Rattle.sarif_streams.specs.Counted.{inner_of}
+use Rattle.sarif_streams.specs.Failing.{failed_calls_in, NoneFalls}
+use Rattle.sarif_streams.specs.OptionalReader.{failed_calls_if}
+
+-- the bytes of the logs, of the baselines and of the suppression file, where there is one
+pub record SourceContents : Type 0 where
+  pub logs : List (List ℕ)
+  pub baselines : List (List ℕ)
+  pub suppressions : Option (List ℕ)
+
+abbrev pub contents_of : SourceBytes → SourceContents
+contents_of bytes = record {
+  logs = map (λ v. v.items) bytes.logs.items;
+  baselines = map (λ v. v.items) bytes.baselines.items;
+  suppressions = option_map (λ v. v.items) bytes.suppressions;
+}
+
+-- how many calls of the readers failed
+abbrev pub failures : {R : Type 0} → Readers R → ℕ
+failures all =
+    failed_calls_in all.logs.items
+    + (failed_calls_in all.baselines.items + failed_calls_if all.suppressions)
+
+-- of none of them did the number of failed calls fall
+pub record NoNumberFalls {R : Type 0} (old new : Readers R) : Type 0 where
+  pub logs : NoneFalls old.logs.items new.logs.items
+  pub baselines : NoneFalls old.baselines.items new.baselines.items
+  pub suppressions : failed_calls_if old.suppressions ≤ failed_calls_if new.suppressions
+
+-- a reader that may be there gave its bytes, where it is there
+abbrev pub IsReadIf : {R : Type 0} → (R → Option (List ℕ))
+    → Option (Counted R) → Option (Counted R) → Option (List ℕ) → Type 0
+IsReadIf remaining None None None = ⊤
+IsReadIf remaining None None (Some bytes) = ⊥
+IsReadIf remaining None (Some new) bytes = ⊥
+IsReadIf remaining (Some old) None bytes = ⊥
+IsReadIf remaining (Some old) (Some new) None = ⊥
+IsReadIf remaining (Some old) (Some new) (Some bytes) = IsRead remaining old new bytes
+
+-- each reader gave the bytes of its source, and is at its end
+pub record WereRead {R : Type 0} (remaining : R → Option (List ℕ)) (old new : Readers R)
+    (contents : SourceContents) : Type 0 where
+  pub logs : AreRead remaining old.logs.items new.logs.items contents.logs
+  pub baselines : AreRead remaining old.baselines.items new.baselines.items contents.baselines
+  pub suppressions : IsReadIf remaining old.suppressions new.suppressions contents.suppressions
+
+-- a reader that may be there ended reading
+abbrev pub HasStoppedIf : {R : Type 0} → (R → Option (List ℕ))
+    → Option (Counted R) → Option (Counted R) → ReadersFault → Type 0
+HasStoppedIf remaining None new fault = ⊥
+HasStoppedIf remaining (Some old) None fault = ⊥
+HasStoppedIf remaining (Some old) (Some new) fault = HasStopped remaining Suppress old new fault
+
+-- reading ended at one of the sources: logs, then baselines, then the suppression file; those before it were read, and
+-- those after it are as they were
+abbrev pub HasStoppedAt : {R : Type 0} → (R → Option (List ℕ))
+    → Readers R → Readers R → ReadersFault → Type 0
+HasStoppedAt remaining old new fault =
+    (StopsIn remaining Log 0 old.logs.items new.logs.items fault
+    × (new.baselines ≡ old.baselines)
+    × (new.suppressions ≡ old.suppressions))
+    ⊎ (((logs : List (List ℕ)) × AreRead remaining old.logs.items new.logs.items logs
+    × StopsIn remaining Baseline 0 old.baselines.items new.baselines.items fault
+    × (new.suppressions ≡ old.suppressions))
+    ⊎ ((logs : List (List ℕ)) × (baselines : List (List ℕ))
+    × AreRead remaining old.logs.items new.logs.items logs
+    × AreRead remaining old.baselines.items new.baselines.items baselines
+    × HasStoppedIf remaining old.suppressions new.suppressions fault))
+
+-- a reader tells what it has left
+abbrev pub Tells : {R : Type 0} → (R → Option (List ℕ)) → Counted R → Type 0
+Tells remaining reader = IsSome (remaining (inner_of reader))
+
+-- each of the readers does
+pub record AllTell {R : Type 0} (remaining : R → Option (List ℕ)) (all : Readers R) : Type 0 where
+  pub logs : AllByRecursion (Tells remaining) all.logs.items
+  pub baselines : AllByRecursion (Tells remaining) all.baselines.items
+  pub suppressions : IfSome all.suppressions (Tells remaining)

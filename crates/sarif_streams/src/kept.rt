@@ -1,0 +1,103 @@
+//! What is kept of a source or an output for an explanation.
+ghost use Rattle.std.specs.Prelude.{◌≡◌};
+ghost use Rattle.std.specs.Io.{ReadsAtMost, WritesAtMost};
+ghost use Rattle.std.specs.Io.KnownBytes.{Keeps, ReadConsumes, WriteAppends};
+ghost use Rattle.sarif_streams.specs.Kept.{kept_in};
+
+use std::io::{self, Read, Write};
+
+/// A reader or a writer, beside what its last failed call said, and beside what was read where that is asked for.
+#[derive(Drop)]
+pub struct Kept<D> {
+    inner: D,
+    bytes: Option<Vec<u8>>,
+    error: Option<io::Error>,
+}
+
+impl<D> Kept<D> {
+    /// Keeps what is read beside `bytes`, where there are any; else nothing but the last error.
+    pub fn new(inner: D, bytes: Option<Vec<u8>>) -> Kept<D>
+        ensures { kept_in result ≡ inner }
+    {
+        Kept {
+            inner,
+            bytes,
+            error: None,
+        }
+    }
+
+    /// What was read and kept.
+    pub fn bytes(&self) -> &[u8] {
+        match &self.bytes {
+            Some(bytes) => bytes.as_slice(),
+            None => &[],
+        }
+    }
+
+    /// What the last failed call said.
+    pub fn error(&self) -> Option<io::Error> {
+        self.error
+    }
+
+    /// Keeps bytes, where that is asked for. Where memory is wanting, nothing is kept any more.
+    fn keep(&mut self, bytes: &[u8])
+        ensures { kept_in self.new ≡ kept_in self.old }
+    {
+        let is_full = match &mut self.bytes {
+            Some(kept) => kept.extend_from_slice(bytes).is_err(),
+            None => false,
+        };
+        if is_full {
+            self.bytes = None;
+        }
+    }
+}
+
+impl<D: Read> Read for Kept<D> {
+    ghost use Rattle.sarif_streams.specs.Kept.{kept_in};
+
+    ghost remaining = { λ k. D.remaining (kept_in k) };
+
+    fn read(&mut self, buf: &mut [u8]) -> io::Result<usize>
+        ensures bound { ReadsAtMost result buf.new }
+        ensures bytes { ReadConsumes (D.remaining (kept_in self.old))
+            (D.remaining (kept_in self.new)) result buf.new }
+    {
+        match self.inner.read(buf) {
+            Ok(taken) => {
+                self.keep(&buf[..taken]);
+                Ok(taken)
+            }
+            Err(error) => {
+                self.error = Some(error);
+                Err(error)
+            }
+        }
+    }
+}
+
+impl<D: Write> Write for Kept<D> {
+    ghost use Rattle.sarif_streams.specs.Kept.{kept_in};
+
+    ghost contents = { λ k. D.contents (kept_in k) };
+
+    fn write(&mut self, buf: &[u8]) -> io::Result<usize>
+        ensures bound { WritesAtMost result buf.now }
+        ensures bytes { WriteAppends (D.contents (kept_in self.old))
+            (D.contents (kept_in self.new)) result buf.now }
+    {
+        match self.inner.write(buf) {
+            Ok(taken) => Ok(taken),
+            Err(error) => {
+                self.error = Some(error);
+                Err(error)
+            }
+        }
+    }
+
+    fn flush(&mut self) -> io::Result<()>
+        ensures bytes { Keeps (D.contents (kept_in self.old)) (D.contents (kept_in self.new)) }
+    {
+        self.inner.flush()
+    }
+}

@@ -1,0 +1,63 @@
+//! The readers of a merge, what they give, and why they are not all read.
+use crate::counted::Counted;
+use sarif_model::Source;
+use std::alloc::{AllocError, AllocFailed};
+use thiserror::Error;
+
+/// What a merge reads: the logs, the baselines, and the suppression file, where there is one.
+#[derive(Debug, Drop)]
+pub struct Readers<R> {
+    /// A reader for each log, in order.
+    pub logs: Vec<Counted<R>>,
+    /// A reader for each baseline, in order.
+    pub baselines: Vec<Counted<R>>,
+    /// The reader of the suppression file, where there is one.
+    pub suppressions: Option<Counted<R>>,
+}
+
+/// The bytes that the readers of a merge gave, each up to its end.
+#[derive(Debug, Drop)]
+pub struct SourceBytes {
+    /// The bytes of each log, in order.
+    pub logs: Vec<Vec<u8>>,
+    /// The bytes of each baseline, in order.
+    pub baselines: Vec<Vec<u8>>,
+    /// The bytes of the suppression file, where there is one.
+    pub suppressions: Option<Vec<u8>>,
+}
+
+/// Why the sources of a merge were not all read. No write can be at fault.
+#[derive(Clone, Copy, Debug, PartialEq, Eq, Error)]
+pub enum ReadersFault {
+    /// A read of this source failed.
+    #[error("{0}: ReadFailed")]
+    ReadFailed(Source),
+    /// This source has more than 67,108,864 bytes.
+    #[error("{0}: TooLong")]
+    TooLong(Source),
+    /// Memory was wanting.
+    #[error("OutOfMemory")]
+    OutOfMemory,
+}
+
+impl From<AllocError> for ReadersFault {
+    ghost use Rattle.std.specs.Prelude.{◌≡◌};
+    ghost use Rattle.sarif_streams.specs.declared.readers.ReadersFault.TheVariants.{OutOfMemory};
+
+    ghost from_gives = { λ _ fault. fault ≡ OutOfMemory };
+
+    fn from(_error: AllocError) -> ReadersFault {
+        ReadersFault::OutOfMemory
+    }
+}
+
+impl<T: Drop> From<AllocFailed<T>> for ReadersFault {
+    ghost use Rattle.std.specs.Prelude.{◌≡◌};
+    ghost use Rattle.sarif_streams.specs.declared.readers.ReadersFault.TheVariants.{OutOfMemory};
+
+    ghost from_gives = { λ _ fault. fault ≡ OutOfMemory };
+
+    fn from(_error: AllocFailed<T>) -> ReadersFault {
+        ReadersFault::OutOfMemory
+    }
+}

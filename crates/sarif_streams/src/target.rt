@@ -1,0 +1,99 @@
+//! Where an output goes: a file, or a standard stream.
+ghost use Rattle.std.specs.Prelude.{None};
+ghost use Rattle.std.specs.Io.{WritesAtMost};
+ghost use Rattle.std.specs.Io.KnownBytes.{Keeps, WriteAppends};
+ghost use Rattle.sarif_streams.specs.Taken.{TargetTakesAs, console_held};
+
+use crate::output::OutputFile;
+use crate::place::Place;
+use crate::streams::STANDARD;
+use std::alloc::{AllocError, Global};
+use std::io::{self, Write};
+use std::rt::Files;
+
+/// A file that is whole or untouched, or standard output.
+#[derive(Drop)]
+pub enum Target<'a, R: Files, O> {
+    /// A file, which is whole or untouched.
+    File(OutputFile<'a, R, R::File>),
+    /// Standard output, which takes a text as it comes.
+    Standard(O),
+}
+
+impl<'a, R: Files, O: Drop> Target<'a, R, O> {
+    /// The output of a name: `-` is standard output. Nothing is opened yet; a new file beside that of the name has
+    /// `number` in its name. `AllocError` where memory for the names is wanting.
+    pub fn of(
+        files: &'a R,
+        standard: O,
+        alloc: Global,
+        name: &str,
+        number: u64,
+    ) -> Result<Target<'a, R, O>, AllocError> {
+        if name == STANDARD {
+            return Ok(Target::Standard(standard));
+        }
+        let place = Place::of(files, alloc, name, number)?;
+        Ok(Target::File(OutputFile::new(files, place)))
+    }
+}
+
+impl<R: Files, O: Write> Write for Target<'_, R, O> {
+    fn write(&mut self, buf: &[u8]) -> io::Result<usize>
+        ensures bound { WritesAtMost result buf.now }
+        ensures bytes { WriteAppends None None result buf.now }
+        // What it takes is what the file or the stream took.
+        ensures handed { TargetTakesAs R.File.contents O.contents self.old self.new
+            result buf.now }
+    {
+        match self {
+            Target::File(file) => file.write(buf),
+            Target::Standard(standard) => standard.write(buf),
+        }
+    }
+
+    fn flush(&mut self) -> io::Result<()>
+        ensures bytes { Keeps None None }
+    {
+        match self {
+            Target::File(file) => file.flush(),
+            Target::Standard(standard) => standard.flush(),
+        }
+    }
+}
+
+/// Standard output, or standard error where the merged log goes to standard output.
+#[derive(Drop)]
+pub enum Console<O, E> {
+    /// Standard output.
+    Output(O),
+    /// Standard error.
+    Error(E),
+}
+
+impl<O: Write, E: Write> Write for Console<O, E> {
+    ghost use Rattle.sarif_streams.specs.Taken.{console_held};
+
+    ghost contents = { console_held O.contents E.contents };
+
+    fn write(&mut self, buf: &[u8]) -> io::Result<usize>
+        ensures bound { WritesAtMost result buf.now }
+        ensures bytes { WriteAppends (console_held O.contents E.contents self.old)
+            (console_held O.contents E.contents self.new) result buf.now }
+    {
+        match self {
+            Console::Output(output) => output.write(buf),
+            Console::Error(error) => error.write(buf),
+        }
+    }
+
+    fn flush(&mut self) -> io::Result<()>
+        ensures bytes { Keeps (console_held O.contents E.contents self.old)
+            (console_held O.contents E.contents self.new) }
+    {
+        match self {
+            Console::Output(output) => output.flush(),
+            Console::Error(error) => error.flush(),
+        }
+    }
+}
