@@ -2,7 +2,7 @@
 
 use sarif_model::Level;
 use sarif_program::{Complaints, Writers, run_request, seed_of};
-use sarif_request::{Reports, Request};
+use sarif_request::Request;
 use sarif_streams::{Counted, Readers};
 use std::alloc::{AllocError, Global};
 use std::cell::RefCell;
@@ -177,7 +177,7 @@ fn run<T: Threads + Wait + Sync>(
     let complain = RefCell::new(Vec::new(alloc));
     let mut writers: Writers<Narrow<'_>, Narrow<'_>, Narrow<'_>> = Writers {
         out: Counted::new(Narrow::new(&out, rooms.piece, rooms.out)),
-        reports: Reports::none(),
+        reports: Vec::new(alloc),
         say: Counted::new(Narrow::new(&say, rooms.piece, rooms.say)),
     };
     let mut complaints = Complaints::new(Narrow::new(&complain, rooms.piece, rooms.complain));
@@ -218,7 +218,7 @@ fn run_all<T: Threads + Wait + Sync>(
     let complain = RefCell::new(Vec::new(alloc));
     let mut writers: Writers<Narrow<'_>, Narrow<'_>, Narrow<'_>> = Writers {
         out: Counted::new(Narrow::new(&out, AMPLE.piece, AMPLE.out)),
-        reports: Reports::none(),
+        reports: Vec::new(alloc),
         say: Counted::new(Narrow::new(&say, AMPLE.piece, AMPLE.say)),
     };
     let mut complaints = Complaints::new(Narrow::new(&complain, AMPLE.piece, AMPLE.complain));

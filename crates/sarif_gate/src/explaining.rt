@@ -5,7 +5,7 @@ use sarif_explain::{FaultSource, explanation};
 use sarif_model::{At, Cause, MergeFault, Source, Text};
 use sarif_program::Complaint;
 use sarif_reports::Report;
-use sarif_request::Request;
+use sarif_request::{Request, Wanted};
 use sarif_streams::{Counted, Kept, Readers};
 use std::alloc::{AllocError, Global};
 use std::io;
@@ -70,9 +70,16 @@ impl Ended<'_, '_> {
             at: At::Whole(Source::Output),
             cause: Cause::WriteFailed,
         };
-        let name = self.request.reports.get(report);
-        of_kept(alloc, &fault, name, self.writers.reports.get(report))
+        let name = destination_of(report, self.request.reports.as_slice());
+        let writer = destination_of(report, self.writers.reports.as_slice());
+        of_kept(alloc, &fault, name, writer)
     }
+}
+
+/// Returns the destination of this report, if it is among these.
+fn destination_of<T>(report: Report, reports: &[Wanted<T>]) -> Option<&T> {
+    let wanted = reports.iter().find(|wanted| wanted.report == report)?;
+    Some(&wanted.to)
 }
 
 /// The source that a fault is in.

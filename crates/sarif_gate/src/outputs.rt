@@ -1,12 +1,11 @@
 //! The outputs that a request names.
-ghost use Rattle.std.specs.Prelude.{◌≡◌, IfOk, is_some};
+ghost use Rattle.std.specs.Prelude.{◌≡◌, IfOk};
 ghost use Rattle.sarif_streams.specs.Counted.{failed_calls};
-ghost use Rattle.sarif_streams.specs.OptionalReader.{failed_calls_if};
-ghost use Rattle.sarif_program.specs.Reports.{AreAsked, report_failures};
+ghost use Rattle.sarif_program.specs.Reports.{report_failures, wanted_reports};
 
 use sarif_model::Text;
 use sarif_program::Writers;
-use sarif_request::{Reports, Request};
+use sarif_request::{Request, Wanted};
 use sarif_streams::{Console, Counted, Kept, STANDARD, Target};
 use std::alloc::AllocError;
 use std::io::{Stderr, Stdout};
@@ -22,14 +21,14 @@ pub type Outputs<'a> = Writers<Output<'a>, Console<Stdout, Stderr>, Output<'a>>;
 /// The outputs that a request names, none of them opened. `AllocError` where memory for their names
 /// is wanting.
 pub fn outputs_of<'a>(rt: &'a HostRuntime, request: &Request) -> Result<Outputs<'a>, AllocError>
-    // There is a writer for just those reports that are asked for.
-    ensures asked { IfOk result
-        (λ outputs. AreAsked «request».now.reports outputs.reports) }
+    // There is a writer for each report that is requested, in the same order, and for no other report.
+    ensures asked { IfOk result (λ outputs. wanted_reports outputs.reports.items
+        ≡ wanted_reports «request».now.reports.items) }
     ensures fresh { IfOk result (λ outputs. (failed_calls outputs.out ≡ 0)
-        × (report_failures outputs.reports ≡ 0) × (failed_calls outputs.say ≡ 0)) }
+        × (report_failures outputs.reports.items ≡ 0) × (failed_calls outputs.say ≡ 0)) }
 {
     let out = output_of(rt, &request.out)?;
-    let reports = reports_of(rt, &request.reports)?;
+    let reports = reports_of(rt, request.reports.as_slice())?;
     let say = if request.out.as_str() == STANDARD {
         Console::Error(rt.stderr())
     } else {
@@ -42,38 +41,22 @@ pub fn outputs_of<'a>(rt: &'a HostRuntime, request: &Request) -> Result<Outputs<
     })
 }
 
-/// The outputs of the reports that are asked for.
+/// Returns the outputs of these reports, in order.
 fn reports_of<'a>(
     rt: &'a HostRuntime,
-    names: &Reports<Text>,
-) -> Result<Reports<Counted<Output<'a>>>, AllocError>
-    ensures asked { IfOk result (AreAsked names.now) }
-    ensures fresh { IfOk result (λ reports. report_failures reports ≡ 0) }
+    names: &[Wanted<Text>],
+) -> Result<Vec<Wanted<Counted<Output<'a>>>>, AllocError>
+    ensures asked { IfOk result
+        (λ outputs. wanted_reports outputs.items ≡ wanted_reports names.now) }
+    ensures fresh { IfOk result (λ outputs. report_failures outputs.items ≡ 0) }
 {
-    Ok(Reports {
-        text: report_of(rt, &names.text)?,
-        github: report_of(rt, &names.github)?,
-        markdown: report_of(rt, &names.markdown)?,
-        gitlab: report_of(rt, &names.gitlab)?,
-        html: report_of(rt, &names.html)?,
-    })
-}
-
-/// The output of a report, where it is asked for.
-fn report_of<'a>(
-    rt: &'a HostRuntime,
-    name: &Option<Text>,
-) -> Result<Option<Counted<Output<'a>>>, AllocError>
-    ensures asked { IfOk result (λ output. is_some output ≡ is_some name.now) }
-    ensures fresh { IfOk result (λ output. failed_calls_if output ≡ 0) }
-{
-    match name {
-        Some(name) => {
-            let output = output_of(rt, name)?;
-            Ok(Some(output))
-        }
-        None => Ok(None),
+    let mut outputs = Vec::new(rt.alloc());
+    for name in names {
+        let to = output_of(rt, &name.to)?;
+        let report = name.report;
+        outputs.push(Wanted { report, to })?;
     }
+    Ok(outputs)
 }
 
 /// The output of a name.

@@ -1,4 +1,2 @@
-pub mod Asked
 pub mod Ended
 pub mod Quiet
-pub mod Taken

@@ -1,4 +1,3 @@
-pub mod Beside
 pub mod Reports
 pub mod Status
 pub mod Writing

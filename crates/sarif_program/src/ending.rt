@@ -1,9 +1,10 @@
 //! How a run ends: what is told, and with which exit status.
-ghost use Rattle.std.specs.Prelude.{◌≡◌, ◌<◌, ◌≤◌, ◌^◌, Some, nat_eq};
+ghost use Rattle.std.specs.Prelude.{◌≡◌, ◌<◌, ◌≤◌, ◌^◌, Some, nat_eq, length};
+ghost use Rattle.std.specs.List.{All};
 ghost use Rattle.std.specs.Io.KnownBytes.{Appends};
 ghost use Rattle.sarif_streams.specs.Counted.{inner_of, failed_calls, RisesIf};
 ghost use Rattle.sarif_model.specs.MergeFault.{exit_status};
-ghost use Rattle.sarif_program.specs.Reports.{AreTaken, HaveRoom};
+ghost use Rattle.sarif_program.specs.Reports.{AreTaken};
 ghost use Rattle.sarif_program.specs.Status.{verdict_status};
 ghost use Rattle.sarif_program.specs.Writing.{writer_failures};
 ghost use Rattle.sarif_program.specs.declared.complaint.Complaint.TheVariants.{Fault};
@@ -65,14 +66,15 @@ pub(crate) fn accept<W: Write, S: Write, P: Write, E: Write>(
     complaints: &mut Complaints<E>,
 ) -> u8
     requires out { failed_calls writers.old.out < 2 ^ 63 }
-    requires reports { HaveRoom writers.old.reports }
+    requires reports { All (λ wanted. failed_calls wanted.to < 2 ^ 63) writers.old.reports.items }
+    requires number { length texts.now.reports.items ≡ length writers.old.reports.items }
     requires say { failed_calls writers.old.say < 2 ^ 63 }
     requires complain { failed_calls complaints.old.out < 2 ^ 63 }
     ensures status { result < 2 → result ≡ verdict_status merged.now.verdict }
     ensures written { result < 2 → Appends (W.contents (inner_of writers.old.out))
         (W.contents (inner_of writers.new.out)) merged.now.log }
-    ensures reported { result < 2
-        → AreTaken P.contents texts.now.reports writers.old.reports writers.new.reports }
+    ensures reported { result < 2 → AreTaken P.contents texts.now.reports.items
+        writers.old.reports.items writers.new.reports.items }
     ensures said { result < 2 → Appends (S.contents (inner_of writers.old.say))
         (S.contents (inner_of writers.new.say)) texts.now.summary }
     ensures decided { result ≡ 2 → ⊥ }

@@ -1,6 +1,6 @@
 //! Doing what a request asks for, over readers and writers of any kind.
 ghost use Rattle.std.specs.Prelude.{◌≡◌, [], ◌<◌, ◌≤◌, ◌+◌, ◌^◌, false, nat_eq, IfOk, Ok};
-ghost use Rattle.std.specs.List.{All};
+ghost use Rattle.std.specs.List.{All, AllZip};
 ghost use Rattle.std.specs.Io.KnownBytes.{Appends};
 ghost use Rattle.sarif_log.specs.declared.merged.Merged.{Merged as Outcome};
 ghost use Rattle.sarif_log.specs.Beside.{IsMadeBy};
@@ -13,7 +13,7 @@ ghost use Rattle.sarif_counts.specs.Summary.{summary_of};
 ghost use Rattle.sarif_merge.specs.FromReaders.{IsMergedFrom};
 ghost use Rattle.sarif_merge.specs.Given.{given_by};
 ghost use Rattle.sarif_streams.specs.WereRead.{failures, AllTell, NoNumberFalls, SourceContents, WereRead};
-ghost use Rattle.sarif_program.specs.Reports.{AreWritten, HaveRoom, report_for, report_with, reporting_for, texts_for};
+ghost use Rattle.sarif_program.specs.Reports.{IsWritten, report_for, report_with, reporting_for, texts_for};
 ghost use Rattle.sarif_program.specs.Status.{verdict_status};
 ghost use Rattle.sarif_program.specs.Writing.{writer_failures};
 
@@ -27,7 +27,7 @@ use sarif_gather::NoGate;
 use sarif_log::{Asked, Merged};
 use sarif_merge::merge_readers;
 use sarif_model::{MergeFault, Text};
-use sarif_request::{Reports, Request};
+use sarif_request::{Request, Wanted};
 use sarif_streams::{Readers, sources_are_read_in_one_way};
 use std::alloc::{AllocError, Global};
 use std::io::{Read, Write};
@@ -38,12 +38,12 @@ use std::thread::Threads;
 fn reporting_of<W>(
     alloc: Global,
     request: &Request,
-    writers: &Reports<W>,
+    writers: &[Wanted<W>],
 ) -> Result<Option<Reporting>, AllocError>
     ensures { IfOk result
         (λ reporting. reporting ≡ reporting_for «request».now writers.now) }
 {
-    if writers.are_none() {
+    if writers.is_empty() {
         return Ok(None);
     }
     let policy = request.options.policy;
@@ -92,7 +92,7 @@ fn merge_for<R: Read, W, T: Threads + Wait + Sync>(
     alloc: Global,
     request: &Request,
     readers: &mut Readers<R>,
-    writers: &Reports<W>,
+    writers: &[Wanted<W>],
 ) -> Result<(Merged, Texts), MergeFault>
     requires logs { All (λ reader. failed_calls reader < 2 ^ 63) readers.old.logs.items }
     requires baselines { All (λ reader. failed_calls reader < 2 ^ 63) readers.old.baselines.items }
@@ -102,7 +102,7 @@ fn merge_for<R: Read, W, T: Threads + Wait + Sync>(
         (reporting_for «request».now writers.now) all.0) }
     ensures summary { IfOk result (λ all. all.1.summary
         ≡ summary_of (count_at all.0.counts) «request».now.options.policy) }
-    ensures reports { IfOk result (λ all. all.1.reports
+    ensures reports { IfOk result (λ all. all.1.reports.items
         ≡ texts_for writers.now (report_for «request».now all.0)) }
     ensures read_failed { RisesIf (read_failed_in result)
         (failures readers.old) (failures readers.new) }
@@ -113,7 +113,7 @@ fn merge_for<R: Read, W, T: Threads + Wait + Sync>(
     let tell = move |counts: &Counts, findings: &Vec<Finding>| -> Result<Texts, AllocError>
         ensures summary { IfOk result (λ texts. texts.summary
             ≡ summary_of (count_at counts.now) «request».entry.now.options.policy) }
-        ensures reports { IfOk result (λ texts. texts.reports ≡ texts_for writers.entry.now
+        ensures reports { IfOk result (λ texts. texts.reports.items ≡ texts_for writers.entry.now
             (report_with «request».entry.now counts.now findings.now)) }
     { texts_of(rt, alloc, counts, findings, request, writers) };
     merge_told(rt, alloc, &request.options, &made, readers, tell)
@@ -135,7 +135,7 @@ pub fn run_request<R: Read, W: Write, S: Write, P: Write, E: Write, T: Threads +
     requires baselines { All (λ reader. failed_calls reader < 2 ^ 63) readers.old.baselines.items }
     requires suppressions { failed_calls_if readers.old.suppressions < 2 ^ 63 }
     requires writes { failed_calls writers.old.out < 2 ^ 63 }
-    requires reports { HaveRoom writers.old.reports }
+    requires reports { All (λ wanted. failed_calls wanted.to < 2 ^ 63) writers.old.reports.items }
     requires says { failed_calls writers.old.say < 2 ^ 63 }
     requires complains { failed_calls complaints.old.out < 2 ^ 63 }
     // 0 or 1 only where `out` got the merged log of what was read, each writer of a report got the report of
@@ -143,11 +143,11 @@ pub fn run_request<R: Read, W: Write, S: Write, P: Write, E: Write, T: Threads +
     ensures accepted { result < 2 → (merged : Outcome) × (result ≡ verdict_status merged.verdict)
         × IsMergedFrom R.remaining readers.old readers.new
         «request».now.options.today «request».now.options.policy
-        (reporting_for «request».now writers.old.reports) merged
+        (reporting_for «request».now writers.old.reports.items) merged
         × Appends (W.contents (inner_of writers.old.out))
         (W.contents (inner_of writers.new.out)) merged.log
-        × AreWritten P.contents (report_for «request».now merged)
-        writers.old.reports writers.new.reports
+        × AllZip (IsWritten P.contents (report_for «request».now merged))
+        writers.old.reports.items writers.new.reports.items
         × Appends (S.contents (inner_of writers.old.say)) (S.contents (inner_of writers.new.say))
         (summary_of (count_at merged.counts) «request».now.options.policy) }
     // 3 exactly where a read or a write of one of these failed.
@@ -168,7 +168,7 @@ pub fn run_request<R: Read, W: Write, S: Write, P: Write, E: Write, T: Threads +
     ensures known { result ≤ 3 }
 {
     sources_are_read_in_one_way::<R>();
-    match merge_for(rt, alloc, request, readers, &writers.reports) {
+    match merge_for(rt, alloc, request, readers, writers.reports.as_slice()) {
         Ok((merged, texts)) => accept(&merged, &texts, writers, complaints),
         Err(fault) => refuse(complaints, fault),
     }

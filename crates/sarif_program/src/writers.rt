@@ -1,5 +1,5 @@
 //! Where the texts of a run go.
-use sarif_request::Reports;
+use sarif_request::Wanted;
 use sarif_streams::Counted;
 
 /// Where the texts of a run go.
@@ -7,8 +7,8 @@ use sarif_streams::Counted;
 pub struct Writers<W, S, P> {
     /// The merged log.
     pub out: Counted<W>,
-    /// The reports that are asked for.
-    pub reports: Reports<Counted<P>>,
+    /// The reports that are requested, in the order in which they are written.
+    pub reports: Vec<Wanted<Counted<P>>>,
     /// The summary.
     pub say: Counted<S>,
 }

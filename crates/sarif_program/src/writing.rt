@@ -1,16 +1,16 @@
 //! Writing the texts of an accepted merge.
-ghost use Rattle.std.specs.Prelude.{◌≡◌, ◌<◌, ◌≤◌, ◌^◌, OnOk, IfErr, is_err};
+ghost use Rattle.std.specs.Prelude.{◌≡◌, ◌<◌, ◌≤◌, ◌^◌, OnOk, IfErr, is_err, length};
+ghost use Rattle.std.specs.List.{All};
 ghost use Rattle.std.specs.Io.KnownBytes.{Appends};
 ghost use Rattle.sarif_streams.specs.Counted.{inner_of, failed_calls, RisesIf};
-ghost use Rattle.sarif_streams.specs.OptionalReader.{failed_calls_if};
-ghost use Rattle.sarif_program.specs.Reports.{AreTaken, HaveRoom, IsTaken, report_failures};
+ghost use Rattle.sarif_program.specs.Reports.{AreTaken, report_failures};
 ghost use Rattle.sarif_program.specs.Writing.{writer_failures};
 
 use crate::telling::Texts;
 use crate::writers::Writers;
 use sarif_model::Text;
 use sarif_reports::Report;
-use sarif_request::Reports;
+use sarif_request::Wanted;
 use sarif_streams::{Counted, Failed, write_out};
 use std::io::Write;
 
@@ -40,42 +40,33 @@ fn put_out<W: Write>(out: &mut Counted<W>, text: &[u8]) -> Result<(), Failed>
     }
 }
 
-/// Writes a report, where there is a text and a writer for it.
-fn put_report<P: Write>(
-    report: Report,
-    writer: &mut Option<Counted<P>>,
-    text: &Option<Text>,
-) -> Result<(), Report>
-    requires { failed_calls_if writer.old < 2 ^ 63 }
-    ensures taken { OnOk result (IsTaken P.contents text.now writer.old writer.new) }
-    ensures lost { IfErr result (λ lost. lost ≡ report) }
+/// Writes the text of a report to its writer.
+fn put_report<P: Write>(writer: &mut Wanted<Counted<P>>, text: &Text) -> Result<(), Report>
+    requires { failed_calls writer.old.to < 2 ^ 63 }
+    ensures same { writer.new.report ≡ writer.old.report }
+    ensures taken { OnOk result (Appends (P.contents (inner_of writer.old.to))
+        (P.contents (inner_of writer.new.to)) text.now) }
+    ensures lost { IfErr result (λ lost. lost ≡ writer.old.report) }
     ensures counted { RisesIf (is_err result)
-        (failed_calls_if writer.old) (failed_calls_if writer.new) }
+        (failed_calls writer.old.to) (failed_calls writer.new.to) }
 {
-    match (writer, text) {
-        (Some(writer), Some(text)) => match put_out(writer, text.as_str().as_bytes()) {
-            Ok(()) => Ok(()),
-            Err(_) => Err(report),
-        },
-        _ => Ok(()),
+    match put_out(&mut writer.to, text.as_str().as_bytes()) {
+        Ok(()) => Ok(()),
+        Err(_) => Err(writer.report),
     }
 }
 
-/// Writes the reports in their order, up to one that is lost.
-fn put_reports<P: Write>(
-    writers: &mut Reports<Counted<P>>,
-    texts: &Reports<Text>,
-) -> Result<(), Report>
-    requires { HaveRoom writers.old }
+/// Writes the text of each report to its writer, in order, up to a report that is lost.
+fn put_reports<P: Write>(writers: &mut [Wanted<Counted<P>>], texts: &[Text]) -> Result<(), Report>
+    requires room { All (λ wanted. failed_calls wanted.to < 2 ^ 63) writers.old }
+    requires number { length texts.now ≡ length writers.old }
     ensures taken { OnOk result (AreTaken P.contents texts.now writers.old writers.new) }
     ensures counted { RisesIf (is_err result)
         (report_failures writers.old) (report_failures writers.new) }
 {
-    put_report(Report::Text, &mut writers.text, &texts.text)?;
-    put_report(Report::Github, &mut writers.github, &texts.github)?;
-    put_report(Report::Markdown, &mut writers.markdown, &texts.markdown)?;
-    put_report(Report::Gitlab, &mut writers.gitlab, &texts.gitlab)?;
-    put_report(Report::Html, &mut writers.html, &texts.html)?;
+    for (number, writer) in writers.iter_mut().enumerate() {
+        put_report(writer, &texts[number])?;
+    }
     Ok(())
 }
 
@@ -86,12 +77,13 @@ pub(crate) fn put_all<W: Write, S: Write, P: Write>(
     texts: &Texts,
 ) -> Result<(), Lost>
     requires out { failed_calls writers.old.out < 2 ^ 63 }
-    requires reports { HaveRoom writers.old.reports }
+    requires reports { All (λ wanted. failed_calls wanted.to < 2 ^ 63) writers.old.reports.items }
+    requires number { length texts.now.reports.items ≡ length writers.old.reports.items }
     requires say { failed_calls writers.old.say < 2 ^ 63 }
     ensures log { OnOk result (Appends (W.contents (inner_of writers.old.out))
         (W.contents (inner_of writers.new.out)) log.now) }
-    ensures reports { OnOk result
-        (AreTaken P.contents texts.now.reports writers.old.reports writers.new.reports) }
+    ensures reports { OnOk result (AreTaken P.contents texts.now.reports.items
+        writers.old.reports.items writers.new.reports.items) }
     ensures summary { OnOk result (Appends (S.contents (inner_of writers.old.say))
         (S.contents (inner_of writers.new.say)) texts.now.summary) }
     ensures counted { RisesIf (is_err result)
@@ -100,7 +92,7 @@ pub(crate) fn put_all<W: Write, S: Write, P: Write>(
     if put_out(&mut writers.out, log.as_str().as_bytes()).is_err() {
         return Err(Lost::Log);
     }
-    if let Err(report) = put_reports(&mut writers.reports, &texts.reports) {
+    if let Err(report) = put_reports(writers.reports.as_mut_slice(), texts.reports.as_slice()) {
         return Err(Lost::Report(report));
     }
     match write_out(&mut writers.say, texts.summary.as_str().as_bytes()) {

@@ -1,5 +1,5 @@
--- The five reports.
-use Rattle.std.specs.Prelude.{ℕ, List, codes}
+-- The reports: their order, their names and their contents.
+use Rattle.std.specs.Prelude.{ℕ, List, [], ◌∷◌, codes}
 use Rattle.sarif_counts.specs.Policy.{Count}
 use Rattle.sarif_counts.specs.declared.policy.Policy.{Policy}
 use Rattle.sarif_findings.specs.declared.finding.Finding.{Finding}
@@ -11,7 +11,11 @@ use Rattle.sarif_reports.specs.MarkdownReport.{markdown_of}
 use Rattle.sarif_reports.specs.GitlabReport.{gitlab_of}
 use Rattle.sarif_reports.specs.HtmlReport.{html_of}
 
--- the word for each
+-- all reports, in the order in which they are written
+abbrev pub all_reports : List Report
+all_reports = Text ∷ Github ∷ Markdown ∷ Gitlab ∷ Html ∷ []
+
+-- the name of each, which is also the name of its option
 abbrev pub report_name : Report → List ℕ
 report_name Text = codes "text"
 report_name Github = codes "github"
@@ -19,7 +23,7 @@ report_name Markdown = codes "markdown"
 report_name Gitlab = codes "gitlab"
 report_name Html = codes "html"
 
--- the text of each
+-- the content of each
 abbrev pub report_of : Report → Count → Policy → List Finding → List ℕ
 report_of Text count policy findings = text_lines_of findings
 report_of Github count policy findings = github_of findings

@@ -1,4 +1,4 @@
-//! The five reports, by their names.
+//! The reports as rows: a variant for each report, with its name, its help and its content.
 ghost use Rattle.std.specs.Prelude.{◌≡◌, ◌≤◌, IfOk, string_bytes};
 ghost use Rattle.sarif_counts.specs.Counts.{count_at};
 ghost use Rattle.sarif_reports.specs.Report.{report_name, report_of};
@@ -13,7 +13,7 @@ use sarif_findings::Finding;
 use std::alloc::{AllocError, Global};
 use std::thread::Threads;
 
-/// One of the five reports on a merged log.
+/// A report on a merged log.
 #[derive(Clone, Copy, Debug, PartialEq, Eq)]
 pub enum Report {
     /// For people, editors and problem matchers: one line a result.
@@ -29,7 +29,16 @@ pub enum Report {
 }
 
 impl Report {
-    /// The word for this report.
+    /// All reports, in the order in which they are written.
+    pub const ALL: &'static [Report] = &[
+        Report::Text,
+        Report::Github,
+        Report::Markdown,
+        Report::Gitlab,
+        Report::Html,
+    ];
+
+    /// Returns the name of this report, which is also the name of its option.
     pub fn name(self) -> &'static str
         ensures { result.now ≡ report_name self }
     {
@@ -39,6 +48,19 @@ impl Report {
             Report::Markdown => "markdown",
             Report::Gitlab => "gitlab",
             Report::Html => "html",
+        }
+    }
+
+    /// Returns what `--help` says about the option of this report.
+    pub fn help(self) -> &'static str {
+        match self {
+            Report::Text =>
+                "Write one line per result to FILE, for people, editors and problem matchers",
+            Report::Github => "Write one workflow command per result to FILE, for GitHub Actions",
+            Report::Markdown =>
+                "Write the verdict, the counts and a table to FILE, for job summaries and comments",
+            Report::Gitlab => "Write a JSON report to FILE, for GitLab's code quality widget",
+            Report::Html => "Write a separate page to FILE, for a browser",
         }
     }
 }

@@ -1,8 +1,10 @@
 -- The words that the program understands, as their parser sees them.
-use Rattle.std.specs.Prelude.{◌≡◌, List, [], ◌∷◌, map, true, Some, pos, codes}
+use Rattle.std.specs.Prelude.{◌≡◌, List, [], ◌∷◌, fold, map, true, Some, pos, codes}
 use Rattle.std.specs.Borrow.{Bor}
 use Rattle.clap.specs.Words.{App, Rule, Text, new_app, new_rule, with_rule}
 use Rattle.clap.specs.Simple.{on_top}
+use Rattle.sarif_reports.specs.declared.report.Report.{Report}
+use Rattle.sarif_reports.specs.Report.{all_reports, report_name}
 use Rattle.clap.specs.declared.builder.action.ArgAction.TheVariants.{Append, SetTrue}
 use Rattle.clap.specs.declared.builder.value_parser.ValueParser.TheVariants.{Signed, Names}
 
@@ -70,13 +72,16 @@ merging levels =
     log_rule) out_rule) baseline_rule) suppress_rule)
     today_rule) (fail_on_rule levels)) max_rule) workers_rule
 
--- and those for reports and explanations
+-- an option for each report
+abbrev pub with_report_rules : App → List Report → App
+with_report_rules app reports =
+    fold (λ so_far report. with_rule so_far (option_rule (report_name report))) app reports
+
+-- and the options for reports and explanations
 abbrev pub reporting : App → App
 reporting app =
-    with_rule (with_rule (with_rule (with_rule (with_rule (with_rule (with_rule app
-    (option_rule (codes "text"))) (option_rule (codes "github")))
-    (option_rule (codes "markdown"))) (option_rule (codes "gitlab")))
-    (option_rule (codes "html"))) (option_rule (codes "root"))) explain_rule
+    with_rule (with_rule (with_report_rules app all_reports)
+    (option_rule (codes "root"))) explain_rule
 
 -- all words
 unfoldable pub program : Bor (List (Bor Text)) → App

@@ -1,4 +1,3 @@
 pub mod Command
-pub mod ForReport
 pub mod Names
 pub mod Words

@@ -1,5 +1,5 @@
 -- What the words of the command line ask for, and what is answered where they ask for nothing.
-use Rattle.std.specs.Prelude.{◌≡◌, ◌≢◌, ℕ, Bool, false, List, [], Option, Some, None, Result, Ok, Err, unwrap_or, option_and_then, codes, bytes_eq, min, max, ◌<◌, ◌^◌, ◌⊎◌, ⊤}
+use Rattle.std.specs.Prelude.{◌≡◌, ◌≢◌, ℕ, Bool, false, List, [], ◌∷◌, flat_map, Option, Some, None, Result, Ok, Err, unwrap_or, option_and_then, codes, bytes_eq, min, max, ◌<◌, ◌^◌, ◌⊎◌, ⊤}
 use Rattle.std.specs.Borrow.{Bor}
 use Rattle.std.specs.Option.{option_map_or}
 use Rattle.std.specs.Str.Parse.{IsNumeral, digits_value, without_leading_plus}
@@ -9,11 +9,13 @@ use Rattle.clap.specs.declared.error.kind.ErrorKind.TheVariants as kind
 use Rattle.sarif_model.specs.declared.kinds.Level.{Level}
 use Rattle.sarif_model.specs.Level.{level_named}
 use Rattle.sarif_counts.specs.Policy.{default_policy}
+use Rattle.sarif_reports.specs.declared.report.Report.{Report}
+use Rattle.sarif_reports.specs.Report.{all_reports, report_name}
 use Rattle.sarif_request.specs.declared.clash.Clash.{Clash}
-use Rattle.sarif_request.specs.declared.reports.Reports.{Reports}
 use Rattle.sarif_request.specs.declared.words.WordsFault.{WordsFault}
 use Rattle.sarif_request.specs.declared.words.WordsFault.TheVariants.{Usage, Help, OutOfMemory}
 use Rattle.sarif_request.specs.declared.request.Request.{Request}
+use Rattle.sarif_request.specs.declared.wanted.Wanted.{Wanted}
 use Rattle.sarif_request.specs.Command.{AreLevels, program}
 use Rattle.sarif_request.specs.Names.{Names, clash_of}
 
@@ -63,15 +65,15 @@ fail_on_in rows =
     unwrap_or (option_and_then level_named (first_of (codes "fail-on") rows))
     default_policy.fail_on
 
--- the names of the reports that are asked for
-abbrev pub reports_in : List Row → Reports Text
-reports_in rows = record {
-  text = first_of (codes "text") rows;
-  github = first_of (codes "github") rows;
-  markdown = first_of (codes "markdown") rows;
-  gitlab = first_of (codes "gitlab") rows;
-  html = first_of (codes "html") rows;
-}
+-- a report is requested if its option has a value, which is the name of its file
+abbrev pub wanted_if : Report → Option Text → List (Wanted Text)
+wanted_if report None = []
+wanted_if report (Some name) = record { report = report; to = name } ∷ []
+
+-- the reports that are requested, in the order in which they are written
+abbrev pub reports_in : List Row → List (Wanted Text)
+reports_in rows =
+    flat_map (λ report. wanted_if report (first_of (report_name report) rows)) all_reports
 
 -- a word with no value stands there: its value is the text `true`
 abbrev pub is_set : Text → List Row → Bool
@@ -83,7 +85,7 @@ pub record AsksFor (rows : List Row) (request : Request) : Type 0 where
   pub baselines : request.baselines.items ≡ values_of (codes "baseline") rows
   pub suppress : request.suppress ≡ first_of (codes "suppress") rows
   pub out : request.out ≡ unwrap_or (first_of (codes "out") rows) []
-  pub reports : request.reports ≡ reports_in rows
+  pub reports : request.reports.items ≡ reports_in rows
   pub root : request.root ≡ unwrap_or (first_of (codes "root") rows) []
   pub explain : request.explain ≡ is_set (codes "explain") rows
   pub today : IsRead (one_of (codes "today") rows) request.options.today

@@ -1,9 +1,9 @@
 //! Names among the words that can't stand together.
 ghost use Rattle.std.specs.Prelude.{◌≡◌, Option, map};
-ghost use Rattle.std.specs.List.{list_any};
 ghost use Rattle.sarif_request.specs.Names as said;
 
 use crate::request::Request;
+use crate::wanted::Wanted;
 use sarif_model::Text;
 use sarif_streams::STANDARD;
 
@@ -60,65 +60,39 @@ fn replaces_suppressions(request: &Request) -> bool
     match &request.suppress {
         Some(name) => {
             let name = name.as_str();
-            request.out.as_str() == name || is_among(name, &reports_of(request))
+            request.out.as_str() == name || is_among(name, request.reports.as_slice())
         }
         None => false,
     }
-}
-
-/// The names of the reports, where they were asked for, in the order in which they are written.
-fn reports_of(request: &Request) -> [&Option<Text>; 5]
-    ensures { map (λ report. report.now) result ≡ said.in_order request.now.reports }
-{
-    let reports = &request.reports;
-    [
-        &reports.text,
-        &reports.github,
-        &reports.markdown,
-        &reports.gitlab,
-        &reports.html,
-    ]
 }
 
 /// Whether two outputs have one name.
 fn share_a_name(request: &Request) -> bool
     ensures { result ≡ said.have_one_name (said.outputs_of (said.names_of request.now)) }
 {
-    let reports = reports_of(request);
-    is_among(request.out.as_str(), &reports) || have_one_name(&reports)
+    let reports = request.reports.as_slice();
+    is_among(request.out.as_str(), reports) || have_one_name(reports)
 }
 
 /// Whether one of the reports has this name.
-fn is_among(name: &str, reports: &[&Option<Text>]) -> bool
-    ensures { result ≡ list_any (said.is_named name.now) (map (λ report. report.now) reports.now) }
+fn is_among(name: &str, reports: &[Wanted<Text>]) -> bool
+    ensures { result ≡ said.is_among name.now (map (λ report. report.to) reports.now) }
 {
     for report in reports {
-        if is_named(name, report) {
+        if report.to.as_str() == name {
             return true;
         }
     }
     false
 }
 
-/// Whether this is the name of a report.
-fn is_named(name: &str, report: &Option<Text>) -> bool
-    ensures { result ≡ said.is_named name.now report.now }
-{
-    match report {
-        Some(other) => other.as_str() == name,
-        None => false,
-    }
-}
-
 /// Whether two of the reports have one name.
-fn have_one_name(reports: &[&Option<Text>]) -> bool
-    ensures { result ≡ said.have_one_name (map (λ report. report.now) reports.now) }
+fn have_one_name(reports: &[Wanted<Text>]) -> bool
+    ensures { result ≡ said.have_one_name (map (λ report. report.to) reports.now) }
 {
     for (at, report) in reports.iter().enumerate() {
-        if let Some(name) = report {
-            if is_among(name.as_str(), &reports[at + 1..]) {
-                return true;
-            }
+        if is_among(report.to.as_str(), &reports[at + 1..]) {
+            return true;
         }
     }
     false
@@ -128,26 +102,20 @@ fn have_one_name(reports: &[&Option<Text>]) -> bool
 fn replaces_inputs(request: &Request) -> bool
     ensures { result ≡ said.replaces_inputs (said.names_of request.now) }
 {
-    let reports = reports_of(request);
-    for report in &reports {
-        if replaces_input(request, report) {
+    for report in &request.reports {
+        if replaces_input(request, &report.to) {
             return true;
         }
     }
     false
 }
 
-/// Whether this report does.
-fn replaces_input(request: &Request, report: &Option<Text>) -> bool
-    ensures { result ≡ said.replaces_input (said.names_of request.now) report.now }
+/// Whether a log or a baseline has the name of this report.
+fn replaces_input(request: &Request, name: &Text) -> bool
+    ensures { result ≡ said.replaces_input (said.names_of request.now) name.now }
 {
-    match report {
-        Some(name) => {
-            let is_input = request.logs.contains(name) || request.baselines.contains(name);
-            name.as_str() != STANDARD && is_input
-        }
-        None => false,
-    }
+    let is_input = request.logs.contains(name) || request.baselines.contains(name);
+    name.as_str() != STANDARD && is_input
 }
 
 /// Whether standard input is more than one of the logs.

@@ -1,11 +1,13 @@
 //! The words that the program understands, and what its help says of them.
 ghost use Rattle.std.specs.Prelude.{◌≡◌, IfOk, false, true, map};
 ghost use Rattle.clap.specs.Words.{app_of, rule_of, IsPlainArg};
-ghost use Rattle.sarif_request.specs.Command.{IsProgram, IsMerging, AreLevels, reporting};
+ghost use Rattle.sarif_reports.specs.Report.{all_reports, report_name};
+ghost use Rattle.sarif_request.specs.Command.{IsProgram, IsMerging, AreLevels, reporting, with_report_rules};
 ghost use Rattle.sarif_request.specs.Command.{option_rule, log_rule, out_rule, baseline_rule, today_rule};
 ghost use Rattle.sarif_request.specs.Command.{fail_on_rule, max_rule, workers_rule, explain_rule};
 
 use clap::{Arg, ArgAction, Command, value_parser};
+use sarif_reports::Report;
 use std::alloc::{AllocError, Global};
 
 /// The version of the program.
@@ -36,21 +38,6 @@ pub const MAX: &str = "max";
 /// The id of `--out`: where the merged log is written.
 pub const OUT: &str = "out";
 
-/// The id of `--text`: where the report of lines is written.
-pub const TEXT: &str = "text";
-
-/// The id of `--github`: where the report for GitHub Actions is written.
-pub const GITHUB: &str = "github";
-
-/// The id of `--markdown`: where the report for job summaries and comments is written.
-pub const MARKDOWN: &str = "markdown";
-
-/// The id of `--gitlab`: where the report for GitLab's code quality widget is written.
-pub const GITLAB: &str = "gitlab";
-
-/// The id of `--html`: where the page is written.
-pub const HTML: &str = "html";
-
 /// The id of `--root`: what the paths of reports are shown without.
 pub const ROOT: &str = "root";
 
@@ -80,19 +67,6 @@ Examples:
 
 const SUPPRESS_HELP: &str =
     "A suppression file: results that are accepted, with a reason and a last day";
-
-const TEXT_HELP: &str =
-    "Where a report for people, editors and problem matchers is written: a line for each result";
-
-const GITHUB_HELP: &str =
-    "Where a report for GitHub Actions is written: a workflow command for each result";
-
-const MARKDOWN_HELP: &str =
-    "Where a report for job summaries and comments is written: the verdict, the counts and a table";
-
-const GITLAB_HELP: &str = "Where a report for GitLab's code quality widget is written, in JSON";
-
-const HTML_HELP: &str = "Where a report is written as a page of its own, for a browser";
 
 const ROOT_HELP: &str =
     "What the paths of reports are shown without where they begin with it, as file:///builds/app/";
@@ -130,14 +104,30 @@ fn of_merging<'a>(alloc: Global) -> Result<Command<'a>, AllocError>
 fn with_reports<'a>(alloc: Global, command: Command<'a>) -> Result<Command<'a>, AllocError>
     ensures { IfOk result (λ c. app_of c ≡ reporting (app_of command.entry)) }
 {
-    command
-        .arg(option(alloc, TEXT, "FILE", TEXT_HELP))?
-        .arg(option(alloc, GITHUB, "FILE", GITHUB_HELP))?
-        .arg(option(alloc, MARKDOWN, "FILE", MARKDOWN_HELP))?
-        .arg(option(alloc, GITLAB, "FILE", GITLAB_HELP))?
-        .arg(option(alloc, HTML, "FILE", HTML_HELP))?
+    with_report_options(alloc, command)?
         .arg(option(alloc, ROOT, "PREFIX", ROOT_HELP))?
         .arg(explain(alloc))
+}
+
+/// Adds an option for each report.
+fn with_report_options<'a>(alloc: Global, command: Command<'a>) -> Result<Command<'a>, AllocError>
+    ensures { IfOk result (λ c. app_of c ≡ with_report_rules (app_of command.entry) all_reports) }
+{
+    let mut command = command;
+    for report in Report::ALL {
+        command = command.arg(report_option(alloc, *report))?;
+    }
+    Ok(command)
+}
+
+/// Returns the option for this report.
+fn report_option<'a>(alloc: Global, report: Report) -> Arg<'a>
+    ensures rule { rule_of result ≡ option_rule (report_name report) }
+    ensures local { result.global ≡ false }
+{
+    let name: &'a str = report.name();
+    let help: &'a str = report.help();
+    option(alloc, name, "FILE", help)
 }
 
 /// A word with one value: `--id VALUE`.

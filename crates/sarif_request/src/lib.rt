@@ -3,10 +3,10 @@
 
 mod clash;
 mod command;
-mod reports;
 mod request;
+mod wanted;
 mod words;
 
-pub use reports::Reports;
 pub use request::Request;
+pub use wanted::Wanted;
 pub use words::{WordsFault, read_words};

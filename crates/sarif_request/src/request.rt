@@ -2,7 +2,7 @@
 ghost use Rattle.std.specs.Prelude.{◌≡◌, [], ◌∷◌, IfOk, None, codes, false};
 ghost use Rattle.sarif_counts.specs.Policy.{default_policy};
 
-use crate::reports::Reports;
+use crate::wanted::Wanted;
 use sarif_counts::{Options, Policy};
 use sarif_model::Text;
 use sarif_streams::STANDARD;
@@ -20,8 +20,9 @@ pub struct Request {
     pub suppress: Option<Text>,
     /// Where the merged log goes; `-` is standard output.
     pub out: Text,
-    /// Where the reports go that were asked for; `-` is standard output.
-    pub reports: Reports<Text>,
+    /// The reports that were requested, in the order of `Report::ALL`, with the names of their files; `-` is standard
+    /// output.
+    pub reports: Vec<Wanted<Text>>,
     /// What the paths of reports are read without where they begin with it.
     pub root: Text,
     /// Whether a fault is explained.
@@ -36,6 +37,7 @@ impl Request {
     pub fn of_standard_streams(alloc: Global, seed: RandomState) -> Result<Request, AllocError>
         ensures logs { IfOk result (λ request. request.logs.items ≡ codes "-" ∷ []) }
         ensures out { IfOk result (λ request. request.out ≡ codes "-") }
+        ensures reports { IfOk result (λ request. request.reports.items ≡ []) }
         ensures workers { IfOk result (λ request. request.options.workers ≡ 1) }
         ensures policy { IfOk result (λ request. request.options.policy ≡ default_policy) }
         ensures today { IfOk result (λ request. request.options.today ≡ None) }
@@ -45,7 +47,7 @@ impl Request {
             baselines: Vec::new(alloc),
             suppress: None,
             out: Text::copy_of(alloc, STANDARD)?,
-            reports: Reports::none(),
+            reports: Vec::new(alloc),
             root: Text::copy_of(alloc, "")?,
             explain: false,
             options: Options {

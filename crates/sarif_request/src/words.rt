@@ -8,15 +8,15 @@ ghost use Rattle.sarif_request.specs.Words.{fail_on_in, is_set, reports_in, valu
 
 use crate::clash::{Clash, clash_of};
 use crate::command::{
-    BASELINE, EXPLAIN, FAIL_ON, GITHUB, GITLAB, HTML, LOG, MARKDOWN, MAX, OUT, ROOT, SUPPRESS,
-    TEXT, TODAY, WORKERS, command,
+    BASELINE, EXPLAIN, FAIL_ON, LOG, MAX, OUT, ROOT, SUPPRESS, TODAY, WORKERS, command,
 };
-use crate::reports::Reports;
 use crate::request::Request;
+use crate::wanted::Wanted;
 use clap::ArgMatches;
 use clap::error::ErrorKind;
 use sarif_counts::{Options, Policy};
 use sarif_model::{Level, Text};
+use sarif_reports::Report;
 use std::alloc::{AllocError, AllocFailed, Global};
 use std::hash::RandomState;
 
@@ -168,17 +168,18 @@ fn text_in(alloc: Global, matches: &ArgMatches<'_>, id: &str) -> Result<Text, Al
     Text::copy_of(alloc, matches.get_str(id).unwrap_or(""))
 }
 
-/// The names of the reports that are asked for.
-fn reports_of(alloc: Global, matches: &ArgMatches<'_>) -> Result<Reports<Text>, AllocError>
-    ensures { IfOk result (λ reports. reports ≡ reports_in (rows_of (found_of matches.now))) }
+/// Returns the reports that are requested, in the order in which they are written.
+fn reports_of(alloc: Global, matches: &ArgMatches<'_>) -> Result<Vec<Wanted<Text>>, AllocError>
+    ensures { IfOk result
+        (λ reports. reports.items ≡ reports_in (rows_of (found_of matches.now))) }
 {
-    Ok(Reports {
-        text: name_of(alloc, matches, TEXT)?,
-        github: name_of(alloc, matches, GITHUB)?,
-        markdown: name_of(alloc, matches, MARKDOWN)?,
-        gitlab: name_of(alloc, matches, GITLAB)?,
-        html: name_of(alloc, matches, HTML)?,
-    })
+    let mut reports = Vec::new(alloc);
+    for &report in Report::ALL {
+        if let Some(to) = name_of(alloc, matches, report.name())? {
+            reports.push(Wanted { report, to })?;
+        }
+    }
+    Ok(reports)
 }
 
 /// Whether a word with no value stands there.

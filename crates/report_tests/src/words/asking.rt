@@ -3,7 +3,8 @@
 use crate::words::seed;
 use sarif_counts::{Options, States};
 use sarif_model::{Level, Text};
-use sarif_request::{Reports, Request, WordsFault, read_words};
+use sarif_reports::Report;
+use sarif_request::{Request, WordsFault, read_words};
 use std::alloc::AllocError;
 use std::process::Abort;
 use std::test::Fail;
@@ -36,15 +37,6 @@ fn are_named(found: &[Text], names: &[&str]) -> bool {
     true
 }
 
-/// Whether no report is asked for.
-fn asks_for_none(reports: &Reports<Text>) -> bool {
-    reports.text.is_none()
-        && reports.github.is_none()
-        && reports.markdown.is_none()
-        && reports.gitlab.is_none()
-        && reports.html.is_none()
-}
-
 #[test]
 fn no_file_is_named_where_no_word_does(rt: HostRuntime) -> Result<(), Fail> {
     let request = accepted(&rt, "--out o a.sarif")?;
@@ -56,7 +48,7 @@ fn check_default_files(rt: &impl Abort, request: &Request) -> Result<(), Fail> {
     assert!(rt; request.baselines.is_empty());
     assert!(rt; request.suppress.is_none());
     assert!(rt; request.out.as_str() == "o");
-    assert!(rt; asks_for_none(&request.reports));
+    assert!(rt; request.reports.is_empty());
     assert!(rt; request.root.as_str() == "");
     assert!(rt; !request.explain);
     Ok(())
@@ -109,19 +101,27 @@ fn check_options(rt: &impl Abort, options: &Options) -> Result<(), Fail> {
 
 #[test]
 fn each_word_on_reports_is_read(rt: HostRuntime) -> Result<(), Fail> {
-    let line = "a --text t --github=g --markdown m --root file:///builds/app/ --gitlab - --html h \
+    let line = "a --html h --text t --github=g --markdown m --root file:///builds/app/ --gitlab - \
         --explain --out o";
     let request = accepted(&rt, line)?;
     check_reports(&rt, &request)
 }
 
+/// Each report with the name of its file, in the order in which reports are written.
+const NAMED: [(Report, &str); 5] = [
+    (Report::Text, "t"),
+    (Report::Github, "g"),
+    (Report::Markdown, "m"),
+    (Report::Gitlab, "-"),
+    (Report::Html, "h"),
+];
+
 fn check_reports(rt: &impl Abort, request: &Request) -> Result<(), Fail> {
-    let reports = &request.reports;
-    assert!(rt; is_named(&reports.text, "t"));
-    assert!(rt; is_named(&reports.github, "g"));
-    assert!(rt; is_named(&reports.markdown, "m"));
-    assert!(rt; is_named(&reports.gitlab, "-"));
-    assert!(rt; is_named(&reports.html, "h"));
+    assert_eq!(rt; request.reports.len(), NAMED.len());
+    for (wanted, (report, name)) in request.reports.iter().zip(NAMED.iter()) {
+        assert_eq!(rt; wanted.report, *report);
+        assert_eq!(rt; wanted.to.as_str(), *name);
+    }
     assert!(rt; request.root.as_str() == "file:///builds/app/");
     assert!(rt; request.explain);
     Ok(())
