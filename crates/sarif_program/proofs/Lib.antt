@@ -1,2 +1,4 @@
 pub mod Ended
+pub mod Made
 pub mod Quiet
+pub mod Written

@@ -1,5 +1,5 @@
 -- What the reports of a run are, and that they were written.
-use Rattle.std.specs.Prelude.{◌≡◌, ℕ, List, Option, Some, None, map, is_empty, if◌then◌else◌}
+use Rattle.std.specs.Prelude.{◌≡◌, ℕ, List, [], ◌∷◌, Option, Some, None, map}
 use Rattle.std.specs.Io.KnownBytes.{Appends}
 use Rattle.std.specs.List.{AllZip, sum_by}
 use Rattle.std.specs.declared.alloc.Global.{Global}
@@ -22,7 +22,8 @@ reporting_of request = record { policy = request.options.policy; root = request.
 
 -- what is told of a merge whose reports have these writers: nothing if there is no writer
 abbrev pub reporting_for : {W : Type 0} → Request → List (Wanted W) → Option Reporting
-reporting_for request writers = if is_empty writers then None else Some (reporting_of request)
+reporting_for request [] = None
+reporting_for request (writer ∷ others) = Some (reporting_of request)
 
 -- the text of a report of a merged log with these counts, of which this is told
 abbrev pub report_with : Request → Counts → Vec Finding Global → Report → List ℕ

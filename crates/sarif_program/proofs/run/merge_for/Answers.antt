@@ -14,8 +14,8 @@ pub returns-clause-reports : goal.returns-clause-reports
 returns-clause-reports g c =
     let request = c.args.request.now in
     let writers = c.args.writers.now in
-    IfOk-weaker c.merge_told.result _ (λ all. all.1.reports ≡ texts_for writers (report_for request all.0))
+    IfOk-weaker c.merge_told.result _ (λ all. all.1.reports.items ≡ texts_for writers (report_for request all.0))
     (λ all told.
-    subst (λ findings. all.1.reports ≡ texts_for writers (report_with request all.0.counts findings)) {x = told.1.now} {y = all.0.findings} told.4
-    (subst (λ counts. all.1.reports ≡ texts_for writers (report_with request counts told.1.now)) {x = told.0.now} {y = all.0.counts} told.3 (search rules)))
+    subst (λ findings. all.1.reports.items ≡ texts_for writers (report_with request all.0.counts findings)) {x = told.1.now} {y = all.0.findings} told.4
+    (subst (λ counts. all.1.reports.items ≡ texts_for writers (report_with request counts told.1.now)) {x = told.0.now} {y = all.0.counts} told.3 (search rules)))
     c.merge_told.ensures.told

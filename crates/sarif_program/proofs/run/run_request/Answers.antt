@@ -8,7 +8,6 @@ use Rattle.sarif_streams.specs.WereRead.{failures}
 use Rattle.sarif_program.specs.Reports.{report_for}
 use Rattle.sarif_program.specs.Writing.{writer_failures}
 use Rattle.sarif_program.proofs.Quiet.{quiet_status, no_rise, refused_rise}
-use Rattle.sarif_program.proofs.Taken.{taken_written}
 use Rattle.sarif_program.proofs.run.run_request.Goals as goal
 
 pub returns-in-Ok-clause-accepted : goal.returns-in-Ok-clause-accepted
@@ -21,7 +20,7 @@ returns-in-Ok-clause-accepted g c = λ low.
       c.accept.ensures.status low,
       c.in-Ok.ensures.merged,
       c.accept.ensures.written low,
-      taken_written g.P.Write.contents (report_for request merged) c.in-Ok.texts.reports old.reports new.reports c.in-Ok.ensures.reports (c.accept.ensures.reported low),
+      c.accept.ensures.reported low (report_for request merged) c.in-Ok.ensures.reports,
       subst (λ (text : List ℕ). Appends (g.S.Write.contents (inner_of old.say)) (g.S.Write.contents (inner_of new.say)) text)
           c.in-Ok.ensures.summary (c.accept.ensures.said low),
     )

@@ -1,0 +1,29 @@
+use Rattle.std.proofs.Common.{◌≡◌, ◌<◌, ◌^◌, ap, arith, get_or, rules}
+use Rattle.std.proofs.lemmas.Grind.{common_steps}
+use Rattle.std.proofs.lemmas.List.Elements.{All-get_or}
+use Rattle.sarif_streams.specs.Counted.{failed_calls}
+use Rattle.sarif_streams.proofs.ReadersRead.{same_at, same_after}
+use Rattle.sarif_program.proofs.Written.{taken_more}
+use Rattle.sarif_program.proofs.writing.put_reports.Goals as goal
+
+pub put_report-requires : goal.put_report-requires
+put_report-requires g c =
+    let i = c.loop-number.number in
+    let d = c.index-writers-number.result in
+    let given = c.args.writers.now in
+    let few : failed_calls (get_or given i d).to < 2 ^ 63 = All-get_or (λ wanted. failed_calls wanted.to < 2 ^ 63) given i d (omega arith) c.requires.room in
+    omega (arith, few, ap (λ wanted. failed_calls wanted.to) (same_at c.loop-number.writers given i d c.loop-number.invariant.left))
+
+pub loop-number-preserved : goal.loop-number-preserved
+loop-number-preserved g c =
+    let i = c.loop-number.number in
+    let d = c.index-writers-number.result in
+    let given = c.args.writers.now in
+    let now = c.loop-number.writers in
+    let writer = c.put_report.new.writer in
+    record {
+      left = same_after now given i writer c.loop-number.invariant.left;
+      taken = taken_more g.P.Write.contents c.args.texts.now given now i d writer c.index-texts-number.result
+          (omega arith) (omega arith) c.loop-number.invariant.left c.loop-number.invariant.taken (search rules) c.in_ok-put_report.ensures.same c.in_ok-put_report.ensures.taken;
+      quiet = grind (arith, common_steps, c.in_ok-put_report.ensures.counted, c.loop-number.invariant.quiet);
+    }

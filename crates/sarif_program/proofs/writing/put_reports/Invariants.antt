@@ -1,0 +1,12 @@
+use Rattle.std.proofs.Common.{◌≡◌, drop}
+use Rattle.sarif_program.specs.Reports.{report_failures}
+use Rattle.sarif_program.proofs.Written.{AreTakenTo}
+use Rattle.sarif_program.proofs.writing.put_reports.Given as goal
+
+-- the writers gone through took their texts, and the others are as they were
+abbrev pub invariant-loop-number : goal.invariant-loop-number
+invariant-loop-number g l = record {
+  left : drop l.number l.writers ≡ drop l.number l.fn.writers;
+  taken : AreTakenTo l.number g.P.Write.contents l.texts l.fn.writers l.writers;
+  quiet : report_failures l.writers ≡ report_failures l.fn.writers;
+}
