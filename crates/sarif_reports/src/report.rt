@@ -3,11 +3,6 @@ ghost use Rattle.std.specs.Prelude.{◌≡◌, ◌≤◌, IfOk, string_bytes};
 ghost use Rattle.sarif_counts.specs.Counts.{count_at};
 ghost use Rattle.sarif_reports.specs.Report.{report_name, report_of};
 
-use crate::github_lines::github_report;
-use crate::gitlab_array::gitlab_report;
-use crate::html_page::html_report;
-use crate::markdown_table::markdown_report;
-use crate::text_lines::text_report;
 use sarif_counts::{Counts, Policy};
 use sarif_findings::Finding;
 use std::alloc::{AllocError, Global};
@@ -94,10 +89,10 @@ pub fn report_text<R: Threads + Sync>(
         findings,
     } = *told;
     match report {
-        Report::Text => text_report(alloc, findings),
-        Report::Github => github_report(alloc, findings),
-        Report::Markdown => markdown_report(alloc, counts, policy, findings),
-        Report::Gitlab => gitlab_report(rt, alloc, findings, threads),
-        Report::Html => html_report(alloc, counts, policy, findings),
+        Report::Text => crate::text_report(alloc, findings),
+        Report::Github => crate::github_report(alloc, findings),
+        Report::Markdown => crate::markdown_report(alloc, counts, policy, findings),
+        Report::Gitlab => crate::gitlab_report(rt, alloc, findings, threads),
+        Report::Html => crate::html_report(alloc, counts, policy, findings),
     }
 }
