@@ -3,6 +3,9 @@
 //! requests for memory refused.
 #![tactic(auto)]
 
+mod collecting;
+mod gathering;
+mod mailing;
 mod matching;
 mod reading;
 mod suppressing;
@@ -12,12 +15,14 @@ use sarif_model::{Level, State};
 use std::alloc::{AllocError, Global};
 use std::hash::RandomState;
 use std::io;
+use std::sync::Wait;
+use std::thread::Threads;
 use suppressing::Asked;
 
 fn main(rt: HostRuntime) -> io::Result<()> {
     let seed = RandomState::new(&rt)?;
     for line in rt.lines(rt.alloc()) {
-        match line.and_then(|line| Ok(answer_to(rt.alloc(), seed, line.as_str())?)) {
+        match line.and_then(|line| Ok(answer_to(&rt, rt.alloc(), seed, line.as_str())?)) {
             Ok(answer) => println!(rt; "{answer}")?,
             Err(error) if error.kind() == io::ErrorKind::OutOfMemory => {
                 println!(rt; "OutOfMemory")?;
@@ -28,8 +33,29 @@ fn main(rt: HostRuntime) -> io::Result<()> {
     Ok(())
 }
 
-fn answer_to(alloc: Global, seed: RandomState, line: &str) -> Result<String, AllocError> {
+fn answer_to<R: Threads + Wait + Sync>(
+    rt: &R,
+    alloc: Global,
+    seed: RandomState,
+    line: &str,
+) -> Result<String, AllocError> {
     let (call, given) = line.split_once(' ').unwrap_or((line, ""));
+    match call {
+        "accept" => collecting::accept(alloc),
+        "collect" => collecting::collect_arrivals(alloc),
+        "settle" => mailing::settle(rt, alloc),
+        "gather" => gathering::gather_numbers(rt, alloc),
+        _ => answer_of_values(alloc, seed, call, given),
+    }
+}
+
+// What a call of the crates that know nothing of threads answers.
+fn answer_of_values(
+    alloc: Global,
+    seed: RandomState,
+    call: &str,
+    given: &str,
+) -> Result<String, AllocError> {
     match call {
         "read_log" => reading::runs_in_words(alloc, given),
         "strip" => reading::stripped(alloc, given),

@@ -1,7 +1,11 @@
 //! Merges SARIF 2.1.0 logs, and fails where too many new or updated results are left.
 #![tactic(auto)]
 
-ghost use Rattle.std.specs.Prelude.{◌≡◌, ◌≤◌, IfOk, IfErr, Result, map, string_bytes};
+ghost use Rattle.std.specs.Prelude.{◌≡◌, ◌≤◌, ◌<◌, ◌^◌, IfOk, IfErr, Result, map, string_bytes};
+ghost use Rattle.std.specs.List.{All};
+ghost use Rattle.sarif_streams.specs.Counted.{failed_calls};
+ghost use Rattle.sarif_streams.specs.OptionalReader.{failed_calls_if};
+ghost use Rattle.sarif_program.specs.Reports.{HaveRoom};
 ghost use Rattle.sarif_request.specs.Words.{Answers, words_status};
 ghost use Rattle.sarif_request.specs.declared.request.Request.{Request as Asked};
 ghost use Rattle.sarif_request.specs.declared.words.WordsFault.{WordsFault as Mistake};
@@ -11,11 +15,12 @@ mod outputs;
 mod sources;
 
 use explaining::Ended;
-use outputs::outputs_of;
+use outputs::{Outputs, outputs_of};
 use sarif_model::MergeFault;
 use sarif_program::{Complaint, Complaints, run_request, seed_of};
 use sarif_request::{Request, WordsFault, read_words};
-use sources::sources_of;
+use sarif_streams::Readers;
+use sources::{Source, sources_of};
 use std::alloc::AllocError;
 use std::hash::RandomState;
 use std::process::ExitCode;
@@ -99,24 +104,44 @@ fn merge_named<T: Threads + Wait + Sync>(
 {
     let mut readers = sources_of(rt, request)?;
     let mut writers = outputs_of(rt, request)?;
+    Ok(merge_streams(rt, threads, request, &mut readers, &mut writers))
+}
+
+/// Merges what the readers give into what the writers take, and returns the exit status. If `request.explain` is
+/// set, explains on standard error what stopped the merge. The caller owns and drops all streams.
+fn merge_streams<'a, T: Threads + Wait + Sync>(
+    rt: &'a HostRuntime,
+    threads: &T,
+    request: &Request,
+    readers: &mut Readers<Source<'a>>,
+    writers: &mut Outputs<'a>,
+) -> u8
+    requires logs { All (λ reader. failed_calls reader < 2 ^ 63) readers.old.logs.items }
+    requires baselines { All (λ reader. failed_calls reader < 2 ^ 63) readers.old.baselines.items }
+    requires suppressions { failed_calls_if readers.old.suppressions < 2 ^ 63 }
+    requires writes { failed_calls writers.old.out < 2 ^ 63 }
+    requires reports { HaveRoom writers.old.reports }
+    requires says { failed_calls writers.old.say < 2 ^ 63 }
+    ensures known { result ≤ 3 }
+{
     let mut complaints = Complaints::new(rt.stderr());
     let status = run_request(
         threads,
         rt.alloc(),
         request,
-        &mut readers,
-        &mut writers,
+        readers,
+        writers,
         &mut complaints,
     );
     if let (true, Some(complaint)) = (request.explain, complaints.last) {
         let ended = Ended {
             request,
-            readers: &readers,
-            writers: &writers,
+            readers: &*readers,
+            writers: &*writers,
         };
         ended.explain(rt, complaint);
     }
-    Ok(status)
+    status
 }
 
 /// Prints the help on standard output, and what is wrong with the words on standard error.
