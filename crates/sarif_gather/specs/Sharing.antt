@@ -5,6 +5,7 @@ use Rattle.std.specs.declared.alloc.Global.{Global}
 use Rattle.std.specs.declared.vec.Vec.{Vec}
 use denote.Ref.{Bor}
 use denote.Param.Members.{Shared}
+use Rattle.std.specs.Fn.{FnReturnsAt}
 
 module _ {F J U E : Type 0} (g : Shared F (J × Unit {0}) (Result U E)) (f : F) where
   -- f may be called with each of these
@@ -19,7 +20,7 @@ module _ {F T R : Type 0} (g : Shared F (ℕ × (Bor (List T) × Unit {0})) R) (
   -- f may be called with each part of xs, and with the place in xs where the part begins
   abbrev pub AcceptsParts : List T → Type 0
   AcceptsParts xs =
-      (before after : List T) (p : Bor (List T)) → before ++ p.now ++ after ≡ xs
+      (before after : List T) (p : Bor (List T)) → before ++ (p.now ++ after) ≡ xs
       → g.pre f (length before, (p, tt))
 
   -- r is what a call of f may give with this part, which begins there
@@ -40,15 +41,9 @@ module _ {F T U E : Type 0} (g : Shared F (Bor T × Unit {0}) (Result U E)) (f :
   abbrev pub AcceptsEachAt : List T → Type 0
   AcceptsEachAt xs = All (λ x. (p : Bor T) → p.now ≡ x → g.pre f (p, tt)) xs
 
-  -- u is what a call of f may give with a reference to x
-  pub record GivesAt (x : T) (u : U) : Type 0 where
-    pub shown : Bor T
-    pub shows : shown.now ≡ x
-    pub call : g.post f (shown, tt) (Ok u)
-
   -- each of these is what a call of f may give with the one at its place
   abbrev pub GivesEachAt : List T → List U → Type 0
-  GivesEachAt xs us = AllZip GivesAt xs us
+  GivesEachAt xs us = AllZip (λ x u. FnReturnsAt g f x (Ok u)) xs us
 
 -- all of these are lists, which make us behind one another
 abbrev pub AreJoined : {U E : Type 0} → List (Result (Vec U Global) E) → List U → Type 0

@@ -54,11 +54,13 @@ fn jobs_by<
     let others = threads - few;
     let later = jobs.split_off(jobs.len() / 2)?;
     let front = move || -> Result<Vec<U>, AllocError>
-        requires { IsSync R.row × IsSync F.row × IsSend J.row × IsSend U.row × AcceptsEach F.Fn one.now jobs.items }
+        requires { IsSync R.row × IsSync F.row × IsSend J.row × IsSend U.row
+            × AcceptsEach F.Fn one.now jobs.items }
         ensures { IfOk result (λ made. GivesEach F.Fn one.entry.now jobs.items made.items) }
     { jobs_by(rt, alloc, jobs, few, one) };
     let back = move || -> Result<Vec<U>, AllocError>
-        requires { IsSync R.row × IsSync F.row × IsSend J.row × IsSend U.row × AcceptsEach F.Fn one.now later.items }
+        requires { IsSync R.row × IsSync F.row × IsSend J.row × IsSend U.row
+            × AcceptsEach F.Fn one.now later.items }
         ensures { IfOk result (λ made. GivesEach F.Fn one.entry.now later.items made.items) }
     { jobs_by(rt, alloc, later, others, one) };
     let (first, second) = thread::join(rt, front, back);
@@ -112,7 +114,8 @@ pub fn share_parts<R: Threads + Sync, T: Sync, X: Send + Drop, F: Fn(usize, &[T]
 {
     let threads = worth(items.len(), sharing.threads, sharing.least);
     let size = part_size(items.len(), threads);
-    thread::map_chunks(sharing.rt, sharing.alloc, items, size, part)
+    let made = thread::map_chunks(sharing.rt, sharing.alloc, items, size, part)?;
+    Ok(made)
 }
 
 /// What `one` gives for each of these, one after another.
