@@ -8,13 +8,13 @@ use denote.Ref.{Bor}
 use denote.Param.Members.{Shared}
 use Rattle.std.proofs.lemmas.List.{take-append-drop, length-append, length-take-le, length-drop, get_or_append_left, get_or-append-add, drop-drop, map-append, take_more}
 use Rattle.std.proofs.lemmas.Grind.{flat_map-append}
-use Rattle.std.proofs.lemmas.Slice.Zip.{all_zipped_more}
+use Rattle.std.proofs.lemmas.Slice.Zip.{AllZip-map, all_zipped_more}
 use Rattle.std.specs.Prelude.{Result, Ok, min, slice_index_or}
 use Rattle.std.specs.declared.alloc.Global.{Global}
 use Rattle.std.specs.declared.vec.Vec.{Vec}
 use Rattle.std.specs.Fork.{AcceptsChunks, GivesChunk}
 use Rattle.std.specs.List.{AllZip, flat_map}
-use Rattle.sarif_gather.specs.Sharing.{AcceptsParts, AreJoined, GivesPart, GivesParts}
+use Rattle.sarif_gather.specs.Sharing.{AcceptsParts, AreJoined, GivesEach, GivesEachAt, GivesPart, GivesParts}
 
 -- how the number of chunks compares with the length
 pub spans : (count len size : ℕ) → 0 < size → count ≡ len / size + min 1 (len % size) → (len ≤ count * size) × (count * size < len + size)
@@ -129,3 +129,21 @@ part_within xs before part after k d whole below =
       omega (arith, ap length whole, inner, outer),
       sym (get_or_append_left part after d k below) ∙ sym (get_or-append-add before (part ++ after) k d) ∙ ap (λ l. slice_index_or l (length before + k) d) whole,
     )
+
+module _ {F T U E : Type 0} (g : Shared F (Bor T × Unit {0}) (Result U E)) (f : F) where
+  -- for a caller: what holds of what one call gives holds of what all give
+  pub each_holds : (R : T → U → Type 0) → ((p : Bor T) (u : U) → g.post f (p, tt) (Ok u) → R p.now u) → (xs : List T) (us : List U) → GivesEachAt g f xs us → AllZip R xs us
+  each_holds R one [] [] given = tt
+  each_holds R one [] (u ∷ us) given = absurd given
+  each_holds R one (x ∷ xs) [] given = absurd given
+  each_holds R one (x ∷ xs) (u ∷ us) given = (subst (λ y. R y u) given.0.shows (one given.0.shown u given.0.says.met), each_holds R one xs us given.1)
+
+  pub each_mapped : (v : T → U) → ((p : Bor T) (u : U) → g.post f (p, tt) (Ok u) → u ≡ v p.now) → (xs : List T) (us : List U) → GivesEachAt g f xs us → us ≡ map v xs
+  each_mapped v one xs us given = AllZip-map v xs us (each_holds (λ x u. u ≡ v x) one xs us given)
+
+module _ {F J U E : Type 0} (g : Shared F (J × Unit {0}) (Result U E)) (f : F) where
+  pub jobs_hold : (R : J → U → Type 0) → ((j : J) (u : U) → g.post f (j, tt) (Ok u) → R j u) → (js : List J) (us : List U) → GivesEach g f js us → AllZip R js us
+  jobs_hold R one [] [] given = tt
+  jobs_hold R one [] (u ∷ us) given = absurd given
+  jobs_hold R one (j ∷ js) [] given = absurd given
+  jobs_hold R one (j ∷ js) (u ∷ us) given = (one j u given.0, jobs_hold R one js us given.1)
