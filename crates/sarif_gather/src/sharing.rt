@@ -9,6 +9,7 @@ use std::thread;
 use std::thread::Threads;
 
 /// By what work is shared: at most `threads` threads, this one among them, of which each has at least `least` of it.
+#[derive(Drop)]
 pub struct Sharing<'r, R> {
     /// What starts threads.
     pub rt: &'r R,
