@@ -15,5 +15,6 @@ pub mod Places
 pub mod RunByRun
 pub mod Runs
 pub mod Settlements
+pub mod Sharings
 pub mod Tallies
 pub mod Wholes

@@ -15,4 +15,5 @@ pub mod Piece
 pub mod Pieces
 pub mod Senders
 pub mod Served
+pub mod Sharing
 pub mod Slot

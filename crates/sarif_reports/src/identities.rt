@@ -1,5 +1,5 @@
 //! What GitLab's fingerprints are made from, hashed in threads.
-ghost use Rattle.std.specs.Prelude.{◌≡◌, ◌≤◌, ◌++◌, map, string_bytes, IfOk, OnOk};
+ghost use Rattle.std.specs.Prelude.{◌≡◌, ◌++◌, map, string_bytes, IfOk, OnOk};
 ghost use Rattle.sha2.specs.Sha256.{sha256};
 ghost use Rattle.serde_json.specs.Written.{compact_text};
 ghost use Rattle.sarif_reports.specs.GitlabReport as said;
@@ -7,14 +7,14 @@ ghost use Rattle.sarif_reports.specs.GitlabParts.{quoted_text, identity_of, iden
 
 use crate::quoted::push_quoted;
 use sarif_findings::Finding;
+use sarif_gather::{Sharing, share_each};
 use sarif_model::Text;
 use sha2::{Digest, Sha256};
 use std::alloc::{AllocError, Global};
-use std::thread;
 use std::thread::Threads;
 
 /// Of fewer results a thread of their own is not worth its start.
-const FEWEST_SHARED: usize = 64;
+const LEAST_SHARED: usize = 32;
 
 /// The room that a text of one result is begun with, in bytes.
 const FIRST_ROOM: usize = 256;
@@ -76,54 +76,24 @@ fn identify(alloc: Global, finding: &Finding) -> Result<Identity, AllocError>
     Ok(Identity { text, first })
 }
 
-/// The identities of these results, one after another.
-fn identify_in_turn(alloc: Global, findings: &[Finding]) -> Result<Vec<Identity>, AllocError>
-    ensures { IfOk result (λ made. made.items ≡ map identity_with findings.now) }
-{
-    let mut made = Vec::new(alloc);
-    for finding in findings {
-        made.push(identify(alloc, finding)?)?;
-    }
-    Ok(made)
-}
-
-/// The first half of these results, and the others.
-#[tactic(auto, using(sarif_findings::proofs::ByHalves::half_steps))]
-fn halves(findings: &[Finding]) -> (&[Finding], &[Finding])
-    ensures { result.0.now ++ result.1.now ≡ findings.now }
-{
-    findings.split_at(findings.len() / 2)
-}
-
 /// The identities of these results, made in at most `threads` threads, this one among them.
-#[cycle(identities)]
-#[tactic(auto, using(sarif_findings::proofs::ByHalves::made_halves))]
 pub(crate) fn identities_of<R: Threads + Sync>(
     rt: &R,
     alloc: Global,
     findings: &[Finding],
     threads: u32,
 ) -> Result<Vec<Identity>, AllocError>
-    requires { 1 ≤ threads }
     ensures { IfOk result (λ made. made.items ≡ map identity_with findings.now) }
 {
-    if threads < 2 || findings.len() < FEWEST_SHARED {
-        return identify_in_turn(alloc, findings);
-    }
-    let few = threads / 2;
-    let others = threads - few;
-    let (low, high) = halves(findings);
-    let front = move || -> Result<Vec<Identity>, AllocError>
-        requires { 1 ≤ few }
-        ensures { IfOk result (λ made. made.items ≡ map identity_with low.entry.now) }
-    { identities_of(rt, alloc, low, few) };
-    let back = move || -> Result<Vec<Identity>, AllocError>
-        requires { 1 ≤ others }
-        ensures { IfOk result (λ made. made.items ≡ map identity_with high.entry.now) }
-    { identities_of(rt, alloc, high, others) };
-    let (first, second) = thread::join(rt, front, back);
-    let mut made = first?;
-    let mut rest = second?;
-    made.append(&mut rest)?;
+    let sharing = Sharing {
+        rt,
+        alloc,
+        threads,
+        least: LEAST_SHARED,
+    };
+    let one = |finding: &Finding| -> Result<Identity, AllocError>
+        ensures { IfOk result (λ made. made ≡ identity_with finding.now) }
+    { identify(alloc, finding) };
+    let made = share_each(&sharing, findings, &one)?;
     Ok(made)
 }

@@ -1,8 +1,8 @@
 use Rattle.std.proofs.Common.{◌+◌, ◌*◌}
-use Rattle.sarif_log.proofs.leftovers.+leftovers.Given as goal
+use Rattle.sarif_gather.proofs.sharing.+jobs.Given as goal
 
-abbrev pub decreases-draft_leftovers : goal.decreases-draft_leftovers
-decreases-draft_leftovers g l = 2 * l.threads
+abbrev pub decreases-jobs_by : goal.decreases-jobs_by
+decreases-jobs_by g l = 2 * l.threads
 
 abbrev pub decreases-front : goal.decreases-front
 decreases-front g l = 2 * l.few + 1
