@@ -26,7 +26,7 @@ REACH = """Math.max(...[...document.querySelectorAll('main *')].map(
 INPUTS = """[...document.querySelectorAll('input')].filter(
   it => it.getClientRects().length > 0).length"""
 
-# Texts of two cells of one row that overlap.
+# Two cells of one row whose contents overlap.
 OVERLAPS = """(() => {
   const found = [];
   const spans = cell => {
