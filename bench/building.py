@@ -1,10 +1,9 @@
-"""Building what bench/run measures.
+"""Builds what bench/run measures.
 
-The programs of bench/programs are no crates of the repository, so that its gate doesn't prove
-them: each is a file main.rattle, since rt ci wants every .rt file in a crate, beside a file
-`libraries` with what would stand for it in crates.txt. They are built in a repository of their own,
-in a temporary folder, over copies of the crates; what is built stays in bench/work/bin with a sum of
-all that it was made from.
+The programs of bench/programs are not crates of the repository, so rt ci doesn't prove them. Each is a file
+main.rattle, since rt ci requires that every .rt file is in a crate, with a file `libraries`, which has what
+crates.txt would list for it. They are built in their own repository in a temporary folder, with copies of the
+crates. The results stay in bench/work/bin, each with a checksum of everything that it was made from.
 """
 
 import hashlib
@@ -25,7 +24,7 @@ def sources(crate):
 
 
 def run_crate(folder, name):
-    """Proves and builds the program of a crate; where that fails, says why and ends."""
+    """Proves and builds the program of a crate. If that fails, prints the reason and exits."""
     ran = subprocess.run(
         ["rt", "run"],
         cwd=folder,
@@ -40,7 +39,7 @@ def run_crate(folder, name):
 
 
 def gate_program():
-    """The built sarif_gate, made anew where one of its sources is newer."""
+    """The built sarif_gate. It is built again if one of its sources is newer."""
     if "SARIF_GATE" in os.environ:
         return str(Path(os.environ["SARIF_GATE"]).resolve())
     crate = ROOT / "crates/sarif_gate"
@@ -53,7 +52,7 @@ def gate_program():
 
 
 def libraries_of(line, table):
-    """The repository's own crates below these libraries."""
+    """The repository's crates that these libraries need."""
     found = set()
     for name in line.split():
         if name in table:
@@ -68,7 +67,7 @@ def crates_table():
 
 
 def sum_of(folder, below):
-    """A sum of the kit, of the program and of the crates below it."""
+    """A checksum of the kit, the program and the crates that it needs."""
     kit = subprocess.run(["rt", "version"], capture_output=True, check=True).stdout
     found = hashlib.sha256(kit)
     files = [folder / "main.rattle", folder / "libraries"]

@@ -1,7 +1,7 @@
-"""What costly inputs take beside harmless ones, and how cost grows with each thing that can be many.
+"""Measures what costly inputs take compared with harmless ones, and how costs grow with each thing.
 
-Processor time and peak memory are measured, which hardly vary with what else the machine does; of
-several runs the least counts.
+It measures processor time and peak memory, which hardly depend on what else the machine does. The lowest of
+several runs counts.
 """
 
 import json
@@ -18,13 +18,13 @@ from shapes import SHAPES
 
 MAKER = Path(__file__).resolve().parent / "make_shape.py"
 BOUND = 2.0
-# Less than the program takes with hardly any input, and this script has, isn't told apart.
+# Values below those of the program with almost no input, and below those of this script, are not distinguished.
 LEAST_SECONDS, LEAST_BYTES = 0.02, 40_000_000
 
 
 @dataclass
 class Cost:
-    """The least of several runs."""
+    """The lowest values of several runs."""
 
     processor: float
     peak: int
@@ -32,7 +32,7 @@ class Cost:
 
 
 def costs_of(gate, row, times):
-    """The costs of the inputs of a row, a table with a name and a count, run in turns."""
+    """The costs of the inputs of a row, which is a table, a name and a count. They run in turn."""
     with tempfile.TemporaryDirectory(prefix="sarif_gate-costs-") as folder:
         words = [sys.executable, str(MAKER), *map(str, row), folder]
         subprocess.run(words, check=True)
@@ -48,7 +48,7 @@ def costs_of(gate, row, times):
 
 
 def quotients(cost, other):
-    """How many times the time and the memory of the other input it takes."""
+    """The ratios of time and memory to those of the other input."""
     time = max(cost.processor, LEAST_SECONDS) / max(other.processor, LEAST_SECONDS)
     memory = max(cost.peak, LEAST_BYTES) / max(other.peak, LEAST_BYTES)
     return time, memory
@@ -59,7 +59,7 @@ def heading(title, *columns):
 
 
 def show_costs(gate, scale, times):
-    """Prints a line a shape; what is over twice the harmless input's is marked."""
+    """Prints one line per shape, with a mark if it takes more than twice as much as the harmless input."""
     columns = ("many", 9), ("bytes", 12), ("ms", 8), ("beside", 8), ("MB", 7), ("beside", 8)
     heading("costs", *columns, ("time", 8), ("memory", 8))
     for name, (_, count) in SHAPES.items():

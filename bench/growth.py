@@ -1,4 +1,4 @@
-"""Inputs that hold many of one thing and little else, for how cost grows with it."""
+"""Inputs with many of one thing and little else, to measure how costs grow with it."""
 
 from shapes import Input, at, entries, log, message, run
 

@@ -3,7 +3,7 @@
 
 make_log.py SHAPE FOLDER [--scale S] [--seed N]
 
-It writes the files into FOLDER, and plan.json, which names them and tells what they hold.
+It writes the files and plan.json into FOLDER. plan.json names the files and says what they contain.
 """
 
 import argparse
@@ -24,7 +24,7 @@ WORDS = "call of value pointer buffer index without check before use after free 
 
 
 class Maker:
-    """A maker of results of about 1 KB, drawn by a seed."""
+    """Makes random results of about 1 KB from a seed."""
 
     def __init__(self, seed):
         self.rng = random.Random(seed)
@@ -48,7 +48,7 @@ class Maker:
         return [{"threadFlows": [{"locations": [step]}]}]
 
     def result(self, number):
-        """A third have fingerprints, a third partial ones, and a third a place alone."""
+        """A third have fingerprints, a third have partial fingerprints, and a third have only a place."""
         rule, location = self.rng.randrange(200), self.place()
         location["physicalLocation"]["region"]["snippet"] = {"text": f"    {self.text(12)}\n"}
         prints = [
@@ -83,7 +83,7 @@ class Maker:
         ]
 
     def results(self, size):
-        """Texts of results, of about so many bytes."""
+        """Results as strings, with about this number of bytes in all."""
         found, length = [], 0
         while length < size:
             found.append(compact(self.result(len(found))))
@@ -96,7 +96,7 @@ def compact(value):
 
 
 def log_of(results, rules, runs=RUNS):
-    """The text of a log of these texts of results, dealt to its runs in order."""
+    """A log as a string, with these results distributed to its runs in order."""
     tool = compact({"driver": {"name": "bench", "version": "1.0.5", "rules": rules}})
     share = -(-len(results) // runs)
     parts = [results[at : at + share] for at in range(0, len(results), share)]
@@ -137,13 +137,13 @@ class Plan:
 
 
 def first(plan, maker, scale):
-    """One log of 20 runs."""
+    """One log with 20 runs."""
     results = maker.results(LOG_BYTES * scale)
     plan.log(log_of(results, maker.rules(200)), len(results))
 
 
 def rules(plan, maker, scale):
-    """As many rules, overrides of them in another order, and results of them, of one run."""
+    """One run with equal numbers of rules, of overrides in another order, and of results."""
     count = int(100_000 * scale)
     order = list(range(count))
     maker.rng.shuffle(order)
@@ -169,7 +169,7 @@ def rules(plan, maker, scale):
 
 
 def aged(maker, results):
-    """The results some days later: of ten one is moved, dropped or followed by a new one."""
+    """The results some days later: one in ten is moved, dropped or followed by a new one."""
     found = []
     for number, text in enumerate(results):
         change = maker.rng.randrange(30)
@@ -185,7 +185,7 @@ def aged(maker, results):
 
 
 def pair(plan, maker, scale):
-    """A log of 20 runs, and the same log of some days before as its baseline."""
+    """A log with 20 runs, and the same log some days earlier as its baseline."""
     before = maker.results(LOG_BYTES * scale)
     tables, current = maker.rules(200), aged(maker, before)
     plan.baseline(log_of(before, tables), len(before))
@@ -201,7 +201,7 @@ def many(plan, maker, scale):
 
 
 def names(plan, maker, scale):
-    """Results with a fingerprint name of their own each, on both sides, in opposite orders."""
+    """Results that each have their own fingerprint name, on both sides, in opposite orders."""
     count = int(20_000 * scale)
     results = [
         compact(
@@ -218,7 +218,7 @@ def names(plan, maker, scale):
 
 
 def entry(maker, number, result):
-    """An entry that names this result by what it has; of ten, two match nothing."""
+    """An entry that names this result by its members. Two in ten match nothing."""
     uri = result["locations"][0]["physicalLocation"]["artifactLocation"]["uri"]
     if number % 10 == 0:
         found = {"guid": f"{maker.rng.getrandbits(128):032x}"}
@@ -235,7 +235,7 @@ def entry(maker, number, result):
 
 
 def entries(plan, maker, scale):
-    """Ten thousand entries of a suppression file over a log of 20,000 results."""
+    """A suppression file with 10,000 entries, and a log with 20,000 results."""
     results = maker.results(20_000_000 * scale)
     plan.log(log_of(results, maker.rules(200)), len(results))
     chosen = maker.rng.choices(results, k=max(1, int(10_000 * scale)))
@@ -244,7 +244,7 @@ def entries(plan, maker, scale):
 
 
 def prefixes(plan, maker, scale):
-    """Ten thousand entries that name a prefix alone over a log of 20,000 results."""
+    """A suppression file with 10,000 entries that name only a prefix, and a log with 20,000 results."""
     results = maker.results(20_000_000 * scale)
     plan.log(log_of(results, maker.rules(200)), len(results))
     count = max(1, int(10_000 * scale))

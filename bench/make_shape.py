@@ -1,11 +1,11 @@
 #!/usr/bin/env python3
-"""Makes the inputs of a row of the tables of bench/run: files, and words that merge them.
+"""Makes the inputs of a row in the tables of bench/run: files, and arguments that merge them.
 
 make_shape.py costs|growth NAME COUNT FOLDER
 
-Of costs that is the costly input and its twin, of growth half as many of a thing and as many. The
-files stand in FOLDER, and plan.json there has of each input its words and its size. It is a program
-of its own, so that the memory which the texts take isn't counted for what is measured.
+For costs, the inputs are the costly one and its twin. For growth, they are half the number of a thing and the
+full number. FOLDER gets the files and plan.json, which has the arguments and the size of each input. This is a
+separate program, so that the memory for making the inputs isn't measured.
 """
 
 import json

@@ -1,4 +1,4 @@
-"""Running a program once, and what that took."""
+"""Runs a program once and measures it."""
 
 import os
 import tempfile
@@ -11,7 +11,7 @@ WORK = Path(__file__).resolve().parent / "work"
 
 @dataclass
 class Run:
-    """What one run of a program took."""
+    """The costs of one run of a program."""
 
     wall: float
     processor: float
@@ -19,7 +19,7 @@ class Run:
 
 
 def measure(words, given, out):
-    """Runs the words with the file `given` as standard input, its output going to `out`."""
+    """Runs a command with the file `given` as standard input and the file `out` as output."""
     with tempfile.TemporaryFile() as said:
         ran, status = spawned(words, given or os.devnull, out, said.fileno())
         if os.waitstatus_to_exitcode(status) not in (0, 1):
@@ -30,7 +30,7 @@ def measure(words, given, out):
 
 
 def spawned(words, given, out, said):
-    """Runs the words with these as standard streams: what it took, and how it ended."""
+    """Runs a command with these standard streams. Returns its costs and how it ended."""
     flags = os.O_WRONLY | os.O_CREAT | os.O_TRUNC
     streams = [os.open(given, os.O_RDONLY), os.open(out, flags, 0o644)]
     actions = [

@@ -1,8 +1,8 @@
-"""Inputs that could cost more than their bytes, each beside a harmless one of the same size.
+"""Inputs that could cost more than their bytes, each with a harmless twin of the same size.
 
-A shape makes both of a number: the costly input and its twin, which has as many results and nearly
-the same length. What many results share in the one stands in a member that isn't read in the other;
-what asks for much work in the one asks for little in the other.
+A shape makes two inputs for a number: the costly one and its twin, which has the same number of results and
+nearly the same length. What many results share in the costly input is in a member of the twin that isn't read.
+What causes much work in the costly input causes little in the twin.
 """
 
 import json
@@ -10,8 +10,8 @@ from dataclasses import dataclass, field
 from typing import Optional
 
 LONG = "n" * 100_000
-# Names that begin so, and go on with eight digits and this end, have one hash in the kit's tables
-# where their seed is its default.
+# Names that begin like this, with eight digits and this ending, have the same hash in the kit's tables
+# if the tables have their default seed.
 SAME_HASH = "p9zdi529cnqp5de7tP_z'E{$", "/v1/v1/v1/v1/v1/"
 OTHER_HASH = "another-beginning-of-it_", "/v1/v1/v1/v1/v1/"
 REPORTS = "text", "github", "markdown", "gitlab", "html"
@@ -19,7 +19,7 @@ REPORTS = "text", "github", "markdown", "gitlab", "html"
 
 @dataclass
 class Input:
-    """What a merge is given."""
+    """The inputs of a merge."""
 
     logs: list
     baselines: list = field(default_factory=list)
@@ -28,7 +28,7 @@ class Input:
     are_reported: bool = False
 
     def files(self, folder):
-        """Writes the files: the words that merge them."""
+        """Writes the files. Returns the arguments that merge them."""
         words = ["--workers", str(self.workers), "--today", "20250131"]
         for number, text in enumerate(self.baselines):
             words += ["--baseline", put(folder / f"baseline{number}", text)]
@@ -75,7 +75,7 @@ def placed(**location):
     return {"locations": [{"physicalLocation": {"artifactLocation": location}}]}
 
 
-# ---- A long text that many results share
+# ---- A long string that many results share
 
 
 def tool_name(count):
@@ -169,7 +169,7 @@ def equal_objects(count):
 
 
 def entries_by(condition, guid="00000000-0000-0000-0000-{:012}"):
-    """Five results an entry, entries that match none by this condition, beside as many by guid."""
+    """Five results per entry, with entries that match no result by this condition, compared with as many by GUID."""
 
     def make(count):
         results = [
@@ -190,7 +190,7 @@ def entries_by(condition, guid="00000000-0000-0000-0000-{:012}"):
 
 
 def entries_beginning(count):
-    """Results at one long uri, entries that name nearly its beginnings, beside as many by guid."""
+    """Results at one long URI, with entries that nearly name its prefixes, compared with as many by GUID."""
     results = [placed(index=0)] * count
     text = log(run(results, artifacts=[{"location": {"uri": LONG}}]))
     lengths = range(10, 3_000, 10)
@@ -204,7 +204,7 @@ def entries_beginning(count):
 
 
 def overrides_of_nothing(count):
-    """Overrides that name no rule that there is, beside overrides of the rules."""
+    """Overrides of rules that don't exist, compared with overrides of the rules."""
     rules = [{"id": f"R{i}"} for i in range(count)]
     results = [{"ruleIndex": i, "provenance": {"invocationIndex": 0}} for i in range(count)]
     for letter in "XR":
@@ -217,7 +217,7 @@ def overrides_of_nothing(count):
 
 
 def overrides_of_one(count):
-    """Overrides of one rule, of which the first counts, beside one of each rule."""
+    """Overrides of one rule, of which only the first applies, compared with one override per rule."""
     rules = [{"id": f"R{i}"} for i in range(count)]
     for is_one in (True, False):
         results = [
@@ -233,7 +233,7 @@ def overrides_of_one(count):
 
 
 def invocations(count):
-    """An invocation a result, beside one of all."""
+    """One invocation per result, compared with one for all."""
     found = [{"executionSuccessful": True}] * count
     for is_one in (False, True):
         results = [{"provenance": {"invocationIndex": 0 if is_one else i}} for i in range(count)]
@@ -241,7 +241,7 @@ def invocations(count):
 
 
 def extensions(count):
-    """A component a result, beside one of all."""
+    """One component per result, compared with one for all."""
     driver = {"name": "t", "rules": []}
     found = [{"name": f"e{i}", "rules": [{"id": "R"}]} for i in range(count)]
     for is_one in (False, True):
@@ -254,7 +254,7 @@ def extensions(count):
 
 
 def equal_rules(count):
-    """Rules of one id, of which the first is found, beside rules of different ids."""
+    """Rules with one id, of which the first is found, compared with rules with different ids."""
     for is_one in (True, False):
         names = ["R00000" if is_one else f"R{i:05}" for i in range(count)]
         rules = [{"id": it} for it in names]
@@ -265,14 +265,14 @@ def equal_rules(count):
 
 
 def equal_results(count):
-    """Equal results on both sides, beside different ones."""
+    """Equal results on both sides, compared with different ones."""
     for is_one in (True, False):
         text = log(run([message(f"{0 if is_one else i:06}", ruleId="R") for i in range(count)]))
         yield Input([text], [text])
 
 
 def equal_prints(count):
-    """Results of one fingerprint and different messages, beside a fingerprint each."""
+    """Results with one fingerprint and different messages, compared with one fingerprint per result."""
     for is_one in (True, False):
         sides = [
             log(
@@ -293,7 +293,7 @@ def equal_prints(count):
 
 
 def many_names(count):
-    """Fingerprints that are all in conflict, beside ones that agree."""
+    """Fingerprints that are all in conflict, compared with ones that agree."""
     for other in "ba":
         sides = [
             log(
@@ -312,7 +312,7 @@ def many_names(count):
 
 
 def arguments(count):
-    """A message of many arguments on both sides, beside a list that isn't read."""
+    """A message with many arguments on both sides, compared with a list that isn't read."""
     words = [f"{i}" for i in range(count)]
     for result in (
         {"message": {"id": "m", "arguments": words}},
@@ -326,7 +326,7 @@ def arguments(count):
 
 
 def told_rule(count):
-    """Results that name the last of as many rules by its id, beside ones that name the first."""
+    """Results that name the last of as many rules by its id, compared with ones that name the first."""
     rules = [{"id": f"R{i:06}"} for i in range(count)]
     for number in (count - 1, 0):
         results = [{"ruleId": f"R{number:06}"}] * count
@@ -334,7 +334,7 @@ def told_rule(count):
 
 
 def told_path(count):
-    """Results at one artifact with a long uri, beside one of as much as is shown."""
+    """Results at one artifact with a long URI, compared with a URI of the length that is shown."""
     for location in ({"uri": LONG}, {"uri": LONG[:1001], "x": LONG}):
         results = [placed(index=0)] * count
         text = log(run(results, artifacts=[{"location": location}]))
@@ -342,7 +342,7 @@ def told_path(count):
 
 
 def told_message(count, texts=(LONG + "{0}", LONG[:1001] + "{0}"), argument="a"):
-    """Results with one long message of their rule, beside one of as much as is shown."""
+    """Results with one long message of their rule, compared with a message of the length that is shown."""
     for text, other in (texts, texts[::-1]):
         rule = {"id": "R", "messageStrings": {"m": {"text": text, "x": other}}}
         result = {"ruleIndex": 0, "message": {"id": "m", "arguments": [argument]}}
@@ -350,7 +350,7 @@ def told_message(count, texts=(LONG + "{0}", LONG[:1001] + "{0}"), argument="a")
 
 
 def told_nothing(count):
-    """The same of a message of placeholders that nothing stands for, beside ones that stay."""
+    """Results with a message of placeholders that become empty, compared with placeholders that stay."""
     yield from told_message(count, ("{0}" * 33_000, "{1}" * 33_000), "")
 
 
@@ -358,26 +358,26 @@ def told_nothing(count):
 
 
 def fractions(count):
-    """Numbers with a fraction, which are dropped with their members, beside whole ones."""
+    """Numbers with a fraction, which are dropped with their members, compared with integers."""
     for number in (1.5, 125):
         yield Input([log(run([message(properties={f"m{i}": number for i in range(count)})]))])
 
 
 def fractions_in_lists(count):
-    """The same in lists."""
+    """Numbers with a fraction in lists, compared with integers."""
     for number in (1.5, 125):
         yield Input([log(run([message(properties={"m": [[number]] * count})]))])
 
 
 def reversed_members(count):
-    """Members against the order of their names, beside ones in it."""
+    """Members in the reverse order of their names, compared with members in order."""
     for order in (-1, 1):
         members = {f"m{i:06}": i for i in range(count)[::order]}
         yield Input([log(run([message(properties=members)]))])
 
 
 def repeated_members(count):
-    """Members of one name, of which the last counts, beside members of different names."""
+    """Members with one name, of which the last counts, compared with members with different names."""
     for is_one in (True, False):
         members = ",".join(f'"m{0 if is_one else i:06}":{i}' for i in range(count))
         text = log(run([message(properties={"x": 0})]))
@@ -385,7 +385,7 @@ def repeated_members(count):
 
 
 def depth(count):
-    """Values nested 115 deep, beside lists of as many brackets."""
+    """Values nested 115 deep, compared with lists with the same number of brackets."""
     for value in ("[" * 115 + "]" * 115, "[" + "[]," * 76 + "]"):
         value = value.replace(",]", "]")
         text = log(run([message(properties={"x": 0})] * (count // 115)))
@@ -393,7 +393,7 @@ def depth(count):
 
 
 def escapes(count):
-    """A text of escapes, beside one of plain characters."""
+    """A string of escapes, compared with one of plain characters."""
     for text in ("\\u0001", "\\\\\\n\\t"):
         whole = log(run([message("TEXT")])).replace("TEXT", text * count)
         yield Input([whole])
@@ -403,32 +403,32 @@ def escapes(count):
 
 
 def runs_by_64(count):
-    """Runs of one result by 64 workers, beside one."""
+    """Many runs with one result each, with 64 workers, compared with one worker."""
     text = log(*[run([{}]) for _ in range(count)])
     for workers in (64, 1):
         yield Input([text], workers=workers)
 
 
 def sources(count):
-    """Logs of a run each, beside one log of as many runs."""
+    """Logs with one run each, compared with one log with as many runs."""
     yield Input([log(run([{}] * 20))] * count)
     yield Input([log(*[run([{}] * 20)] * count)])
 
 
-# A maker of a costly input and its twin, and the size at which they are measured.
+# The function that makes a costly input and its twin, and the size at which they are measured.
 SHAPES = {
-    # Tool names, rule ids, uris and their bases of 100,000 bytes, which many results share.
+    # Tool names, rule ids, URIs and their bases of 100,000 bytes, which many results share.
     "tool_name": (tool_name, 20_000),
     "rule_id": (rule_id, 20_000),
     "artifact_uri": (artifact_uri, 20_000),
     "artifact_base": (artifact_base, 20_000),
     "shared_texts": (shared_texts, 20_000),
     "tool_and_names": (tool_and_names, 20_000),
-    # Names of one hash.
+    # Names with the same hash.
     "colliding_names": (colliding_names, 20_000),
     "colliding_rules": (colliding_rules, 20_000),
     "colliding_entries": (colliding_entries, 10_000),
-    # Entries, by the one condition that they name.
+    # Entries, by their only condition.
     "entry_of_names": (entry_of_names, 20_000),
     "own_suppressions": (own_suppressions, 100_000),
     "equal_objects": (equal_objects, 50_000),
@@ -451,7 +451,7 @@ SHAPES = {
     "equal_prints": (equal_prints, 20_000),
     "many_names": (many_names, 20_000),
     "arguments": (arguments, 100_000),
-    # What reports tell of results that share it.
+    # Long strings that reports show for many results.
     "told_rule": (told_rule, 20_000),
     "told_path": (told_path, 20_000),
     "told_message": (told_message, 20_000),

@@ -36,15 +36,15 @@ def found():
 
 
 class Trouble(Exception):
-    """The browser answered nothing, or that it can't."""
+    """The browser returned nothing, or an error."""
 
 
 class Browser:
-    """A running browser; what it tells without being asked is kept in `told`."""
+    """A running browser. `told` has the events that it sends by itself."""
 
     def __init__(self, command, folder):
         commands, answers = os.pipe(), os.pipe()
-        # The browser reads commands from 3 and writes answers to 4.
+        # The browser reads commands from descriptor 3 and writes responses to descriptor 4.
         shell = 'exec 3<&"$1" 4>&"$2"; shift 2; exec "$@"'
         ends = [str(commands[0]), str(answers[1])]
         words = [command, *FLAGS, f"--user-data-dir={folder}", "about:blank"]
@@ -61,7 +61,7 @@ class Browser:
         self.number, self.left, self.told = 0, b"", []
 
     def ask(self, method, session=None, **given):
-        """The answer to a command."""
+        """Returns the response to a command."""
         self.number += 1
         asked = {"id": self.number, "method": method, "params": given}
         asked |= {"sessionId": session} if session else {}
@@ -77,12 +77,12 @@ class Browser:
             self.told.append(heard)
 
     def wait(self, method):
-        """Hears until this was told."""
+        """Reads messages until this event has come."""
         while not any(it.get("method") == method for it in self.told):
             self.told.append(self.hear())
 
     def hear(self):
-        """The next message."""
+        """Returns the next message."""
         end = time.monotonic() + SECONDS
         while b"\0" not in self.left:
             ready, _, _ = select.select([self.answers], [], [], max(0, end - time.monotonic()))
@@ -108,7 +108,7 @@ class Browser:
 
 
 class Page:
-    """A page in a tab of its own, as wide as told, in light or dark, with no script run."""
+    """A page in its own tab, with the given width, in light or dark colours, without running its scripts."""
 
     def __init__(self, browser, file, width=1280, height=900, scheme="light", media="screen"):
         self.browser, self.width = browser, width
@@ -132,14 +132,14 @@ class Page:
         return self.browser.ask(method, self.session, **given)
 
     def tells(self, script):
-        """What a script of the test, which isn't the page's, tells of the page."""
+        """Returns the value of a script of the test, run on the page."""
         told = self.ask("Runtime.evaluate", expression=script, returnByValue=True)
         if "exceptionDetails" in told:
             raise Trouble(f"{script[:80]}: {told['exceptionDetails'].get('text')}")
         return told["result"].get("value")
 
     def asked_for(self):
-        """The addresses that the page asked for, and what the browser complained of."""
+        """The addresses that the page requested, and the errors that the browser reported."""
         heard = [(it.get("method"), it.get("params", {})) for it in self.browser.told]
         named = [it["request"]["url"] for name, it in heard if name == "Network.requestWillBeSent"]
         return named, [it["entry"]["text"] for name, it in heard if name == "Log.entryAdded"]
@@ -157,7 +157,7 @@ class Page:
             self.ask("Input.dispatchKeyEvent", type=kind, **keys, **more)
 
     def named(self):
-        """What a screen reader is told: the role and the name of each part."""
+        """What a screen reader gets: the role and the name of each part."""
         self.ask("Accessibility.enable")
         nodes = self.ask("Accessibility.getFullAXTree")["nodes"]
         spoken = [it for it in nodes if not it.get("ignored")]
@@ -166,7 +166,7 @@ class Page:
         ]
 
     def picture(self):
-        """A picture of what is seen."""
+        """A picture of the page."""
         return base64.b64decode(self.ask("Page.captureScreenshot", format="png")["data"])
 
     def close(self):

@@ -1,9 +1,9 @@
-"""What the program is given and what it must answer: the cases of tests/run and of tests/compare.
+"""The cases of tests/run and tests/compare: what the program gets and what it must do.
 
-A case is a command with its files; what it must write stands beside it, bytes where they are known
-whole, else a check of what was written. The groups `first` and `rules` have one log on standard
-input, the second with rules, overrides and artifacts; `usage` has words that ask for no merge, and
-all others have words that do.
+A case is a command with its files. Its expected output is in the same place: bytes if they are known
+completely, otherwise a check of the output. The groups `first` and `rules` have one log on standard
+input; those of `rules` have rules, overrides and artifacts. `usage` has arguments that don't lead to a
+merge, and all other groups have arguments that do.
 """
 
 import json
@@ -18,7 +18,7 @@ FULL = "/dev/full"
 
 @dataclass
 class Answer:
-    """What a program answered: its status, its two streams and the file that it was to write, and what
+    """The result of a program: its exit status, its two streams, the file that it had to write, and what
     was wrong in its folder."""
 
     status: int
@@ -30,11 +30,11 @@ class Answer:
 
 @dataclass
 class Case:
-    """A command, and what it must answer; None stands for what isn't looked at.
+    """A command and its expected result. None means that a part isn't checked.
 
-    `prepare` makes what else stands in the folder, and what it answers is handed to `look`, which looks at
-    the folder afterwards. The words in `beside` are those of further programs that run at the same time.
-    Where root runs a case of `is_nobody`, the program runs as nobody, whom modes forbid what they say.
+    `prepare` creates other files in the folder. Its return value is passed to `look`, which checks the folder
+    afterwards. `beside` has the arguments of programs that run at the same time. If root runs a case with
+    `is_nobody`, the program runs as the user nobody, so that file modes apply.
     """
 
     group: str
@@ -62,7 +62,7 @@ class Case:
         return replace(self, group=group)
 
     def faults(self, answer):
-        """What is wrong in an answer, a line each."""
+        """What is wrong in a result, one line per error."""
         wrong = []
         if answer.status != self.status:
             said = answer.stderr.decode(errors="replace").strip()
@@ -101,7 +101,7 @@ def run(name, *results, **members):
 
 
 def bare(count):
-    """A log of so many results without members."""
+    """A log with this number of results without members."""
     return log(run("b", 0)).replace(b"[0]", b"[" + b",".join([b"{}"] * count) + b"]")
 
 
@@ -116,7 +116,7 @@ def ruled(**members):
 
 
 def at(uri, **members):
-    """The members of a result at a uri."""
+    """The members of a result at a URI."""
     place = {"physicalLocation": {"artifactLocation": {"uri": uri}}}
     return {"locations": [place], **members}
 
@@ -134,7 +134,7 @@ NOTHING = {
 def gate(
     verdict="pass", hits=0, fail_on="error", most=0, without=0, unused=0, suppressed=None, **active
 ):
-    """The gate object whose counts are these, in the order error, warning, note, none."""
+    """The gate object with these counts, in the order error, warning, note, none."""
     counts = json.loads(json.dumps(NOTHING))
     for side, given in (("active", active), ("suppressed", suppressed or {})):
         for state, numbers in given.items():
@@ -152,7 +152,7 @@ def gate(
 
 
 def merged(gate, *runs):
-    """The text of a merged log of these runs, whose members stand in the order of their names."""
+    """A merged log with these runs, as a string. Members are in the order of their names."""
     return text({"properties": {"gate": gate}, "runs": list(runs), "version": "2.1.0"})
 
 
@@ -190,7 +190,7 @@ def line(fault):
 
 
 def refused(fault):
-    """What a case has that is refused with this fault, and its status."""
+    """The members of a case that is rejected with this cause, and its exit status."""
     status = 3 if fault.endswith(("ReadFailed", "WriteFailed")) else 2
     return {"stdout": b"", "stderr": line(fault), "status": status}
 

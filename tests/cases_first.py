@@ -1,4 +1,4 @@
-"""Cases of one log on standard input, by a program without words."""
+"""Cases with one log on standard input, for a program without arguments."""
 
 from cases import *
 
@@ -89,7 +89,7 @@ def accepted():
 
 
 def faults():
-    """A reading and a record of each fault, by a change of one log."""
+    """Each cause of the readings and of a record, by a change of one log."""
     result = [
         ({"baselineState": "absent"}, "AbsentInput"),
         ({"kind": "bad"}, "BadKind"),

@@ -1,7 +1,7 @@
 """Cases of malformed logs, limits, and files that can't be read or written.
 
-Limits of runs, faults of each member, devices, links, modes and limits on a file's size are cases
-of tests/run.
+tests/run has further cases: limits of runs, errors in each member, devices, links, modes and limits
+of a file's size.
 """
 
 import os
@@ -17,7 +17,7 @@ MOST_RESULTS = 1_000_000
 
 
 def hostile(name, words, **wanted):
-    """Words on a file `a` over an old output."""
+    """Arguments for a file `a`, with an old output."""
     files = {"o": OLD, **wanted.pop("files", {})}
     return Case("hostile", name, words, files=files, **wanted)
 
@@ -36,7 +36,7 @@ SOURCES = ("log 0", "baseline 0", "suppressions")
 
 
 def prefixes():
-    """The first bytes of a text, for each number of them."""
+    """Each prefix of a string, as bytes."""
     file = rules({"ruleId": "R1"})
     for name, whole, parts in (
         ("the smallest log", SMALLEST, SOURCES[:2]),
@@ -52,7 +52,7 @@ def prefixes():
 
 
 def not_utf8():
-    """Bytes that are no UTF-8, in a message and in a reason."""
+    """Bytes that are not UTF-8, in a message and in a justification."""
     rows = {
         "a byte ff": b"\xff",
         "a byte c0": b"\xc0\x80",
@@ -74,7 +74,7 @@ def not_utf8():
 
 
 def nested(depth):
-    """A log of one result with arrays nested so deep in its properties."""
+    """A log with one result, with arrays nested to this depth in its properties."""
     return ONE.replace(b'"m"}', b'"m"},"properties":{"deep":' + b"[" * depth + b"]" * depth + b"}")
 
 
@@ -107,7 +107,7 @@ def deep():
 
 
 def long():
-    """Sources at their limit and past it, and sources that never end."""
+    """Sources at their limit and above it, and sources that never end."""
     for part in SOURCES:
         for count, cause in ((LIMIT, "NotJson"), (LIMIT + 1, "TooLong")):
             fault = refused(f"{part}: {cause}")
@@ -132,7 +132,7 @@ def long():
 
 
 def many():
-    """As many results as there may be, of one log and of all."""
+    """The maximum number of results, in one log and in all."""
     counted = MOST_RESULTS
     result = b'{"baselineState":"new","level":"warning","suppressions":[]}'
     empty = merged(gate(new=[0, counted, 0, 0]), written("b", 0))
@@ -166,7 +166,7 @@ def many():
 
 
 def forbidden(name):
-    """Prepares a file of that name that nobody may read."""
+    """Prepares a file of that name that the user nobody can't read."""
 
     def prepare(folder):
         (folder / name).chmod(0)
@@ -175,7 +175,7 @@ def forbidden(name):
 
 
 def stands(names, holds=None):
-    """Looks that these stand in the folder `there`, and what `o` there holds."""
+    """Checks that these names are in the folder `there`, and the contents of its file `o`."""
 
     def look(folder, kept):
         (folder / "there").chmod(0o755)
@@ -189,7 +189,7 @@ def stands(names, holds=None):
 
 
 def permissions():
-    """What modes forbid."""
+    """What file modes forbid."""
     words = {
         "log 0": ["--out", "o", "a", "b"],
         "log 1": ["--out", "o", "b", "a"],

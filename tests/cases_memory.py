@@ -1,4 +1,4 @@
-"""Cases that are run with requests for memory refused: what the program does on small files."""
+"""Cases that run with failing allocations: what the program does on small files."""
 
 from cases import *
 from cases_output import OLD, linked
@@ -53,7 +53,7 @@ OLD_OUTPUT = {"o": OLD}
 
 
 def memory(name, logs, workers, old=OLD_OUTPUT, more=(), **wanted):
-    """A merge of these logs over an old output."""
+    """A merge of these logs, with an old output."""
     words = ["--workers", str(workers), *more]
     given = merging("memory", f"{name}, {counted(workers)}", logs, more=words, **wanted)
     given.files.update(old)

@@ -1,4 +1,4 @@
-"""Cases of how the merged log is written: whole, or what stood there stands."""
+"""Cases of how the merged log is written: completely, or not at all."""
 
 import os
 import stat
@@ -17,7 +17,7 @@ def output(name, words=("--out", "o", "a"), **wanted):
 
 
 def alone(*names):
-    """Looks that no other files stand in the folder than those that were there, and these."""
+    """Checks that the folder has only these files and those that were there before."""
 
     def look(folder, kept):
         found = sorted(it.name for it in folder.iterdir())
@@ -68,7 +68,7 @@ def modes():
 
 
 def linked(target, folder=None):
-    """Prepares a link to this as the output, and a folder where one is named."""
+    """Prepares a link to this as the output, and a folder if one is named."""
 
     def prepare(at):
         if folder:
@@ -79,7 +79,7 @@ def linked(target, folder=None):
 
 
 def still_links(target, holds, whole=ONE_MERGED):
-    """Looks that the link stands, and that what it leads to is the merged log."""
+    """Checks that the link is unchanged, and that its target is the merged log."""
 
     def look(folder, kept):
         wrong = [] if os.readlink(folder / "o") == target else ["the link was replaced"]
@@ -176,7 +176,7 @@ def stands(name, whole):
 
 def folders():
     words = ["--out", "there/o", "a"]
-    # What a mode forbids isn't forbidden to root.
+    # File modes don't apply to root.
     if os.geteuid() != 0:
         yield output(
             "a folder that can't be written",

@@ -1,4 +1,4 @@
-"""Cases of the words for reports: files, standard streams, what can't be written, explanations."""
+"""Cases of the options for reports: files, standard streams, outputs that can't be written, explanations."""
 
 import re
 import stat
@@ -16,13 +16,13 @@ NONE_MERGED = merged(gate(), written("lint"))
 
 
 def one(name, words, **wanted):
-    """Words on a file `a` that holds one warning."""
+    """Arguments for a file `a` that has one warning."""
     files = {"a": ONE, **wanted.pop("files", {})}
     return Case(wanted.pop("group", "words"), name, list(words), files=files, **wanted)
 
 
 def holds(wanted, absent=(), reports=OF_ONE):
-    """Looks that these files hold these bytes, or the report of a kind, and no other is there."""
+    """Checks that exactly these files exist, each with these bytes or with the report of that name."""
 
     def look(folder, kept):
         wrong = []
@@ -49,7 +49,7 @@ def reported(*kinds):
 
 
 def spoken(kind):
-    """Checks that a report stands on standard output, and the summary after it."""
+    """Checks that standard output has a report and then the summary."""
 
     def check(answer):
         if not answer.stdout.endswith(ONE_SUMMARY):
@@ -107,11 +107,11 @@ def streams():
     )
 
 
-# ---- Words that are refused
+# ---- Invalid arguments
 
 
 def wrong(name, words, files=()):
-    """Words that are bad usage: nothing is written."""
+    """Invalid arguments: nothing is written."""
     given = {"b": OLD, "s": OLD, **dict.fromkeys(files, OLD)}
     return one(
         f"{name}: {' '.join(words)}",
@@ -178,7 +178,7 @@ def names_words(answer):
 
 
 def failing(number, name, file, old=False, **more):
-    """The report of this number goes into a file that can't be written, the others into theirs."""
+    """The report with this number is written to a file that can't be written, the others to their own files."""
     kind = KINDS[number]
     words = [word for it in KINDS for word in (f"--{it}", file if it == kind else it)]
     olds = dict.fromkeys(KINDS, OLD) if old else {}
@@ -311,7 +311,7 @@ NAMES = ("file", "where", "line", "column", "found", "wanted", "system", "advice
 
 
 def explains(fault, **wanted):
-    """Checks the fault line, and that lines of known names follow it in order, with these texts."""
+    """Checks the error line, and that the lines of an explanation follow it in order, with these strings."""
 
     def check(answer):
         lines = answer.stderr.decode().split("\n")

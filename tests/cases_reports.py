@@ -1,4 +1,4 @@
-"""Cases of the five reports: what each says of a merged log, held to the reference."""
+"""Cases of the five reports: each report of a merged log, compared with the reference."""
 
 import json
 import random
@@ -17,7 +17,7 @@ ROOT_FOLDER = "file:///src/"
 
 @dataclass
 class Reporting(Case):
-    """A merge that is asked for all five reports."""
+    """A merge that writes all five reports."""
 
     policy: Policy = field(default_factory=Policy)
     logs: list = field(default_factory=list)
@@ -58,7 +58,7 @@ class Reporting(Case):
         ] + (self.beside_kept(folder) if self.kept else [])
 
     def beside_kept(self, folder):
-        """Whether the reports are those that are kept with the examples."""
+        """Returns whether the reports are those of the examples."""
         found = {kind: (folder / kind).read_bytes() for kind in KINDS if (folder / kind).is_file()}
         return [
             f"{kind}, beside {kept_name(self.kept, kind)}: {difference(wanted, found.get(kind))}"
@@ -81,7 +81,7 @@ def kept_name(name, kind):
 
 
 def every_report():
-    """Words for all reports, each into a file of its name."""
+    """Arguments for all reports, each in a file of its name."""
     return [word for kind in KINDS for word in (f"--{kind}", kind)]
 
 
@@ -109,7 +109,7 @@ def of_examples(name, logs, baselines=(), **given):
 
 
 def kept():
-    """The merges whose reports stand in examples/reports."""
+    """The merges whose reports are in examples/reports."""
     for name, given in KEPT:
         yield of_examples(f"{name}, as it is kept", kept=name, **given)
 
@@ -181,7 +181,7 @@ def many():
 
 
 def drawn(seed, count):
-    """So many drawn logs."""
+    """This number of random logs."""
     for number in range(count):
         rng = random.Random(f"reports {seed} {number}")
         makes = hostile.Drawn(rng)

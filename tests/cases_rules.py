@@ -1,4 +1,4 @@
-"""Cases of rules, levels and places, of one log on standard input."""
+"""Cases of rules, levels and places, with one log on standard input."""
 
 from cases import *
 
@@ -8,7 +8,7 @@ def rule(name, level=None):
 
 
 def linted(result, driver=(), extensions=None, **members):
-    """A log of one result over these rules."""
+    """A log with one result and these rules."""
     tool = {"driver": {"name": "lint", "rules": list(driver)}}
     if extensions is not None:
         tool["extensions"] = extensions

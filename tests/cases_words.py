@@ -1,10 +1,10 @@
-"""Cases of the program's words: files, exit statuses, many logs and workers."""
+"""Cases of the program's arguments: files, exit statuses, many logs and workers."""
 
 from cases import *
 
 
 def merging(group, name, logs, baselines=(), suppress=None, more=(), **wanted):
-    """A merge of these logs, by files and words."""
+    """A merge of these logs, as files and arguments."""
     files = {f"log{number}": given for number, given in enumerate(logs)}
     words = []
     for number, given in enumerate(baselines):
@@ -18,7 +18,7 @@ def merging(group, name, logs, baselines=(), suppress=None, more=(), **wanted):
 
 
 def one(name, words, **wanted):
-    """Words on a file `a` that holds one warning."""
+    """Arguments for a file `a` that has one warning."""
     return Case("words", name, words, files={"a": ONE, **wanted.pop("files", {})}, **wanted)
 
 
@@ -56,7 +56,7 @@ def gates():
 
 
 def usual(name, words, **wanted):
-    """Words that are read and answered without a merge."""
+    """Arguments that don't lead to a merge."""
     return Case("usage", name, words, files={"a": ONE}, **wanted)
 
 
@@ -197,7 +197,7 @@ def files():
 
 
 def many():
-    """Limits and the order of faults over several logs."""
+    """Limits and the order of errors, with several logs."""
     half = log(*[run("b")] * 6_000)
     yield merging("many", "two logs of 6,000 runs each", [half, half], **refused("log 1: TooMany"))
     whole = log(*[run("b")] * 10_000)

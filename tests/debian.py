@@ -1,4 +1,4 @@
-"""Programs of Debian that tests use where they are there."""
+"""Programs from Debian that tests use if they are available."""
 
 import shutil
 import subprocess
@@ -8,7 +8,7 @@ NEEDS = Path(__file__).resolve().parent / "needs"
 
 
 def had(name):
-    """The path of this program, which is installed where it is missing and may be; else None."""
+    """The path of this program, or None. It is installed if it is missing and root runs the test."""
     if shutil.which(name) is None and NEEDS.is_file():
         subprocess.run([NEEDS, name], capture_output=True)
     return shutil.which(name)

@@ -1,7 +1,7 @@
-"""Runs whose calls on files fail in turn, or which are ended by a signal at one of them.
+"""Runs in which each call on files fails in turn, or a signal ends the program at that call.
 
-Of each run it is looked at what it answered and what it left: the old output or the whole merged
-log, and beside them nothing, unless the program was ended.
+Each run is checked for its result and for the files that it leaves: the old output or the complete merged
+log, and no other file, unless the program was killed.
 """
 
 import signal
@@ -20,7 +20,7 @@ LARGE = log(run("lint", *[ruled()] * 300))
 
 
 def rows():
-    """A case, with the lines of faults that some of its runs must answer."""
+    """A case, with the error lines that some of its runs must print."""
     parts = {"baselines": [BEFORE], "suppress": ENTRIES, "more": DAY, "status": 1}
     yield memory("a merge over an old output", [NOW, NOW], 4, **parts), [*UNREAD, LOST]
     link = {"prepare": linked("there/p", folder="there"), "old": {}}
@@ -33,12 +33,12 @@ def told(ran):
 
 
 def wrong(ran, after, calm, left, before):
-    """What is wrong with the answer of a run one of whose calls failed, beside the undisturbed one."""
+    """What is wrong with a run in which a call failed, compared with the undisturbed run."""
     if after == left and told(ran) == told(calm):
         return None
     if after == before and ran.status == 3 and not ran.stdout and ran.stderr in [*UNREAD, LOST]:
         return None
-    # The summary or the fault's line wasn't taken.
+    # The summary or the error line couldn't be written.
     is_lost = calm.stdout.startswith(ran.stdout) and calm.stderr.startswith(ran.stderr)
     if after == left and is_lost and ran.status == (3 if calm.stdout else calm.status):
         return None
@@ -46,7 +46,7 @@ def wrong(ran, after, calm, left, before):
 
 
 def each_call_fails(command, room, preloaded, wanted):
-    """Runs in which the first, the second and each further call fails alone."""
+    """Runs in which only the first, only the second or only a further call fails."""
     calm, left = room.run(command, preloaded, Refusal("files"))
     faults, said = [], set()
     for first in range(1, calm.made + 1):
@@ -59,7 +59,7 @@ def each_call_fails(command, room, preloaded, wanted):
 
 
 def each_call_ends(command, room, preloaded, number):
-    """Runs that are ended by this signal at the first, the second and each further call."""
+    """Runs that this signal ends at the first, the second or a further call."""
     calm, left = room.run(command, preloaded, Refusal("files"))
     faults, begun = [], 0
     for first in range(1, calm.made + 1):
@@ -92,7 +92,7 @@ def ways(wanted):
 
 
 def checks(command, preloaded):
-    """A name and the faults of each row in each way."""
+    """A name and the errors of each row in each way."""
     for case, wanted in rows():
         for name, way in ways(wanted):
             with tempfile.TemporaryDirectory() as folder:

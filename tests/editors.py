@@ -1,4 +1,4 @@
-"""Whether editors and problem matchers take the text report of the examples."""
+"""Checks that editors and problem matchers read the text report of the examples."""
 
 import json
 import re
@@ -17,7 +17,7 @@ LINE = re.compile(r"(.+?):([0-9]+)(?::([0-9]+))?: (.*)")
 
 
 def quickfix(file):
-    """What Vim's quickfix list takes of a file by its default errorformat, or None without Vim."""
+    """Vim's quickfix list for a file with the default errorformat, or None without Vim."""
     vim = had("vim")
     if vim is None:
         return None
@@ -32,7 +32,7 @@ def quickfix(file):
 
 
 def in_vim(name, file):
-    """What is wrong with the list that Vim takes of a report, or None without Vim."""
+    """What is wrong with Vim's list for a report, or None without Vim."""
     found = quickfix(file)
     if found is None:
         return None
@@ -65,7 +65,7 @@ def by_matcher(name, file):
 
 
 def checks():
-    """The name of each check, and what is wrong; None where it can't be made."""
+    """The name of each check and what is wrong, or None if the check can't run."""
     for name, _ in KEPT:
         file = EXAMPLES / "reports" / kept_name(name, "text")
         yield f"Vim's quickfix list of {name}", in_vim(name, file)

@@ -1,4 +1,4 @@
-"""Logs whose texts try to break out of a report: lines, commands, tags, cells, unseen marks."""
+"""Logs whose strings try to break out of a report: lines, commands, tags, cells, invisible characters."""
 
 from cases import log, run
 from reference_reports import HIDDEN
@@ -139,13 +139,13 @@ OTHERS = [None, True, 0, "", "text", [], {}, [None], {"text": 1}, {"text": None}
 
 
 def named(text, uri="a.c", **members):
-    """A result with this message at a uri."""
+    """A result with this message at a URI."""
     place = {"artifactLocation": {"uri": uri}, "region": {"startLine": 3, "startColumn": 5}}
     return {"message": {"text": text}, "locations": [{"physicalLocation": place}], **members}
 
 
 def everywhere(text):
-    """A log that holds a text wherever a report reads one."""
+    """A log with this string in each place that a report reads."""
     strings = {text: {"text": text}}
     rules = [{"id": text, "helpUri": f"https://example.org/{text}", "messageStrings": strings}]
     results = [
@@ -160,7 +160,7 @@ def everywhere(text):
 
 
 def placed():
-    """A log with each uri, by itself and by way of an artifact."""
+    """A log with each URI, directly and through an artifact."""
     artifacts = [{"location": {"uri": uri}} for uri in URIS]
     places = [{"artifactLocation": {"index": number}} for number in range(len(URIS))]
     by_index = [{"locations": [{"physicalLocation": it}]} for it in places]
@@ -168,7 +168,7 @@ def placed():
 
 
 def linked():
-    """A log with each address of a rule's page."""
+    """A log with each address of a rule's help page."""
     rules = [{"id": f"R{number}", "helpUri": link} for number, link in enumerate(LINKS)]
     rules += [{"id": "", "helpUri": LINKS[0]}, {"id": "R", "name": "no page"}]
     results = [named("m", ruleIndex=number) for number in range(len(rules))]
@@ -187,7 +187,7 @@ def numbered():
 
 
 def spoken():
-    """A log whose messages are looked up in each way, past members of other kinds."""
+    """A log whose messages are looked up in each way, with members of other types before them."""
     strings = {"own": {"text": "own {0}"}, "both": {"text": "rule's"}, "": {"text": "empty"}}
     strings |= {"odd": 1, "deep": {"text": [1]}}
     shared = {"both": {"text": "component's"}, "global": {"text": "global {0} {{"}}
@@ -213,7 +213,7 @@ def spoken():
 
 
 def alike():
-    """A log with results that show the same, some of them only once they are shown."""
+    """A log with results that look the same in a report, some of them only there."""
     texts = ["a", "a", "a\n", "a ", "a", "b", "a" * 1_001, "a" * 1_002, "", "(no message)"]
     results = [named(text, uri) for text in texts for uri in ("a.c", "a.c", "%61.c", "", "a\nc")]
     messages = [{"text": text} for text in texts]
@@ -234,17 +234,17 @@ def levelled():
 
 
 def many(count):
-    """A log of so many results over a few files."""
+    """A log with this number of results in a few files."""
     levels = ("error", "warning", "note", "none")
     results = [named(f"m{it}", f"{it // 3}.c", level=levels[it % 4]) for it in range(count)]
     return log(run("lint", *results))
 
 
-# ---- Drawn logs
+# ---- Random logs
 
 
 class Drawn:
-    """A maker of logs that a merge accepts; `rng` decides."""
+    """Makes random logs that a merge accepts, with the generator `rng`."""
 
     def __init__(self, rng):
         self.rng = rng
@@ -253,7 +253,7 @@ class Drawn:
         return self.rng.random() < part
 
     def text(self):
-        """One of the texts, or some in a row, none so long that all are."""
+        """One of the strings, or several in a row."""
         if self.chance(0.5):
             return self.rng.choice(TEXTS)
         return "".join(self.rng.choice(TEXTS)[:60] for _ in range(self.rng.randint(1, 5)))

@@ -1,5 +1,5 @@
-"""Small seeded inputs of a merge: logs, baselines and suppression files over a few texts, so that
-they match, collide and clash often. Where the chance `wrong` isn't 0 a member may be of any kind.
+"""Small random inputs of a merge: logs, baselines and suppression files over a few strings, so that
+they often match, collide and clash. If the chance `wrong` isn't 0, a member may have any type.
 """
 
 import json
@@ -26,7 +26,7 @@ TEXTS = ["", "a", "A", "é", "\U0001f600", "\uffff", "\0\x1f\x7f", '"\\/', "\b\f
 
 
 class Raw:
-    """A value that is written as this text."""
+    """A value that is written as this string."""
 
     def __init__(self, text):
         self.text = text
@@ -41,8 +41,8 @@ LONE = [
 
 
 class Inputs:
-    """A maker of inputs; `rng` decides, `wrong` is the chance of a wrong member, `has_rules` allows
-    rules, invocations, artifacts and what refers to them."""
+    """Makes inputs with the generator `rng`. `wrong` is the chance of a wrong member. `has_rules` allows
+    rules, invocations, artifacts and references to them."""
 
     def __init__(self, rng, wrong=0.0, has_rules=True):
         self.rng, self.wrong, self.has_rules = rng, wrong, has_rules
@@ -54,7 +54,7 @@ class Inputs:
         return self.rng.choice(values)
 
     def count(self, *weights):
-        """A number from 0 by these weights."""
+        """A number from 0 with these weights."""
         return self.rng.choices(range(len(weights)), weights)[0]
 
     def junk(self):
@@ -67,7 +67,7 @@ class Inputs:
         return self.junk() if self.chance(self.wrong) else right()
 
     def members(self, *given):
-        """An object of some of these members: a name, its chance and its maker; null at times."""
+        """An object with some of these members, each a name, a chance and a maker. It is null at times."""
         found = {}
         for name, part, right in given:
             if self.chance(part):
@@ -78,7 +78,7 @@ class Inputs:
         return found
 
     def anything(self, depth):
-        """A value that a merge carries over as it is, but for its fractions."""
+        """A value that a merge copies, except for its fractions."""
         kind = self.count(3, 3, 3, 2, depth, depth)
         if kind < 4:
             return self.any([WHOLE, FRACTIONS, TEXTS, [True, False, None]][kind])
@@ -104,7 +104,7 @@ class Inputs:
         return {"version": version, "runs": runs, "$schema": "s", "rank": self.any(FRACTIONS)}
 
     def run(self, is_baseline):
-        """A run; its tables come first, so that what refers to them mostly stays within."""
+        """A run. Its tables come first, so that most references to them are valid."""
         self.rules_of, self.artifacts, self.invocations = [0], 0, 0
         results = self.list([1, 4, 6, 4, 2, 1], lambda: self.result(is_baseline))
         tables = [
@@ -162,13 +162,13 @@ class Inputs:
         return self.members(("uri", 0.8, self.one(URIS)), base, ("index", 0.2, self.one(WHOLE)))
 
     def within(self, size):
-        """An index of a table of this size, or -1."""
+        """An index into a table of this size, or -1."""
         if self.chance(self.wrong):
             return self.any([size, size + 1, -2])
         return self.rng.randrange(size) if size and self.chance(0.9) else self.any([-1, Raw("0.0")])
 
     def reference(self):
-        """What refers to a rule, of the driver or an extension: an index or an id."""
+        """A reference to a rule of the driver or of an extension: an index or an id."""
         component = self.rng.randrange(len(self.rules_of))
         holder = {"index": component - 1} if component else {}
         return self.members(
@@ -280,7 +280,7 @@ class Inputs:
     # ---- the text of a value
 
     def text(self, value):
-        """Bytes of the value, at times with spaces, escapes, an order mark or a double member."""
+        """The bytes of the value, at times with spaces, escapes, a byte order mark or a repeated member."""
         spoken = self.spoken(value, self.chance(0.3)).encode("utf-8", "surrogatepass")
         spoken = b"\xef\xbb\xbf" * self.chance(0.1) + spoken
         return self.broken(spoken) if self.chance(self.wrong / 2) else spoken

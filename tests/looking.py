@@ -1,4 +1,4 @@
-"""What a browser shows of the page of a merge: width, colours, boxes, and what is read aloud."""
+"""What a browser shows for the page of a merge: width, colours, boxes, and what is read aloud."""
 
 import json
 import struct
@@ -10,7 +10,7 @@ LEVELS = ("error", "warning", "note", "none")
 SEEN = """[...document.querySelectorAll('tr[data-level]')].map(it => [
   it.dataset.level, it.dataset.state, it.dataset.hit, it.getClientRects().length > 0])"""
 
-# The middle of the box of each label, where it stands now.
+# The current position of the middle of the box of each label.
 BOXES = """[...document.querySelectorAll('label')].map(it => {
   const box = it.querySelector('input').getBoundingClientRect();
   return [it.textContent.trim(), box.x + box.width / 2, box.y + box.height / 2];
@@ -19,14 +19,14 @@ BOXES = """[...document.querySelectorAll('label')].map(it => {
 TICKED = """[...document.querySelectorAll('label')].map(it => [
   it.textContent.trim(), it.querySelector('input').checked])"""
 
-# The widest that anything reaches to the right, within what the page shows.
+# The rightmost position of anything that the page shows.
 REACH = """Math.max(...[...document.querySelectorAll('main *')].map(
   it => it.getBoundingClientRect().right))"""
 
 INPUTS = """[...document.querySelectorAll('input')].filter(
   it => it.getClientRects().length > 0).length"""
 
-# Texts of two cells of one row that lie upon each other.
+# Two cells of one row whose contents overlap.
 OVERLAPS = """(() => {
   const found = [];
   const spans = cell => {
@@ -46,7 +46,7 @@ OVERLAPS = """(() => {
   return found;
 })()"""
 
-# Each pair of colours of a text and of what it stands on, and a text that has them.
+# Each pair of colours of a text and of its background, and a text that has them.
 COLOURS = """(() => {
   const found = {};
   const walker = document.createTreeWalker(document.body, NodeFilter.SHOW_TEXT);
@@ -86,7 +86,7 @@ def contrast(pair):
     return (most + 0.05) / (least + 0.05)
 
 
-# ---- Looks at a page: each gives what is wrong
+# ---- Checks of a page: each returns what is wrong
 
 
 def called(name, look):
@@ -95,7 +95,7 @@ def called(name, look):
 
 
 def is_alone(page, file):
-    """Nothing but the page was asked for, and the browser complains of nothing."""
+    """Checks that only the page was requested, and that the browser reports no error."""
     named, said = page.asked_for()
     wrong = [f"it asks for {it}" for it in named if it != file.resolve().as_uri()]
     return wrong + [f"the browser says {it}" for it in said]
@@ -127,12 +127,12 @@ def is_readable(page, file):
 
 
 def is_apart(page, file):
-    """No text lies upon another."""
+    """Checks that no text overlaps another."""
     return [f"upon each other: {it}" for it in page.tells(OVERLAPS)[:5]]
 
 
 def pictured(page, folder, name):
-    """Takes a picture, and tells whether it is as wide as the page."""
+    """Takes a picture, and checks that it is as wide as the page."""
     taken = page.picture()
     if folder is not None:
         (folder / f"{name}.png").write_bytes(taken)
@@ -141,7 +141,7 @@ def pictured(page, folder, name):
 
 
 def is_spoken(rows):
-    """A screen reader is told of two tables with names, headings and cells, and of the boxes."""
+    """Checks that a screen reader gets two tables with names, headings and cells, and the boxes."""
 
     def look(page, file):
         named = page.named()
@@ -174,14 +174,14 @@ def tick(page, name):
 
 
 def displayed(row, boxes):
-    """Whether a row is to be seen by what is ticked."""
+    """Returns whether a row must be visible with these boxes ticked."""
     level, state, hit, _ = row
     is_hit = hit == "yes" or not boxes.get("hits only", False)
     return is_hit and boxes.get(level, True) and boxes.get(state, True)
 
 
 def filters(page, file):
-    """Each box, and some together, by mouse; one by keyboard. No script of the page runs."""
+    """Ticks each box, and some together, by mouse, and one by keyboard. No script of the page runs."""
     wrong = judged(page, "at first")
     names = list(ticked(page))
     for name in names:
@@ -210,7 +210,7 @@ def judged(page, when):
 
 
 def is_printed(rows):
-    """On paper all rows stand on white, without boxes, though the screen is dark."""
+    """Checks that on paper all rows are on white, without boxes, even if the screen is dark."""
 
     def look(page, file):
         wrong = ["the ground isn't white"] * (light(page.tells(GROUND)) < 0.99)

@@ -1,4 +1,4 @@
-"""Reads the page of a merge, strictly, and tells what is wrong with it by itself."""
+"""Reads the page of a merge strictly, and checks it without other files."""
 
 from html.parser import HTMLParser
 
@@ -13,7 +13,7 @@ REFERENCES = {"#39": "'", "#x27": "'", "#34": '"', "#x22": '"', "#38": "&", "#60
 
 
 class Element:
-    """An element that was begun, with the text that stood in it."""
+    """An element that was begun, with its text."""
 
     def __init__(self, name, given):
         self.name, self.given = name, given
@@ -24,7 +24,7 @@ class Element:
         return "".join(self.parts)
 
     def all(self, *names):
-        """The elements of these names in it, in order, at every depth."""
+        """The elements with these names in it, in order, at every depth."""
         for it in self.within:
             if it.name in names:
                 yield it
@@ -157,7 +157,7 @@ class PageReader(HTMLParser):
             wrong += ["a heading without scope"] * (not cells or not set(cells) <= {"col", "row"})
         return wrong
 
-    # ---- What it tells
+    # ---- Its contents
 
     def rows(self):
         """The rows of results, as the reference has them, and what is wrong with them."""
@@ -177,7 +177,7 @@ class PageReader(HTMLParser):
         return found, wrong
 
     def counts(self):
-        """The numbers of the first table, by their states."""
+        """The numbers of the first table, by state."""
         table = self.top.first("table")
         rows = [it for it in table.all("tr") if it.first("td")]
         return {row.first("th").text: [int(it.text) for it in row.all("td")] for row in rows}
@@ -195,7 +195,7 @@ class PageReader(HTMLParser):
         return self.top.first("body").text.rpartition(rows[-1].text)[2]
 
     def boxes(self):
-        """The names of what can be picked, by their labels."""
+        """The names of the boxes, by label."""
         return [it.text.strip() for it in self.top.all("label") if it.first("input")]
 
 
@@ -206,13 +206,13 @@ def walked(element):
 
 
 def is_escaped(text):
-    """Whether each `&` begins one of the entities."""
+    """Returns whether each `&` begins one of the entities."""
     names = [f"{it};" for it in (*ENTITIES, *REFERENCES)]
     return all(part.startswith(tuple(names)) for part in text.split("&")[1:])
 
 
 def page_faults(source, reports):
-    """What is wrong with a page, by itself and beside the reference's reports."""
+    """What is wrong with a page, by itself and compared with the reference's reports."""
     page = PageReader(source)
     wrong = page.faults()
     if wrong:

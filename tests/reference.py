@@ -1,9 +1,9 @@
 #!/usr/bin/env python3
 """A second merger of SARIF 2.1.0 logs, in plain Python, for tests/compare.
 
-It follows the rules of reading, matching, suppressing, merging and counting sentence by sentence,
-with none of the program's code behind it and no thought of speed, so that a slip in either shows as
-a difference. It takes the program's words and answers its output, its lines and its status.
+It follows the rules of reading, matching, suppressing, merging and counting sentence by sentence. It shares no
+code with the program and is not written for speed, so that a mistake in either shows as a difference. It takes
+the program's arguments and has the same output, lines and exit status.
 """
 
 import os
@@ -25,14 +25,14 @@ STATUSES = ("accepted", "underReview", "rejected")
 
 
 class Refused(Exception):
-    """A merge is refused: the place that its line names, and the cause."""
+    """A merge is rejected: the place that its line names, and the cause."""
 
     def __init__(self, place, cause):
         super().__init__(f"{place}: {cause}" if place else cause)
         self.status = 3 if cause in ("ReadFailed", "WriteFailed") else 2
 
 
-# ---- Members by kind: null counts as absent
+# ---- Members by type: null is treated as missing
 
 
 def is_whole(value):
@@ -40,7 +40,7 @@ def is_whole(value):
 
 
 def of_kind(holder, name, kind, cause):
-    """The member `name` where it is of this kind, None where it is absent, else the fault."""
+    """Returns the member `name` if it has this type, or None if it is missing. Otherwise raises the error."""
     value = holder.get(name)
     if value is not None and not isinstance(value, kind):
         raise Fault(cause)
@@ -62,7 +62,7 @@ def objects(holder, name, cause):
 
 
 def index(holder, name):
-    """A whole number from -1, which means absent, to 2^32 - 1."""
+    """An integer from -1, which means missing, to 2^32 - 1."""
     value = holder.get(name)
     if value is None:
         return None
@@ -72,7 +72,7 @@ def index(holder, name):
 
 
 def texts(holder, name, cause):
-    """An object whose values are texts or null; those that are null count as absent."""
+    """An object whose values are strings or null. Null values are treated as missing."""
     found = of_kind(holder, name, dict, cause) or {}
     pairs = {key: text for key, text in found.items() if text is not None}
     if not all(isinstance(text, str) for text in pairs.values()):
@@ -86,7 +86,7 @@ GUID = re.compile(rf"{HEX}{{32}}|{HYPHENATED}|\{{{HYPHENATED}\}}|(?i:urn:uuid:){
 
 
 def guid(holder, name, cause):
-    """A guid as a number, in its simple, hyphenated, braced or urn form."""
+    """A GUID as a number, from its simple, hyphenated, braced or URN form."""
     text = of_kind(holder, name, str, cause)
     if text is None:
         return None
@@ -135,7 +135,7 @@ def check_form(run):
 
 
 class Head:
-    """What the results of a run refer to."""
+    """The parts of a run that its results refer to."""
 
     def __init__(self, run):
         tool = run["tool"]
@@ -173,7 +173,7 @@ class Head:
         return self.components[component].get("rules") or []
 
     def descriptor(self, extension, rule, identity):
-        """A pair of a component and a rule of it, or None."""
+        """A component and one of its rules, or None."""
         component = 0 if extension is None else extension + 1
         if component >= len(self.components):
             raise Fault("BadIndex")
@@ -209,7 +209,7 @@ class Head:
 
 
 class Record:
-    """A result as matching, suppressing and counting see it."""
+    """A result for matching, suppressing and counting."""
 
     def __init__(self, head, result):
         self.tool = head.name
@@ -281,7 +281,7 @@ class Record:
         return head.artifacts[artifact]
 
     def same(self):
-        """What decides between unchanged and updated."""
+        """The parts that decide between unchanged and updated."""
         return self.kind, self.level, self.message, self.place
 
 
@@ -305,7 +305,7 @@ def key(record, tier):
 
 
 def partners(current, baseline):
-    """For each current record the number of its baseline record, or None."""
+    """For each current record, the number of its baseline record or None."""
     found = [None] * len(current)
     names = {name for record in [*current, *baseline] for name in record.full}
     names = sorted(names, key=lambda name: name.encode(), reverse=True)
@@ -412,14 +412,14 @@ def read_rules(source, today):
 
 
 class Policy:
-    """What the gate fails on."""
+    """The policy of the gate."""
 
     def __init__(self, fail_on="error", most=0, states=("new", "updated")):
         self.fail_on, self.max, self.states = fail_on, most, states
 
 
 class Finding:
-    """A result with its place in the inputs, and what the merge says of it."""
+    """A result with its place in the inputs, and with what the merge adds."""
 
     def __init__(self, run, value, record):
         self.run, self.value, self.record = run, value, record
@@ -443,12 +443,12 @@ def own_of(value):
 
 
 def same(one, other):
-    """Whether two values are the same JSON value; here true is no number."""
+    """Returns whether two values are the same JSON value. Here true is not a number."""
     return type(one) is type(other) and compact(one) == compact(other)
 
 
 class Merge:
-    """A merge of sources, which are bytes."""
+    """A merge of sources, which are byte strings."""
 
     def __init__(self, logs, baselines, suppress=None, policy=None, today=None):
         self.policy = policy or Policy()
@@ -512,7 +512,7 @@ class Merge:
             raise Refused(place, fault.cause) from None
 
     def decide(self):
-        """States, suppressions, and which baseline results nobody matches."""
+        """Computes states and suppressions, and the baseline results that no result matches."""
         before = [finding.record for finding in self.baseline]
         found = partners([finding.record for finding in self.current], before)
         used = set()
@@ -587,7 +587,7 @@ USAGE = """Usage: sarif_gate [--baseline F]... [--suppress F] [--today N] [--wor
 
 
 class Usage(Exception):
-    """The words can't be read; with status 0 they ask for help."""
+    """The arguments are invalid, or they request the help (status 0)."""
 
     def __init__(self, status):
         super().__init__("usage")
@@ -598,7 +598,7 @@ RANGES = {"today": (10000101, 99991231), "workers": (1, 64), "max": (0, 2**32 - 
 
 
 class Request:
-    """What the words ask for."""
+    """What the arguments request."""
 
     def __init__(self, words):
         self.logs, self.baselines, self.given = [], [], {}
@@ -664,7 +664,7 @@ def read_file(place, name):
 
 
 def asked(request):
-    """The merge of the files that the words name."""
+    """The merge of the files that the arguments name."""
     check_number(request.logs, request.baselines)
     logs = [read_file(f"log {number}", name) for number, name in enumerate(request.logs)]
     baselines = [
@@ -675,7 +675,7 @@ def asked(request):
 
 
 def write_file(name, text):
-    """Writes a text whole, or leaves what stood under the name."""
+    """Writes a file completely, or leaves the old file unchanged."""
     try:
         name = followed(name)
         if is_as_is(name):
@@ -688,13 +688,13 @@ def write_file(name, text):
 
 
 def is_as_is(name):
-    """Whether a name is written as it is: what is no file, and names of the system's own."""
+    """Returns whether an output is written directly: if it is not a file, or in a folder of the system."""
     is_other = os.path.exists(name) and not os.path.isfile(name)
     return is_other or name.startswith(("/dev/", "/proc/"))
 
 
 def followed(name):
-    """What the links of a name lead to."""
+    """The target of a name, after all links."""
     for _ in range(40):
         if is_as_is(name) or not os.path.islink(name):
             return name
@@ -703,7 +703,7 @@ def followed(name):
 
 
 def replace_file(name, text):
-    """Writes a new file beside the old one, and gives it the old one's name and mode."""
+    """Writes a new file next to the old one, and gives it the old one's name and mode."""
     mode = None
     if os.path.isfile(name):
         os.close(os.open(name, os.O_WRONLY))
@@ -722,7 +722,7 @@ def replace_file(name, text):
 
 
 def says(stream, text):
-    """Whether a stream takes a text."""
+    """Returns whether a string can be written to a stream."""
     try:
         return os.write(stream, text.encode()) > 0
     except OSError:

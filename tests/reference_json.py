@@ -15,7 +15,7 @@ class Fault(Exception):
 
 
 class Fraction:
-    """A number that isn't held as a whole number."""
+    """A number that isn't kept as an integer."""
 
     def __init__(self, text):
         self.number = float(text)
@@ -34,7 +34,7 @@ WORDS = {"true": True, "false": False, "null": None}
 
 
 class Json:
-    """A reader of one text."""
+    """A reader of one string."""
 
     def __init__(self, text):
         self.text, self.at = text, 0
@@ -49,7 +49,7 @@ class Json:
         return self.text[self.at : self.at + 1]
 
     def take(self, mark):
-        """Goes past `mark`, where it stands here."""
+        """Skips `mark` if it is next."""
         found = self.text.startswith(mark, self.at)
         self.at += len(mark) * found
         return found
@@ -60,7 +60,7 @@ class Json:
         return value if self.at == len(self.text) else self.wrong()
 
     def value(self, room):
-        """The value here, whose arrays and objects nest at most `room` deep."""
+        """Reads a value, whose arrays and objects nest at most `room` deep."""
         self.space()
         if self.next() and self.next() in "[{":
             return self.nested(room - 1) if room else self.wrong()
@@ -94,7 +94,7 @@ class Json:
                 self.wrong()
 
     def member(self, members, room):
-        """Of two members of one name the last one counts."""
+        """Reads an object. If a name is repeated, the last member counts."""
         self.space()
         if not self.take('"'):
             self.wrong()
@@ -139,7 +139,7 @@ class Json:
         return int(digits, 16)
 
     def number(self):
-        """Whole numbers of 64 bits are held as such, and neither -0 nor a larger one is."""
+        """Reads a number. It is kept as an integer if it fits into 64 bits and isn't -0."""
         found = NUMBER.match(self.text, self.at)
         if not found:
             self.wrong()
@@ -174,7 +174,7 @@ def quoted(text):
 
 
 def compact(value):
-    """The text of a value with no space, members in the byte order of their names."""
+    """The value as a string without spaces, with members in the byte order of their names."""
     if isinstance(value, str):
         return quoted(value)
     if isinstance(value, list):
@@ -188,14 +188,14 @@ def compact(value):
 
 
 def is_fractional(value):
-    """A number that isn't whole, or an array that holds one directly or within arrays only."""
+    """Returns whether a value is a number that isn't an integer, or an array with one, directly or only within arrays."""
     if isinstance(value, list):
         return any(map(is_fractional, value))
     return isinstance(value, Fraction)
 
 
 def stripped(value):
-    """Without each member that is fractional, at every depth; what is no member stays."""
+    """The value without its fractional members, at every depth. Items of arrays stay."""
     if isinstance(value, list):
         return [stripped(item) for item in value]
     if isinstance(value, dict):

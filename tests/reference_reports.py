@@ -3,9 +3,8 @@
 
 tests/reference_reports.py text|github|markdown|gitlab [--fail-on L] [--max N] [--root PREFIX] LOG
 
-It follows what docs/formats.md says of reports sentence by sentence, over the finished merged log
-and the policy alone, with none of the program's code behind it, so that a slip in either shows as a
-difference.
+It follows the chapter on reports in docs/formats.md sentence by sentence. Its only inputs are the finished
+merged log and the policy. It shares no code with the program, so that a mistake in either shows as a difference.
 """
 
 import argparse
@@ -29,7 +28,7 @@ LARGEST = 2**32 - 1
 
 @dataclass
 class Policy:
-    """What the gate fails on, and what is cut off the front of a path."""
+    """The policy of the gate, and the prefix to strip from paths."""
 
     fail_on: str = "error"
     max: int = 0
@@ -37,7 +36,7 @@ class Policy:
     root: str = ""
 
 
-# ---- Members by kind: what is of another kind counts as absent
+# ---- Members by type: a member of another type is treated as missing
 
 
 def an_object(value):
@@ -58,14 +57,14 @@ def a_number(value, least, most):
 
 
 def at(value, *names):
-    """The member on this way of names, or None."""
+    """The member at this path of names, or None."""
     for name in names:
         value = an_object(value).get(name)
     return value
 
 
 def first(values):
-    """The first that is there, or None."""
+    """The first value that is not None, or None."""
     return next((it for it in values if it is not None), None)
 
 
@@ -73,7 +72,7 @@ def element(values, index):
     return values[index] if index is not None and index < len(values) else None
 
 
-# ---- Shown texts
+# ---- Shown strings
 
 HIDDEN = (
     (0x0000, 0x001F),
@@ -103,7 +102,7 @@ def is_hidden(character):
 
 
 def shown(text):
-    """What is shown of a text of the log: no commands, nothing unseen, no great length."""
+    """A string of the log as reports show it: no commands, no invisible characters, limited length."""
     seen = "".join(" " if is_hidden(it) else it for it in text)
     while "##" in seen:
         seen = seen.replace("##", "# #")
@@ -111,7 +110,7 @@ def shown(text):
 
 
 def as_path(uri):
-    """A uri read as a path: its escapes are bytes, where all are right and the whole is UTF-8."""
+    """A URI as a path. Its escapes become bytes if all are valid and the result is UTF-8."""
     pieces = uri.split("%")
     if not all(re.match("[0-9A-Fa-f]{2}", piece) for piece in pieces[1:]):
         return uri
@@ -130,7 +129,7 @@ MARK = re.compile(r"\{\{|\}\}|\{(0|[1-9][0-9]*)\}")
 
 
 def filled(text, words):
-    """The text with its placeholders filled in from left to right."""
+    """The string with its placeholders filled in from left to right."""
 
     def one(found):
         if found.group() in ("{{", "}}"):
@@ -187,7 +186,7 @@ class Found:
         return at(element(a_list(self.result.get("locations")), 0), "physicalLocation")
 
     def uri(self):
-        """The uri of the place: the result's own, or that of the artifact that it names."""
+        """The URI of the place: the result's own, or the one of the artifact that it names."""
         own = a_text(at(self.physical(), "artifactLocation", "uri"))
         index = a_number(at(self.physical(), "artifactLocation", "index"), 0, LARGEST)
         artifact = element(a_list(self.run.get("artifacts")), index)
@@ -202,7 +201,7 @@ class Found:
 
 @dataclass
 class Reported:
-    """What is shown of a reported result; a path, a line and a column may be None."""
+    """What reports show for a result. The path, the line and the column may be None."""
 
     tool: str
     rule: str
@@ -242,7 +241,7 @@ def reported(found, policy):
 
 
 def link_of(found):
-    """The page of the rule, where there is a rule and the page's address is fit to be shown."""
+    """The help page of the rule, if there is a rule and the address can be shown."""
     uri = a_text(at(found.descriptor, "helpUri")) or ""
     is_fit = uri.startswith(("https://", "http://")) and shown(uri) == uri
     return uri if is_fit and found.rule() else None
@@ -250,7 +249,7 @@ def link_of(found):
 
 @dataclass
 class Reports:
-    """The reports of a merged log by a policy."""
+    """The reports of a merged log under a policy."""
 
     log: dict
     policy: Policy
@@ -274,7 +273,7 @@ class Reports:
         return "fail" if self.hits() > self.policy.max else "pass"
 
     def counts(self):
-        """For each state the active errors, warnings, notes and others, and all suppressed."""
+        """For each state the numbers of active errors, warnings, notes and others, and of suppressed results."""
         counted = {state: [0] * 5 for state in STATES}
         for it in self.found:
             column = 3 - LEVELS.index(it.level) if it.is_active() else 4
@@ -310,7 +309,7 @@ class Reports:
         return compact(found).encode()
 
     def rows(self):
-        """The rows of the page, each the texts of its cells, and its link or None."""
+        """The rows of the page, each with the text of its cells and its link or None."""
         return [
             (
                 ["yes" if it.is_hit else "no", it.level, it.place()]
@@ -321,7 +320,7 @@ class Reports:
         ]
 
     def others(self):
-        """How many reported results the page leaves out."""
+        """The number of reported results that the page leaves out."""
         return max(0, len(self.results) - MOST_PAGE_ROWS)
 
 

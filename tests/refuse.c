@@ -1,15 +1,15 @@
-/* Preloaded before a program, this counts its calls of one kind, and refuses some of them.
+/* Preloaded into a program, this library counts its calls of one kind and makes some of them fail.
 
-   REFUSE_KIND    memory: requests for memory (malloc, calloc, realloc, aligned_alloc, posix_memalign);
+   REFUSE_KIND    memory: allocations (malloc, calloc, realloc, aligned_alloc, posix_memalign);
                   files: open, read, write, writev, fsync, fchmod, statx, readlink, rename, unlink
-   REFUSE_FIRST   the first call that is refused, counted from 1; 0 or nothing: none
-   REFUSE_LAST    the last one; nothing: the first alone
-   REFUSE_SIGNAL  in place of the refusal the program gets this signal
+   REFUSE_FIRST   the first call that fails, numbered from 1; 0 or empty: none
+   REFUSE_LAST    the last call that fails; empty: only the first
+   REFUSE_SIGNAL  the program gets this signal instead of the failure
    REFUSE_SHORT   each read and write moves one byte
-   REFUSE_NOTE    a file of 16 bytes, in which stand how many calls were made and how many refused
+   REFUSE_NOTE    a file of 16 bytes with the number of calls and the number of failures
 
-   It counts from its own start, so neither the loader's requests nor those of libraries before it. It is for
-   x86-64 Linux and glibc, and includes nothing, since the kit's clang comes with no headers. */
+   It counts from its own start, so it counts no allocation of the loader or of earlier libraries. It is for
+   x86-64 Linux and glibc. It includes no header, since the kit's clang has none. */
 
 typedef unsigned long size;
 
@@ -17,7 +17,7 @@ enum kind { NOTHING, MEMORY, FILES };
 
 enum error { IO_ERROR = 5, OUT_OF_MEMORY = 12, NO_ACCESS = 13, NO_SPACE = 28 };
 
-/* Numbers of the system's calls. */
+/* Numbers of system calls. */
 enum call {
     READ = 0,
     WRITE = 1,
@@ -52,7 +52,7 @@ long atol(const char *text);
 void *mmap(void *at, size count, int access, int flags, int file, long offset);
 long syscall(long call, ...);
 
-/* The C library's own functions, below the names that this file takes. */
+/* The C library's functions, under their internal names. */
 void *__libc_malloc(size count);
 void *__libc_calloc(size items, size count);
 void *__libc_realloc(void *old, size count);
@@ -68,7 +68,7 @@ static long number(const char *name, long otherwise) {
     return text && *text ? atol(text) : otherwise;
 }
 
-/* The note in a file, shared, so that it can be read whatever becomes of the program. */
+/* The note is in a shared file, so that it can be read even if the program is killed. */
 static struct note *note_in(const char *name) {
     const int read_and_write = 2, both = 3, shared = 1;
     long file = syscall(OPEN, name, read_and_write, 0);
@@ -91,7 +91,7 @@ __attribute__((constructor)) static void start(void) {
         counted = *kind == 'm' ? MEMORY : FILES;
 }
 
-/* Counts a call: whether it is to be refused. */
+/* Counts a call. Returns whether it must fail. */
 static int refuses(enum kind kind) {
     if (kind != counted)
         return 0;
@@ -140,12 +140,12 @@ int posix_memalign(void **place, size alignment, size count) {
     return 0;
 }
 
-/* The mode, which stands there only where a file may be made, is handed on in any case. */
+/* The mode is only passed if a file may be created. It is forwarded in any case. */
 int open(const char *path, int flags, unsigned mode) {
     return refuses(FILES) ? fails(NO_ACCESS) : (int)syscall(OPEN, path, flags, mode);
 }
 
-/* How many of these bytes are moved at once. */
+/* Returns the number of these bytes to move at once. */
 static size moved(size count) {
     return is_short && count > 1 ? 1 : count;
 }

@@ -1,4 +1,4 @@
-"""Running the program with some of its calls refused, by the library of tests/refuse.c."""
+"""Runs the program with failing calls, through the library of tests/refuse.c."""
 
 import os
 import shutil
@@ -16,7 +16,7 @@ KITS_FLAGS = ["--target=x86_64-linux-gnu", "-fuse-ld=lld"]
 
 @dataclass
 class Refusal:
-    """Which calls of a kind, memory or files, are refused, counted from 1; none where `first` is 0."""
+    """The calls of a kind, memory or files, that fail. They are numbered from 1. If `first` is 0, none fails."""
 
     kind: str
     first: int = 0
@@ -34,7 +34,7 @@ class Refusal:
 
 @dataclass
 class Ran:
-    """How a program ended, and how many calls of the kind it made, and were refused."""
+    """How a program ended, with the number of its calls of the kind and the number of failures."""
 
     status: int
     stdout: bytes
@@ -44,7 +44,7 @@ class Ran:
 
 
 def compiler():
-    """The words of a compiler of C: the kit's clang, or else the one that is there."""
+    """The command of a C compiler: the kit's clang if there is one, otherwise the system's."""
     rt = shutil.which("rt")
     if rt:
         page = subprocess.run([rt, "doc"], capture_output=True, text=True).stdout.strip()
@@ -62,7 +62,7 @@ def library(folder):
 
 
 def run(command, case, folder, preloaded, refusal):
-    """Runs the words of a case in its folder with this refusal; where it doesn't end its status is None."""
+    """Runs a case in its folder with these failures. The status is None if it doesn't end."""
     note = Path(preloaded).with_name(f"note-{Path(folder).name}")
     note.write_bytes(bytes(16))
     variables = {**os.environ, "LD_PRELOAD": str(preloaded), **refusal.variables(note)}
@@ -83,7 +83,7 @@ def run(command, case, folder, preloaded, refusal):
 
 
 def state(folder):
-    """All that stands in a folder: each name with its link or its bytes."""
+    """The contents of a folder: each name with its link or its bytes."""
     found = {}
     for at in sorted(Path(folder).rglob("*")):
         name = str(at.relative_to(folder))
@@ -95,7 +95,7 @@ def state(folder):
 
 
 class Room:
-    """A folder with the files of a case, made anew where a run changed it."""
+    """A folder with the files of a case. It is created again if a run changed it."""
 
     def __init__(self, case, folder):
         self.case, self.folder = case, Path(folder)
@@ -117,7 +117,7 @@ class Room:
                 (self.folder / name).symlink_to(given)
 
     def run(self, command, preloaded, refusal):
-        """What a program answered, and what it left."""
+        """The result of a program, and the files that it left."""
         ran = run(command, self.case, self.folder, preloaded, refusal)
         after = state(self.folder)
         self.restore(after)

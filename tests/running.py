@@ -1,4 +1,4 @@
-"""Running the program that is tested."""
+"""Runs the program that is tested."""
 
 import os
 import resource
@@ -15,7 +15,7 @@ NOBODY = 65_534
 
 
 def program(given=None):
-    """The command to test: the one given, that of SARIF_GATE, or what rt ci left."""
+    """The command to test: the argument, SARIF_GATE, or the program that rt ci left."""
     given = given or os.environ.get("SARIF_GATE")
     if given:
         return [str(Path(it).resolve()) if Path(it).is_file() else it for it in shlex.split(given)]
@@ -28,7 +28,7 @@ def program(given=None):
 
 
 def answer(command, case, folder):
-    """Runs a case in a folder of its own."""
+    """Runs a case in its own folder."""
     if case.is_nobody:
         Path(folder).chmod(0o777)
     for name, given in case.files.items():
@@ -61,7 +61,7 @@ def started(command, words, case, folder):
 
 
 def limited(case):
-    """Sets the limits and the user of a case. A write past the limit of a file's size fails, and doesn't end the program."""
+    """Sets the limits and the user of a case. A write above the limit of a file's size fails, and doesn't end the program."""
     limits = {resource.RLIMIT_NOFILE: case.open_files, resource.RLIMIT_FSIZE: case.file_size}
     for name, most in limits.items():
         if most is not None:
@@ -74,7 +74,7 @@ def limited(case):
 
 
 def ended(ran, case):
-    """The status and the streams of a program that ended."""
+    """The exit status and the streams of a program that ended."""
     given = {} if "stdin" in case.streams else {"input": case.stdin}
     try:
         stdout, stderr = ran.communicate(timeout=case.seconds, **given)
