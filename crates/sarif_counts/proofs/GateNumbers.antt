@@ -1,4 +1,4 @@
--- The gate object holds whole numbers alone.
+-- The gate object contains only integers.
 use Rattle.std.proofs.Common.{◌≡◌, ℕ, Bool, true, false, refl}
 use Rattle.serde_json.specs.View.{items_of}
 use Rattle.serde_json.specs.Written.{has_float, items_have_float}
@@ -6,7 +6,7 @@ use Rattle.sarif_counts.specs.declared.policy.Policy.{Policy}
 use Rattle.sarif_counts.specs.Policy.{Count}
 use Rattle.sarif_counts.specs.Gate.{gate_of, listed_names}
 
--- whatever the policy lists
+-- regardless of the states in the policy
 names_whole : (a b c d : Bool)
     → items_have_float (items_of (listed_names (record { absent = a; fresh = b; unchanged = c; updated = d }))) ≡ false
 names_whole true true true true = refl

@@ -1,4 +1,4 @@
--- Whether a list of suppressions suppresses, where there is one.
+-- Whether a list of suppressions suppresses, if there is one.
 use Rattle.std.proofs.Common.{◌≡◌, ◌==◌, Bool, false, List, [], ◌∷◌, map, length, refl, sym, ◌∙◌, true≢false}
 use Rattle.serde_json.specs.declared.value.Value.{Value}
 use Rattle.serde_json.specs.View.{view, items_of}

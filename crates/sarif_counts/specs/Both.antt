@@ -18,7 +18,7 @@ abbrev pub AreOfBothSides : Tally → Tally → Tally → Type 0
 AreOfBothSides one other both = (l : Level) (b : Bool) →
     at_level (at_side both b) l ≡ at_level (at_side one b) l + at_level (at_side other b) l
 
--- of each state, level and side as many as both have together
+-- for each state, level and side the sum of both
 abbrev pub AreOfBoth : Counts → Counts → Counts → Type 0
 AreOfBoth one other both = (s : State) (l : Level) (b : Bool) →
     count_at both s l b ≡ count_at one s l b + count_at other s l b

@@ -35,7 +35,7 @@ total_of counts =
 abbrev pub HoldsNothing : Counts → Type 0
 HoldsNothing counts = (s : State) (l : Level) (b : Bool) → count_at counts s l b ≡ 0
 
--- one more of this state, level and side, and every other count as it was
+-- one more for this state, level and side; every other count unchanged
 abbrev pub AddsOne : Counts → Counts → State → Level → Bool → Type 0
 AddsOne old new state level suppressed = (s : State) (l : Level) (b : Bool) →
     count_at new s l b

@@ -45,7 +45,7 @@ listed_names states =
     if_listed states Absent ++ if_listed states New
     ++ if_listed states Unchanged ++ if_listed states Updated
 
--- the gate over these counts, this policy, so many runs without results and so many unused suppressions
+-- the gate for these counts, this policy, and these numbers of runs without results and of unused suppressions
 abbrev pub gate_of : Count → Policy → ℕ → ℕ → Data
 gate_of count policy without unused = object
     (member (codes "counts") (counts_data count)

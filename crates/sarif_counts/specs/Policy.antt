@@ -9,7 +9,7 @@ use Rattle.sarif_counts.specs.declared.policy.Policy.{Policy}
 use Rattle.sarif_counts.specs.declared.policy.Verdict.{Verdict}
 use Rattle.sarif_counts.specs.declared.policy.Verdict.TheVariants.{Pass, Fail}
 
--- the policy of a gate that is told nothing else
+-- the default policy
 abbrev pub default_policy : Policy
 default_policy = record {
   fail_on = Error;
@@ -42,7 +42,7 @@ Count = State → Level → Bool → ℕ
 abbrev pub count_if : Bool → ℕ → ℕ
 count_if counts n = if counts then n else 0
 
--- those of one state that are at least of a level
+-- the results of one state that are at or above a level
 abbrev pub severe_of : (Level → ℕ) → Level → ℕ
 severe_of active least =
     count_if (is_at_least least Error) (active Error)
@@ -50,7 +50,7 @@ severe_of active least =
     + count_if (is_at_least least Note) (active Note)
     + count_if (is_at_least least NoLevel) (active NoLevel)
 
--- the active results of one state that count
+-- the hits of one state
 abbrev pub hits_at : Count → Policy → State → ℕ
 hits_at count policy state =
     count_if (is_listed policy.states state)
@@ -62,7 +62,7 @@ hits_of count policy =
     hits_at count policy New + hits_at count policy Unchanged
     + hits_at count policy Updated + hits_at count policy Absent
 
--- fail where there are more hits than the policy lets pass
+-- fail if there are more hits than the policy allows
 abbrev pub verdict_of : Count → Policy → Verdict
 verdict_of count policy = if nat_lt policy.max (hits_of count policy) then Fail else Pass
 

@@ -13,7 +13,7 @@ use Rattle.sarif_counts.specs.Policy.{Count, hits_of, verdict_of, verdict_name}
 abbrev pub newline : List ℕ
 newline = 10 ∷ []
 
--- a text in so many columns, to the left or to the right
+-- a string padded to a number of columns, aligned left or right
 abbrev pub left_in : ℕ → List ℕ → List ℕ
 left_in width text = text ++ replicate (width - length text) 32
 
@@ -29,7 +29,7 @@ name_column state = left_in 10 (state_name state)
 abbrev pub number_column : ℕ → List ℕ
 number_column n = right_in 11 (decimal n)
 
--- all suppressed results of a state, of whatever level
+-- all suppressed results of a state, of any level
 abbrev pub suppressed_of : (Level → Bool → ℕ) → ℕ
 suppressed_of numbers =
     numbers Error true + numbers Warning true + numbers Note true + numbers NoLevel true

@@ -1,4 +1,4 @@
-//! What the gate says of the counts.
+//! The verdict of the gate on the counts.
 ghost use Rattle.std.specs.Prelude.{◌≡◌, ◌+◌, ◌<◌, ◌≤◌, ◌^◌};
 ghost use Rattle.sarif_counts.specs.Policy.{hits_at, hits_of, verdict_of};
 ghost use Rattle.sarif_counts.specs.Counts.{count_at, tally_at};

@@ -15,9 +15,9 @@ use sarif_model::State;
 use serde_json::{Value, json};
 use std::alloc::{AllocError, Global};
 
-/// The value of `properties.gate` of a merged log (SARIF 2.1.0, "property bags"): the counts, the policy that judged
-/// them, its hits and its verdict, how many runs have no results (`without`), and how many entries of the suppression
-/// file were not used (`unused`). `AllocError` where memory for it is wanting.
+/// Returns the value of `properties.gate` of a merged log (SARIF 2.1.0, "property bags"): the counts, the policy,
+/// its hits and verdict, the number of runs without results (`without`), and the number of unused entries of the
+/// suppression file (`unused`). Returns `AllocError` if memory for it runs out.
 #[tactic(auto, using(crate::proofs::GateNumbers::gate_whole))]
 pub fn gate_value(
     alloc: Global,

@@ -1,6 +1,5 @@
-//! How many results a merged log holds by baseline state, level and suppression; the policy of the
-//! gate, its verdict over these counts, and how both are written. The options of a merge, of which
-//! the policy is one.
+//! The number of results in a merged log by baseline state, level and suppression; the policy of the gate, its
+//! verdict on these counts, and how both are written. The options of a merge, which include the policy.
 #![tactic(auto)]
 
 mod counts;

@@ -9,13 +9,14 @@ use std::hash::RandomState;
 pub struct Options {
     /// What the gate fails on.
     pub policy: Policy,
-    /// The day on which suppressions expire or not, as yyyymmdd. Without it an entry that expires is refused.
+    /// Today's date as YYYYMMDD, which decides whether suppressions have expired. Without it an entry with an
+    /// expiry date is rejected.
     pub today: Option<u32>,
-    /// How many threads index sources, open runs, judge, tell and count results, and make reports: 1 to 64. They work
-    /// beside the calling thread; but where results are told and counted and reports are made, it is one of them.
+    /// The number of worker threads, 1 to 64. They work in addition to the calling thread. For findings, counts
+    /// and reports the calling thread is one of them.
     pub workers: u32,
-    /// What the tables hash with whose keys come out of logs. No answer depends on it; where nobody can know it,
-    /// no log can make the tables slow.
+    /// The seed of hash tables whose keys come from logs. No result depends on it. If the seed is secret, no log
+    /// can make the tables slow.
     pub seed: RandomState,
     pub ghost some_workers: { 1 ≤ workers },
     pub ghost few_workers: { workers ≤ 64 },

@@ -4,21 +4,21 @@ ghost use Rattle.sarif_counts.specs.Policy.{default_policy, is_listed, verdict_n
 
 use sarif_model::{Level, State};
 
-/// Which baseline states the gate looks at.
+/// The baseline states whose results may be hits.
 #[derive(Clone, Copy, Debug, PartialEq, Eq)]
 pub struct States {
-    /// Results of a baseline that are no current result's partner.
+    /// Baseline results that no current result matches.
     pub absent: bool,
-    /// Results without a partner in a baseline: the state `new`.
+    /// Results that match no baseline result: the state `new`.
     pub fresh: bool,
-    /// Results with a partner in a baseline that is equal in kind, level, message and place.
+    /// Results whose baseline match has the same kind, level, message and place.
     pub unchanged: bool,
-    /// Results with a partner in a baseline that differs in one of these.
+    /// Results whose baseline match differs in one of these.
     pub updated: bool,
 }
 
 impl States {
-    /// Whether the gate looks at results of this state.
+    /// Returns whether results of this state may be hits.
     pub fn lists(self, state: State) -> bool
         ensures { result ≡ is_listed self state }
     {
@@ -35,11 +35,11 @@ impl States {
 /// level `fail_on`.
 #[derive(Clone, Copy, Debug, PartialEq, Eq)]
 pub struct Policy {
-    /// The least level that counts.
+    /// The minimum level of a hit.
     pub fail_on: Level,
     /// The states that count.
     pub states: States,
-    /// How many hits still pass.
+    /// The number of hits to allow.
     pub max: u32,
 }
 
@@ -61,7 +61,7 @@ impl Default for Policy {
     }
 }
 
-/// What the gate says of a merged log.
+/// The verdict of the gate on a merged log.
 #[derive(Clone, Copy, Debug, PartialEq, Eq)]
 pub enum Verdict {
     /// There are no more hits than the policy's `max`.

@@ -1,4 +1,4 @@
-//! Whether a result is suppressed, read from the suppressions that are written of it.
+//! Returns whether a result is suppressed, from its written suppressions.
 ghost use Rattle.std.specs.Prelude.{◌≡◌, codes, map};
 ghost use Rattle.serde_json.specs.Find.{get};
 ghost use Rattle.serde_json.specs.View.{view, items_of};

@@ -14,9 +14,9 @@ use std::alloc::{AllocError, Global};
 /// The names of the columns: a state's active results by level, and all its suppressed ones.
 const HEADING: &str = "state           error    warning       note       none suppressed\n";
 
-/// The counts as a table of six lines, each with a newline: a heading, a line for each of the
-/// states new, unchanged, updated and absent, and the verdict with the hits and the policy's `max`.
-/// `AllocError` where memory for it is wanting.
+/// Returns the counts as a table of six lines, each with a newline: a heading, one line for each of the states
+/// new, unchanged, updated and absent, and the verdict with the hits and the policy's `max`. Returns `AllocError`
+/// if memory for it runs out.
 pub fn summary(alloc: Global, counts: &Counts, policy: &Policy) -> Result<String, AllocError>
     ensures { IfOk result (λ s. string_bytes s ≡ summary_of (count_at counts.now) policy.now) }
 {

@@ -1,13 +1,12 @@
--- The lines of an explanation.
--- No clause of the program speaks of it.
+-- The lines of an explanation. Internal: no contract of the program refers to this module.
 use Rattle.std.specs.Prelude.{ℕ, zero, suc, List, [], ◌∷◌, ◌++◌, codes, chars, encode_utf8}
 use Rattle.sarif_findings.specs.Shown.{shown}
 
--- a line: two spaces, the name, a colon, a space, what is shown of the text, a newline
+-- a line: two spaces, the name, a colon, a space, the shown string, a newline
 abbrev pub line_of : List ℕ → List ℕ → List ℕ
 line_of name text = codes "  " ++ (name ++ (codes ": " ++ (shown (chars text) ++ codes "\n")))
 
--- so many characters at most, and `...` where there are more
+-- at most that many characters, then `...` if there are more
 unfoldable pub shortened : ℕ → List ℕ → List ℕ
 shortened room [] = []
 shortened zero (c ∷ cs) = codes "..."

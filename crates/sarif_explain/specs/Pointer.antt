@@ -1,5 +1,5 @@
--- JSON pointers (RFC 6901). A pointer is the bytes of its steps; each begins with `/`.
--- No clause of the program speaks of it.
+-- JSON pointers (RFC 6901). A pointer is the bytes of its steps; each begins with `/`. Internal: no contract of
+-- the program refers to this module.
 use Rattle.std.specs.Prelude.{ℕ, List, ◌==◌, ◌++◌, codes, chars, decimal, encode_utf8, flat_map, if◌then◌else◌}
 
 -- a character of a member's name: `~` and `/` are escaped

@@ -1,4 +1,4 @@
-//! What is at fault in an entry of the suppression file.
+//! The error in an entry of the suppression file.
 use crate::checks::entry_checks;
 use crate::misfit::{Found, Misfit, misfit_in};
 use crate::place::Place;
@@ -36,7 +36,7 @@ fn misfit_of_names<'a>(alloc: Global, second: bool, entry: &Place<'a>) -> Found<
     Ok(None)
 }
 
-/// What is at fault in an entry of the file for that cause.
+/// The error with that cause in an entry of the file.
 pub(crate) fn misfit_of_entry<'a>(
     alloc: Global,
     file: &Value,

@@ -1,4 +1,4 @@
-//! Which values are as they are wanted.
+//! Which values are as expected.
 use crate::wanted::Wanted;
 use sarif_model::{Kind, Level, Status, read_guid};
 use serde_json::Value;
@@ -10,7 +10,7 @@ fn is_day(number: u64) -> bool {
     matches!(number, 10_000_101..=99_991_231) && matches!(month, 1..=12) && matches!(day, 1..=31)
 }
 
-/// Whether a text is one of those that are wanted.
+/// Returns whether a string is one of the expected ones.
 fn is_wanted_text(wanted: Wanted, text: &str) -> bool {
     match wanted {
         Wanted::LogVersion => text == "2.1.0",
@@ -25,7 +25,7 @@ fn is_wanted_text(wanted: Wanted, text: &str) -> bool {
     }
 }
 
-/// Whether a whole number is one of those that are wanted.
+/// Returns whether an integer is one of the expected ones.
 fn is_wanted_number(wanted: Wanted, number: i64) -> bool {
     match wanted {
         Wanted::Index => matches!(number, -1..=4_294_967_295),
@@ -39,7 +39,7 @@ fn is_wanted_number(wanted: Wanted, number: i64) -> bool {
 }
 
 impl Wanted {
-    /// Whether an object is wanted, whatever its members are.
+    /// Returns whether an object with any members is expected.
     fn is_object(self) -> bool {
         matches!(
             self,
@@ -52,8 +52,8 @@ impl Wanted {
         )
     }
 
-    /// Whether the value is one that is wanted. Of arrays and maps of wanted elements the kind alone is looked at;
-    /// where a value is at fault for what it is in its place, as one past a limit, none is wanted.
+    /// Returns whether the value is as expected. For arrays and maps only the type is checked, not the elements.
+    /// If a value is wrong only because of its position, for example past a limit, no value is expected.
     pub(crate) fn fits(self, value: &Value) -> bool {
         match value {
             Value::Null => matches!(self, Wanted::Runs | Wanted::TextOrNull),
@@ -74,7 +74,7 @@ impl Wanted {
         }
     }
 
-    /// What is wanted of each element, or of each member's value.
+    /// What is expected of each element, or of each member's value.
     pub(crate) fn of_each(self) -> Option<Wanted> {
         match self {
             Wanted::Objects => Some(Wanted::Object),

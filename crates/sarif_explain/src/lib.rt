@@ -1,4 +1,4 @@
-//! What is told of a fault beside its line: where it stands in its source, what was found there, what is wanted, and
+//! What `--explain` says about an error: where it is in its source, what was found there, what is expected, and
 //! what to do.
 #![tactic(auto)]
 

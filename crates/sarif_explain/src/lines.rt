@@ -5,10 +5,10 @@ ghost use Rattle.sarif_explain.specs.Lines as said;
 use sarif_findings::shown;
 use std::alloc::{AllocError, Global};
 
-/// The most characters that are shown of a value.
+/// The maximum number of characters of a shown value.
 const MOST_OF_A_VALUE: u32 = 80;
 
-/// Adds a line: two spaces, the name, a colon, a space, what is shown of the text, a newline.
+/// Adds a line: two spaces, the name, a colon, a space, the shown string, a newline.
 pub(crate) fn push_line(
     alloc: Global,
     lines: &mut String,
@@ -38,7 +38,7 @@ pub(crate) fn push_number(
     push_line(alloc, lines, name, text.as_str())
 }
 
-/// The first 80 characters of a text, and `...` where there are more.
+/// The first 80 characters of a string, then `...` if there are more.
 pub(crate) fn shortened(alloc: Global, text: &str) -> Result<String, AllocError>
     ensures { IfOk result (λ s. string_bytes s ≡ said.shortened 80 (chars text.now)) }
 {

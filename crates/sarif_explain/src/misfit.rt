@@ -1,22 +1,22 @@
-//! The first value that isn't as it is wanted.
+//! The first value that is not as expected.
 use crate::checks::{Check, Need};
 use crate::place::{Place, find, is_dropped};
 use crate::wanted::Wanted;
 use serde_json::Value;
 use std::alloc::{AllocError, Global};
 
-/// A value that isn't as it is wanted, or an object in which a member is wanting.
+/// A value that is not as expected, or an object with a missing member.
 #[derive(Drop)]
 pub(crate) struct Misfit<'a> {
-    /// Where it stands.
+    /// Its position.
     pub place: Place<'a>,
-    /// The name of the member that is wanting there.
+    /// The name of the missing member.
     pub missing: Option<&'static str>,
-    /// What is wanted there.
+    /// What is expected there.
     pub wanted: Wanted,
 }
 
-/// The first misfit, where there is one.
+/// The first misfit, if there is one.
 pub(crate) type Found<'a> = Result<Option<Misfit<'a>>, AllocError>;
 
 impl<'a> Misfit<'a> {
@@ -30,7 +30,7 @@ impl<'a> Misfit<'a> {
     }
 }
 
-/// Whether a member that is there passes. One that counts as absent passes where it may be absent.
+/// Returns whether a member passes. A member that is treated as missing passes if it may be missing.
 fn passes(stripped: bool, need: Need, wanted: Wanted, value: &Value) -> bool {
     let dropped = stripped && is_dropped(value);
     match need {
@@ -39,7 +39,7 @@ fn passes(stripped: bool, need: Need, wanted: Wanted, value: &Value) -> bool {
     }
 }
 
-/// The first element or member that isn't as each of them is wanted.
+/// The first element or member that is not as expected.
 fn misfit_inside<'a>(alloc: Global, place: &Place<'a>, wanted: Wanted) -> Found<'a> {
     match place.value {
         Value::Array(items) => {
@@ -64,7 +64,7 @@ fn misfit_inside<'a>(alloc: Global, place: &Place<'a>, wanted: Wanted) -> Found<
     }
 }
 
-/// What is at fault where the member of the check isn't there: the object that should hold it.
+/// The error if the member of the check is missing: the object that should contain it.
 fn misfit_without<'a>(alloc: Global, place: &Place<'a>, check: &Check) -> Found<'a> {
     let Check(way, need, wanted) = *check;
     match (need, way) {
@@ -77,7 +77,7 @@ fn misfit_without<'a>(alloc: Global, place: &Place<'a>, check: &Check) -> Found<
     }
 }
 
-/// What is at fault by one check.
+/// The error that one check finds.
 fn misfit_by<'a>(alloc: Global, place: &Place<'a>, check: &Check) -> Found<'a> {
     let Check(way, need, wanted) = *check;
     let Some(value) = find(place.value, way) else {
@@ -94,7 +94,7 @@ fn misfit_by<'a>(alloc: Global, place: &Place<'a>, check: &Check) -> Found<'a> {
     }
 }
 
-/// What is at fault by the first of these checks that a member of the place doesn't pass.
+/// The error of the first of these checks that fails at this place.
 pub(crate) fn misfit_in<'a>(alloc: Global, place: &Place<'a>, checks: &[Check]) -> Found<'a> {
     for check in checks {
         let found = misfit_by(alloc, place, check)?;
@@ -105,8 +105,7 @@ pub(crate) fn misfit_in<'a>(alloc: Global, place: &Place<'a>, checks: &[Check]) 
     Ok(None)
 }
 
-/// What is at fault in the first element of the array at the end of the way that doesn't pass one
-/// of these checks.
+/// The error in the first element of the array at the end of the path that fails one of these checks.
 pub(crate) fn misfit_in_each<'a>(
     alloc: Global,
     place: &Place<'a>,

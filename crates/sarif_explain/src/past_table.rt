@@ -38,7 +38,7 @@ fn rules_of<'a>(run: &Place<'a>, extension: Option<u64>) -> &'a [Value] {
     }
 }
 
-/// The index of a rule's component, else that of the rule, where it is past its table.
+/// The index of a rule's component, otherwise the index of the rule, if it is past the end of its table.
 pub(crate) fn misfit_of_rule<'a>(
     alloc: Global,
     run: &Place<'_>,

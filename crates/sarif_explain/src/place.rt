@@ -1,4 +1,4 @@
-//! Where a walk through a source stands.
+//! A position in a walk through a source.
 use crate::pointer::{push_index, push_name};
 use serde_json::Value;
 use std::alloc::{AllocError, Global};
@@ -10,7 +10,7 @@ pub(crate) struct Place<'a> {
     pub pointer: String,
     /// The value itself.
     pub value: &'a Value,
-    /// Whether a number with a fraction counts as absent, with the member that holds it: so in a log.
+    /// Whether a member whose value is a number with a fraction is treated as missing, as in a log.
     pub stripped: bool,
 }
 
@@ -72,7 +72,7 @@ impl<'a> Place<'a> {
         Ok(place)
     }
 
-    /// The elements of the array at the end of the way; where there is none, none.
+    /// The elements of the array at the end of the path; empty if there is no array.
     pub(crate) fn elements(&self, way: &[&str]) -> &'a [Value] {
         match find(self.value, way) {
             Some(value) if !(self.stripped && is_dropped(value)) => items_of(value),
@@ -80,7 +80,7 @@ impl<'a> Place<'a> {
         }
     }
 
-    /// The place of element `index` of the array at the end of the way, where there is one.
+    /// The position of element `index` of the array at the end of the path, if there is one.
     pub(crate) fn nth(
         &self,
         alloc: Global,

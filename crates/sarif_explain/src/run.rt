@@ -1,4 +1,4 @@
-//! What is at fault in a run, beside its results.
+//! The error in a run, outside its results.
 use crate::checks::{
     artifact_checks, component_checks, invocation_checks, override_checks, rule_checks, run_checks,
 };
@@ -86,7 +86,7 @@ fn misfit_of_invocations<'a>(alloc: Global, run: &Place<'a>, cause: Cause) -> Fo
     Ok(None)
 }
 
-/// What is at fault in a run for that cause, where its own members or what stands beside its results is.
+/// The error with that cause in a run, in its own members or outside its results.
 pub(crate) fn misfit_of_run<'a>(alloc: Global, run: &Place<'a>, cause: Cause) -> Found<'a> {
     let found = misfit_in(alloc, run, run_checks(cause))?;
     if found.is_some() {

@@ -1,4 +1,4 @@
-//! What is at fault in a result.
+//! The error in a result.
 use crate::checks::{location_checks, result_checks, suppression_checks};
 use crate::misfit::{Found, misfit_in, misfit_in_each};
 use crate::past_table::misfit_past_tables;
@@ -14,7 +14,7 @@ fn misfit_of_location<'a>(alloc: Global, place: &Place<'a>, cause: Cause) -> Fou
     }
 }
 
-/// What is at fault in a result of the run for that cause.
+/// The error with that cause in a result of the run.
 pub(crate) fn misfit_of_result<'a>(
     alloc: Global,
     run: &Place<'_>,

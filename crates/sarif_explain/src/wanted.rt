@@ -1,6 +1,6 @@
-//! What is wanted in the place of what is at fault: the table of the sentences.
+//! What is expected instead of the invalid value: the table of sentences.
 
-/// What is wanted of a value, or of a whole source.
+/// What is expected of a value, or of a whole source.
 #[derive(Clone, Copy, Debug, PartialEq, Eq)]
 pub(crate) enum Wanted {
     Json,
@@ -50,7 +50,7 @@ pub(crate) enum Wanted {
 }
 
 impl Wanted {
-    /// The sentence that says what is wanted.
+    /// The sentence that says what is expected.
     pub(crate) fn sentence(self) -> &'static str {
         match self {
             Wanted::Json => "JSON in UTF-8, nested at most 127 deep",

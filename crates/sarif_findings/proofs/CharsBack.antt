@@ -1,4 +1,4 @@
--- The characters of a text that was encoded are those that were encoded, also where some are no characters.
+-- The characters of an encoded string are the characters that were encoded, even if some are not valid.
 use Rattle.std.proofs.Common.{◌≡◌, ◌<◌, ◌≤◌, ◌+◌, ◌-◌, ◌*◌, ◌/◌, ◌%◌, ℕ, zero, suc, Bool, true, false, cond, List, [], ◌∷◌, ◌++◌, refl, ap, ap₂, ◌∙◌, arith}
 use Rattle.std.specs.Prelude.{nat_lt, encode_utf8_all}
 use Rattle.std.specs.Char.{encode_utf8}

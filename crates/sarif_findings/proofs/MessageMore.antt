@@ -33,7 +33,7 @@ count_few zero zero c few some = omega arith
 count_few zero (suc k) c few some = let wrong : 0 < 0 = some (omega arith) in absurd (omega arith)
 count_few (suc n) k c few some = omega arith
 
--- the first character of a text
+-- the first character of a string
 pub index_step : (n k : ℕ) (text rest : List ℕ) (c : ℕ) → IsUtf8 text → text ≡ encode_utf8 c ++ rest
     → index_from n k (chars text) ≡ index_from n k (c ∷ chars rest)
 index_step n k text rest c utf8 parts = ap (index_from n k) (chars_past_char text rest c utf8 parts)

@@ -19,7 +19,7 @@ not_opening c h = grind (arith, nat_tests, h)
 not_closing : (c : ℕ) → is_unbraced c ≡ true → (c == 125) ≡ false
 not_closing c h = grind (arith, nat_tests, h)
 
--- a character is no brace where its bytes are none
+-- a character is not a brace if its bytes are not
 char_unbraced : (c : ℕ) (b : Bool) → is_unbraced c ≡ b → list_all is_unbraced (encode_utf8 c) ≡ true → is_unbraced c ≡ true
 char_unbraced c true e h = e
 char_unbraced c false e h =

@@ -9,7 +9,7 @@ abbrev pub items_or_none : Option Items → Items
 items_or_none None = no_items
 items_or_none (Some ds) = ds
 
--- what is no array has no items
+-- a value that is not an array has no items
 pub items_in_array : (o : Option Data) → items_in o ≡ items_or_none (option_and_then as_array o)
 items_in_array None = refl
 items_in_array (Some null) = refl

@@ -44,7 +44,7 @@ rule_of : (x : Data) (component : Option Data)
 rule_of x None = none_among (rule_index x) (own_rule_id x)
 rule_of x (Some component) = refl
 
--- of a result that names no extension
+-- for a result that names no extension
 pub by_driver : (run x : Data) (driver : List Data) (told : Option Data) → extension_index x ≡ None → driver ≡ rules_of (driver_of run)
     → told ≡ rule_by (rule_index x) (own_rule_id x) driver → told ≡ descriptor_of run x
 by_driver run x driver told none is named =
@@ -60,7 +60,7 @@ rule_of_extension : (x : Data) (extension : Option Data)
 rule_of_extension x None = refl
 rule_of_extension x (Some extension) = refl
 
--- of a result that names one
+-- for a result that names an extension
 pub by_extension : (run x : Data) (i : ℕ) (extensions : List (List Value)) (found : Option (List Value)) → extension_index x ≡ Some i
     → map (map view) extensions ≡ map rules_in (extensions_of (get (codes "tool") run)) → found ≡ slice_get extensions i
     → option_and_then (rule_by (rule_index x) (own_rule_id x)) (option_map (map view) found) ≡ descriptor_of run x

@@ -1,4 +1,4 @@
--- What is shown is seen, and no two signs stand together in it.
+-- A shown string is visible, and no two `#` are adjacent in it.
 use Rattle.std.proofs.Common.{◌≡◌, ◌==◌, ℕ, zero, suc, Bool, true, false, not, ◌&&◌, List, [], ◌∷◌, ◌++◌, map, refl, ap, if◌then◌else◌}
 use mathlib.Core.Bool.{and-false}
 use Rattle.std.proofs.lemmas.Bool.{and_parts, and_from, or_from, or_parts}

@@ -1,4 +1,4 @@
--- A run that results are told of may be read in many threads.
+-- A run whose results are reported may be read in many threads.
 use denote.Param.Send.{IsSync, sendable}
 use denote.Ref.{NamedLft}
 use Rattle.std.proofs.Crossing.{crosses}

@@ -1,4 +1,4 @@
--- A text that is being shown: what one more character makes of it.
+-- A partly shown string: the effect of one more character.
 use Rattle.std.specs.Prelude.{◌≡◌, ℕ, zero, suc, ◌-◌, ◌==◌, true, false, List, [], ◌∷◌, ◌++◌, map, chars, encode_utf8, encode_utf8_all, IsUtf8, string_bytes, if◌then◌else◌}
 use Rattle.std.proofs.Common.{refl, sym, ◌∙◌, ap, append_assoc, append-nil, arith}
 use Rattle.std.proofs.lemmas.Str.{chars_past_char}
@@ -47,7 +47,7 @@ keeps_one old new c cs going some text room full =
     let e : kept old.room (c ∷ cs) ≡ c ∷ kept (old.room - 1) cs = ap (λ n. kept n (c ∷ cs)) (one_less old.room some) ∙ kept-cons (old.room - 1) c cs in
     rw (going, text, room, full, e) (sym (append_assoc (string_bytes old.text) (encode_utf8 c) after))
 
--- one character was taken
+-- one character was read
 pub takes_one : (old mid new last : ShownText) (c p : ℕ) → p ≡ plain c
     → ((cs : List ℕ) → Parts old mid p cs) → ((cs : List ℕ) → Keeps mid new p cs)
     → last.text ≡ new.text → last.room ≡ new.room → last.full ≡ new.full → last.after_sign ≡ (p == 35)
@@ -57,13 +57,13 @@ takes_one old mid new last c p shown part keep text room full sign = λ rest.
     ap (λ q. kept_with old (parted old.after_sign q ++ parted_signs (q == 35) (map plain rest))) (sym shown)
     ∙ part more ∙ keep more ∙ rw (text, room, full, sign)
 
--- all characters of a text were taken
+-- all characters of a string were read
 pub takes_step : (s t : ShownText) (text left : List ℕ) (c : ℕ) (more : List ℕ) → IsUtf8 text → text ≡ encode_utf8 c ++ left
     → Takes s t (c ∷ []) → shown_with s (chars text ++ more) ≡ shown_with t (chars left ++ more)
 takes_step s t text left c more utf8 parts taken =
     ap (λ cs. shown_with s (cs ++ more)) (chars_past_char text left c utf8 parts) ∙ taken (chars left ++ more)
 
--- a text that was taken whole
+-- a string that was read completely
 pub shown_whole : (first last : ShownText) (cs bytes : List ℕ) → ((xs : List ℕ) → shown_with first xs ≡ shown xs)
     → Takes first last cs → bytes ≡ shown_with last [] → bytes ≡ shown cs
 shown_whole first last cs bytes begins takes ends =

@@ -1,4 +1,4 @@
--- A text that is shown as it stands.
+-- A string that is shown unchanged.
 use Rattle.std.proofs.Common.{◌≡◌, ◌<◌, ◌≤◌, ◌==◌, ◌+◌, ◌-◌, ℕ, suc, Bool, true, false, List, [], ◌∷◌, ◌++◌, length, map, chars, refl, sym, ap, ◌∙◌, append_assoc, string_bytes, ne_eqb, arith}
 use Rattle.std.specs.Prelude.{encode_utf8_all}
 use Rattle.std.specs.List.{list_all}
@@ -62,7 +62,7 @@ parted_byte : (after_sign : Bool) (b : ℕ) → stands b ≡ true → parted aft
 parted_byte true b h = rw (no_sign b h) refl
 parted_byte false b h = refl
 
--- ---- all bytes of a text
+-- ---- all bytes of a string
 
 encodes_whole : (bs : List ℕ) → list_all stands bs ≡ true → encode_utf8_all bs ≡ bs
 encodes_whole [] h = refl
@@ -79,7 +79,7 @@ plain_whole (b ∷ bs) h =
     let parts = and_parts (stands b) (list_all stands bs) h in
     rw (plain_byte b parts.0) (ap (λ t. b ∷ t) (plain_whole bs parts.1))
 
--- behind a character that is no `#`
+-- after a character that is not `#`
 parted_behind : (bs rest : List ℕ) → list_all stands bs ≡ true → parted_signs false (bs ++ rest) ≡ bs ++ parted_signs false rest
 parted_behind [] rest h = refl
 parted_behind (b ∷ bs) rest h =
@@ -100,7 +100,7 @@ kept_whole (b ∷ bs) rest room left e =
     ap (λ n. kept n (b ∷ (bs ++ rest))) more ∙ kept-cons (length bs + left) b (bs ++ rest)
     ∙ ap (λ t. b ∷ t) (kept_whole bs rest (length bs + left) left refl)
 
--- ---- the text is taken
+-- ---- the string is read
 
 steps_whole : (bs rest : List ℕ) (after_sign : Bool) (room left : ℕ) → 0 < length bs → list_all stands bs ≡ true → room ≡ length bs + left
     → encode_utf8_all (kept room (parted_signs after_sign (map plain (chars bs ++ rest))))

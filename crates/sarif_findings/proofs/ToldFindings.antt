@@ -1,4 +1,4 @@
--- What is told of a result is shown.
+-- The strings of a finding are shown strings.
 use Rattle.std.proofs.Common.{◌≡◌, ◌<◌, ◌^◌, ◌++◌, ℕ, Bool, true, false, ◌&&◌, List, [], ◌∷◌, Option, Some, None, IfSome, codes, if◌then◌else◌, refl, arith}
 use Rattle.std.specs.Prelude.{option_and_then, flat_map, nat_le, nat_lt}
 use Rattle.std.specs.Char.{encode_utf8}

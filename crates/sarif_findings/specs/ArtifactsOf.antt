@@ -1,4 +1,4 @@
--- The artifacts of a run, their uris read as paths. No public clause speaks of it.
+-- The artifacts of a run, their URIs read as paths. Internal: no public contract refers to this module.
 use Rattle.std.specs.Prelude.{ℕ, List, Option, codes, map, option_map, option_and_then}
 use Rattle.serde_json.specs.Data.{Data}
 use Rattle.serde_json.specs.Find.{get}
@@ -10,10 +10,10 @@ abbrev pub uri_of_artifact : Data → Option (List ℕ)
 uri_of_artifact artifact =
     option_and_then (text_in (codes "uri")) (get (codes "location") artifact)
 
--- the same, its escapes read
+-- the same, with its escapes decoded
 abbrev pub path_of_artifact : Data → Option (List ℕ)
 path_of_artifact artifact = option_map decoded (uri_of_artifact artifact)
 
--- those of all artifacts of a run, in order
+-- the paths of all artifacts of a run, in order
 abbrev pub artifact_paths : Data → List (Option (List ℕ))
 artifact_paths run = map path_of_artifact (elements_in (codes "artifacts") run)

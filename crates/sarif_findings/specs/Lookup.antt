@@ -1,5 +1,5 @@
--- What a result of a merged log names: its rule and its place. A member of another kind than is looked for counts
--- as absent (SARIF 2.1.0, "result object", "reportingDescriptorReference object", "artifactLocation object").
+-- What a result of a merged log names: its rule and its place. A member of the wrong type is treated as missing
+-- (SARIF 2.1.0, "result object", "reportingDescriptorReference object", "artifactLocation object").
 use Rattle.std.specs.Prelude.{ℕ, ◌^◌, Bool, ◌&&◌, nat_lt, nat_le, List, [], Option, Some, None, codes, find, slice_get, option_and_then, unwrap_or, if◌then◌else◌}
 use Rattle.std.specs.Option.{option_or}
 use Rattle.serde_json.specs.Data.{Data}
@@ -21,7 +21,7 @@ element_at name d n = slice_get (elements_in name d) n
 
 -- ---- the rule
 
--- `ruleId`, else `rule.id`
+-- `ruleId`, otherwise `rule.id`
 abbrev pub own_rule_id : Data → Option (List ℕ)
 own_rule_id result =
     option_or (text_in (codes "ruleId") result)
@@ -31,7 +31,7 @@ own_rule_id result =
 abbrev pub index_of_rule : Data → Option ℕ
 index_of_rule result = option_and_then (number_in (codes "index")) (get (codes "rule") result)
 
--- `rule.index`, else `ruleIndex`
+-- `rule.index`, otherwise `ruleIndex`
 abbrev pub rule_index : Data → Option ℕ
 rule_index result = option_or (index_of_rule result) (number_in (codes "ruleIndex") result)
 
@@ -59,7 +59,7 @@ component_of run result = component_by run (extension_index result)
 abbrev pub has_id : List ℕ → Data → Bool
 has_id id rule = is_text id (text_in (codes "id") rule)
 
--- the rule of that index, else the first with that id
+-- the rule with that index, otherwise the first rule with that id
 abbrev pub rule_by : Option ℕ → Option (List ℕ) → List Data → Option Data
 rule_by (Some index) id rules = slice_get rules index
 rule_by None (Some id) rules = find (has_id id) rules
@@ -76,7 +76,7 @@ descriptor_of run result = option_and_then (rule_in result) (component_of run re
 abbrev pub descriptor_id : Data → Data → Option (List ℕ)
 descriptor_id run result = option_and_then (text_in (codes "id")) (descriptor_of run result)
 
--- the result's own rule id, else that of its descriptor, else the empty text
+-- the result's own rule id, otherwise the id of its descriptor, otherwise the empty string
 abbrev pub rule_id : Data → Data → List ℕ
 rule_id run result =
     unwrap_or (option_or (own_rule_id result) (descriptor_id run result)) []
@@ -99,13 +99,13 @@ artifact_uri run n =
     option_and_then (text_in (codes "uri"))
     (option_and_then (get (codes "location")) (element_at (codes "artifacts") run n))
 
--- the uri of an artifact location, else that of the artifact whose index it has
+-- the URI of an artifact location, otherwise the URI of the artifact whose index it has
 abbrev pub location_uri : Data → Data → Option (List ℕ)
 location_uri run location =
     option_or (text_in (codes "uri") location)
     (option_and_then (artifact_uri run) (number_in (codes "index") location))
 
--- the uri of a result's place
+-- the URI of a result's place
 abbrev pub uri_of : Data → Data → Option (List ℕ)
 uri_of run result =
     option_and_then (location_uri run)

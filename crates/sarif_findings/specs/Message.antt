@@ -1,5 +1,5 @@
--- The message of a result (SARIF 2.1.0, "Messages with placeholders", "Message string lookup"). Texts are their
--- characters here.
+-- The message of a result (SARIF 2.1.0, "Messages with placeholders", "Message string lookup"). Strings are lists
+-- of characters here.
 use Rattle.std.specs.Prelude.{ℕ, zero, suc, ◌+◌, ◌-◌, ◌*◌, Bool, false, not, ◌&&◌, ◌||◌, ◌==◌, nat_lt, List, [], ◌∷◌, ◌++◌, Option, Some, None, codes, chars, slice_get, option_and_then, unwrap_or, is_some, if◌then◌else◌}
 use Rattle.std.specs.Char.{is_ascii_digit}
 use Rattle.std.specs.Fmt.{decimal}
@@ -28,11 +28,11 @@ abbrev pub shared_string : Data → Data → List ℕ → Option (List ℕ)
 shared_string run result name =
     option_and_then (string_named (codes "globalMessageStrings") name) (strings_of run result)
 
--- the string of that name of the descriptor, else of the component
+-- the string with that name in the descriptor, otherwise in the component
 abbrev pub looked_up : Data → Data → List ℕ → Option (List ℕ)
 looked_up run result name = option_or (own_string run result name) (shared_string run result name)
 
--- the message's own text, else the one that its id names
+-- the message's own text, otherwise the string that its id names
 abbrev pub text_by : Data → Data → Data → Option (List ℕ)
 text_by run result message =
     option_or (text_in (codes "text") message)
@@ -57,22 +57,22 @@ arguments_of result = arguments_in (get (codes "message") result)
 abbrev pub takes_digit : ℕ → ℕ → ℕ → Bool
 takes_digit n count c = is_ascii_digit c && (nat_lt n 100000000 && (count == 0 || not (n == 0)))
 
--- the number that stands before the next `}` in at most nine digits, with no 0 before another digit, and in how
--- many digits; n is the number that `count` digits have written so far
+-- the number before the next `}`, with its count of digits: at most nine digits, and no leading 0. n is the number
+-- that the first `count` digits represent
 abbrev pub index_from : ℕ → ℕ → List ℕ → Option (ℕ × ℕ)
 index_from n count [] = None
 index_from n count (c ∷ cs) =
     if c == 125 then (if count == 0 then None else Some (n, count)) else (
     if takes_digit n count c then index_from (n * 10 + (c - 48)) (count + 1) cs else None)
 
--- the placeholder of that number, as it stands in a text
+-- the placeholder with that number, as it is written in a message
 abbrev pub placeholder : ℕ → List ℕ
 placeholder n = codes "{" ++ (decimal n ++ codes "}")
 
 abbrev pub argument_at : List Data → ℕ → Option (List ℕ)
 argument_at args n = option_and_then as_str (slice_get args n)
 
--- the argument of that number; where no text has it, the placeholder stays whole
+-- the argument with that number; if that argument is missing or is not a string, the placeholder stays unchanged
 abbrev pub argument_or_placeholder : List Data → ℕ → List ℕ
 argument_or_placeholder args n = unwrap_or (argument_at args n) (placeholder n)
 

@@ -1,11 +1,11 @@
--- A uri read as a path.
+-- A URI read as a path.
 use Rattle.std.specs.Prelude.{ℕ, Bool, true, false, not, ◌&&◌, ◌||◌, ◌==◌, nat_eq, List, [], ◌∷◌, drop, length, if◌then◌else◌}
 use Rattle.std.specs.List.{starts_with}
 use Rattle.std.specs.Char.{is_ascii_hexdigit}
 use Rattle.std.specs.Str.{is_utf8}
 use Rattle.percent_encoding.specs.Percent.{percent_decode}
 
--- whether two hexadecimal digits stand first
+-- whether the string starts with two hexadecimal digits
 abbrev pub begins_with_digits : List ℕ → Bool
 begins_with_digits [] = false
 begins_with_digits (high ∷ []) = false
@@ -16,7 +16,7 @@ abbrev pub is_escaped : List ℕ → Bool
 is_escaped [] = true
 is_escaped (b ∷ bs) = (not (b == 37) || begins_with_digits bs) && is_escaped bs
 
--- what the escapes stand for, where all are whole and that is a text; else the uri as it stands
+-- the decoded URI if all escapes are complete and the decoded bytes are UTF-8; otherwise the URI unchanged
 abbrev pub decoded : List ℕ → List ℕ
 decoded uri = if is_escaped uri && is_utf8 (percent_decode uri) then percent_decode uri else uri
 

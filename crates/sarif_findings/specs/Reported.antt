@@ -1,5 +1,5 @@
--- The results of a finished merged log that a report tells of, in the order of the log: the active ones whose
--- baseline state the policy lists.
+-- The reported results of a merged log, in the order of the log: the active results whose baseline state the
+-- policy lists.
 use Rattle.std.specs.Prelude.{ℕ, Bool, not, ◌&&◌, ◌||◌, nat_eq, bytes_eq, List, [], ◌∷◌, Option, Some, None, codes, chars, flat_map, option_and_then, unwrap_or, if◌then◌else◌}
 use Rattle.std.specs.List.{filter_map, starts_with}
 use Rattle.serde_json.specs.Data.{Data}
@@ -26,7 +26,7 @@ level_in result = option_and_then level_named (text_in (codes "level") result)
 abbrev pub is_active : Data → Bool
 is_active result = not (suppresses (suppressions_in result))
 
--- an empty message is told as such
+-- an empty message is reported as an empty message
 abbrev pub or_no_message : List ℕ → List ℕ
 or_no_message [] = codes "(no message)"
 or_no_message (b ∷ bs) = b ∷ bs
@@ -35,14 +35,14 @@ abbrev pub none_if_empty : List ℕ → Option (List ℕ)
 none_if_empty [] = None
 none_if_empty (b ∷ bs) = Some (b ∷ bs)
 
--- a uri as it is shown; an empty path counts as none
+-- a URI as it is shown; an empty path is treated as missing
 abbrev pub shown_path : List ℕ → List ℕ → Option (List ℕ)
 shown_path root uri = none_if_empty (shown (chars (path_of root uri)))
 
 abbrev pub path_in : Reporting → Data → Data → Option (List ℕ)
 path_in reporting run result = option_and_then (shown_path reporting.root) (uri_of run result)
 
--- what is told only beside another thing
+-- a value that is reported only together with another value
 abbrev pub only_with : {X Y : Type 0} → Option X → Option Y → Option Y
 only_with None o = None
 only_with (Some x) o = o
@@ -72,7 +72,7 @@ help_in run result = option_and_then link_of (help_uri run result)
 abbrev pub tool_in : Data → List ℕ
 tool_in run = unwrap_or (driver_name run) []
 
--- what is told of a result of this run
+-- the finding of a result of this run
 unfoldable pub finding_of : Reporting → Data → Data → Level → State → Finding
 finding_of reporting run result level state = record {
   tool = shown (chars (tool_in run));
@@ -90,7 +90,7 @@ finding_of reporting run result level state = record {
 abbrev pub is_reported : Reporting → Data → State → Bool
 is_reported reporting result state = is_listed reporting.policy.states state && is_active result
 
--- a result of a merged log has a level and a state; without one of them it isn't told
+-- a result of a merged log has a level and a state; a result without one of them is not reported
 abbrev pub finding_by : Reporting → Data → Data → Option Level → Option State → Option Finding
 finding_by reporting run result None state = None
 finding_by reporting run result (Some level) None = None

@@ -1,4 +1,4 @@
--- The rules of a run's tool components. No public clause speaks of it.
+-- The rules of a run's tool components. Internal: no public contract refers to this module.
 use Rattle.std.specs.Prelude.{ℕ, List, [], Option, Some, None, codes, option_map}
 use Rattle.std.specs.BTreeMap as tree
 use Rattle.std.specs.Borrow.{Bor}
@@ -18,7 +18,7 @@ rule_at table id =
 abbrev pub rules_in : Data → List Data
 rules_in component = elements_in (codes "rules") component
 
--- the same, none where there is no such component
+-- the same; no rules if there is no such component
 abbrev pub rules_of : Option Data → List Data
 rules_of None = []
 rules_of (Some component) = rules_in component

@@ -1,5 +1,5 @@
--- A text of a log as a report shows it, so that nothing of it can be read as anything but a text. A text is its
--- characters here.
+-- A string of a log as a report shows it, so that no part of it can be read as anything but a string. A string is
+-- a list of characters here.
 use Rattle.std.specs.Prelude.{ℕ, zero, suc, Bool, false, ◌&&◌, ◌||◌, ◌==◌, List, [], ◌∷◌, ◌++◌, map, nat_le, if◌then◌else◌, encode_utf8_all}
 
 abbrev pub is_between : ℕ → ℕ → ℕ → Bool
@@ -9,7 +9,7 @@ is_between first last c = nat_le first c && nat_le c last
 abbrev pub is_control : ℕ → Bool
 is_control c = is_between 0 0x1F c || is_between 0x7F 0x9F c || is_between 0x2028 0x2029 c
 
--- characters that turn the order in which a text is read, or join or steer what stands beside them unseen
+-- characters that change the reading order, or that join or control their neighbours without being visible
 abbrev pub is_unseen_mark : ℕ → Bool
 is_unseen_mark c =
     c == 0xAD || c == 0x34F || c == 0x61C
@@ -34,12 +34,12 @@ plain c = if is_concealed c then 32 else c
 abbrev pub parted : Bool → ℕ → List ℕ
 parted after_sign c = if after_sign && c == 35 then 32 ∷ c ∷ [] else c ∷ []
 
--- no two `#` together: where one stands after another, a space is between them
+-- no two adjacent `#`: a space is inserted between them
 abbrev pub parted_signs : Bool → List ℕ → List ℕ
 parted_signs after_sign [] = []
 parted_signs after_sign (c ∷ cs) = parted after_sign c ++ parted_signs (c == 35) cs
 
--- so many characters at most, and `…` where there are more
+-- at most that many characters, then `…` if there are more
 unfoldable pub kept : ℕ → List ℕ → List ℕ
 kept room [] = []
 kept zero (c ∷ cs) = 0x2026 ∷ []
@@ -49,6 +49,6 @@ kept (suc room) (c ∷ cs) = c ∷ kept room cs
 abbrev pub shown_chars : List ℕ → List ℕ
 shown_chars cs = kept 1000 (parted_signs false (map plain cs))
 
--- the bytes of what is shown of these characters
+-- the bytes of these characters as they are shown
 abbrev pub shown : List ℕ → List ℕ
 shown cs = encode_utf8_all (shown_chars cs)

@@ -1,10 +1,9 @@
--- A text that is being shown, character by character.
--- No clause of the program speaks of it.
+-- A partly shown string, character by character. Internal: no public contract refers to this module.
 use Rattle.std.specs.Prelude.{◌≡◌, ℕ, Bool, not, ◌&&◌, ◌==◌, List, [], ◌∷◌, ◌++◌, map, if◌then◌else◌, encode_utf8_all, string_bytes}
 use Rattle.sarif_findings.specs.declared.shown_text.ShownText.{ShownText}
 use Rattle.sarif_findings.specs.Shown.{is_between, kept, parted, parted_signs, plain}
 
--- whether a byte is a character that is shown as it stands, whatever stands beside it
+-- whether a byte is a character that is shown unchanged, regardless of its neighbours
 abbrev pub stands : ℕ → Bool
 stands b = is_between 32 126 b && not (b == 35)
 
@@ -15,11 +14,11 @@ shown_with so_far cs =
     ++ (if so_far.full then []
     else encode_utf8_all (kept so_far.room (parted_signs so_far.after_sign (map plain cs))))
 
--- these characters were taken, and others may follow
+-- these characters were read, and others may follow
 abbrev pub Takes : ShownText → ShownText → List ℕ → Type 0
 Takes old new cs = (rest : List ℕ) → shown_with old (cs ++ rest) ≡ shown_with new rest
 
--- the same of characters that have gone through the first two steps
+-- the same for characters after the first two steps
 abbrev pub kept_with : ShownText → List ℕ → List ℕ
 kept_with so_far cs =
     string_bytes so_far.text ++ (if so_far.full then [] else encode_utf8_all (kept so_far.room cs))
@@ -32,6 +31,6 @@ Keeps old new c cs = kept_with old (c ∷ cs) ≡ kept_with new cs
 abbrev pub Parts : ShownText → ShownText → ℕ → List ℕ → Type 0
 Parts old new c cs = kept_with old (parted old.after_sign c ++ cs) ≡ kept_with new (c ∷ cs)
 
--- these characters were taken, and so many more of the text are read with them
+-- these characters were read, together with that many further characters of the string
 abbrev pub Writes : ShownText → ShownText → ℕ → List ℕ × ℕ → Type 0
 Writes old new more piece = (more ≡ piece.1) × Takes old new piece.0

@@ -1,4 +1,4 @@
--- A result that is told of. No public clause speaks of it.
+-- A reported result. Internal: no public contract refers to this module.
 use Rattle.std.specs.Prelude.{◌≡◌, option_map}
 use Rattle.serde_json.specs.View.{view}
 use Rattle.sarif_findings.specs.declared.subject.Subject.{Subject}

@@ -9,14 +9,14 @@ use sarif_model::Text;
 use serde_json::Value;
 use std::alloc::{AllocError, Global};
 
-/// The uri of an artifact (SARIF 2.1.0, "artifact object").
+/// The URI of an artifact (SARIF 2.1.0, "artifact object").
 fn uri_of(artifact: &Value) -> Option<&str>
     ensures { option_map (λ s. s.now) result ≡ uri_of_artifact (view artifact.now) }
 {
     text_in(artifact.get("location")?, "uri")
 }
 
-/// The uri of an artifact, read as a path.
+/// The URI of an artifact, read as a path.
 fn path_of(alloc: Global, artifact: &Value) -> Result<Option<Text>, AllocError>
     ensures { IfOk result (λ path. path ≡ path_of_artifact (view artifact.now)) }
 {
@@ -27,7 +27,7 @@ fn path_of(alloc: Global, artifact: &Value) -> Result<Option<Text>, AllocError>
     Ok(Some(Text::copy_of(alloc, path.as_str())?))
 }
 
-/// The uris of a run's artifacts, in order, each read as a path.
+/// The URIs of a run's artifacts, in order, each read as a path.
 pub(crate) fn paths_of_artifacts(
     alloc: Global,
     run: &Value,

@@ -1,12 +1,12 @@
-//! What a report tells of a result.
+//! What a report says about a result.
 use sarif_model::{Level, State, Text};
 
-/// What a report tells of a result of the merged log. Texts are shown texts (see `shown`).
+/// What a report says about a result of the merged log. Strings are shown strings (see `shown`).
 #[derive(Debug, Drop)]
 pub struct Finding {
     /// The name of the driver.
     pub tool: Text,
-    /// The rule id, or the empty text.
+    /// The rule id, or the empty string.
     pub rule: Text,
     /// The effective level, as the merged log has it.
     pub level: Level,
@@ -14,14 +14,12 @@ pub struct Finding {
     pub state: State,
     /// The message with its placeholders filled in, or `(no message)` where that is empty.
     pub message: Text,
-    /// The uri of its place, read as a path, without the root; `None` where there is none, or it is
-    /// empty.
+    /// The URI of its place, read as a path, without the root; `None` if there is no URI or the path is empty.
     pub path: Option<Text>,
-    /// `region.startLine` of its first location, from 1; `None` where it isn't there, or where
-    /// there is no path.
+    /// `region.startLine` of its first location, from 1; `None` if it is missing or there is no path.
     pub line: Option<u32>,
-    /// `region.startColumn` of its first location, from 1, in the unit of the log; `None` where it
-    /// isn't there, or where there is no line.
+    /// `region.startColumn` of its first location, from 1, in the unit of the log; `None` if it is missing or
+    /// there is no line.
     pub column: Option<u32>,
     /// The address of a page on the rule, its `helpUri`, as it is in the log.
     pub help: Option<Text>,

@@ -1,4 +1,4 @@
-//! What reports tell of a result: its rule, message and place, made safe to show.
+//! What reports say about a result: its rule, message and place, made safe to show.
 #![tactic(auto)]
 
 mod artifacts;

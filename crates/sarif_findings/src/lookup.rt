@@ -1,5 +1,5 @@
-//! What a result of a merged log names: its rule, and artifacts of its run. A member of another kind than is looked
-//! for counts as absent.
+//! What a result of a merged log names: its rule, and artifacts of its run. A member of the wrong type is treated
+//! as missing.
 ghost use Rattle.std.specs.Prelude.{◌≡◌, map, option_map, option_and_then};
 ghost use Rattle.serde_json.specs.View.{view};
 ghost use Rattle.sarif_findings.specs.Lookup as said;
@@ -8,14 +8,14 @@ ghost use Rattle.sarif_findings.specs.Subject.{IsDescribed};
 use crate::subject::Subject;
 use serde_json::Value;
 
-/// The text `name` of an object.
+/// The string `name` of an object.
 pub(crate) fn text_in<'a>(value: &'a Value, name: &str) -> Option<&'a str>
     ensures { option_map (λ s. s.now) result ≡ said.text_in name.now (view value.now) }
 {
     value.get(name)?.as_str()
 }
 
-/// The whole number `name` of an object, which is at least 0.
+/// The integer `name` of an object, which is at least 0.
 pub(crate) fn number_in(value: &Value, name: &str) -> Option<u64>
     ensures { result ≡ said.number_in name.now (view value.now) }
 {
@@ -41,7 +41,7 @@ fn element_at<'a>(value: &'a Value, name: &str, index: u64) -> Option<&'a Value>
     elements_in(value, name).get(index as usize)
 }
 
-/// `ruleId`, else `rule.id`.
+/// `ruleId`, otherwise `rule.id`.
 pub(crate) fn own_rule_id(found: &Value) -> Option<&str>
     ensures { option_map (λ s. s.now) result ≡ said.own_rule_id (view found.now) }
 {
@@ -58,7 +58,7 @@ fn index_of_rule(found: &Value) -> Option<u64>
     number_in(found.get("rule")?, "index")
 }
 
-/// `rule.index`, else `ruleIndex`.
+/// `rule.index`, otherwise `ruleIndex`.
 pub(crate) fn rule_index(found: &Value) -> Option<u64>
     ensures { result ≡ said.rule_index (view found.now) }
 {
@@ -109,7 +109,7 @@ fn descriptor_id<'a>(subject: &Subject<'a>) -> Option<&'a str>
     text_in(subject.descriptor?, "id")
 }
 
-/// The result's own rule id, else that of its descriptor, else the empty text.
+/// The result's own rule id, otherwise the id of its descriptor, otherwise the empty string.
 pub(crate) fn rule_id<'a>(subject: &Subject<'a>) -> &'a str
     requires { IsDescribed subject.now }
     ensures { result.now ≡ said.rule_id (view subject.now.run.now) (view subject.now.found.now) }

@@ -53,7 +53,7 @@ fn shared_string<'a>(subject: &Subject<'a>, name: &str) -> Option<&'a str>
     string_named(strings_of(subject)?, "globalMessageStrings", name)
 }
 
-/// The string of that name of the descriptor, else of the component.
+/// The string with that name in the descriptor, otherwise in the component.
 fn looked_up<'a>(subject: &Subject<'a>, name: &str) -> Option<&'a str>
     requires { IsDescribed subject.now }
     ensures { option_map (λ s. s.now) result
@@ -65,7 +65,7 @@ fn looked_up<'a>(subject: &Subject<'a>, name: &str) -> Option<&'a str>
     }
 }
 
-/// The message's own text, else the one that its id names.
+/// The message's own text, otherwise the string that its id names.
 fn text_by<'a>(subject: &Subject<'a>, message: &'a Value) -> Option<&'a str>
     requires { IsDescribed subject.now }
     ensures { option_map (λ s. s.now) result
@@ -86,7 +86,7 @@ fn found_text<'a>(subject: &Subject<'a>) -> Option<&'a str>
     text_by(subject, subject.found.get("message")?)
 }
 
-/// The message's text with its placeholders, or the empty text.
+/// The message's text with its placeholders, or the empty string.
 fn message_text<'a>(subject: &Subject<'a>) -> &'a str
     requires { IsDescribed subject.now }
     ensures { result.now
@@ -116,7 +116,7 @@ fn takes_digit(number: u32, count: u32, c: char) -> bool
     c.is_ascii_digit() && number < 100_000_000 && (count == 0 || number != 0)
 }
 
-/// The number of an argument, which stands before the next `}`, and in how many digits.
+/// The number of an argument before the next `}`, and its count of digits.
 fn index_in(rest: &str) -> Option<(u32, u32)>
     ensures few { IfSome result (λ p. p.1 ≤ 1000000000) }
     ensures said { result ≡ said.index_from 0 0 (chars rest.now) }
@@ -140,14 +140,14 @@ fn index_in(rest: &str) -> Option<(u32, u32)>
     None
 }
 
-/// The argument of that number, where it is a text.
+/// The argument with that number, if it is a string.
 fn argument_at<'a>(args: &'a [Value], number: u32) -> Option<&'a str>
     ensures { option_map (λ s. s.now) result ≡ said.argument_at (map view args.now) number }
 {
     args.get(number as usize)?.as_str()
 }
 
-/// Whether this character stands first.
+/// Returns whether the string starts with this character.
 fn begins_with(rest: &str, c: char) -> bool
     ensures { result ≡ said.first_is c (chars rest.now) }
 {
@@ -157,7 +157,7 @@ fn begins_with(rest: &str, c: char) -> bool
     }
 }
 
-/// Shows the argument of that number, or the placeholder as it stands where no text has that number.
+/// Shows the argument with that number, or the unchanged placeholder if that argument is not a string.
 fn push_argument(
     alloc: Global,
     so_far: &mut ShownText,
@@ -177,7 +177,7 @@ fn push_argument(
     Ok(())
 }
 
-/// Shows what stands for a `{`, and tells how many of the characters after it are part of the same placeholder.
+/// Shows the replacement for a `{`. Returns how many of the characters after it are part of the same placeholder.
 fn push_brace(
     alloc: Global,
     so_far: &mut ShownText,
@@ -199,7 +199,8 @@ fn push_brace(
     }
 }
 
-/// Shows what stands for a character, and tells how many of those after it are part of the same placeholder.
+/// Shows the replacement for a character. Returns how many of the characters after it are part of the same
+/// placeholder.
 fn push_piece(
     alloc: Global,
     so_far: &mut ShownText,
@@ -220,7 +221,7 @@ fn push_piece(
     Ok(0)
 }
 
-/// Shows a text with its placeholders filled in.
+/// Shows a message with its placeholders replaced.
 fn push_filled(
     alloc: Global,
     so_far: &mut ShownText,
@@ -257,7 +258,7 @@ fn are_unbraced(bytes: &[u8]) -> bool
     true
 }
 
-/// Whether a text has nothing that is filled in, whatever the arguments.
+/// Returns whether a message has nothing to replace, regardless of the arguments.
 fn stays(text: &str) -> bool
     ensures { OnTrue result ((args : List Data)
         → said.filled args (chars text.now) ≡ chars text.now) }
@@ -265,11 +266,11 @@ fn stays(text: &str) -> bool
     are_unbraced(text.as_bytes())
 }
 
-/// The longest text, in bytes, that is looked through for braces before it is shown. Of a longer one no more is read
-/// than is shown.
+/// The longest message, in bytes, that is searched for braces before it is shown. For a longer message only the
+/// shown part is read.
 const LONGEST_LOOKED_THROUGH: usize = 4_096;
 
-/// Whether a text is found to have nothing that is filled in, whatever the arguments.
+/// Returns whether a search finds nothing to replace in a message, regardless of the arguments.
 fn is_plain(text: &str) -> bool
     ensures { OnTrue result ((args : List Data)
         → said.filled args (chars text.now) ≡ chars text.now) }

@@ -21,7 +21,7 @@ use std::alloc::{AllocError, Global};
 use std::marker::Model;
 
 /// A run with what its results name: its tool as it is shown, the rules of the tool's components by their ids, and
-/// the uris of its artifacts read as paths (SARIF 2.1.0, "run object"). Contracts see the run.
+/// the URIs of its artifacts read as paths (SARIF 2.1.0, "run object"). Contracts see the run.
 #[derive(Drop)]
 pub struct NamedRun<'r> {
     run: &'r Value,
@@ -100,7 +100,7 @@ fn rules_at<'s, 'r>(components: &'s [Rules<'r>], index: u64) -> Option<&'s Rules
     components.get(index as usize)
 }
 
-/// The path of that number, where there is one.
+/// The path with that number, if there is one.
 fn path_at(paths: &[Option<Text>], index: u64) -> Option<&Text>
     ensures { option_map (λ path. path.now) result ≡ option_flatten (slice_get paths.now index) }
 {
@@ -111,7 +111,7 @@ fn path_at(paths: &[Option<Text>], index: u64) -> Option<&Text>
 }
 
 impl<'r> NamedRun<'r> {
-    /// Looks up what each result of the run may name. `AllocError` where memory is wanting.
+    /// Looks up what the results of the run may name. Returns `AllocError` if memory runs out.
     pub fn new(alloc: Global, run: &'r Value) -> Result<NamedRun<'r>, AllocError>
         ensures { IfOk result (λ named. named ≡ run.now) }
     {
@@ -128,14 +128,14 @@ impl<'r> NamedRun<'r> {
         })
     }
 
-    /// What is shown of the name of its tool.
+    /// The name of its tool as it is shown.
     pub(crate) fn tool(&self) -> &Text
         ensures { result.now ≡ shown (chars (tool_in (view self.now))) }
     {
         &self.tool
     }
 
-    /// The uri of the artifact of that index, read as a path.
+    /// The URI of the artifact with that index, read as a path.
     pub(crate) fn artifact_path(&self, index: u64) -> Option<&Text>
         ensures { option_map (λ path. path.now) result
             ≡ option_map decoded (said.artifact_uri (view self.now) index) }

@@ -1,4 +1,4 @@
-//! A uri read as a path.
+//! A URI read as a path.
 ghost use Rattle.std.specs.Prelude.{◌≡◌, ◌++◌, OnOk, IfOk, IfSome, IfNone, true, false, chars};
 ghost use Rattle.std.specs.Cow.{cow_str_bytes};
 ghost use Rattle.std.specs.Str.{is_utf8};
@@ -11,7 +11,7 @@ use percent_encoding::{DecodeError, percent_decode};
 use std::alloc::{AllocError, Global};
 use std::borrow::CowStr;
 
-/// Whether two hexadecimal digits stand first.
+/// Returns whether the string starts with two hexadecimal digits.
 fn begins_with_digits(bytes: &[u8]) -> bool
     ensures { result ≡ said.begins_with_digits bytes.now }
 {
@@ -33,7 +33,7 @@ fn is_escaped(uri: &[u8]) -> bool
     true
 }
 
-/// What the escapes of the uri stand for, where that is a text.
+/// The decoded URI, if the decoded bytes are UTF-8.
 fn decode(alloc: Global, uri: &str) -> Result<Option<CowStr<'_, Global>>, AllocError>
     ensures some { IfOk result (λ o. IfSome o (λ s. (cow_str_bytes s ≡ decoded_bytes uri.now)
         × (is_utf8 (decoded_bytes uri.now) ≡ true))) }
@@ -56,7 +56,7 @@ fn without_root<'a>(root: &str, path: &'a str) -> &'a str
     }
 }
 
-/// What the escapes of a uri stand for, where all of them are whole and that is a text; else the uri as it stands.
+/// The decoded URI if all escapes are complete and the decoded bytes are UTF-8; otherwise the URI unchanged.
 pub(crate) fn decoded(alloc: Global, uri: &str) -> Result<CowStr<'_, Global>, AllocError>
     ensures { IfOk result (λ s. cow_str_bytes s ≡ said.decoded uri.now) }
 {

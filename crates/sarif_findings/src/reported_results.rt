@@ -1,4 +1,4 @@
-//! What is told of a result of a finished merged log, where it is reported.
+//! The finding of a result of a merged log, if it is reported.
 ghost use Rattle.std.specs.Prelude.{◌≡◌, ◌++◌, Some, IfOk, OnOk, chars, map, string_bytes};
 ghost use Rattle.std.specs.List.{filter_map};
 ghost use Rattle.sarif_findings.specs.Message.{message_of};
@@ -92,7 +92,7 @@ fn help_in(alloc: Global, subject: &Subject<'_>) -> Result<Option<Text>, AllocEr
     Ok(None)
 }
 
-/// What is shown of a result's message.
+/// A result's message as it is shown.
 fn shown_message(alloc: Global, subject: &Subject<'_>) -> Result<String, AllocError>
     requires { IsDescribed subject.now }
     ensures { IfOk result (λ s. string_bytes s
@@ -115,11 +115,11 @@ fn message_in(alloc: Global, subject: &Subject<'_>) -> Result<Text, AllocError>
     Text::from_string(message)
 }
 
-/// The members of a result that are told of, beside its level and its state: what is told rests on no other.
+/// The members of a result that a finding depends on, besides its level and its state.
 pub const TOLD_MEMBERS: [&str; 5] = ["ruleId", "rule", "ruleIndex", "message", "locations"];
 
-/// What is told of a result of a run that has this level and this baseline state. Of the run its results aren't
-/// looked at, nor are other members of the result than `TOLD_MEMBERS`. `AllocError` where memory is wanting.
+/// Returns the finding of a result of a run that has this level and this baseline state. It reads neither the
+/// run's results nor members of the result outside `TOLD_MEMBERS`. Returns `AllocError` if memory runs out.
 #[tactic(auto, unfolding(crate::specs::Reported::finding_of))]
 pub fn finding_of(
     alloc: Global,
@@ -153,7 +153,7 @@ pub fn finding_of(
     })
 }
 
-/// What is told of a result of a run, where it is reported. Of one that isn't nothing more is read.
+/// The finding of a result of a run, if it is reported. Nothing more is read of a result that is not reported.
 fn finding_if(
     alloc: Global,
     reporting: &Reporting,
@@ -175,7 +175,7 @@ fn finding_if(
     Ok(Some(finding))
 }
 
-/// Adds what is told of those of these results of a run that are reported.
+/// Adds the findings of the reported results among these results of a run.
 fn push_told(
     alloc: Global,
     findings: &mut Vec<Finding>,
@@ -194,7 +194,7 @@ fn push_told(
     Ok(())
 }
 
-/// Adds what is told of the reported results of a run.
+/// Adds the findings of the reported results of a run.
 fn push_reported(
     alloc: Global,
     findings: &mut Vec<Finding>,
@@ -215,9 +215,9 @@ fn push_reported(
     Ok(())
 }
 
-/// The results that a report tells of, in the order of this merged log: the active ones whose baseline state is
-/// one of the policy's. Those are hits whose level is also at least that of the policy. `AllocError` where memory is
-/// wanting.
+/// Returns the findings of the reported results, in the order of this merged log: the active results whose
+/// baseline state is in the policy. A reported result is a hit if its level is at least the policy's level.
+/// Returns `AllocError` if memory runs out.
 pub fn reported(
     alloc: Global,
     reporting: &Reporting,

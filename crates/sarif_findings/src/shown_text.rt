@@ -8,7 +8,7 @@ ghost use Rattle.sarif_findings.specs.ShownSoFar as so_far;
 use sarif_model::Text;
 use std::alloc::{AllocError, Global};
 
-/// The most characters that are shown of a text.
+/// The maximum number of characters of a shown string.
 pub const MOST_CHARACTERS: u32 = 1_000;
 
 /// A control character, or a line or paragraph separator.
@@ -18,7 +18,7 @@ fn is_control(c: char) -> bool
     matches!(c, '\u{0}'..='\u{1f}' | '\u{7f}'..='\u{9f}' | '\u{2028}'..='\u{2029}')
 }
 
-/// A character that turns the order of reading, or joins or steers what is beside it unseen.
+/// A character that changes the reading order, or that joins or controls its neighbours without being visible.
 fn is_unseen_mark(c: char) -> bool
     ensures { result ≡ said.is_unseen_mark c }
 {
@@ -46,7 +46,7 @@ fn is_blank_letter(c: char) -> bool
     matches!(c, '\u{115f}'..='\u{1160}' | '\u{17b4}'..='\u{17b5}' | '\u{3164}' | '\u{ffa0}')
 }
 
-/// The character, or a space in place of one that isn't shown.
+/// The character, or a space in place of a character that is not shown.
 fn plain(c: char) -> char
     ensures { result ≡ said.plain c }
 {
@@ -57,7 +57,7 @@ fn plain(c: char) -> char
     }
 }
 
-/// Whether a byte is a character that is shown as it stands, whatever stands beside it.
+/// Returns whether a byte is a character that is shown unchanged, regardless of its neighbours.
 fn stands(byte: u8) -> bool
     ensures { result ≡ so_far.stands byte }
 {
@@ -75,7 +75,7 @@ fn all_stand(bytes: &[u8]) -> bool
     true
 }
 
-/// A text that is being shown: it takes characters, and makes no more than it keeps.
+/// A partly shown string. It reads characters and stores only what it keeps.
 #[derive(Drop)]
 pub(crate) struct ShownText {
     text: String,
@@ -101,14 +101,14 @@ impl ShownText {
         }
     }
 
-    /// Whether no further character is taken.
+    /// Returns whether no further character is read.
     pub(crate) fn is_full(&self) -> bool
         ensures { result ≡ self.now.full }
     {
         self.full
     }
 
-    /// Keeps a character that is shown as it stands, or ends the text.
+    /// Keeps a character that is shown unchanged, or ends the string.
     fn keep(&mut self, c: char) -> Result<(), AllocError>
         ensures { OnOk result ((cs : List ℕ) → Keeps self.old self.new c cs) }
     {
@@ -146,7 +146,7 @@ impl ShownText {
         Ok(())
     }
 
-    /// Takes the characters of a text, one after another.
+    /// Reads the characters of a string, in order.
     fn push_each(&mut self, text: &str) -> Result<(), AllocError>
         ensures { OnOk result (Takes self.old self.new (chars text.now)) }
     {
@@ -159,7 +159,7 @@ impl ShownText {
         Ok(())
     }
 
-    /// Whether a text is shown as it stands, and there is room for it.
+    /// Returns whether a string is shown unchanged and there is room for it.
     fn has_room(&self, text: &str) -> bool
         ensures some { OnTrue result (0 < length text.now) }
         ensures stands { OnTrue result (list_all stands text.now ≡ true) }
@@ -172,7 +172,7 @@ impl ShownText {
             && all_stand(text.as_bytes())
     }
 
-    /// Takes a text that is shown as it stands.
+    /// Reads a string that is shown unchanged.
     fn push_whole(&mut self, text: &str) -> Result<(), AllocError>
         requires some { 0 < length text.now }
         requires stands { list_all stands text.now ≡ true }
@@ -186,7 +186,7 @@ impl ShownText {
         Ok(())
     }
 
-    /// Takes the characters of a text.
+    /// Reads the characters of a string.
     pub(crate) fn push_str(&mut self, text: &str) -> Result<(), AllocError>
         ensures { OnOk result (Takes self.old self.new (chars text.now)) }
     {
@@ -205,8 +205,8 @@ impl ShownText {
     }
 }
 
-/// What is shown of a text: one line of at most 1,000 characters, none of which hides or steers, and `…` behind them
-/// where there were more. `AllocError` where memory for it is wanting.
+/// Returns a string as it is shown: one line of at most 1,000 characters, none of which hides or controls others,
+/// followed by `…` if there were more. Returns `AllocError` if memory for it runs out.
 pub fn shown(alloc: Global, text: &str) -> Result<String, AllocError>
     ensures { IfOk result (λ s. string_bytes s ≡ said.shown (chars text.now)) }
 {
@@ -215,7 +215,7 @@ pub fn shown(alloc: Global, text: &str) -> Result<String, AllocError>
     Ok(so_far.finish())
 }
 
-/// What is shown of a text, as a text that clones share.
+/// A string as it is shown, in a form that clones share.
 pub(crate) fn shown_copy(alloc: Global, text: &str) -> Result<Text, AllocError>
     ensures { IfOk result (λ t. t ≡ said.shown (chars text.now)) }
 {

@@ -17,7 +17,7 @@ use sarif_model::Text;
 use serde_json::Value;
 use std::alloc::{AllocError, Global};
 
-/// What a report tells of the place of a result.
+/// What a report says about the place of a result.
 #[derive(Drop)]
 pub(crate) struct Spot {
     pub(crate) path: Option<Text>,
@@ -35,7 +35,7 @@ fn physical_location(found: &Value) -> Option<&Value>
     }
 }
 
-/// What is shown of a path, less the root.
+/// A path as it is shown, without the root.
 fn text_of_path(alloc: Global, root: &str, path: &str) -> Result<String, AllocError>
     ensures { IfOk result
         (λ s. string_bytes s ≡ text_shown (chars (without_root root.now path.now))) }
@@ -56,7 +56,7 @@ fn shown_path(alloc: Global, root: &str, path: &str) -> Result<Option<Text>, All
     Ok(Some(Text::from_string(shown)?))
 }
 
-/// What is shown of a uri as a path.
+/// A URI as it is shown as a path.
 fn shown_uri(alloc: Global, root: &str, uri: &str) -> Result<Option<Text>, AllocError>
     ensures { IfOk result (λ o. o ≡ said.shown_path root.now uri.now) }
 {
@@ -90,7 +90,7 @@ fn shown_artifact(
     }
 }
 
-/// What is shown as a path of the uri of an artifact location, else of that of the artifact whose index it has.
+/// The shown path of the URI of an artifact location, otherwise of the URI of the artifact whose index it has.
 fn shown_location(
     alloc: Global,
     root: &str,
@@ -106,7 +106,7 @@ fn shown_location(
     }
 }
 
-/// What is shown of the uri of a physical location as a path.
+/// The shown path of the URI of a physical location.
 fn path_in(
     alloc: Global,
     root: &str,
@@ -123,7 +123,7 @@ fn path_in(
     }
 }
 
-/// A member of the region, as a line or a column: a whole number from 1 to 2^32 - 1.
+/// A member of the region, as a line or a column: an integer from 1 to 2^32 - 1.
 fn position_in(physical: &Value, name: &str) -> Option<u32>
     ensures { result ≡ option_and_then lookup.position_number
         (option_and_then (lookup.number_in name.now)
@@ -137,7 +137,7 @@ fn position_in(physical: &Value, name: &str) -> Option<u32>
     }
 }
 
-/// A member of the region, where that which it is told beside is there.
+/// A member of the region, if the value that it is reported with is there.
 fn position_with<T>(beside: &Option<T>, physical: &Value, name: &str) -> Option<u32>
     ensures { result ≡ said.only_with beside.now (option_and_then lookup.position_number
         (option_and_then (lookup.number_in name.now)
@@ -149,7 +149,7 @@ fn position_with<T>(beside: &Option<T>, physical: &Value, name: &str) -> Option<
     }
 }
 
-/// What is told of the place of a result of a run.
+/// What a finding says about the place of a result of a run.
 pub(crate) fn spot_of(
     alloc: Global,
     reporting: &Reporting,

@@ -1,7 +1,7 @@
-//! A result that is told of.
+//! A reported result.
 use serde_json::Value;
 
-/// A result that is told of, in its run.
+/// A reported result, in its run.
 #[derive(Clone, Copy)]
 pub(crate) struct Subject<'r> {
     pub(crate) run: &'r Value,

@@ -1,4 +1,4 @@
--- The pairs of a tier can be put in one after another.
+-- The pairs of a tier can be added one by one.
 use Rattle.std.proofs.Common.{◌≡◌, ◌≢◌, ℕ, ◌+◌, ◌<◌, ◌≤◌, zero, suc, Bool, true, false, cond, not, List, [], ◌∷◌, ◌++◌, Option, Some, None, length, is_some, map, slice_get, slice_index_or, slice_set, filter, refl, sym, ap, ◌∙◌, arith}
 use Rattle.std.proofs.Math.ListN.{length-set}
 use Rattle.std.proofs.lemmas.List.{get_or-set_other, map-append}
@@ -18,7 +18,7 @@ use Rattle.sarif_match.proofs.KeyLemmas.{eq-is_same_parts}
 use Rattle.sarif_match.proofs.NamedLemmas.{IsBelow-keyed_from}
 
 module _ {K : Type 0} where
-  -- rising results from number n on, none of which has a partner
+  -- results in rising order from number n, none of which has a match
   abbrev pub IsLeft : List (Option ℕ) → ℕ → List (ℕ × K) → Type 0
   IsLeft partners n [] = Unit {0}
   IsLeft partners n (e ∷ es) =
@@ -28,7 +28,7 @@ module _ {K : Type 0} where
   IsLeft-from partners n n' [] le h = tt
   IsLeft-from partners n n' (e ∷ es) le h = let from : n' ≤ e.0 = h.0 in (omega arith, h.1, h.2, h.3)
 
-  -- a pair below n leaves them without a partner
+  -- a pair below n leaves them unmatched
   IsLeft-set : (partners : List (Option ℕ)) (i n : ℕ) (o : Option ℕ) (es : List (ℕ × K)) → i < n → IsLeft partners n es → IsLeft (slice_set partners i o) n es
   IsLeft-set partners i n o [] below h = tt
   IsLeft-set partners i n o (e ∷ es) below h =

@@ -1,4 +1,4 @@
--- What holds of the partners after all tiers.
+-- Properties of the matches after all tiers.
 use Rattle.std.proofs.Common.{◌≡◌, ◌≢◌, ℕ, ◌<◌, zero, suc, Bool, true, false, cond, not, ◌||◌, ◌⊎◌, inl, inr, ⊎_elim, List, [], ◌∷◌, ◌++◌, Option, Some, None, ◌==◌, length, fold, replicate, slice_index_or, slice_set, is_some, refl, sym, ap, ◌∙◌, arith, eq-eqb}
 use mathlib.Core.Bool.{or-true}
 use Rattle.std.proofs.Math.ListN.{length-set}
@@ -25,7 +25,7 @@ module _ (partners : List (Option ℕ)) (p : ℕ × ℕ) (i j : ℕ) (within : p
   at_place : slice_index_or (slice_set partners p.0 (Some p.1)) i None ≡ cond (p.0 == i) (Some p.1) (slice_index_or partners i None)
   at_place = slice_index_or-slice_set partners p.0 i (Some p.1) None within
 
-  -- after one pair is put in, a partner is that pair's or was there
+  -- after one pair is added, a match is that pair or was there before
   one_put : slice_index_or (slice_set partners p.0 (Some p.1)) i None ≡ Some j → (p ≡ (i, j)) ⊎ (slice_index_or partners i None ≡ Some j)
   one_put found = ⊎_elim same other (eqb_tells p.0 i)
     where
@@ -85,7 +85,7 @@ is_taken-by (x ∷ partners) (suc i) j found =
     ap (λ (b : Bool). option_map_or (λ (taken : ℕ). taken == j) x false || b) (is_taken-by partners i j found) ∙ or-true (option_map_or (λ (taken : ℕ). taken == j) x false)
 
 module _ (current baseline : List Record) where
-  -- after one tier more, partners were partners or are paired at it
+  -- after one more tier, matched results were matched before or match at it
   after_tells : (partners : List (Option ℕ)) (tier : Tier) (i j : ℕ) → length partners ≡ length current → slice_index_or (after_tier current baseline partners tier) i None ≡ Some j → (slice_index_or partners i None ≡ Some j) ⊎ IsPairedAt current baseline partners tier i j
   after_tells partners tier i j counted found =
       ⊎_elim (λ was. inl was) (λ h. inr (paired-of current baseline partners tier i j h)) (put_tells (length baseline) partners (pairs_at current baseline partners tier) i j (Fits-pairs_at current baseline partners tier counted) found)
@@ -97,7 +97,7 @@ module _ (current baseline : List Record) where
   after_counted : (partners : List (Option ℕ)) (tier : Tier) → length partners ≡ length current → length (after_tier current baseline partners tier) ≡ length current
   after_counted partners tier counted = length-put_all partners (pairs_at current baseline partners tier) ∙ counted
 
-  -- the two are paired at one of these tiers, by what those before it left over of the first partners
+  -- the two match at one of these tiers, among the results that earlier tiers and the first matches left unmatched
   record ArePairedIn (partners : List (Option ℕ)) (tiers : List Tier) (i j : ℕ) : Type 0 where
     before : List Tier
     tier : Tier
@@ -160,7 +160,7 @@ module _ (current baseline : List Record) where
   last_tier before tier i =
       ap (λ (ps : List (Option ℕ)). slice_index_or ps i None) (fold-append (after_tier current baseline) (replicate (length current) None) before (tier ∷ []))
 
-  -- one tier adds just the results that are paired at it
+  -- one tier adds exactly the results that match at it
   pub tier-tells : (before : List Tier) (tier : Tier) (i j : ℕ) → slice_index_or (partners_after current baseline (before ++ (tier ∷ []))) i None ≡ Some j → (slice_index_or (partners_after current baseline before) i None ≡ Some j) ⊎ IsPairedAt current baseline (partners_after current baseline before) tier i j
   tier-tells before tier i j found =
       after_tells (partners_after current baseline before) tier i j (after_counts before) (sym (last_tier before tier i) ∙ found)
@@ -169,7 +169,7 @@ module _ (current baseline : List Record) where
   tier-adds before tier i j h =
       last_tier before tier i ∙ after_keeps (partners_after current baseline before) tier i j (after_counts before) h
 
-  -- no two have one partner
+  -- no two results have the same match
   abbrev IsOneToOne : List (Option ℕ) → Type 0
   IsOneToOne partners =
       (i k j : ℕ) → slice_index_or partners i None ≡ Some j → slice_index_or partners k None ≡ Some j → i ≡ k

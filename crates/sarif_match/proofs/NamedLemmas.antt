@@ -20,12 +20,12 @@ use Rattle.sarif_match.specs.Partners.{with_key, keyed_from}
 use Rattle.sarif_match.proofs.ValueLemmas.{same_text}
 use Rattle.sarif_match.proofs.ListLemmas.{slice_get-last}
 
--- the first, else the second
+-- the first, otherwise the second
 abbrev pub first_some : {X : Type 0} → Option X → Option X → Option X
 first_some (Some x) o = Some x
 first_some None o = o
 
--- the value among one pair more
+-- the value after one more pair
 pub value_of-push : (q : List ℕ) (pairs : List (List ℕ × List ℕ)) (p : List ℕ × List ℕ) → value_of q (pairs ++ (p ∷ [])) ≡ first_some (value_of q pairs) (cond (bytes_eq p.0 q) (Some p.1) None)
 value_of-push q [] p = refl
 value_of-push q (x ∷ xs) p =

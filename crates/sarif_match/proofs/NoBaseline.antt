@@ -1,4 +1,4 @@
--- Without a baseline nobody has a partner.
+-- Without a baseline no result has a match.
 use Rattle.std.proofs.Common.{◌≡◌, ℕ, List, [], ◌∷◌, ◌++◌, Bool, Option, None, fold, length, replicate, refl, ap, ◌∙◌, arith}
 use Rattle.sarif_model.specs.declared.record.Record.{Record}
 use Rattle.sarif_match.specs.declared.tier.Tier.{Tier}

@@ -1,4 +1,4 @@
--- The pairs of a tier are just the results that the rule pairs.
+-- The pairs of a tier are exactly the results that match by the rule.
 use Rattle.std.proofs.Common.{◌≡◌, ℕ, ◌+◌, ◌<◌, zero, suc, Bool, not, List, [], ◌∷◌, ◌++◌, Option, Some, None, length, filter, slice_get, refl, sym, ap, ◌∙◌, subst, arith}
 use Rattle.std.proofs.lemmas.Bool.{not-true}
 use Rattle.sarif_model.specs.declared.record.Record.{Record}
@@ -12,7 +12,7 @@ use Rattle.sarif_match.specs.Paired.{key_at, rank, IsPairedAt}
 use Rattle.sarif_match.proofs.PartsLemmas.{parts_same, parts_refl}
 use Rattle.sarif_match.proofs.SplitLemmas.{HasPair, IsAbove, cons_first, cons_rest, nil_has_no_middle, none_is_no_some, filter-split, split-filter, slice_get-places, stands_in_places, pair_made, pair_found, rank-split}
 
--- result i stands in a list with this key, behind smaller and before greater numbers
+-- result i is in a list with this key, after smaller and before greater numbers
 pub record StandsAt (keyed : List (ℕ × KeyParts)) (i : ℕ) (key : KeyParts) : Type 0 where
   pub before : List (ℕ × KeyParts)
   pub after : List (ℕ × KeyParts)
@@ -48,7 +48,7 @@ stands_behind n i (Some own) rest key lt s = record {
   above = s.above;
 }
 
--- a result that has a key stands among those that have one
+-- a result that has a key is among the results that have one
 pub stands_keyed : (tier : Tier) (n i m : ℕ) (rs : List Record) (key : KeyParts) → i ≡ n + m → key_at tier rs m ≡ Some key → StandsAt (keyed_from tier n rs) i key
 stands_keyed tier n i m [] key at is = absurd (none_is_no_some key is)
 stands_keyed tier n i zero (r ∷ rs) key at is =
@@ -56,7 +56,7 @@ stands_keyed tier n i zero (r ∷ rs) key at is =
 stands_keyed tier n i (suc m) (r ∷ rs) key at is =
     stands_behind n i (key_of r tier) (keyed_from tier (suc n) rs) key (omega arith) (stands_keyed tier (suc n) i m rs key (omega arith) is)
 
--- what is told of a result that stands among those that have a key
+-- properties of a result among the results that have a key
 pub record IsKeyed (tier : Tier) (n : ℕ) (rs : List Record) (before after : List (ℕ × KeyParts)) (i : ℕ) (key : KeyParts) : Type 0 where
   pub place : ℕ
   pub at : i ≡ n + place

@@ -6,7 +6,7 @@ use Rattle.std.proofs.lemmas.List.Elements.{filter-append}
 use Rattle.sarif_match.proofs.ListLemmas.{slice_get-drop, drop-one}
 use Rattle.sarif_match.specs.Pairing.{places, pairs_from, with_pair}
 
--- the pairs with one more at the end, where there is a partner
+-- the pairs, with one more at the end if there is a match
 abbrev pub pushed : List (ℕ × ℕ) → ℕ → Option ℕ → List (ℕ × ℕ)
 pushed pairs i None = pairs
 pushed pairs i (Some j) = pairs ++ ((i, j) ∷ [])
@@ -49,7 +49,7 @@ module _ {K : Type 0} (eq : K → K → Bool) where
           drop-one (places eq q bs) (length seen) ∙ ap (λ (n : ℕ). drop n (places eq q bs)) longer
       by_test false = refl
 
-  -- what is told and what is left to tell
+  -- what was said and what is left
   pub told_more : (xs bs : List (ℕ × K)) (i : ℕ) (e : ℕ × K) (pairs new : List (ℕ × ℕ)) (o : Option ℕ) (all : List (ℕ × ℕ)) → e ≡ get_or xs i e → i < length xs → o ≡ slice_get (drop (length (places eq e.1 (take i xs))) (places eq e.1 bs)) 0 → new ≡ pushed pairs e.0 o → pairs ++ pairs_from eq (take i xs) (drop i xs) bs ≡ all → new ++ pairs_from eq (take (i + 1) xs) (drop (i + 1) xs) bs ≡ all
   told_more xs bs i e pairs new o all here within popped pushed_on so_far =
       let rest : List (ℕ × ℕ) = pairs_from eq (take i xs ++ (e ∷ [])) (drop (suc i) xs) bs in

@@ -1,4 +1,4 @@
--- Two keys are equal exactly where their parts are.
+-- Two keys are equal if and only if their parts are.
 use Rattle.std.proofs.Common.{◌≡◌, ℕ, Bool, true, false, ◌&&◌, ◌==◌, List, [], ◌∷◌, Option, Some, None, bytes_eq, refl, sym, ap, ◌∙◌, eq-eqb}
 use Rattle.std.specs.Option.{option_eq}
 use Rattle.std.specs.Cmp.Lexicographic.{pointwise}
@@ -14,7 +14,7 @@ use Rattle.sarif_match.specs.Queues.{same_key}
 use Rattle.sarif_match.proofs.KeyLemmas.{eq-is_same_parts}
 use Rattle.sarif_match.proofs.ValueLemmas.{same_text}
 
--- texts
+-- strings
 text_refl : (a : List ℕ) → bytes_eq a a ≡ true
 text_refl a = (bytes_eq-Decides a a).1 refl
 

@@ -1,4 +1,4 @@
--- What one pair more changes.
+-- The effect of one more pair.
 use Rattle.std.proofs.Common.{◌≡◌, ◌≢◌, ℕ, ◌<◌, zero, suc, Bool, true, false, cond, ◌||◌, List, [], ◌∷◌, Option, Some, None, ◌==◌, length, is_some, slice_index_or, slice_set, replicate, refl, sym, ap, ◌∙◌, arith, ⊎_elim}
 use Rattle.std.proofs.Math.ListN.{length-set}
 use Rattle.std.proofs.lemmas.List.{get_or-set_same, get_or-set_other, length-replicate}
@@ -41,7 +41,7 @@ cond-or : (b c : Bool) → cond b true c ≡ b || c
 cond-or true c = refl
 cond-or false c = refl
 
--- the marks after one pair more
+-- the marks after one more pair
 pub IsSound-put : (n m : ℕ) (old new : Progress) (i j : ℕ) → IsSound n m old → i < length old.partners.items → has_partner old.partners.items i ≡ false → j < m → new.partners.items ≡ slice_set old.partners.items i (Some j) → new.paired.items ≡ slice_set old.paired.items i true → new.taken.items ≡ slice_set old.taken.items j true → IsSound n m new
 IsSound-put n m old new i j sound in_current none in_baseline partners paired taken =
     let counted : length old.paired.items ≡ length old.partners.items = sound.paired_count ∙ sym sound.partner_count in

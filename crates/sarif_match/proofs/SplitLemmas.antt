@@ -1,4 +1,4 @@
--- Where a result stands in a list of numbered keys, and what that says of places, ranks and pairs.
+-- The position of a result in a list of numbered keys, and the places, ranks and pairs that follow from it.
 use Rattle.std.proofs.Common.{◌≡◌, ℕ, ◌+◌, ◌<◌, zero, suc, Bool, true, false, cond, ◌&&◌, ◌⊎◌, inl, inr, List, [], ◌∷◌, ◌++◌, Option, Some, None, length, nat_lt, map, filter, slice_get, refl, sym, ap, ◌∙◌, subst, arith, append_assoc, length-append, append-nil}
 use Rattle.std.proofs.lemmas.List.{map-append}
 use Rattle.std.proofs.lemmas.List.Elements.{filter-append}
@@ -31,12 +31,12 @@ module _ {X : Type 0} where
   none_is_no_some x e = cc
 
   module _ (p : X → Bool) where
-    -- what is kept stands between what is kept of both sides
+    -- what is kept is between what is kept from both sides
     pub filter-split : (before : List X) (x : X) (after : List X) → p x ≡ true → filter p (before ++ (x ∷ after)) ≡ filter p before ++ (x ∷ filter p after)
     filter-split before x after kept =
         filter-append p before (x ∷ after) ∙ ap (λ (b : Bool). filter p before ++ cond b (x ∷ filter p after) (filter p after)) kept
 
-    -- an element that is kept, in the midst of a list of which `front` is kept before it
+    -- a kept element within a list; `front` is kept before it
     pub record SplitsKept (xs front : List X) (x : X) : Type 0 where
       pub before : List X
       pub after : List X
@@ -72,7 +72,7 @@ module _ {X : Type 0} where
     kept_or_not y ys front x rear true is e rest = kept_here y ys front x rear is e rest
     kept_or_not y ys front x rear false is e rest = not_kept_here y ys front x is (rest front e)
 
-    -- what stands among the kept ones stands in the whole list
+    -- an element among the kept ones is in the whole list
     pub split-filter : (xs front : List X) (x : X) (rear : List X) → filter p xs ≡ front ++ (x ∷ rear) → SplitsKept xs front x
     split-filter [] front x rear e = absurd (nil_has_no_middle front x rear e)
     split-filter (y ∷ ys) front x rear e =
@@ -96,7 +96,7 @@ module _ {K : Type 0} where
         let test = λ (x : ℕ × K). eq x.1 key in
         ap (λ (ns : List ℕ). slice_get ns (length (places eq key before))) (ap (map number) (filter-split test before e after same) ∙ map-append number (filter test before) (e ∷ filter test after)) ∙ slice_get-middle (places eq key before) e.0 (map number (filter test after))
 
-    -- a result that stands at a place in the list of a key
+    -- a result at a place in the list of a key
     pub record StandsInPlaces (key : K) (es : List (ℕ × K)) (r j : ℕ) : Type 0 where
       pub before : List (ℕ × K)
       pub own : K

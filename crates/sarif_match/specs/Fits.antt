@@ -1,8 +1,8 @@
--- Pairs that can be put in one after another. No public clause of the merge speaks of it.
+-- Pairs that can be added one by one. Internal: no public contract of the merge refers to this module.
 use Rattle.std.specs.Prelude.{◌≡◌, ℕ, ◌<◌, List, [], ◌∷◌, Option, Some, false, length, slice_set}
 use Rattle.sarif_match.specs.Partners.{has_partner}
 
--- each pair is of a current result that has no partner yet and of one of m baseline results
+-- each pair consists of a current result without a match and one of m baseline results
 abbrev pub Fits : ℕ → List (Option ℕ) → List (ℕ × ℕ) → Type 0
 Fits m partners [] = Unit {0}
 Fits m partners (pair ∷ pairs) =

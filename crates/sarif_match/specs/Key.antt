@@ -14,7 +14,7 @@ is_empty pairs = length pairs == 0
 abbrev pub value_of : List ℕ → List (List ℕ × List ℕ) → Option (List ℕ)
 value_of name pairs = lookup (λ own. bytes_eq own name) pairs
 
--- whether a result has neither a guid nor fingerprints of either kind
+-- whether a result has neither a GUID nor fingerprints nor partial fingerprints
 abbrev pub is_unnamed : Record → Bool
 is_unnamed r = not (is_some r.guid) && (is_empty r.full && is_empty r.partial)
 

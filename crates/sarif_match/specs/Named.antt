@@ -1,5 +1,5 @@
--- An index of results by the names of their fingerprints, as the contracts of its functions see it.
--- No public clause of the merge speaks of it.
+-- An index of results by the names of their fingerprints, as the contracts of its functions see it. Internal: no
+-- public contract of the merge refers to this module.
 use Rattle.std.specs.Prelude.{ℕ, ◌-◌, ◌<◌, List, [], ◌∷◌, ◌++◌, Bool, false, Option, ◌==◌, if◌then◌else◌, map, length, slice_get, slice_index_or, filter, not, bytes_eq}
 use Rattle.std.specs.Borrow.{Bor}
 use Rattle.std.specs.Option.{option_map_or}

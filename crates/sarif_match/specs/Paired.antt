@@ -1,4 +1,4 @@
--- Who is paired with whom, in the words of the rule.
+-- Which results match, in the words of the rule.
 use Rattle.std.specs.Prelude.{◌≡◌, ℕ, List, ◌∷◌, ◌++◌, Bool, false, not, ◌&&◌, Option, Some, filter, length, nat_lt, slice_get}
 use Rattle.std.specs.Option.{option_and_then}
 use Rattle.sarif_model.specs.declared.record.Record.{Record}
@@ -12,7 +12,7 @@ use Rattle.sarif_match.specs.Tiers.{tiers_of}
 abbrev pub key_at : Tier → List Record → ℕ → Option KeyParts
 key_at tier rs i = option_and_then (λ r. key_of r tier) (slice_get rs i)
 
--- how many of these results stand before number i, are left over and have this key
+-- the number of these results before number i that are unmatched and have this key
 abbrev pub rank : (ℕ → Bool) → KeyParts → ℕ → List (ℕ × KeyParts) → ℕ
 rank is_left key i keyed =
     length (filter (λ e. nat_lt e.0 i && (is_left e.0 && same_parts e.1 key)) keyed)
@@ -29,8 +29,8 @@ pub record IsPairedAt (current baseline : List Record) (partners : List (Option 
   pub ranks : rank (λ n. not (has_partner partners n)) key i (keyed_from tier 0 current)
       ≡ rank (λ n. not (is_taken partners n)) key j (keyed_from tier 0 baseline)
 
--- Baseline result j is the partner of current result i: the two are paired at one tier, by what the tiers before it
--- left over.
+-- Baseline result j is the match of current result i: the two match at one tier, among the results that earlier
+-- tiers left unmatched.
 pub record ArePartners (current baseline : List Record) (i j : ℕ) : Type 0 where
   pub before : List Tier
   pub tier : Tier

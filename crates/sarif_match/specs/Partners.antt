@@ -19,13 +19,13 @@ abbrev pub keyed_from : Tier → ℕ → List Record → List (ℕ × KeyParts)
 keyed_from tier n [] = []
 keyed_from tier n (r ∷ rs) = with_key n (key_of r tier) (keyed_from tier (suc n) rs)
 
--- Partners are a list with a number of the baseline, or none, for each current result.
+-- Partners are a list: for each current result the number of a baseline result, or none.
 
--- whether current result i has a partner
+-- whether current result i has a match
 abbrev pub has_partner : List (Option ℕ) → ℕ → Bool
 has_partner partners i = is_some (slice_index_or partners i None)
 
--- whether baseline result j is somebody's partner
+-- whether baseline result j is the match of a current result
 abbrev pub is_taken : List (Option ℕ) → ℕ → Bool
 is_taken partners j =
     list_any (λ partner. option_map_or (λ taken. taken == j) partner false) partners
@@ -38,7 +38,7 @@ left partners keyed = filter (λ e. not (has_partner partners e.0)) keyed
 abbrev pub free : {K : Type 0} → List (Option ℕ) → List (ℕ × K) → List (ℕ × K)
 free partners keyed = filter (λ e. not (is_taken partners e.0)) keyed
 
--- the partners, with each of these pairs put in
+-- the partners, with each of these pairs added
 abbrev pub put_all : List (Option ℕ) → List (ℕ × ℕ) → List (Option ℕ)
 put_all partners [] = partners
 put_all partners (pair ∷ pairs) = put_all (slice_set partners pair.0 (Some pair.1)) pairs
@@ -50,7 +50,7 @@ module _ (current baseline : List Record) where
       pairs_from same_parts []
       (left partners (keyed_from tier 0 current)) (free partners (keyed_from tier 0 baseline))
 
-  -- the partners after one tier more
+  -- the partners after one more tier
   abbrev pub after_tier : List (Option ℕ) → Tier → List (Option ℕ)
   after_tier partners tier = put_all partners (pairs_at partners tier)
 
@@ -58,6 +58,6 @@ module _ (current baseline : List Record) where
   abbrev pub partners_after : List Tier → List (Option ℕ)
   partners_after tiers = fold after_tier (replicate (length current) None) tiers
 
-  -- the partner of each current result
+  -- the match of each current result
   abbrev pub partners_of : List (Option ℕ)
   partners_of = partners_after (tiers_of current baseline)

@@ -1,9 +1,10 @@
--- What the marks of an unfinished matching say. No public clause of the merge speaks of it.
+-- The meaning of the marks of an unfinished matching. Internal: no public contract of the merge refers to this
+-- module.
 use Rattle.std.specs.Prelude.{◌≡◌, ℕ, false, length, slice_index_or}
 use Rattle.sarif_match.specs.declared.progress.Progress.{Progress}
 use Rattle.sarif_match.specs.Partners.{has_partner, is_taken}
 
--- a list of marks for n current and m baseline results, which say just who has a partner and who is one
+-- a list of marks for n current and m baseline results; they say exactly which results are matched
 pub record IsSound (n m : ℕ) (progress : Progress) : Type 0 where
   pub paired : (i : ℕ)
       → slice_index_or progress.paired.items i false ≡ has_partner progress.partners.items i

@@ -1,11 +1,11 @@
--- What the index of a side says. No public clause of the merge speaks of it.
+-- The meaning of the index of a side. Internal: no public contract of the merge refers to this module.
 use Rattle.std.specs.Prelude.{◌≡◌, ◌<◌, ◌^◌, ℕ, List, length}
 use Rattle.sarif_match.specs.declared.side.Side.{Side}
 use Rattle.sarif_match.specs.declared.tier.Tier.TheVariants.{Fingerprint}
 use Rattle.sarif_match.specs.Named.{with_parts, group_at}
 use Rattle.sarif_match.specs.Partners.{keyed_from}
 
--- for each name the index has just the results with a key at that name's tier
+-- for each name the index has exactly the results with a key at that name's tier
 pub record IsIndexed {S H : Type 0} (side : Side S H) : Type 0 where
   pub indexed : (name : List ℕ)
       → with_parts (group_at side.named name) ≡ keyed_from (Fingerprint name) 0 side.findings.now

@@ -1,4 +1,4 @@
--- The state of a result beside its partner in the baseline (SARIF 2.1.0, "baselineState property").
+-- The state of a result, given its match in the baseline (SARIF 2.1.0, "baselineState property").
 use Rattle.std.specs.Prelude.{◌≡◌, ℕ, Bool, Option, Some, None, ◌&&◌, ◌==◌, if◌then◌else◌}
 use Rattle.sarif_model.specs.declared.record.Record.{Record}
 use Rattle.sarif_model.specs.declared.kinds.Kind.{Kind}
@@ -31,7 +31,7 @@ is_unchanged current partner =
     && ((level_number current.level == level_number partner.level)
     && (message_eq current.message partner.message && place_eq current.place partner.place))
 
--- the state of a current result with this partner
+-- the state of a current result with this match
 abbrev pub state_of : Record → Option Record → State
 state_of current None = New
 state_of current (Some partner) = if is_unchanged current partner then Unchanged else Updated

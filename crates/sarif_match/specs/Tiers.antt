@@ -8,7 +8,7 @@ use Rattle.sarif_model.specs.declared.record.Record.{Record}
 use Rattle.sarif_match.specs.declared.tier.Tier.{Tier}
 use Rattle.sarif_match.specs.declared.tier.Tier.TheVariants.{Guid, Fingerprint, PartialHere, PartialMoved, Place}
 
--- the names of the fingerprints of these results, as they stand (SARIF 2.1.0, "fingerprints property")
+-- the names of the fingerprints of these results, unchanged (SARIF 2.1.0, "fingerprints property")
 abbrev pub names_of : List Record → List (List ℕ)
 names_of rs = flat_map (λ r. map (λ pair. pair.0) r.full) rs
 
@@ -24,7 +24,7 @@ with_names rising names = fold (insert_key (slice_cmp nat_cmp)) rising names
 abbrev pub rising_names : List Record → List Record → List (List ℕ)
 rising_names cs bs = with_names (with_names [] (names_of cs)) (names_of bs)
 
--- the same in strictly falling byte order
+-- these names in strictly decreasing byte order
 abbrev pub falling_names : List Record → List Record → List (List ℕ)
 falling_names cs bs = reverse (rising_names cs bs)
 

@@ -78,7 +78,7 @@ fn has_partial(finding: &Record) -> bool
     !finding.partial.as_slice().is_empty()
 }
 
-/// Whether the result has neither a guid nor fingerprints of either kind.
+/// Returns whether the result has neither a GUID nor fingerprints nor partial fingerprints.
 fn is_unnamed(finding: &Record) -> bool
     ensures { result ≡ is_unnamed finding.now }
 {

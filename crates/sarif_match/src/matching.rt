@@ -14,8 +14,8 @@ use std::alloc::{AllocError, Global};
 use std::hash::{BuildHasher, BuildHasherDefault, FoldHasher};
 use std::marker::Model;
 
-/// Which baseline result each current result is paired with. Contracts see the list of partners:
-/// for each current result the number of its partner in the baseline, or none.
+/// The baseline result that each current result matches. Contracts see the list of partners: for each current
+/// result the number of its match in the baseline, or none.
 #[derive(Drop)]
 pub struct Matching {
     partners: Vec<Option<u32>>,
@@ -32,7 +32,7 @@ impl Model for Matching {
 }
 
 impl Matching {
-    /// The partners and marks of a matching that is done.
+    /// The partners and marks of a finished matching.
     fn of(progress: Progress) -> Matching
         requires { IsSound (length progress.partners.items)
             (length progress.taken.items) progress }
@@ -46,14 +46,14 @@ impl Matching {
         Matching { partners, taken }
     }
 
-    /// The partner of current result `i`, if it has one. Past the last result there is none.
+    /// Returns the match of current result `i`, if it has one; `None` past the last result.
     pub fn partner(&self, i: u32) -> Option<u32>
         ensures { result ≡ slice_index_or self.now i None }
     {
         self.partners.get(i as usize).copied().flatten()
     }
 
-    /// Whether baseline result `j` is some current result's partner. No result past the last is.
+    /// Returns whether baseline result `j` is the match of a current result; `false` past the last result.
     pub fn taken(&self, j: u32) -> bool
         ensures { result ≡ is_taken self.now j }
     {
@@ -61,11 +61,10 @@ impl Matching {
     }
 }
 
-/// Pairs each current result with at most one baseline result, tier by tier. At each tier the
-/// results that are left over are paired where their keys are equal, the first with the first, the
-/// second with the second, and so on. Each list has at most 1,000,000 results. The tables have the
-/// seed of the standard hasher, which who writes a log may know: see [`match_all_with`].
-/// `AllocError` where memory is wanting.
+/// Matches each current result with at most one baseline result, tier by tier. At each tier, unmatched results
+/// with equal keys match in order: the first with the first, the second with the second, and so on. Each list has
+/// at most 1,000,000 results. The tables use the seed of the standard hasher, which the author of a log may know:
+/// see [`match_all_with`]. Returns `AllocError` if memory runs out.
 pub fn match_all<'a>(
     alloc: Global,
     current: &'a [Record],
@@ -79,10 +78,10 @@ pub fn match_all<'a>(
     match_all_with(alloc, hasher, current, baseline)
 }
 
-/// Pairs each current result with at most one baseline result, as [`match_all`] does, by tables
-/// that hash with `hasher`: a `RandomState`, say, whose seed no log can know. The partners are the
-/// same whatever it is. Each list has at most 1,000,000 results. Without a baseline no table is
-/// made. `AllocError` where memory is wanting.
+/// Matches each current result with at most one baseline result, as [`match_all`] does, with tables that hash with
+/// `hasher`, for example a `RandomState` whose seed no log can know. The result does not depend on the hasher.
+/// Each list has at most 1,000,000 results. Without a baseline no table is made. Returns `AllocError` if memory
+/// runs out.
 pub fn match_all_with<'a, S: BuildHasher + Copy>(
     alloc: Global,
     hasher: S,

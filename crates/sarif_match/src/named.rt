@@ -51,7 +51,7 @@ fn add_finding<'a, S: BuildHasher + Copy>(
     Ok(())
 }
 
-/// Puts a key at the end of a name's group. Of a result that has the name twice, the first counts.
+/// Adds a key to the end of a name's group. If a result has the name twice, only its first key is added.
 fn add_key<'a, S: BuildHasher + Copy>(
     alloc: Global,
     named: &mut IndexMap<&'a Text, Vec<(u32, Key<'a>)>, S>,

@@ -8,8 +8,8 @@ use crate::tier_key::Key;
 use std::alloc::{AllocError, Global};
 use std::hash::BuildHasher;
 
-/// Pairs each current result with the baseline result that has its key and stands behind as many
-/// others with that key. Both lists hold what is left over and has a key, in rising order.
+/// Matches each current result with the baseline result that has the same key and the same number of earlier
+/// results with that key. Both lists hold the unmatched results that have a key, in rising order.
 pub(crate) fn pair_up<'a, S: BuildHasher + Copy>(
     alloc: Global,
     hasher: S,

@@ -1,25 +1,25 @@
-//! A matching while it is made: the partners so far, and marks by which left-over results are told.
+//! An unfinished matching: the partners so far, and marks for the matched results.
 ghost use Rattle.std.specs.Prelude.{◌≡◌, ◌<◌, Some, None, false, length, replicate, slice_set, IfOk};
 ghost use Rattle.sarif_match.specs.Partners.{has_partner, put_all};
 ghost use Rattle.sarif_match.specs.Fits.{Fits};
 
 use std::alloc::{AllocError, Global};
 
-/// The partners so far, and who has or is one.
+/// The partners so far, and which results are matched.
 #[derive(Drop)]
 pub(crate) struct Progress {
-    /// The partner of each current result, if it has one.
+    /// The match of each current result, if it has one.
     pub(crate) partners: Vec<Option<u32>>,
-    /// Whether each current result has a partner.
+    /// Whether each current result has a match.
     pub(crate) paired: Vec<bool>,
-    /// Whether each baseline result is somebody's partner.
+    /// Whether each baseline result is the match of a current result.
     pub(crate) taken: Vec<bool>,
 }
 
 impl Progress {
     ghost use Rattle.sarif_match.specs.Progress.{IsSound};
 
-    /// Nobody has a partner.
+    /// No result has a match.
     pub(crate) fn new(
         alloc: Global,
         current: usize,
@@ -49,7 +49,7 @@ impl Progress {
         }
     }
 
-    /// Makes baseline result `j` the partner of current result `i`.
+    /// Makes baseline result `j` the match of current result `i`.
     fn put_pair(&mut self, i: u32, j: u32)
         requires sound { IsSound (length self.old.partners.items)
             (length self.old.taken.items) self.old }

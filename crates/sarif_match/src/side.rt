@@ -71,7 +71,7 @@ fn unmarked_named<'a, S: BuildHasher + Copy>(
     }
 }
 
-/// Those that have no mark.
+/// Returns the results without a mark.
 fn unmarked_of<'a>(
     alloc: Global,
     keyed: &[(u32, Key<'a>)],

@@ -5,9 +5,8 @@ ghost use Rattle.sarif_match.specs.State.{state_of};
 
 use sarif_model::{Record, State};
 
-/// The baseline state of a current result beside its partner (SARIF 2.1.0, "baselineState
-/// property"): new without a partner, unchanged where kind, effective level, message and place are
-/// equal, else updated.
+/// The baseline state of a current result, given its match (SARIF 2.1.0, "baselineState property"): new without a
+/// match, unchanged if kind, effective level, message and place are equal, otherwise updated.
 pub fn state(current: &Record, partner: Option<&Record>) -> State
     ensures { result ≡ state_of current.now (option_copied partner.entry) }
 {

@@ -1,8 +1,8 @@
 //! The tiers by which results are compared, from the surest to the weakest.
 use sarif_model::Text;
 
-/// One way to tell that two results are the same. A merge goes through the tiers in order, and each
-/// tier pairs only what the tiers before have left over.
+/// One way to recognise that two results are the same. A merge goes through the tiers in order, and each tier
+/// matches only results that earlier tiers left unmatched.
 #[derive(Debug, Drop, PartialEq, Eq)]
 pub enum Tier {
     /// By `correlationGuid` (SARIF 2.1.0, "correlationGuid property").
@@ -13,6 +13,6 @@ pub enum Tier {
     PartialHere,
     /// By all `partialFingerprints`, wherever the result now is.
     PartialMoved,
-    /// By rule, place and message, for a result with no guid and no fingerprints.
+    /// By rule, place and message, for a result with no GUID and no fingerprints.
     Place,
 }

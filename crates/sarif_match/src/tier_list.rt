@@ -9,9 +9,8 @@ use sarif_model::{Record, Text};
 use std::alloc::{AllocError, Global};
 use std::collections::BTreeSet;
 
-/// The tiers of a merge of these results, in the order in which it goes through them: one for each
-/// fingerprint name of either list, the greatest first, stands between `Guid` and the others.
-/// `AllocError` where memory for the list is wanting.
+/// Returns the tiers of a merge of these results, in order: between `Guid` and the others, one for each
+/// fingerprint name of either list, the greatest name first. Returns `AllocError` if memory for the list runs out.
 pub fn tiers(
     alloc: Global,
     current: &[Record],
