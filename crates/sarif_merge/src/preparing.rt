@@ -23,6 +23,54 @@ use std::alloc::{AllocError, Global};
 use std::sync::Wait;
 use std::thread::Threads;
 
+/// Has workers judge the results of the runs that were read, and matches them.
+fn prepare_runs<G: Gate + Sync, R: Threads + Wait + Sync>(
+    rt: &R,
+    alloc: Global,
+    runs: Runs<'_, '_>,
+    file: &Suppressions,
+    asked: &Asked<'_>,
+    observer: &G,
+) -> Result<Prepared, MergeFault>
+    requires read { (logs : List (List ℕ)) × (baselines : List (List ℕ))
+        × AreRunsOf logs baselines runs }
+    ensures prepared { (logs baselines : List (List ℕ)) → AreRunsOf logs baselines runs.entry
+        → IfOk result (IsPrepared file.now (placed (numbered source.Log 0 logs))
+        (placed (numbered source.Baseline 0 baselines)) (reporting_in asked.now)) }
+    ensures faults { (logs baselines : List (List ℕ)) → AreRunsOf logs baselines runs.entry
+        → Answers (faults_of_runs (placed (numbered source.Log 0 logs)
+        ++ placed (numbered source.Baseline 0 baselines))) result }
+    ensures quiet { IsQuiet result }
+{
+    let Runs { current, baseline } = runs;
+    let now = judge_runs(rt, alloc, current, file, asked.options.workers, observer)?;
+    let before = judge_runs(rt, alloc, baseline, file, asked.options.workers, observer)?;
+    let prepared = prepare(rt, alloc, now, before, file, asked)?;
+    Ok(prepared)
+}
+
+/// Reads the suppression file, has workers judge the results of the runs that were read, and
+/// matches them.
+fn prepare_read<G: Gate + Sync, R: Threads + Wait + Sync>(
+    rt: &R,
+    alloc: Global,
+    runs: Runs<'_, '_>,
+    suppressions: Option<&[u8]>,
+    asked: &Asked<'_>,
+    observer: &G,
+) -> Result<Prepared, MergeFault>
+    requires read { (logs : List (List ℕ)) × (baselines : List (List ℕ))
+        × AreRunsOf logs baselines runs }
+    ensures preparation { (logs baselines : List (List ℕ)) → AreRunsOf logs baselines runs.entry
+        → IsPreparationOf (given logs baselines (option_map (λ b. b.now) suppressions.entry)
+        asked.now.options.now.today) (reporting_in asked.now) result }
+    ensures quiet { IsQuiet result }
+{
+    let file = read_file(alloc, asked.options.seed, suppressions, asked.options.today)?;
+    let prepared = prepare_runs(rt, alloc, runs, &file, asked, observer)?;
+    Ok(prepared)
+}
+
 /// The bytes that may be there.
 fn slice_of(bytes: &Option<Vec<u8>>) -> Option<&[u8]>
     ensures { option_map (λ b. b.now) result ≡ option_map (λ v. v.items) bytes.now }
@@ -41,8 +89,8 @@ pub(crate) fn make_scratches(alloc: Global, count: usize) -> Result<Vec<Scratch>
     Ok(scratches)
 }
 
-/// Everything that a merge of at most 1,000 logs and 1,000 baselines writes, up to the assembling. Each source has a
-/// scratch. The indexes of the sources are released.
+/// All that is written of the merge of sources of which there are not too many, each of which has a
+/// scratch. Their indexes are let go.
 pub(crate) fn prepare_few<G: Gate + Sync, R: Threads + Wait + Sync>(
     rt: &R,
     alloc: Global,
@@ -61,15 +109,10 @@ pub(crate) fn prepare_few<G: Gate + Sync, R: Threads + Wait + Sync>(
 {
     let logs = sources.logs.as_slice();
     let baselines = sources.baselines.as_slice();
-    let suppressions = slice_of(&sources.suppressions);
-    let Options { seed, workers, today, .. } = asked.options;
-    let (seed, workers, today) = (*seed, *workers, *today);
-
-    let indexes = index_sources(rt, alloc, logs, baselines, scratches, workers + 1)?;
-    let runs = open_sources(rt, alloc, seed, &indexes, logs.len(), workers + 1)?;
-    let file = read_file(alloc, seed, suppressions, today)?;
-    let current = judge_runs(rt, alloc, runs.current, &file, workers, observer)?;
-    let baseline = judge_runs(rt, alloc, runs.baseline, &file, workers, observer)?;
-    let prepared = prepare(rt, alloc, current, baseline, &file, asked)?;
+    let threads = asked.options.workers + 1;
+    let indexes = index_sources(rt, alloc, logs, baselines, scratches, threads)?;
+    let runs = open_sources(rt, alloc, asked.options.seed, &indexes, logs.len(), threads)?;
+    let file = slice_of(&sources.suppressions);
+    let prepared = prepare_read(rt, alloc, runs, file, asked, observer)?;
     Ok(prepared)
 }
