@@ -10,7 +10,5 @@ returns c =
     let two = c.in_ok-arg-2.ensures.shape c.option-2.ensures.local ∙ ap₂ with_rule one c.option-2.ensures.rule in
     let three = c.in_ok-arg-3.ensures.shape c.option-3.ensures.local ∙ ap₂ with_rule two c.option-3.ensures.rule in
     let four = c.in_ok-arg-4.ensures.shape c.option-4.ensures.local ∙ ap₂ with_rule three c.option-4.ensures.rule in
-    let five = c.in_ok-arg-5.ensures.shape c.option-5.ensures.local ∙ ap₂ with_rule four c.option-5.ensures.rule in
-    let six = c.in_ok-arg-6.ensures.shape c.option-6.ensures.local ∙ ap₂ with_rule five c.option-6.ensures.rule in
-    IfOk-weaker c.arg-7.result _ _ (λ r h.
-    h.shape c.explain.ensures.local ∙ ap₂ with_rule six c.explain.ensures.rule) c.arg-7.ensures
+    IfOk-weaker c.arg-5.result _ _ (λ r h.
+    h.shape c.option-5.ensures.local ∙ ap₂ with_rule four c.option-5.ensures.rule) c.arg-5.ensures
