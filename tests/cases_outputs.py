@@ -160,6 +160,7 @@ def versions():
     for word in ("--version", "-V"):
         yield Case("words", f"{word} tells the version", [word], stderr=b"", check=tells_version)
     yield Case("words", "the help names the words", ["--help"], stderr=b"", check=names_words)
+    yield Case("words", "the help can be read", ["--help"], stderr=b"", check=is_readable)
     words = ["--out", "o", "a", "-V"]
     yield one("--version among others", words, check=tells_version, look=holds({"a": ONE}))
 
@@ -172,6 +173,20 @@ def tells_version(answer):
 def names_words(answer):
     words = [*(f"--{kind}" for kind in KINDS), "--root", "--explain", "--version", "-V"]
     return [f"the help doesn't name {it}" for it in words if it.encode() not in answer.stdout]
+
+
+GROUPS = ["Inputs:", "Gate:", "Outputs:", "Other:"]
+HIT = "A hit is an active result that is new or updated and at or above the level of --fail-on."
+
+
+def is_readable(answer):
+    """The help has its groups in their order, is at most 100 columns wide, and says what a hit is."""
+    text = answer.stdout.decode()
+    lines = text.splitlines()
+    groups = [it for it in lines if it in [*GROUPS, "Arguments:", "Options:"]]
+    wrong = [f"its groups are {groups}"] * (groups != GROUPS)
+    wrong += [f"wider than 100 columns: {it}" for it in lines if len(it) > 100]
+    return wrong + ["it doesn't say what a hit is"] * (HIT not in text)
 
 
 # ---- What is written when

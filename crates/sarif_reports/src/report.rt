@@ -50,12 +50,12 @@ impl Report {
     pub fn help(self) -> &'static str {
         match self {
             Report::Text =>
-                "Write one line per result to FILE, for people, editors and problem matchers",
-            Report::Github => "Write one workflow command per result to FILE, for GitHub Actions",
+                "Write one line per reported result, for people, editors and problem\nmatchers",
+            Report::Github => "Write one workflow command of GitHub Actions per reported result",
             Report::Markdown =>
-                "Write the verdict, the counts and a table to FILE, for job summaries and comments",
-            Report::Gitlab => "Write a JSON report to FILE, for GitLab's code quality widget",
-            Report::Html => "Write a separate page to FILE, for a browser",
+                "Write the verdict, the counts and a table, for job summaries and comments",
+            Report::Gitlab => "Write a JSON report for GitLab's code quality widget",
+            Report::Html => "Write an HTML page that needs no other file",
         }
     }
 }

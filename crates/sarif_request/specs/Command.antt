@@ -1,55 +1,81 @@
--- The words that the program understands, as their parser sees them.
-use Rattle.std.specs.Prelude.{◌≡◌, List, [], ◌∷◌, fold, map, true, Some, pos, codes}
+-- The arguments that the program understands, as their parser sees them.
+use Rattle.std.specs.Prelude.{◌≡◌, List, [], ◌∷◌, map, fold, true, Option, None, Some, option_map, pos, codes}
+use Rattle.std.specs.Option.{option_map_or}
 use Rattle.std.specs.Borrow.{Bor}
 use Rattle.clap.specs.Words.{App, Rule, Text, new_app, new_rule, with_rule}
 use Rattle.clap.specs.Simple.{on_top}
+use Rattle.clap.specs.declared.builder.action.ArgAction.TheVariants as action
+use Rattle.clap.specs.declared.builder.value_parser.ValueParser.{ValueParser}
+use Rattle.clap.specs.declared.builder.value_parser.ValueParser.TheVariants.{Signed, Names}
 use Rattle.sarif_reports.specs.declared.report.Report.{Report}
 use Rattle.sarif_reports.specs.Report.{all_reports, report_name}
-use Rattle.clap.specs.declared.builder.action.ArgAction.TheVariants.{Append, SetTrue}
-use Rattle.clap.specs.declared.builder.value_parser.ValueParser.TheVariants.{Signed, Names}
+use Rattle.sarif_request.specs.declared.option_rows.Kind.{Kind}
+use Rattle.sarif_request.specs.declared.option_rows.Kind.TheVariants.{Logs, Needed, Once, Many, Level, Number, Flag, Help, Version}
+use Rattle.sarif_request.specs.declared.option_rows.OptionRow.{OptionRow}
 
--- a word with one value: `--name VALUE`
+-- an option with one value: `--name VALUE`
 abbrev pub option_rule : Text → Rule
 option_rule name = record (new_rule name) { long = Some name; value_names = 1 }
 
-abbrev pub log_rule : Rule
-log_rule =
-    record (new_rule (codes "log")) { value_names = 1; action = Some Append; required = true }
+-- an option without a value: `--name`
+abbrev pub flag_rule : Text → Rule
+flag_rule name = record (new_rule name) { long = Some name; action = Some action.SetTrue }
 
-abbrev pub out_rule : Rule
-out_rule = record (option_rule (codes "out")) { required = true }
+-- the rule of a kind of option; `levels` is what the name of a level has to be
+abbrev pub rule_by : ValueParser → Kind → Text → Rule
+rule_by levels Logs name =
+    record (new_rule name) { value_names = 1; action = Some action.Append; required = true }
+rule_by levels Needed name = record (option_rule name) { required = true }
+rule_by levels Once name = option_rule name
+rule_by levels Many name = record (option_rule name) { action = Some action.Append }
+rule_by levels Level name = record (option_rule name) { parser = Some levels }
+rule_by levels (Number least most) name =
+    record (option_rule name) { parser = Some (Signed least most) }
+rule_by levels Flag name = flag_rule name
+rule_by levels Help name = record (flag_rule name) { short = Some 104; action = Some action.Help }
+rule_by levels Version name =
+    record (flag_rule name) { short = Some 86; action = Some action.Version }
 
-abbrev pub baseline_rule : Rule
-baseline_rule = record (option_rule (codes "baseline")) { action = Some Append }
+-- what the parser sees of the row of an option
+pub record Argument : Type 0 where
+  pub name : Text
+  pub kind : Kind
+  pub default : Option Text
 
-abbrev pub suppress_rule : Rule
-suppress_rule = option_rule (codes "suppress")
-
-abbrev pub today_rule : Rule
-today_rule =
-    record (option_rule (codes "today")) { parser = Some (Signed (pos 10000101) (pos 99991231)) }
-
-abbrev pub fail_on_rule : Bor (List (Bor Text)) → Rule
-fail_on_rule levels =
-    record (option_rule (codes "fail-on"))
-    { parser = Some (Names levels); defaults = codes "error" ∷ [] }
-
-abbrev pub max_rule : Rule
-max_rule = record (option_rule (codes "max")) {
-  parser = Some (Signed (pos 0) (pos 4294967295));
-  defaults = codes "0" ∷ [];
+abbrev pub argument_of : OptionRow → Argument
+argument_of row = record {
+  name = row.id.now;
+  kind = row.kind;
+  default = option_map (λ value. value.now) row.default;
 }
 
-abbrev pub workers_rule : Rule
-workers_rule = record (option_rule (codes "workers")) {
-  parser = Some (Signed (pos 1) (pos 64));
-  defaults = codes "4" ∷ [];
-}
+abbrev pub rule_for : ValueParser → Argument → Rule
+rule_for levels argument =
+    let rule = rule_by levels argument.kind argument.name in
+    option_map_or (λ value. record rule { defaults = value ∷ [] }) argument.default rule
 
--- a word with no value: `--explain`
-abbrev pub explain_rule : Rule
-explain_rule =
-    record (new_rule (codes "explain")) { long = Some (codes "explain"); action = Some SetTrue }
+abbrev pub argument : Text → Kind → Argument
+argument name kind = record { name = name; kind = kind; default = None }
+
+abbrev pub with_default : Text → Argument → Argument
+with_default value argument = record argument { default = Some value }
+
+-- all but the reports
+abbrev pub arguments : List Argument
+arguments =
+    argument (codes "log") Logs
+    ∷ argument (codes "baseline") Many
+    ∷ argument (codes "suppress") Once
+    ∷ argument (codes "today") (Number (pos 10000101) (pos 99991231))
+    ∷ with_default (codes "error") (argument (codes "fail-on") Level)
+    ∷ with_default (codes "0") (argument (codes "max") (Number (pos 0) (pos 4294967295)))
+    ∷ argument (codes "out") Needed
+    ∷ argument (codes "root") Once
+    ∷ with_default (codes "4") (argument (codes "workers") (Number (pos 1) (pos 64)))
+    ∷ argument (codes "explain") Flag
+    ∷ argument (codes "help") Help
+    ∷ argument (codes "version") Version
+    ∷ []
 
 -- the names of the levels, as `--fail-on` takes them
 abbrev pub level_texts : List Text
@@ -59,38 +85,32 @@ level_texts = codes "error" ∷ codes "warning" ∷ codes "note" ∷ codes "none
 abbrev pub AreLevels : Bor (List (Bor Text)) → Type 0
 AreLevels levels = map (λ level. level.now) levels.now ≡ level_texts
 
--- a command with a version, whose words begin with no name of the program
+-- a command with a version, without options, and without its name before its arguments
 abbrev pub start : App
 start =
-    on_top (λ s. record s { no_binary_name = true; has_version = true })
+    on_top (λ s. record s {
+      no_binary_name = true;
+      disable_help_flag = true;
+      disable_version_flag = true;
+      has_version = true;
+    })
     (new_app (codes "sarif_gate"))
 
--- the words for the merge; `levels` refers to the names of the levels
-abbrev pub merging : Bor (List (Bor Text)) → App
-merging levels =
-    with_rule (with_rule (with_rule (with_rule (with_rule (with_rule (with_rule (with_rule start
-    log_rule) out_rule) baseline_rule) suppress_rule)
-    today_rule) (fail_on_rule levels)) max_rule) workers_rule
+abbrev pub with_argument : ValueParser → App → Argument → App
+with_argument levels app argument = with_rule app (rule_for levels argument)
 
--- an option for each report
-abbrev pub with_report_rules : App → List Report → App
-with_report_rules app reports =
+abbrev pub with_arguments : ValueParser → App → List Argument → App
+with_arguments levels = fold (with_argument levels)
+
+-- an option for each report too
+abbrev pub with_reports : App → List Report → App
+with_reports app reports =
     fold (λ so_far report. with_rule so_far (option_rule (report_name report))) app reports
 
--- and the options for reports and explanations
-abbrev pub reporting : App → App
-reporting app =
-    with_rule (with_rule (with_report_rules app all_reports)
-    (option_rule (codes "root"))) explain_rule
-
--- all words
+-- all options; `levels` refers to the names of the levels
 unfoldable pub program : Bor (List (Bor Text)) → App
-program levels = reporting (merging levels)
+program levels = with_reports (with_arguments (Names levels) start arguments) all_reports
 
--- a command that understands just the words for the merge
-abbrev pub IsMerging : App → Type 0
-IsMerging app = (levels : Bor (List (Bor Text))) × AreLevels levels × (app ≡ merging levels)
-
--- a command that understands just all words
+-- a command that understands exactly these options
 abbrev pub IsProgram : App → Type 0
 IsProgram app = (levels : Bor (List (Bor Text))) × AreLevels levels × (app ≡ program levels)

@@ -7,9 +7,7 @@ ghost use Rattle.sarif_request.specs.Words.{words_status, Tells, IsAsked, AsksFo
 ghost use Rattle.sarif_request.specs.Words.{fail_on_in, is_set, reports_in, values_of};
 
 use crate::clash::{Clash, clash_of};
-use crate::command::{
-    BASELINE, EXPLAIN, FAIL_ON, LOG, MAX, OUT, ROOT, SUPPRESS, TODAY, WORKERS, command,
-};
+use crate::command::command;
 use crate::request::Request;
 use crate::wanted::Wanted;
 use clap::ArgMatches;
@@ -100,16 +98,16 @@ fn request_of(
 ) -> Result<Request, AllocError>
     ensures { IfOk result (AsksFor (rows_of (found_of matches.now))) }
 {
-    let logs = names_of(alloc, matches, LOG)?;
-    let baselines = names_of(alloc, matches, BASELINE)?;
-    let suppress = name_of(alloc, matches, SUPPRESS)?;
-    let out = text_in(alloc, matches, OUT)?;
+    let logs = names_of(alloc, matches, "log")?;
+    let baselines = names_of(alloc, matches, "baseline")?;
+    let suppress = name_of(alloc, matches, "suppress")?;
+    let out = text_in(alloc, matches, "out")?;
     let reports = reports_of(alloc, matches)?;
-    let root = text_in(alloc, matches, ROOT)?;
+    let root = text_in(alloc, matches, "root")?;
     let options = Options {
         policy: policy_of(matches),
-        today: number_of(matches, TODAY),
-        workers: number_of(matches, WORKERS).unwrap_or(1).clamp(1, 64),
+        today: number_of(matches, "today"),
+        workers: number_of(matches, "workers").unwrap_or(1).clamp(1, 64),
         seed,
     };
     Ok(Request {
@@ -119,7 +117,7 @@ fn request_of(
         out,
         reports,
         root,
-        explain: is_set(matches, EXPLAIN),
+        explain: is_set(matches, "explain"),
         options,
     })
 }
@@ -211,7 +209,7 @@ fn policy_of(matches: &ArgMatches<'_>) -> Policy
     Policy {
         fail_on: fail_on_of(matches).unwrap_or(policy.fail_on),
         states: policy.states,
-        max: number_of(matches, MAX).unwrap_or(policy.max),
+        max: number_of(matches, "max").unwrap_or(policy.max),
     }
 }
 
@@ -221,7 +219,7 @@ fn fail_on_of(matches: &ArgMatches<'_>) -> Option<Level>
     ensures { result ≡ option_and_then level_named
         (first_of (codes "fail-on") (rows_of (found_of matches.now))) }
 {
-    match matches.get_str(FAIL_ON) {
+    match matches.get_str("fail-on") {
         Some(name) => Level::from_name(name),
         None => None,
     }

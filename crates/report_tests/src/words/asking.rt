@@ -295,6 +295,47 @@ fn help_is_no_mistake(rt: HostRuntime) -> Result<(), Fail> {
     Ok(())
 }
 
+#[test]
+fn help_is_narrow_and_says_what_a_hit_is(rt: HostRuntime) -> Result<(), Fail> {
+    match read(&rt, "--help")? {
+        Err(fault) => check_help(&rt, text_of(&fault)),
+        Ok(_) => panic!(rt; "help is a request"),
+    }
+}
+
+fn check_help(rt: &impl Abort, help: &str) -> Result<(), Fail> {
+    for line in help.lines() {
+        assert!(rt; line.len() <= 100, "{line}");
+    }
+    assert!(rt; help.contains("A hit is an active result that is new or updated"));
+    Ok(())
+}
+
+#[test]
+fn help_is_grouped(rt: HostRuntime) -> Result<(), Fail> {
+    match read(&rt, "--help")? {
+        Err(fault) => check_groups(&rt, text_of(&fault)),
+        Ok(_) => panic!(rt; "help is a request"),
+    }
+}
+
+/// Checks that each group begins with the option that is its first.
+fn check_groups(rt: &impl Abort, help: &str) -> Result<(), Fail> {
+    for (group, first) in [
+        ("\n\nInputs:\n  ", "<LOG>..."),
+        ("\n\nGate:\n      ", "--fail-on <LEVEL>"),
+        ("\n\nOutputs:\n      ", "--out <FILE>"),
+        ("\n\nOther:\n      ", "--workers <NUMBER>"),
+    ] {
+        match help.split_once(group) {
+            Some((_, rest)) => assert!(rt; rest.starts_with(first), "{first}"),
+            None => panic!(rt; "{group}"),
+        }
+    }
+    assert!(rt; !help.contains("\nOptions:\n"));
+    Ok(())
+}
+
 /// The help, or the version.
 fn text_of(fault: &WordsFault) -> &str {
     match fault {

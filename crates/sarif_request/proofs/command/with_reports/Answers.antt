@@ -5,8 +5,8 @@ use Rattle.clap.specs.Words.{App, app_of, with_rule}
 use Rattle.sarif_reports.specs.declared.report.Report.{Report}
 use Rattle.sarif_reports.specs.declared.report.Report.TheVariants.{Text}
 use Rattle.sarif_reports.specs.Report.{all_reports, report_name}
-use Rattle.sarif_request.specs.Command.{option_rule, with_report_rules}
-use Rattle.sarif_request.proofs.command.with_report_options.Goals as goal
+use Rattle.sarif_request.specs.Command.{option_rule, with_reports}
+use Rattle.sarif_request.proofs.command.with_reports.Goals as goal
 
 -- the report after the ones gone through adds its rule
 pub loop-report-preserved : goal.loop-report-preserved
@@ -16,4 +16,4 @@ loop-report-preserved c =
     let more = take_more all_reports i Text (omega arith) in
     let one = c.in_ok-command.ensures.shape c.report_option.ensures.local
     ∙ ap₂ with_rule c.loop-report.invariant c.report_option.ensures.rule in
-    one ∙ sym (ap (with_report_rules before) more ∙ fold-append (λ (a : App) (report : Report). with_rule a (option_rule (report_name report))) before (take i all_reports) (get_or all_reports i Text ∷ []))
+    one ∙ sym (ap (with_reports before) more ∙ fold-append (λ (a : App) (report : Report). with_rule a (option_rule (report_name report))) before (take i all_reports) (get_or all_reports i Text ∷ []))
