@@ -188,7 +188,7 @@ def compact(value):
 
 
 def is_fractional(value):
-    """Returns whether a value is a number that isn't an integer, or an array with one, directly or only within arrays."""
+    """Returns whether a value is a number that isn't kept as an integer, or an array with one."""
     if isinstance(value, list):
         return any(map(is_fractional, value))
     return isinstance(value, Fraction)

@@ -61,7 +61,7 @@ def started(command, words, case, folder):
 
 
 def limited(case):
-    """Sets the limits and the user of a case. A write above the limit of a file's size fails, and doesn't end the program."""
+    """Sets the limits and the user of a case. A write above the limit of a file's size only fails."""
     limits = {resource.RLIMIT_NOFILE: case.open_files, resource.RLIMIT_FSIZE: case.file_size}
     for name, most in limits.items():
         if most is not None:
