@@ -1,0 +1,44 @@
+//! Why a call that needs memory gives no answer.
+ghost use Rattle.std.specs.Prelude.{◌≡◌};
+
+use crate::fault::Fault;
+use std::alloc::{AllocError, AllocFailed};
+
+/// Why a call that needs memory gives no answer. Out of memory is no fault of what it reads.
+#[derive(Clone, Copy, Debug, PartialEq, Eq)]
+pub enum Refusal<F> {
+    /// What it reads has this fault.
+    Fault(F),
+    /// Memory was wanting.
+    OutOfMemory,
+}
+
+impl<F> From<AllocError> for Refusal<F> {
+    ghost use Rattle.sarif_model.specs.declared.refusal.Refusal.TheVariants.{OutOfMemory};
+
+    ghost from_gives = { λ _ refusal. refusal ≡ OutOfMemory };
+
+    fn from(_error: AllocError) -> Refusal<F> {
+        Refusal::OutOfMemory
+    }
+}
+
+impl<F, T: Drop> From<AllocFailed<T>> for Refusal<F> {
+    ghost use Rattle.sarif_model.specs.declared.refusal.Refusal.TheVariants.{OutOfMemory};
+
+    ghost from_gives = { λ _ refusal. refusal ≡ OutOfMemory };
+
+    fn from(_error: AllocFailed<T>) -> Refusal<F> {
+        Refusal::OutOfMemory
+    }
+}
+
+impl From<Fault> for Refusal<Fault> {
+    ghost use Rattle.sarif_model.specs.declared.refusal.Refusal.TheVariants as refusal;
+
+    ghost from_gives = { λ fault found. found ≡ refusal.Fault fault };
+
+    fn from(fault: Fault) -> Refusal<Fault> {
+        Refusal::Fault(fault)
+    }
+}
