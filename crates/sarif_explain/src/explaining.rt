@@ -4,7 +4,7 @@ use crate::lines::{push_line, push_number, shortened};
 use crate::misfit::Misfit;
 use crate::whole::{misfit_of, wanted_by};
 use json_parts::without_mark;
-use sarif_model::{Cause, MergeFault};
+use sarif_model::{Cause, Fault, MergeFault};
 use serde_json::{Error, Value};
 use std::alloc::{AllocError, Global};
 
@@ -60,23 +60,11 @@ fn push_stop(
     if error.is_memory() {
         return Err(AllocError);
     }
-    if fault.cause == Cause::NotJson {
+    if fault.cause == Cause::Of(Fault::NotJson) {
         push_number(alloc, lines, "line", error.line())?;
         push_number(alloc, lines, "column", error.column())?;
     }
     push_line(alloc, lines, "wanted", wanted_by(fault).sentence())
-}
-
-/// Whether what is at fault stands in the bytes of the source.
-fn is_in_bytes(cause: Cause) -> bool {
-    !matches!(
-        cause,
-        Cause::TooLong
-            | Cause::ReadFailed
-            | Cause::WriteFailed
-            | Cause::OutOfMemory
-            | Cause::NoWorker
-    )
 }
 
 /// Adds where the fault stands, what was found there, and what is wanted.
@@ -86,11 +74,11 @@ fn push_spot(
     fault: &MergeFault,
     bytes: &[u8],
 ) -> Result<(), AllocError> {
-    if !is_in_bytes(fault.cause) {
+    let Cause::Of(wrong) = fault.cause else {
         return push_line(alloc, lines, "wanted", wanted_by(fault).sentence());
-    }
+    };
     match Value::from_slice(alloc, without_mark(bytes)) {
-        Ok(value) => push_misfit(alloc, lines, &misfit_of(alloc, &value, fault)?),
+        Ok(value) => push_misfit(alloc, lines, &misfit_of(alloc, &value, fault.at, wrong)?),
         Err(error) => push_stop(alloc, lines, fault, &error),
     }
 }

@@ -6,40 +6,47 @@ use crate::place::Place;
 use crate::run::misfit_of_run;
 use crate::single::misfit_of_result;
 use crate::wanted::Wanted;
-use sarif_model::{At, Cause, MergeFault, Source};
+use sarif_model::{At, Cause, Fault, MergeFault, Source};
 use serde_json::Value;
 use std::alloc::{AllocError, Global};
 
-/// What is wanted for that cause, whatever member is at fault.
-pub(crate) fn wanted_by(fault: &MergeFault) -> Wanted {
-    match fault.cause {
-        Cause::NotJson => Wanted::Json,
-        Cause::NotLog => Wanted::Log,
-        Cause::WrongVersion => match fault.at {
+/// What is wanted where that fault is found, whatever member is at fault.
+fn wanted_at(at: At, fault: Fault) -> Wanted {
+    match fault {
+        Fault::NotJson => Wanted::Json,
+        Fault::NotLog => Wanted::Log,
+        Fault::WrongVersion => match at {
             At::Whole(Source::Suppress) => Wanted::FileVersion,
             _ => Wanted::LogVersion,
         },
-        Cause::BadRun => Wanted::Run,
-        Cause::ExternalProperties => Wanted::NoFiles,
-        Cause::BadRules => Wanted::Rules,
-        Cause::BadIndex => Wanted::Index,
-        Cause::BadLevel => Wanted::Level,
-        Cause::BadKind => Wanted::Kind,
-        Cause::BadGuid => Wanted::Guid,
-        Cause::BadFingerprint => Wanted::TextMap,
-        Cause::BadLocation => Wanted::Location,
-        Cause::BadSuppression => Wanted::Suppression,
-        Cause::BadMember => Wanted::Member,
-        Cause::AbsentInput => Wanted::Present,
-        Cause::TooMany => match fault.at {
+        Fault::BadRun => Wanted::Run,
+        Fault::ExternalProperties => Wanted::NoFiles,
+        Fault::BadRules => Wanted::Rules,
+        Fault::BadIndex => Wanted::Index,
+        Fault::BadLevel => Wanted::Level,
+        Fault::BadKind => Wanted::Kind,
+        Fault::BadGuid => Wanted::Guid,
+        Fault::BadFingerprint => Wanted::TextMap,
+        Fault::BadLocation => Wanted::Location,
+        Fault::BadSuppression => Wanted::Suppression,
+        Fault::BadMember => Wanted::Member,
+        Fault::AbsentInput => Wanted::Present,
+        Fault::TooMany => match at {
             At::Whole(Source::Suppress) => Wanted::FewEntries,
             At::Run(_, _) => Wanted::FewResults,
             _ => Wanted::FewRuns,
         },
-        Cause::NotList => Wanted::Entries,
-        Cause::BadEntry => Wanted::Entry,
-        Cause::EmptyMatch => Wanted::Condition,
-        Cause::NeedsToday => Wanted::Today,
+        Fault::NotList => Wanted::Entries,
+        Fault::BadEntry => Wanted::Entry,
+        Fault::EmptyMatch => Wanted::Condition,
+        Fault::NeedsToday => Wanted::Today,
+    }
+}
+
+/// What is wanted for the cause of a fault, whatever member is at fault.
+pub(crate) fn wanted_by(fault: &MergeFault) -> Wanted {
+    match fault.cause {
+        Cause::Of(wrong) => wanted_at(fault.at, wrong),
         Cause::TooLong => Wanted::FewBytes,
         Cause::ReadFailed => Wanted::Readable,
         Cause::WriteFailed => Wanted::Writable,
@@ -49,18 +56,18 @@ pub(crate) fn wanted_by(fault: &MergeFault) -> Wanted {
 }
 
 /// The place itself, where nothing in it was found at fault.
-fn or_all<'a>(found: Option<Misfit<'a>>, place: Place<'a>, fault: &MergeFault) -> Misfit<'a> {
+fn or_all<'a>(found: Option<Misfit<'a>>, place: Place<'a>, wanted: Wanted) -> Misfit<'a> {
     match found {
         Some(misfit) => misfit,
-        None => Misfit::at(place, wanted_by(fault)),
+        None => Misfit::at(place, wanted),
     }
 }
 
 /// What is at fault in a whole source.
-fn misfit_of_source<'a>(alloc: Global, root: &Place<'a>, fault: &MergeFault) -> Found<'a> {
-    match fault.at {
-        At::Whole(Source::Suppress) => misfit_in(alloc, root, file_checks(fault.cause)),
-        _ => misfit_in(alloc, root, log_checks(fault.cause)),
+fn misfit_of_source<'a>(alloc: Global, root: &Place<'a>, at: At, fault: Fault) -> Found<'a> {
+    match at {
+        At::Whole(Source::Suppress) => misfit_in(alloc, root, file_checks(fault)),
+        _ => misfit_in(alloc, root, log_checks(fault)),
     }
 }
 
@@ -70,20 +77,22 @@ fn misfit_in_log<'a>(
     root: Place<'a>,
     number: u32,
     single: Option<u32>,
-    fault: &MergeFault,
+    at: At,
+    fault: Fault,
 ) -> Result<Misfit<'a>, AllocError> {
+    let wanted = wanted_at(at, fault);
     let Some(run) = root.nth(alloc, &["runs"], number as usize)? else {
-        return Ok(Misfit::at(root, wanted_by(fault)));
+        return Ok(Misfit::at(root, wanted));
     };
     let Some(single) = single else {
-        return Ok(or_all(misfit_of_run(alloc, &run, fault.cause)?, run, fault));
+        return Ok(or_all(misfit_of_run(alloc, &run, fault)?, run, wanted));
     };
     match run.nth(alloc, &["results"], single as usize)? {
         Some(place) => {
-            let found = misfit_of_result(alloc, &run, &place, fault.cause)?;
-            Ok(or_all(found, place, fault))
+            let found = misfit_of_result(alloc, &run, &place, fault)?;
+            Ok(or_all(found, place, wanted))
         }
-        None => Ok(Misfit::at(run, wanted_by(fault))),
+        None => Ok(Misfit::at(run, wanted)),
     }
 }
 
@@ -92,14 +101,15 @@ fn misfit_in_file<'a>(
     alloc: Global,
     root: Place<'a>,
     number: u32,
-    fault: &MergeFault,
+    fault: Fault,
 ) -> Result<Misfit<'a>, AllocError> {
+    let wanted = wanted_at(At::Entry(number), fault);
     match root.nth(alloc, &["suppressions"], number as usize)? {
         Some(entry) => {
-            let found = misfit_of_entry(alloc, root.value, &entry, fault.cause)?;
-            Ok(or_all(found, entry, fault))
+            let found = misfit_of_entry(alloc, root.value, &entry, fault)?;
+            Ok(or_all(found, entry, wanted))
         }
-        None => Ok(Misfit::at(root, wanted_by(fault))),
+        None => Ok(Misfit::at(root, wanted)),
     }
 }
 
@@ -112,16 +122,17 @@ fn is_file(at: At) -> bool {
 pub(crate) fn misfit_of<'a>(
     alloc: Global,
     value: &'a Value,
-    fault: &MergeFault,
+    at: At,
+    fault: Fault,
 ) -> Result<Misfit<'a>, AllocError> {
-    let root = Place::root(alloc, value, !is_file(fault.at));
-    match fault.at {
+    let root = Place::root(alloc, value, !is_file(at));
+    match at {
         At::Nowhere | At::Whole(_) => {
-            let found = misfit_of_source(alloc, &root, fault)?;
-            Ok(or_all(found, root, fault))
+            let found = misfit_of_source(alloc, &root, at, fault)?;
+            Ok(or_all(found, root, wanted_at(at, fault)))
         }
-        At::Run(_, run) => misfit_in_log(alloc, root, run, None, fault),
-        At::Single(_, run, single) => misfit_in_log(alloc, root, run, Some(single), fault),
+        At::Run(_, run) => misfit_in_log(alloc, root, run, None, at, fault),
+        At::Single(_, run, single) => misfit_in_log(alloc, root, run, Some(single), at, fault),
         At::Entry(entry) => misfit_in_file(alloc, root, entry, fault),
     }
 }

@@ -8,7 +8,7 @@ ghost use Rattle.sarif_runs.specs.Opened.{placed_of};
 ghost use Rattle.sarif_results.specs.Outcomes.{draft_beside, outcome_of};
 ghost use Rattle.sarif_runs.specs.Found.{record_item};
 
-use sarif_model::{Fault, Source};
+use sarif_model::{Refusal, Source};
 use sarif_read::is_marked_absent;
 use sarif_results::{Draft, Outcome, draft_current};
 use sarif_runs::{Item, OpenedRun, make_record_of};
@@ -51,8 +51,8 @@ fn read_record(alloc: Global, opened: &OpenedRun<'_, '_>, found: &Value) -> Resu
     };
     match make_record_of(alloc, head, &opened.tool, found) {
         Ok(record) => Ok(Item::Sound(record)),
-        Err(Fault::OutOfMemory) => Err(AllocError),
-        Err(fault) => Ok(Item::Bad(fault)),
+        Err(Refusal::Fault(fault)) => Ok(Item::Bad(fault)),
+        Err(Refusal::OutOfMemory) => Err(AllocError),
     }
 }
 

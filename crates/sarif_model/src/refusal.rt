@@ -3,6 +3,7 @@ ghost use Rattle.std.specs.Prelude.{◌≡◌};
 
 use crate::fault::Fault;
 use std::alloc::{AllocError, AllocFailed};
+use std::fmt;
 
 /// Why a call that needs memory gives no answer. Out of memory is no fault of what it reads.
 #[derive(Clone, Copy, Debug, PartialEq, Eq)]
@@ -40,5 +41,14 @@ impl From<Fault> for Refusal<Fault> {
 
     fn from(fault: Fault) -> Refusal<Fault> {
         Refusal::Fault(fault)
+    }
+}
+
+impl<F: fmt::Display> fmt::Display for Refusal<F> {
+    fn fmt<W: fmt::Write>(&self, f: &mut fmt::Formatter<W>) -> fmt::Result {
+        match self {
+            Refusal::Fault(fault) => write!(f, "{fault}"),
+            Refusal::OutOfMemory => f.write_str("OutOfMemory"),
+        }
     }
 }

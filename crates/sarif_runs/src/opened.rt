@@ -9,7 +9,7 @@ ghost use Rattle.sarif_runs.specs.Record.{tool_name};
 use crate::head::RunHead;
 use crate::making::copy_tool_name;
 use crate::open::open_value;
-use sarif_model::{Fault, Source, Text};
+use sarif_model::{Fault, Refusal, Source, Text};
 use sarif_read::IndexedRun;
 use serde_json::Value;
 use std::alloc::{AllocError, Global};
@@ -41,8 +41,8 @@ fn open_head(
 {
     match open_value(alloc, seed, run) {
         Ok(head) => Ok(Ok(head)),
-        Err(Fault::OutOfMemory) => Err(AllocError),
-        Err(fault) => Ok(Err(fault)),
+        Err(Refusal::Fault(fault)) => Ok(Err(fault)),
+        Err(Refusal::OutOfMemory) => Err(AllocError),
     }
 }
 
