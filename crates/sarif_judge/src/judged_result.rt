@@ -6,12 +6,11 @@ ghost use Rattle.sarif_model.specs.Run.{results_of};
 ghost use Rattle.sarif_runs.specs.Judging.{item_of, skips};
 ghost use Rattle.sarif_runs.specs.Opened.{placed_of};
 ghost use Rattle.sarif_results.specs.Outcomes.{draft_beside, outcome_of};
-ghost use Rattle.sarif_runs.specs.Found.{record_item};
 
-use sarif_model::{Refusal, Source};
+use sarif_model::Source;
 use sarif_read::is_marked_absent;
 use sarif_results::{Draft, Outcome, draft_current};
-use sarif_runs::{Item, OpenedRun, make_record_of};
+use sarif_runs::{Item, OpenedRun};
 use sarif_suppress::Suppressions;
 use serde_json::Value;
 use std::alloc::{AllocError, Global};
@@ -40,22 +39,6 @@ fn skips_absent(source: Source) -> bool
     matches!(source, Source::Baseline(_))
 }
 
-/// The record of a result of the run, or its first fault.
-fn read_record(alloc: Global, opened: &OpenedRun<'_, '_>, found: &Value) -> Result<Item, AllocError>
-    ensures { IfOk result
-        (λ item. item ≡ record_item (placed_of opened.now).run (view found.now)) }
-{
-    let head = match &opened.head {
-        Ok(head) => head,
-        Err(fault) => return Ok(Item::Bad(*fault)),
-    };
-    match make_record_of(alloc, head, &opened.tool, found) {
-        Ok(record) => Ok(Item::Sound(record)),
-        Err(Refusal::Fault(fault)) => Ok(Item::Bad(fault)),
-        Err(Refusal::OutOfMemory) => Err(AllocError),
-    }
-}
-
 /// What is known of a result of a baseline before results are matched. Of its value no more is made than tells it.
 #[tactic(auto, using(sarif_runs::proofs::RecordMembers::absent_members))]
 fn judge_known(alloc: Global, opened: &OpenedRun<'_, '_>, seq: u32) -> Result<Item, AllocError>
@@ -63,11 +46,11 @@ fn judge_known(alloc: Global, opened: &OpenedRun<'_, '_>, seq: u32) -> Result<It
     requires known { skips (placed_of opened.now).source ≡ true }
     ensures { IfOk result (λ item. item ≡ item_of (placed_of opened.now) seq) }
 {
-    let found = opened.run.picked(alloc, seq, &RECORD_MEMBERS)?;
+    let found = opened.picked(alloc, seq, &RECORD_MEMBERS)?;
     if is_marked_absent(&found) {
         return Ok(Item::Skipped);
     }
-    let item = read_record(alloc, opened, &found)?;
+    let item = opened.item_of(alloc, &found)?;
     Ok(item)
 }
 
@@ -101,8 +84,8 @@ fn judge_current(
     ensures { IfOk result
         (λ outcome. outcome ≡ outcome_of file.now (placed_of opened.now) seq) }
 {
-    let found = opened.run.result(alloc, seq)?;
-    let item = read_record(alloc, opened, &found)?;
+    let found = opened.result(alloc, seq)?;
+    let item = opened.item_of(alloc, &found)?;
     let draft = draft_item(alloc, found, &item, file)?;
     Ok(Outcome { item, draft })
 }

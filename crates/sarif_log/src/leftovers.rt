@@ -64,7 +64,7 @@ pub fn list_leftovers<'w, 't, 'a>(
 fn draft_leftover(alloc: Global, left: &Leftover<'_, '_, '_>) -> Result<Draft, AllocError>
     ensures { IfOk result (λ draft. draft ≡ leftover_draft left.now) }
 {
-    let found = left.run.run.result(alloc, left.seq)?;
+    let found = left.run.result(alloc, left.seq)?;
     let draft = draft_absent(alloc, found, left.record)?;
     Ok(draft)
 }

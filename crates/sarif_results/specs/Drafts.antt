@@ -20,6 +20,10 @@ use Rattle.sarif_model.specs.Run.{results_of}
 
 -- ---- a result
 
+-- which suppressions are written for a result with that record and those suppressions of its own
+abbrev pub Listing : Type 0
+Listing = Record → List Data → List Data
+
 -- the members of an object; what is no object has none
 abbrev pub members_in : Data → Members
 members_in d = unwrap_or (as_object d) no_members
@@ -68,7 +72,3 @@ drafts_by listed applied (r ∷ rs) (d ∷ ds) =
 -- a run is an object, and so is each of its results
 abbrev pub IsRun : Data → Type 0
 IsRun run = IsObject run × AllByRecursion IsObject (results_of run)
-
--- which suppressions are written for a result with that record and those suppressions of its own
-abbrev pub Listing : Type 0
-Listing = Record → List Data → List Data

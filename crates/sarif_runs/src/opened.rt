@@ -7,7 +7,8 @@ ghost use Rattle.sarif_runs.specs.Head.{head_of};
 ghost use Rattle.sarif_runs.specs.Record.{tool_name};
 
 use crate::head::RunHead;
-use crate::making::copy_tool_name;
+use crate::item::Item;
+use crate::making::{copy_tool_name, make_record_of};
 use crate::open::open_value;
 use sarif_model::{Fault, Refusal, Source, Text};
 use sarif_read::IndexedRun;
@@ -23,9 +24,9 @@ pub struct OpenedRun<'t, 'a> {
     pub source: Source,
     /// Its number in its source, from 0.
     pub number: u32,
-    pub run: IndexedRun<'t, 'a>,
-    pub tool: Text,
-    pub head: Result<RunHead, Fault>,
+    pub(crate) run: IndexedRun<'t, 'a>,
+    pub(crate) tool: Text,
+    pub(crate) head: Result<RunHead, Fault>,
     ghost tool_is: { tool ≡ tool_name (run_of run) },
     ghost head_is: { head ≡ head_of (run_of run) },
     ghost whole: { has_float (run_of run) ≡ false },
@@ -47,6 +48,7 @@ fn open_head(
 }
 
 impl<'t, 'a> OpenedRun<'t, 'a> {
+    ghost use Rattle.sarif_runs.specs.Found.{record_item};
     ghost use Rattle.sarif_runs.specs.Judging.{opening_fault};
     ghost use Rattle.sarif_runs.specs.Opened.{placed_of};
     ghost use Rattle.sarif_read.specs.Bare.{bare};
@@ -110,6 +112,31 @@ impl<'t, 'a> OpenedRun<'t, 'a> {
         ensures { view result.now ≡ bare (placed_of self.now).run }
     {
         self.run.bare()
+    }
+
+    /// Result `seq` of the run, numbered from 0, stripped. Returns `AllocError` if memory for it runs out.
+    pub fn result(&self, alloc: Global, seq: u32) -> Result<Value, AllocError>
+        requires { seq < length (results_of (placed_of self.now).run) }
+        ensures { IfOk result (λ found. view found ≡ result_at (placed_of self.now).run seq) }
+    {
+        self.run.result(alloc, seq)
+    }
+
+    /// What is known of this value as a result of the run: its record, or its first error. Returns `AllocError` if
+    /// memory runs out.
+    pub fn item_of(&self, alloc: Global, found: &Value) -> Result<Item, AllocError>
+        ensures { IfOk result
+            (λ item. item ≡ record_item (placed_of self.now).run (view found.now)) }
+    {
+        let head = match &self.head {
+            Ok(head) => head,
+            Err(fault) => return Ok(Item::Bad(*fault)),
+        };
+        match make_record_of(alloc, head, &self.tool, found) {
+            Ok(record) => Ok(Item::Sound(record)),
+            Err(Refusal::Fault(fault)) => Ok(Item::Bad(fault)),
+            Err(Refusal::OutOfMemory) => Err(AllocError),
+        }
     }
 
     /// Result `seq` of the run, counted from 0, with those of its members alone that have one of these names.

@@ -71,7 +71,7 @@ fn read_correlation_guid(result_value: &Value) -> Result<Option<u128>, Fault>
 {
     match member_at(result_value, "correlationGuid") {
         None => Ok(None),
-        Some(member) => match member.as_str().and_then(read_guid) {
+        Some(member) => match member.as_str().and_then(|text| read_guid(text)) {
             Some(guid) => Ok(Some(guid)),
             None => Err(Fault::BadGuid),
         },
