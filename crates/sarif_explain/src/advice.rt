@@ -1,10 +1,10 @@
 //! What to do about a fault: the table of the sentences.
 use sarif_model::{Cause, Fault};
 
-/// What to do where more is read than may be.
+/// What to do about an input past a limit.
 const SPLIT: &str = "split the analysis, or drop what is not needed";
 
-/// The sentence that says what to do where what was read is wrong.
+/// Returns what to do about an error in what was read.
 fn advice_on_fault(fault: Fault) -> &'static str {
     match fault {
         Fault::NotJson => "mend it there, or see whether what wrote the file wrote it to its end",

@@ -10,7 +10,7 @@ use sarif_model::{At, Cause, Fault, MergeFault, Source};
 use serde_json::Value;
 use std::alloc::{AllocError, Global};
 
-/// What is wanted where that fault is found, whatever member is at fault.
+/// Returns what is expected at the place of that error.
 fn wanted_at(at: At, fault: Fault) -> Wanted {
     match fault {
         Fault::NotJson => Wanted::Json,
@@ -43,7 +43,7 @@ fn wanted_at(at: At, fault: Fault) -> Wanted {
     }
 }
 
-/// What is wanted for the cause of a fault, whatever member is at fault.
+/// Returns what is expected for the cause of an error.
 pub(crate) fn wanted_by(fault: &MergeFault) -> Wanted {
     match fault.cause {
         Cause::Of(wrong) => wanted_at(fault.at, wrong),

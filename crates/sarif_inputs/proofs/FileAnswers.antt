@@ -1,4 +1,4 @@
--- What a fault of the suppression file answers.
+-- An error of the suppression file is the first one.
 use Rattle.std.proofs.Common.{◌≡◌, ◌⊎◌, inr, Some, Result, Err, ap}
 use Rattle.sarif_suppress.specs.File.{File}
 use Rattle.sarif_suppress.specs.declared.fault.FileFault.{FileFault}

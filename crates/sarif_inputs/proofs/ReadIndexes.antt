@@ -61,7 +61,7 @@ read_without_index bytes index.OutOfMemory none = record {
   err = λ fault same. absurd cc;
 }
 
--- the fault that reading a source answered is the first of its bytes
+-- the error that reading a source returned is the first of its bytes
 pub reading_refused : (source : Source) (bytes : List ℕ) (parsed : Parsed) (fault : ReadFault)
     → parsed ≡ Err (refusal.Fault fault) → IsParsedFrom bytes parsed
     → IsWanting (fault_of_reading source fault) ⊎ (first (reading_faults source (log_of bytes)) ≡ Some (fault_of_reading source fault))

@@ -14,11 +14,11 @@ use Rattle.sarif_read.specs.declared.read_fault.ReadFault.{ReadFault}
 use Rattle.sarif_model.specs.declared.refusal.Refusal.{Refusal}
 use Rattle.sarif_model.specs.Refusal.{IfFault}
 
--- the runs of a log, or why it is none
+-- the runs of a log, or why it was not read
 abbrev pub Parsed : Type 0
 Parsed = Result (Vec IndexedRun Global) (Refusal ReadFault)
 
--- the log of these bytes, within the limits of one, or its fault, or want of memory
+-- the log of these bytes, within the limits of one log, or its first error, or out of memory
 pub record IsParsedFrom (bytes : List ℕ) (parsed : Parsed) : Type 0 where
   pub ok : IfOk parsed (λ log. log_of bytes ≡ Ok (map run_of log.items))
   pub few_runs : IfOk parsed (λ log. length log.items ≤ 10000)

@@ -77,7 +77,7 @@ fn too_many(source: Source) -> MergeFault
     MergeFault::found(At::Whole(source), Cause::Of(Fault::TooMany))
 }
 
-/// A fault of reading a source, with its place.
+/// Returns an error of reading a source with its place.
 fn fault_in(source: Source, fault: ReadFault) -> MergeFault
     ensures { result ≡ fault_of_reading source fault }
 {

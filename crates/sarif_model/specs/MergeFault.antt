@@ -8,7 +8,7 @@ use Rattle.sarif_model.specs.declared.merge_fault.Cause.{Cause}
 use Rattle.sarif_model.specs.declared.merge_fault.Cause.TheVariants.{Of, ReadFailed, WriteFailed, OutOfMemory, NoWorker}
 use Rattle.sarif_model.specs.declared.merge_fault.MergeFault.{MergeFault}
 
--- the cause that is a fault of what was read
+-- the cause of an error in what was read
 abbrev pub cause_of : Fault → Cause
 cause_of fault = Of fault
 

@@ -1,4 +1,4 @@
-//! What is wrong with an input.
+//! The errors of an input.
 use thiserror::Error;
 
 /// The first thing that is wrong with a log, a run, a result or the suppression file. A member of a
@@ -11,8 +11,8 @@ pub enum Fault {
     /// The value is no object, or `runs`, which must be there, is neither an array nor null.
     #[error("NotLog")]
     NotLog = 2,
-    /// `version` is not one that is read. It must be there: of a log or a baseline it is the text
-    /// `2.1.0`, of the suppression file the whole number 1 or 2.
+    /// `version`, which must be there, is not supported: a log or a baseline must have the string
+    /// `2.1.0`, the suppression file the integer 1 or 2.
     #[error("WrongVersion")]
     WrongVersion = 3,
     /// A run that is no object, or whose `tool.driver.name`, which must be there, is no text, or
@@ -72,17 +72,17 @@ pub enum Fault {
     /// source has more than 1,000,000 results; or a suppression file of more than 10,000 entries.
     #[error("TooMany")]
     TooMany = 16,
-    /// The suppression file is no object with an array `suppressions`.
+    /// The suppression file is not an object with an array `suppressions`.
     #[error("NotList")]
     NotList = 17,
-    /// An entry of the suppression file that is no object, has a member that its version doesn't
-    /// know, or one of a wrong kind.
+    /// An entry of the suppression file that is not an object, has a member that its version doesn't
+    /// know, or one of the wrong type.
     #[error("BadEntry")]
     BadEntry = 18,
     /// An entry of the suppression file that names no condition.
     #[error("EmptyMatch")]
     EmptyMatch = 19,
-    /// An entry of the suppression file that expires, where the merge was told no day.
+    /// An entry of the suppression file that expires, if the merge has no date of today.
     #[error("NeedsToday")]
     NeedsToday = 20,
 }

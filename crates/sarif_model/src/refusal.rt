@@ -1,16 +1,16 @@
-//! Why a call that needs memory gives no answer.
+//! Why a call that allocates fails.
 ghost use Rattle.std.specs.Prelude.{◌≡◌};
 
 use crate::fault::Fault;
 use std::alloc::{AllocError, AllocFailed};
 use std::fmt;
 
-/// Why a call that needs memory gives no answer. Out of memory is no fault of what it reads.
+/// Why a call that allocates fails: an error in what it reads, or out of memory.
 #[derive(Clone, Copy, Debug, PartialEq, Eq)]
 pub enum Refusal<F> {
-    /// What it reads has this fault.
+    /// What it reads has this error.
     Fault(F),
-    /// Memory was wanting.
+    /// Memory ran out.
     OutOfMemory,
 }
 

@@ -25,7 +25,7 @@ pub made_push : (runs : List IndexedRun) (run : IndexedRun) (nodes : List (List 
     → map run_of (runs ++ run ∷ []) ≡ map value_at (take (i + 1) nodes)
 made_push runs run nodes i node so_far made below is = grind (arith, common_steps)
 
--- a fault of a run is one at its number
+-- an error of a run names its number
 pub refused : (n : ℕ) (r : Refusal Fault) (e : ReadFault) → refusal_at n r ≡ refusal.Fault e
     → (fault : Fault) × (r ≡ refusal.Fault fault) × (record { run = Some n; fault = fault } ≡ e)
 refused n (refusal.Fault fault) e h = (fault, refl, cc)

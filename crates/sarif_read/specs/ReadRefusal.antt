@@ -1,4 +1,4 @@
--- Why a log isn't read: a fault of all of it, a text that has no index, or want of memory.
+-- Why a log is not read.
 use Rattle.std.specs.Prelude.{ℕ, Some, None}
 use Rattle.json_parts.specs.declared.indexing.IndexFault as indexing
 use Rattle.json_parts.specs.declared.indexing.IndexFault.TheVariants as index
@@ -8,7 +8,7 @@ use Rattle.sarif_model.specs.declared.refusal.Refusal.{Refusal}
 use Rattle.sarif_model.specs.declared.refusal.Refusal.TheVariants as refusal
 use Rattle.sarif_read.specs.declared.read_fault.ReadFault.{ReadFault}
 
--- a fault of no run
+-- an error that names no run
 abbrev pub whole : Fault → ReadFault
 whole fault = record { run = None; fault = fault }
 
@@ -20,7 +20,7 @@ abbrev pub refusal_of_index : indexing.IndexFault → Refusal ReadFault
 refusal_of_index index.NotJson = refusal.Fault (whole NotJson)
 refusal_of_index index.OutOfMemory = refusal.OutOfMemory
 
--- the refusal of a run
+-- the error of run n; out of memory names no run
 abbrev pub refusal_at : ℕ → Refusal Fault → Refusal ReadFault
 refusal_at n (refusal.Fault fault) = refusal.Fault (record { run = Some n; fault = fault })
 refusal_at n refusal.OutOfMemory = refusal.OutOfMemory

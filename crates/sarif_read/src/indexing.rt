@@ -71,7 +71,7 @@ fn index_run<'t, 'a>(
     Ok(IndexedRun::new(bare, results))
 }
 
-/// The refusal of run `number`; want of memory is no run's.
+/// Returns the error of run `number`; `OutOfMemory` names no run.
 fn refused_at(number: u32, refusal: Refusal<Fault>) -> Refusal<ReadFault>
     ensures { result ≡ refusal_at number refusal }
 {
@@ -169,7 +169,7 @@ fn checked_runs<'t, 'a>(
 /// The runs of an indexed log (SARIF 2.1.0, "sarifLog object"), of which each is stripped and has
 /// the form of one. Takes no memory for their results but the list of their places.
 ///
-/// The fault that is answered is the first of the log:
+/// Returns the first error of the log:
 /// `NotLog`, `WrongVersion` or `TooMany` without a run, `BadRun`, `ExternalProperties` or `TooMany`
 /// with the run's number, counted from 0.
 #[tactic(auto, unfolding(crate::specs::Reading::log_of_value))]

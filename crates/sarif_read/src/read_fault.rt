@@ -22,7 +22,7 @@ impl From<Fault> for ReadFault {
     }
 }
 
-/// A refusal of no run.
+/// Returns an error that names no run.
 pub(crate) fn refused_whole(refusal: Refusal<Fault>) -> Refusal<ReadFault>
     ensures { result ≡ refusal_of_fault refusal }
 {
@@ -32,7 +32,7 @@ pub(crate) fn refused_whole(refusal: Refusal<Fault>) -> Refusal<ReadFault>
     }
 }
 
-/// The refusal of a text that has no index: `NotJson`, without a run, or want of memory.
+/// Returns why a log without an index is rejected: `NotJson`, without a run, or `OutOfMemory`.
 pub fn refused_text(fault: IndexFault) -> Refusal<ReadFault>
     ensures { result ≡ refusal_of_index fault }
 {

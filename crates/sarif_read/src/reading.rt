@@ -56,9 +56,9 @@ pub(crate) fn check_external(run: &Value) -> Result<(), Fault>
 /// Reads a log (SARIF 2.1.0, "sarifLog object"): the JSON after one leading byte order mark,
 /// stripped, with the form of the log and of its runs.
 ///
-/// The fault that is answered is the first of the bytes: `NotJson`, `NotLog`, `WrongVersion` or
-/// `TooMany` without a run, `BadRun`, `ExternalProperties` or `TooMany` with the run's number,
-/// counted from 0.
+/// Returns the first error of the bytes: `NotJson`, `NotLog`, `WrongVersion` or `TooMany` without
+/// a run, or `BadRun`, `ExternalProperties` or `TooMany` with the number of the run from 0. Returns
+/// `OutOfMemory` if memory runs out.
 #[tactic(auto, using(crate::proofs::LogText::read_steps), unfolding(crate::specs::Reading::log_of))]
 pub fn read_log(alloc: Global, bytes: &[u8]) -> Result<Log, Refusal<ReadFault>>
     ensures ok { IfOk result (λ log. said.log_of bytes.now ≡ Ok (map view log)) }

@@ -1,4 +1,4 @@
-//! Why a suppression file is refused.
+//! The errors of a suppression file.
 ghost use Rattle.std.specs.Prelude.{◌≡◌};
 ghost use Rattle.sarif_suppress.specs.FileFault.{whole, in_entry, fault_of_file};
 ghost use Rattle.sarif_model.specs.declared.refusal.Refusal.TheVariants as refusal;
@@ -6,17 +6,17 @@ ghost use Rattle.sarif_model.specs.declared.refusal.Refusal.TheVariants as refus
 use sarif_model::{At, Cause, Fault, MergeFault, Refusal, Source};
 use std::fmt;
 
-/// The first thing that is wrong with a suppression file.
+/// The first error of a suppression file.
 #[derive(Clone, Copy, Debug, PartialEq, Eq)]
 pub struct FileFault {
-    /// The entry that is at fault, counted from 0, where the fault is one of an entry.
+    /// The number of the entry with the error, from 0; `None` for an error of the whole file.
     pub entry: Option<u32>,
     /// What is wrong.
     pub fault: Fault,
 }
 
 impl FileFault {
-    /// The fault of this entry.
+    /// Returns the error of this entry.
     pub(crate) fn in_entry(number: u32, fault: Fault) -> FileFault
         ensures { result ≡ in_entry number fault }
     {
