@@ -1,6 +1,6 @@
 //! Examples worked by hand, and that each call succeeds with ample memory. A row is an answer and a run, whose first result
 //! gives its descriptor, its level and its place, or a fault.
-use sarif_model::{Fault, Kind, Level, Place, Record};
+use sarif_model::{Fault, Kind, Level, Place, Record, Refusal};
 use sarif_read::{Log, RawRun, read_log};
 use sarif_runs::{Parts, RunHead, make_record, open_run, read_parts};
 use std::alloc::{AllocError, Global};
@@ -23,7 +23,7 @@ fn read_run(alloc: Global, run: &str) -> Result<Log, Fail> {
     Ok(log)
 }
 
-fn answer_by(head: &RunHead, parts: &Parts) -> Result<Answer, Fault> {
+fn answer_by(head: &RunHead, parts: &Parts) -> Result<Answer, Refusal<Fault>> {
     let descriptor = head.descriptor(parts)?;
     let level = head.level(parts)?;
     let place = head.place(parts)?;
@@ -34,15 +34,15 @@ fn answer_by(head: &RunHead, parts: &Parts) -> Result<Answer, Fault> {
     })
 }
 
-fn answer_in(alloc: Global, head: &RunHead, run: &RawRun) -> Result<Answer, Fault> {
+fn answer_in(alloc: Global, head: &RunHead, run: &RawRun) -> Result<Answer, Refusal<Fault>> {
     if run.len() == 0 {
-        return Err(Fault::NotLog);
+        return Err(Refusal::Fault(Fault::NotLog));
     }
     let parts = read_parts(alloc, run, 0)?;
     answer_by(head, &parts)
 }
 
-fn answer_of(alloc: Global, seed: RandomState, run: &RawRun) -> Result<Answer, Fault> {
+fn answer_of(alloc: Global, seed: RandomState, run: &RawRun) -> Result<Answer, Refusal<Fault>> {
     let head = open_run(alloc, seed, run)?;
     answer_in(alloc, &head, run)
 }
@@ -119,10 +119,10 @@ fn check_record(rt: &impl Abort, made: &Record) -> Result<(), Fail> {
     Ok(())
 }
 
-fn record_of(alloc: Global, seed: RandomState, run: &RawRun) -> Result<Record, Fault> {
+fn record_of(alloc: Global, seed: RandomState, run: &RawRun) -> Result<Record, Refusal<Fault>> {
     let head = open_run(alloc, seed, run)?;
     if run.len() == 0 {
-        return Err(Fault::NotLog);
+        return Err(Refusal::Fault(Fault::NotLog));
     }
     make_record(alloc, &head, run, 0)
 }

@@ -1,7 +1,7 @@
 //! The results of a log's first run beside those of its second, which stand for a baseline.
 use crate::reading::log_of;
 use sarif_match::{key, match_all, tiers};
-use sarif_model::{Fault, Record};
+use sarif_model::{Fault, Record, Refusal};
 use sarif_read::RawRun;
 use sarif_runs::{make_record, open_run};
 use std::alloc::{AllocError, Global};
@@ -13,18 +13,22 @@ struct Sides {
     baseline: Vec<Record>,
 }
 
-fn sides_of(alloc: Global, seed: RandomState, log: &str) -> Result<Sides, Fault> {
+fn sides_of(alloc: Global, seed: RandomState, log: &str) -> Result<Sides, Refusal<Fault>> {
     let log = log_of(alloc, log)?;
     match log.runs() {
         [current, baseline] => Ok(Sides {
             current: records_of(alloc, seed, current)?,
             baseline: records_of(alloc, seed, baseline)?,
         }),
-        _ => Err(Fault::NotLog),
+        _ => Err(Refusal::Fault(Fault::NotLog)),
     }
 }
 
-fn records_of(alloc: Global, seed: RandomState, run: &RawRun) -> Result<Vec<Record>, Fault> {
+fn records_of(
+    alloc: Global,
+    seed: RandomState,
+    run: &RawRun,
+) -> Result<Vec<Record>, Refusal<Fault>> {
     let head = open_run(alloc, seed, run)?;
     let mut records = Vec::new(alloc);
     for seq in 0..run.len() {

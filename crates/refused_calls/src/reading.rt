@@ -1,5 +1,5 @@
 //! Logs, runs and results.
-use sarif_model::{Fault, Level, Place, Record};
+use sarif_model::{Fault, Level, Place, Record, Refusal};
 use sarif_read::{Log, ReadFault, read_log, strip};
 use sarif_runs::{Parts, make_record, open_run, read_parts};
 use serde_json::Value;
@@ -10,13 +10,16 @@ use std::hash::RandomState;
 pub fn runs_in_words(alloc: Global, log: &str) -> Result<String, AllocError> {
     match read_log(alloc, log.as_bytes()) {
         Ok(log) => runs_as_text(alloc, &log),
-        Err(
-            ReadFault {
-                run: Some(run),
-                fault,
-            },
-        ) => format!(in alloc; "run {run}: {fault}"),
-        Err(ReadFault { run: None, fault }) => format!(in alloc; "{fault}"),
+        Err(Refusal::Fault(found)) => fault_in_words(alloc, found),
+        Err(Refusal::OutOfMemory) => String::from_str(alloc, "OutOfMemory"),
+    }
+}
+
+fn fault_in_words(alloc: Global, found: ReadFault) -> Result<String, AllocError> {
+    let fault = found.fault;
+    match found.run {
+        Some(run) => format!(in alloc; "run {run}: {fault}"),
+        None => format!(in alloc; "{fault}"),
     }
 }
 
@@ -38,10 +41,11 @@ pub fn stripped(alloc: Global, text: &str) -> Result<String, AllocError> {
 }
 
 /// The log of that text.
-pub fn log_of(alloc: Global, text: &str) -> Result<Log, Fault> {
+pub fn log_of(alloc: Global, text: &str) -> Result<Log, Refusal<Fault>> {
     match read_log(alloc, text.as_bytes()) {
         Ok(log) => Ok(log),
-        Err(ReadFault { run: _, fault }) => Err(fault),
+        Err(Refusal::Fault(found)) => Err(Refusal::Fault(found.fault)),
+        Err(Refusal::OutOfMemory) => Err(Refusal::OutOfMemory),
     }
 }
 
@@ -53,11 +57,11 @@ pub fn parts_in_words(alloc: Global, log: &str) -> Result<String, AllocError> {
     }
 }
 
-fn parts_of(alloc: Global, log: &str) -> Result<Parts, Fault> {
+fn parts_of(alloc: Global, log: &str) -> Result<Parts, Refusal<Fault>> {
     let log = log_of(alloc, log)?;
     match log.runs().first() {
         Some(run) if run.len() > 0 => read_parts(alloc, run, 0),
-        _ => Err(Fault::NotLog),
+        _ => Err(Refusal::Fault(Fault::NotLog)),
     }
 }
 
@@ -76,14 +80,14 @@ struct Given {
     place: Place,
 }
 
-fn given_by_head(alloc: Global, seed: RandomState, log: &str) -> Result<Given, Fault> {
+fn given_by_head(alloc: Global, seed: RandomState, log: &str) -> Result<Given, Refusal<Fault>> {
     let log = log_of(alloc, log)?;
     let Some(run) = log.runs().first() else {
-        return Err(Fault::NotLog);
+        return Err(Refusal::Fault(Fault::NotLog));
     };
     let head = open_run(alloc, seed, run)?;
     if run.len() == 0 {
-        return Err(Fault::NotLog);
+        return Err(Refusal::Fault(Fault::NotLog));
     }
     let parts = read_parts(alloc, run, 0)?;
     Ok(Given {
@@ -102,14 +106,14 @@ pub fn record_in_words(alloc: Global, seed: RandomState, log: &str) -> Result<St
 }
 
 /// The record of a log's first result.
-pub fn first_record(alloc: Global, seed: RandomState, log: &str) -> Result<Record, Fault> {
+pub fn first_record(alloc: Global, seed: RandomState, log: &str) -> Result<Record, Refusal<Fault>> {
     let log = log_of(alloc, log)?;
     let Some(run) = log.runs().first() else {
-        return Err(Fault::NotLog);
+        return Err(Refusal::Fault(Fault::NotLog));
     };
     let head = open_run(alloc, seed, run)?;
     if run.len() == 0 {
-        return Err(Fault::NotLog);
+        return Err(Refusal::Fault(Fault::NotLog));
     }
     make_record(alloc, &head, run, 0)
 }

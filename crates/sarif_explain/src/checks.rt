@@ -1,19 +1,19 @@
-//! The tables of checks: which members are checked for which cause, in the order of the merge.
+//! Which members are looked at for which fault, in the order in which a merge looks at them: the tables.
 use crate::wanted::Wanted;
-use sarif_model::Cause;
+use sarif_model::Fault;
 
 /// Whether a member may be absent.
 #[derive(Clone, Copy, Debug, PartialEq, Eq)]
 pub(crate) enum Need {
-    /// It may be missing or null.
+    /// It may be absent or null.
     May,
-    /// It is required.
+    /// It must be there.
     Must,
 }
 
 use Need::{May, Must};
 
-/// A value, by the names of the members on the path to it, and what is expected of it.
+/// A value, by the names of the members on the way to it, and what is wanted of it.
 #[derive(Clone, Copy)]
 pub(crate) struct Check(pub &'static [&'static str], pub Need, pub Wanted);
 
@@ -27,11 +27,11 @@ const LOG_VERSION: &[Check] = &[Check(&["version"], Must, Wanted::LogVersion)];
 const MANY_RUNS: &[Check] = &[Check(&["runs"], May, Wanted::FewRuns)];
 
 /// The checks of a whole log.
-pub(crate) fn log_checks(cause: Cause) -> &'static [Check] {
-    match cause {
-        Cause::NotLog => NOT_LOG,
-        Cause::WrongVersion => LOG_VERSION,
-        Cause::TooMany => MANY_RUNS,
+pub(crate) fn log_checks(fault: Fault) -> &'static [Check] {
+    match fault {
+        Fault::NotLog => NOT_LOG,
+        Fault::WrongVersion => LOG_VERSION,
+        Fault::TooMany => MANY_RUNS,
         _ => &[],
     }
 }
@@ -46,11 +46,11 @@ const FILE_VERSION: &[Check] = &[Check(&["version"], Must, Wanted::FileVersion)]
 const MANY_ENTRIES: &[Check] = &[Check(&["suppressions"], May, Wanted::FewEntries)];
 
 /// The checks of the whole suppression file.
-pub(crate) fn file_checks(cause: Cause) -> &'static [Check] {
-    match cause {
-        Cause::NotList => NOT_LIST,
-        Cause::WrongVersion => FILE_VERSION,
-        Cause::TooMany => MANY_ENTRIES,
+pub(crate) fn file_checks(fault: Fault) -> &'static [Check] {
+    match fault {
+        Fault::NotList => NOT_LIST,
+        Fault::WrongVersion => FILE_VERSION,
+        Fault::TooMany => MANY_ENTRIES,
         _ => &[],
     }
 }
@@ -74,14 +74,14 @@ const BAD_ARTIFACTS: &[Check] = &[Check(&["artifacts"], May, Wanted::Objects)];
 const BAD_INVOCATIONS: &[Check] = &[Check(&["invocations"], May, Wanted::Objects)];
 
 /// The checks of a run's own members.
-pub(crate) fn run_checks(cause: Cause) -> &'static [Check] {
-    match cause {
-        Cause::BadRun => BAD_RUN,
-        Cause::ExternalProperties => EXTERNAL,
-        Cause::TooMany => MANY_RESULTS,
-        Cause::BadRules => BAD_EXTENSIONS,
-        Cause::BadLocation => BAD_ARTIFACTS,
-        Cause::BadMember => BAD_INVOCATIONS,
+pub(crate) fn run_checks(fault: Fault) -> &'static [Check] {
+    match fault {
+        Fault::BadRun => BAD_RUN,
+        Fault::ExternalProperties => EXTERNAL,
+        Fault::TooMany => MANY_RESULTS,
+        Fault::BadRules => BAD_EXTENSIONS,
+        Fault::BadLocation => BAD_ARTIFACTS,
+        Fault::BadMember => BAD_INVOCATIONS,
         _ => &[],
     }
 }
@@ -89,9 +89,9 @@ pub(crate) fn run_checks(cause: Cause) -> &'static [Check] {
 const RULES: &[Check] = &[Check(&["rules"], May, Wanted::Array)];
 
 /// The checks of the driver, and of each extension.
-pub(crate) fn component_checks(cause: Cause) -> &'static [Check] {
-    match cause {
-        Cause::BadRules => RULES,
+pub(crate) fn component_checks(fault: Fault) -> &'static [Check] {
+    match fault {
+        Fault::BadRules => RULES,
         _ => &[],
     }
 }
@@ -105,10 +105,10 @@ const BAD_RULE: &[Check] = &[
 const DEFAULT_LEVEL: &[Check] = &[Check(&["defaultConfiguration", "level"], May, Wanted::Level)];
 
 /// The checks of each rule.
-pub(crate) fn rule_checks(cause: Cause) -> &'static [Check] {
-    match cause {
-        Cause::BadRules => BAD_RULE,
-        Cause::BadLevel => DEFAULT_LEVEL,
+pub(crate) fn rule_checks(fault: Fault) -> &'static [Check] {
+    match fault {
+        Fault::BadRules => BAD_RULE,
+        Fault::BadLevel => DEFAULT_LEVEL,
         _ => &[],
     }
 }
@@ -120,9 +120,9 @@ const BAD_ARTIFACT: &[Check] = &[
 ];
 
 /// The checks of each artifact.
-pub(crate) fn artifact_checks(cause: Cause) -> &'static [Check] {
-    match cause {
-        Cause::BadLocation => BAD_ARTIFACT,
+pub(crate) fn artifact_checks(fault: Fault) -> &'static [Check] {
+    match fault {
+        Fault::BadLocation => BAD_ARTIFACT,
         _ => &[],
     }
 }
@@ -130,9 +130,9 @@ pub(crate) fn artifact_checks(cause: Cause) -> &'static [Check] {
 const OVERRIDES: &[Check] = &[Check(&["ruleConfigurationOverrides"], May, Wanted::Objects)];
 
 /// The checks of each invocation.
-pub(crate) fn invocation_checks(cause: Cause) -> &'static [Check] {
-    match cause {
-        Cause::BadMember => OVERRIDES,
+pub(crate) fn invocation_checks(fault: Fault) -> &'static [Check] {
+    match fault {
+        Fault::BadMember => OVERRIDES,
         _ => &[],
     }
 }
@@ -156,11 +156,11 @@ const OVERRIDE_INDEXES: &[Check] = &[
 const OVERRIDE_LEVEL: &[Check] = &[Check(&["configuration", "level"], May, Wanted::Level)];
 
 /// The checks of each override.
-pub(crate) fn override_checks(cause: Cause) -> &'static [Check] {
-    match cause {
-        Cause::BadMember => BAD_OVERRIDE,
-        Cause::BadIndex => OVERRIDE_INDEXES,
-        Cause::BadLevel => OVERRIDE_LEVEL,
+pub(crate) fn override_checks(fault: Fault) -> &'static [Check] {
+    match fault {
+        Fault::BadMember => BAD_OVERRIDE,
+        Fault::BadIndex => OVERRIDE_INDEXES,
+        Fault::BadLevel => OVERRIDE_LEVEL,
         _ => &[],
     }
 }
@@ -202,17 +202,17 @@ const INDEXES: &[Check] = &[
 const LOCATIONS: &[Check] = &[Check(&["locations"], May, Wanted::Array)];
 
 /// The checks of a result's own members.
-pub(crate) fn result_checks(cause: Cause) -> &'static [Check] {
-    match cause {
-        Cause::AbsentInput => ABSENT,
-        Cause::BadKind => KIND,
-        Cause::BadLevel => LEVEL,
-        Cause::BadGuid => GUID,
-        Cause::BadFingerprint => FINGERPRINTS,
-        Cause::BadSuppression => SUPPRESSIONS,
-        Cause::BadMember => MEMBERS,
-        Cause::BadIndex => INDEXES,
-        Cause::BadLocation => LOCATIONS,
+pub(crate) fn result_checks(fault: Fault) -> &'static [Check] {
+    match fault {
+        Fault::AbsentInput => ABSENT,
+        Fault::BadKind => KIND,
+        Fault::BadLevel => LEVEL,
+        Fault::BadGuid => GUID,
+        Fault::BadFingerprint => FINGERPRINTS,
+        Fault::BadSuppression => SUPPRESSIONS,
+        Fault::BadMember => MEMBERS,
+        Fault::BadIndex => INDEXES,
+        Fault::BadLocation => LOCATIONS,
         _ => &[],
     }
 }
@@ -223,9 +223,9 @@ const SUPPRESSION: &[Check] = &[
 ];
 
 /// The checks of each suppression of a result.
-pub(crate) fn suppression_checks(cause: Cause) -> &'static [Check] {
-    match cause {
-        Cause::BadSuppression => SUPPRESSION,
+pub(crate) fn suppression_checks(fault: Fault) -> &'static [Check] {
+    match fault {
+        Fault::BadSuppression => SUPPRESSION,
         _ => &[],
     }
 }
@@ -257,10 +257,10 @@ const LOCATION_INDEX: &[Check] = &[Check(
 )];
 
 /// The checks of a result's first location.
-pub(crate) fn location_checks(cause: Cause) -> &'static [Check] {
-    match cause {
-        Cause::BadLocation => LOCATION,
-        Cause::BadIndex => LOCATION_INDEX,
+pub(crate) fn location_checks(fault: Fault) -> &'static [Check] {
+    match fault {
+        Fault::BadLocation => LOCATION,
+        Fault::BadIndex => LOCATION_INDEX,
         _ => &[],
     }
 }
@@ -283,12 +283,12 @@ const EMPTY_MATCH: &[Check] = &[Check(&[], Must, Wanted::Condition)];
 
 const TODAY: &[Check] = &[Check(&["expires"], May, Wanted::Today)];
 
-/// The checks of an entry of the suppression file whose member names are valid.
-pub(crate) fn entry_checks(cause: Cause) -> &'static [Check] {
-    match cause {
-        Cause::BadEntry => ENTRY_MEMBERS,
-        Cause::EmptyMatch => EMPTY_MATCH,
-        Cause::NeedsToday => TODAY,
+/// The checks of an entry of the suppression file, of which the names of its members are known.
+pub(crate) fn entry_checks(fault: Fault) -> &'static [Check] {
+    match fault {
+        Fault::BadEntry => ENTRY_MEMBERS,
+        Fault::EmptyMatch => EMPTY_MATCH,
+        Fault::NeedsToday => TODAY,
         _ => &[],
     }
 }

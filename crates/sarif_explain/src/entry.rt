@@ -1,9 +1,9 @@
-//! The error in an entry of the suppression file.
+//! What is at fault in an entry of the suppression file.
 use crate::checks::entry_checks;
 use crate::misfit::{Found, Misfit, misfit_in};
 use crate::place::Place;
 use crate::wanted::Wanted;
-use sarif_model::Cause;
+use sarif_model::Fault;
 use serde_json::Value;
 use std::alloc::Global;
 
@@ -36,19 +36,19 @@ fn misfit_of_names<'a>(alloc: Global, second: bool, entry: &Place<'a>) -> Found<
     Ok(None)
 }
 
-/// The error with that cause in an entry of the file.
+/// What is at fault in an entry of the file for that fault.
 pub(crate) fn misfit_of_entry<'a>(
     alloc: Global,
     file: &Value,
     entry: &Place<'a>,
-    cause: Cause,
+    fault: Fault,
 ) -> Found<'a> {
     let second = file.get("version").and_then(Value::as_u64) == Some(2);
-    if cause == Cause::BadEntry {
+    if fault == Fault::BadEntry {
         let found = misfit_of_names(alloc, second, entry)?;
         if found.is_some() {
             return Ok(found);
         }
     }
-    misfit_in(alloc, entry, entry_checks(cause))
+    misfit_in(alloc, entry, entry_checks(fault))
 }

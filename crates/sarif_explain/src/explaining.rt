@@ -1,21 +1,21 @@
-//! The explanation of an error.
+//! The explanation of a fault.
 use crate::advice::advice_on;
 use crate::lines::{push_line, push_number, shortened};
 use crate::misfit::Misfit;
 use crate::whole::{misfit_of, wanted_by};
 use json_parts::without_mark;
-use sarif_model::{Cause, MergeFault};
+use sarif_model::{Cause, Fault, MergeFault};
 use serde_json::{Error, Value};
 use std::alloc::{AllocError, Global};
 
-/// What is known about the source of an error.
+/// What is known of the source that a fault is in.
 #[derive(Clone, Copy, Debug)]
 pub struct FaultSource<'a> {
-    /// The file name as it was passed; empty if there is none.
+    /// The name of the file, as it stands among the words; empty where there is none.
     pub file: &'a str,
-    /// The bytes that were read from it.
+    /// What was read of it.
     pub bytes: &'a [u8],
-    /// The system's message for the last failed call.
+    /// What the system said of the last call that failed.
     pub system: Option<&'a str>,
 }
 
@@ -31,7 +31,7 @@ fn push_found(alloc: Global, lines: &mut String, misfit: &Misfit<'_>) -> Result<
     }
 }
 
-/// Adds what is expected, with the member's name if the member is missing.
+/// Adds what is wanted, and of which member, where that one is wanting.
 fn push_wanted(alloc: Global, lines: &mut String, misfit: &Misfit<'_>) -> Result<(), AllocError> {
     let sentence = misfit.wanted.sentence();
     match misfit.missing {
@@ -43,14 +43,14 @@ fn push_wanted(alloc: Global, lines: &mut String, misfit: &Misfit<'_>) -> Result
     }
 }
 
-/// Adds the error in the source.
+/// Adds what is at fault in the source.
 fn push_misfit(alloc: Global, lines: &mut String, misfit: &Misfit<'_>) -> Result<(), AllocError> {
     push_line(alloc, lines, "where", misfit.place.pointer.as_str())?;
     push_found(alloc, lines, misfit)?;
     push_wanted(alloc, lines, misfit)
 }
 
-/// Adds the position of a JSON error, if that is the error, and what is expected.
+/// Adds where the reading of JSON stopped, if that is the fault, and what is wanted.
 fn push_stop(
     alloc: Global,
     lines: &mut String,
@@ -60,42 +60,30 @@ fn push_stop(
     if error.is_memory() {
         return Err(AllocError);
     }
-    if fault.cause == Cause::NotJson {
+    if fault.cause == Cause::Of(Fault::NotJson) {
         push_number(alloc, lines, "line", error.line())?;
         push_number(alloc, lines, "column", error.column())?;
     }
     push_line(alloc, lines, "wanted", wanted_by(fault).sentence())
 }
 
-/// Returns whether the error is in the bytes of the source.
-fn is_in_bytes(cause: Cause) -> bool {
-    !matches!(
-        cause,
-        Cause::TooLong
-            | Cause::ReadFailed
-            | Cause::WriteFailed
-            | Cause::OutOfMemory
-            | Cause::NoWorker
-    )
-}
-
-/// Adds the position of the error, what was found there, and what is expected.
+/// Adds where the fault stands, what was found there, and what is wanted.
 fn push_spot(
     alloc: Global,
     lines: &mut String,
     fault: &MergeFault,
     bytes: &[u8],
 ) -> Result<(), AllocError> {
-    if !is_in_bytes(fault.cause) {
+    let Cause::Of(wrong) = fault.cause else {
         return push_line(alloc, lines, "wanted", wanted_by(fault).sentence());
-    }
+    };
     match Value::from_slice(alloc, without_mark(bytes)) {
-        Ok(value) => push_misfit(alloc, lines, &misfit_of(alloc, &value, fault)?),
+        Ok(value) => push_misfit(alloc, lines, &misfit_of(alloc, &value, fault.at, wrong)?),
         Err(error) => push_stop(alloc, lines, fault, &error),
     }
 }
 
-/// Adds the system's message for a failed read or write.
+/// Adds what the system said of a read or a write that failed.
 fn push_system(
     alloc: Global,
     lines: &mut String,
@@ -110,11 +98,11 @@ fn push_system(
     }
 }
 
-/// Returns the lines of an explanation. Each line is two spaces, a name, a colon, a space, a string and a newline.
-/// The known lines are in this order: `file`; `where`, a JSON pointer (RFC 6901) to the invalid value, or to the
-/// object in which a member is missing; `line` and `column` of a JSON error; `found`, the beginning of the value's
-/// compact JSON, or `nothing`; `wanted`; `system`; `advice`. Strings are shown as in reports. Returns `AllocError`
-/// if memory runs out.
+/// The lines of an explanation, each two spaces, a name, a colon, a space, a text and a newline. Those that are known
+/// of stand in this order: `file`; `where`, a JSON pointer (RFC 6901) to the value at fault or, where a member is
+/// wanting, to the object that should hold it; `line` and `column`, where the reading of JSON stopped; `found`, the
+/// beginning of the value's compact text, or `nothing`; `wanted`; `system`; `advice`. Texts are shown as those of a log
+/// are in reports. `AllocError` where memory is wanting.
 pub fn explanation(
     alloc: Global,
     fault: &MergeFault,

@@ -1,33 +1,33 @@
-//! The error in a run, outside its results.
+//! What is at fault in a run, beside its results.
 use crate::checks::{
     artifact_checks, component_checks, invocation_checks, override_checks, rule_checks, run_checks,
 };
 use crate::misfit::{Found, misfit_in, misfit_in_each};
 use crate::past_table::misfit_of_rule;
 use crate::place::Place;
-use sarif_model::Cause;
+use sarif_model::Fault;
 use std::alloc::Global;
 
 /// In the rules of the driver, or of an extension.
-fn misfit_of_component<'a>(alloc: Global, component: &Place<'a>, cause: Cause) -> Found<'a> {
-    let found = misfit_in(alloc, component, component_checks(cause))?;
+fn misfit_of_component<'a>(alloc: Global, component: &Place<'a>, fault: Fault) -> Found<'a> {
+    let found = misfit_in(alloc, component, component_checks(fault))?;
     if found.is_some() {
         return Ok(found);
     }
-    misfit_in_each(alloc, component, &["rules"], rule_checks(cause))
+    misfit_in_each(alloc, component, &["rules"], rule_checks(fault))
 }
 
 /// In the rules of the driver, and then of each extension.
-fn misfit_of_components<'a>(alloc: Global, run: &Place<'a>, cause: Cause) -> Found<'a> {
+fn misfit_of_components<'a>(alloc: Global, run: &Place<'a>, fault: Fault) -> Found<'a> {
     let driver = run.along(alloc, &["tool", "driver"])?;
-    let found = misfit_of_component(alloc, &driver, cause)?;
+    let found = misfit_of_component(alloc, &driver, fault)?;
     if found.is_some() {
         return Ok(found);
     }
     let list = run.along(alloc, &["tool", "extensions"])?;
     for (index, value) in run.elements(&["tool", "extensions"]).iter().enumerate() {
         let extension = list.element(alloc, index, value)?;
-        let found = misfit_of_component(alloc, &extension, cause)?;
+        let found = misfit_of_component(alloc, &extension, fault)?;
         if found.is_some() {
             return Ok(found);
         }
@@ -40,10 +40,10 @@ fn misfit_of_override<'a>(
     alloc: Global,
     run: &Place<'_>,
     place: &Place<'a>,
-    cause: Cause,
+    fault: Fault,
 ) -> Found<'a> {
-    let found = misfit_in(alloc, place, override_checks(cause))?;
-    if found.is_some() || cause != Cause::BadIndex {
+    let found = misfit_in(alloc, place, override_checks(fault))?;
+    if found.is_some() || fault != Fault::BadIndex {
         return Ok(found);
     }
     let component = &["descriptor", "toolComponent", "index"];
@@ -55,13 +55,13 @@ fn misfit_of_overrides<'a>(
     alloc: Global,
     run: &Place<'_>,
     invocation: &Place<'a>,
-    cause: Cause,
+    fault: Fault,
 ) -> Found<'a> {
     let way = &["ruleConfigurationOverrides"];
     let list = invocation.along(alloc, way)?;
     for (index, value) in invocation.elements(way).iter().enumerate() {
         let place = list.element(alloc, index, value)?;
-        let found = misfit_of_override(alloc, run, &place, cause)?;
+        let found = misfit_of_override(alloc, run, &place, fault)?;
         if found.is_some() {
             return Ok(found);
         }
@@ -70,15 +70,15 @@ fn misfit_of_overrides<'a>(
 }
 
 /// In the invocations: first the forms of all, then their overrides.
-fn misfit_of_invocations<'a>(alloc: Global, run: &Place<'a>, cause: Cause) -> Found<'a> {
-    let found = misfit_in_each(alloc, run, &["invocations"], invocation_checks(cause))?;
+fn misfit_of_invocations<'a>(alloc: Global, run: &Place<'a>, fault: Fault) -> Found<'a> {
+    let found = misfit_in_each(alloc, run, &["invocations"], invocation_checks(fault))?;
     if found.is_some() {
         return Ok(found);
     }
     let list = run.along(alloc, &["invocations"])?;
     for (index, value) in run.elements(&["invocations"]).iter().enumerate() {
         let invocation = list.element(alloc, index, value)?;
-        let found = misfit_of_overrides(alloc, run, &invocation, cause)?;
+        let found = misfit_of_overrides(alloc, run, &invocation, fault)?;
         if found.is_some() {
             return Ok(found);
         }
@@ -86,19 +86,19 @@ fn misfit_of_invocations<'a>(alloc: Global, run: &Place<'a>, cause: Cause) -> Fo
     Ok(None)
 }
 
-/// The error with that cause in a run, in its own members or outside its results.
-pub(crate) fn misfit_of_run<'a>(alloc: Global, run: &Place<'a>, cause: Cause) -> Found<'a> {
-    let found = misfit_in(alloc, run, run_checks(cause))?;
+/// What is at fault in a run for that fault, where its own members or what stands beside its results is.
+pub(crate) fn misfit_of_run<'a>(alloc: Global, run: &Place<'a>, fault: Fault) -> Found<'a> {
+    let found = misfit_in(alloc, run, run_checks(fault))?;
     if found.is_some() {
         return Ok(found);
     }
-    let found = misfit_of_components(alloc, run, cause)?;
+    let found = misfit_of_components(alloc, run, fault)?;
     if found.is_some() {
         return Ok(found);
     }
-    let found = misfit_in_each(alloc, run, &["artifacts"], artifact_checks(cause))?;
+    let found = misfit_in_each(alloc, run, &["artifacts"], artifact_checks(fault))?;
     if found.is_some() {
         return Ok(found);
     }
-    misfit_of_invocations(alloc, run, cause)
+    misfit_of_invocations(alloc, run, fault)
 }

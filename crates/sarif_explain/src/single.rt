@@ -1,36 +1,36 @@
-//! The error in a result.
+//! What is at fault in a result.
 use crate::checks::{location_checks, result_checks, suppression_checks};
 use crate::misfit::{Found, misfit_in, misfit_in_each};
 use crate::past_table::misfit_past_tables;
 use crate::place::Place;
-use sarif_model::Cause;
+use sarif_model::Fault;
 use std::alloc::Global;
 
 /// In its first location.
-fn misfit_of_location<'a>(alloc: Global, place: &Place<'a>, cause: Cause) -> Found<'a> {
+fn misfit_of_location<'a>(alloc: Global, place: &Place<'a>, fault: Fault) -> Found<'a> {
     match place.nth(alloc, &["locations"], 0)? {
-        Some(first) => misfit_in(alloc, &first, location_checks(cause)),
+        Some(first) => misfit_in(alloc, &first, location_checks(fault)),
         None => Ok(None),
     }
 }
 
-/// The error with that cause in a result of the run.
+/// What is at fault in a result of the run for that fault.
 pub(crate) fn misfit_of_result<'a>(
     alloc: Global,
     run: &Place<'_>,
     place: &Place<'a>,
-    cause: Cause,
+    fault: Fault,
 ) -> Found<'a> {
-    let found = misfit_in(alloc, place, result_checks(cause))?;
+    let found = misfit_in(alloc, place, result_checks(fault))?;
     if found.is_some() {
         return Ok(found);
     }
-    let found = misfit_in_each(alloc, place, &["suppressions"], suppression_checks(cause))?;
+    let found = misfit_in_each(alloc, place, &["suppressions"], suppression_checks(fault))?;
     if found.is_some() {
         return Ok(found);
     }
-    let found = misfit_of_location(alloc, place, cause)?;
-    if found.is_some() || cause != Cause::BadIndex {
+    let found = misfit_of_location(alloc, place, fault)?;
+    if found.is_some() || fault != Fault::BadIndex {
         return Ok(found);
     }
     misfit_past_tables(alloc, run, place)

@@ -1,4 +1,4 @@
-//! The error in a source, by the place of the error.
+//! What is at fault in a source, by the place of the fault.
 use crate::checks::{file_checks, log_checks};
 use crate::entry::misfit_of_entry;
 use crate::misfit::{Found, Misfit, misfit_in};
@@ -6,40 +6,47 @@ use crate::place::Place;
 use crate::run::misfit_of_run;
 use crate::single::misfit_of_result;
 use crate::wanted::Wanted;
-use sarif_model::{At, Cause, MergeFault, Source};
+use sarif_model::{At, Cause, Fault, MergeFault, Source};
 use serde_json::Value;
 use std::alloc::{AllocError, Global};
 
-/// What is expected for that cause, regardless of the member.
-pub(crate) fn wanted_by(fault: &MergeFault) -> Wanted {
-    match fault.cause {
-        Cause::NotJson => Wanted::Json,
-        Cause::NotLog => Wanted::Log,
-        Cause::WrongVersion => match fault.at {
+/// Returns what is expected at the place of that error.
+fn wanted_at(at: At, fault: Fault) -> Wanted {
+    match fault {
+        Fault::NotJson => Wanted::Json,
+        Fault::NotLog => Wanted::Log,
+        Fault::WrongVersion => match at {
             At::Whole(Source::Suppress) => Wanted::FileVersion,
             _ => Wanted::LogVersion,
         },
-        Cause::BadRun => Wanted::Run,
-        Cause::ExternalProperties => Wanted::NoFiles,
-        Cause::BadRules => Wanted::Rules,
-        Cause::BadIndex => Wanted::Index,
-        Cause::BadLevel => Wanted::Level,
-        Cause::BadKind => Wanted::Kind,
-        Cause::BadGuid => Wanted::Guid,
-        Cause::BadFingerprint => Wanted::TextMap,
-        Cause::BadLocation => Wanted::Location,
-        Cause::BadSuppression => Wanted::Suppression,
-        Cause::BadMember => Wanted::Member,
-        Cause::AbsentInput => Wanted::Present,
-        Cause::TooMany => match fault.at {
+        Fault::BadRun => Wanted::Run,
+        Fault::ExternalProperties => Wanted::NoFiles,
+        Fault::BadRules => Wanted::Rules,
+        Fault::BadIndex => Wanted::Index,
+        Fault::BadLevel => Wanted::Level,
+        Fault::BadKind => Wanted::Kind,
+        Fault::BadGuid => Wanted::Guid,
+        Fault::BadFingerprint => Wanted::TextMap,
+        Fault::BadLocation => Wanted::Location,
+        Fault::BadSuppression => Wanted::Suppression,
+        Fault::BadMember => Wanted::Member,
+        Fault::AbsentInput => Wanted::Present,
+        Fault::TooMany => match at {
             At::Whole(Source::Suppress) => Wanted::FewEntries,
             At::Run(_, _) => Wanted::FewResults,
             _ => Wanted::FewRuns,
         },
-        Cause::NotList => Wanted::Entries,
-        Cause::BadEntry => Wanted::Entry,
-        Cause::EmptyMatch => Wanted::Condition,
-        Cause::NeedsToday => Wanted::Today,
+        Fault::NotList => Wanted::Entries,
+        Fault::BadEntry => Wanted::Entry,
+        Fault::EmptyMatch => Wanted::Condition,
+        Fault::NeedsToday => Wanted::Today,
+    }
+}
+
+/// Returns what is expected for the cause of an error.
+pub(crate) fn wanted_by(fault: &MergeFault) -> Wanted {
+    match fault.cause {
+        Cause::Of(wrong) => wanted_at(fault.at, wrong),
         Cause::TooLong => Wanted::FewBytes,
         Cause::ReadFailed => Wanted::Readable,
         Cause::WriteFailed => Wanted::Writable,
@@ -48,58 +55,61 @@ pub(crate) fn wanted_by(fault: &MergeFault) -> Wanted {
     }
 }
 
-/// The place itself, if no error was found in it.
-fn or_all<'a>(found: Option<Misfit<'a>>, place: Place<'a>, fault: &MergeFault) -> Misfit<'a> {
+/// The place itself, where nothing in it was found at fault.
+fn or_all<'a>(found: Option<Misfit<'a>>, place: Place<'a>, wanted: Wanted) -> Misfit<'a> {
     match found {
         Some(misfit) => misfit,
-        None => Misfit::at(place, wanted_by(fault)),
+        None => Misfit::at(place, wanted),
     }
 }
 
-/// The error in a whole source.
-fn misfit_of_source<'a>(alloc: Global, root: &Place<'a>, fault: &MergeFault) -> Found<'a> {
-    match fault.at {
-        At::Whole(Source::Suppress) => misfit_in(alloc, root, file_checks(fault.cause)),
-        _ => misfit_in(alloc, root, log_checks(fault.cause)),
+/// What is at fault in a whole source.
+fn misfit_of_source<'a>(alloc: Global, root: &Place<'a>, at: At, fault: Fault) -> Found<'a> {
+    match at {
+        At::Whole(Source::Suppress) => misfit_in(alloc, root, file_checks(fault)),
+        _ => misfit_in(alloc, root, log_checks(fault)),
     }
 }
 
-/// The error in a log or a baseline, at a run or at a result of it.
+/// What is at fault in a log or a baseline, at a run or at a result of it.
 fn misfit_in_log<'a>(
     alloc: Global,
     root: Place<'a>,
     number: u32,
     single: Option<u32>,
-    fault: &MergeFault,
+    at: At,
+    fault: Fault,
 ) -> Result<Misfit<'a>, AllocError> {
+    let wanted = wanted_at(at, fault);
     let Some(run) = root.nth(alloc, &["runs"], number as usize)? else {
-        return Ok(Misfit::at(root, wanted_by(fault)));
+        return Ok(Misfit::at(root, wanted));
     };
     let Some(single) = single else {
-        return Ok(or_all(misfit_of_run(alloc, &run, fault.cause)?, run, fault));
+        return Ok(or_all(misfit_of_run(alloc, &run, fault)?, run, wanted));
     };
     match run.nth(alloc, &["results"], single as usize)? {
         Some(place) => {
-            let found = misfit_of_result(alloc, &run, &place, fault.cause)?;
-            Ok(or_all(found, place, fault))
+            let found = misfit_of_result(alloc, &run, &place, fault)?;
+            Ok(or_all(found, place, wanted))
         }
-        None => Ok(Misfit::at(run, wanted_by(fault))),
+        None => Ok(Misfit::at(run, wanted)),
     }
 }
 
-/// The error in the suppression file, at an entry.
+/// What is at fault in the suppression file, at an entry.
 fn misfit_in_file<'a>(
     alloc: Global,
     root: Place<'a>,
     number: u32,
-    fault: &MergeFault,
+    fault: Fault,
 ) -> Result<Misfit<'a>, AllocError> {
+    let wanted = wanted_at(At::Entry(number), fault);
     match root.nth(alloc, &["suppressions"], number as usize)? {
         Some(entry) => {
-            let found = misfit_of_entry(alloc, root.value, &entry, fault.cause)?;
-            Ok(or_all(found, entry, fault))
+            let found = misfit_of_entry(alloc, root.value, &entry, fault)?;
+            Ok(or_all(found, entry, wanted))
         }
-        None => Ok(Misfit::at(root, wanted_by(fault))),
+        None => Ok(Misfit::at(root, wanted)),
     }
 }
 
@@ -108,20 +118,21 @@ fn is_file(at: At) -> bool {
     matches!(at, At::Whole(Source::Suppress) | At::Entry(_))
 }
 
-/// The error in the source with this value.
+/// What is at fault in the source that this is the value of.
 pub(crate) fn misfit_of<'a>(
     alloc: Global,
     value: &'a Value,
-    fault: &MergeFault,
+    at: At,
+    fault: Fault,
 ) -> Result<Misfit<'a>, AllocError> {
-    let root = Place::root(alloc, value, !is_file(fault.at));
-    match fault.at {
+    let root = Place::root(alloc, value, !is_file(at));
+    match at {
         At::Nowhere | At::Whole(_) => {
-            let found = misfit_of_source(alloc, &root, fault)?;
-            Ok(or_all(found, root, fault))
+            let found = misfit_of_source(alloc, &root, at, fault)?;
+            Ok(or_all(found, root, wanted_at(at, fault)))
         }
-        At::Run(_, run) => misfit_in_log(alloc, root, run, None, fault),
-        At::Single(_, run, single) => misfit_in_log(alloc, root, run, Some(single), fault),
+        At::Run(_, run) => misfit_in_log(alloc, root, run, None, at, fault),
+        At::Single(_, run, single) => misfit_in_log(alloc, root, run, Some(single), at, fault),
         At::Entry(entry) => misfit_in_file(alloc, root, entry, fault),
     }
 }

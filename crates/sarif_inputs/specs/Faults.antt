@@ -1,13 +1,13 @@
 -- The faults of the inputs of a merge, in the order in which they are looked for, and what a refusal answers.
 use Rattle.std.specs.Prelude.{◌≡◌, ◌≤◌, ◌<◌, ℕ, nat_lt, List, [], ◌∷◌, ◌++◌, ◌⊎◌, length, Option, Some, None, Result, Ok, Err, if◌then◌else◌}
 use Rattle.sarif_suppress.specs.File.{File, file_of}
-use Rattle.sarif_suppress.specs.declared.fault.SuppressFault.{SuppressFault}
+use Rattle.sarif_suppress.specs.declared.fault.FileFault.{FileFault}
 use Rattle.sarif_model.specs.declared.merge_fault.Source.{Source}
 use Rattle.sarif_model.specs.declared.merge_fault.Source.TheVariants.{Log, Baseline}
 use Rattle.sarif_model.specs.declared.merge_fault.At.TheVariants.{Whole}
-use Rattle.sarif_model.specs.declared.merge_fault.Cause.TheVariants.{TooMany}
+use Rattle.sarif_model.specs.declared.fault.Fault.TheVariants.{TooMany}
 use Rattle.sarif_model.specs.declared.merge_fault.MergeFault.{MergeFault}
-use Rattle.sarif_model.specs.MergeFault.{fault_at}
+use Rattle.sarif_model.specs.MergeFault.{cause_of, fault_at}
 use Rattle.sarif_suppress.specs.FileFault.{fault_of_file}
 use Rattle.sarif_inputs.specs.Inputs.{Inputs, all_sources, all_runs}
 use Rattle.sarif_inputs.specs.SourceFaults.{source_faults}
@@ -17,21 +17,21 @@ use Rattle.sarif_model.specs.FirstFault.{first}
 -- more than 1,000 sources of a kind
 abbrev pub number_faults : (ℕ → Source) → List (List ℕ) → List MergeFault
 number_faults name sources =
-    if nat_lt 1000 (length sources) then fault_at (Whole (name 1000)) TooMany ∷ [] else []
+    if nat_lt 1000 (length sources) then fault_at (Whole (name 1000)) (cause_of TooMany) ∷ [] else []
 
 -- more than 1,000 logs, or else more than 1,000 baselines
 abbrev pub IsTooMany : ℕ → ℕ → MergeFault → Type 0
 IsTooMany logs baselines fault =
-    ((1000 < logs) × (fault ≡ record { at = Whole (Log 1000); cause = TooMany }))
+    ((1000 < logs) × (fault ≡ record { at = Whole (Log 1000); cause = cause_of TooMany }))
     ⊎ ((logs ≤ 1000) × (1000 < baselines)
-    × (fault ≡ record { at = Whole (Baseline 1000); cause = TooMany }))
+    × (fault ≡ record { at = Whole (Baseline 1000); cause = cause_of TooMany }))
 
 -- the suppression file, where there is one; without it there are no entries
-abbrev pub file_or_none : Option (List ℕ) → Option ℕ → Result File SuppressFault
+abbrev pub file_or_none : Option (List ℕ) → Option ℕ → Result File FileFault
 file_or_none None today = Ok (record { entries = []; today = today })
 file_or_none (Some bytes) today = file_of bytes today
 
-abbrev pub file_faults : Result File SuppressFault → List MergeFault
+abbrev pub file_faults : Result File FileFault → List MergeFault
 file_faults (Ok entries) = []
 file_faults (Err fault) = fault_of_file fault ∷ []
 

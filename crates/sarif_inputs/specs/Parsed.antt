@@ -1,5 +1,5 @@
 -- What reading an indexed source may give. No public clause of the merge speaks of it.
-use Rattle.std.specs.Prelude.{◌≡◌, ◌≤◌, ℕ, ⊤, List, [], ◌∷◌, map, length, Result, Ok, Err, IfOk, IfErr}
+use Rattle.std.specs.Prelude.{◌≡◌, ◌≤◌, ℕ, ⊤, List, [], ◌∷◌, map, length, Result, Ok, Err, IfOk}
 use Rattle.std.specs.declared.alloc.Global.{Global}
 use Rattle.std.specs.declared.vec.Vec.{Vec}
 use Rattle.json.specs.Token.{Token}
@@ -11,18 +11,22 @@ use Rattle.json_parts.specs.Mark.{without_mark}
 use Rattle.sarif_model.specs.Run.{results_total}
 use Rattle.sarif_read.specs.declared.indexed_run.IndexedRun.{IndexedRun}
 use Rattle.sarif_read.specs.declared.read_fault.ReadFault.{ReadFault}
-use Rattle.sarif_model.specs.declared.fault.Fault.TheVariants.{OutOfMemory}
+use Rattle.sarif_model.specs.declared.refusal.Refusal.{Refusal}
+use Rattle.sarif_model.specs.Refusal.{IfFault}
 
--- the log of these bytes, within the limits of one, or its fault, or want of memory
-pub record IsParsedFrom (bytes : List ℕ) (parsed : Result (Vec IndexedRun Global) ReadFault)
-    : Type 0 where
+-- the runs of a log, or why it was not read
+abbrev pub Parsed : Type 0
+Parsed = Result (Vec IndexedRun Global) (Refusal ReadFault)
+
+-- the log of these bytes, within the limits of one log, or its first error, or out of memory
+pub record IsParsedFrom (bytes : List ℕ) (parsed : Parsed) : Type 0 where
   pub ok : IfOk parsed (λ log. log_of bytes ≡ Ok (map run_of log.items))
   pub few_runs : IfOk parsed (λ log. length log.items ≤ 10000)
   pub few_results : IfOk parsed (λ log. results_total (map run_of log.items) ≤ 1000000)
-  pub err : IfErr parsed (λ e. (e.fault ≡ OutOfMemory → ⊥) → log_of bytes ≡ Err e)
+  pub err : IfFault parsed (λ e. log_of bytes ≡ Err e)
 
 -- this was read of each of these sources
-abbrev pub AreParsedFrom : List (List ℕ) → List (Result (Vec IndexedRun Global) ReadFault) → Type 0
+abbrev pub AreParsedFrom : List (List ℕ) → List Parsed → Type 0
 AreParsedFrom [] [] = ⊤
 AreParsedFrom [] (one ∷ parsed) = ⊥
 AreParsedFrom (bytes ∷ sources) [] = ⊥
@@ -30,13 +34,11 @@ AreParsedFrom (bytes ∷ sources) (one ∷ parsed) =
     IsParsedFrom bytes one × AreParsedFrom sources parsed
 
 -- this was read of this index, of whatever bytes it is
-abbrev pub IsReadFrom : Result (List Token) IndexFault → Result (Vec IndexedRun Global) ReadFault
-    → Type 0
+abbrev pub IsReadFrom : Result (List Token) IndexFault → Parsed → Type 0
 IsReadFrom index read =
     (bytes : List ℕ) → IsIndexed (without_mark bytes) index → IsParsedFrom bytes read
 
-abbrev pub AreReadFrom : List (Result (List Token) IndexFault)
-    → List (Result (Vec IndexedRun Global) ReadFault) → Type 0
+abbrev pub AreReadFrom : List (Result (List Token) IndexFault) → List Parsed → Type 0
 AreReadFrom [] [] = ⊤
 AreReadFrom [] (one ∷ read) = ⊥
 AreReadFrom (index ∷ indexes) [] = ⊥

@@ -7,7 +7,7 @@ use Rattle.sarif_model.specs.Run.{results_total}
 use Rattle.sarif_model.specs.declared.merge_fault.Source.{Source}
 use Rattle.sarif_model.specs.declared.merge_fault.At.{At}
 use Rattle.sarif_model.specs.declared.merge_fault.At.TheVariants.{Whole, Run}
-use Rattle.sarif_model.specs.declared.merge_fault.Cause.TheVariants.{TooMany}
+use Rattle.sarif_model.specs.declared.fault.Fault.TheVariants.{TooMany}
 use Rattle.sarif_model.specs.declared.merge_fault.MergeFault.{MergeFault}
 use Rattle.sarif_model.specs.MergeFault.{cause_of, fault_at}
 use Rattle.sarif_inputs.specs.Inputs.{Sourced, runs_in}
@@ -30,7 +30,7 @@ is_past_limits runs results = nat_lt 10000 runs || nat_lt 1000000 results
 
 abbrev pub limit_faults : Source → ℕ → ℕ → List MergeFault
 limit_faults source runs results =
-    if is_past_limits runs results then fault_at (Whole source) TooMany ∷ [] else []
+    if is_past_limits runs results then fault_at (Whole source) (cause_of TooMany) ∷ [] else []
 
 -- the faults of the sources in order, after so many runs and results of the sources before them: the reading of each,
 -- and then whether the runs or the results of this and all earlier ones pass the limits

@@ -6,13 +6,14 @@ ghost use Rattle.sarif_inputs.specs.Indexes.{AreIndexesOf};
 ghost use Rattle.sarif_inputs.specs.Parsed.{AreParsedFrom, AreReadFrom, IsParsedFrom};
 
 use json_parts::{Index, IndexFault};
-use sarif_read::{IndexedRun, ReadFault, index_log};
+use sarif_model::Refusal;
+use sarif_read::{IndexedRun, ReadFault, index_log, refused_text};
 use std::alloc::{AllocError, Global};
 use std::thread;
 use std::thread::Threads;
 
 /// The runs of the log of a source, or why it is no log.
-pub(crate) type ReadLog<'t, 'a> = Result<Vec<IndexedRun<'t, 'a>>, ReadFault>;
+pub(crate) type ReadLog<'t, 'a> = Result<Vec<IndexedRun<'t, 'a>>, Refusal<ReadFault>>;
 
 /// The runs of the log of an index, or why it is no log.
 fn read_index<'t, 'a>(alloc: Global, index: &'t Result<Index<'a>, IndexFault>) -> ReadLog<'t, 'a>
@@ -21,7 +22,7 @@ fn read_index<'t, 'a>(alloc: Global, index: &'t Result<Index<'a>, IndexFault>) -
 {
     match index {
         Ok(found) => index_log(alloc, found),
-        Err(fault) => Err(ReadFault::from(*fault)),
+        Err(fault) => Err(refused_text(*fault)),
     }
 }
 

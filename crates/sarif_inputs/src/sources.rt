@@ -17,13 +17,15 @@ ghost use Rattle.sarif_inputs.specs.Parsed.{AreParsedFrom, IsParsedFrom};
 ghost use Rattle.sarif_inputs.specs.ReadRun.{placed_read};
 ghost use Rattle.sarif_inputs.specs.ReadSoFar.{IsCounted, faults_with, sources_of};
 ghost use Rattle.sarif_inputs.specs.Runs.{AreRunsOf};
-ghost use Rattle.sarif_inputs.specs.SourceFaults.{reading_faults, limit_faults, source_faults};
+ghost use Rattle.sarif_inputs.specs.SourceFaults.{fault_of_reading, reading_faults, limit_faults, source_faults};
 
 use crate::opening::open_each;
 use crate::read_run::ReadRun;
 use crate::reading::{ReadLog, read_kinds};
 use json_parts::{Index, IndexFault};
-use sarif_model::{At, Cause, MOST_RESULTS, MOST_RUNS, MergeFault, Source, SourceKind};
+use sarif_model::{
+    At, Cause, Fault, MOST_RESULTS, MOST_RUNS, MergeFault, Refusal, Source, SourceKind,
+};
 use sarif_read::{IndexedRun, ReadFault, read_runs_hold_no_fraction};
 use sarif_runs::OpenedRun;
 use std::alloc::{AllocError, Global};
@@ -70,13 +72,24 @@ pub fn check_numbers(logs: usize, baselines: usize) -> Result<(), MergeFault>
 }
 
 fn too_many(source: Source) -> MergeFault
-    ensures { result ≡ record { at = At.Whole source; cause = Cause.TooMany } }
+    ensures { result ≡ record { at = At.Whole source; cause = Cause.Of Fault.TooMany } }
 {
-    MergeFault::found(At::Whole(source), Cause::TooMany)
+    MergeFault::found(At::Whole(source), Cause::Of(Fault::TooMany))
+}
+
+/// Returns an error of reading a source with its place.
+fn fault_in(source: Source, fault: ReadFault) -> MergeFault
+    ensures { result ≡ fault_of_reading source fault }
+{
+    let at = match fault.run {
+        Some(run) => At::Run(source, run),
+        None => At::Whole(source),
+    };
+    MergeFault::found(at, Cause::Of(fault.fault))
 }
 
 /// The log that was read of a source, or its fault with its place.
-#[tactic(auto, using(sarif_model::proofs::QuietFaults::quiet_fault))]
+#[tactic(auto, using(sarif_model::proofs::QuietFaults::quiet_fault, crate::proofs::ReadIndexes::reading_refused))]
 fn log_of_source<'t, 'a>(
     source: Source,
     parsed: ReadLog<'t, 'a>,
@@ -90,13 +103,8 @@ fn log_of_source<'t, 'a>(
 {
     match parsed {
         Ok(log) => Ok(log),
-        Err(fault) => {
-            let at = match fault.run {
-                Some(run) => At::Run(source, run),
-                None => At::Whole(source),
-            };
-            Err(MergeFault::found(at, Cause::from(fault.fault)))
-        }
+        Err(Refusal::Fault(fault)) => Err(fault_in(source, fault)),
+        Err(Refusal::OutOfMemory) => Err(MergeFault::from(AllocError)),
     }
 }
 

@@ -4,9 +4,9 @@ ghost use Rattle.sarif_model.specs.MergeFault.{IsQuiet};
 ghost use Rattle.sarif_model.specs.FirstFault.{Answers};
 ghost use Rattle.sarif_inputs.specs.Faults.{file_faults, file_or_none};
 
-use sarif_model::MergeFault;
+use sarif_model::{MergeFault, Refusal};
 use sarif_suppress::{Suppressions, read_rules_with};
-use std::alloc::Global;
+use std::alloc::{AllocError, Global};
 use std::hash::RandomState;
 
 /// The entries of the suppression file for the day `today`, as yyyymmdd, where there is a file;
@@ -29,7 +29,11 @@ pub fn read_file(
     ensures quiet { IsQuiet result }
 {
     match bytes {
-        Some(bytes) => Ok(read_rules_with(alloc, seed, bytes, today)?),
+        Some(bytes) => match read_rules_with(alloc, seed, bytes, today) {
+            Ok(file) => Ok(file),
+            Err(Refusal::Fault(fault)) => Err(MergeFault::from(fault)),
+            Err(Refusal::OutOfMemory) => Err(MergeFault::from(AllocError)),
+        },
         None => Ok(Suppressions::none(alloc, seed, today)?),
     }
 }

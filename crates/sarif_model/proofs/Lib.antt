@@ -1,5 +1,4 @@
 pub mod Elements
-pub mod ParsedFaults
 pub mod PutAgain
 pub mod QuietFaults
 pub mod ReadEach

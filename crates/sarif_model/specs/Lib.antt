@@ -7,6 +7,7 @@ pub mod Kind
 pub mod Level
 pub mod Members
 pub mod MergeFault
+pub mod Refusal
 pub mod Run
 pub mod SourceKind
 pub mod State

@@ -5,29 +5,12 @@ use Rattle.sarif_model.specs.declared.fault.Fault.{Fault}
 use Rattle.sarif_model.specs.declared.merge_fault.At.{At}
 use Rattle.sarif_model.specs.declared.merge_fault.At.TheVariants.{Nowhere}
 use Rattle.sarif_model.specs.declared.merge_fault.Cause.{Cause}
-use Rattle.sarif_model.specs.declared.merge_fault.Cause.TheVariants.{NotJson, NotLog, WrongVersion, BadRun, ExternalProperties, BadRules, BadIndex, BadLevel, BadKind, BadGuid, BadFingerprint, BadLocation, BadSuppression, BadMember, AbsentInput, TooMany, ReadFailed, WriteFailed, OutOfMemory, NoWorker}
+use Rattle.sarif_model.specs.declared.merge_fault.Cause.TheVariants.{Of, ReadFailed, WriteFailed, OutOfMemory, NoWorker}
 use Rattle.sarif_model.specs.declared.merge_fault.MergeFault.{MergeFault}
-use Rattle.sarif_model.specs.declared.fault.Fault.TheVariants as reading
 
--- the cause of the same name
+-- the cause of an error in what was read
 abbrev pub cause_of : Fault → Cause
-cause_of reading.NotJson = NotJson
-cause_of reading.NotLog = NotLog
-cause_of reading.WrongVersion = WrongVersion
-cause_of reading.BadRun = BadRun
-cause_of reading.ExternalProperties = ExternalProperties
-cause_of reading.BadRules = BadRules
-cause_of reading.BadIndex = BadIndex
-cause_of reading.BadLevel = BadLevel
-cause_of reading.BadKind = BadKind
-cause_of reading.BadGuid = BadGuid
-cause_of reading.BadFingerprint = BadFingerprint
-cause_of reading.BadLocation = BadLocation
-cause_of reading.BadSuppression = BadSuppression
-cause_of reading.BadMember = BadMember
-cause_of reading.AbsentInput = AbsentInput
-cause_of reading.TooMany = TooMany
-cause_of reading.OutOfMemory = OutOfMemory
+cause_of fault = Of fault
 
 -- the refusal for want of memory
 abbrev pub out_of_memory : MergeFault

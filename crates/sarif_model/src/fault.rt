@@ -1,11 +1,8 @@
-//! Why a log, a run or a result is refused.
-ghost use Rattle.std.specs.Prelude.{◌≡◌};
-
-use std::alloc::{AllocError, AllocFailed};
+//! The errors of an input.
 use thiserror::Error;
 
-/// The first thing that is wrong with a log, a run or a result. A member may be absent or null
-/// where it isn't said that it must be there.
+/// The first thing that is wrong with a log, a run, a result or the suppression file. A member of a
+/// log may be absent or null where it isn't said that it must be there.
 #[derive(Clone, Copy, Debug, PartialEq, Eq, Error)]
 pub enum Fault {
     /// The bytes are not UTF-8, not JSON, or nested more than 127 deep.
@@ -14,7 +11,8 @@ pub enum Fault {
     /// The value is no object, or `runs`, which must be there, is neither an array nor null.
     #[error("NotLog")]
     NotLog = 2,
-    /// `version`, which must be there, is not the text `2.1.0`.
+    /// `version`, which must be there, is not supported: a log or a baseline must have the string
+    /// `2.1.0`, the suppression file the integer 1 or 2.
     #[error("WrongVersion")]
     WrongVersion = 3,
     /// A run that is no object, or whose `tool.driver.name`, which must be there, is no text, or
@@ -69,30 +67,22 @@ pub enum Fault {
     /// A result whose `baselineState` is already `absent`.
     #[error("AbsentInput")]
     AbsentInput = 15,
-    /// A log of more than 10,000 runs, or a run with which the log has more than 1,000,000 results.
+    /// More than 1,000 logs or 1,000 baselines; a source of more than 10,000 runs, or with which
+    /// the sources up to it have more than 10,000 runs or 1,000,000 results; a run with which its
+    /// source has more than 1,000,000 results; or a suppression file of more than 10,000 entries.
     #[error("TooMany")]
     TooMany = 16,
-    /// Memory was wanting.
-    #[error("OutOfMemory")]
-    OutOfMemory = 17,
-}
-
-impl From<AllocError> for Fault {
-    ghost use Rattle.sarif_model.specs.declared.fault.Fault.TheVariants.{OutOfMemory};
-
-    ghost from_gives = { λ _ fault. fault ≡ OutOfMemory };
-
-    fn from(_error: AllocError) -> Fault {
-        Fault::OutOfMemory
-    }
-}
-
-impl<T: Drop> From<AllocFailed<T>> for Fault {
-    ghost use Rattle.sarif_model.specs.declared.fault.Fault.TheVariants.{OutOfMemory};
-
-    ghost from_gives = { λ _ fault. fault ≡ OutOfMemory };
-
-    fn from(_error: AllocFailed<T>) -> Fault {
-        Fault::OutOfMemory
-    }
+    /// The suppression file is not an object with an array `suppressions`.
+    #[error("NotList")]
+    NotList = 17,
+    /// An entry of the suppression file that is not an object, has a member that its version doesn't
+    /// know, or one of the wrong type.
+    #[error("BadEntry")]
+    BadEntry = 18,
+    /// An entry of the suppression file that names no condition.
+    #[error("EmptyMatch")]
+    EmptyMatch = 19,
+    /// An entry of the suppression file that expires, if the merge has no date of today.
+    #[error("NeedsToday")]
+    NeedsToday = 20,
 }

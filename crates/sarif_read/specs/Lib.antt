@@ -1,7 +1,7 @@
 pub mod Bare
-pub mod IndexFault
 pub mod Indexed
 pub mod Listed
 pub mod Picked
+pub mod ReadRefusal
 pub mod Reading
 pub mod Stripping

@@ -9,26 +9,26 @@ ghost use Rattle.sarif_read.specs.Reading as said;
 ghost use Rattle.sarif_model.specs.Run as said2;
 ghost use Rattle.sarif_read.specs.Listed.{value_at, nodes_of, listed_member, AreOrdered};
 ghost use Rattle.sarif_read.specs.Indexed.{run_of};
-ghost use Rattle.sarif_model.specs.declared.fault.Fault.TheVariants.{OutOfMemory};
+ghost use Rattle.sarif_read.specs.ReadRefusal.{refusal_at};
+ghost use Rattle.sarif_model.specs.Refusal.{IfFault};
 
 use crate::indexed_run::IndexedRun;
 use crate::listed::Listed;
 use crate::nodes::{are_all_objects, elements_of, is_null, kept_member, text_of};
-use crate::read_fault::ReadFault;
+use crate::read_fault::{ReadFault, refused_whole};
 use crate::reading::{check_external, check_tool};
 use json_parts::{Index, Node};
-use sarif_model::{Fault, MOST_RESULTS, MOST_RUNS};
+use sarif_model::{Fault, MOST_RESULTS, MOST_RUNS, Refusal};
 use std::alloc::Global;
 
 /// What stands at `results` of a run: an array of objects, null or nothing, else `BadRun`.
 #[tactic(auto, using(crate::proofs::ListResults::list_steps))]
-fn list_results<'t, 'a>(alloc: Global, run: &Node<'t, 'a>) -> Result<Listed<'t, 'a>, Fault>
+fn list_results<'t, 'a>(alloc: Global, run: &Node<'t, 'a>) -> Result<Listed<'t, 'a>, Refusal<Fault>>
     requires { IsOrdered (data_of run.now) }
     ensures ok { IfOk result (λ listed.
         listed_member listed ≡ get (codes "results") (value_at run.now)) }
     ensures checked { OnOk result (said.check_results (value_at run.now) ≡ Ok tt) }
-    ensures err { IfErr result (λ fault. ¬ (fault ≡ OutOfMemory)
-        → said.check_results (value_at run.now) ≡ Err fault) }
+    ensures err { IfFault result (λ fault. said.check_results (value_at run.now) ≡ Err fault) }
 {
     let Some(found) = kept_member(run, "results") else {
         return Ok(Listed::Missing);
@@ -37,12 +37,12 @@ fn list_results<'t, 'a>(alloc: Global, run: &Node<'t, 'a>) -> Result<Listed<'t, 
         return Ok(Listed::Null);
     }
     let Some(nodes) = elements_of(alloc, &found)? else {
-        return Err(Fault::BadRun);
+        return Err(Refusal::Fault(Fault::BadRun));
     };
     if are_all_objects(nodes.as_slice()) {
         Ok(Listed::Array(nodes))
     } else {
-        Err(Fault::BadRun)
+        Err(Refusal::Fault(Fault::BadRun))
     }
 }
 
@@ -52,39 +52,35 @@ fn index_run<'t, 'a>(
     alloc: Global,
     before: usize,
     run: &Node<'t, 'a>,
-) -> Result<IndexedRun<'t, 'a>, Fault>
+) -> Result<IndexedRun<'t, 'a>, Refusal<Fault>>
     requires few { before ≤ 1000000 }
     requires ordered { IsOrdered (data_of run.now) }
     ensures ok { IfOk result (λ made. run_of made ≡ value_at run.now) }
     ensures checked { OnOk result (said.check_run before (value_at run.now)
         ≡ Ok (before + length (results_of (value_at run.now)))) }
     ensures few { OnOk result (before + length (results_of (value_at run.now)) ≤ 1000000) }
-    ensures err { IfErr result (λ fault. ¬ (fault ≡ OutOfMemory)
-        → said.check_run before (value_at run.now) ≡ Err fault) }
+    ensures err { IfFault result (λ fault. said.check_run before (value_at run.now) ≡ Err fault) }
 {
     let bare = run.to_value_without(alloc, "results")?;
     check_tool(&bare)?;
     check_external(&bare)?;
     let results = list_results(alloc, run)?;
     if results.len() > MOST_RESULTS - before {
-        return Err(Fault::TooMany);
+        return Err(Refusal::Fault(Fault::TooMany));
     }
     Ok(IndexedRun::new(bare, results))
 }
 
-/// The fault of run `number`; want of memory is no run's.
-fn fault_at(number: u32, fault: Fault) -> ReadFault
-    ensures memory { fault ≡ OutOfMemory → result ≡ record { run = None; fault = fault } }
-    ensures other { ¬ (fault ≡ OutOfMemory)
-        → result ≡ record { run = Some number; fault = fault } }
+/// Returns the error of run `number`; `OutOfMemory` names no run.
+fn refused_at(number: u32, refusal: Refusal<Fault>) -> Refusal<ReadFault>
+    ensures { result ≡ refusal_at number refusal }
 {
-    if fault == Fault::OutOfMemory {
-        ReadFault { run: None, fault }
-    } else {
-        ReadFault {
+    match refusal {
+        Refusal::Fault(fault) => Refusal::Fault(ReadFault {
             run: Some(number),
             fault,
-        }
+        }),
+        Refusal::OutOfMemory => Refusal::OutOfMemory,
     }
 }
 
@@ -92,15 +88,13 @@ fn fault_at(number: u32, fault: Fault) -> ReadFault
 fn index_each<'t, 'a>(
     alloc: Global,
     nodes: &[Node<'t, 'a>],
-) -> Result<Vec<IndexedRun<'t, 'a>>, ReadFault>
+) -> Result<Vec<IndexedRun<'t, 'a>>, Refusal<ReadFault>>
     requires few { length nodes.now ≤ 10000 }
     requires ordered { AreOrdered nodes.now }
     ensures ok { IfOk result (λ runs. map run_of runs.items ≡ map value_at nodes.now) }
     ensures checked { OnOk result (said.check_each 0 0 (map value_at nodes.now) ≡ Ok tt) }
     ensures few { IfOk result (λ runs. results_total (map run_of runs.items) ≤ 1000000) }
-    ensures err { IfErr result (λ e. ¬ (e.fault ≡ OutOfMemory)
-        → said.check_each 0 0 (map value_at nodes.now) ≡ Err e) }
-    ensures memory { IfErr result (λ e. e.fault ≡ OutOfMemory → e.run ≡ None) }
+    ensures err { IfFault result (λ e. said.check_each 0 0 (map value_at nodes.now) ≡ Err e) }
 {
     let mut runs = Vec::with_capacity(alloc, nodes.len())?;
     let mut number: u32 = 0;
@@ -108,7 +102,7 @@ fn index_each<'t, 'a>(
     for node in nodes {
         let run = match index_run(alloc, before, node) {
             Ok(run) => run,
-            Err(fault) => return Err(fault_at(number, fault)),
+            Err(refusal) => return Err(refused_at(number, refusal)),
         };
         before += run.len() as usize;
         runs.push(run)?;
@@ -119,22 +113,21 @@ fn index_each<'t, 'a>(
 
 /// The places of the runs, of an object with `runs`, an array or null: else `NotLog`.
 #[tactic(auto, using(crate::proofs::ListRuns::list_steps))]
-fn list_runs<'t, 'a>(alloc: Global, log: &Node<'t, 'a>) -> Result<Vec<Node<'t, 'a>>, Fault>
+fn list_runs<'t, 'a>(alloc: Global, log: &Node<'t, 'a>) -> Result<Vec<Node<'t, 'a>>, Refusal<Fault>>
     requires { IsOrdered (data_of log.now) }
     ensures ok { IfOk result
         (λ nodes. map value_at nodes.items ≡ said2.runs_of (value_at log.now)) }
     ensures ordered { IfOk result (λ nodes. AreOrdered nodes.items) }
     ensures checked { OnOk result (said.check_runs (value_at log.now) ≡ Ok tt) }
-    ensures err { IfErr result (λ fault. ¬ (fault ≡ OutOfMemory)
-        → said.check_runs (value_at log.now) ≡ Err fault) }
+    ensures err { IfFault result (λ fault. said.check_runs (value_at log.now) ≡ Err fault) }
 {
     let Some(found) = kept_member(log, "runs") else {
-        return Err(Fault::NotLog);
+        return Err(Refusal::Fault(Fault::NotLog));
     };
     if is_null(&found) {
         return Ok(Vec::new(alloc));
     }
-    elements_of(alloc, &found)?.ok_or(Fault::NotLog)
+    elements_of(alloc, &found)?.ok_or(Refusal::Fault(Fault::NotLog))
 }
 
 /// The `version` is the text `2.1.0`: else `WrongVersion`.
@@ -153,20 +146,22 @@ fn check_version(log: &Node<'_, '_>) -> Result<(), Fault>
 
 /// The places of the runs of a log whose own form is right.
 #[tactic(auto, using(crate::proofs::ListRuns::count_runs), unfolding(crate::specs::Reading::check_log))]
-fn checked_runs<'t, 'a>(alloc: Global, log: &Node<'t, 'a>) -> Result<Vec<Node<'t, 'a>>, Fault>
+fn checked_runs<'t, 'a>(
+    alloc: Global,
+    log: &Node<'t, 'a>,
+) -> Result<Vec<Node<'t, 'a>>, Refusal<Fault>>
     requires { IsOrdered (data_of log.now) }
     ensures ok { IfOk result
         (λ nodes. map value_at nodes.items ≡ said2.runs_of (value_at log.now)) }
     ensures ordered { IfOk result (λ nodes. AreOrdered nodes.items) }
     ensures few { IfOk result (λ nodes. length nodes.items ≤ 10000) }
     ensures checked { OnOk result (said.check_log (value_at log.now) ≡ Ok tt) }
-    ensures err { IfErr result (λ fault. ¬ (fault ≡ OutOfMemory)
-        → said.check_log (value_at log.now) ≡ Err fault) }
+    ensures err { IfFault result (λ fault. said.check_log (value_at log.now) ≡ Err fault) }
 {
     let nodes = list_runs(alloc, log)?;
     check_version(log)?;
     if nodes.len() > MOST_RUNS {
-        return Err(Fault::TooMany);
+        return Err(Refusal::Fault(Fault::TooMany));
     }
     Ok(nodes)
 }
@@ -174,23 +169,21 @@ fn checked_runs<'t, 'a>(alloc: Global, log: &Node<'t, 'a>) -> Result<Vec<Node<'t
 /// The runs of an indexed log (SARIF 2.1.0, "sarifLog object"), of which each is stripped and has
 /// the form of one. Takes no memory for their results but the list of their places.
 ///
-/// Want of memory is `OutOfMemory`, without a run; each other refusal is the first fault of the log:
+/// Returns the first error of the log:
 /// `NotLog`, `WrongVersion` or `TooMany` without a run, `BadRun`, `ExternalProperties` or `TooMany`
 /// with the run's number, counted from 0.
 #[tactic(auto, unfolding(crate::specs::Reading::log_of_value))]
 pub fn index_log<'t, 'a>(
     alloc: Global,
     index: &'t Index<'a>,
-) -> Result<Vec<IndexedRun<'t, 'a>>, ReadFault>
+) -> Result<Vec<IndexedRun<'t, 'a>>, Refusal<ReadFault>>
     ensures ok { IfOk result
         (λ runs. said.log_of_value (value_at index.now) ≡ Ok (map run_of runs.items)) }
     ensures few { IfOk result (λ runs. results_total (map run_of runs.items) ≤ 1000000) }
     ensures few_runs { IfOk result (λ runs. length runs.items ≤ 10000) }
-    ensures err { IfErr result (λ e. ¬ (e.fault ≡ OutOfMemory)
-        → said.log_of_value (value_at index.now) ≡ Err e) }
-    ensures memory { IfErr result (λ e. e.fault ≡ OutOfMemory → e.run ≡ None) }
+    ensures err { IfFault result (λ e. said.log_of_value (value_at index.now) ≡ Err e) }
 {
     let log = index.root();
-    let nodes = checked_runs(alloc, &log)?;
+    let nodes = checked_runs(alloc, &log).map_err(refused_whole)?;
     index_each(alloc, nodes.as_slice())
 }

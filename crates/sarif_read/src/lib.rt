@@ -21,7 +21,7 @@ pub use laws::{
     stripped_holds_no_fraction, stripping_twice_is_once,
 };
 pub use log::Log;
-pub use read_fault::ReadFault;
+pub use read_fault::{ReadFault, refused_text};
 pub use reading::read_log;
 pub use run::{RawRun, is_marked_absent};
 pub use stripping::{strip, strip_in_place};

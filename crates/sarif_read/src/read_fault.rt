@@ -1,9 +1,9 @@
-//! Why a log, a run or a result is refused.
-ghost use Rattle.std.specs.Prelude.{◌≡◌, None};
+//! Why a log is refused.
+ghost use Rattle.std.specs.Prelude.{◌≡◌};
+ghost use Rattle.sarif_read.specs.ReadRefusal.{whole, refusal_of_fault, refusal_of_index};
 
 use json_parts::IndexFault;
-use sarif_model::Fault;
-use std::alloc::{AllocError, AllocFailed};
+use sarif_model::{Fault, Refusal};
 
 /// Why `read_log` refuses a log.
 #[derive(Clone, Copy, Debug, PartialEq, Eq)]
@@ -15,42 +15,29 @@ pub struct ReadFault {
 }
 
 impl From<Fault> for ReadFault {
-    ghost from_gives = { λ fault e. e ≡ record { run = None; fault = fault } };
+    ghost from_gives = { λ fault e. e ≡ whole fault };
 
     fn from(fault: Fault) -> ReadFault {
         ReadFault { run: None, fault }
     }
 }
 
-impl From<AllocError> for ReadFault {
-    ghost use Rattle.sarif_model.specs.declared.fault.Fault.TheVariants.{OutOfMemory};
-
-    ghost from_gives = { λ _ e. e ≡ record { run = None; fault = OutOfMemory } };
-
-    fn from(_error: AllocError) -> ReadFault {
-        ReadFault::from(Fault::OutOfMemory)
+/// Returns an error that names no run.
+pub(crate) fn refused_whole(refusal: Refusal<Fault>) -> Refusal<ReadFault>
+    ensures { result ≡ refusal_of_fault refusal }
+{
+    match refusal {
+        Refusal::Fault(fault) => Refusal::Fault(ReadFault::from(fault)),
+        Refusal::OutOfMemory => Refusal::OutOfMemory,
     }
 }
 
-impl<T: Drop> From<AllocFailed<T>> for ReadFault {
-    ghost use Rattle.sarif_model.specs.declared.fault.Fault.TheVariants.{OutOfMemory};
-
-    ghost from_gives = { λ _ e. e ≡ record { run = None; fault = OutOfMemory } };
-
-    fn from(_error: AllocFailed<T>) -> ReadFault {
-        ReadFault::from(Fault::OutOfMemory)
-    }
-}
-
-impl From<IndexFault> for ReadFault {
-    ghost use Rattle.sarif_read.specs.IndexFault.{read_fault_of};
-
-    ghost from_gives = { λ fault e. e ≡ read_fault_of fault };
-
-    fn from(fault: IndexFault) -> ReadFault {
-        match fault {
-            IndexFault::NotJson => ReadFault::from(Fault::NotJson),
-            IndexFault::OutOfMemory => ReadFault::from(Fault::OutOfMemory),
-        }
+/// Returns why a log without an index is rejected: `NotJson`, without a run, or `OutOfMemory`.
+pub fn refused_text(fault: IndexFault) -> Refusal<ReadFault>
+    ensures { result ≡ refusal_of_index fault }
+{
+    match fault {
+        IndexFault::NotJson => Refusal::Fault(ReadFault::from(Fault::NotJson)),
+        IndexFault::OutOfMemory => Refusal::OutOfMemory,
     }
 }

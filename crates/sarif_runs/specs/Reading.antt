@@ -3,14 +3,16 @@ use Rattle.std.specs.Prelude.{◌≡◌, ℕ, Bool, if◌then◌else◌, List, [
 use Rattle.serde_json.specs.Data.{Data}
 use Rattle.sarif_model.specs.declared.kinds.Level.{Level}
 use Rattle.sarif_model.specs.declared.fault.Fault.{Fault}
-use Rattle.sarif_model.specs.declared.fault.Fault.TheVariants.{BadLevel, OutOfMemory}
+use Rattle.sarif_model.specs.declared.fault.Fault.TheVariants.{BadLevel}
+use Rattle.sarif_model.specs.declared.refusal.Refusal.{Refusal}
+use Rattle.sarif_model.specs.declared.refusal.Refusal.TheVariants as refusal
 use Rattle.sarif_model.specs.Members.{member_at, of_kind, result_map}
 use Rattle.sarif_runs.specs.OwnMembers.{as_level}
 
 -- what a call that needs memory gives: what is told, unless memory was wanting
-abbrev pub Gives : {X : Type 0} → Result X Fault → Result X Fault → Type 0
+abbrev pub Gives : {X : Type 0} → Result X (Refusal Fault) → Result X Fault → Type 0
 Gives (Ok x) told = told ≡ Ok x
-Gives (Err fault) told = (fault ≡ OutOfMemory → ⊥) → told ≡ Err fault
+Gives (Err e) told = (fault : Fault) → e ≡ refusal.Fault fault → told ≡ Err fault
 
 -- the values so far, before those of the rest
 abbrev pub before : {X E : Type 0} → List X → Result (List X) E → Result (List X) E

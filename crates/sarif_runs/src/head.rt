@@ -1,7 +1,7 @@
 //! What of a run its results need, and what it gives a result.
-ghost use Rattle.std.specs.Prelude.{◌≡◌, IfOk, IfErr, option_map, option_and_then};
+ghost use Rattle.std.specs.Prelude.{◌≡◌, IfOk, option_map, option_and_then};
 ghost use Rattle.std.specs.Option.{option_copied};
-ghost use Rattle.sarif_model.specs.declared.fault.Fault.TheVariants.{OutOfMemory};
+ghost use Rattle.sarif_model.specs.Refusal.{IfFault};
 ghost use Rattle.sarif_runs.specs.Reading.{Gives};
 ghost use Rattle.sarif_runs.specs.Descriptor.{Reference, reference_of, descriptor_of, rule_number};
 ghost use Rattle.sarif_runs.specs.Level as effective;
@@ -11,7 +11,7 @@ ghost use Rattle.sarif_runs.specs.Place.{place_of, place_by};
 use crate::component::{Component, Rule};
 use crate::invocation::Invocation;
 use crate::parts::Parts;
-use sarif_model::{Fault, Kind, Level, Place, Sequence, Text};
+use sarif_model::{Fault, Kind, Level, Place, Refusal, Sequence, Text};
 use std::alloc::{AllocError, Global};
 
 /// The rules, overrides and artifacts of a run.
@@ -125,10 +125,9 @@ impl RunHead {
     ///
     /// `BadIndex` where there is no `uri` and the artifact is past its table; `OutOfMemory` where
     /// memory is wanting.
-    pub fn place(&self, parts: &Parts) -> Result<Place, Fault>
+    pub fn place(&self, parts: &Parts) -> Result<Place, Refusal<Fault>>
         ensures ok { IfOk result (λ place. place_of self.now.artifacts parts.now ≡ Ok place) }
-        ensures err { IfErr result (λ fault. (fault ≡ OutOfMemory → ⊥)
-            → place_of self.now.artifacts parts.now ≡ Err fault) }
+        ensures err { IfFault result (λ fault. place_of self.now.artifacts parts.now ≡ Err fault) }
     {
         let uri = copied(&parts.uri)?;
         let base = copied(&parts.base)?;
@@ -141,7 +140,7 @@ impl RunHead {
         uri: Option<Text>,
         base: Option<Text>,
         artifact: Option<u32>,
-    ) -> Result<Place, Fault>
+    ) -> Result<Place, Refusal<Fault>>
         ensures { Gives result (place_by self.now.artifacts uri base artifact) }
     {
         if uri.is_some() {
@@ -154,7 +153,7 @@ impl RunHead {
             });
         };
         let Some(named) = self.artifacts.as_slice().get(index as usize) else {
-            return Err(Fault::BadIndex);
+            return Err(Refusal::Fault(Fault::BadIndex));
         };
         let uri = copied(&named.uri)?;
         let base = copied(&named.base)?;

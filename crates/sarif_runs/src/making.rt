@@ -1,7 +1,7 @@
 //! The record of a result.
-ghost use Rattle.std.specs.Prelude.{◌≡◌, ◌<◌, length, Ok, Err, IfOk, IfErr};
+ghost use Rattle.std.specs.Prelude.{◌≡◌, ◌<◌, length, Ok, Err, IfOk};
 ghost use Rattle.serde_json.specs.View.{view};
-ghost use Rattle.sarif_model.specs.declared.fault.Fault.TheVariants.{OutOfMemory};
+ghost use Rattle.sarif_model.specs.Refusal.{IfFault};
 ghost use Rattle.sarif_model.specs.Run.{results_of};
 ghost use Rattle.sarif_runs.specs.Reading.{Gives};
 ghost use Rattle.sarif_runs.specs.Head.{head_of};
@@ -10,7 +10,7 @@ ghost use Rattle.sarif_runs.specs.Record.{tool_name, rule_id_of, record_by, reco
 use crate::head::RunHead;
 use crate::own_members::read_members;
 use crate::parts::Parts;
-use sarif_model::{Fault, Record, Text, driver_name};
+use sarif_model::{Fault, Record, Refusal, Text, driver_name};
 use sarif_read::RawRun;
 use serde_json::Value;
 use std::alloc::{AllocError, Global};
@@ -27,11 +27,11 @@ pub fn make_record_of(
     head: &RunHead,
     tool: &Text,
     result_value: &Value,
-) -> Result<Record, Fault>
+) -> Result<Record, Refusal<Fault>>
     ensures ok { IfOk result
         (λ made. record_in head.now tool.now (view result_value.now) ≡ Ok made) }
-    ensures err { IfErr result (λ fault. (fault ≡ OutOfMemory → ⊥)
-        → record_in head.now tool.now (view result_value.now) ≡ Err fault) }
+    ensures err { IfFault result
+        (λ fault. record_in head.now tool.now (view result_value.now) ≡ Err fault) }
 {
     let parts = read_members(alloc, result_value)?;
     let tool = tool.clone()?;
@@ -42,12 +42,16 @@ pub fn make_record_of(
 /// that run and the name of the run's driver. The faults are those of [`make_record_of`], so also
 /// `BadIndex` and `OutOfMemory`.
 #[tactic(auto, unfolding(crate::specs::Record::record_of))]
-pub fn make_record(alloc: Global, head: &RunHead, run: &RawRun, seq: u32) -> Result<Record, Fault>
+pub fn make_record(
+    alloc: Global,
+    head: &RunHead,
+    run: &RawRun,
+    seq: u32,
+) -> Result<Record, Refusal<Fault>>
     requires opened { head_of (view run.now) ≡ Ok head.now }
     requires in_run { seq < length (results_of (view run.now)) }
     ensures ok { IfOk result (λ made. record_of (view run.now) seq ≡ Ok made) }
-    ensures err { IfErr result (λ fault. (fault ≡ OutOfMemory → ⊥)
-        → record_of (view run.now) seq ≡ Err fault) }
+    ensures err { IfFault result (λ fault. record_of (view run.now) seq ≡ Err fault) }
 {
     let tool = copy_tool_name(alloc, run.value())?;
     make_record_of(alloc, head, &tool, run.result(seq))
@@ -66,7 +70,12 @@ pub fn copy_tool_name(alloc: Global, run: &Value) -> Result<Text, AllocError>
 
 /// The record of a result with these members of its own.
 #[tactic(auto, unfolding(crate::specs::Record::record_by))]
-fn finish_record(alloc: Global, head: &RunHead, tool: Text, parts: Parts) -> Result<Record, Fault>
+fn finish_record(
+    alloc: Global,
+    head: &RunHead,
+    tool: Text,
+    parts: Parts,
+) -> Result<Record, Refusal<Fault>>
     ensures { Gives result (record_by head.now tool parts) }
 {
     let descriptor = head.descriptor(&parts)?;

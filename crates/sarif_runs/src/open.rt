@@ -1,6 +1,6 @@
 //! Reading the rules, overrides and artifacts of a run.
-ghost use Rattle.std.specs.Prelude.{◌≡◌, IfOk, IfErr, map, option_map};
-ghost use Rattle.sarif_model.specs.declared.fault.Fault.TheVariants.{OutOfMemory, BadMember};
+ghost use Rattle.std.specs.Prelude.{◌≡◌, IfOk, map, option_map};
+ghost use Rattle.sarif_model.specs.Refusal.{IfFault};
 ghost use Rattle.sarif_model.specs.Members.{objects_at, read_each};
 ghost use Rattle.serde_json.specs.View.{view};
 ghost use Rattle.sarif_runs.specs.Reading.{Gives, before, list_if_there};
@@ -16,7 +16,7 @@ use crate::reading::{level_within, objects_within};
 use sarif_model::members::{
     elements_at, index_within, object_at, object_within, objects_at, text_at, text_within,
 };
-use sarif_model::{Fault, Place, Sequence, Text};
+use sarif_model::{Fault, Place, Refusal, Sequence, Text};
 use sarif_read::RawRun;
 use serde_json::Value;
 use std::alloc::{AllocError, Global};
@@ -35,10 +35,9 @@ use std::hash::RandomState;
 /// `OutOfMemory` may come in place of any of them, where memory is wanting. The head's tables hash
 /// with `seed`, which no log can know; no answer depends on it.
 #[tactic(auto, unfolding(crate::specs::Head::head_of))]
-pub fn open_value(alloc: Global, seed: RandomState, run: &Value) -> Result<RunHead, Fault>
+pub fn open_value(alloc: Global, seed: RandomState, run: &Value) -> Result<RunHead, Refusal<Fault>>
     ensures ok { IfOk result (λ head. head_of (view run.now) ≡ Ok head) }
-    ensures err { IfErr result
-        (λ fault. (fault ≡ OutOfMemory → ⊥) → head_of (view run.now) ≡ Err fault) }
+    ensures err { IfFault result (λ fault. head_of (view run.now) ≡ Err fault) }
 {
     let components = read_components(alloc, seed, run)?;
     let artifacts = read_artifacts(alloc, run)?;
@@ -52,10 +51,9 @@ pub fn open_value(alloc: Global, seed: RandomState, run: &Value) -> Result<RunHe
 
 /// Reads the rules, overrides and artifacts of a run that was read. `BadRules`, `BadLevel`, `BadLocation`, `BadMember`,
 /// `BadIndex` and `OutOfMemory` come where [`open_value`] answers them; `seed` is as there.
-pub fn open_run(alloc: Global, seed: RandomState, run: &RawRun) -> Result<RunHead, Fault>
+pub fn open_run(alloc: Global, seed: RandomState, run: &RawRun) -> Result<RunHead, Refusal<Fault>>
     ensures ok { IfOk result (λ head. head_of (view run.now) ≡ Ok head) }
-    ensures err { IfErr result
-        (λ fault. (fault ≡ OutOfMemory → ⊥) → head_of (view run.now) ≡ Err fault) }
+    ensures err { IfFault result (λ fault. head_of (view run.now) ≡ Err fault) }
 {
     open_value(alloc, seed, run.value())
 }
@@ -65,7 +63,7 @@ fn read_components(
     alloc: Global,
     seed: RandomState,
     run: &Value,
-) -> Result<Sequence<Component>, Fault>
+) -> Result<Sequence<Component>, Refusal<Fault>>
     ensures { Gives result (components_of (view run.now)) }
 {
     let extensions = objects_within(run.get("tool"), "extensions", Fault::BadRules)?;
@@ -81,7 +79,11 @@ fn driver_of(run: &Value) -> Option<&Value>
     run.get("tool")?.get("driver")
 }
 
-fn read_driver(alloc: Global, seed: RandomState, driver: Option<&Value>) -> Result<Component, Fault>
+fn read_driver(
+    alloc: Global,
+    seed: RandomState,
+    driver: Option<&Value>,
+) -> Result<Component, Refusal<Fault>>
     ensures { Gives result (list_if_there rules_of (option_map (λ v. view v.now) driver.entry)) }
 {
     match driver {
@@ -96,7 +98,7 @@ fn read_extensions(
     seed: RandomState,
     mut components: Sequence<Component>,
     extensions: &[Value],
-) -> Result<Sequence<Component>, Fault>
+) -> Result<Sequence<Component>, Refusal<Fault>>
     ensures { Gives result (before components (read_each rules_of (map view extensions.now))) }
 {
     for extension in extensions {
@@ -107,7 +109,11 @@ fn read_extensions(
 }
 
 #[tactic(auto, unfolding(crate::specs::Rules::rules_of))]
-fn read_component(alloc: Global, seed: RandomState, component: &Value) -> Result<Component, Fault>
+fn read_component(
+    alloc: Global,
+    seed: RandomState,
+    component: &Value,
+) -> Result<Component, Refusal<Fault>>
     ensures { Gives result (rules_of (view component.now)) }
 {
     let rules = elements_at(component, "rules", Fault::BadRules)?;
@@ -115,10 +121,9 @@ fn read_component(alloc: Global, seed: RandomState, component: &Value) -> Result
     Ok(Component::new(alloc, seed, rules)?)
 }
 
-fn read_rules(alloc: Global, values: &[Value]) -> Result<Vec<Rule>, Fault>
+fn read_rules(alloc: Global, values: &[Value]) -> Result<Vec<Rule>, Refusal<Fault>>
     ensures ok { IfOk result (λ rules. read_each rule_of (map view values.now) ≡ Ok rules.items) }
-    ensures err { IfErr result
-        (λ fault. (fault ≡ OutOfMemory → ⊥) → read_each rule_of (map view values.now) ≡ Err fault) }
+    ensures err { IfFault result (λ fault. read_each rule_of (map view values.now) ≡ Err fault) }
 {
     let mut rules = Vec::new(alloc);
     for value in values {
@@ -129,11 +134,11 @@ fn read_rules(alloc: Global, values: &[Value]) -> Result<Vec<Rule>, Fault>
 }
 
 #[tactic(auto, unfolding(crate::specs::Rules::rule_of))]
-fn read_rule(alloc: Global, rule: &Value) -> Result<Rule, Fault>
+fn read_rule(alloc: Global, rule: &Value) -> Result<Rule, Refusal<Fault>>
     ensures { Gives result (rule_of (view rule.now)) }
 {
     let Some(id) = text_at(rule, "id", Fault::BadRules)? else {
-        return Err(Fault::BadRules);
+        return Err(Refusal::Fault(Fault::BadRules));
     };
     let level = level_within(object_at(rule, "defaultConfiguration", Fault::BadRules)?)?;
     let id = Text::copy_of(alloc, id)?;
@@ -141,14 +146,14 @@ fn read_rule(alloc: Global, rule: &Value) -> Result<Rule, Fault>
 }
 
 #[tactic(auto, unfolding(crate::specs::Place::artifacts_of))]
-fn read_artifacts(alloc: Global, run: &Value) -> Result<Sequence<Place>, Fault>
+fn read_artifacts(alloc: Global, run: &Value) -> Result<Sequence<Place>, Refusal<Fault>>
     ensures { Gives result (artifacts_of (view run.now)) }
 {
     let artifacts = objects_at(run, "artifacts", Fault::BadLocation)?;
     read_places(alloc, artifacts)
 }
 
-fn read_places(alloc: Global, artifacts: &[Value]) -> Result<Sequence<Place>, Fault>
+fn read_places(alloc: Global, artifacts: &[Value]) -> Result<Sequence<Place>, Refusal<Fault>>
     ensures { Gives result (read_each artifact_of (map view artifacts.now)) }
 {
     let mut places = Sequence::new(alloc);
@@ -160,7 +165,7 @@ fn read_places(alloc: Global, artifacts: &[Value]) -> Result<Sequence<Place>, Fa
 }
 
 #[tactic(auto, unfolding(crate::specs::Place::artifact_of))]
-fn read_artifact(alloc: Global, artifact: &Value) -> Result<Place, Fault>
+fn read_artifact(alloc: Global, artifact: &Value) -> Result<Place, Refusal<Fault>>
     ensures { Gives result (artifact_of (view artifact.now)) }
 {
     let location = object_at(artifact, "location", Fault::BadLocation)?;
@@ -187,7 +192,7 @@ fn read_invocations(
     seed: RandomState,
     components: &[Component],
     run: &Value,
-) -> Result<Sequence<Invocation>, Fault>
+) -> Result<Sequence<Invocation>, Refusal<Fault>>
     ensures { Gives result (invocations_of components.now (view run.now)) }
 {
     let invocations = objects_at(run, "invocations", Fault::BadMember)?;
@@ -196,11 +201,13 @@ fn read_invocations(
 }
 
 /// The overrides of each invocation, as they stand.
-fn override_lists<'a>(alloc: Global, invocations: &'a [Value]) -> Result<Vec<&'a [Value]>, Fault>
+fn override_lists<'a>(
+    alloc: Global,
+    invocations: &'a [Value],
+) -> Result<Vec<&'a [Value]>, Refusal<Fault>>
     ensures ok { IfOk result (λ lists. override_lists (map view invocations.now)
         ≡ Ok (map (λ l. map view l.now) lists.items)) }
-    ensures err { IfErr result (λ fault. (fault ≡ OutOfMemory → ⊥)
-        → override_lists (map view invocations.now) ≡ Err fault) }
+    ensures err { IfFault result (λ fault. override_lists (map view invocations.now) ≡ Err fault) }
 {
     let mut lists = Vec::new(alloc);
     for invocation in invocations {
@@ -215,7 +222,7 @@ fn read_lists(
     seed: RandomState,
     components: &[Component],
     lists: &[&[Value]],
-) -> Result<Sequence<Invocation>, Fault>
+) -> Result<Sequence<Invocation>, Refusal<Fault>>
     ensures { Gives result
         (read_each (read_each (override_of components.now)) (map (λ l. map view l.now) lists.now)) }
 {
@@ -232,11 +239,11 @@ fn read_overrides(
     alloc: Global,
     components: &[Component],
     values: &[Value],
-) -> Result<Vec<Override>, Fault>
+) -> Result<Vec<Override>, Refusal<Fault>>
     ensures ok { IfOk result (λ overrides.
         read_each (override_of components.now) (map view values.now) ≡ Ok overrides.items) }
-    ensures err { IfErr result (λ fault. (fault ≡ OutOfMemory → ⊥)
-        → read_each (override_of components.now) (map view values.now) ≡ Err fault) }
+    ensures err { IfFault result
+        (λ fault. read_each (override_of components.now) (map view values.now) ≡ Err fault) }
 {
     let mut overrides = Vec::new(alloc);
     for value in values {

@@ -10,7 +10,7 @@ use crate::head::RunHead;
 use crate::item::Item;
 use crate::making::{copy_tool_name, make_record_of};
 use crate::open::open_value;
-use sarif_model::{Fault, Source, Text};
+use sarif_model::{Fault, Refusal, Source, Text};
 use sarif_read::IndexedRun;
 use serde_json::Value;
 use std::alloc::{AllocError, Global};
@@ -42,8 +42,8 @@ fn open_head(
 {
     match open_value(alloc, seed, run) {
         Ok(head) => Ok(Ok(head)),
-        Err(Fault::OutOfMemory) => Err(AllocError),
-        Err(fault) => Ok(Err(fault)),
+        Err(Refusal::Fault(fault)) => Ok(Err(fault)),
+        Err(Refusal::OutOfMemory) => Err(AllocError),
     }
 }
 
@@ -134,8 +134,8 @@ impl<'t, 'a> OpenedRun<'t, 'a> {
         };
         match make_record_of(alloc, head, &self.tool, found) {
             Ok(record) => Ok(Item::Sound(record)),
-            Err(Fault::OutOfMemory) => Err(AllocError),
-            Err(fault) => Ok(Item::Bad(fault)),
+            Err(Refusal::Fault(fault)) => Ok(Item::Bad(fault)),
+            Err(Refusal::OutOfMemory) => Err(AllocError),
         }
     }
 

@@ -1,10 +1,10 @@
 //! A result's own members: nine checks, in order, each of which reads what it checks.
-ghost use Rattle.std.specs.Prelude.{◌≡◌, ◌<◌, length, Ok, Err, IfOk, IfErr};
+ghost use Rattle.std.specs.Prelude.{◌≡◌, ◌<◌, length, Ok, Err, IfOk};
 ghost use Rattle.serde_json.specs.View.{view as seen};
 ghost use Rattle.sarif_model.specs.Run.{results_of, result_at};
 ghost use Rattle.sarif_runs.specs.OwnMembers.{check_present, own_kind, own_level, own_guid};
 ghost use Rattle.sarif_runs.specs.OwnMembers.{parts_of};
-ghost use Rattle.sarif_model.specs.declared.fault.Fault.TheVariants.{OutOfMemory};
+ghost use Rattle.sarif_model.specs.Refusal.{IfFault};
 
 mod fingerprints;
 mod indexes;
@@ -18,7 +18,7 @@ use indexes::read_indexes;
 use location::read_location;
 use message::read_message_and_rule;
 use sarif_model::members::member_at;
-use sarif_model::{Fault, Kind, Level, read_guid};
+use sarif_model::{Fault, Kind, Level, Refusal, read_guid};
 use sarif_read::{RawRun, is_marked_absent};
 use serde_json::Value;
 use std::alloc::Global;
@@ -92,10 +92,9 @@ fn read_correlation_guid(result_value: &Value) -> Result<Option<u128>, Fault>
 ///
 /// `OutOfMemory` may come in place of each of these but the first four, where memory is wanting.
 #[tactic(auto, unfolding(crate::specs::OwnMembers::parts_of))]
-pub fn read_members(alloc: Global, result_value: &Value) -> Result<Parts, Fault>
+pub fn read_members(alloc: Global, result_value: &Value) -> Result<Parts, Refusal<Fault>>
     ensures ok { IfOk result (λ parts. parts_of (seen result_value.now) ≡ Ok parts) }
-    ensures err { IfErr result (λ fault. (fault ≡ OutOfMemory → ⊥)
-        → parts_of (seen result_value.now) ≡ Err fault) }
+    ensures err { IfFault result (λ fault. parts_of (seen result_value.now) ≡ Err fault) }
 {
     check_is_present(result_value)?;
     let kind = read_kind(result_value)?;
@@ -127,11 +126,10 @@ pub fn read_members(alloc: Global, result_value: &Value) -> Result<Parts, Fault>
 /// The own members of result `seq` of `run`, counted from 0 (SARIF 2.1.0, run object, "results
 /// property"), or its first fault: the faults are those of [`read_members`], in the same order, and
 /// `OutOfMemory` where memory is wanting.
-pub fn read_parts(alloc: Global, run: &RawRun, seq: u32) -> Result<Parts, Fault>
+pub fn read_parts(alloc: Global, run: &RawRun, seq: u32) -> Result<Parts, Refusal<Fault>>
     requires { seq < length (results_of (seen run.now)) }
     ensures ok { IfOk result (λ parts. parts_of (result_at (seen run.now) seq) ≡ Ok parts) }
-    ensures err { IfErr result (λ fault. (fault ≡ OutOfMemory → ⊥)
-        → parts_of (result_at (seen run.now) seq) ≡ Err fault) }
+    ensures err { IfFault result (λ fault. parts_of (result_at (seen run.now) seq) ≡ Err fault) }
 {
     read_members(alloc, run.result(seq))
 }

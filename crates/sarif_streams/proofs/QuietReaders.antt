@@ -1,6 +1,5 @@
 -- Which refusals say that a read or a write failed: none for a fault of what was read. No public clause speaks of these.
 use Rattle.std.proofs.Common.{◌≡◌, Err, false, refl}
-use Rattle.sarif_model.specs.declared.fault.Fault.TheVariants.{OutOfMemory}
 use Rattle.sarif_streams.specs.declared.readers.ReadersFault.{ReadersFault}
 use Rattle.sarif_model.specs.MergeFault.{is_read_failed, is_write_failed}
 use Rattle.sarif_streams.specs.Failing.{reading_has_failed}

@@ -5,13 +5,13 @@ use Rattle.serde_json.specs.declared.value.Value.{Value}
 use Rattle.serde_json.specs.View.{view}
 use Rattle.sarif_model.specs.Members.{◌>>=◌}
 use Rattle.sarif_suppress.specs.declared.entry.Entry.{Entry}
-use Rattle.sarif_suppress.specs.declared.fault.SuppressFault.{SuppressFault}
+use Rattle.sarif_suppress.specs.declared.fault.FileFault.{FileFault}
 use Rattle.sarif_suppress.specs.declared.version.Version.{Version}
 use Rattle.sarif_suppress.specs.Entries.{entry_of}
 use Rattle.sarif_suppress.specs.File.{entries_from}
 
 -- the entries read so far, and then those of what is left
-abbrev pub joined : List Entry → Result (List Entry) SuppressFault → Result (List Entry) SuppressFault
+abbrev pub joined : List Entry → Result (List Entry) FileFault → Result (List Entry) FileFault
 joined front (Ok es) = Ok (front ++ es)
 joined front (Err fault) = Err fault
 
@@ -20,7 +20,7 @@ left_of : (values : List Value) (n : ℕ) (value : Value) → n < length values 
 left_of values n value within is = drop_more values n value within ∙ ap (λ v. v ∷ drop (n + 1) values) (sym is)
 
 -- one entry more
-joined_push : (front : List Entry) (e : Entry) (left : Result (List Entry) SuppressFault) → joined (front ++ e ∷ []) left ≡ joined front (left >>= λ es. Ok (e ∷ es))
+joined_push : (front : List Entry) (e : Entry) (left : Result (List Entry) FileFault) → joined (front ++ e ∷ []) left ≡ joined front (left >>= λ es. Ok (e ∷ es))
 joined_push front e (Ok es) = ap Ok (append_assoc front (e ∷ []) es)
 joined_push front e (Err fault) = refl
 
@@ -30,7 +30,7 @@ goes_on version today front values n value e within is read =
     let split : drop n values ≡ value ∷ drop (n + 1) values = left_of values n value within is in
     rw (split, read) (joined_push front e (entries_from version today (n + 1) (map view (drop (n + 1) values))))
 
-pub stops : (version : Version) (today : Option ℕ) (front : List Entry) (values : List Value) (n : ℕ) (value : Value) (fault : SuppressFault) → n < length values → value ≡ slice_index_or values n value → entry_of version today n (view value) ≡ Err fault → joined front (entries_from version today n (map view (drop n values))) ≡ Err fault
+pub stops : (version : Version) (today : Option ℕ) (front : List Entry) (values : List Value) (n : ℕ) (value : Value) (fault : FileFault) → n < length values → value ≡ slice_index_or values n value → entry_of version today n (view value) ≡ Err fault → joined front (entries_from version today n (map view (drop n values))) ≡ Err fault
 unfolding entries_from
 stops version today front values n value fault within is read =
     let split : drop n values ≡ value ∷ drop (n + 1) values = left_of values n value within is in

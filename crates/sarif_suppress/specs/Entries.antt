@@ -9,10 +9,11 @@ use Rattle.sarif_model.specs.declared.kinds.Status.{Status}
 use Rattle.sarif_model.specs.declared.kinds.Status.TheVariants.{Accepted}
 use Rattle.sarif_suppress.specs.declared.conditions.Conditions.{Conditions}
 use Rattle.sarif_suppress.specs.declared.entry.Entry.{Entry}
-use Rattle.sarif_suppress.specs.declared.fault.SuppressFault.{SuppressFault}
-use Rattle.sarif_suppress.specs.declared.fault.SuppressFault.TheVariants.{BadEntry, EmptyMatch, NeedsToday}
+use Rattle.sarif_suppress.specs.declared.fault.FileFault.{FileFault}
+use Rattle.sarif_model.specs.declared.fault.Fault.TheVariants.{BadEntry, EmptyMatch, NeedsToday}
 use Rattle.sarif_suppress.specs.declared.version.Version.{Version}
 use Rattle.sarif_suppress.specs.declared.version.Version.TheVariants.{First, Second}
+use Rattle.sarif_suppress.specs.FileFault.{in_entry}
 use Rattle.sarif_suppress.specs.Matching.{is_any}
 
 -- an entry of the first version may have a member of that name
@@ -37,24 +38,24 @@ abbrev pub are_members_of : Version → Members → Bool
 are_members_of version no_members = true
 are_members_of version (member name d ms) = has_member version name && are_members_of version ms
 
-abbrev pub unless_fault : Bool → SuppressFault → Result ⊤ SuppressFault
+abbrev pub unless_fault : Bool → FileFault → Result ⊤ FileFault
 unless_fault true fault = Ok tt
 unless_fault false fault = Err fault
 
-abbrev pub check_object : Version → SuppressFault → Option Members → Result ⊤ SuppressFault
+abbrev pub check_object : Version → FileFault → Option Members → Result ⊤ FileFault
 check_object version wrong None = Err wrong
 check_object version wrong (Some ms) = unless_fault (are_members_of version ms) wrong
 
 -- an entry is an object of members that its version knows, whatever their values
-abbrev pub check_members : Version → SuppressFault → Data → Result ⊤ SuppressFault
+abbrev pub check_members : Version → FileFault → Data → Result ⊤ FileFault
 check_members version wrong d = check_object version wrong (as_object d)
 
-abbrev pub guid_or : SuppressFault → Option (List ℕ) → Result (Option ℕ) SuppressFault
+abbrev pub guid_or : FileFault → Option (List ℕ) → Result (Option ℕ) FileFault
 guid_or wrong None = Ok None
 guid_or wrong (Some text) = or_wrong wrong (guid_of_text text)
 
 -- the guid of that name, where there is one
-abbrev pub guid_at : SuppressFault → List ℕ → Data → Result (Option ℕ) SuppressFault
+abbrev pub guid_at : FileFault → List ℕ → Data → Result (Option ℕ) FileFault
 guid_at wrong name d = text_at wrong name d >>= guid_or wrong
 
 abbrev pub is_text_or_null : Data → Bool
@@ -78,18 +79,18 @@ abbrev pub pairs_of : Members → List (List ℕ × List ℕ)
 pairs_of no_members = []
 pairs_of (member name d ms) = with_pair name (as_str d) (pairs_of ms)
 
-abbrev pub pairs_or : SuppressFault → Option Members
-    → Result (List (List ℕ × List ℕ)) SuppressFault
+abbrev pub pairs_or : FileFault → Option Members
+    → Result (List (List ℕ × List ℕ)) FileFault
 pairs_or wrong None = Err wrong
 pairs_or wrong (Some ms) = if are_texts ms then Ok (pairs_of ms) else Err wrong
 
-abbrev pub pairs_of_member : SuppressFault → Option Data
-    → Result (List (List ℕ × List ℕ)) SuppressFault
+abbrev pub pairs_of_member : FileFault → Option Data
+    → Result (List (List ℕ × List ℕ)) FileFault
 pairs_of_member wrong None = Ok []
 pairs_of_member wrong (Some d) = pairs_or wrong (as_object d)
 
 -- the object of texts of that name, without its null members; absent it is empty
-abbrev pub pairs_at : SuppressFault → List ℕ → Data → Result (List (List ℕ × List ℕ)) SuppressFault
+abbrev pub pairs_at : FileFault → List ℕ → Data → Result (List (List ℕ × List ℕ)) FileFault
 pairs_at wrong name d = pairs_of_member wrong (member_at name d)
 
 abbrev pub is_within : ℕ → ℕ → ℕ → Bool
@@ -100,32 +101,32 @@ abbrev pub is_day : ℕ → Bool
 is_day n =
     is_within 10000101 99991231 n && (is_within 1 12 (n / 100 % 100) && is_within 1 31 (n % 100))
 
-abbrev pub day_or : SuppressFault → Option ℕ → Result (Option ℕ) SuppressFault
+abbrev pub day_or : FileFault → Option ℕ → Result (Option ℕ) FileFault
 day_or wrong None = Err wrong
 day_or wrong (Some n) = if is_day n then Ok (Some n) else Err wrong
 
-abbrev pub day_of_member : SuppressFault → Option Data → Result (Option ℕ) SuppressFault
+abbrev pub day_of_member : FileFault → Option Data → Result (Option ℕ) FileFault
 day_of_member wrong None = Ok None
 day_of_member wrong (Some d) = day_or wrong (option_and_then as_u64 (as_number d))
 
 -- the day of that name, where there is one
-abbrev pub day_at : SuppressFault → List ℕ → Data → Result (Option ℕ) SuppressFault
+abbrev pub day_at : FileFault → List ℕ → Data → Result (Option ℕ) FileFault
 day_at wrong name d = day_of_member wrong (member_at name d)
 
-abbrev pub status_of_name : SuppressFault → Option Status → Result Status SuppressFault
+abbrev pub status_of_name : FileFault → Option Status → Result Status FileFault
 status_of_name wrong None = Err wrong
 status_of_name wrong (Some status) = Ok status
 
-abbrev pub status_or : SuppressFault → Option (List ℕ) → Result Status SuppressFault
+abbrev pub status_or : FileFault → Option (List ℕ) → Result Status FileFault
 status_or wrong None = Ok Accepted
 status_or wrong (Some text) = status_of_name wrong (status_named text)
 
 -- the status of that name; absent it is `accepted`
-abbrev pub status_at : SuppressFault → List ℕ → Data → Result Status SuppressFault
+abbrev pub status_at : FileFault → List ℕ → Data → Result Status FileFault
 status_at wrong name d = text_at wrong name d >>= status_or wrong
 
 -- the conditions that an entry names
-unfoldable pub conditions_of : SuppressFault → Data → Result Conditions SuppressFault
+unfoldable pub conditions_of : FileFault → Data → Result Conditions FileFault
 conditions_of wrong d = do
   tool ← text_at wrong (codes "tool") d
   rule_id ← text_at wrong (codes "ruleId") d
@@ -145,7 +146,7 @@ conditions_of wrong d = do
   })
 
 -- the members of an entry, each of its kind or null
-unfoldable pub members_of : SuppressFault → Data → Result Entry SuppressFault
+unfoldable pub members_of : FileFault → Data → Result Entry FileFault
 members_of wrong d = do
   conditions ← conditions_of wrong d
   expires ← day_at wrong (codes "expires") d
@@ -159,18 +160,18 @@ members_of wrong d = do
   })
 
 -- an entry names at least one condition
-abbrev pub check_condition : ℕ → Entry → Result ⊤ SuppressFault
-check_condition n e = unless_fault (is_any e.conditions) (EmptyMatch n)
+abbrev pub check_condition : ℕ → Entry → Result ⊤ FileFault
+check_condition n e = unless_fault (is_any e.conditions) (in_entry n EmptyMatch)
 
 -- where an entry has a last day, the day is known
-abbrev pub check_today : ℕ → Option ℕ → Entry → Result ⊤ SuppressFault
-check_today n today e = unless_fault (not (is_some e.expires && is_none today)) (NeedsToday n)
+abbrev pub check_today : ℕ → Option ℕ → Entry → Result ⊤ FileFault
+check_today n today e = unless_fault (not (is_some e.expires && is_none today)) (in_entry n NeedsToday)
 
 -- entry n of a file of that version, on that day
-unfoldable pub entry_of : Version → Option ℕ → ℕ → Data → Result Entry SuppressFault
+unfoldable pub entry_of : Version → Option ℕ → ℕ → Data → Result Entry FileFault
 entry_of version today n d = do
-  _ ← check_members version (BadEntry n) d
-  e ← members_of (BadEntry n) d
+  _ ← check_members version (in_entry n BadEntry) d
+  e ← members_of (in_entry n BadEntry) d
   _ ← check_condition n e
   _ ← check_today n today e
   Ok e

@@ -6,10 +6,11 @@ use Rattle.sarif_model.specs.Members.{◌>>=◌, elements}
 use Rattle.json_parts.specs.Mark.{without_mark}
 use Rattle.json_parts.specs.Indexed.{json_of}
 use Rattle.sarif_suppress.specs.declared.entry.Entry.{Entry}
-use Rattle.sarif_suppress.specs.declared.fault.SuppressFault.{SuppressFault}
-use Rattle.sarif_suppress.specs.declared.fault.SuppressFault.TheVariants.{NotJson, NotList, WrongVersion, TooMany}
+use Rattle.sarif_suppress.specs.declared.fault.FileFault.{FileFault}
+use Rattle.sarif_model.specs.declared.fault.Fault.TheVariants.{NotJson, NotList, WrongVersion, TooMany}
 use Rattle.sarif_suppress.specs.declared.version.Version.{Version}
 use Rattle.sarif_suppress.specs.declared.version.Version.TheVariants.{First, Second}
+use Rattle.sarif_suppress.specs.FileFault.{whole}
 use Rattle.sarif_suppress.specs.Entries.{unless_fault, entry_of}
 
 -- the entries of a suppression file in order, and the day for which it was read, where one is known
@@ -17,31 +18,31 @@ pub record File : Type 0 where
   pub entries : List Entry
   pub today : Option ℕ
 
-abbrev pub list_or : Option Items → Result (List Data) SuppressFault
-list_or None = Err NotList
+abbrev pub list_or : Option Items → Result (List Data) FileFault
+list_or None = Err (whole NotList)
 list_or (Some ds) = Ok (elements ds)
 
 -- the file is an object with an array `suppressions`
-abbrev pub check_list : Data → Result (List Data) SuppressFault
+abbrev pub check_list : Data → Result (List Data) FileFault
 check_list d = list_or (option_and_then as_array (get (codes "suppressions") d))
 
-abbrev pub version_or : Option ℕ → Result Version SuppressFault
-version_or None = Err WrongVersion
+abbrev pub version_or : Option ℕ → Result Version FileFault
+version_or None = Err (whole WrongVersion)
 version_or (Some n) =
-    if nat_eq n 1 then Ok First else (if nat_eq n 2 then Ok Second else Err WrongVersion)
+    if nat_eq n 1 then Ok First else (if nat_eq n 2 then Ok Second else Err (whole WrongVersion))
 
 -- `version` is the whole number 1 or 2
-abbrev pub check_version : Data → Result Version SuppressFault
+abbrev pub check_version : Data → Result Version FileFault
 check_version d =
     version_or (option_and_then as_u64 (option_and_then as_number (get (codes "version") d)))
 
 -- at most 10,000 entries
-abbrev pub check_count : List Data → Result ⊤ SuppressFault
-check_count ds = unless_fault (nat_le (length ds) 10000) TooMany
+abbrev pub check_count : List Data → Result ⊤ FileFault
+check_count ds = unless_fault (nat_le (length ds) 10000) (whole TooMany)
 
 -- the entries from number n on, or the fault of the first that has one
 unfoldable pub entries_from : Version → Option ℕ → ℕ → List Data
-    → Result (List Entry) SuppressFault
+    → Result (List Entry) FileFault
 entries_from version today n [] = Ok []
 entries_from version today n (d ∷ ds) = do
   e ← entry_of version today n d
@@ -49,7 +50,7 @@ entries_from version today n (d ∷ ds) = do
   Ok (e ∷ es)
 
 -- the file that a value stands for
-unfoldable pub file_of_value : Option ℕ → Data → Result File SuppressFault
+unfoldable pub file_of_value : Option ℕ → Data → Result File FileFault
 file_of_value today d = do
   ds ← check_list d
   version ← check_version d
@@ -57,12 +58,12 @@ file_of_value today d = do
   es ← entries_from version today 0 ds
   Ok (record { entries = es; today = today })
 
-abbrev pub value_or : Option Data → Result Data SuppressFault
-value_or None = Err NotJson
+abbrev pub value_or : Option Data → Result Data FileFault
+value_or None = Err (whole NotJson)
 value_or (Some d) = Ok d
 
 -- the suppression file of these bytes, on that day
-unfoldable pub file_of : List ℕ → Option ℕ → Result File SuppressFault
+unfoldable pub file_of : List ℕ → Option ℕ → Result File FileFault
 file_of bytes today = do
   d ← value_or (json_of (without_mark bytes))
   file_of_value today d

@@ -1,19 +1,25 @@
--- Why a merge is refused: the causes behind the faults of the layers below, and the program's status.
-use Rattle.sarif_suppress.specs.declared.fault.SuppressFault.{SuppressFault}
-use Rattle.sarif_model.specs.declared.merge_fault.At.TheVariants.{Whole, Entry}
-use Rattle.sarif_model.specs.declared.merge_fault.Cause.TheVariants.{NotJson, WrongVersion, TooMany, NotList, BadEntry, EmptyMatch, NeedsToday, OutOfMemory}
+-- The errors of a suppression file, and where they are.
+use Rattle.std.specs.Prelude.{ℕ, Option, Some, None}
+use Rattle.sarif_model.specs.declared.fault.Fault.{Fault}
 use Rattle.sarif_model.specs.declared.merge_fault.MergeFault.{MergeFault}
+use Rattle.sarif_model.specs.declared.merge_fault.At.{At}
+use Rattle.sarif_model.specs.declared.merge_fault.At.TheVariants.{Whole, Entry}
 use Rattle.sarif_model.specs.declared.merge_fault.Source.TheVariants.{Suppress}
-use Rattle.sarif_model.specs.MergeFault.{fault_at}
-use Rattle.sarif_suppress.specs.declared.fault.SuppressFault.TheVariants as file
+use Rattle.sarif_model.specs.MergeFault.{cause_of, fault_at}
+use Rattle.sarif_suppress.specs.declared.fault.FileFault.{FileFault}
 
--- a fault of the suppression file with its place
-abbrev pub fault_of_file : SuppressFault → MergeFault
-fault_of_file file.NotJson = fault_at (Whole Suppress) NotJson
-fault_of_file file.NotList = fault_at (Whole Suppress) NotList
-fault_of_file file.WrongVersion = fault_at (Whole Suppress) WrongVersion
-fault_of_file (file.BadEntry n) = fault_at (Entry n) BadEntry
-fault_of_file (file.EmptyMatch n) = fault_at (Entry n) EmptyMatch
-fault_of_file file.TooMany = fault_at (Whole Suppress) TooMany
-fault_of_file file.OutOfMemory = fault_at (Whole Suppress) OutOfMemory
-fault_of_file (file.NeedsToday n) = fault_at (Entry n) NeedsToday
+-- an error of the whole file
+abbrev pub whole : Fault → FileFault
+whole fault = record { entry = None; fault = fault }
+
+-- an error of entry n
+abbrev pub in_entry : ℕ → Fault → FileFault
+in_entry n fault = record { entry = Some n; fault = fault }
+
+abbrev pub place_of_entry : Option ℕ → At
+place_of_entry None = Whole Suppress
+place_of_entry (Some n) = Entry n
+
+-- an error of the suppression file with its place
+abbrev pub fault_of_file : FileFault → MergeFault
+fault_of_file found = fault_at (place_of_entry found.entry) (cause_of found.fault)

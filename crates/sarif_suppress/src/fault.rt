@@ -1,54 +1,68 @@
-//! Why a suppression file is refused.
+//! The errors of a suppression file.
 ghost use Rattle.std.specs.Prelude.{◌≡◌};
+ghost use Rattle.sarif_suppress.specs.FileFault.{whole, in_entry, fault_of_file};
+ghost use Rattle.sarif_model.specs.declared.refusal.Refusal.TheVariants as refusal;
 
-use std::alloc::{AllocError, AllocFailed};
-use thiserror::Error;
+use sarif_model::{At, Cause, Fault, MergeFault, Refusal, Source};
+use std::fmt;
 
-/// The first thing that is wrong with a suppression file. Entries are counted from 0.
-#[derive(Clone, Copy, Debug, PartialEq, Eq, Error)]
-pub enum SuppressFault {
-    /// The bytes are not UTF-8, not JSON, or nested more than 127 deep.
-    #[error("NotJson")]
-    NotJson,
-    /// The value is no object with an array `suppressions`.
-    #[error("NotList")]
-    NotList,
-    /// `version` is neither the whole number 1 nor 2.
-    #[error("WrongVersion")]
-    WrongVersion,
-    /// The entry is no object, has a member that its version doesn't know, or one of a wrong kind.
-    #[error("entry {0}: BadEntry")]
-    BadEntry(u32),
-    /// The entry names no condition.
-    #[error("entry {0}: EmptyMatch")]
-    EmptyMatch(u32),
-    /// More than 10,000 entries.
-    #[error("TooMany")]
-    TooMany,
-    /// Memory was wanting.
-    #[error("OutOfMemory")]
-    OutOfMemory,
-    /// The entry has a last day, and the day of the merge isn't known.
-    #[error("entry {0}: NeedsToday")]
-    NeedsToday(u32),
+/// The first error of a suppression file.
+#[derive(Clone, Copy, Debug, PartialEq, Eq)]
+pub struct FileFault {
+    /// The number of the entry with the error, from 0; `None` for an error of the whole file.
+    pub entry: Option<u32>,
+    /// What is wrong.
+    pub fault: Fault,
 }
 
-impl From<AllocError> for SuppressFault {
-    ghost use Rattle.sarif_suppress.specs.declared.fault.SuppressFault.TheVariants.{OutOfMemory};
-
-    ghost from_gives = { λ _ fault. fault ≡ OutOfMemory };
-
-    fn from(_error: AllocError) -> SuppressFault {
-        SuppressFault::OutOfMemory
+impl FileFault {
+    /// Returns the error of this entry.
+    pub(crate) fn in_entry(number: u32, fault: Fault) -> FileFault
+        ensures { result ≡ in_entry number fault }
+    {
+        FileFault {
+            entry: Some(number),
+            fault,
+        }
     }
 }
 
-impl<T: Drop> From<AllocFailed<T>> for SuppressFault {
-    ghost use Rattle.sarif_suppress.specs.declared.fault.SuppressFault.TheVariants.{OutOfMemory};
+impl From<Fault> for FileFault {
+    ghost from_gives = { λ fault found. found ≡ whole fault };
 
-    ghost from_gives = { λ _ fault. fault ≡ OutOfMemory };
-
-    fn from(_error: AllocFailed<T>) -> SuppressFault {
-        SuppressFault::OutOfMemory
+    fn from(fault: Fault) -> FileFault {
+        FileFault { entry: None, fault }
     }
 }
+
+impl From<FileFault> for Refusal<FileFault> {
+    ghost from_gives = { λ fault found. found ≡ refusal.Fault fault };
+
+    fn from(fault: FileFault) -> Refusal<FileFault> {
+        Refusal::Fault(fault)
+    }
+}
+
+impl From<FileFault> for MergeFault {
+    ghost from_gives = { λ fault found. found ≡ fault_of_file fault };
+
+    fn from(fault: FileFault) -> MergeFault {
+        let at = match fault.entry {
+            Some(number) => At::Entry(number),
+            None => At::Whole(Source::Suppress),
+        };
+        MergeFault::found(at, Cause::Of(fault.fault))
+    }
+}
+
+impl fmt::Display for FileFault {
+    fn fmt<W: fmt::Write>(&self, f: &mut fmt::Formatter<W>) -> fmt::Result {
+        let fault = self.fault;
+        match self.entry {
+            Some(number) => write!(f, "entry {number}: {fault}"),
+            None => write!(f, "{fault}"),
+        }
+    }
+}
+
+impl std::error::Error for FileFault {}

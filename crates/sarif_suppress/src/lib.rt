@@ -5,7 +5,6 @@
 mod conditions;
 mod entry;
 mod fault;
-mod file_fault;
 mod filing;
 mod key;
 mod laws;
@@ -23,7 +22,7 @@ mod version;
 
 pub use conditions::Conditions;
 pub use entry::Entry;
-pub use fault::SuppressFault;
+pub use fault::FileFault;
 pub use laws::{
     just_its_object_is_an_entrys, nothing_is_written_of_nothing, object_holds_no_fraction,
     written_passes_where_its_parts_do, written_suppressions_say_what_is_suppressed,

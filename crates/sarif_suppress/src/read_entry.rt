@@ -1,16 +1,17 @@
 //! Reading an entry of the suppression file. Each check says when it passes and else gives its
 //! fault.
-ghost use Rattle.std.specs.Prelude.{◌≡◌, option_map, Ok, Err, IfOk, IfErr};
+ghost use Rattle.std.specs.Prelude.{◌≡◌, option_map, Ok, Err, IfOk};
 ghost use Rattle.serde_json.specs.View.{view, members_view};
 ghost use Rattle.sarif_model.specs.Members as told;
+ghost use Rattle.sarif_model.specs.Refusal.{IfFault};
 ghost use Rattle.sarif_suppress.specs.Entries as said;
 
 use crate::conditions::Conditions;
 use crate::entry::Entry;
-use crate::fault::SuppressFault;
+use crate::fault::FileFault;
 use crate::version::Version;
 use sarif_model::members::{member_at, text_at};
-use sarif_model::{Pairs, Sequence, Status, Text, read_guid};
+use sarif_model::{Fault, Pairs, Refusal, Sequence, Status, Text, read_guid};
 use serde_json::{Map, Value};
 use std::alloc::{AllocError, Global};
 
@@ -27,7 +28,7 @@ fn are_members_of(version: Version, members: &Map<String, Value>) -> bool
 }
 
 /// Passes an object whose members are all ones that the version knows; else `wrong`.
-fn check_members(version: Version, wrong: SuppressFault, entry: &Value) -> Result<(), SuppressFault>
+fn check_members(version: Version, wrong: FileFault, entry: &Value) -> Result<(), FileFault>
     ensures { result ≡ said.check_members version wrong (view entry.now) }
 {
     match entry.as_object() {
@@ -57,18 +58,18 @@ fn own_text_at(
     alloc: Global,
     entry: &Value,
     name: &str,
-    wrong: SuppressFault,
-) -> Result<Option<Text>, SuppressFault>
+    wrong: FileFault,
+) -> Result<Option<Text>, Refusal<FileFault>>
     ensures ok { IfOk result (λ text. told.text_at wrong name.now (view entry.now) ≡ Ok text) }
-    ensures err { IfErr result (λ fault. ¬ (fault ≡ SuppressFault.OutOfMemory)
-        → told.text_at wrong name.now (view entry.now) ≡ Err fault) }
+    ensures err { IfFault result
+        (λ fault. told.text_at wrong name.now (view entry.now) ≡ Err fault) }
 {
     let text = text_at(entry, name, wrong)?;
     Ok(copied(alloc, text)?)
 }
 
 /// The guid `name` of an entry.
-fn guid_at(entry: &Value, name: &str, wrong: SuppressFault) -> Result<Option<u128>, SuppressFault>
+fn guid_at(entry: &Value, name: &str, wrong: FileFault) -> Result<Option<u128>, FileFault>
     ensures { result ≡ said.guid_at wrong name.now (view entry.now) }
 {
     match text_at(entry, name, wrong)? {
@@ -111,11 +112,11 @@ fn pairs_at(
     alloc: Global,
     entry: &Value,
     name: &str,
-    wrong: SuppressFault,
-) -> Result<Pairs, SuppressFault>
+    wrong: FileFault,
+) -> Result<Pairs, Refusal<FileFault>>
     ensures ok { IfOk result (λ pairs. said.pairs_at wrong name.now (view entry.now) ≡ Ok pairs) }
-    ensures err { IfErr result (λ fault. ¬ (fault ≡ SuppressFault.OutOfMemory)
-        → said.pairs_at wrong name.now (view entry.now) ≡ Err fault) }
+    ensures err { IfFault result
+        (λ fault. said.pairs_at wrong name.now (view entry.now) ≡ Err fault) }
 {
     match member_at(entry, name) {
         None => Ok(Sequence::new(alloc)),
@@ -124,10 +125,10 @@ fn pairs_at(
                 if are_texts(members) {
                     Ok(pairs_of(alloc, members)?)
                 } else {
-                    Err(wrong)
+                    Err(Refusal::Fault(wrong))
                 }
             }
-            None => Err(wrong),
+            None => Err(Refusal::Fault(wrong)),
         },
     }
 }
@@ -148,7 +149,7 @@ fn is_day(number: u64) -> bool
 }
 
 /// The day `name` of an entry.
-fn day_at(entry: &Value, name: &str, wrong: SuppressFault) -> Result<Option<u32>, SuppressFault>
+fn day_at(entry: &Value, name: &str, wrong: FileFault) -> Result<Option<u32>, FileFault>
     ensures { result ≡ said.day_at wrong name.now (view entry.now) }
 {
     match member_at(entry, name) {
@@ -167,7 +168,7 @@ fn day_at(entry: &Value, name: &str, wrong: SuppressFault) -> Result<Option<u32>
 }
 
 /// The status `name` of an entry; absent it is `accepted`.
-fn status_at(entry: &Value, name: &str, wrong: SuppressFault) -> Result<Status, SuppressFault>
+fn status_at(entry: &Value, name: &str, wrong: FileFault) -> Result<Status, FileFault>
     ensures { result ≡ said.status_at wrong name.now (view entry.now) }
 {
     match text_at(entry, name, wrong)? {
@@ -181,12 +182,11 @@ fn status_at(entry: &Value, name: &str, wrong: SuppressFault) -> Result<Status, 
 fn conditions_of(
     alloc: Global,
     entry: &Value,
-    wrong: SuppressFault,
-) -> Result<Conditions, SuppressFault>
+    wrong: FileFault,
+) -> Result<Conditions, Refusal<FileFault>>
     ensures ok { IfOk result
         (λ conditions. said.conditions_of wrong (view entry.now) ≡ Ok conditions) }
-    ensures err { IfErr result (λ fault. ¬ (fault ≡ SuppressFault.OutOfMemory)
-        → said.conditions_of wrong (view entry.now) ≡ Err fault) }
+    ensures err { IfFault result (λ fault. said.conditions_of wrong (view entry.now) ≡ Err fault) }
 {
     let tool = own_text_at(alloc, entry, "tool", wrong)?;
     let rule_id = own_text_at(alloc, entry, "ruleId", wrong)?;
@@ -208,10 +208,9 @@ fn conditions_of(
 
 /// The entry, whose members are all known.
 #[tactic(auto, unfolding(crate::specs::Entries::members_of))]
-fn members_of(alloc: Global, entry: &Value, wrong: SuppressFault) -> Result<Entry, SuppressFault>
+fn members_of(alloc: Global, entry: &Value, wrong: FileFault) -> Result<Entry, Refusal<FileFault>>
     ensures ok { IfOk result (λ read. said.members_of wrong (view entry.now) ≡ Ok read) }
-    ensures err { IfErr result (λ fault. ¬ (fault ≡ SuppressFault.OutOfMemory)
-        → said.members_of wrong (view entry.now) ≡ Err fault) }
+    ensures err { IfFault result (λ fault. said.members_of wrong (view entry.now) ≡ Err fault) }
 {
     let conditions = conditions_of(alloc, entry, wrong)?;
     let expires = day_at(entry, "expires", wrong)?;
@@ -226,22 +225,22 @@ fn members_of(alloc: Global, entry: &Value, wrong: SuppressFault) -> Result<Entr
 }
 
 /// Passes an entry that names a condition.
-fn check_condition(number: u32, entry: &Entry) -> Result<(), SuppressFault>
+fn check_condition(number: u32, entry: &Entry) -> Result<(), FileFault>
     ensures { result ≡ said.check_condition number entry.now }
 {
     if entry.conditions.is_any() {
         Ok(())
     } else {
-        Err(SuppressFault::EmptyMatch(number))
+        Err(FileFault::in_entry(number, Fault::EmptyMatch))
     }
 }
 
 /// Passes an entry without a last day, and every entry where the day is known.
-fn check_today(number: u32, today: Option<u32>, entry: &Entry) -> Result<(), SuppressFault>
+fn check_today(number: u32, today: Option<u32>, entry: &Entry) -> Result<(), FileFault>
     ensures { result ≡ said.check_today number today entry.now }
 {
     if entry.expires.is_some() && today.is_none() {
-        Err(SuppressFault::NeedsToday(number))
+        Err(FileFault::in_entry(number, Fault::NeedsToday))
     } else {
         Ok(())
     }
@@ -255,14 +254,14 @@ pub(crate) fn read_entry(
     today: Option<u32>,
     number: u32,
     entry: &Value,
-) -> Result<Entry, SuppressFault>
+) -> Result<Entry, Refusal<FileFault>>
     ensures ok { IfOk result
         (λ read. said.entry_of version today number (view entry.now) ≡ Ok read) }
-    ensures err { IfErr result (λ fault. ¬ (fault ≡ SuppressFault.OutOfMemory)
-        → said.entry_of version today number (view entry.now) ≡ Err fault) }
+    ensures err { IfFault result
+        (λ fault. said.entry_of version today number (view entry.now) ≡ Err fault) }
 {
-    check_members(version, SuppressFault::BadEntry(number), entry)?;
-    let entry = members_of(alloc, entry, SuppressFault::BadEntry(number))?;
+    check_members(version, FileFault::in_entry(number, Fault::BadEntry), entry)?;
+    let entry = members_of(alloc, entry, FileFault::in_entry(number, Fault::BadEntry))?;
     check_condition(number, &entry)?;
     check_today(number, today, &entry)?;
     Ok(entry)

@@ -1,16 +1,19 @@
 //! Reading the suppression file: first its form, and then its entries one after another.
-ghost use Rattle.std.specs.Prelude.{◌≡◌, ◌≤◌, length, map, Ok, Err, Some, None, IfOk, IfErr, OnOk};
+ghost use Rattle.std.specs.Prelude.{◌≡◌, ◌≤◌, length, map, Ok, Err, Some, None, IfOk, OnOk};
 ghost use Rattle.serde_json.specs.View.{view};
 ghost use Rattle.sarif_model.specs.Members.{result_map};
 ghost use Rattle.json_parts.specs.Indexed.{json_of};
+ghost use Rattle.sarif_model.specs.Refusal.{IfFault};
+ghost use Rattle.sarif_suppress.specs.FileFault.{whole};
 ghost use Rattle.sarif_suppress.specs.File as said;
 
 use crate::entry::Entry;
-use crate::fault::SuppressFault;
+use crate::fault::FileFault;
 use crate::read_entry::read_entry;
 use crate::suppressions::Suppressions;
 use crate::version::Version;
 use json_parts::without_mark;
+use sarif_model::{Fault, Refusal};
 use serde_json::Value;
 use std::alloc::Global;
 use std::hash::{BuildHasher, BuildHasherDefault, FoldHasher};
@@ -20,35 +23,35 @@ const MOST_ENTRIES: usize = 10_000;
 
 /// Passes an object with an array `suppressions`, and gives its elements.
 #[tactic(auto, using(sarif_model::proofs::Elements::elements_items_view))]
-fn check_list(file: &Value) -> Result<&[Value], SuppressFault>
+fn check_list(file: &Value) -> Result<&[Value], FileFault>
     ensures { result_map (λ vs. map view vs.now) result ≡ said.check_list (view file.now) }
 {
     match file.get("suppressions").and_then(Value::as_array) {
         Some(entries) => Ok(entries.as_slice()),
-        None => Err(SuppressFault::NotList),
+        None => Err(FileFault::from(Fault::NotList)),
     }
 }
 
 /// Passes a file whose `version` is 1 or 2, and gives it.
-fn check_version(file: &Value) -> Result<Version, SuppressFault>
+fn check_version(file: &Value) -> Result<Version, FileFault>
     ensures { result ≡ said.check_version (view file.now) }
 {
     match file.get("version").and_then(Value::as_u64) {
         Some(1) => Ok(Version::First),
         Some(2) => Ok(Version::Second),
-        _ => Err(SuppressFault::WrongVersion),
+        _ => Err(FileFault::from(Fault::WrongVersion)),
     }
 }
 
 /// Passes a list of at most 10,000 entries.
-fn check_count(entries: &[Value]) -> Result<(), SuppressFault>
+fn check_count(entries: &[Value]) -> Result<(), FileFault>
     ensures passes { result ≡ said.check_count (map view entries.now) }
     ensures few { OnOk result (length entries.now ≤ 10000) }
 {
     if entries.len() <= MOST_ENTRIES {
         Ok(())
     } else {
-        Err(SuppressFault::TooMany)
+        Err(FileFault::from(Fault::TooMany))
     }
 }
 
@@ -59,13 +62,13 @@ fn read_entries(
     version: Version,
     today: Option<u32>,
     values: &[Value],
-) -> Result<Vec<Entry>, SuppressFault>
+) -> Result<Vec<Entry>, Refusal<FileFault>>
     requires { length values.now ≤ 10000 }
     ensures few { IfOk result (λ entries. length entries.items ≤ 10000) }
     ensures ok { IfOk result (λ entries. said.entries_from version today 0 (map view values.now)
         ≡ Ok entries.items) }
-    ensures err { IfErr result (λ fault. ¬ (fault ≡ SuppressFault.OutOfMemory)
-        → said.entries_from version today 0 (map view values.now) ≡ Err fault) }
+    ensures err { IfFault result
+        (λ fault. said.entries_from version today 0 (map view values.now) ≡ Err fault) }
 {
     let mut entries = Vec::new(alloc);
     for (number, value) in values.iter().enumerate() {
@@ -76,18 +79,18 @@ fn read_entries(
 
 /// The JSON value of `bytes`.
 #[tactic(auto, using(json_parts::proofs::Utf8::json_of_read, json_parts::proofs::Utf8::json_of_refused))]
-fn read_json(alloc: Global, bytes: &[u8]) -> Result<Value, SuppressFault>
+fn read_json(alloc: Global, bytes: &[u8]) -> Result<Value, Refusal<FileFault>>
     ensures ok { IfOk result (λ v. json_of bytes.now ≡ Some (view v)) }
-    ensures err { IfErr result (λ fault. ¬ (fault ≡ SuppressFault.OutOfMemory)
-        → (fault ≡ SuppressFault.NotJson) × (json_of bytes.now ≡ None)) }
+    ensures err { IfFault result
+        (λ fault. (fault ≡ whole Fault.NotJson) × (json_of bytes.now ≡ None)) }
 {
     match Value::from_slice(alloc, bytes) {
         Ok(value) => Ok(value),
         Err(error) => {
             if error.is_memory() {
-                Err(SuppressFault::OutOfMemory)
+                Err(Refusal::OutOfMemory)
             } else {
-                Err(SuppressFault::NotJson)
+                Err(Refusal::Fault(FileFault::from(Fault::NotJson)))
             }
         }
     }
@@ -100,10 +103,9 @@ fn read_value<S: BuildHasher + Copy>(
     hasher: S,
     value: &Value,
     today: Option<u32>,
-) -> Result<Suppressions<S>, SuppressFault>
+) -> Result<Suppressions<S>, Refusal<FileFault>>
     ensures ok { IfOk result (λ file. said.file_of_value today (view value.now) ≡ Ok file) }
-    ensures err { IfErr result (λ fault. ¬ (fault ≡ SuppressFault.OutOfMemory)
-        → said.file_of_value today (view value.now) ≡ Err fault) }
+    ensures err { IfFault result (λ fault. said.file_of_value today (view value.now) ≡ Err fault) }
 {
     let values = check_list(value)?;
     let version = check_version(value)?;
@@ -124,10 +126,9 @@ pub fn read_rules(
     alloc: Global,
     bytes: &[u8],
     today: Option<u32>,
-) -> Result<Suppressions<BuildHasherDefault<FoldHasher>>, SuppressFault>
+) -> Result<Suppressions<BuildHasherDefault<FoldHasher>>, Refusal<FileFault>>
     ensures ok { IfOk result (λ file. said.file_of bytes.now today ≡ Ok file) }
-    ensures err { IfErr result (λ fault. ¬ (fault ≡ SuppressFault.OutOfMemory)
-        → said.file_of bytes.now today ≡ Err fault) }
+    ensures err { IfFault result (λ fault. said.file_of bytes.now today ≡ Err fault) }
 {
     let hasher = BuildHasherDefault::<FoldHasher>::new();
     read_rules_with(alloc, hasher, bytes, today)
@@ -144,10 +145,9 @@ pub fn read_rules_with<S: BuildHasher + Copy>(
     hasher: S,
     bytes: &[u8],
     today: Option<u32>,
-) -> Result<Suppressions<S>, SuppressFault>
+) -> Result<Suppressions<S>, Refusal<FileFault>>
     ensures ok { IfOk result (λ file. said.file_of bytes.now today ≡ Ok file) }
-    ensures err { IfErr result (λ fault. ¬ (fault ≡ SuppressFault.OutOfMemory)
-        → said.file_of bytes.now today ≡ Err fault) }
+    ensures err { IfFault result (λ fault. said.file_of bytes.now today ≡ Err fault) }
 {
     let value = read_json(alloc, without_mark(bytes))?;
     read_value(alloc, hasher, &value, today)

@@ -7,8 +7,8 @@ mod files;
 mod objects;
 mod prefixes;
 
-use sarif_model::{Kind, Level, Message, Place, Record, Sequence, Status, Text};
-use sarif_suppress::{SuppressFault, Suppressions, read_rules};
+use sarif_model::{Fault, Kind, Level, Message, Place, Record, Refusal, Sequence, Status, Text};
+use sarif_suppress::{FileFault, Suppressions, read_rules};
 use serde_json::Value;
 use std::alloc::{AllocError, Global};
 use std::hash::{BuildHasherDefault, FoldHasher};
@@ -63,7 +63,7 @@ fn text_of(alloc: Global, file: FileText) -> Result<String, AllocError> {
 }
 
 /// The file, read.
-fn rules_of(alloc: Global, file: FileText) -> Result<Plain, SuppressFault> {
+fn rules_of(alloc: Global, file: FileText) -> Result<Plain, Refusal<FileFault>> {
     let text = text_of(alloc, file)?;
     read_rules(alloc, text.as_str().as_bytes(), file.today)
 }
@@ -97,7 +97,7 @@ fn asked_of<A, Ask: FnOnce(&Plain) -> Result<A, AllocError>>(
     alloc: Global,
     file: FileText,
     ask: Ask,
-) -> Result<A, SuppressFault>
+) -> Result<A, Refusal<FileFault>>
     requires { Ask.IsAlwaysCallable ask }
 {
     let rules = rules_of(alloc, file)?;
@@ -112,23 +112,34 @@ fn outcome_of(
     file: FileText,
     finding: &Record,
     own: &str,
-) -> Result<Outcome, SuppressFault> {
+) -> Result<Outcome, Refusal<FileFault>> {
     asked_of(alloc, file, |rules| outcome_by(alloc, rules, finding, own))
 }
 
+/// The refusal for a fault of no entry.
+fn whole(fault: Fault) -> Refusal<FileFault> {
+    Refusal::Fault(FileFault::from(fault))
+}
+
+/// The refusal for a fault of that entry.
+fn in_entry(number: u32, fault: Fault) -> Refusal<FileFault> {
+    let entry = Some(number);
+    Refusal::Fault(FileFault { entry, fault })
+}
+
 /// The fault of these bytes, read for that day, if they have one.
-fn fault_of(alloc: Global, bytes: &[u8], today: Option<u32>) -> Option<SuppressFault> {
+fn fault_of(alloc: Global, bytes: &[u8], today: Option<u32>) -> Option<Refusal<FileFault>> {
     read_rules(alloc, bytes, today).err()
 }
 
 /// The fault of the file, if it has one.
-fn fault_of_text(alloc: Global, file: FileText) -> Result<Option<SuppressFault>, AllocError> {
+fn fault_of_text(alloc: Global, file: FileText) -> Result<Option<Refusal<FileFault>>, AllocError> {
     let text = text_of(alloc, file)?;
     Ok(fault_of(alloc, text.as_str().as_bytes(), file.today))
 }
 
 /// Whether each of these files has that fault, or none.
-fn all_files_have(alloc: Global, files: &[&str], fault: Option<SuppressFault>) -> bool {
+fn all_files_have(alloc: Global, files: &[&str], fault: Option<Refusal<FileFault>>) -> bool {
     for file in files {
         if fault_of(alloc, file.as_bytes(), None) != fault {
             return false;
@@ -143,7 +154,7 @@ fn all_entries_have(
     version: u32,
     lists: &[&str],
     today: Option<u32>,
-    fault: Option<SuppressFault>,
+    fault: Option<Refusal<FileFault>>,
 ) -> Result<bool, AllocError> {
     for entries in lists {
         let file = FileText {
@@ -159,7 +170,11 @@ fn all_entries_have(
 }
 
 /// How many entries of the file match none of the results.
-fn unused_of(alloc: Global, file: FileText, findings: &[Record]) -> Result<u32, SuppressFault> {
+fn unused_of(
+    alloc: Global,
+    file: FileText,
+    findings: &[Record],
+) -> Result<u32, Refusal<FileFault>> {
     asked_of(alloc, file, |rules| Ok(rules.unused(findings)))
 }
 

@@ -33,26 +33,30 @@ fn places_of_faults(rt: HostRuntime) -> Result<(), Fail> {
 #[test]
 fn causes_of_faults(rt: HostRuntime) -> Result<(), Fail> {
     for (cause, text, status) in [
-        (Cause::NotJson, "NotJson", 2),
-        (Cause::NotLog, "NotLog", 2),
-        (Cause::WrongVersion, "WrongVersion", 2),
-        (Cause::TooMany, "TooMany", 2),
-        (Cause::BadRun, "BadRun", 2),
-        (Cause::ExternalProperties, "ExternalProperties", 2),
-        (Cause::BadRules, "BadRules", 2),
-        (Cause::BadIndex, "BadIndex", 2),
-        (Cause::BadLevel, "BadLevel", 2),
-        (Cause::BadLocation, "BadLocation", 2),
-        (Cause::BadMember, "BadMember", 2),
-        (Cause::BadKind, "BadKind", 2),
-        (Cause::BadGuid, "BadGuid", 2),
-        (Cause::BadFingerprint, "BadFingerprint", 2),
-        (Cause::BadSuppression, "BadSuppression", 2),
-        (Cause::AbsentInput, "AbsentInput", 2),
-        (Cause::NotList, "NotList", 2),
-        (Cause::BadEntry, "BadEntry", 2),
-        (Cause::EmptyMatch, "EmptyMatch", 2),
-        (Cause::NeedsToday, "NeedsToday", 2),
+        (Cause::Of(Fault::NotJson), "NotJson", 2),
+        (Cause::Of(Fault::NotLog), "NotLog", 2),
+        (Cause::Of(Fault::WrongVersion), "WrongVersion", 2),
+        (Cause::Of(Fault::TooMany), "TooMany", 2),
+        (Cause::Of(Fault::BadRun), "BadRun", 2),
+        (
+            Cause::Of(Fault::ExternalProperties),
+            "ExternalProperties",
+            2,
+        ),
+        (Cause::Of(Fault::BadRules), "BadRules", 2),
+        (Cause::Of(Fault::BadIndex), "BadIndex", 2),
+        (Cause::Of(Fault::BadLevel), "BadLevel", 2),
+        (Cause::Of(Fault::BadLocation), "BadLocation", 2),
+        (Cause::Of(Fault::BadMember), "BadMember", 2),
+        (Cause::Of(Fault::BadKind), "BadKind", 2),
+        (Cause::Of(Fault::BadGuid), "BadGuid", 2),
+        (Cause::Of(Fault::BadFingerprint), "BadFingerprint", 2),
+        (Cause::Of(Fault::BadSuppression), "BadSuppression", 2),
+        (Cause::Of(Fault::AbsentInput), "AbsentInput", 2),
+        (Cause::Of(Fault::NotList), "NotList", 2),
+        (Cause::Of(Fault::BadEntry), "BadEntry", 2),
+        (Cause::Of(Fault::EmptyMatch), "EmptyMatch", 2),
+        (Cause::Of(Fault::NeedsToday), "NeedsToday", 2),
         (Cause::TooLong, "TooLong", 2),
         (Cause::ReadFailed, "ReadFailed", 3),
         (Cause::WriteFailed, "WriteFailed", 3),
@@ -73,7 +77,6 @@ fn want_of_memory_is_nowhere(rt: HostRuntime) {
     };
     assert_eq!(rt; MergeFault::from(AllocError), wanting);
     assert_eq!(rt; MergeFault::from(ReadersFault::OutOfMemory), wanting);
-    assert_eq!(rt; Cause::from(Fault::OutOfMemory), wanting.cause);
 }
 
 #[test]

@@ -1,5 +1,5 @@
 //! A result's own members, read from JSON text.
-use sarif_model::{Fault, Kind, Level, Message, Pairs, Status, Text};
+use sarif_model::{Fault, Kind, Level, Message, Pairs, Refusal, Status, Text};
 use sarif_read::read_log;
 use sarif_runs::{Parts, read_parts};
 use std::alloc::Global;
@@ -7,7 +7,7 @@ use std::process::Abort;
 use std::test::Fail;
 
 /// What `read_parts` answers for a result with this JSON text, once it is read and stripped.
-fn read(alloc: Global, text: &str) -> Result<Result<Parts, Fault>, Fail> {
+fn read(alloc: Global, text: &str) -> Result<Result<Parts, Refusal<Fault>>, Fail> {
     let run = format!(in alloc;
         "{{\"tool\":{{\"driver\":{{\"name\":\"lint\"}}}},\"results\":[{text}]}}"
     )?;
@@ -250,7 +250,11 @@ fn no_other_value_is_an_index(rt: HostRuntime) -> Result<(), Fail> {
 
 /// The fault for which a result is refused, where it is.
 fn fault_of(alloc: Global, text: &str) -> Result<Option<Fault>, Fail> {
-    Ok(read(alloc, text)?.err())
+    match read(alloc, text)? {
+        Ok(_) => Ok(None),
+        Err(Refusal::Fault(fault)) => Ok(Some(fault)),
+        Err(Refusal::OutOfMemory) => Err(Fail::new("OutOfMemory")),
+    }
 }
 
 #[test]

@@ -1,6 +1,6 @@
 //! Faults of the suppression file.
 use super::check;
-use sarif_model::{At, Cause, Source};
+use sarif_model::{At, Cause, Fault, Source};
 use std::test::Fail;
 
 const FILE: At = At::Whole(Source::Suppress);
@@ -9,7 +9,7 @@ const FILE: At = At::Whole(Source::Suppress);
 fn a_file_has_a_version_and_a_list_within_the_limit(rt: HostRuntime) -> Result<(), Fail> {
     for (cause, text, wanted) in [
         (
-            Cause::NotJson,
+            Cause::Of(Fault::NotJson),
             "{]",
             r#"  file: found.sarif
   line: 1
@@ -19,7 +19,7 @@ fn a_file_has_a_version_and_a_list_within_the_limit(rt: HostRuntime) -> Result<(
 "#,
         ),
         (
-            Cause::NotList,
+            Cause::Of(Fault::NotList),
             r#"{"version":1}"#,
             r#"  file: found.sarif
   where: 
@@ -29,7 +29,7 @@ fn a_file_has_a_version_and_a_list_within_the_limit(rt: HostRuntime) -> Result<(
 "#,
         ),
         (
-            Cause::WrongVersion,
+            Cause::Of(Fault::WrongVersion),
             r#"{"version":1.0,"suppressions":[]}"#,
             r#"  file: found.sarif
   where: /version
@@ -39,7 +39,7 @@ fn a_file_has_a_version_and_a_list_within_the_limit(rt: HostRuntime) -> Result<(
 "#,
         ),
         (
-            Cause::TooMany,
+            Cause::Of(Fault::TooMany),
             r#"{"version":1,"suppressions":[]}"#,
             r#"  file: found.sarif
   where: /suppressions
@@ -103,7 +103,14 @@ fn an_entry_has_the_members_of_its_version(rt: HostRuntime) -> Result<(), Fail> 
 "#,
         ),
     ] {
-        check(&rt, rt.alloc(), At::Entry(0), Cause::BadEntry, text, wanted)?;
+        check(
+            &rt,
+            rt.alloc(),
+            At::Entry(0),
+            Cause::Of(Fault::BadEntry),
+            text,
+            wanted,
+        )?;
     }
     Ok(())
 }
@@ -112,7 +119,7 @@ fn an_entry_has_the_members_of_its_version(rt: HostRuntime) -> Result<(), Fail> 
 fn an_entry_names_a_condition_and_may_need_the_day(rt: HostRuntime) -> Result<(), Fail> {
     for (cause, text, wanted) in [
         (
-            Cause::EmptyMatch,
+            Cause::Of(Fault::EmptyMatch),
             r#"{"version":2,"suppressions":[{"tool":"lint"},{"fingerprints":{"a":null}}]}"#,
             r#"  file: found.sarif
   where: /suppressions/1
@@ -122,7 +129,7 @@ fn an_entry_names_a_condition_and_may_need_the_day(rt: HostRuntime) -> Result<()
 "#,
         ),
         (
-            Cause::NeedsToday,
+            Cause::Of(Fault::NeedsToday),
             r#"{"version":2,"suppressions":[{"tool":"lint"},{"uri":"a.c","expires":20251231}]}"#,
             r#"  file: found.sarif
   where: /suppressions/1/expires

@@ -1,7 +1,7 @@
 //! Faults of whole logs, and those of no input.
 use super::check;
 use sarif_explain::{FaultSource, explanation};
-use sarif_model::{At, Cause, MergeFault, Source};
+use sarif_model::{At, Cause, Fault, MergeFault, Source};
 use std::test::Fail;
 
 const LOG: At = At::Whole(Source::Log(0));
@@ -28,7 +28,14 @@ fn json_tells_where_its_reading_stopped(rt: HostRuntime) -> Result<(), Fail> {
 "#,
         ),
     ] {
-        check(&rt, rt.alloc(), LOG, Cause::NotJson, text, wanted)?;
+        check(
+            &rt,
+            rt.alloc(),
+            LOG,
+            Cause::Of(Fault::NotJson),
+            text,
+            wanted,
+        )?;
     }
     Ok(())
 }
@@ -73,7 +80,7 @@ fn a_log_is_an_object_with_runs(rt: HostRuntime) -> Result<(), Fail> {
 "#,
         ),
     ] {
-        check(&rt, rt.alloc(), LOG, Cause::NotLog, text, wanted)?;
+        check(&rt, rt.alloc(), LOG, Cause::Of(Fault::NotLog), text, wanted)?;
     }
     Ok(())
 }
@@ -109,7 +116,14 @@ fn a_log_has_one_version(rt: HostRuntime) -> Result<(), Fail> {
 "#,
         ),
     ] {
-        check(&rt, rt.alloc(), LOG, Cause::WrongVersion, text, wanted)?;
+        check(
+            &rt,
+            rt.alloc(),
+            LOG,
+            Cause::Of(Fault::WrongVersion),
+            text,
+            wanted,
+        )?;
     }
     Ok(())
 }
@@ -132,9 +146,9 @@ fn limits_are_told(rt: HostRuntime) -> Result<(), Fail> {
 "#;
     let alloc = rt.alloc();
     let text = r#"{"version":"2.1.0","runs":[]}"#;
-    check(&rt, alloc, LOG, Cause::TooMany, text, runs)?;
+    check(&rt, alloc, LOG, Cause::Of(Fault::TooMany), text, runs)?;
     let past = At::Whole(Source::Log(1000));
-    check(&rt, alloc, past, Cause::TooMany, "", many)?;
+    check(&rt, alloc, past, Cause::Of(Fault::TooMany), "", many)?;
     check(&rt, alloc, LOG, Cause::TooLong, "[1,2", long)
 }
 

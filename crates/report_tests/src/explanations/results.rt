@@ -1,6 +1,6 @@
 //! Faults of results.
 use super::check;
-use sarif_model::{At, Cause, Source};
+use sarif_model::{At, Cause, Fault, Source};
 use std::alloc::Global;
 use std::process::Abort;
 use std::test::Fail;
@@ -32,14 +32,14 @@ fn a_guid_is_told_at_its_result(rt: HostRuntime) -> Result<(), Fail> {
   advice: report it to the makers of the analyser, or drop the member
 "#;
     let at = At::Single(Source::Log(0), 0, 7);
-    check(&rt, rt.alloc(), at, Cause::BadGuid, text, wanted)
+    check(&rt, rt.alloc(), at, Cause::Of(Fault::BadGuid), text, wanted)
 }
 
 #[test]
 fn state_kind_and_level_are_of_their_texts(rt: HostRuntime) -> Result<(), Fail> {
     for (cause, text, wanted) in [
         (
-            Cause::AbsentInput,
+            Cause::Of(Fault::AbsentInput),
             r#"{"baselineState":"absent"}"#,
             r#"  file: found.sarif
   where: /runs/1/results/0/baselineState
@@ -49,7 +49,7 @@ fn state_kind_and_level_are_of_their_texts(rt: HostRuntime) -> Result<(), Fail> 
 "#,
         ),
         (
-            Cause::BadKind,
+            Cause::Of(Fault::BadKind),
             r#"{"kind":"bad"}"#,
             r#"  file: found.sarif
   where: /runs/1/results/0/kind
@@ -59,7 +59,7 @@ fn state_kind_and_level_are_of_their_texts(rt: HostRuntime) -> Result<(), Fail> 
 "#,
         ),
         (
-            Cause::BadLevel,
+            Cause::Of(Fault::BadLevel),
             r#"{"level":["error"]}"#,
             r#"  file: found.sarif
   where: /runs/1/results/0/level
@@ -96,7 +96,13 @@ fn fingerprints_are_told_by_their_names(rt: HostRuntime) -> Result<(), Fail> {
 "#,
         ),
     ] {
-        check_result(&rt, rt.alloc(), Cause::BadFingerprint, text, wanted)?;
+        check_result(
+            &rt,
+            rt.alloc(),
+            Cause::Of(Fault::BadFingerprint),
+            text,
+            wanted,
+        )?;
     }
     Ok(())
 }
@@ -132,7 +138,13 @@ fn suppressions_have_a_kind_and_a_status(rt: HostRuntime) -> Result<(), Fail> {
 "#,
         ),
     ] {
-        check_result(&rt, rt.alloc(), Cause::BadSuppression, text, wanted)?;
+        check_result(
+            &rt,
+            rt.alloc(),
+            Cause::Of(Fault::BadSuppression),
+            text,
+            wanted,
+        )?;
     }
     Ok(())
 }
@@ -177,7 +189,7 @@ fn message_rule_and_provenance_are_of_their_kinds(rt: HostRuntime) -> Result<(),
 "#,
         ),
     ] {
-        check_result(&rt, rt.alloc(), Cause::BadMember, text, wanted)?;
+        check_result(&rt, rt.alloc(), Cause::Of(Fault::BadMember), text, wanted)?;
     }
     Ok(())
 }
@@ -231,7 +243,7 @@ fn indexes_are_whole_numbers_within_their_tables(rt: HostRuntime) -> Result<(), 
 "#,
         ),
     ] {
-        check_result(&rt, rt.alloc(), Cause::BadIndex, text, wanted)?;
+        check_result(&rt, rt.alloc(), Cause::Of(Fault::BadIndex), text, wanted)?;
     }
     Ok(())
 }
@@ -258,7 +270,7 @@ fn the_first_location_is_of_its_form(rt: HostRuntime) -> Result<(), Fail> {
 "#,
         ),
     ] {
-        check_result(&rt, rt.alloc(), Cause::BadLocation, text, wanted)?;
+        check_result(&rt, rt.alloc(), Cause::Of(Fault::BadLocation), text, wanted)?;
     }
     Ok(())
 }

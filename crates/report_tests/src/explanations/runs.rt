@@ -1,6 +1,6 @@
 //! Faults of runs.
 use super::check;
-use sarif_model::{At, Cause, Source};
+use sarif_model::{At, Cause, Fault, Source};
 use std::alloc::Global;
 use std::process::Abort;
 use std::test::Fail;
@@ -68,7 +68,7 @@ fn a_run_has_a_tool_with_a_named_driver(rt: HostRuntime) -> Result<(), Fail> {
 "#,
         ),
     ] {
-        check_run(&rt, rt.alloc(), Cause::BadRun, run, wanted)?;
+        check_run(&rt, rt.alloc(), Cause::Of(Fault::BadRun), run, wanted)?;
     }
     Ok(())
 }
@@ -95,7 +95,7 @@ fn results_are_objects(rt: HostRuntime) -> Result<(), Fail> {
 "#,
         ),
     ] {
-        check_run(&rt, rt.alloc(), Cause::BadRun, run, wanted)?;
+        check_run(&rt, rt.alloc(), Cause::Of(Fault::BadRun), run, wanted)?;
     }
     Ok(())
 }
@@ -104,7 +104,7 @@ fn results_are_objects(rt: HostRuntime) -> Result<(), Fail> {
 fn a_run_stands_in_one_log_and_within_the_limits(rt: HostRuntime) -> Result<(), Fail> {
     for (cause, run, wanted) in [
         (
-            Cause::ExternalProperties,
+            Cause::Of(Fault::ExternalProperties),
             r#"{"tool":{"driver":{"name":"t"}},"externalPropertyFileReferences":{"results":[]}}"#,
             r#"  file: found.sarif
   where: /runs/0/externalPropertyFileReferences
@@ -114,7 +114,7 @@ fn a_run_stands_in_one_log_and_within_the_limits(rt: HostRuntime) -> Result<(), 
 "#,
         ),
         (
-            Cause::TooMany,
+            Cause::Of(Fault::TooMany),
             r#"{"tool":{"driver":{"name":"t"}},"results":[]}"#,
             r#"  file: found.sarif
   where: /runs/0/results
@@ -169,7 +169,7 @@ fn rules_are_objects_with_an_id(rt: HostRuntime) -> Result<(), Fail> {
 "#,
         ),
     ] {
-        check_run(&rt, rt.alloc(), Cause::BadRules, run, wanted)?;
+        check_run(&rt, rt.alloc(), Cause::Of(Fault::BadRules), run, wanted)?;
     }
     Ok(())
 }
@@ -196,7 +196,7 @@ fn levels_of_a_run_are_of_the_four(rt: HostRuntime) -> Result<(), Fail> {
 "#,
         ),
     ] {
-        check_run(&rt, rt.alloc(), Cause::BadLevel, run, wanted)?;
+        check_run(&rt, rt.alloc(), Cause::Of(Fault::BadLevel), run, wanted)?;
     }
     Ok(())
 }
@@ -205,7 +205,7 @@ fn levels_of_a_run_are_of_the_four(rt: HostRuntime) -> Result<(), Fail> {
 fn artifacts_and_overrides_are_of_their_kinds(rt: HostRuntime) -> Result<(), Fail> {
     for (cause, run, wanted) in [
         (
-            Cause::BadLocation,
+            Cause::Of(Fault::BadLocation),
             r#"{"tool":{"driver":{"name":"t"}},"artifacts":[{},{"location":{"uri":1}}]}"#,
             r#"  file: found.sarif
   where: /runs/0/artifacts/1/location/uri
@@ -215,7 +215,7 @@ fn artifacts_and_overrides_are_of_their_kinds(rt: HostRuntime) -> Result<(), Fai
 "#,
         ),
         (
-            Cause::BadMember,
+            Cause::Of(Fault::BadMember),
             r#"{"tool":{"driver":{"name":"t"}},"invocations":[{"ruleConfigurationOverrides":[{"descriptor":1}]},{"ruleConfigurationOverrides":{}}]}"#,
             r#"  file: found.sarif
   where: /runs/0/invocations/1/ruleConfigurationOverrides
@@ -225,7 +225,7 @@ fn artifacts_and_overrides_are_of_their_kinds(rt: HostRuntime) -> Result<(), Fai
 "#,
         ),
         (
-            Cause::BadMember,
+            Cause::Of(Fault::BadMember),
             r#"{"tool":{"driver":{"name":"t"}},"invocations":[{"ruleConfigurationOverrides":[{"descriptor":1}]}]}"#,
             r#"  file: found.sarif
   where: /runs/0/invocations/0/ruleConfigurationOverrides/0/descriptor
@@ -262,7 +262,7 @@ fn indexes_of_overrides_are_within_their_tables(rt: HostRuntime) -> Result<(), F
 "#,
         ),
     ] {
-        check_run(&rt, rt.alloc(), Cause::BadIndex, run, wanted)?;
+        check_run(&rt, rt.alloc(), Cause::Of(Fault::BadIndex), run, wanted)?;
     }
     Ok(())
 }

@@ -1,12 +1,12 @@
 //! The fingerprints of a result.
-ghost use Rattle.std.specs.Prelude.{◌≡◌, Ok, Err, IfOk, IfErr};
+ghost use Rattle.std.specs.Prelude.{◌≡◌, Ok, Err, IfOk};
 ghost use Rattle.serde_json.specs.View.{view as seen, members_view};
 ghost use Rattle.sarif_runs.specs.Fingerprints.{pairs_at, pairs_among};
 ghost use Rattle.sarif_runs.specs.OwnMembers.{own_fingerprints};
-ghost use Rattle.sarif_model.specs.declared.fault.Fault.TheVariants.{OutOfMemory};
+ghost use Rattle.sarif_model.specs.Refusal.{IfFault};
 
 use sarif_model::members::member_at;
-use sarif_model::{Fault, Pairs, Sequence, Text};
+use sarif_model::{Fault, Pairs, Refusal, Sequence, Text};
 use serde_json::{Map, Value};
 use std::alloc::Global;
 
@@ -21,10 +21,10 @@ pub(super) struct Fingerprints {
 
 /// The names of these members with their texts, in order, without those that are null.
 #[tactic(auto, using(crate::proofs::Pairs::pair_steps))]
-fn pairs_of_members(alloc: Global, members: &Map<String, Value>) -> Result<Pairs, Fault>
+fn pairs_of_members(alloc: Global, members: &Map<String, Value>) -> Result<Pairs, Refusal<Fault>>
     ensures ok { IfOk result (λ pairs. pairs_among (members_view members.now.entries) ≡ Ok pairs) }
-    ensures err { IfErr result (λ fault. (fault ≡ OutOfMemory → ⊥)
-        → pairs_among (members_view members.now.entries) ≡ Err fault) }
+    ensures err { IfFault result
+        (λ fault. pairs_among (members_view members.now.entries) ≡ Err fault) }
 {
     let mut pairs = Sequence::new(alloc);
     for (name, value) in members.iter() {
@@ -34,23 +34,22 @@ fn pairs_of_members(alloc: Global, members: &Map<String, Value>) -> Result<Pairs
                 let name = Text::copy_of(alloc, name.as_str())?;
                 pairs.push((name, Text::copy_of(alloc, text.as_str())?))?;
             }
-            _ => return Err(Fault::BadFingerprint),
+            _ => return Err(Refusal::Fault(Fault::BadFingerprint)),
         }
     }
     Ok(pairs)
 }
 
 /// The map of texts `name` of a result; absent it is empty. A value that is null counts as absent.
-fn read_pairs(alloc: Global, result_value: &Value, name: &str) -> Result<Pairs, Fault>
+fn read_pairs(alloc: Global, result_value: &Value, name: &str) -> Result<Pairs, Refusal<Fault>>
     ensures ok { IfOk result (λ pairs. pairs_at name.now (seen result_value.now) ≡ Ok pairs) }
-    ensures err { IfErr result (λ fault. (fault ≡ OutOfMemory → ⊥)
-        → pairs_at name.now (seen result_value.now) ≡ Err fault) }
+    ensures err { IfFault result (λ fault. pairs_at name.now (seen result_value.now) ≡ Err fault) }
 {
     match member_at(result_value, name) {
         None => Ok(Sequence::new(alloc)),
         Some(member) => match member.as_object() {
             Some(members) => pairs_of_members(alloc, members),
-            None => Err(Fault::BadFingerprint),
+            None => Err(Refusal::Fault(Fault::BadFingerprint)),
         },
     }
 }
@@ -58,11 +57,13 @@ fn read_pairs(alloc: Global, result_value: &Value, name: &str) -> Result<Pairs, 
 /// The fingerprints of a result, or `BadFingerprint` (SARIF 2.1.0, result object, "fingerprints
 /// property", "partialFingerprints property").
 #[tactic(auto, unfolding(crate::specs::OwnMembers::own_fingerprints))]
-pub(super) fn read_fingerprints(alloc: Global, result_value: &Value) -> Result<Fingerprints, Fault>
+pub(super) fn read_fingerprints(
+    alloc: Global,
+    result_value: &Value,
+) -> Result<Fingerprints, Refusal<Fault>>
     ensures ok { IfOk result (λ fingerprints.
         own_fingerprints (seen result_value.now) ≡ Ok fingerprints) }
-    ensures err { IfErr result (λ fault. (fault ≡ OutOfMemory → ⊥)
-        → own_fingerprints (seen result_value.now) ≡ Err fault) }
+    ensures err { IfFault result (λ fault. own_fingerprints (seen result_value.now) ≡ Err fault) }
 {
     let full = read_pairs(alloc, result_value, "fingerprints")?;
     let partial = read_pairs(alloc, result_value, "partialFingerprints")?;

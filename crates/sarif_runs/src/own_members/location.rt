@@ -1,11 +1,11 @@
 //! The first location of a result.
-ghost use Rattle.std.specs.Prelude.{◌≡◌, Ok, Err, IfOk, IfErr};
+ghost use Rattle.std.specs.Prelude.{◌≡◌, Ok, Err, IfOk};
 ghost use Rattle.serde_json.specs.View.{view as seen};
 ghost use Rattle.sarif_runs.specs.OwnMembers.{own_location};
-ghost use Rattle.sarif_model.specs.declared.fault.Fault.TheVariants.{OutOfMemory};
+ghost use Rattle.sarif_model.specs.Refusal.{IfFault};
 
 use sarif_model::members::{elements_at, first_object, index_within, object_within, text_within};
-use sarif_model::{Fault, Text, copy_if_there};
+use sarif_model::{Fault, Refusal, Text, copy_if_there};
 use serde_json::Value;
 use std::alloc::Global;
 
@@ -23,10 +23,9 @@ pub(super) struct Location {
 /// The artifact of the first location of a result. `BadLocation` where a member is of a wrong
 /// kind, then `BadIndex` (SARIF 2.1.0, result object, "locations property").
 #[tactic(auto, unfolding(crate::specs::OwnMembers::own_location))]
-pub(super) fn read_location(alloc: Global, result_value: &Value) -> Result<Location, Fault>
+pub(super) fn read_location(alloc: Global, result_value: &Value) -> Result<Location, Refusal<Fault>>
     ensures ok { IfOk result (λ location. own_location (seen result_value.now) ≡ Ok location) }
-    ensures err { IfErr result (λ fault. (fault ≡ OutOfMemory → ⊥)
-        → own_location (seen result_value.now) ≡ Err fault) }
+    ensures err { IfFault result (λ fault. own_location (seen result_value.now) ≡ Err fault) }
 {
     let wrong = Fault::BadLocation;
     let first = first_object(elements_at(result_value, "locations", wrong)?, wrong)?;

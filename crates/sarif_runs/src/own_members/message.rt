@@ -1,13 +1,13 @@
 //! The message of a result, and the id of its rule.
-ghost use Rattle.std.specs.Prelude.{◌≡◌, Ok, Err, IfOk, IfErr, map, option_map};
+ghost use Rattle.std.specs.Prelude.{◌≡◌, Ok, Err, IfOk, map, option_map};
 ghost use Rattle.serde_json.specs.View.{view as seen};
 ghost use Rattle.sarif_runs.specs.OwnMembers.{own_message, own_rule_id, own_message_and_rule};
 ghost use Rattle.sarif_runs.specs.OwnMembers.{text_of, texts_within};
 ghost use Rattle.sarif_model.specs.Members.{result_map, read_each};
-ghost use Rattle.sarif_model.specs.declared.fault.Fault.TheVariants.{OutOfMemory};
+ghost use Rattle.sarif_model.specs.Refusal.{IfFault};
 
 use sarif_model::members::{elements_at, object_at, object_within, text_at, text_within};
-use sarif_model::{Fault, Message, Sequence, Text, copy_if_there};
+use sarif_model::{Fault, Message, Refusal, Sequence, Text, copy_if_there};
 use serde_json::Value;
 use std::alloc::Global;
 
@@ -29,10 +29,9 @@ fn read_text(value: &Value) -> Result<&str, Fault>
 
 /// The texts that these values are, in order.
 #[tactic(auto, using(sarif_model::proofs::ReadEach::read_steps))]
-fn texts_of(alloc: Global, values: &[Value]) -> Result<Sequence<Text>, Fault>
+fn texts_of(alloc: Global, values: &[Value]) -> Result<Sequence<Text>, Refusal<Fault>>
     ensures ok { IfOk result (λ texts. read_each text_of (map seen values.now) ≡ Ok texts) }
-    ensures err { IfErr result (λ fault. (fault ≡ OutOfMemory → ⊥)
-        → read_each text_of (map seen values.now) ≡ Err fault) }
+    ensures err { IfFault result (λ fault. read_each text_of (map seen values.now) ≡ Err fault) }
 {
     let mut texts = Sequence::new(alloc);
     for value in values {
@@ -42,11 +41,15 @@ fn texts_of(alloc: Global, values: &[Value]) -> Result<Sequence<Text>, Fault>
 }
 
 /// The elements of the array of texts `name` of an object that may be absent; absent they are none.
-fn read_texts(alloc: Global, value: Option<&Value>, name: &str) -> Result<Sequence<Text>, Fault>
+fn read_texts(
+    alloc: Global,
+    value: Option<&Value>,
+    name: &str,
+) -> Result<Sequence<Text>, Refusal<Fault>>
     ensures ok { IfOk result (λ texts.
         texts_within name.now (option_map (λ v. seen v.now) value.entry) ≡ Ok texts) }
-    ensures err { IfErr result (λ fault. (fault ≡ OutOfMemory → ⊥)
-        → texts_within name.now (option_map (λ v. seen v.now) value.entry) ≡ Err fault) }
+    ensures err { IfFault result
+        (λ fault. texts_within name.now (option_map (λ v. seen v.now) value.entry) ≡ Err fault) }
 {
     match value {
         None => Ok(Sequence::new(alloc)),
@@ -56,10 +59,9 @@ fn read_texts(alloc: Global, value: Option<&Value>, name: &str) -> Result<Sequen
 
 /// The message of a result; absent it is empty.
 #[tactic(auto, unfolding(crate::specs::OwnMembers::own_message))]
-fn read_message(alloc: Global, result_value: &Value) -> Result<Message, Fault>
+fn read_message(alloc: Global, result_value: &Value) -> Result<Message, Refusal<Fault>>
     ensures ok { IfOk result (λ message. own_message (seen result_value.now) ≡ Ok message) }
-    ensures err { IfErr result (λ fault. (fault ≡ OutOfMemory → ⊥)
-        → own_message (seen result_value.now) ≡ Err fault) }
+    ensures err { IfFault result (λ fault. own_message (seen result_value.now) ≡ Err fault) }
 {
     let message = object_at(result_value, "message", Fault::BadMember)?;
     let text = text_within(message, "text", Fault::BadMember)?;
@@ -91,10 +93,10 @@ fn read_rule_id(result_value: &Value) -> Result<Option<&str>, Fault>
 pub(super) fn read_message_and_rule(
     alloc: Global,
     result_value: &Value,
-) -> Result<MessageAndRule, Fault>
+) -> Result<MessageAndRule, Refusal<Fault>>
     ensures ok { IfOk result (λ said. own_message_and_rule (seen result_value.now) ≡ Ok said) }
-    ensures err { IfErr result (λ fault. (fault ≡ OutOfMemory → ⊥)
-        → own_message_and_rule (seen result_value.now) ≡ Err fault) }
+    ensures err { IfFault result
+        (λ fault. own_message_and_rule (seen result_value.now) ≡ Err fault) }
 {
     let message = read_message(alloc, result_value)?;
     let rule_id = read_rule_id(result_value)?;

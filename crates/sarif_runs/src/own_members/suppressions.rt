@@ -1,13 +1,13 @@
 //! The suppressions of a result.
-ghost use Rattle.std.specs.Prelude.{◌≡◌, Ok, Err, IfOk, IfErr, map};
+ghost use Rattle.std.specs.Prelude.{◌≡◌, Ok, Err, IfOk, map};
 ghost use Rattle.sarif_model.specs.Members.{read_each};
 ghost use Rattle.serde_json.specs.View.{view as seen};
 ghost use Rattle.sarif_model.specs.Suppression.{check_suppression_kind, status_of};
 ghost use Rattle.sarif_runs.specs.OwnMembers.{own_statuses};
-ghost use Rattle.sarif_model.specs.declared.fault.Fault.TheVariants.{OutOfMemory};
+ghost use Rattle.sarif_model.specs.Refusal.{IfFault};
 
 use sarif_model::members::{member_at, objects_at};
-use sarif_model::{Fault, Sequence, Status};
+use sarif_model::{Fault, Refusal, Sequence, Status};
 use serde_json::Value;
 use std::alloc::Global;
 
@@ -37,10 +37,10 @@ fn read_status(suppression: &Value) -> Result<Status, Fault>
 
 /// The statuses of these suppressions, in order.
 #[tactic(auto, using(sarif_model::proofs::ReadEach::read_steps))]
-fn statuses_of(alloc: Global, suppressions: &[Value]) -> Result<Sequence<Status>, Fault>
+fn statuses_of(alloc: Global, suppressions: &[Value]) -> Result<Sequence<Status>, Refusal<Fault>>
     ensures ok { IfOk result (λ held. read_each status_of (map seen suppressions.now) ≡ Ok held) }
-    ensures err { IfErr result (λ fault. (fault ≡ OutOfMemory → ⊥)
-        → read_each status_of (map seen suppressions.now) ≡ Err fault) }
+    ensures err { IfFault result
+        (λ fault. read_each status_of (map seen suppressions.now) ≡ Err fault) }
 {
     let mut held = Sequence::new(alloc);
     for suppression in suppressions {
@@ -52,10 +52,12 @@ fn statuses_of(alloc: Global, suppressions: &[Value]) -> Result<Sequence<Status>
 /// The statuses of the suppressions of a result, in order, or `BadSuppression` (SARIF 2.1.0,
 /// result object, "suppressions property").
 #[tactic(auto, unfolding(crate::specs::OwnMembers::own_statuses))]
-pub(super) fn read_statuses(alloc: Global, result_value: &Value) -> Result<Sequence<Status>, Fault>
+pub(super) fn read_statuses(
+    alloc: Global,
+    result_value: &Value,
+) -> Result<Sequence<Status>, Refusal<Fault>>
     ensures ok { IfOk result (λ held. own_statuses (seen result_value.now) ≡ Ok held) }
-    ensures err { IfErr result (λ fault. (fault ≡ OutOfMemory → ⊥)
-        → own_statuses (seen result_value.now) ≡ Err fault) }
+    ensures err { IfFault result (λ fault. own_statuses (seen result_value.now) ≡ Err fault) }
 {
     let suppressions = objects_at(result_value, "suppressions", Fault::BadSuppression)?;
     statuses_of(alloc, suppressions)

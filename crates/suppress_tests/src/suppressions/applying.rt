@@ -3,8 +3,8 @@ use super::{
     FileText, Plain, asked_of, expect_entries, expect_written, first_version, result_at,
     second_version, unused_of, with_own,
 };
-use sarif_model::{Sequence, Status, Text};
-use sarif_suppress::{Marks, SuppressFault, Suppressions};
+use sarif_model::{Refusal, Sequence, Status, Text};
+use sarif_suppress::{FileFault, Marks, Suppressions};
 use std::alloc::{AllocError, Global};
 use std::hash::{BuildHasherDefault, FoldHasher};
 use std::process::Abort;
@@ -161,7 +161,7 @@ fn unmarked_of(
     alloc: Global,
     file: FileText,
     rule_ids: &[&str],
-) -> Result<Vec<u32>, SuppressFault> {
+) -> Result<Vec<u32>, Refusal<FileFault>> {
     asked_of(alloc, file, |rules| unmarked_by(alloc, rules, rule_ids))
 }
 
@@ -182,7 +182,7 @@ fn size_and_object(alloc: Global, rules: &Plain) -> Result<(u32, String), AllocE
 }
 
 /// The same of a file that isn't read yet.
-fn size_and_object_of(alloc: Global, file: FileText) -> Result<(u32, String), SuppressFault> {
+fn size_and_object_of(alloc: Global, file: FileText) -> Result<(u32, String), Refusal<FileFault>> {
     asked_of(alloc, file, |rules| size_and_object(alloc, rules))
 }
 

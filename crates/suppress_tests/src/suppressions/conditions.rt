@@ -1,7 +1,7 @@
 //! Which results an entry matches, condition by condition.
 use super::{FileText, expect_written, outcome_of, result_at, second_version, unused_of};
-use sarif_model::{Record, Sequence, Text};
-use sarif_suppress::SuppressFault;
+use sarif_model::{Record, Refusal, Sequence, Text};
+use sarif_suppress::FileFault;
 use std::alloc::{AllocError, Global};
 use std::process::Abort;
 use std::test::Fail;
@@ -23,7 +23,7 @@ fn is_suppressed_by(
     alloc: Global,
     entry: &str,
     finding: &Record,
-) -> Result<Option<bool>, SuppressFault> {
+) -> Result<Option<bool>, Refusal<FileFault>> {
     let file = FileText {
         today: Some(20250131),
         ..second_version(entry)

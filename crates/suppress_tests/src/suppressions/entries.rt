@@ -1,6 +1,7 @@
 //! Which entries are refused, and why.
-use super::{FileText, all_entries_have, fault_of_text, second_version};
-use sarif_suppress::SuppressFault;
+use super::{FileText, all_entries_have, fault_of_text, in_entry, second_version};
+use sarif_model::{Fault, Refusal};
+use sarif_suppress::FileFault;
 use std::alloc::{AllocError, Global};
 use std::test::Fail;
 
@@ -33,7 +34,7 @@ fn fault_of_member(
     alloc: Global,
     member: &str,
     value: &str,
-) -> Result<Option<SuppressFault>, AllocError> {
+) -> Result<Option<Refusal<FileFault>>, AllocError> {
     let entry = format!(in alloc; "{{\"{member}\":{value}}}")?;
     let file = FileText {
         today: Some(20250131),
@@ -46,7 +47,7 @@ fn fault_of_member(
 fn is_of_its_kind_alone(alloc: Global, member: &str, wanted: &str) -> Result<bool, AllocError> {
     for (kind, value) in VALUES {
         let fault = fault_of_member(alloc, member, value)?;
-        if kind != wanted && fault != Some(SuppressFault::BadEntry(0)) {
+        if kind != wanted && fault != Some(in_entry(0, Fault::BadEntry)) {
             return Ok(false);
         }
     }
@@ -65,7 +66,7 @@ fn a_member_of_another_kind_is_refused(rt: HostRuntime) -> Result<(), Fail> {
 fn a_null_member_counts_as_absent(rt: HostRuntime) -> Result<(), Fail> {
     for (member, _) in MEMBERS {
         let fault = fault_of_member(rt.alloc(), member, "null")?;
-        assert_eq!(rt; fault, Some(SuppressFault::EmptyMatch(0)));
+        assert_eq!(rt; fault, Some(in_entry(0, Fault::EmptyMatch)));
     }
     Ok(())
 }
@@ -85,7 +86,7 @@ fn what_is_no_object_of_known_members_is_refused(rt: HostRuntime) -> Result<(), 
         "{\"guid\":\"x\"}",
         "{\"ruleId\":\"x\",\"status\":\"Accepted\"}",
     ];
-    let fault = Some(SuppressFault::BadEntry(0));
+    let fault = Some(in_entry(0, Fault::BadEntry));
     assert!(rt; all_entries_have(rt.alloc(), 2, &entries, None, fault)?);
     Ok(())
 }
@@ -100,7 +101,7 @@ fn an_entry_without_a_condition_is_refused(rt: HostRuntime) -> Result<(), Fail> 
         "{\"status\":\"accepted\",\"justification\":\"j\"}",
         "{\"expires\":20250131}",
     ];
-    let fault = Some(SuppressFault::EmptyMatch(0));
+    let fault = Some(in_entry(0, Fault::EmptyMatch));
     assert!(rt; all_entries_have(rt.alloc(), 2, &entries, None, fault)?);
     assert!(rt; all_entries_have(rt.alloc(), 2, &entries, Some(20250131), fault)?);
     Ok(())
@@ -131,7 +132,7 @@ fn members_of_version_2_are_refused_in_version_1(rt: HostRuntime) -> Result<(), 
         "{\"ruleId\":\"x\",\"uriPrefix\":null}",
         "{\"ruleId\":\"x\",\"expires\":20250131}",
     ];
-    let fault = Some(SuppressFault::BadEntry(0));
+    let fault = Some(in_entry(0, Fault::BadEntry));
     assert!(rt; all_entries_have(rt.alloc(), 1, &entries, Some(20250131), fault)?);
     assert!(rt; all_entries_have(rt.alloc(), 2, &entries, Some(20250131), None)?);
     Ok(())
@@ -152,7 +153,7 @@ fn a_day_has_a_month_and_a_day_of_it(rt: HostRuntime) -> Result<(), Fail> {
         "4315217427",
     ] {
         let fault = fault_of_member(rt.alloc(), "uriPrefix\":\"gen/\",\"expires", day)?;
-        assert_eq!(rt; fault, Some(SuppressFault::BadEntry(0)));
+        assert_eq!(rt; fault, Some(in_entry(0, Fault::BadEntry)));
     }
     for day in ["20250231", "10000101", "99991231"] {
         let fault = fault_of_member(rt.alloc(), "uriPrefix\":\"gen/\",\"expires", day)?;
@@ -164,7 +165,7 @@ fn a_day_has_a_month_and_a_day_of_it(rt: HostRuntime) -> Result<(), Fail> {
 #[test]
 fn a_last_day_needs_todays(rt: HostRuntime) -> Result<(), Fail> {
     let entries = ["{\"uriPrefix\":\"gen/\",\"expires\":20250131}"];
-    let fault = Some(SuppressFault::NeedsToday(0));
+    let fault = Some(in_entry(0, Fault::NeedsToday));
     assert!(rt; all_entries_have(rt.alloc(), 2, &entries, None, fault)?);
     assert!(rt; all_entries_have(rt.alloc(), 2, &entries, Some(0), None)?);
     Ok(())
@@ -173,13 +174,13 @@ fn a_last_day_needs_todays(rt: HostRuntime) -> Result<(), Fail> {
 #[test]
 fn the_first_entry_at_fault_is_named(rt: HostRuntime) -> Result<(), Fail> {
     let both = ["{},{\"rule\":\"x\"}"];
-    let fault = Some(SuppressFault::EmptyMatch(0));
+    let fault = Some(in_entry(0, Fault::EmptyMatch));
     assert!(rt; all_entries_have(rt.alloc(), 2, &both, None, fault)?);
     let second = ["{\"tool\":\"t\"},{},{\"rule\":1}"];
-    let fault = Some(SuppressFault::EmptyMatch(1));
+    let fault = Some(in_entry(1, Fault::EmptyMatch));
     assert!(rt; all_entries_have(rt.alloc(), 2, &second, None, fault)?);
     let first = ["{\"tool\":\"t\",\"expires\":20250131},0"];
-    let fault = Some(SuppressFault::NeedsToday(0));
+    let fault = Some(in_entry(0, Fault::NeedsToday));
     assert!(rt; all_entries_have(rt.alloc(), 2, &first, None, fault)?);
     Ok(())
 }

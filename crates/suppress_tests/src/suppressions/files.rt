@@ -1,6 +1,7 @@
 //! Which files are refused, and why.
-use super::{all_entries_have, all_files_have, fault_of};
-use sarif_suppress::SuppressFault;
+use super::{all_entries_have, all_files_have, fault_of, in_entry, whole};
+use sarif_model::Fault;
+use sarif_suppress::FileFault;
 use std::alloc::{AllocError, Global};
 use std::test::Fail;
 
@@ -27,7 +28,7 @@ fn other_versions_are_refused(rt: HostRuntime) {
         "{\"version\":4294967297,\"suppressions\":[]}",
         "{\"suppressions\":[{}]}",
     ];
-    assert!(rt; all_files_have(rt.alloc(), &files, Some(SuppressFault::WrongVersion)));
+    assert!(rt; all_files_have(rt.alloc(), &files, Some(whole(Fault::WrongVersion))));
 }
 
 #[test]
@@ -42,7 +43,7 @@ fn a_list_must_be_there_whatever_the_version(rt: HostRuntime) {
         "[]",
         "null",
     ];
-    assert!(rt; all_files_have(rt.alloc(), &files, Some(SuppressFault::NotList)));
+    assert!(rt; all_files_have(rt.alloc(), &files, Some(whole(Fault::NotList))));
 }
 
 #[test]
@@ -53,18 +54,18 @@ fn bytes_that_are_no_json_are_refused(rt: HostRuntime) {
         "{\"version\":1,\"suppressions\":[]}}",
         "{'version':1}",
     ];
-    assert!(rt; all_files_have(rt.alloc(), &files, Some(SuppressFault::NotJson)));
+    assert!(rt; all_files_have(rt.alloc(), &files, Some(whole(Fault::NotJson))));
     let no_text = b"{\"version\":1,\"suppressions\":[\"\xff\"]}";
     assert_eq!(rt;
         fault_of(rt.alloc(), no_text, None),
-        Some(SuppressFault::NotJson)
+        Some(whole(Fault::NotJson))
     );
 }
 
 #[test]
 fn nesting_has_a_limit(rt: HostRuntime) {
     let deep = fault_of(rt.alloc(), &[b'['; 128], None);
-    assert_eq!(rt; deep, Some(SuppressFault::NotJson));
+    assert_eq!(rt; deep, Some(whole(Fault::NotJson)));
 }
 
 #[test]
@@ -74,7 +75,7 @@ fn one_order_mark_is_dropped(rt: HostRuntime) {
     let twice = b"\xef\xbb\xbf\xef\xbb\xbf{\"version\":1,\"suppressions\":[]}";
     assert_eq!(rt;
         fault_of(rt.alloc(), twice, None),
-        Some(SuppressFault::NotJson)
+        Some(whole(Fault::NotJson))
     );
 }
 
@@ -90,7 +91,7 @@ fn numbers(alloc: Global, count: u32) -> Result<String, AllocError> {
 #[test]
 fn ten_thousand_entries_are_the_most(rt: HostRuntime) -> Result<(), Fail> {
     let most = numbers(rt.alloc(), 10_000)?;
-    let first = Some(SuppressFault::BadEntry(0));
+    let first = Some(in_entry(0, Fault::BadEntry));
     assert!(rt; all_entries_have(rt.alloc(), 1, &[most.as_str()], None, first)?);
     let more = numbers(rt.alloc(), 10_001)?;
     assert!(rt;
@@ -99,24 +100,26 @@ fn ten_thousand_entries_are_the_most(rt: HostRuntime) -> Result<(), Fail> {
             1,
             &[more.as_str()],
             None,
-            Some(SuppressFault::TooMany)
+            Some(whole(Fault::TooMany))
         )?
     );
     Ok(())
 }
 
 /// Whether the fault is written so.
-fn is_said(alloc: Global, fault: SuppressFault, text: &str) -> Result<bool, AllocError> {
+fn is_said(alloc: Global, fault: FileFault, text: &str) -> Result<bool, AllocError> {
     Ok(format!(in alloc; "{fault}")?.as_str() == text)
 }
 
 #[test]
 fn a_fault_names_its_entry(rt: HostRuntime) -> Result<(), Fail> {
-    assert!(rt; is_said(rt.alloc(), SuppressFault::NotList, "NotList")?);
+    assert!(rt; is_said(rt.alloc(), FileFault::from(Fault::NotList), "NotList")?);
+    let entry = Some(9999);
+    let fault = Fault::NeedsToday;
     assert!(rt;
         is_said(
             rt.alloc(),
-            SuppressFault::NeedsToday(9999),
+            FileFault { entry, fault },
             "entry 9999: NeedsToday"
         )?
     );

@@ -1,7 +1,7 @@
 use Rattle.std.proofs.Common.{rules, ◌≡◌, Err, subst, sym}
 use Rattle.std.specs.Prelude.{Ok}
 use Rattle.json_parts.specs.Together.{IsIndexed}
-use Rattle.sarif_read.specs.IndexFault.{read_fault_of}
+use Rattle.sarif_read.specs.ReadRefusal.{refusal_of_index}
 use Rattle.json_parts.specs.Mark.{without_mark}
 use Rattle.sarif_inputs.specs.Parsed.{IsParsedFrom}
 use Rattle.sarif_inputs.proofs.ReadIndexes.{read_of_index, read_without_index}
@@ -18,5 +18,5 @@ pub returns-in-Err : goal.returns-in-Err
 returns-in-Err c = λ bytes indexed.
     let fault = c.in-Err.fault in
     let is : c.args.index.now ≡ Err fault = search rules in
-    let same : c.from.result ≡ read_fault_of fault = search rules in
+    let same : c.refused_text.result ≡ refusal_of_index fault = search rules in
     subst (λ e. IsParsedFrom bytes (Err e)) (sym same) (read_without_index bytes fault (subst (λ r. IsIndexed (without_mark bytes) r) is indexed))

@@ -1,23 +1,22 @@
 use Rattle.std.proofs.Common.{rules, ◌≡◌, ◌+◌, ◌<◌, length, [], ◌++◌, ◌∷◌, map, drop, sym, ap, ◌∙◌, arith, Ok, Err}
 use Rattle.std.proofs.lemmas.Grind.{common_steps}
-use Rattle.sarif_model.specs.declared.fault.Fault.TheVariants.{OutOfMemory}
 use Rattle.sarif_read.specs.Reading as said
 use Rattle.sarif_model.specs.Run.{results_of}
 use Rattle.sarif_read.specs.Listed.{value_at}
 use Rattle.sarif_read.proofs.CheckEach.{goes_on, stops, at_end}
-use Rattle.sarif_read.proofs.IndexEach.{front, total_push, made_push}
+use Rattle.sarif_read.proofs.IndexEach.{front, total_push, made_push, refused}
 use Rattle.sarif_read.proofs.indexing.index_each.Goals as goal
 
 pub returns-in-Err-clause-err : goal.returns-in-Err-clause-err
 returns-in-Err-clause-err c =
-    λ not_memory.
+    λ e is.
     let i = c.loop-node.node-index in
     let node = c.node-item.result in
     let below : i < length c.args.nodes.now = omega arith in
-    let other = λ (h : c.in-Err.fault ≡ OutOfMemory). not_memory (ap (λ e. e.fault) (c.fault_at.ensures.memory h) ∙ h) in
+    let of_run = refused c.loop-node.number c.in-Err.refusal e (sym c.refused_at.ensures ∙ is) in
     let rest = front c.args.nodes.now i node below c.node-item.is in
-    let stopped = stops c.loop-node.number c.loop-node.before c.in-Err.fault (value_at node) (map value_at (drop (i + 1) c.args.nodes.now)) (sym (c.in-Err.ensures.err other)) in
-    sym c.loop-node.invariant.told ∙ ap (λ ns. said.check_each c.loop-node.number c.loop-node.before (map value_at ns)) rest ∙ stopped ∙ ap Err (sym (c.fault_at.ensures.other other))
+    let stopped = stops c.loop-node.number c.loop-node.before of_run.0 (value_at node) (map value_at (drop (i + 1) c.args.nodes.now)) (sym (c.in-Err.ensures.err of_run.0 of_run.1)) in
+    sym c.loop-node.invariant.told ∙ ap (λ ns. said.check_each c.loop-node.number c.loop-node.before (map value_at ns)) rest ∙ stopped ∙ ap Err of_run.2
 
 pub loop-node-preserved : goal.loop-node-preserved
 loop-node-preserved c =
