@@ -1,9 +1,9 @@
 # Completions of sarif_gate for bash: source this file, or put it into the folder of completions
-# as sarif_gate.
+# as sarif_gate. Made by tools/option-pages.
 
 _sarif_gate() {
     local word=${COMP_WORDS[COMP_CWORD]} before=${COMP_WORDS[COMP_CWORD - 1]}
-    # readline takes = for a word of its own, as in --max=3
+    # readline treats = as a word of its own, as in --max=3
     if [[ $word == = ]]; then
         word=
     elif [[ $before == = ]]; then
@@ -15,13 +15,13 @@ _sarif_gate() {
         mapfile -t COMPREPLY < <(compgen -W 'error warning note none' -- "$word")
         return
         ;;
-    --today | --max | --workers | --root)
+    --today | --max | --root | --workers)
         return
         ;;
     esac
     if [[ $word == -* ]]; then
-        mapfile -t COMPREPLY < <(compgen -W '--out --baseline --suppress --today --fail-on --max --workers
-            --text --github --markdown --gitlab --html --root --explain --help --version -h -V' -- "$word")
+        mapfile -t COMPREPLY < <(compgen -W '--baseline --suppress --today --fail-on --max --out --root --text --github
+            --markdown --gitlab --html --workers --explain --help -h --version -V' -- "$word")
         return
     fi
     compopt -o filenames 2>/dev/null
