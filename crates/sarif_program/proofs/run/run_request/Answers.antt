@@ -1,11 +1,14 @@
-use Rattle.std.proofs.Common.{ℕ, List, ap, arith, nat_eq, subst, sym, ◌∙◌, ◌+◌}
+use Rattle.std.proofs.Common.{◌≡◌, ℕ, List, ap, arith, nat_eq, subst, sym, ◌∙◌, ◌+◌}
 use Rattle.std.specs.Io.KnownBytes.{Appends}
 use Rattle.sarif_inputs.specs.Faults.{faults_of}
 use Rattle.sarif_merge.specs.Given.{given_by}
 use Rattle.sarif_streams.proofs.ReadersRead.{were_read_quiet}
+use Rattle.sarif_merge.specs.FromReaders.{IsMergedFrom}
+use Rattle.sarif_request.specs.declared.wanted.Wanted.{Wanted}
+use Rattle.sarif_streams.specs.declared.counted.Counted.{Counted}
 use Rattle.sarif_streams.specs.Counted.{inner_of, RisesIf}
 use Rattle.sarif_streams.specs.WereRead.{failures}
-use Rattle.sarif_program.specs.Reports.{report_for}
+use Rattle.sarif_program.specs.Reports.{report_for, reporting_for, texts_for}
 use Rattle.sarif_program.specs.Writing.{writer_failures}
 use Rattle.sarif_program.proofs.Quiet.{quiet_status, no_rise, refused_rise}
 use Rattle.sarif_program.proofs.run.run_request.Goals as goal
@@ -15,12 +18,15 @@ returns-in-Ok-clause-accepted g c = λ low.
     let merged = c.in-Ok.merged in
     let request = c.args.request.now in
     let old = c.args.writers.now in
-    let new = c.accept.new.writers in (
+    let new = c.accept.new.writers in
+    let same = c.as_slice.ensures.value in (
       merged,
       c.accept.ensures.status low,
-      c.in-Ok.ensures.merged,
+      subst (λ (writers : List (Wanted (Counted g.row.P.Denot))). IsMergedFrom g.R.Read.remaining c.args.readers.now c.merge_for.new.readers
+          request.options.today request.options.policy (reporting_for request writers) merged) same c.in-Ok.ensures.merged,
       c.accept.ensures.written low,
-      c.accept.ensures.reported low (report_for request merged) c.in-Ok.ensures.reports,
+      c.accept.ensures.reported low (report_for request merged)
+          (subst (λ (writers : List (Wanted (Counted g.row.P.Denot))). c.in-Ok.texts.reports.items ≡ texts_for writers (report_for request merged)) same c.in-Ok.ensures.reports),
       subst (λ (text : List ℕ). Appends (g.S.Write.contents (inner_of old.say)) (g.S.Write.contents (inner_of new.say)) text)
           c.in-Ok.ensures.summary (c.accept.ensures.said low),
     )
