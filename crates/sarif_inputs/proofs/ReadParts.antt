@@ -1,6 +1,7 @@
 -- What was read of indexes, put together, and of the sources whose indexes they are, taken apart.
-use Rattle.std.proofs.Common.{◌≡◌, ℕ, ◌+◌, ◌<◌, List, [], ◌∷◌, ◌++◌, take, drop, get_or, map, Result, length, refl, sym, arith, subst}
-use Rattle.std.proofs.lemmas.List.{take_more}
+use Rattle.std.proofs.Common.{◌≡◌, ℕ, List, [], ◌∷◌, ◌++◌, take, drop, map, Result, length, refl, arith, subst}
+use Rattle.std.specs.List.{AllZip}
+use denote.Ref.{Bor}
 use Rattle.json.specs.Token.{Token}
 use Rattle.json_parts.specs.declared.indexing.IndexFault.{IndexFault}
 use Rattle.json_parts.specs.Together.{AreIndexed}
@@ -10,20 +11,15 @@ use Rattle.sarif_inputs.specs.Parsed.{Parsed, IsParsedFrom, AreParsedFrom, IsRea
 abbrev Found : Type 0
 Found = Result (List Token) IndexFault
 
-read_append : (ps qs : List Found) (rs ss : List Parsed) → AreReadFrom ps rs → AreReadFrom qs ss → AreReadFrom (ps ++ qs) (rs ++ ss)
-read_append [] qs [] ss first second = second
-read_append [] qs (r ∷ rs) ss first second = absurd first
-read_append (p ∷ ps) qs [] ss first second = absurd first
-read_append (p ∷ ps) qs (r ∷ rs) ss first second = (first.0, read_append ps qs rs ss first.1 second)
+each_read : (shown : List (Bor Found)) (rs : List Parsed) → AllZip (λ p r. IsReadFrom p.now r) shown rs → AreReadFrom (map (λ p. p.now) shown) rs
+each_read [] [] read = tt
+each_read [] (r ∷ rs) read = absurd read
+each_read (p ∷ shown) [] read = absurd read
+each_read (p ∷ shown) (r ∷ rs) read = (read.0, each_read shown rs read.1)
 
--- two parts, one after the other
-pub read_halves : (low high ps : List Found) (rs ss : List Parsed) → low ++ high ≡ ps → AreReadFrom low rs → AreReadFrom high ss → AreReadFrom ps (rs ++ ss)
-read_halves low high ps rs ss whole first second = subst (λ qs. AreReadFrom qs (rs ++ ss)) whole (read_append low high rs ss first second)
-
--- one more
-pub read_more : (ps : List Found) (i : ℕ) (p : Found) (rs : List Parsed) (r : Parsed) → i < length ps → AreReadFrom (take i ps) rs → IsReadFrom (get_or ps i p) r → AreReadFrom (take (i + 1) ps) (rs ++ r ∷ [])
-read_more ps i p rs r below so_far here =
-    subst (λ qs. AreReadFrom qs (rs ++ r ∷ [])) (sym (take_more ps i p below)) (read_append (take i ps) (get_or ps i p ∷ []) rs (r ∷ []) so_far (here, tt))
+-- what was read of references to these was read of these
+pub read_shown : (shown : List (Bor Found)) (ps : List Found) (rs : List Parsed) → map (λ p. p.now) shown ≡ ps → AllZip (λ p r. IsReadFrom p.now r) shown rs → AreReadFrom ps rs
+read_shown shown ps rs is read = subst (λ qs. AreReadFrom qs rs) is (each_read shown rs read)
 
 -- what was read of the indexes of sources was read of the sources
 pub parsed_by : (bs : List (List ℕ)) (ps : List Found) (rs : List Parsed) → AreIndexed (map without_mark bs) ps → AreReadFrom ps rs → AreParsedFrom bs rs

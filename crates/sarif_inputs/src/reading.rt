@@ -1,15 +1,15 @@
 //! Reading the runs of sources that were indexed, some of them at the same time.
-ghost use Rattle.std.specs.Prelude.{◌≡◌, ◌≤◌, ◌++◌, ℕ, List, IfOk};
+ghost use Rattle.std.specs.Prelude.{◌≡◌, ◌≤◌, ℕ, List, IfOk, map};
 ghost use Rattle.json_parts.specs.Together.{IsIndexed};
 ghost use Rattle.json_parts.specs.Mark.{without_mark};
 ghost use Rattle.sarif_inputs.specs.Indexes.{AreIndexesOf};
-ghost use Rattle.sarif_inputs.specs.Parsed.{AreParsedFrom, AreReadFrom, IsParsedFrom};
+ghost use Rattle.sarif_inputs.specs.Parsed.{AreParsedFrom, AreReadFrom, IsParsedFrom, IsReadFrom};
 
 use json_parts::{Index, IndexFault};
+use sarif_gather::{Sharing, share_jobs};
 use sarif_model::Refusal;
 use sarif_read::{IndexedRun, ReadFault, index_log, refused_text};
 use std::alloc::{AllocError, Global};
-use std::thread;
 use std::thread::Threads;
 
 /// The runs of the log of a source, or why it is no log.
@@ -26,57 +26,38 @@ fn read_index<'t, 'a>(alloc: Global, index: &'t Result<Index<'a>, IndexFault>) -
     }
 }
 
-/// What each index gives, one after another.
-fn read_in_turn<'t, 'a>(
-    alloc: Global,
-    indexes: &'t [Result<Index<'a>, IndexFault>],
-) -> Result<Vec<ReadLog<'t, 'a>>, AllocError>
-    ensures { IfOk result (λ read. AreReadFrom indexes.now read.items) }
+/// References to these, in their order.
+fn each_of<'t, T>(alloc: Global, items: &'t [T]) -> Result<Vec<&'t T>, AllocError>
+    ensures { IfOk result (λ each. map (λ one. one.now) each.items ≡ items.now) }
 {
-    let mut read = Vec::with_capacity(alloc, indexes.len())?;
-    for index in indexes {
-        read.push(read_index(alloc, index))?;
+    let mut each = Vec::with_capacity(alloc, items.len())?;
+    for item in items {
+        each.push(item)?;
     }
-    Ok(read)
-}
-
-/// The first half and the rest.
-fn halves<'t, T>(items: &'t [T]) -> (&'t [T], &'t [T])
-    ensures { result.0.now ++ result.1.now ≡ items.now }
-{
-    items.split_at(items.len() / 2)
+    Ok(each)
 }
 
 /// What each index gives, in their order: the runs of its log, or why it is none. They are read in at most `threads`
 /// threads, this one among them.
-#[cycle(reading)]
 pub(crate) fn read_each<'t, 'a, R: Threads + Sync>(
     rt: &R,
     alloc: Global,
     indexes: &'t [Result<Index<'a>, IndexFault>],
     threads: u32,
 ) -> Result<Vec<ReadLog<'t, 'a>>, AllocError>
-    requires { 1 ≤ threads }
     ensures { IfOk result (λ read. AreReadFrom indexes.now read.items) }
 {
-    if threads < 2 || indexes.len() < 2 {
-        return read_in_turn(alloc, indexes);
-    }
-    let few = threads / 2;
-    let others = threads - few;
-    let (low, high) = halves(indexes);
-    let front = move || -> Result<Vec<ReadLog>, AllocError>
-        requires { 1 ≤ few }
-        ensures { IfOk result (λ read. AreReadFrom low.entry.now read.items) }
-    { read_each(rt, alloc, low, few) };
-    let back = move || -> Result<Vec<ReadLog>, AllocError>
-        requires { 1 ≤ others }
-        ensures { IfOk result (λ read. AreReadFrom high.entry.now read.items) }
-    { read_each(rt, alloc, high, others) };
-    let (first, second) = thread::join(rt, front, back);
-    let mut read = first?;
-    let mut rest = second?;
-    read.append(&mut rest)?;
+    let sharing = Sharing {
+        rt,
+        alloc,
+        threads,
+        least: 1,
+    };
+    let one = move |index|
+        ensures { IfOk result (λ read. IsReadFrom index.now read) }
+    { Ok(read_index(alloc, index)) };
+    let each = each_of(alloc, indexes)?;
+    let read = share_jobs(&sharing, each, &one)?;
     Ok(read)
 }
 
