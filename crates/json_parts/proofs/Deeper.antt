@@ -5,7 +5,7 @@ use Rattle.json.specs.Token.{Token}
 use Rattle.json.specs.Json.{Json, array, object, Items, item, Members, member, Parse, parse_map, after_end_array, read_key, items_step, members_step, items, members, value_with, value}
 use Rattle.json.specs.Tree.{depth, items_depth, members_depth}
 
--- where o is an answer of that depth at most, p is the same
+-- if o is a result of at most that depth, p is the same
 abbrev KeptIf : {A : Type 0} → (A → ℕ) → ℕ → Option (A × List Token) → Option (A × List Token) → Type 0
 KeptIf f e None p = ⊤
 KeptIf f e (Some a) p = f a.0 ≤ e → p ≡ Some a

@@ -8,7 +8,7 @@ use Rattle.serde_json.specs.Data.{Data, string, object, Members, no_members, mem
 use Rattle.serde_json.specs.Written.{comma_if, compact_text, members_text}
 use Rattle.json_parts.specs.Around.{name_text, texts_before, members_after, surrounding, filled}
 
--- what is written of a member, with others behind it
+-- the text of a member, followed by others
 abbrev member_text : List ℕ → Data → List ℕ → List ℕ
 member_text k d rest = compact_text (string k) ++ 58 ∷ (compact_text d ++ rest)
 
@@ -16,7 +16,7 @@ member_text k d rest = compact_text (string k) ++ 58 ∷ (compact_text d ++ rest
 named : (k rest : List ℕ) → name_text k ++ rest ≡ compact_text (string k) ++ 58 ∷ rest
 named k rest = append_assoc (compact_text (string k)) (58 ∷ []) rest
 
--- the text of the object with the value, behind the name
+-- the text of the object with the value, after the name
 abbrev Opened : List ℕ → Data → Members → List ℕ
 Opened name d ms = texts_before name ms ++ (name_text name ++ (compact_text d ++ members_text true (members_after name ms)))
 

@@ -1,4 +1,4 @@
--- The first of a map's members, and its text behind another member.
+-- The first of a map's members, and its text after another member.
 use Rattle.std.proofs.Common.{◌≡◌, ◌<◌, ◌≤◌, ℕ, true, false, List, [], ◌∷◌, ◌++◌, length, get_or, Some, Ordering, Less, Equal, Greater, nat_cmp, string_bytes, refl, ap, ◌∙◌, arith, true≢false}
 use Rattle.std.specs.Prelude.{slice_get, drop}
 use Rattle.std.proofs.lemmas.Str.{IsCharBoundary-after_ascii}
@@ -26,12 +26,12 @@ below_first name (d ∷ es) e o here is =
     let same : d ≡ e = grind (arith, here) in
     ap (λ x. match_ordering (slice_cmp nat_cmp name (string_bytes x.0)) false false true) same ∙ ap (λ x. match_ordering x false false true) is
 
--- members behind another one: a comma, and the object's text without its bracket
+-- members after another one: a comma, and the object's text without its bracket
 pub rest_text : (ms : Members) (s : List ℕ) → (ms ≡ no_members → ⊥) → s ≡ compact_text (object ms) → 44 ∷ drop 1 s ≡ members_text true ms
 rest_text no_members s some shown = absurd (some refl)
 rest_text (member k d ms) s some shown = ap (λ t. 44 ∷ drop 1 t) shown
 
--- a comparison that did not give that answer
+-- a comparison with a different result
 pub isnt_equal : (o : Ordering) → (o ≡ Equal → ⊥) → match_ordering o false true false ≡ false
 isnt_equal Less isnt = refl
 isnt_equal Equal isnt = absurd (isnt refl)

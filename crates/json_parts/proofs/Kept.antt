@@ -40,7 +40,7 @@ removed_above : (k : List ℕ) (ms : Members) → IsBelow k ms → removed k ms 
 removed_above k no_members h = refl
 removed_above k (member l e ms) h = rw h.0 (ap (member l e) (removed_above k ms h.1))
 
--- what is put below all names stands first
+-- what is inserted below all names comes first
 pub put_below : (k : List ℕ) (d : Data) (ms : Members) → IsBelow k ms → put k d ms ≡ member k d ms
 put_below k d no_members h = refl
 put_below k d (member l e ms) h = rw h.0

@@ -1,4 +1,4 @@
--- What a node tells of the value that begins at it.
+-- The meaning of a node for the value that begins at it.
 use Rattle.std.proofs.Common.{◌≡◌, ℕ, ◌+◌, ◌<◌, List, ◌∷◌, map, length, drop, get_or, Option, Some, None, refl, sym, ap, ◌∙◌, arith}
 use Rattle.std.proofs.Common as common
 use Rattle.std.proofs.lemmas.List.{drop_more, get_or-map, length-map}

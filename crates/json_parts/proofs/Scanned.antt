@@ -8,12 +8,12 @@ use Rattle.json_parts.specs.Whole.{IsWhole}
 use Rattle.json_parts.proofs.Passing.{passes, items_pass, members_pass, items_pass-item, members_pass-member, passes-array, passes-object, passes-number, passes-plain, passes-flat_array, passes-flat_object, no_more_items, no_more_members}
 use Rattle.json_parts.proofs.Readings.{not_found, Some_inj, mapped_some, and_then_some}
 
--- one level less, where there is one
+-- one level less, if there is one
 abbrev pub deeper : ℕ → (ℕ → Bool) → Bool
 deeper zero rest = false
 deeper (suc n) rest = rest n
 
--- whether the brackets that open find a level among so many, and the numbers are near a float
+-- whether the opening brackets find a level among this many, and the numbers are close to a float
 abbrev pub scan : ℕ → List Token → Bool
 scan n [] = true
 scan n (Token.begin_object ∷ ts) = deeper n (λ m. scan m ts)
@@ -50,7 +50,7 @@ ends_array n (Token.boolean b ∷ ts) r e = not_found r e
 ends_array n (Token.null ∷ ts) r e = not_found r e
 ends_array n (Token.bad ∷ ts) r e = not_found r e
 
--- one level more behind the end of an object, and the same behind a key
+-- one more level after the end of an object, and the same after a key
 abbrev behind_key : ℕ → Option (List ℕ) → List Token → Bool
 behind_key n None r = scan (suc n) r
 behind_key n (Some k) r = scan n r

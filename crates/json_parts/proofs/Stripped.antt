@@ -100,7 +100,7 @@ get-without_other k r (string s) apart = refl
 get-without_other k r (array ds) apart = refl
 get-without_other k r (object ms) apart = get_member-without_other k r ms apart
 
--- texts that the test tells apart are not the same
+-- strings that the test distinguishes are not the same
 pub differ : (r l : List ℕ) → bytes_eq r l ≡ false → r ≡ l → ⊥
 differ r l e same = true≢false (sym ((bytes_eq-Decides r l).1 same) ∙ e)
 

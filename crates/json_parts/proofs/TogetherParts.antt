@@ -1,4 +1,4 @@
--- What indexing texts in parts gives of all of them.
+-- What indexing strings in parts returns for all of them.
 use Rattle.std.proofs.Common.{◌≡◌, ℕ, List, [], ◌∷◌, ◌++◌, take, drop, map, Result, sym, ap, ◌∙◌, subst}
 use Rattle.std.proofs.lemmas.List.{map-append, take-append-drop}
 use Rattle.std.specs.Prelude.{Ok, Err, Some, None, IfOk, IfErr}
@@ -27,7 +27,7 @@ indexed_more js j ps p done here =
     subst (λ bs. AreIndexed bs (ps ++ p ∷ [])) (sym (map-append bytes_in js (j ∷ [])))
     (indexed_append (map bytes_in js) (bytes_in j ∷ []) ps (p ∷ []) done (here, tt))
 
--- the texts before a place, and those from it on
+-- the strings before a place, and those from it on
 pub indexed_whole : (js : List Job) (n : ℕ) (low high : List Job) (ps qs : List (Result (List Token) IndexFault))
     → low ≡ take n js → high ≡ drop n js
     → AreIndexed (map bytes_in low) ps → AreIndexed (map bytes_in high) qs → AreIndexed (map bytes_in js) (ps ++ qs)

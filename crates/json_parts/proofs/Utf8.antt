@@ -1,4 +1,4 @@
--- JSON of bytes by the parser's two clauses: what it read, and why it refused.
+-- The JSON value of bytes, by the parser's two clauses: what it read, and why it rejected them.
 use Rattle.std.proofs.Common.{◌≡◌, ℕ, true, false, List, Option, Some, None, if◌then◌else◌, refl}
 use Rattle.std.specs.Str.{is_utf8, IsUtf8}
 use Rattle.std.proofs.lemmas.Str.{IsUtf8-from_is_utf8, is_utf8-from_IsUtf8}

@@ -1,4 +1,4 @@
--- A walk over an array or an object, from the tokens to the data.
+-- A pass over an array or an object, from the tokens to the data.
 use Rattle.std.proofs.Common.{◌≡◌, ℕ, suc, ◌≤◌, max, List, [], ◌∷◌, ◌++◌, map, Option, Some, None, option_map, is_some, Bool, refl, sym, ap, ◌∙◌, subst, arith}
 use Rattle.std.specs.Prelude.{MatchOption}
 use Rattle.json.specs.Token.{Token}

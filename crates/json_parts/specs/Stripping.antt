@@ -1,5 +1,5 @@
--- Stripping: a value without each object member that is a number which isn't held as a whole number, or an array that
--- holds such a number directly or within arrays only. It is done at every depth, and the rest is kept.
+-- Stripping: a value without each object member that is a number not held as an integer, or an array that holds
+-- such a number directly or within arrays only. It is applied at every depth; the rest is kept.
 use Rattle.std.specs.Prelude.{Bool, false, ◌||◌, if◌then◌else◌}
 use Rattle.serde_json.specs.Data.{Data, null, boolean, number, string, array, object, Items, no_items, item, Members, no_members, member}
 use Rattle.serde_json.specs.Find.{is_float}

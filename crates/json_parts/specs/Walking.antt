@@ -1,4 +1,4 @@
--- How a walk over an array or an object goes on. Only the crate's private clauses cite it.
+-- How a pass over an array or an object continues. Only private clauses of the crate cite it.
 use Rattle.std.specs.Prelude.{◌≡◌, ℕ, suc, ◌≤◌, Bool, ◌||◌, if◌then◌else◌, bytes_eq, List, Option, Some, None, MatchOption, option_map, option_and_then, unwrap_or}
 use Rattle.json.specs.Token.{Token}
 use Rattle.json.specs.Json as json
@@ -41,7 +41,7 @@ MembersAre n ts ms =
     × (members_depth js ≤ n)
     × (n ≤ max_depth)
 
--- what stands within an array
+-- the content of an array
 abbrev pub OpensArray : List Token → Option (List Token) → Type 0
 OpensArray ts r =
     MatchOption r (as_array (data_of ts) ≡ None)
@@ -58,7 +58,7 @@ OpensObject ts r =
     × (data_of ts ≡ object (put_all ms no_members))
     × MembersAre n inner ms)
 
--- r stands at the first item, and `new` at those after it
+-- r is at the first item, and `new` at the items after it
 abbrev pub NextElement : List Token → Option (List Token) → List Token → Type 0
 NextElement old r new =
     (n : ℕ) (ds : Items) → ElementsAre n old ds

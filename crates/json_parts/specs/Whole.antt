@@ -1,4 +1,4 @@
--- Tokens that are a whole value. No public clause of the crate speaks of it.
+-- Tokens that form a whole value. Internal: no public contract of the crate refers to this module.
 use Rattle.std.specs.Prelude.{◌≡◌, ℕ, List, [], Some}
 use Rattle.json.specs.Token.{Token}
 use Rattle.json.specs.Json.{Json, value}

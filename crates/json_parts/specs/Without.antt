@@ -8,7 +8,7 @@ without name no_members = no_members
 without name (member own d ms) =
     if bytes_eq name own then without name ms else member own d (without name ms)
 
--- what is no object stays
+-- a value that is not an object is unchanged
 abbrev pub without_member : List ℕ → Data → Data
 without_member name null = null
 without_member name (boolean b) = boolean b

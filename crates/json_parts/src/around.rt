@@ -12,8 +12,8 @@ use std::alloc::{AllocError, Global};
 use std::cmp::Ordering;
 use std::marker::Model;
 
-/// The compact text of an object, open at the value of one of its members. Contracts see what
-/// stands before that value and after it.
+/// The compact text of an object, open at the value of one of its members. Contracts see the text before that
+/// value and after it.
 #[derive(Debug, Drop)]
 pub struct Around {
     before: String,
@@ -30,22 +30,22 @@ impl Model for Around {
 }
 
 impl Around {
-    /// What stands before the open place.
+    /// The text before the open place.
     pub fn before(&self) -> &str
         ensures { result.now ≡ self.now.before }
     {
         self.before.as_str()
     }
 
-    /// What stands after the open place.
+    /// The text after the open place.
     pub fn after(&self) -> &str
         ensures { result.now ≡ self.now.after }
     {
         self.after.as_str()
     }
 
-    /// Adds the text of the object, with `value`, the text of a JSON value, at the open place.
-    /// `AllocError` where memory is wanting; then some of it may have been added.
+    /// Adds the text of the object, with `value`, the text of a JSON value, at the open place. Returns
+    /// `AllocError` if memory runs out; some of the text may then have been added.
     pub fn push_filled(&self, text: &mut String, value: &str) -> Result<(), AllocError>
         ensures added { OnOk result
             (string_bytes text.new ≡ string_bytes text.old ++ filled self.now value.now) }
@@ -83,7 +83,7 @@ fn is_first(members: &Map<String, Value>, name: &str) -> bool
     }
 }
 
-/// Takes the members off whose names are below this one, and adds their texts, each with a comma.
+/// Removes the members whose names are below this one, and adds their texts, each followed by a comma.
 fn push_before(
     alloc: Global,
     text: &mut String,
@@ -109,7 +109,7 @@ fn push_before(
     Ok(())
 }
 
-/// The text of these members behind another one, with the closing bracket.
+/// The text of these members after another one, with the closing bracket.
 fn rest_of(alloc: Global, members: Map<String, Value>) -> Result<String, AllocError>
     requires whole { members_have_float (members_view members.entries) ≡ false }
     ensures { IfOk result
@@ -125,9 +125,8 @@ fn rest_of(alloc: Global, members: Map<String, Value>) -> Result<String, AllocEr
     Ok(text)
 }
 
-/// The compact text of an object with these members, open at the value of the member `name`. No
-/// member may hold a number with a fraction. What stands at that name is dropped. `AllocError`
-/// where memory is wanting.
+/// The compact text of an object with these members, open at the value of the member `name`. No member may hold a
+/// number with a fraction. The value at that name is dropped. Returns `AllocError` if memory for it runs out.
 pub fn text_around(
     alloc: Global,
     members: Map<String, Value>,

@@ -10,13 +10,13 @@ use json::{Invalid, Scratch};
 use std::alloc::Global;
 use std::marker::Model;
 
-/// How deep the arrays and objects of a text may nest.
+/// The maximum depth of nested arrays and objects.
 const MAX_DEPTH: usize = 127;
 
-/// Why a text has no index.
+/// Why a string has no index.
 #[derive(Clone, Copy, Debug, PartialEq, Eq, Drop)]
 pub enum IndexFault {
-    /// It is no UTF-8, no JSON, nests deeper than 127, or holds a number too large for a float.
+    /// It is not UTF-8 or not JSON, nests deeper than 127, or contains a number too large for a float.
     NotJson,
     /// Memory ran out.
     OutOfMemory,
@@ -33,7 +33,7 @@ impl From<Invalid> for IndexFault {
     }
 }
 
-/// A text that was indexed. Contracts see it as its tokens, of which `data_of` is the value.
+/// An indexed string. Contracts see it as its tokens; `data_of` is the value.
 #[derive(Drop)]
 pub struct Index<'a> {
     tape: Tape<'a>,
@@ -53,10 +53,8 @@ impl<'a> Model for Index<'a> {
     ghost invariant = { λ a. IsReadable a.tape };
 }
 
-/// Indexes a text, of which `scratch` keeps the strings with escapes.
-///
-/// `NotJson` where the bytes are no UTF-8 or no JSON, nest deeper than 127, or hold a number too
-/// large for a float; `OutOfMemory` where memory is wanting.
+/// Indexes a string; `scratch` keeps the strings with escapes. Returns `NotJson` if the bytes are not UTF-8 or not
+/// JSON, nest deeper than 127, or contain a number too large for a float; `OutOfMemory` if memory runs out.
 pub fn index_text<'a>(
     alloc: Global,
     bytes: &'a [u8],

@@ -1,5 +1,5 @@
-//! Parts of JSON texts: the index of a text and single values read from it; the text of a value, and that
-//! of an object which is open at one member.
+//! Parts of JSON: the index of a document and single values read from it; the text of a value, and the text of an
+//! object that is open at one member.
 #![tactic(auto)]
 
 mod around;

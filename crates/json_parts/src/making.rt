@@ -13,18 +13,17 @@ use serde_json::{Map, Value};
 use std::alloc::{AllocError, Global};
 
 impl<'t, 'a> Node<'t, 'a> {
-    /// The value without each object member whose value is a number that isn't held as a whole
-    /// number, or an array that holds such a number directly or within arrays only, at every depth.
-    /// `AllocError` where memory for it is wanting.
+    /// The value without each object member whose value is a number not held as an integer, or an array that holds
+    /// such a number directly or within arrays only, at every depth. Returns `AllocError` if memory for it runs
+    /// out.
     pub fn to_value(&self, alloc: Global) -> Result<Value, AllocError>
         ensures { IfOk result (λ v. view v ≡ stripped (data_of self.now)) }
     {
         make_value(alloc, self)
     }
 
-    /// The value as `to_value` makes it, but without the member `name` of this object itself; an
-    /// object within keeps its own. What is no object is made whole. `AllocError` where memory for
-    /// it is wanting.
+    /// The value as `to_value` makes it, but without the member `name` of this object itself; nested objects keep
+    /// theirs. A value that is not an object is made completely. Returns `AllocError` if memory for it runs out.
     pub fn to_value_without(&self, alloc: Global, name: &str) -> Result<Value, AllocError>
         ensures { IfOk result
             (λ v. view v ≡ stripped (without_member name.now (data_of self.now))) }
@@ -74,7 +73,7 @@ fn make_array(alloc: Global, node: &Node<'_, '_>) -> Result<Option<Vec<Value>>, 
     Ok(Some(made))
 }
 
-// Of members with one name the last counts, also where it is left out.
+// If several members have one name, the last is used, even if it is left out.
 #[cycle(making)]
 fn make_object(
     alloc: Global,

@@ -2,7 +2,7 @@
 ghost use Rattle.std.specs.Prelude.{◌≡◌};
 ghost use Rattle.json_parts.specs.Mark as said;
 
-/// The bytes after one leading byte order mark, where there is one.
+/// The bytes after one leading byte order mark, if there is one.
 pub fn without_mark(bytes: &[u8]) -> &[u8]
     ensures { result.now ≡ said.without_mark bytes.now }
 {

@@ -79,8 +79,7 @@ impl<'t, 'a> Node<'t, 'a> {
         self.elements().is_some()
     }
 
-    /// The elements, where this is an array; `None` of all else. `AllocError` where memory for the
-    /// list is wanting.
+    /// The elements, if this is an array; otherwise `None`. Returns `AllocError` if memory for the list runs out.
     pub fn items(&self, alloc: Global) -> Result<Option<Vec<Node<'t, 'a>>>, AllocError>
         ensures { IfOk result (λ found. option_map (λ v. items_of (map data_of v.items)) found
             ≡ as_array (data_of self.now)) }

@@ -1,4 +1,4 @@
-//! Whether a value of a text is one that `serde_json` reads.
+//! Returns whether `serde_json` reads a value of a string.
 ghost use Rattle.std.specs.Prelude.{◌≡◌, ◌≤◌, ◌&&◌, nat_le, is_some, map};
 ghost use Rattle.json.specs.Json.{Json};
 ghost use Rattle.json.specs.Tape.{node_token};
@@ -9,10 +9,9 @@ ghost use Rattle.json_parts.specs.Whole.{IsWhole};
 use crate::number::parse_number;
 use json::Node;
 
-/// Whether the value of these tokens nests at most `depth` deep, and a finite float is near each of its numbers.
-///
-/// One pass over the tokens tells both: each bracket that opens takes one of the levels that are left, and each that
-/// closes gives it back.
+/// Returns whether the value of these tokens nests at most `depth` deep, and a finite float is close to each of
+/// its numbers. One pass over the tokens decides both: each opening bracket uses one of the remaining levels, and
+/// each closing bracket returns it.
 pub(crate) fn is_readable(tokens: &[Node<'_>], depth: usize) -> bool
     requires { depth ≤ 1000 }
     ensures { (j : Json) → IsWhole (map node_token tokens.now) j

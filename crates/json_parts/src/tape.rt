@@ -1,8 +1,7 @@
-//! A whole text as one list of nodes, a node for each token. That of a bracket that opens holds the
-//! number of the node after the one that closes it, so what stands between is passed at once.
-//!
-//! The JSON crate's own tape is the same list. It finds the places of all tokens first, and keeps
-//! them, four bytes for each byte of the text; this one is filled as the text is read.
+//! A whole document as one list of nodes, one node for each token. The node of an opening bracket holds the number
+//! of the node after the closing bracket, so everything between is skipped at once. The JSON crate's own tape is
+//! the same list. It finds the places of all tokens first and keeps them, four bytes for each byte of the
+//! document; this list is filled while the document is read.
 ghost use Rattle.std.specs.Prelude.{◌≡◌, None, IfOk, IfErr, IsSome, map};
 ghost use Rattle.json.specs.Json.{document};
 ghost use Rattle.json.specs.Lex.{tokens};
@@ -18,7 +17,7 @@ use json::{MAX_DEPTH, Node, Reader, Scratch};
 use std::alloc::Global;
 use std::marker::Model;
 
-/// The nodes of a text. Contracts see its tokens.
+/// The nodes of a document. Contracts see its tokens.
 #[derive(Drop)]
 pub(crate) struct Tape<'a> {
     nodes: Vec<Node<'a>>,
@@ -39,7 +38,7 @@ impl<'a> Model for Tape<'a> {
 }
 
 impl<'a> Tape<'a> {
-    /// Reads a text, of which `scratch` keeps the strings with escapes.
+    /// Reads a document; `scratch` keeps the strings with escapes.
     pub(crate) fn parse(
         alloc: Global,
         text: &'a str,

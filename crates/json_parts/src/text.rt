@@ -1,4 +1,4 @@
-//! Adding the text of a value to a text.
+//! Adding the text of a value to a string.
 ghost use Rattle.std.specs.Prelude.{◌≡◌, ◌++◌, ◌∷◌, [], OnOk, false, string_bytes};
 ghost use Rattle.serde_json.specs.View.{view};
 ghost use Rattle.serde_json.specs.Written.{compact_text, has_float};
@@ -7,8 +7,8 @@ ghost use Rattle.json_parts.specs.Around.{name_text};
 use serde_json::Value;
 use std::alloc::{AllocError, Global};
 
-/// Adds the compact text of a value that holds no number with a fraction. `AllocError` where memory
-/// is wanting; then some of it may have been added.
+/// Adds the compact text of a value that holds no number with a fraction. Returns `AllocError` if memory runs out;
+/// some of it may then have been added.
 pub fn push_value(alloc: Global, text: &mut String, value: &Value) -> Result<(), AllocError>
     requires whole { has_float (view value.now) ≡ false }
     ensures added { OnOk result

@@ -1,4 +1,4 @@
-//! Indexing several texts at the same time.
+//! Indexing several documents at the same time.
 ghost use Rattle.std.specs.Prelude.{◌≡◌, ◌≤◌, IfOk, map};
 ghost use Rattle.json_parts.specs.Together.{AreIndexed};
 
@@ -8,7 +8,7 @@ use std::alloc::{AllocError, Global};
 use std::thread;
 use std::thread::Threads;
 
-/// A text to be indexed, and what keeps its strings.
+/// A document to index, and the memory for its strings.
 #[derive(Drop)]
 pub struct Job<'a> {
     /// The text.
@@ -17,7 +17,7 @@ pub struct Job<'a> {
     pub scratch: &'a mut Scratch,
 }
 
-/// Indexes texts one after another.
+/// Indexes documents in order.
 fn index_in_turn<'a>(
     alloc: Global,
     jobs: Vec<Job<'a>>,
@@ -33,8 +33,8 @@ fn index_in_turn<'a>(
     Ok(found)
 }
 
-/// Indexes texts in at most `threads` threads, this one among them, and gives in their order what each text gave: its
-/// index, or its own fault. `AllocError` where memory for the list is wanting.
+/// Indexes documents in at most `threads` threads, including this one. Returns the result for each document in
+/// order: its index, or its own error. Returns `AllocError` if memory for the list runs out.
 #[cycle(together)]
 pub fn index_texts<'a, R: Threads + Sync>(
     rt: &R,

@@ -1,4 +1,4 @@
-//! Walks over the elements of an array and the members of an object.
+//! Iterators over the elements of an array and the members of an object.
 ghost use Rattle.std.specs.Prelude.{◌<◌, ℕ, length, option_map, IfSome, OnSome};
 ghost use Rattle.serde_json.specs.Data.{Items as SpecItems, Members as SpecMembers};
 ghost use Rattle.json_parts.specs.Indexed.{data_of};

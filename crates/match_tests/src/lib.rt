@@ -1,6 +1,5 @@
-//! Tests of how results are matched, and of how work is shared among threads and gathered.
-//!
-//! The tests are in a crate of their own, so that no library is proved a second time for its tests.
+//! Tests of how results are matched, and of how work is shared among threads and gathered. The tests are in a
+//! separate crate, so that no library is proved a second time for its tests.
 #![tactic(auto)]
 
 #[cfg(test)]

@@ -1,4 +1,4 @@
-//! The partners and states of small lists.
+//! The matches and states of small lists.
 mod seeded;
 mod sketch;
 
@@ -30,7 +30,7 @@ fn matched<'a>(
     match_all(rt.alloc(), current, baseline)
 }
 
-/// Asserts the partner and the state of each current result.
+/// Asserts the match and the state of each current result.
 fn expect_partners(
     rt: &impl Abort,
     current: &[Record],
@@ -51,7 +51,7 @@ fn expect_partners(
     }
 }
 
-/// Asserts of each baseline result whether it is taken.
+/// Asserts for each baseline result whether it is matched.
 fn expect_taken(
     rt: &impl Abort,
     baseline: &[Record],
@@ -66,7 +66,7 @@ fn expect_taken(
     }
 }
 
-/// Asserts the partner and the state of each current result, and who is taken.
+/// Asserts the match and the state of each current result, and which baseline results are matched.
 fn expect_among(
     rt: &(impl Abort + AllocGlobal),
     current: &[Record],
@@ -79,7 +79,7 @@ fn expect_among(
     Ok(())
 }
 
-/// The same of results that aren't made yet.
+/// The same for results that are not made yet.
 fn expect(
     rt: &(impl Abort + AllocGlobal),
     current: &[Sketch],
@@ -137,7 +137,7 @@ fn word_of(tier: &Tier) -> &str {
     }
 }
 
-/// The words of these tiers, each after a space.
+/// The names of these tiers, each after a space.
 fn words_of(alloc: Global, tiers: &[Tier]) -> Result<String, AllocError> {
     let mut words = String::new(alloc);
     for tier in tiers {
@@ -156,7 +156,7 @@ fn tiers_among(
     words_of(alloc, &found)
 }
 
-/// The words of the tiers of these results.
+/// The names of the tiers of these results.
 fn tiers_of(alloc: Global, current: &[Sketch], baseline: &[Sketch]) -> Result<String, AllocError> {
     let current = records(alloc, current)?;
     let baseline = records(alloc, baseline)?;

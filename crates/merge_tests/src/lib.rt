@@ -1,6 +1,5 @@
-//! Tests of the merge and of the log that it assembles, through what these crates make public.
-//!
-//! They stand in a crate of their own so that neither is proved a second time for its tests.
+//! Tests of the merge and of the log that it assembles, through what these crates make public. They are in a
+//! separate crate, so that neither is proved a second time for its tests.
 #![tactic(auto)]
 
 #[cfg(test)]

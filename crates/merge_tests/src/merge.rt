@@ -1,6 +1,5 @@
-//! Rows worked by hand through the merge's calls, the texts that no contract says, how readers and
-//! writers of other kinds are used, and what no clause can say: that workers overlap, and the bound
-//! on what waits.
+//! Rows worked out by hand through the merge's calls, the strings that no contract mentions, readers and writers
+//! of other types, and what no clause can say: that workers overlap, and the bound on what waits.
 
 mod baselines;
 mod counting;
@@ -14,7 +13,7 @@ mod suppressing;
 mod telling;
 mod workers;
 
-/// The log of one result without a level, merged: it counts as a new warning.
+/// The log of one result without a level, merged: a new warning.
 const MERGED: &str = "{\"properties\":{\"gate\":{\"counts\":{\
     \"absent\":{\"active\":[0,0,0,0],\"suppressed\":[0,0,0,0]},\
     \"new\":{\"active\":[0,1,0,0],\"suppressed\":[0,0,0,0]},\

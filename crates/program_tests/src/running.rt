@@ -1,4 +1,4 @@
-//! What is written, said and complained of, and with which status.
+//! What is written and reported, and with which exit status.
 
 use sarif_model::Level;
 use sarif_program::{Complaints, Writers, run_request, seed_of};
@@ -28,7 +28,7 @@ fn seed() -> Result<RandomState, AllocError> {
     seed_of(&NoBytes).map_err(|_| AllocError)
 }
 
-/// The log of one result without a level, merged: it counts as a new warning.
+/// The log of one result without a level, merged: a new warning.
 const MERGED: &str = "{\"properties\":{\"gate\":{\"counts\":{\
     \"absent\":{\"active\":[0,0,0,0],\"suppressed\":[0,0,0,0]},\
     \"new\":{\"active\":[0,1,0,0],\"suppressed\":[0,0,0,0]},\
@@ -45,7 +45,7 @@ const MERGED: &str = "{\"properties\":{\"gate\":{\"counts\":{\
 const LOG: &str = "{\"version\":\"2.1.0\",\"runs\":[{\"tool\":{\"driver\":{\"name\":\"lint\"}},\
     \"results\":[{\"message\":{\"text\":\"m\"}}]}]}";
 
-/// What is said of it.
+/// Its summary.
 const SUMMARY: &str = "\
 state           error    warning       note       none suppressed
 new                 0          1          0          0          0
@@ -55,11 +55,11 @@ absent              0          0          0          0          0
 gate: pass, hits 0, max 0
 ";
 
-/// A log whose one result has a bad guid.
+/// A log whose one result has an invalid GUID.
 const BAD: &str = "{\"version\":\"2.1.0\",\"runs\":[{\"tool\":{\"driver\":{\"name\":\"lint\"}},\
     \"results\":[{\"message\":{\"text\":\"m\"},\"correlationGuid\":\"x\"}]}]}";
 
-/// Gives at most `piece` of its bytes a read, and fails after so many reads.
+/// Returns at most `piece` of its bytes per read, and fails after this many reads.
 #[derive(Drop)]
 struct Given {
     bytes: &'static [u8],
@@ -68,7 +68,7 @@ struct Given {
 }
 
 impl Given {
-    /// All of a text, ten bytes a read.
+    /// All of a text, ten bytes per read.
     fn whole(text: &'static str) -> Given {
         Given {
             bytes: text.as_bytes(),
@@ -77,7 +77,7 @@ impl Given {
         }
     }
 
-    /// The log, ten bytes a read, which fails after so many reads.
+    /// The log, ten bytes per read, which fails after this many reads.
     fn failing(good: u32) -> Given {
         Given {
             bytes: LOG.as_bytes(),

@@ -9,7 +9,7 @@ const LOG: &str = r#"{"runs":[{"tool":{"driver":{"name":"a\u0062","rank":1.5}},
     "results":[1,{"at":[[1e3],2]},-7],"guid":null,"share":0.5,"share":true}],
     "version":1,"version":"2.1.0","big":12345678901234567890,"twice":1,"twice":2.5}"#;
 
-// What is told of the root of an indexed text; `none` where there is no index.
+// A description of the root of an indexed document; `none` if there is no index.
 fn told_of<Tell: FnOnce(&Node<'_, '_>) -> Result<String, AllocError>>(
     alloc: Global,
     text: &str,
@@ -31,7 +31,7 @@ fn member_in(alloc: Global, root: &Node<'_, '_>, name: &str) -> Result<String, A
     }
 }
 
-// The member of that name, stripped, as text; `none` where there is none or no index.
+// The member with that name, stripped, as text; `none` if there is no member or no index.
 fn member(alloc: Global, text: &str, name: &str) -> Result<String, AllocError> {
     told_of(alloc, text, |root| member_in(alloc, root, name))
 }
@@ -85,7 +85,7 @@ fn count_of(alloc: Global, node: &Node<'_, '_>) -> Result<String, AllocError> {
     }
 }
 
-// The kinds of a value that it is told to be of, by their first letters.
+// The types that a value is found to have, by their first letters.
 fn kinds_of(alloc: Global, node: &Node<'_, '_>) -> Result<String, AllocError> {
     let mut told = String::new(alloc);
     for (letter, is_so) in [
@@ -140,7 +140,7 @@ fn what_is_no_json_has_no_index(rt: HostRuntime) -> Result<(), Fail> {
     Ok(())
 }
 
-// Arrays in one another, so many deep.
+// Nested arrays, this many levels deep.
 fn nested(alloc: Global, depth: usize) -> Result<String, Fail> {
     let mut text = String::new(alloc);
     for _ in 0..depth {

@@ -1,6 +1,5 @@
-//! Tests of what is read: the index of a JSON text, its values, the members of results and runs, rules.
-//!
-//! The tests are in a crate of their own, so that no library is proved a second time for its tests.
+//! Tests of reading: the index of JSON, its values, the members of results and runs, rules. The tests are in a
+//! separate crate, so that no library is proved a second time for its tests.
 #![tactic(auto)]
 
 #[cfg(test)]

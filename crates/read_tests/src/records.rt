@@ -1,4 +1,4 @@
-//! The types that all layers speak of, and how logs and results are read.
+//! The vocabulary of all crates, and how logs and results are read.
 mod indexing;
 mod kinds;
 mod own_members;

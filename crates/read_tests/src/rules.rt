@@ -1,5 +1,5 @@
-//! Examples worked by hand, and that each call succeeds with ample memory. A row is an answer and a run, whose first result
-//! gives its descriptor, its level and its place, or a fault.
+//! Examples worked out by hand, and that each call succeeds if there is enough memory. A row is an expected value
+//! and a run, whose first result gives its descriptor, its level and its place, or an error.
 use sarif_model::{Fault, Kind, Level, Place, Record, Refusal};
 use sarif_read::{Log, RawRun, read_log};
 use sarif_runs::{Parts, RunHead, make_record, open_run, read_parts};
@@ -75,7 +75,7 @@ impl RandomSource for Bytes {
     }
 }
 
-// The first row that gives another answer with one of some seeds, with that answer.
+// The first row with a different result for one of some seeds, with that result.
 fn wrong_row(alloc: Global, rows: &str) -> Result<Option<String>, Fail> {
     for row in rows.lines() {
         let (wanted, run) = row.split_once('|').ok_or("no bar")?;

@@ -10,7 +10,7 @@ fn close(run: u32, count: u32, tail: u32) -> Piece<u32, u32> {
     Piece::Close { run, count, tail }
 }
 
-/// The lists of a collector that gets each piece once more where it was refused for memory.
+/// The lists of a collector that gets each piece once more if memory ran out for it.
 pub fn accept(alloc: Global) -> Result<String, AllocError> {
     let mut collector = Collector::new(alloc, 2)?;
     let mut is_again = false;
@@ -64,8 +64,7 @@ fn in_words(alloc: Global, lists: &Lists<u32, u32>, is_again: bool) -> Result<St
     Ok(text)
 }
 
-/// What arrivals come to of which number 5 is refused, a close that comes too early and that would
-/// want memory.
+/// The outcome of arrivals of which number 5 is rejected, a close that comes too early and that would allocate.
 pub fn collect_arrivals(alloc: Global) -> Result<String, AllocError> {
     let arrivals = vec![in alloc;
         item(0, 4, 14),

@@ -6,7 +6,7 @@ use std::thread::Threads;
 
 const ITEMS: u32 = 1000;
 
-/// One run, whose items are their numbers. No item wants memory.
+/// One run, whose items are their numbers. No item allocates.
 #[derive(Clone, Copy)]
 struct Numbers;
 

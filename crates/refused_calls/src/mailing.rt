@@ -6,7 +6,7 @@ use sarif_gather::{Desk, Mailbox, Post};
 use std::alloc::{AllocError, Global};
 use std::sync::Wait;
 
-/// What is left in a mailbox of two senders, which is settled once more where that was refused.
+/// What is left in a mailbox of two senders, which is settled once more if memory ran out.
 pub fn settle<R: Wait>(rt: &R, alloc: Global) -> Result<String, AllocError> {
     let (mailbox, mut posts, mut desk) = Mailbox::<u8>::new(alloc, 4, 2)?;
     let (Some(mut second), Some(mut first)) = (posts.pop(), posts.pop()) else {

@@ -1,6 +1,5 @@
-//! Makes public calls of the libraries, also such as the merge doesn't make, and prints what they
-//! answer. Each line of standard input is a call and what it is given. `tests/calls` runs it with
-//! requests for memory refused.
+//! Makes public calls of the libraries, including calls that the merge does not make, and prints their results.
+//! Each line of standard input is a call and its input. In `tests/calls`, allocations of this program fail.
 #![tactic(auto)]
 
 mod collecting;
@@ -49,7 +48,7 @@ fn answer_to<R: Threads + Wait + Sync>(
     }
 }
 
-// What a call of the crates that know nothing of threads answers.
+// The result of a call of the crates that know nothing of threads.
 fn answer_of_values(
     alloc: Global,
     seed: RandomState,

@@ -1,4 +1,4 @@
-//! The results of a log's first run beside those of its second, which stand for a baseline.
+//! The results of a log's first run and those of its second, which represent a baseline.
 use crate::reading::log_of;
 use sarif_match::{key, match_all, tiers};
 use sarif_model::{Fault, Record, Refusal};
@@ -67,7 +67,7 @@ fn keys_of(alloc: Global, sides: &Sides) -> Result<String, AllocError> {
     Ok(text)
 }
 
-/// The partner of each current result.
+/// The match of each current result.
 pub fn partners_in_words(
     alloc: Global,
     seed: RandomState,

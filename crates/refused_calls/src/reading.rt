@@ -6,7 +6,7 @@ use serde_json::Value;
 use std::alloc::{AllocError, Global};
 use std::hash::RandomState;
 
-/// The runs of a log as JSON, or its fault.
+/// The runs of a log as JSON, or its error.
 pub fn runs_in_words(alloc: Global, log: &str) -> Result<String, AllocError> {
     match read_log(alloc, log.as_bytes()) {
         Ok(log) => runs_as_text(alloc, &log),
@@ -49,7 +49,7 @@ pub fn log_of(alloc: Global, text: &str) -> Result<Log, Refusal<Fault>> {
     }
 }
 
-/// What is read of a log's first result.
+/// The own members of a log's first result.
 pub fn parts_in_words(alloc: Global, log: &str) -> Result<String, AllocError> {
     match parts_of(alloc, log) {
         Ok(parts) => format!(in alloc; "{parts:?}"),

@@ -7,8 +7,8 @@ use std::hash::{BuildHasherDefault, FoldHasher, RandomState};
 
 type Rules = Suppressions<BuildHasherDefault<FoldHasher>>;
 
-/// What is asked of a file: how many entries it has, what it makes of a result, or the object that
-/// is written for its first entry.
+/// A question about a file: how many entries it has, its effect on a result, or the object that is written for its
+/// first entry.
 #[derive(Clone, Copy)]
 pub enum Asked<'a> {
     Count,
@@ -16,7 +16,7 @@ pub enum Asked<'a> {
     Object,
 }
 
-/// The answer of a file, or its fault.
+/// The result for a file, or its error.
 pub fn answer_of(alloc: Global, file: &str, asked: Asked) -> Result<String, AllocError> {
     match read_rules(alloc, file.as_bytes(), Some(20250131)) {
         Ok(rules) => in_words(alloc, &rules, asked),
@@ -39,7 +39,7 @@ fn in_words(alloc: Global, rules: &Rules, asked: Asked) -> Result<String, AllocE
     }
 }
 
-/// What a file makes of a log's first result. The file stands before the log, with a bar between.
+/// The effect of a file on a log's first result. The file comes before the log, with a bar between.
 pub fn applied_in_words(
     alloc: Global,
     seed: RandomState,

@@ -1,4 +1,4 @@
-//! The smallest source of each cause, with the whole explanation that is wanted.
+//! The smallest source of each cause, with the complete expected explanation.
 mod files;
 mod logs;
 mod results;
@@ -10,7 +10,7 @@ use std::alloc::Global;
 use std::process::Abort;
 use std::test::Fail;
 
-/// The explanation of that fault of a file `found.sarif` that holds the text.
+/// The explanation of that error of a file `found.sarif` with this content.
 fn told(alloc: Global, at: At, cause: Cause, text: &str) -> Result<String, Fail> {
     let source = FaultSource {
         file: "found.sarif",

@@ -1,7 +1,5 @@
-//! Tests of the reports, of the explanations of faults, and of the words of a command line, through what these crates
-//! make public.
-//!
-//! They stand in a crate of their own so that none of these is proved a second time for its tests.
+//! Tests of the reports, of the explanations of errors, and of the command line, through what these crates make
+//! public. They are in a separate crate, so that none of these is proved a second time for its tests.
 #![tactic(auto)]
 
 #[cfg(test)]

@@ -50,7 +50,7 @@ const MARKDOWN: &str = "\
 const GITLAB: &str =
     r#"[{"check_name":"B703","description":"Potential XSS on mark_safe function.","fingerprint":"fd273b5e336360fba395744f1a4977133a2a2978631842434d51f65ae37747db","location":{"lines":{"begin":12},"path":"django/forms/forms.py"},"severity":"major"},{"check_name":"B703","description":"Use of a%b in {x} 1 {01} {2}","fingerprint":"e55a18772619595811ce4cbf0c71dbedef72f3b05e7dce49b8a8d4e78d89e4bc","location":{"lines":{"begin":1},"path":"a b.c"},"severity":"critical"},{"check_name":"unknown","description":"x ::error::y # #[z] {0}","fingerprint":"339cb18f69a2fd290434b7ec3d9b91ea6a6e4fda14dfb132c9711ee8ed83b46a","location":{"lines":{"begin":1},"path":"unknown"},"severity":"minor"}]"#;
 
-/// Three results, of which the first and the last are alike.
+/// Three results, of which the first and the last are equal.
 const ALIKE: &str = r#"{"runs":[{"results":[
 {"baselineState":"new","level":"error","message":{"text":"same"}},
 {"baselineState":"new","level":"error","message":{"text":"other"}},
@@ -66,7 +66,7 @@ const HOSTILE: &str = r#"{"runs":[{"results":[
 {"baselineState":"updated","level":"note","locations":[{"physicalLocation":{"artifactLocation":{"uri":"a.c"},"region":{"startLine":2}}}],"message":{"text":"m"},"ruleIndex":1}
 ],"tool":{"driver":{"name":"T","rules":[{"helpUri":"https://e.org/?a=1&b=\"2\"","id":"R<1>"},{"helpUri":"javascript:alert(1)","id":"R2"}]}}}],"version":"2.1.0"}"#;
 
-/// What the page says of these.
+/// What the page says about these.
 const HOSTILE_ROWS: [&str; 6] = [
     "<tr data-level=\"error\" data-state=\"new\" data-hit=\"yes\">",
     ">a.c:1<",
@@ -301,7 +301,7 @@ fn a_page_without_results_has_no_table_of_them(rt: HostRuntime) -> Result<(), Fa
     Ok(())
 }
 
-/// So many results that are alike.
+/// This many equal results.
 fn many(alloc: Global, count: u32) -> Result<Vec<Finding>, Fail> {
     let mut findings = Vec::new(alloc);
     for _ in 0..count {

@@ -1,4 +1,4 @@
-//! What to do about a fault: the table of the sentences.
+//! What to do about an error: the table of sentences.
 use sarif_model::{Cause, Fault};
 
 /// What to do about an input past a limit.

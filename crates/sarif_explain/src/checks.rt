@@ -5,15 +5,15 @@ use sarif_model::Fault;
 /// Whether a member may be absent.
 #[derive(Clone, Copy, Debug, PartialEq, Eq)]
 pub(crate) enum Need {
-    /// It may be absent or null.
+    /// It may be missing or null.
     May,
-    /// It must be there.
+    /// It is required.
     Must,
 }
 
 use Need::{May, Must};
 
-/// A value, by the names of the members on the way to it, and what is wanted of it.
+/// A value, by the names of the members on the path to it, and what is expected of it.
 #[derive(Clone, Copy)]
 pub(crate) struct Check(pub &'static [&'static str], pub Need, pub Wanted);
 
@@ -283,7 +283,7 @@ const EMPTY_MATCH: &[Check] = &[Check(&[], Must, Wanted::Condition)];
 
 const TODAY: &[Check] = &[Check(&["expires"], May, Wanted::Today)];
 
-/// The checks of an entry of the suppression file, of which the names of its members are known.
+/// The checks of an entry of the suppression file whose member names are valid.
 pub(crate) fn entry_checks(fault: Fault) -> &'static [Check] {
     match fault {
         Fault::BadEntry => ENTRY_MEMBERS,

@@ -1,4 +1,4 @@
-//! What is at fault in an entry of the suppression file.
+//! The error in an entry of the suppression file.
 use crate::checks::entry_checks;
 use crate::misfit::{Found, Misfit, misfit_in};
 use crate::place::Place;

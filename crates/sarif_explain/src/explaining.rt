@@ -1,4 +1,4 @@
-//! The explanation of a fault.
+//! The explanation of an error.
 use crate::advice::advice_on;
 use crate::lines::{push_line, push_number, shortened};
 use crate::misfit::Misfit;
@@ -8,14 +8,14 @@ use sarif_model::{Cause, Fault, MergeFault};
 use serde_json::{Error, Value};
 use std::alloc::{AllocError, Global};
 
-/// What is known of the source that a fault is in.
+/// What is known about the source of an error.
 #[derive(Clone, Copy, Debug)]
 pub struct FaultSource<'a> {
-    /// The name of the file, as it stands among the words; empty where there is none.
+    /// The file name as it was passed; empty if there is none.
     pub file: &'a str,
-    /// What was read of it.
+    /// The bytes that were read from it.
     pub bytes: &'a [u8],
-    /// What the system said of the last call that failed.
+    /// The system's message for the last failed call.
     pub system: Option<&'a str>,
 }
 
@@ -31,7 +31,7 @@ fn push_found(alloc: Global, lines: &mut String, misfit: &Misfit<'_>) -> Result<
     }
 }
 
-/// Adds what is wanted, and of which member, where that one is wanting.
+/// Adds what is expected, with the member's name if the member is missing.
 fn push_wanted(alloc: Global, lines: &mut String, misfit: &Misfit<'_>) -> Result<(), AllocError> {
     let sentence = misfit.wanted.sentence();
     match misfit.missing {
@@ -43,14 +43,14 @@ fn push_wanted(alloc: Global, lines: &mut String, misfit: &Misfit<'_>) -> Result
     }
 }
 
-/// Adds what is at fault in the source.
+/// Adds the error in the source.
 fn push_misfit(alloc: Global, lines: &mut String, misfit: &Misfit<'_>) -> Result<(), AllocError> {
     push_line(alloc, lines, "where", misfit.place.pointer.as_str())?;
     push_found(alloc, lines, misfit)?;
     push_wanted(alloc, lines, misfit)
 }
 
-/// Adds where the reading of JSON stopped, if that is the fault, and what is wanted.
+/// Adds the position of a JSON error, if that is the error, and what is expected.
 fn push_stop(
     alloc: Global,
     lines: &mut String,
@@ -67,7 +67,7 @@ fn push_stop(
     push_line(alloc, lines, "wanted", wanted_by(fault).sentence())
 }
 
-/// Adds where the fault stands, what was found there, and what is wanted.
+/// Adds the position of the error, what was found there, and what is expected.
 fn push_spot(
     alloc: Global,
     lines: &mut String,
@@ -83,7 +83,7 @@ fn push_spot(
     }
 }
 
-/// Adds what the system said of a read or a write that failed.
+/// Adds the system's message for a failed read or write.
 fn push_system(
     alloc: Global,
     lines: &mut String,
@@ -98,11 +98,11 @@ fn push_system(
     }
 }
 
-/// The lines of an explanation, each two spaces, a name, a colon, a space, a text and a newline. Those that are known
-/// of stand in this order: `file`; `where`, a JSON pointer (RFC 6901) to the value at fault or, where a member is
-/// wanting, to the object that should hold it; `line` and `column`, where the reading of JSON stopped; `found`, the
-/// beginning of the value's compact text, or `nothing`; `wanted`; `system`; `advice`. Texts are shown as those of a log
-/// are in reports. `AllocError` where memory is wanting.
+/// Returns the lines of an explanation. Each line is two spaces, a name, a colon, a space, a string and a newline.
+/// The known lines are in this order: `file`; `where`, a JSON pointer (RFC 6901) to the invalid value, or to the
+/// object in which a member is missing; `line` and `column` of a JSON error; `found`, the beginning of the value's
+/// compact JSON, or `nothing`; `wanted`; `system`; `advice`. Strings are shown as in reports. Returns `AllocError`
+/// if memory runs out.
 pub fn explanation(
     alloc: Global,
     fault: &MergeFault,

@@ -1,4 +1,4 @@
-//! What is at fault in a run, beside its results.
+//! The error in a run, outside its results.
 use crate::checks::{
     artifact_checks, component_checks, invocation_checks, override_checks, rule_checks, run_checks,
 };

@@ -1,4 +1,4 @@
-//! What is at fault in a result.
+//! The error in a result.
 use crate::checks::{location_checks, result_checks, suppression_checks};
 use crate::misfit::{Found, misfit_in, misfit_in_each};
 use crate::past_table::misfit_past_tables;

@@ -1,4 +1,4 @@
-//! What is at fault in a source, by the place of the fault.
+//! The error in a source, by the place of the error.
 use crate::checks::{file_checks, log_checks};
 use crate::entry::misfit_of_entry;
 use crate::misfit::{Found, Misfit, misfit_in};
@@ -55,7 +55,7 @@ pub(crate) fn wanted_by(fault: &MergeFault) -> Wanted {
     }
 }
 
-/// The place itself, where nothing in it was found at fault.
+/// The place itself, if no error was found in it.
 fn or_all<'a>(found: Option<Misfit<'a>>, place: Place<'a>, wanted: Wanted) -> Misfit<'a> {
     match found {
         Some(misfit) => misfit,
@@ -63,7 +63,7 @@ fn or_all<'a>(found: Option<Misfit<'a>>, place: Place<'a>, wanted: Wanted) -> Mi
     }
 }
 
-/// What is at fault in a whole source.
+/// The error in a whole source.
 fn misfit_of_source<'a>(alloc: Global, root: &Place<'a>, at: At, fault: Fault) -> Found<'a> {
     match at {
         At::Whole(Source::Suppress) => misfit_in(alloc, root, file_checks(fault)),
@@ -71,7 +71,7 @@ fn misfit_of_source<'a>(alloc: Global, root: &Place<'a>, at: At, fault: Fault) -
     }
 }
 
-/// What is at fault in a log or a baseline, at a run or at a result of it.
+/// The error in a log or a baseline, at a run or at a result of it.
 fn misfit_in_log<'a>(
     alloc: Global,
     root: Place<'a>,
@@ -96,7 +96,7 @@ fn misfit_in_log<'a>(
     }
 }
 
-/// What is at fault in the suppression file, at an entry.
+/// The error in the suppression file, at an entry.
 fn misfit_in_file<'a>(
     alloc: Global,
     root: Place<'a>,
@@ -118,7 +118,7 @@ fn is_file(at: At) -> bool {
     matches!(at, At::Whole(Source::Suppress) | At::Entry(_))
 }
 
-/// What is at fault in the source that this is the value of.
+/// The error in the source with this value.
 pub(crate) fn misfit_of<'a>(
     alloc: Global,
     value: &'a Value,

@@ -10,19 +10,19 @@ use sarif_streams::{Counted, Kept, Readers};
 use std::alloc::{AllocError, Global};
 use std::io;
 
-/// What a run was asked for, and what it read and wrote.
+/// The request of a run, and what it read and wrote.
 #[derive(Clone, Copy)]
 pub struct Ended<'a, 'b> {
-    /// What the words asked for: the names of all sources and outputs.
+    /// The request: the names of all sources and outputs.
     pub request: &'b Request,
-    /// The sources, each beside what was read of it and what its last failed call said.
+    /// The sources, each with what was read from it and the message of its last failed call.
     pub readers: &'b Readers<Reading<'a>>,
-    /// The outputs, each beside what its last failed call said.
+    /// The outputs, each with the message of its last failed call.
     pub writers: &'b Outputs<'a>,
 }
 
 impl Ended<'_, '_> {
-    /// Writes the explanation of a complaint. Where memory is wanting for it, nothing is written.
+    /// Writes the explanation of an error message. If memory for it runs out, nothing is written.
     pub fn explain(&self, rt: &HostRuntime, complaint: Complaint) {
         let explained = match complaint {
             Complaint::Fault(fault) => self.explained(rt.alloc(), &fault),
@@ -34,7 +34,7 @@ impl Ended<'_, '_> {
         }
     }
 
-    /// The explanation of a fault, by the source that it's in.
+    /// The explanation of an error, by its source.
     fn explained(&self, alloc: Global, fault: &MergeFault) -> Result<String, AllocError> {
         let request = self.request;
         let readers = self.readers;
@@ -82,7 +82,7 @@ fn destination_of<T>(report: Report, reports: &[Wanted<T>]) -> Option<&T> {
     Some(&wanted.to)
 }
 
-/// The source that a fault is in.
+/// The source of an error.
 fn source_of(fault: &MergeFault) -> Option<Source> {
     match fault.at {
         At::Nowhere => None,
@@ -91,7 +91,7 @@ fn source_of(fault: &MergeFault) -> Option<Source> {
     }
 }
 
-/// The explanation of a fault in a source of this name, by what was kept of it.
+/// The explanation of an error in a source with this name, from what was kept of it.
 fn of_kept<'a, D>(
     alloc: Global,
     fault: &MergeFault,
@@ -111,7 +111,7 @@ fn of_kept<'a, D>(
     }
 }
 
-/// The explanation of a fault in a source of this name, which gave these bytes and failed with this error.
+/// The explanation of an error in a source with this name, these bytes and this system error.
 fn of_source(
     alloc: Global,
     fault: &MergeFault,
@@ -128,7 +128,7 @@ fn of_source(
     }
 }
 
-/// The explanation of a fault in a source of this name, which gave these bytes and of which the system said this.
+/// The explanation of an error in a source with this name, these bytes and this system message.
 fn by_system<'a>(
     alloc: Global,
     fault: &MergeFault,

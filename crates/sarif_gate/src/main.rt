@@ -40,7 +40,7 @@ fn main(rt: HostRuntime) -> ExitCode {
     ExitCode::from(status)
 }
 
-/// The words after the program's name, and what the tables hash with.
+/// The arguments after the program's name, and the seed of the hash tables.
 fn words_of(rt: &HostRuntime) -> io::Result<(Vec<String>, RandomState)> {
     let mut words = env::args(rt)?;
     let _program = words.next();
@@ -58,14 +58,14 @@ fn run_streams<T: Threads + Wait + Sync>(rt: &HostRuntime, threads: &T, seed: Ra
     }
 }
 
-/// Does what the words ask for.
+/// Does what the arguments ask for.
 fn run_words<T: Threads + Wait + Sync>(
     rt: &HostRuntime,
     threads: &T,
     seed: RandomState,
     words: &[String],
 ) -> u8
-    // Where the words make no request, the status is that of their fault, or of want of memory.
+    // If the arguments make no request, the status is that of their error, or of OutOfMemory.
     ensures told { (asked : Result Asked Mistake) × Answers (map string_bytes words.now) asked
         × IfErr asked (λ fault. result ≡ words_status fault) }
     ensures known { result ≤ 3 }
@@ -79,7 +79,7 @@ fn run_words<T: Threads + Wait + Sync>(
     }
 }
 
-/// The status of a run. Where memory was wanting for its sources and outputs, that is told, and answered.
+/// The exit status of a run. If memory for its sources and outputs ran out, that is reported and returned.
 fn status_of(rt: &HostRuntime, ended: Result<u8, AllocError>) -> u8
     requires { IfOk ended (λ status. status ≤ 3) }
     ensures known { result ≤ 3 }
@@ -144,7 +144,7 @@ fn merge_streams<'a, T: Threads + Wait + Sync>(
     status
 }
 
-/// Prints the help on standard output, and what is wrong with the words on standard error.
+/// Prints the help on standard output, and usage errors on standard error.
 fn tell(rt: &HostRuntime, fault: &WordsFault) {
     let _ = match fault {
         WordsFault::Usage(text) => eprint!(rt; "{text}"),
@@ -153,7 +153,7 @@ fn tell(rt: &HostRuntime, fault: &WordsFault) {
     };
 }
 
-/// Says why the words can't be read.
+/// Reports why the arguments cannot be read.
 fn tell_unread(rt: &HostRuntime, error: &io::Error) {
     if error.kind() == io::ErrorKind::OutOfMemory {
         tell(rt, &WordsFault::OutOfMemory);

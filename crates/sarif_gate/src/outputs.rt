@@ -18,8 +18,8 @@ pub type Output<'a> = Kept<Target<'a, HostRuntime, Stdout>>;
 /// The outputs of the program.
 pub type Outputs<'a> = Writers<Output<'a>, Console<Stdout, Stderr>, Output<'a>>;
 
-/// The outputs that a request names, none of them opened. `AllocError` where memory for their names
-/// is wanting.
+/// Returns the outputs that a request names, none of them opened. Returns `AllocError` if memory for their names
+/// runs out.
 pub fn outputs_of<'a>(rt: &'a HostRuntime, request: &Request) -> Result<Outputs<'a>, AllocError>
     // There is a writer for each report that is requested, in the same order, and for no other report.
     ensures asked { IfOk result (λ outputs. wanted_reports outputs.reports.items

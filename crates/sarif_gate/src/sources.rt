@@ -15,13 +15,13 @@ use std::io::Stdin;
 /// A source of the program.
 pub type Source<'a> = Kept<Input<'a, HostRuntime, Stdin>>;
 
-/// The sources that a request names, none of them opened. What is read of them is kept where a fault is explained.
-/// `AllocError` where memory for their lists is wanting.
+/// Returns the sources that a request names, none of them opened. If errors are explained, the bytes that are read
+/// are kept. Returns `AllocError` if memory for their lists runs out.
 pub fn sources_of<'a>(
     rt: &'a HostRuntime,
     request: &'a Request,
 ) -> Result<Readers<Source<'a>>, AllocError>
-    // Each name stands in the list that the request has it in.
+    // Each name is in the list that the request has it in.
     ensures logs { IfOk result
         (λ sources. names_of sources.logs.items ≡ «request».now.logs.items) }
     ensures baselines { IfOk result

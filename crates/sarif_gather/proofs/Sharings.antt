@@ -34,7 +34,7 @@ both_zipped R [] xs' (y ∷ ys) ys' low high = absurd low
 both_zipped R (x ∷ xs) xs' [] ys' low high = absurd low
 both_zipped R (x ∷ xs) xs' (y ∷ ys) ys' low high = (low.0, both_zipped R xs xs' ys ys' low.1 high)
 
--- of a list that was cut after n
+-- a list that was cut after n
 pub cut_zipped : {A B : Type 0} (R : A → B → Type 0) (n : ℕ) (all xs xs' : List A) (ys ys' made : List B)
     → xs ≡ take n all → xs' ≡ drop n all → made ≡ ys ++ ys' → AllZip R xs ys → AllZip R xs' ys' → AllZip R all made
 cut_zipped R n all xs xs' ys ys' made front back is low high =
@@ -42,7 +42,7 @@ cut_zipped R n all xs xs' ys ys' made front back is low high =
     (subst (λ js. AllZip R js (ys ++ ys')) (ap (λ l. l ++ xs') front ∙ ap (λ l. take n all ++ l) back ∙ take-append-drop n all)
     (both_zipped R xs xs' ys ys' low high))
 
--- one more list behind the others
+-- one more list after the others
 pub joined_more : {U E : Type 0} (rs : List (Result (Vec U Global) E)) (us : List U) (v : Vec U Global) → AreJoined rs us → AreJoined (rs ++ Ok v ∷ []) (us ++ v.items)
 joined_more rs us v are = (
   are.0 ++ v ∷ [],
@@ -62,7 +62,7 @@ module _ {F T R : Type 0} (g : Shared F (ℕ × (Bor (List T) × Unit {0})) R) (
       subst (λ k. g.pre f (k, (p, tt))) (length-take-le start xs (omega arith)) (takes before after p whole)
 
   module _ (size : ℕ) where
-    -- so many chunks of xs
+    -- this many chunks of xs
     abbrev pub cut : ℕ → List T → List (List T)
     cut zero xs = []
     cut (suc n) xs = take size xs ∷ cut n (drop size xs)
@@ -96,7 +96,7 @@ module _ {F T R : Type 0} (g : Shared F (ℕ × (Bor (List T) × Unit {0})) R) (
           subst (λ k. GivesParts g f k (cut (suc n) (drop size ys)) rs) (suc-mul from size ∙ ap (λ k. from * size + k) (sym full)) rest,
         )
 
--- what the lists of all parts give, behind one another
+-- the lists of all parts, concatenated
 pub parts_zipped : {F T U E : Type 0} (g : Shared F (ℕ × (Bor (List T) × Unit {0})) (Result (Vec U Global) E)) (f : F) (R : T → U → Type 0)
     → ((start : ℕ) (p : List T) (v : Vec U Global) → GivesPart g f start p (Ok v) → AllZip R p v.items)
     → (start : ℕ) (ps : List (List T)) (vs : List (Vec U Global)) → GivesParts g f start ps (map Ok vs) → AllZip R (flat_map (λ p. p) ps) (flat_map (λ v. v.items) vs)
@@ -106,7 +106,7 @@ parts_zipped g f R each start (p ∷ ps) [] given = absurd given
 parts_zipped g f R each start (p ∷ ps) (v ∷ vs) given =
     both_zipped R p (flat_map (λ q. q) ps) v.items (flat_map (λ w. w.items) vs) (each start p v given.0) (parts_zipped g f R each (start + length p) ps vs given.1)
 
--- the next one behind those before it
+-- the next list after those before it
 pub one_more : {A B : Type 0} (R : A → B → Type 0) (xs : List A) (i : ℕ) (d : A) (ys : List B) (y : B) → i < length xs → AllZip R (take i xs) ys → R (slice_index_or xs i d) y → AllZip R (take (i + 1) xs) (ys ++ y ∷ [])
 one_more R xs i d ys y below so_far here =
     subst (λ l. AllZip R l (ys ++ y ∷ [])) (sym (take_more xs i d below)) (all_zipped_more R (take i xs) ys (slice_index_or xs i d) y so_far here)
@@ -131,7 +131,7 @@ part_within xs before part after k d whole below =
     )
 
 module _ {F T U E : Type 0} (g : Shared F (Bor T × Unit {0}) (Result U E)) (f : F) where
-  -- for a caller: what holds of what one call gives holds of what all give
+  -- for a caller: what is true for the result of one call is true for the results of all
   pub each_holds : (R : T → U → Type 0) → ((p : Bor T) (u : U) → g.post f (p, tt) (Ok u) → R p.now u) → (xs : List T) (us : List U) → GivesEachAt g f xs us → AllZip R xs us
   each_holds R one [] [] given = tt
   each_holds R one [] (u ∷ us) given = absurd given

@@ -45,7 +45,7 @@ module _ {F T U E : Type 0} (g : Shared F (Bor T × Unit {0}) (Result U E)) (f :
   abbrev pub GivesEachAt : List T → List U → Type 0
   GivesEachAt xs us = AllZip (λ x u. FnReturnsAt g f x (Ok u)) xs us
 
--- all of these are lists, which make us behind one another
+-- all of these are lists, which are us when concatenated
 abbrev pub AreJoined : {U E : Type 0} → List (Result (Vec U Global) E) → List U → Type 0
 AreJoined {U} {E} rs us =
     (lists : List (Vec U Global)) × (map Ok lists ≡ rs) × (flat_map (λ v. v.items) lists ≡ us)

@@ -8,7 +8,7 @@ use std::alloc::{AllocError, Global};
 use std::thread;
 use std::thread::Threads;
 
-/// By what work is shared: at most `threads` threads, this one among them, of which each has at least `least` of it.
+/// How work is shared: among at most `threads` threads, including this one, each with at least `least` elements.
 #[derive(Drop)]
 pub struct Sharing<'r, R> {
     /// What starts threads.
@@ -17,11 +17,11 @@ pub struct Sharing<'r, R> {
     pub alloc: Global,
     /// The most threads that there may be, this one among them.
     pub threads: u32,
-    /// Fewer than this aren't worth a thread of their own.
+    /// For fewer elements it is not worth starting another thread.
     pub least: usize,
 }
 
-/// What `one` gives for each of these jobs, one after another.
+/// Returns what `one` returns for each of these jobs, in order.
 fn jobs_in_turn<J: Drop, U: Drop, F: Fn(J) -> Result<U, AllocError>>(
     alloc: Global,
     jobs: Vec<J>,
@@ -37,7 +37,7 @@ fn jobs_in_turn<J: Drop, U: Drop, F: Fn(J) -> Result<U, AllocError>>(
     Ok(made)
 }
 
-/// What `one` gives for each of these jobs, in their order, by at most so many threads.
+/// Returns what `one` returns for each of these jobs, in order, in at most this many threads.
 #[cycle(jobs)]
 fn jobs_by<
     R: Threads + Sync,
@@ -71,7 +71,7 @@ fn jobs_by<
     Ok(made)
 }
 
-/// How many threads are worth it for so many, where each takes `least` of them.
+/// Returns how many threads are worth starting for this many elements, if each gets at least `least`.
 fn worth(count: usize, threads: u32, least: usize) -> usize {
     let most = threads as usize;
     match count.checked_div(least) {
@@ -80,15 +80,15 @@ fn worth(count: usize, threads: u32, least: usize) -> usize {
     }
 }
 
-/// How many make a part for each of so many threads.
+/// Returns how many elements each of this many threads gets.
 fn part_size(count: usize, threads: usize) -> usize
     ensures { 0 < result }
 {
     count.div_ceil(threads.max(1)).max(1)
 }
 
-/// What `one` gives for each of these jobs, in their order. `AllocError` if one gives that, or if memory for the list
-/// runs out.
+/// Returns what `one` returns for each of these jobs, in order. Returns `AllocError` if one of them does, or if
+/// memory for the list runs out.
 pub fn share_jobs<
     R: Threads + Sync,
     J: Send + Drop,
@@ -102,8 +102,8 @@ pub fn share_jobs<
     jobs_by(sharing.rt, sharing.alloc, jobs, threads, one)
 }
 
-/// What `part` gives for each of some parts, which are all of `items` in their order. It gets the place where its part
-/// begins. `AllocError` if memory for the list runs out.
+/// Returns what `part` returns for each of some parts, which together are `items`, in order. `part` gets the
+/// position where its part begins. Returns `AllocError` if memory for the list runs out.
 pub fn share_parts<R: Threads + Sync, T: Sync, X: Send + Drop, F: Fn(usize, &[T]) -> X + Sync>(
     sharing: &Sharing<'_, R>,
     items: &[T],
@@ -119,7 +119,7 @@ pub fn share_parts<R: Threads + Sync, T: Sync, X: Send + Drop, F: Fn(usize, &[T]
     Ok(made)
 }
 
-/// What `one` gives for each of these, one after another.
+/// Returns what `one` returns for each of these, in order.
 fn each_in_turn<T, U: Drop, F: Fn(&T) -> Result<U, AllocError>>(
     alloc: Global,
     items: &[T],
@@ -135,7 +135,7 @@ fn each_in_turn<T, U: Drop, F: Fn(&T) -> Result<U, AllocError>>(
     Ok(made)
 }
 
-/// These lists behind one another, which have so many elements in all.
+/// Returns the concatenation of these lists, which have this many elements in all.
 fn joined<U: Drop>(
     alloc: Global,
     count: usize,
@@ -150,8 +150,8 @@ fn joined<U: Drop>(
     Ok(all)
 }
 
-/// What `one` gives for each of these, in their order. `AllocError` if one gives that, or if memory for the list runs
-/// out.
+/// Returns what `one` returns for each of these, in order. Returns `AllocError` if one of them does, or if memory
+/// for the list runs out.
 pub fn share_each<
     R: Threads + Sync,
     T: Sync,

@@ -1,4 +1,4 @@
--- What is known of the runs of sources, and of an answer after the checks before it.
+-- What is known about the runs of sources, and about a result after the checks before it.
 use Rattle.std.proofs.Common.{◌≡◌, ℕ, ◌+◌, ◌++◌, ◌||◌, List, [], ◌∷◌, true, false, Result, Ok, Err, take, drop, length, refl, ap, ◌∙◌}
 use Rattle.std.proofs.lemmas.List.{map-append}
 use Rattle.std.proofs.lemmas.List.Concat.{flat_map-append}
@@ -69,7 +69,7 @@ pub back : (all : List Placed) (n : ℕ) (xs ys : List Sourced) → all ≡ plac
 back all n xs ys h k =
     ap (λ m. drop m all) k ∙ (ap (drop (length (placed xs))) (h ∙ placed-append xs ys) ∙ drop-append_seam (placed xs) (placed ys))
 
--- ---- answers
+-- ---- results
 
 pub nothing_before : (a b c d e : List MergeFault) → a ++ b ≡ [] → c ≡ [] → d ≡ [] → a ++ (b ++ (c ++ (d ++ e))) ≡ e
 nothing_before [] b c d e h i j = ap (λ x. x ++ (c ++ (d ++ e))) h ∙ (ap (λ x. x ++ (d ++ e)) i ∙ ap (λ x. x ++ e) j)

@@ -1,4 +1,4 @@
--- What the index of a source says of its bytes.
+-- What the index of a source says about its bytes.
 use Rattle.std.proofs.Common.{◌≡◌, ◌≤◌, ◌⊎◌, ℕ, List, map, length, Result, inr, refl, ap, ◌∙◌}
 use Rattle.std.specs.Prelude.{Ok, Err, Some, IfOk}
 use Rattle.std.proofs.lemmas.Result.{IfErr-at_err}

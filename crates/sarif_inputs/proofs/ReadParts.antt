@@ -21,7 +21,7 @@ each_read (p ∷ shown) (r ∷ rs) read = (read.0, each_read shown rs read.1)
 pub read_shown : (shown : List (Bor Found)) (ps : List Found) (rs : List Parsed) → map (λ p. p.now) shown ≡ ps → AllZip (λ p r. IsReadFrom p.now r) shown rs → AreReadFrom ps rs
 read_shown shown ps rs is read = subst (λ qs. AreReadFrom qs rs) is (each_read shown rs read)
 
--- what was read of the indexes of sources was read of the sources
+-- what was read from the indexes of sources was read from the sources
 pub parsed_by : (bs : List (List ℕ)) (ps : List Found) (rs : List Parsed) → AreIndexed (map without_mark bs) ps → AreReadFrom ps rs → AreParsedFrom bs rs
 parsed_by [] [] [] indexed read = tt
 parsed_by [] [] (r ∷ rs) indexed read = absurd read

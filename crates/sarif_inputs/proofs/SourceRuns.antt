@@ -47,7 +47,7 @@ pub total_append : (ds es : List Data) → results_total (ds ++ es) ≡ results_
 total_append [] es = omega arith
 total_append (d ∷ ds) es = let rest = total_append ds es in omega arith
 
--- the results of all runs, with those of one source more
+-- the results of all runs, with those of one more source
 pub total_more : (ps : List Placed) (source : Source) (ds : List Data)
     → results_total (run_values (ps ++ placed_from source 0 ds)) ≡ results_total (run_values ps) + results_total ds
 total_more ps source ds =
@@ -55,7 +55,7 @@ total_more ps source ds =
     ∙ total_append (run_values ps) (run_values (placed_from source 0 ds))
     ∙ ap (λ es. results_total (run_values ps) + results_total es) (data_placed source 0 ds)
 
--- the same for the runs as the code holds them: how many there are, and their results
+-- the same for the runs as the code holds them: their number, and their results
 pub counted_more : (old new : List ReadRun) (source : Source) (ds : List Data)
     → map placed_read new ≡ map placed_read old ++ placed_from source 0 ds
     → (length new ≡ length old + length ds) × (results_total (run_values (map placed_read new)) ≡ results_total (run_values (map placed_read old)) + results_total ds)
@@ -66,7 +66,7 @@ counted_more old new source ds same =
       ap (λ ps. results_total (run_values ps)) same ∙ total_more (map placed_read old) source ds,
     )
 
--- where none of some runs holds a number with a fraction, one of them holds none
+-- if no run of some runs holds a number with a fraction, one of them holds none
 pub whole_at : (vs : List IndexedRun) (v : IndexedRun) (ws : List IndexedRun) → list_any has_float (map run_of (vs ++ v ∷ ws)) ≡ false → has_float (run_of v) ≡ false
 whole_at [] v ws h = (neither (has_float (run_of v)) (list_any has_float (map run_of ws)) h).0
 whole_at (w ∷ vs) v ws h = whole_at vs v ws (neither (has_float (run_of w)) (list_any has_float (map run_of (vs ++ v ∷ ws))) h).1

@@ -1,4 +1,4 @@
--- One source more, read with no fault: what is left of the sources answers for all of them.
+-- One more source, read without an error: the remaining sources determine the result for all of them.
 use Rattle.std.proofs.Common.{◌≡◌, ℕ, ◌+◌, List, [], ◌∷◌, ◌++◌, ◌⊎◌, Some, map, length, refl, sym, ap, ◌∙◌, append_assoc, add-zero, length-append, arith}
 use Rattle.std.proofs.lemmas.List.{length-map, map-append}
 use Rattle.sarif_read.specs.Reading.{log_of}
@@ -67,7 +67,7 @@ faults_append runs results (s ∷ ls) bs =
     ∙ ap (λ n. (here ++ source_faults now all ls) ++ source_faults n (all + results_total (run_values (placed ls))) bs) same_now
     ∙ ap (λ n. (here ++ source_faults now all ls) ++ source_faults (runs + length (placed (s ∷ ls))) n bs) same_all
 
--- once the logs are read with no fault, what is left are the faults of the baselines
+-- once the logs are read without an error, the remaining errors are those of the baselines
 pub faults_after : (ls bs : List Sourced) (reading : Reading)
     → IsCounted reading → map placed_read reading.runs.items ≡ placed ls → source_faults 0 0 ls ≡ []
     → source_faults 0 0 (ls ++ bs) ≡ source_faults (length reading.runs.items) reading.results bs
@@ -84,7 +84,7 @@ module _ (ls bs : List Sourced) (start : Reading) (no_runs : start.runs.items �
   at_start : (sources : List Sourced) → source_faults (length start.runs.items) start.results sources ≡ source_faults 0 0 sources
   at_start sources = ap (λ vs. source_faults (length vs) start.results sources) no_runs ∙ ap (λ n. source_faults 0 n sources) no_results
 
-  -- a refusal by the logs
+  -- a rejection by the logs
   pub refused_by_logs : (e : MergeFault)
       → IsWanting e ⊎ (first (source_faults (length start.runs.items) start.results ls) ≡ Some e)
       → IsWanting e ⊎ (first (source_faults 0 0 (ls ++ bs)) ≡ Some e)
@@ -92,7 +92,7 @@ module _ (ls bs : List Sourced) (start : Reading) (no_runs : start.runs.items �
       let here = still_first (source_faults 0 0 ls) (source_faults (0 + length (placed ls)) (0 + results_total (run_values (placed ls))) bs) e (rw (at_start ls) at refused) in
       rw (faults_append 0 0 ls bs) here
 
-  -- with the logs read, the faults are those of the baselines
+  -- after the logs are read, the errors are those of the baselines
   pub left_after_logs : (reading : Reading)
       → IsCounted reading
       → map placed_read reading.runs.items ≡ map placed_read start.runs.items ++ placed ls

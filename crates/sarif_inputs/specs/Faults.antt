@@ -1,4 +1,4 @@
--- The faults of the inputs of a merge, in the order in which they are looked for, and what a refusal answers.
+-- The errors of the inputs of a merge, in the order of the checks, and the meaning of a rejection.
 use Rattle.std.specs.Prelude.{◌≡◌, ◌≤◌, ◌<◌, ℕ, nat_lt, List, [], ◌∷◌, ◌++◌, ◌⊎◌, length, Option, Some, None, Result, Ok, Err, if◌then◌else◌}
 use Rattle.sarif_suppress.specs.File.{File, file_of}
 use Rattle.sarif_suppress.specs.declared.fault.FileFault.{FileFault}
@@ -19,14 +19,14 @@ abbrev pub number_faults : (ℕ → Source) → List (List ℕ) → List MergeFa
 number_faults name sources =
     if nat_lt 1000 (length sources) then fault_at (Whole (name 1000)) (cause_of TooMany) ∷ [] else []
 
--- more than 1,000 logs, or else more than 1,000 baselines
+-- more than 1,000 logs, or otherwise more than 1,000 baselines
 abbrev pub IsTooMany : ℕ → ℕ → MergeFault → Type 0
 IsTooMany logs baselines fault =
     ((1000 < logs) × (fault ≡ record { at = Whole (Log 1000); cause = cause_of TooMany }))
     ⊎ ((logs ≤ 1000) × (1000 < baselines)
     × (fault ≡ record { at = Whole (Baseline 1000); cause = cause_of TooMany }))
 
--- the suppression file, where there is one; without it there are no entries
+-- the suppression file, if there is one; without it there are no entries
 abbrev pub file_or_none : Option (List ℕ) → Option ℕ → Result File FileFault
 file_or_none None today = Ok (record { entries = []; today = today })
 file_or_none (Some bytes) today = file_of bytes today
@@ -35,7 +35,7 @@ abbrev pub file_faults : Result File FileFault → List MergeFault
 file_faults (Ok entries) = []
 file_faults (Err fault) = fault_of_file fault ∷ []
 
--- the faults in order: too many logs, too many baselines; the reading of each source and the limits of all so far;
+-- the errors in order: too many logs, too many baselines; the reading of each source and the limits of all so far;
 -- the suppression file; each input run and its results, and then each baseline run and its results
 abbrev pub faults_of : Inputs → List MergeFault
 faults_of inputs =

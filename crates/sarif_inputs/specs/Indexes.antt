@@ -1,11 +1,11 @@
--- The indexes of the sources of a merge. No public clause of the merge speaks of it.
+-- The indexes of the sources of a merge. Internal: no public contract of the merge refers to this module.
 use Rattle.std.specs.Prelude.{◌≡◌, ◌≤◌, ℕ, List, ◌++◌, map, length, Result}
 use Rattle.json.specs.Token.{Token}
 use Rattle.json_parts.specs.declared.indexing.IndexFault.{IndexFault}
 use Rattle.json_parts.specs.Together.{AreIndexed}
 use Rattle.json_parts.specs.Mark.{without_mark}
 
--- these are the indexes of so many logs, and then of the baselines
+-- these are the indexes of this many logs, followed by those of the baselines
 pub record AreIndexesOf (logs baselines : List (List ℕ))
     (indexes : List (Result (List Token) IndexFault)) (first : ℕ) : Type 0 where
   pub count : length logs ≡ first

@@ -8,7 +8,7 @@ use Rattle.sarif_read.specs.Reading.{log_of}
 use Rattle.sarif_model.specs.declared.merge_fault.Source.{Source}
 use Rattle.sarif_model.specs.declared.merge_fault.Source.TheVariants.{Log, Baseline}
 
--- the bytes of the logs, of the baselines and of the suppression file, where there is one, and the day, where one is
+-- the bytes of the logs, of the baselines and of the suppression file, if there is one, and today's date, if it is
 -- known
 pub record Inputs : Type 0 where
   pub logs : List (List ℕ)

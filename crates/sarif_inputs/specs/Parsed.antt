@@ -1,4 +1,5 @@
--- What reading an indexed source may give. No public clause of the merge speaks of it.
+-- The possible results of reading an indexed source. Internal: no public contract of the merge refers to this
+-- module.
 use Rattle.std.specs.Prelude.{◌≡◌, ◌≤◌, ℕ, ⊤, List, [], ◌∷◌, map, length, Result, Ok, Err, IfOk}
 use Rattle.std.specs.declared.alloc.Global.{Global}
 use Rattle.std.specs.declared.vec.Vec.{Vec}
@@ -25,7 +26,7 @@ pub record IsParsedFrom (bytes : List ℕ) (parsed : Parsed) : Type 0 where
   pub few_results : IfOk parsed (λ log. results_total (map run_of log.items) ≤ 1000000)
   pub err : IfFault parsed (λ e. log_of bytes ≡ Err e)
 
--- this was read of each of these sources
+-- this was read from each of these sources
 abbrev pub AreParsedFrom : List (List ℕ) → List Parsed → Type 0
 AreParsedFrom [] [] = ⊤
 AreParsedFrom [] (one ∷ parsed) = ⊥
@@ -33,7 +34,7 @@ AreParsedFrom (bytes ∷ sources) [] = ⊥
 AreParsedFrom (bytes ∷ sources) (one ∷ parsed) =
     IsParsedFrom bytes one × AreParsedFrom sources parsed
 
--- this was read of this index, of whatever bytes it is
+-- this was read from this index, of any bytes
 abbrev pub IsReadFrom : Result (List Token) IndexFault → Parsed → Type 0
 IsReadFrom index read =
     (bytes : List ℕ) → IsIndexed (without_mark bytes) index → IsParsedFrom bytes read

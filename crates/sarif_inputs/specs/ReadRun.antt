@@ -1,4 +1,4 @@
--- A run that was read, as the definitions see it. No public clause of the merge speaks of it.
+-- A run that was read, as the definitions see it. Internal: no public contract of the merge refers to this module.
 use Rattle.sarif_read.specs.Indexed.{run_of}
 use Rattle.sarif_runs.specs.Placed.{Placed}
 use Rattle.sarif_inputs.specs.declared.read_run.ReadRun.{ReadRun}

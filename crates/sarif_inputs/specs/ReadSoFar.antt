@@ -1,4 +1,5 @@
--- What was read of the sources so far, and the faults of one source more. No public clause of the merge speaks of it.
+-- What was read from the sources so far, and the errors of one more source. Internal: no public contract of the
+-- merge refers to this module.
 use Rattle.std.specs.Prelude.{◌≡◌, ℕ, ◌+◌, ◌≤◌, List, ◌++◌, map, length, Result}
 use Rattle.serde_json.specs.Data.{Data}
 use Rattle.sarif_read.specs.declared.read_fault.ReadFault.{ReadFault}
@@ -19,7 +20,7 @@ IsCounted reading =
     × (reading.results ≤ 1000000)
     × (reading.results ≡ results_total (run_values (map placed_read reading.runs.items)))
 
--- the faults of a source that reads as this, after so many runs and results
+-- the errors of a source with this content, after this many runs and results
 abbrev pub faults_with : Source → Result (List Data) ReadFault → ℕ → ℕ → List MergeFault
 faults_with source log runs results =
     reading_faults source log

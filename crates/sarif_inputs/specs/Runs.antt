@@ -1,4 +1,4 @@
--- The runs of all sources of a merge. No public clause of the merge speaks of it.
+-- The runs of all sources of a merge. Internal: no public contract of the merge refers to this module.
 use Rattle.std.specs.Prelude.{◌≡◌, ℕ, ◌≤◌, ◌+◌, List, [], map, length}
 use Rattle.sarif_model.specs.Run.{results_total}
 use Rattle.sarif_model.specs.declared.merge_fault.Source.TheVariants.{Log, Baseline}
@@ -9,7 +9,7 @@ use Rattle.sarif_inputs.specs.Inputs.{numbered, placed}
 use Rattle.sarif_inputs.specs.ReadSoFar.{sources_of}
 use Rattle.sarif_inputs.specs.SourceFaults.{source_faults}
 
--- these are the runs of logs and baselines of which none is at fault
+-- these are the runs of logs and baselines without errors
 pub record AreRunsOf (logs baselines : List (List ℕ)) (runs : Runs) : Type 0 where
   pub current : map placed_of runs.current.items ≡ placed (numbered Log 0 logs)
   pub baseline : map placed_of runs.baseline.items ≡ placed (numbered Baseline 0 baselines)

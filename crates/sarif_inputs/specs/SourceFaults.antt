@@ -1,4 +1,4 @@
--- The faults of reading the sources, in their order, and of the limits of all of them together.
+-- The errors of reading the sources, in their order, and of the limits of all of them together.
 use Rattle.std.specs.Prelude.{ℕ, ◌+◌, Bool, ◌||◌, nat_lt, List, [], ◌∷◌, ◌++◌, length, Option, Some, None, Result, Ok, Err, if◌then◌else◌}
 use Rattle.serde_json.specs.Data.{Data}
 use Rattle.sarif_read.specs.declared.read_fault.ReadFault.{ReadFault}
@@ -12,7 +12,7 @@ use Rattle.sarif_model.specs.declared.merge_fault.MergeFault.{MergeFault}
 use Rattle.sarif_model.specs.MergeFault.{cause_of, fault_at}
 use Rattle.sarif_inputs.specs.Inputs.{Sourced, runs_in}
 
--- where a fault of reading stands: at the run that it names, else at the whole source
+-- the place of an error of reading: the run that it names, otherwise the whole source
 abbrev pub place_of_reading : Source → Option ℕ → At
 place_of_reading source None = Whole source
 place_of_reading source (Some run) = Run source run
@@ -32,8 +32,8 @@ abbrev pub limit_faults : Source → ℕ → ℕ → List MergeFault
 limit_faults source runs results =
     if is_past_limits runs results then fault_at (Whole source) (cause_of TooMany) ∷ [] else []
 
--- the faults of the sources in order, after so many runs and results of the sources before them: the reading of each,
--- and then whether the runs or the results of this and all earlier ones pass the limits
+-- the errors of the sources in order, after this many runs and results of the sources before them: the reading of
+-- each, and then whether the runs or the results of this and all earlier ones pass the limits
 abbrev pub source_faults : ℕ → ℕ → List Sourced → List MergeFault
 source_faults runs results [] = []
 source_faults runs results (s ∷ rest) =

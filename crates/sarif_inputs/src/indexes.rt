@@ -8,7 +8,7 @@ use json_parts::{Index, IndexFault, Job, index_texts, without_mark};
 use std::alloc::{AllocError, Global};
 use std::thread::Threads;
 
-/// Adds a job for each of these sources, with a scratch of its own.
+/// Adds a job for each of these sources, with a separate scratch.
 fn add_jobs<'a>(
     mut jobs: Vec<Job<'a>>,
     sources: &'a [Vec<u8>],
@@ -33,10 +33,9 @@ fn add_jobs<'a>(
     Ok(jobs)
 }
 
-/// The indexes of all sources, the logs and then the baselines, each without its leading byte order
-/// mark. At most `threads` threads index them, this one among them; each source has a scratch of
-/// its own. `AllocError` where memory for the list is wanting; a source's own fault stands in the
-/// list.
+/// The indexes of all sources, the logs and then the baselines, each without its leading byte order mark. At most
+/// `threads` threads index them, including this one; each source has a separate scratch. Returns `AllocError` if
+/// memory for the list runs out; a source's own error is in the list.
 pub fn index_sources<'a, R: Threads + Sync>(
     rt: &R,
     alloc: Global,

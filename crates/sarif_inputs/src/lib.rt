@@ -1,5 +1,5 @@
-//! What a merge is given: the indexes of its sources, the runs of all of them, opened, and the entries
-//! of its suppression file; or the first fault of these.
+//! The inputs of a merge: the indexes of its sources, the runs of all of them, opened, and the entries of its
+//! suppression file; or the first error of these.
 #![tactic(auto)]
 
 mod indexes;

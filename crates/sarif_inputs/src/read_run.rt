@@ -1,4 +1,4 @@
-//! A run that was read of a source.
+//! A run that was read from a source.
 ghost use Rattle.std.specs.Prelude.{◌≡◌, false};
 ghost use Rattle.serde_json.specs.Written.{has_float};
 ghost use Rattle.sarif_read.specs.Indexed.{run_of};

@@ -12,10 +12,10 @@ use sarif_read::{IndexedRun, ReadFault, index_log, refused_text};
 use std::alloc::{AllocError, Global};
 use std::thread::Threads;
 
-/// The runs of the log of a source, or why it is no log.
+/// The runs of the log of a source, or why it is not a log.
 pub(crate) type ReadLog<'t, 'a> = Result<Vec<IndexedRun<'t, 'a>>, Refusal<ReadFault>>;
 
-/// The runs of the log of an index, or why it is no log.
+/// The runs of the log of an index, or why it is not a log.
 fn read_index<'t, 'a>(alloc: Global, index: &'t Result<Index<'a>, IndexFault>) -> ReadLog<'t, 'a>
     ensures { (bytes : List ℕ) → IsIndexed (without_mark bytes) index.now
         → IsParsedFrom bytes result }
@@ -61,8 +61,8 @@ pub(crate) fn read_each<'t, 'a, R: Threads + Sync>(
     Ok(read)
 }
 
-/// What the first `logs` indexes give, and what those of the baselines behind them give. They are read in at most
-/// `threads` threads, this one among them.
+/// The results for the first `logs` indexes, and for the indexes of the baselines after them. At most `threads`
+/// threads read them, including this one.
 pub(crate) fn read_kinds<'t, 'a, R: Threads + Sync>(
     rt: &R,
     alloc: Global,

@@ -52,8 +52,8 @@ struct AllRuns<'t, 'a> {
     inputs: u32,
 }
 
-/// At most 1,000 logs and 1,000 baselines: else `TooMany` at the first log past the limit, or else at the first
-/// baseline past it.
+/// At most 1,000 logs and 1,000 baselines: otherwise returns `TooMany` at the first log past the limit, or else at
+/// the first baseline past it.
 pub fn check_numbers(logs: usize, baselines: usize) -> Result<(), MergeFault>
     ensures faults { (ls bs : List (List ℕ)) → length ls ≡ logs → length bs ≡ baselines
         → Answers (number_faults Source.Log ls ++ number_faults Source.Baseline bs) result }
@@ -88,7 +88,7 @@ fn fault_in(source: Source, fault: ReadFault) -> MergeFault
     MergeFault::found(at, Cause::Of(fault.fault))
 }
 
-/// The log that was read of a source, or its fault with its place.
+/// The log that was read from a source, or its error with its place.
 #[tactic(auto, using(sarif_model::proofs::QuietFaults::quiet_fault, crate::proofs::ReadIndexes::reading_refused))]
 fn log_of_source<'t, 'a>(
     source: Source,
@@ -108,7 +108,7 @@ fn log_of_source<'t, 'a>(
     }
 }
 
-/// At most 10,000 runs and 1,000,000 results in the sources up to this one: else `TooMany` at it.
+/// At most 10,000 runs and 1,000,000 results in the sources up to this one: otherwise returns `TooMany` at it.
 fn check_limits(source: Source, runs: usize, results: u32) -> Result<(), MergeFault>
     ensures faults { Answers (limit_faults source runs results) result }
     ensures few_runs { OnOk result (runs ≤ 10000) }
@@ -175,7 +175,7 @@ impl<'t, 'a> Reading<'t, 'a> {
         }
     }
 
-    /// Adds the runs that were read of a source.
+    /// Adds the runs that were read from a source.
     fn add(&mut self, source: Source, parsed: ReadLog<'t, 'a>) -> Result<(), MergeFault>
         requires counted { IsCounted self.old }
         requires parsed { (bytes : List ℕ) × IsParsedFrom bytes parsed }
@@ -201,7 +201,7 @@ impl<'t, 'a> Reading<'t, 'a> {
         Ok(())
     }
 
-    /// Adds the runs that were read of the sources of a kind, in order.
+    /// Adds the runs that were read from the sources of a kind, in order.
     fn add_all(&mut self, kind: SourceKind, logs: Vec<ReadLog<'t, 'a>>) -> Result<(), MergeFault>
         requires few { length logs.items ≤ 1000 }
         requires counted { IsCounted self.old }
@@ -225,8 +225,8 @@ impl<'t, 'a> Reading<'t, 'a> {
     }
 }
 
-/// The runs of all sources, of which the first `logs` indexes are those of the logs, and the others those of the
-/// baselines. They are read in at most `threads` threads, this one among them.
+/// The runs of all sources: the first `logs` indexes are those of the logs, the others those of the baselines. At
+/// most `threads` threads read them, including this one.
 fn read_all<'t, 'a, R: Threads + Sync>(
     rt: &R,
     alloc: Global,
@@ -257,14 +257,12 @@ fn read_all<'t, 'a, R: Threads + Sync>(
     Ok(AllRuns { all, inputs })
 }
 
-/// Opens the runs of the logs, which are the first `logs` of the indexes, and those of the baselines. The runs are
-/// read, and their heads made, in at most `threads` threads, this one among them. The tables of their rules and
-/// overrides hash with `seed`, on which no answer depends.
-///
-/// A refusal is the first fault of the sources in order: `NotJson`, `NotLog` or `WrongVersion` of a source; `TooMany`
-/// at a source of more than 10,000 runs, or with which there are more than 10,000 runs or 1,000,000 results; `BadRun`,
-/// `ExternalProperties` or `TooMany` at a run. Want of memory is `OutOfMemory`, nowhere. A fault of a run's head is no
-/// refusal: it is kept with the run.
+/// Opens the runs of the logs, which are the first `logs` of the indexes, and those of the baselines. At most
+/// `threads` threads, including this one, read the runs and make their heads. The tables of their rules and
+/// overrides hash with `seed`, on which no result depends. A rejection is the first error of the sources in order:
+/// `NotJson`, `NotLog` or `WrongVersion` of a source; `TooMany` at a source of more than 10,000 runs, or with
+/// which there are more than 10,000 runs or 1,000,000 results; `BadRun`, `ExternalProperties` or `TooMany` at a
+/// run. `OutOfMemory` has no place. An error of a run's head is not returned: it is kept with the run.
 pub fn open_sources<'t, 'a, R: Threads + Sync>(
     rt: &R,
     alloc: Global,

@@ -9,12 +9,10 @@ use sarif_suppress::{Suppressions, read_rules_with};
 use std::alloc::{AllocError, Global};
 use std::hash::RandomState;
 
-/// The entries of the suppression file for the day `today`, as yyyymmdd, where there is a file;
-/// without one there are none. Their tables hash with `seed`, on which no answer depends.
-///
-/// A refusal is the first fault of the file: `NotJson`, `NotList`, `WrongVersion` or `TooMany` at
-/// the file, or `BadEntry`, `EmptyMatch` or `NeedsToday` at an entry. Want of memory is
-/// `OutOfMemory`, nowhere.
+/// The entries of the suppression file for the date `today`, as YYYYMMDD, if there is a file; without one there
+/// are none. Their tables hash with `seed`, on which no result depends. A rejection is the first error of the
+/// file: `NotJson`, `NotList`, `WrongVersion` or `TooMany` at the file, or `BadEntry`, `EmptyMatch` or
+/// `NeedsToday` at an entry. `OutOfMemory` has no place.
 #[tactic(auto, using(sarif_suppress::proofs::QuietFile::quiet_file, crate::proofs::FileAnswers::file_refused))]
 pub fn read_file(
     alloc: Global,

@@ -1,4 +1,4 @@
--- Want of memory or of a thread, where results could not be judged.
+-- OutOfMemory and NoWorker, if results could not be judged.
 use Rattle.std.proofs.Common.{◌≡◌, inl, inr, refl}
 use Rattle.sarif_gather.specs.declared.gathering.GatherFault.{GatherFault}
 use Rattle.sarif_gather.specs.declared.gathering.GatherFault.TheVariants.{NoWorker, OutOfMemory}

@@ -1,4 +1,5 @@
--- The outcomes in what is gathered of all shards. No public clause of the merge speaks of it.
+-- The outcomes in what is gathered from all shards. Internal: no public contract of the merge refers to this
+-- module.
 use Rattle.std.specs.Prelude.{List, map, reverse, ⊤}
 use Rattle.std.specs.declared.vec.Vec.{Vec}
 use Rattle.std.specs.declared.alloc.Global.{Global}
@@ -13,6 +14,6 @@ within_shards shards = flat_map (λ shard. shard) shards
 abbrev pub flattened : List (Whole (List Outcome) ⊤) → List Outcome
 flattened runs = flat_map (λ w. within_shards w.items) runs
 
--- the same, where the runs are put upon each other so that the first is the last
+-- the same, if the runs are in reverse order
 abbrev pub flattened_from : List (Vec (List Outcome) Global) → List Outcome
 flattened_from stack = flat_map within_shards (reverse (map (λ v. v.items) stack))

@@ -1,11 +1,12 @@
--- The refusals where memory or a thread was wanting. No public clause of the merge speaks of it.
+-- The rejections if memory ran out or a thread could not be started. Internal: no public contract of the merge
+-- refers to this module.
 use Rattle.sarif_gather.specs.declared.gathering.GatherFault.{GatherFault}
 use Rattle.sarif_gather.specs.declared.gathering.GatherFault.TheVariants.{NoWorker, OutOfMemory}
 use Rattle.sarif_model.specs.declared.merge_fault.MergeFault.{MergeFault}
 use Rattle.sarif_model.specs.MergeFault.{out_of_memory}
 use Rattle.sarif_model.specs.FirstFault.{no_worker}
 
--- the refusal where results could not be judged
+-- the rejection if results could not be judged
 abbrev pub wanting_of : GatherFault → MergeFault
 wanting_of NoWorker = no_worker
 wanting_of OutOfMemory = out_of_memory

@@ -1,4 +1,4 @@
-//! The first fault of runs and results, in their order.
+//! The first error of runs and results, in their order.
 ghost use Rattle.std.specs.Prelude.{◌≡◌, ◌≤◌, map, length, IfSome};
 ghost use Rattle.std.specs.List.{flat_map};
 ghost use Rattle.sarif_runs.specs.Judging.{first_bad, run_faults, faults_of_runs, items_of};
@@ -10,7 +10,7 @@ use sarif_model::{At, Cause, MergeFault};
 use sarif_results::Outcome;
 use sarif_runs::{Item, OpenedRun};
 
-/// The fault of the first bad result of a run.
+/// The error of the first invalid result of a run.
 #[tactic(auto, using(sarif_model::proofs::QuietFaults::quiet_fault))]
 fn first_bad_result(run: &OpenedRun<'_, '_>, outcomes: &[Outcome]) -> Option<MergeFault>
     requires { length outcomes.now ≤ 1000000 }
@@ -27,7 +27,7 @@ fn first_bad_result(run: &OpenedRun<'_, '_>, outcomes: &[Outcome]) -> Option<Mer
     None
 }
 
-/// The fault of opening a run, else that of its first bad result.
+/// The error of opening a run, otherwise that of its first invalid result.
 #[tactic(auto, using(sarif_model::proofs::QuietFaults::quiet_fault))]
 fn fault_of_run(run: &OpenedRun<'_, '_>, outcomes: &[Outcome]) -> Option<MergeFault>
     requires few { length outcomes.now ≤ 1000000 }
@@ -44,7 +44,7 @@ fn fault_of_run(run: &OpenedRun<'_, '_>, outcomes: &[Outcome]) -> Option<MergeFa
     }
 }
 
-/// The first fault of the runs in order, whichever of their results was judged first.
+/// The first error of the runs in order, regardless of which result was judged first.
 pub(crate) fn fault_of_runs(
     runs: &[OpenedRun<'_, '_>],
     mut outcomes: &[Outcome],

@@ -1,4 +1,4 @@
-//! Judging runs, up to their first fault.
+//! Judging runs, up to their first error.
 ghost use Rattle.std.specs.Prelude.{◌≡◌, ◌≤◌, map, length, IfOk};
 ghost use Rattle.sarif_model.specs.Run.{results_total};
 ghost use Rattle.sarif_runs.specs.Judging.{faults_of_runs, run_values};
@@ -20,7 +20,7 @@ use std::alloc::Global;
 use std::sync::Wait;
 use std::thread::Threads;
 
-/// The refusal for want of memory or of a thread.
+/// The rejection if memory ran out or a thread could not be started.
 fn refusal_of(fault: GatherFault) -> MergeFault
     ensures { result ≡ wanting_of fault }
 {
@@ -31,10 +31,8 @@ fn refusal_of(fault: GatherFault) -> MergeFault
     MergeFault::found(At::Nowhere, cause)
 }
 
-/// Has `workers` threads judge the results of runs. `observer` looks on.
-///
-/// A refusal is the first fault of the runs and their results in order, whichever worker was the first, or want of
-/// memory or of a thread.
+/// Judges the results of runs in `workers` threads. `observer` observes them. A rejection is the first error of
+/// the runs and their results in order, regardless of which worker was first, or `OutOfMemory` or `NoWorker`.
 #[tactic(auto, using(crate::proofs::Wants::wants, crate::proofs::Wants::quiet_want))]
 pub fn judge_runs<'t, 'a, G: Gate + Sync, R: Threads + Wait + Sync>(
     rt: &R,

@@ -39,7 +39,7 @@ fn skips_absent(source: Source) -> bool
     matches!(source, Source::Baseline(_))
 }
 
-/// What is known of a result of a baseline before results are matched. Of its value no more is made than tells it.
+/// The item of a baseline result. Only the members of its value that the item needs are made.
 #[tactic(auto, using(sarif_runs::proofs::RecordMembers::absent_members))]
 fn judge_known(alloc: Global, opened: &OpenedRun<'_, '_>, seq: u32) -> Result<Item, AllocError>
     requires in_run { seq < length (results_of (placed_of opened.now).run) }

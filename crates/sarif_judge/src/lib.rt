@@ -1,4 +1,4 @@
-//! Judging results: the record of each result or its first fault, and its draft, made by workers.
+//! Judging results: the record of each result or its first error, and its draft, made by workers.
 #![tactic(auto)]
 
 mod chunk;

@@ -55,10 +55,9 @@ fn flatten(alloc: Global, mut stack: Vec<Vec<Shard>>) -> Result<Vec<Outcome>, Al
     Ok(all)
 }
 
-/// Judges all results of these runs by `workers` threads, 1 to 64: the item and the draft of each, in the order of runs
-/// and results, whichever worker was the first. `observer` looks on while shards are judged.
-///
-/// A refusal is `OutOfMemory` where memory is wanting, or `NoWorker` where a thread can't be started.
+/// Judges all results of these runs in `workers` threads, 1 to 64: the item and the draft of each, in the order of
+/// runs and results, regardless of which worker was first. `observer` observes the judging of shards. Returns
+/// `OutOfMemory` if memory runs out, or `NoWorker` if a thread cannot be started.
 pub fn judge<G: Gate + Sync, R: Threads + Wait + Sync>(
     rt: &R,
     alloc: Global,

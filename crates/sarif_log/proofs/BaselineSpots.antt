@@ -1,4 +1,4 @@
--- Where the results stand that have a record, in faultless runs of baselines.
+-- The spots of the results that have a record, in runs of baselines without errors.
 use Rattle.std.proofs.Common.{◌≡◌, ℕ, zero, suc, ◌+◌, Bool, true, false, ◌&&◌, not, cond, if◌then◌else◌, List, [], ◌∷◌, ◌++◌, map, length, drop, append_assoc, Result, Ok, Err, refl, sym, ap, ◌∙◌, arith}
 use Rattle.std.proofs.Math.Seq.{get_or-append_seam}
 use Rattle.std.proofs.lemmas.List.{map-append, drop_all, drop_more, length-map, length-append}
@@ -24,7 +24,7 @@ use Rattle.sarif_log.specs.Telling.{pair_at, present_in, with_run}
 use Rattle.sarif_log.specs.Baselines.{with_spot, spots_with_record}
 use Rattle.sarif_results.proofs.JudgedCounts.{no_fault, no_faults_here, no_faults_left}
 
--- ---- what holds of all places holds of these
+-- ---- what is true for all spots is true for these
 
 one_within : (P : Spot → Type 0) (item : Item) (spot : Spot) (spots : List Spot) → P spot → All P spots → All P (with_spot item spot spots)
 one_within P (Sound r) spot spots here rest = All-cons P spot spots here rest

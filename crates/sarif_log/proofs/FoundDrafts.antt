@@ -95,7 +95,7 @@ current_drafts file (p ∷ ps) sound logs =
     ∙ ap (λ xs. drafts_by (listing_of file) (applied_of file) (records_in (items_of p)) (results_of p.run) ++ xs) (current_drafts file ps left logs.1)
     ∙ both (listing_of file) (applied_of file) (records_in (items_of p)) (records_of ps) (results_of p.run) (flat_map results_of (run_values ps)) (records_of_log p logs.0 here)
 
--- what stands of a faultless run of a baseline
+-- the spots of a baseline run without errors
 pub baseline_count : (p : Placed) (ps : List Placed) (items : List Item) → skips p.source ≡ true → faults_of_runs (p ∷ ps) ≡ [] → items ≡ items_of p
     → length (records_in items) ≡ length (present (results_of p.run))
 baseline_count p ps items skip sound is = ap (λ xs. length (records_in xs)) is ∙ records_of_baseline p skip (no_faults_here (run_faults p) (faults_of_runs ps) sound)

@@ -1,4 +1,4 @@
--- The texts and the counts of what is left, where only that has a draft.
+-- The texts and the counts of the unmatched results, if only these have a draft.
 use Rattle.std.proofs.Common.{◌≡◌, ℕ, zero, suc, ◌+◌, Bool, true, false, List, [], ◌∷◌, ◌++◌, map, length, take, drop, Option, Some, is_some, option_map, unwrap_or, refl, sym, ap, ◌∙◌, arith}
 use Rattle.std.proofs.Math.Seq.{take-append_seam, drop-append_seam}
 use Rattle.std.proofs.lemmas.List.{map-append, length-map, length-append, length-drop, length-take-le, take-map, drop-map}
@@ -24,7 +24,7 @@ use Rattle.sarif_log.specs.Baselines.{left_count, AreLeftParts}
 abbrev absent : Draft → Option State
 absent draft = Some Absent
 
--- ---- lists of which some are taken
+-- ---- lists from which some elements are taken
 
 pub seam : {X : Type 0} (n : ℕ) (taken : List Bool) (xs : List X) → length xs ≡ length taken
     → not_taken taken xs ≡ not_taken (take n taken) (take n xs) ++ not_taken (drop n taken) (drop n xs)
@@ -85,7 +85,7 @@ full_parts [] taken (run ∷ runs) parts = absurd parts
 full_parts (p ∷ all) taken [] parts = absurd parts
 full_parts (p ∷ all) taken (run ∷ runs) parts = (parts.0, refl, full_parts all (drop (length (present (results_of run))) taken) runs parts.2)
 
--- the first run of those of which only what is left has a draft
+-- the first run of those of which only the unmatched results have a draft
 front : (p : RunParts) (all : List RunParts) (these_ds bs : List Draft) → count_in_parts p ≡ length these_ds
     → left_texts (p ∷ all) (these_ds ++ bs) (map absent (these_ds ++ bs))
     ≡ text_if (list_any is_some (map absent these_ds)) (parts_text p these_ds (map absent these_ds)) (left_texts all bs (map absent bs))
@@ -137,7 +137,7 @@ whole (p ∷ all) taken (run ∷ runs) ds parts same total =
     ∙ ap (λ zs. text_if (list_any is_some zs) (run_text (members_view p.members.entries) (Some (texts_of (take n ds) zs))) (left_texts (full all runs) (drop n ds) (map unless_taken later))) (sym (take-map unless_taken n taken))
     ∙ ap (λ zs. text_if (list_any is_some (take n ss)) (run_text (members_view p.members.entries) (Some (texts_of (take n ds) (take n ss)))) (left_texts (full all runs) (drop n ds) zs)) (sym (drop-map unless_taken n taken))
 
--- the texts of what is left are those of the runs of a merged log
+-- the texts of the unmatched results are those of the runs of a merged log
 pub left_written : (rs : List Record) (taken : List Bool) (all : List RunParts) (runs : List Data) (ds : List Draft)
     → AllByRecursion IsRun runs → AreLeftParts all taken runs → length rs ≡ length (present_results runs) → length taken ≡ length rs
     → ds ≡ drafts_by (λ _ own. own) unapplied rs (present_results runs) → length ds ≡ length taken

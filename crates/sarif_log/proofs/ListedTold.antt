@@ -1,4 +1,4 @@
--- What is told of results, one after another.
+-- The findings of results, in order.
 use Rattle.std.proofs.Common.{◌≡◌, ◌<◌, ◌+◌, ◌++◌, ℕ, List, [], ◌∷◌, Option, Some, None, map, drop, length, get_or, append_assoc, refl, sym, ap, ◌∙◌}
 use Rattle.std.proofs.lemmas.List.{drop_more, get_or-map}
 use Rattle.std.specs.List.{cons_option}

@@ -19,7 +19,7 @@ joined_on (t ∷ ts) us = ap (λ x. 44 ∷ x) (append_assoc t (joined true ts) (
 nonempty : (n : ℕ) → (suc n == 0) ≡ false
 nonempty n = grind (arith, nat_tests)
 
--- texts, and others behind them
+-- texts, followed by others
 pub joined_both : (all : List RunParts) (ds : List Draft) (ss : List (Option State)) (none : Bool) (us : List (List ℕ))
     → none ≡ (length all == 0)
     → joined false (runs_texts all ds ss) ++ joined (not none) us ≡ joined false (runs_texts all ds ss ++ us)

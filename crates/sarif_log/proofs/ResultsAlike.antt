@@ -1,4 +1,4 @@
--- What is told of a result, beside its level and its state, rests on five of its members.
+-- A finding depends on five members of its result, besides its level and its state.
 use Rattle.std.proofs.Common.{◌≡◌, ℕ, List, [], ◌∷◌, Option, Some, None, codes, refl, ap, ◌∙◌}
 use Rattle.std.specs.Prelude.{chars, is_some, option_and_then, unwrap_or, if◌then◌else◌}
 use Rattle.std.specs.Option.{option_or}
@@ -113,13 +113,13 @@ result_same reporting run x y level state same =
       help_same run x y same,
     ) refl
 
--- the same is told of results that are alike, of runs that are alike
+-- equal findings for results that are alike, in runs that are alike
 pub same_told : (reporting : Reporting) (a b x y : Data) (level : Level) (state : State) → AreAlike a b → AreToldAlike x y
     → finding_of reporting a x level state ≡ finding_of reporting b y level state
 same_told reporting a b x y level state runs results =
     run_same reporting a b x level state runs ∙ result_same reporting b x y level state results
 
--- ---- as much of a result as is told
+-- ---- the part of a result that a finding uses
 
 abbrev pub told_names : List (List ℕ)
 told_names = codes "ruleId" ∷ codes "rule" ∷ codes "ruleIndex" ∷ codes "message" ∷ codes "locations" ∷ []
@@ -133,7 +133,7 @@ picked_alike x = record {
   locations = picked_get (codes "locations") told_names x refl;
 }
 
--- what is told of a result is told by these members
+-- a finding depends only on these members
 pub told_members : (reporting : Reporting) (run x : Data) (level : Level) (state : State)
     → finding_of reporting run (picked told_names x) level state ≡ finding_of reporting run x level state
 told_members reporting run x level state = result_same reporting run (picked told_names x) x level state (picked_alike x)

@@ -24,7 +24,7 @@ taken_out name no_members = refl
 taken_out name (member k d ms) =
     gone_at (slice_cmp nat_cmp name k) (bytes_eq name k) name k d (without name ms) refl (is_eq-slice_cmp name k) (taken_out name ms)
 
--- nor is one that wasn't there, whatever is taken out
+-- a member that was not there is not there after something is taken out
 stays_at : (o : Ordering) (same : Bool) (name k : List ℕ) (d : Data) (ms ns : Members)
     → slice_cmp nat_cmp name k ≡ o
     → match_ordering o (get_member name ms) (Some d) (get_member name ms) ≡ None
@@ -43,11 +43,11 @@ still_out name other no_members none = refl
 still_out name other (member k d ms) none =
     stays_at (slice_cmp nat_cmp name k) (bytes_eq other k) name k d ms (without other ms) refl none (still_out name other ms)
 
--- beside its results a run has none
+-- a run has no members besides its results
 pub bare_results : (ms : Members) → results_in (object (bare ms)) ≡ items_in None
 bare_results ms =
     ap items_in (still_out (codes "results") (codes "baselineGuid") (without (codes "results") ms) (taken_out (codes "results") ms))
 
--- those that were put in are found
+-- the inserted ones are found
 pub put_results_found : (ds : Items) (ms : Members) → results_in (object (with_results (Some ds) ms)) ≡ ds
 put_results_found ds ms = ap items_in (get_member-put (codes "results") (array ds) ms)

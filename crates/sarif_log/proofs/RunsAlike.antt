@@ -1,4 +1,4 @@
--- What is told of a result rests on two members of its run: its tool and its artifacts.
+-- A finding depends on two members of its run: its tool and its artifacts.
 use Rattle.std.proofs.Common.{◌≡◌, ℕ, List, [], Option, Some, None, codes, refl, ap, ◌∙◌}
 use Rattle.std.specs.Prelude.{chars, is_some, slice_get, option_and_then, unwrap_or, if◌then◌else◌}
 use Rattle.std.specs.Option.{option_or}
@@ -99,7 +99,7 @@ bare_alike run = record {
   artifacts = bare_get (codes "artifacts") run refl;
 }
 
--- what is told of a run's results is told by the run without them
+-- the findings of a run's results depend on the run without them
 pub bare_told : (reporting : Reporting) (run x : Data) (level : Level) (state : State)
     → finding_of reporting (bare run) x level state ≡ finding_of reporting run x level state
 bare_told reporting run x level state = run_same reporting (bare run) run x level state (bare_alike run)

@@ -1,4 +1,4 @@
--- What stands of runs of logs and of baselines, by their parts, records and drafts.
+-- What is written for runs of logs and of baselines, by their parts, records and drafts.
 use Rattle.std.proofs.Common.{◌≡◌, ◌≤◌, ◌+◌, ℕ, suc, Bool, true, false, not, cond, List, [], ◌∷◌, Option, Some, None, filter, length, length-append, is_some, option_map, refl, sym, ap, ◌∙◌, arith}
 use Rattle.std.proofs.lemmas.List.{length-map}
 use Rattle.std.proofs.lemmas.List.Sums.{length-filter}

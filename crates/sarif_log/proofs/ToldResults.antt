@@ -1,4 +1,4 @@
--- What is told of results by their drafts is what is told of them as they are written.
+-- The findings of results by their drafts are the findings of the written results.
 use Rattle.std.proofs.Common.{◌≡◌, ℕ, Bool, true, false, ◌&&◌, not, List, [], ◌∷◌, Some, None, map, length, codes, refl, sym, ap, ◌∙◌, arith}
 use Rattle.std.specs.Prelude.{option_and_then, if◌then◌else◌}
 use Rattle.std.specs.List.{AllByRecursion, cons_option, filter_map}

@@ -1,4 +1,4 @@
--- What is told of the runs of a merged log, from the drafts of their results.
+-- The findings of the runs of a merged log, from the drafts of their results.
 use Rattle.std.proofs.Common.{◌≡◌, ◌+◌, ◌++◌, ℕ, zero, suc, Bool, true, false, List, [], ◌∷◌, Option, Some, None, map, take, drop, length, length-append, append_assoc, codes, refl, sym, ap, ◌∙◌, arith}
 use Rattle.std.proofs.Math.Seq.{take-append_seam, drop-append_seam, get_or-append_seam}
 use Rattle.std.proofs.lemmas.List.{map-append, take-map, drop-map, drop_all, drop_more, length-map, length-take-le, length-drop}
@@ -61,7 +61,7 @@ alike results ms = record {
 no_results : (ms : Members) → get_member (codes "results") (bare ms) ≡ None
 no_results ms = still_out (codes "results") (codes "baselineGuid") (without (codes "results") ms) (taken_out (codes "results") ms)
 
--- what is told of a run with these results
+-- the findings of a run with these results
 of_results : (reporting : Reporting) (xs : List Data) (ms : Members)
     → reported_in reporting (object (with_results (Some (items_of xs)) (bare ms))) ≡ filter_map (finding_if reporting (object (with_results (Some (items_of xs)) (bare ms)))) xs
 of_results reporting xs ms =
@@ -117,7 +117,7 @@ split reporting (suc n) (p ∷ ps) (d ∷ ds) (s ∷ ss) =
     front (told_as reporting p.0 p.1 d s) (told_each reporting ps ds ss) (told_each reporting (take n ps) (take n ds) (take n ss))
     (told_each reporting (drop n ps) (drop n ds) (drop n ss)) (split reporting n ps ds ss)
 
--- the same, where the first of them are these
+-- the same, if these are the first of them
 seam : (reporting : Reporting) (ps qs : List (Data × Data)) (n : ℕ) (ds : List Draft) (ss : List (Option State)) → n ≡ length ps
     → told_each reporting (ps ++ qs) ds ss ≡ told_each reporting ps (take n ds) (take n ss) ++ told_each reporting qs (drop n ds) (drop n ss)
 seam reporting ps qs n ds ss same =
@@ -205,7 +205,7 @@ left_told reporting rs taken (run ∷ runs) are same_r same_t =
     ∙ absent_told reporting left run others told are.0
     (told_unmatched reporting (with_absent left run) run (take n rs) (take n taken) xs (absent_alike left run are.0) long_r long_t (present_objects (results_of run) are.0.1))
 
--- only those that aren't taken are told
+-- findings only for the results that are not taken
 untaken : (reporting : Reporting) (taken : List Bool) (ps : List (Data × Data)) (ds : List Draft) → length ps ≡ length taken → length ds ≡ length taken
     → told_each reporting (not_taken taken ps) (not_taken taken ds) (map (λ _. Some Absent) (not_taken taken ds)) ≡ told_each reporting ps ds (map unless_taken taken)
 untaken reporting [] [] [] same_p same_d = refl

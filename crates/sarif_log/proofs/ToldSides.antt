@@ -1,4 +1,4 @@
--- What is told of the results of logs and of baselines is what is told of the merged log.
+-- The findings of the results of logs and of baselines are the findings of the merged log.
 use Rattle.std.proofs.Common.{◌≡◌, ◌+◌, ◌++◌, List, [], ◌∷◌, Option, Some, None, map, length, length-append, refl, sym, ap, ◌∙◌}
 use Rattle.std.proofs.lemmas.List.{length-map}
 use Rattle.std.proofs.lemmas.List.Concat.{flat_map-append}
@@ -68,7 +68,7 @@ left_told reporting file now before c b p h q =
     ∙ ap (λ ts. told_each reporting (not_taken ts pairs) (not_taken ts drafts) (map (λ _. Some Absent) (not_taken ts drafts))) is
     ∙ untaken_told reporting (records_of before) taken (run_values before) h.baseline_are_runs h.are_baselines.count long pairs_long (baseline_long before b h.are_baselines ∙ sym long)
 
--- both, one after the other
+-- both, in order
 pub sides_told : (asked : Option Reporting) (file : File) (now before : List Placed) (c : Half) (b : Baselines) (p : Paired)
     → AreTogether file now before c b → IsPaired c b p
     → if_asked asked (λ r. told_each r (map (pair_at now) (spots_from 0 now)) c.drafts.items p.states.items)

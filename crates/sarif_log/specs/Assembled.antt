@@ -32,7 +32,7 @@ pub record IsLogOf (runs : List Data) (policy : Policy) (without unused : ℕ)
   pub log : merged.log ≡ compact_text (log_by runs policy without unused)
   pub gate : HasGate runs policy without unused merged
 
--- the merge of these input runs, these baseline runs and this suppression file, and what reports tell of it
+-- the merge of these input runs, these baseline runs and this suppression file, and the findings for its reports
 pub record IsMergedBy (file : File) (current baseline : List Placed) (policy : Policy)
     (asked : Option Reporting) (merged : Merged) : Type 0 where
   pub written : IsLogOf (runs_by file current baseline) policy

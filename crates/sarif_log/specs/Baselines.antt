@@ -1,5 +1,5 @@
--- What is made of the runs of all baselines, before and after results are matched. No public clause of the merge speaks
--- of it.
+-- What is made from the runs of all baselines, before and after results are matched. Internal: no public contract
+-- of the merge refers to this module.
 use Rattle.std.specs.Prelude.{◌≡◌, ℕ, Bool, List, [], ◌∷◌, Some, map, take, drop, length, ⊤}
 use Rattle.std.specs.List.{All, AllByRecursion, flat_map}
 use Rattle.serde_json.specs.Data.{Data}
@@ -55,11 +55,11 @@ abbrev pub baseline_drafts : List Placed → List Draft
 baseline_drafts runs =
     drafts_by (λ _ own. own) unapplied (records_of runs) (present_results (run_values runs))
 
--- how many aren't taken
+-- how many are not taken
 abbrev pub left_count : List Bool → ℕ
 left_count taken = length (not_taken taken taken)
 
--- these are the parts of these runs, each with the number of its results that aren't taken
+-- these are the parts of these runs, each with the number of its results that are not taken
 abbrev pub AreLeftParts : List RunParts → List Bool → List Data → Type 0
 AreLeftParts [] taken [] = ⊤
 AreLeftParts [] taken (run ∷ runs) = ⊥

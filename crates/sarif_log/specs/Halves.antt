@@ -1,4 +1,5 @@
--- What is made of the runs of all logs before results are matched. No public clause of the merge speaks of it.
+-- What is made from the runs of all logs before results are matched. Internal: no public contract of the merge
+-- refers to this module.
 use Rattle.std.specs.Prelude.{◌≡◌, List, [], ◌∷◌, map, Option, Some, None}
 use Rattle.std.specs.List.{flat_map}
 use Rattle.sarif_model.specs.Run.{results_of}

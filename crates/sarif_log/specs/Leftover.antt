@@ -1,4 +1,5 @@
--- The drafts of results of baselines that no current result is paired with. No public clause of the merge speaks of it.
+-- The drafts of baseline results that no current result matches. Internal: no public contract of the merge refers
+-- to this module.
 use Rattle.std.specs.Prelude.{Bool, true, false, List, [], ◌∷◌}
 use Rattle.serde_json.specs.Data.{Data}
 use Rattle.sarif_model.specs.Run.{result_at}
@@ -20,7 +21,7 @@ leftover_draft left =
     draft_by (λ _ own. own) unapplied left.«record».now
     (members_in (result_at (placed_of left.run.now).run left.seq))
 
--- those of a list that aren't marked as taken
+-- the elements of a list that are not marked as taken
 abbrev pub not_taken : {X : Type 0} → List Bool → List X → List X
 not_taken [] xs = []
 not_taken (t ∷ taken) [] = []

@@ -21,7 +21,7 @@ use Rattle.sarif_log.specs.MergedRuns.{merged_runs, absent_runs}
 
 -- ---- states
 
--- a partner, by its number in the baseline
+-- a match, by its number in the baseline
 abbrev pub partner_in : List Record → Option ℕ → Option Record
 partner_in bs partner = option_and_then (slice_get bs) partner
 
@@ -32,11 +32,11 @@ states_from bs partners n (r ∷ rs) =
     state_of r (partner_in bs (slice_index_or partners n None))
     ∷ states_from bs partners (n + 1) rs
 
--- the baseline state of each current result, by its partner in the baseline
+-- the baseline state of each current result, by its match in the baseline
 abbrev pub states_of : List Record → List Record → List State
 states_of cs bs = states_from bs (partners_of cs bs) 0 cs
 
--- whether each baseline result is somebody's partner
+-- whether each baseline result is the match of a current result
 abbrev pub taken_of : List Record → List Record → List Bool
 taken_of cs bs = map (is_taken (partners_of cs bs)) (range_with_len 0 (length bs))
 
@@ -52,7 +52,7 @@ current_runs file current baseline =
     merged_runs (listing_of file) (records_of current)
     (states_of (records_of current) (records_of baseline)) (run_values current)
 
--- the baseline runs with a result that is nobody's partner, with just these
+-- the baseline runs with an unmatched result, with exactly these results
 abbrev pub leftover_runs : List Placed → List Placed → List Data
 leftover_runs current baseline =
     absent_runs (records_of baseline)
@@ -66,7 +66,7 @@ runs_by file current baseline =
 abbrev pub runs_without_results : List Data → ℕ
 runs_without_results runs = count_by (λ run. not (is_some (results_array run))) runs
 
--- its gate counts what stands in its runs
+-- its gate counts the results in its runs
 abbrev pub log_by : List Data → Policy → ℕ → ℕ → Data
 log_by runs policy without unused = log_with (gate_of (count_of runs) policy without unused) runs
 

@@ -13,12 +13,12 @@ use Rattle.sarif_model.specs.Run.{results_of, present}
 use Rattle.sarif_results.specs.Annotated.{on_members, own_suppressions, annotated_members}
 use Rattle.sarif_results.specs.Drafts.{Listing}
 
--- a run's members with these results, where the run has results, and without its baseline's guid
+-- a run's members with these results, if the run has results, and without its baseline's GUID
 abbrev pub with_results : Option Items → Members → Members
 with_results None ms = ms
 with_results (Some ds) ms = put (codes "results") (array ds) ms
 
--- what remains of a run beside its results
+-- a run without its results
 abbrev pub bare : Members → Members
 bare ms = without (codes "baselineGuid") (without (codes "results") ms)
 
@@ -62,7 +62,7 @@ abbrev pub keep_if : Bool → Data → List Data → List Data
 keep_if true d ds = d ∷ ds
 keep_if false d ds = ds
 
--- those that are taken by no current result, annotated as absent, with their own suppressions
+-- the results that no current result matches, annotated as absent, with their own suppressions
 abbrev pub unmatched : List Record → List Bool → List Data → List Data
 unmatched [] taken ds = []
 unmatched (r ∷ rs) [] ds = []
@@ -73,7 +73,7 @@ unmatched (r ∷ rs) (t ∷ taken) (d ∷ ds) =
 abbrev pub with_absent : List Data → Data → Data
 with_absent ds = on_members (λ ms. with_results (Some (items_of ds)) (bare ms))
 
--- a baseline run with these results, where there are any
+-- a baseline run with these results, if there are any
 abbrev pub if_any : List Data → Data → List Data → List Data
 if_any [] run runs = runs
 if_any (d ∷ ds) run runs = with_absent (d ∷ ds) run ∷ runs

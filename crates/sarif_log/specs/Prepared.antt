@@ -1,4 +1,4 @@
--- What is assembled. No public clause of the merge speaks of it.
+-- What is assembled. Internal: no public contract of the merge refers to this module.
 use Rattle.std.specs.Prelude.{◌≡◌, List, Option}
 use Rattle.sarif_suppress.specs.File.{File}
 use Rattle.sarif_suppress.specs.Suppressing.{unused_of}
@@ -10,7 +10,8 @@ use Rattle.sarif_log.specs.LogBy.{runs_by, runs_without_results}
 use Rattle.sarif_log.specs.Told.{told_of}
 use Rattle.sarif_log.specs.Written.{AreWritten}
 
--- all that is written of the merge of these input runs, these baseline runs and this suppression file, and what is told
+-- everything that is written for the merge of these input runs, these baseline runs and this suppression file, and
+-- its findings
 pub record IsPrepared (file : File) (current baseline : List Placed) (asked : Option Reporting)
     (prepared : Prepared) : Type 0 where
   pub written : AreWritten prepared.current prepared.baseline (runs_by file current baseline)

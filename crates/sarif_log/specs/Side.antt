@@ -1,4 +1,4 @@
--- For the contract of the log's text; no public clause of the merge speaks of it.
+-- For the contract of the log's text. Internal: no public contract of the merge refers to this module.
 use Rattle.std.specs.Prelude.{◌≡◌, ℕ, List, length}
 use Rattle.std.specs.List.{AllByRecursion}
 use Rattle.sarif_log.specs.declared.merged_text.Side.{Side}
@@ -14,6 +14,6 @@ pub record IsSide (side : Side) : Type 0 where
 abbrev pub texts_of_runs : Side → List (List ℕ)
 texts_of_runs side = runs_texts side.runs.items side.drafts.items side.states.items
 
--- the texts of those runs of which some result is written
+-- the texts of the runs of which some result is written
 abbrev pub texts_of_left : Side → List (List ℕ)
 texts_of_left side = left_texts side.runs.items side.drafts.items side.states.items

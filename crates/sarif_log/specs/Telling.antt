@@ -1,4 +1,5 @@
--- What is told of results before their log is written. No public clause of the merge speaks of it.
+-- The findings of results before their log is written. Internal: no public contract of the merge refers to this
+-- module.
 use Rattle.std.specs.Prelude.{not, ◌&&◌, List, [], ◌∷◌, map, Option, Some, None, if◌then◌else◌}
 use Rattle.std.specs.List.{cons_option}
 use Rattle.serde_json.specs.Data.{Data}
@@ -18,14 +19,14 @@ use Rattle.sarif_model.specs.Run.{present}
 use Rattle.sarif_log.specs.declared.told.Told.{Told}
 use Rattle.sarif_log.specs.declared.told.ToldRun.{ToldRun}
 
--- what is told of a result of this run, by its draft and its state, where it is written
+-- the finding of a result of this run, by its draft and its state, if it is written
 abbrev pub told_as : Reporting → Data → Data → Draft → Option State → Option Finding
 told_as reporting run result draft None = None
 told_as reporting run result draft (Some state) =
     if is_listed reporting.policy.states state && not draft.suppressed
     then Some (finding_of reporting run result draft.level state) else None
 
--- the same of results, each with its run
+-- the same for results, each with its run
 abbrev pub told_each : Reporting → List (Data × Data) → List Draft → List (Option State)
     → List Finding
 told_each reporting [] drafts states = []
@@ -43,7 +44,7 @@ with_run run results = map (λ result. (run, result)) results
 abbrev pub own_results : Data → List (Data × Data)
 own_results run = with_run run (results_of run)
 
--- those that aren't absent already
+-- the results that are not already absent
 abbrev pub present_in : Data → List (Data × Data)
 present_in run = with_run run (present (results_of run))
 
@@ -55,7 +56,7 @@ pair_at runs spot = ((placed_at runs spot.run).run, found_at runs spot)
 abbrev pub placed_told : ToldRun → Placed
 placed_told run = placed_of run.opened.now
 
--- what is told of one that is reported
+-- the finding of a reported result
 abbrev pub told_by : Reporting → Told → Finding
 told_by reporting told =
     finding_of reporting (placed_told told.run.now).run

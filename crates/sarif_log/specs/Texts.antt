@@ -1,5 +1,5 @@
--- For the contracts between workers and the writing of the log; no public clause of the merge speaks of it.
--- A draft is a result as it is written, but for its baseline state, which only matching tells.
+-- For the contracts between workers and the writing of the log. Internal: no public contract of the merge refers
+-- to this module. A draft is a written result without its baseline state, which is known only after matching.
 use Rattle.std.specs.Prelude.{◌≡◌, ℕ, ◌+◌, is_some, option_map, Bool, true, false, ◌&&◌, List, [], ◌∷◌, ◌++◌, take, drop, length, Option, Some, None, codes, unwrap_or, ⊤}
 use Rattle.std.specs.List.{flat_map, list_any}
 use Rattle.serde_json.specs.Data.{Data, string, object, Members}
@@ -41,13 +41,13 @@ abbrev pub with_text : Option State → Draft → List (List ℕ) → List (List
 with_text None draft ts = ts
 with_text (Some state) draft ts = text_with state draft ∷ ts
 
--- the texts of those that are written
+-- the texts of the written ones
 abbrev pub texts_of : List Draft → List (Option State) → List (List ℕ)
 texts_of [] states = []
 texts_of (draft ∷ drafts) [] = []
 texts_of (draft ∷ drafts) (state ∷ states) = with_text state draft (texts_of drafts states)
 
--- a run's text with the texts of its results, where it is written with results
+-- a run's text with the texts of its results, if it is written with results
 abbrev pub run_text : Members → Option (List (List ℕ)) → List ℕ
 run_text ms None = compact_text (object ms)
 run_text ms (Some ts) =
@@ -95,7 +95,7 @@ abbrev pub text_if : Bool → List ℕ → List (List ℕ) → List (List ℕ)
 text_if true t ts = t ∷ ts
 text_if false t ts = ts
 
--- the same of those runs alone of which some result is written
+-- the same for only those runs of which some result is written
 abbrev pub left_texts : List RunParts → List Draft → List (Option State) → List (List ℕ)
 left_texts [] drafts states = []
 left_texts (parts ∷ more) drafts states =
@@ -118,7 +118,7 @@ own_count run = option_map (λ ds. length (elements ds)) (results_array run)
 abbrev pub present_count : Data → Option ℕ
 present_count run = Some (length (present (results_of run)))
 
--- these are the parts of these runs, with so many results each
+-- these are the parts of these runs, with these numbers of results
 abbrev pub ArePartsOf : (Data → Option ℕ) → List RunParts → List Data → Type 0
 ArePartsOf count [] [] = ⊤
 ArePartsOf count [] (run ∷ runs) = ⊥

@@ -1,5 +1,5 @@
--- The runs of all logs and those of all baselines, with a record of each result that is matched. No public clause of
--- the merge speaks of it.
+-- The runs of all logs and those of all baselines, with a record of each matched result. Internal: no public
+-- contract of the merge refers to this module.
 use Rattle.std.specs.Prelude.{◌≡◌, ◌≤◌, List, Some, length, map}
 use Rattle.std.specs.List.{AllByRecursion}
 use Rattle.sarif_model.specs.Run.{results_total}

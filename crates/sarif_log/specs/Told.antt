@@ -1,4 +1,4 @@
--- What reports tell of the results of a merged log, where that is asked for.
+-- The findings of the results of a merged log, if they are requested.
 use Rattle.std.specs.Prelude.{List, [], flat_map, Option, Some, None, option_map}
 use Rattle.serde_json.specs.Data.{Data}
 use Rattle.sarif_findings.specs.declared.finding.Finding.{Finding}
@@ -6,15 +6,15 @@ use Rattle.sarif_findings.specs.declared.reporting.Reporting.{Reporting}
 use Rattle.sarif_findings.specs.Reported.{reported_in}
 use Rattle.sarif_log.specs.declared.asked.Asked.{Asked}
 
--- what reports are made by, where one is asked for
+-- what reports depend on, if a report is requested
 abbrev pub reporting_in : Asked → Option Reporting
 reporting_in asked = option_map (λ reporting. reporting.now) asked.reporting
 
--- where nobody asks, nothing is told
+-- if no report is requested, there are no findings
 abbrev pub if_asked : Option Reporting → (Reporting → List Finding) → List Finding
 if_asked None told = []
 if_asked (Some reporting) told = told reporting
 
--- what is told of these runs of a merged log
+-- the findings of these runs of a merged log
 abbrev pub told_of : Option Reporting → List Data → List Finding
 told_of asked runs = if_asked asked (λ reporting. flat_map (reported_in reporting) runs)

@@ -1,4 +1,4 @@
--- For the contract of the writing of the log; no public clause of the merge speaks of it.
+-- For the contract of the writing of the log. Internal: no public contract of the merge refers to this module.
 use Rattle.std.specs.Prelude.{◌≡◌, ◌≤◌, ◌+◌, Bool, List, ◌++◌, length, map, Option}
 use Rattle.serde_json.specs.Data.{Data}
 use Rattle.serde_json.specs.Written.{compact_text}
@@ -18,7 +18,7 @@ pub record AreCounted (drafts : List Draft) (states : List (Option State)) (coun
       → count_at counts state level suppressed ≡ tallied drafts states state level suppressed
   pub few : total_of counts ≤ length drafts
 
--- the texts and the counts of the runs of logs, and of those left of baselines, are those of these runs
+-- the texts and the counts of the runs of logs, and of the unmatched results of baselines, are those of these runs
 pub record AreWritten (current baseline : Side) (runs : List Data) : Type 0 where
   pub texts : map compact_text runs ≡ texts_of_runs current ++ texts_of_left baseline
   pub counts : (state : State) (level : Level) (suppressed : Bool)

@@ -1,4 +1,4 @@
-//! What a merge is asked for.
+//! What a merge is asked to do.
 use sarif_counts::Options;
 use sarif_findings::Reporting;
 
@@ -7,7 +7,7 @@ use sarif_findings::Reporting;
 pub struct Asked<'o> {
     /// How it is done, and what the gate fails on.
     pub options: &'o Options,
-    /// What reports are made by, where results are to be told. Its policy is the gate's where the program asks; another
-    /// caller's may differ.
+    /// What reports depend on, if findings are requested. For the program its policy is the gate's; another caller
+    /// may pass a different one.
     pub reporting: Option<&'o Reporting>,
 }

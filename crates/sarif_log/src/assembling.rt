@@ -15,9 +15,9 @@ use sarif_findings::Finding;
 use std::alloc::{AllocError, Global};
 use std::thread::Threads;
 
-/// The merged log of what was prepared, with the gate of the policy of `options`, and what `tell` makes of its counts
-/// and of what reports tell of its results. The results are counted by as many threads as there are workers, and `tell`
-/// is called while the log's text is made. `AllocError` where memory is wanting, or where `tell` answers it.
+/// Returns the merged log of what was prepared, with the gate of the policy of `options`, and what `tell` returns
+/// for its counts and findings. As many threads as there are workers count the results, and `tell` is called while
+/// the log's text is made. Returns `AllocError` if memory runs out or if `tell` returns it.
 pub fn assemble<
     R: Threads + Sync,
     B: Drop,

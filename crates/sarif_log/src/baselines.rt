@@ -12,7 +12,7 @@ use sarif_results::{Judged, Outcome};
 use sarif_runs::{Item, OpenedRun, Spot, list_spots};
 use std::alloc::{AllocError, Global};
 
-/// The runs of baselines, the records of their results, and where these results stand.
+/// The runs of baselines, the records of their results, and the spots of these results.
 #[derive(Drop)]
 pub(crate) struct Baselines<'t, 'a> {
     pub(crate) runs: Vec<OpenedRun<'t, 'a>>,
@@ -50,7 +50,7 @@ impl Recorded {
     }
 }
 
-/// Takes the records out of the outcomes of results, which stand at these places.
+/// Takes the records out of the outcomes of results at these spots.
 fn take_recorded(
     alloc: Global,
     outcomes: Vec<Outcome>,
@@ -89,8 +89,8 @@ fn count_records(outcomes: &[Outcome]) -> usize
     count
 }
 
-/// How many results of each run of a baseline have a record, where none is at fault: those that aren't absent
-/// already.
+/// Returns how many results of each baseline run have a record, if none has an error: the results that are not
+/// already absent.
 fn count_present(
     alloc: Global,
     runs: &[OpenedRun<'_, '_>],

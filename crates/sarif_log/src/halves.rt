@@ -59,7 +59,7 @@ fn push_record(records: &mut Vec<Record>, item: Item) -> Result<(), AllocError>
     Ok(())
 }
 
-/// Adds a draft, where there is one.
+/// Adds a draft, if there is one.
 fn push_draft(drafts: &mut Vec<Draft>, draft: Option<Draft>) -> Result<(), AllocError>
     ensures { OnOk result (drafts.new.items ≡ drafts.old.items ++ with_draft draft []) }
 {

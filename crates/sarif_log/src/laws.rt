@@ -12,8 +12,8 @@ ghost use Rattle.sarif_suppress.specs.Written.{suppressions_of};
 
 use sarif_suppress::written_suppressions_say_what_is_suppressed;
 
-/// What is counted of a finished log: where a result's own suppressions have the statuses of its record, the list that
-/// is written for it counts as suppressed just where the result is suppressed.
+/// A law on counts: if a result's own suppressions have the statuses of its record, the written list suppresses if
+/// and only if the result is suppressed.
 pub fn suppressed_results_are_counted_as_suppressed()
     ensures { (own : List Data) (file : File) (r : Record) → read_each status_of own ≡ Ok r.held
         → suppresses (items_of (suppressions_of own file r)) ≡ is_suppressed file r }

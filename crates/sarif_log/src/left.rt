@@ -23,7 +23,7 @@ use sarif_runs::OpenedRun;
 use std::alloc::{AllocError, Global};
 use std::thread::Threads;
 
-/// How many of these aren't taken.
+/// Returns how many of these are not taken.
 fn count_left(taken: &[bool]) -> usize
     ensures count { result ≡ left_count taken.now }
     ensures few { result ≤ length taken.now }
@@ -37,7 +37,7 @@ fn count_left(taken: &[bool]) -> usize
     count
 }
 
-/// The parts of a run of a baseline, of which so many results are left.
+/// Returns the parts of a baseline run with this number of unmatched results.
 fn left_run(alloc: Global, run: OpenedRun<'_, '_>, count: u32) -> RunParts
     ensures members { members_view result.members.entries
         ≡ bare (members_in (placed_of run.entry).run) }
@@ -47,7 +47,8 @@ fn left_run(alloc: Global, run: OpenedRun<'_, '_>, count: u32) -> RunParts
     make_parts(alloc, run.into_bare(), Some(count))
 }
 
-/// The parts of runs of baselines, of which so many results each aren't absent already, and some are taken.
+/// Returns the parts of baseline runs with these numbers of results that are not already absent, of which some are
+/// taken.
 fn left_parts(
     alloc: Global,
     runs: Vec<OpenedRun<'_, '_>>,
@@ -97,7 +98,7 @@ pub(crate) fn left_drafts<R: Threads + Sync>(
     draft_leftovers(rt, alloc, &left, threads)
 }
 
-/// The state of so many results that are absent.
+/// Returns the states of a number of absent results.
 pub(crate) fn absent_states(
     alloc: Global,
     drafts: &[Draft],
@@ -111,7 +112,7 @@ pub(crate) fn absent_states(
     Ok(states)
 }
 
-/// What is written of the runs of baselines.
+/// What is written for the runs of baselines.
 #[derive(Drop)]
 pub(crate) struct Left {
     pub(crate) side: Side,
@@ -119,7 +120,8 @@ pub(crate) struct Left {
     pub(crate) records: Vec<Record>,
 }
 
-/// What is left of the runs of baselines, of whose results these are taken and the others have these drafts.
+/// Returns what is written for the runs of baselines, whose results are partly taken; the others have these
+/// drafts.
 pub(crate) fn left_side(
     alloc: Global,
     baselines: Baselines<'_, '_>,

@@ -31,8 +31,8 @@ fn push_unless<'w, 't, 'a>(
     Ok(())
 }
 
-/// The results of baselines at these places of `runs` that aren't taken. Of each place there are, in the same order,
-/// the record of its result and whether that is taken. `AllocError` where memory for the list is wanting.
+/// Returns the baseline results at these spots of `runs` that are not taken. For each spot, `records` and `taken`
+/// have an element at the same position. Returns `AllocError` if memory for the list runs out.
 pub fn list_leftovers<'w, 't, 'a>(
     alloc: Global,
     runs: &'w [OpenedRun<'t, 'a>],
@@ -69,7 +69,7 @@ fn draft_leftover(alloc: Global, left: &Leftover<'_, '_, '_>) -> Result<Draft, A
     Ok(draft)
 }
 
-/// The drafts of these, one after another.
+/// Returns the drafts of these, in order.
 fn draft_in_turn(alloc: Global, left: &[Leftover<'_, '_, '_>]) -> Result<Vec<Draft>, AllocError>
     ensures { IfOk result (λ drafts. drafts.items ≡ map leftover_draft left.now) }
 {
@@ -80,8 +80,8 @@ fn draft_in_turn(alloc: Global, left: &[Leftover<'_, '_, '_>]) -> Result<Vec<Dra
     Ok(drafts)
 }
 
-/// The drafts of results of baselines that are left, made in at most `threads` threads, this one among them.
-/// `AllocError` where memory for one is wanting.
+/// Returns the drafts of unmatched baseline results. At most `threads` threads make them, including this one.
+/// Returns `AllocError` if memory for one runs out.
 #[cycle(leftovers)]
 pub fn draft_leftovers<R: Threads + Sync>(
     rt: &R,

@@ -10,14 +10,14 @@ use sarif_model::{Record, State};
 use std::alloc::{AllocError, Global};
 use std::hash::RandomState;
 
-/// The baseline state of each current result, and whether each baseline result is somebody's partner.
+/// The baseline state of each current result, and whether each baseline result is the match of a current result.
 #[derive(Drop)]
 pub(crate) struct Matched {
     pub(crate) states: Vec<Option<State>>,
     pub(crate) taken: Vec<bool>,
 }
 
-/// The baseline state of a current result with this partner.
+/// Returns the baseline state of a current result with this match.
 fn state_beside(record: &Record, baseline: &[Record], partner: Option<u32>) -> State
     ensures { result ≡ state_of «record».now (partner_in baseline.now partner) }
 {
@@ -46,7 +46,7 @@ fn list_states(
     Ok(states)
 }
 
-/// Whether each of so many baseline results is taken.
+/// Returns whether each of a number of baseline results is taken.
 fn list_taken(alloc: Global, count: u32, matching: &Matching) -> Result<Vec<bool>, AllocError>
     ensures { IfOk result
         (λ taken. taken.items ≡ map (is_taken matching.now) (range_with_len 0 count)) }

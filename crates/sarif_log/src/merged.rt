@@ -16,6 +16,6 @@ pub struct Merged {
     pub without: u32,
     /// How many entries of the suppression file match no current result.
     pub unused: u32,
-    /// What reports tell of its results, in the order of the log; nothing where that isn't asked for.
+    /// The findings of its results, in the order of the log; empty if none were requested.
     pub findings: Vec<Finding>,
 }

@@ -14,7 +14,7 @@ pub(crate) struct Spent {
     pub(crate) baseline: Vec<Record>,
 }
 
-/// All that is written of a merged log. What it was read from is needed no more.
+/// Everything that a merged log contains. Its sources are no longer needed.
 #[derive(Drop)]
 pub struct Prepared {
     pub(crate) current: Side,
@@ -23,9 +23,9 @@ pub struct Prepared {
     pub(crate) without: u32,
     /// How many entries of the suppression file match no current result.
     pub(crate) unused: u32,
-    /// What reports tell of its results, in their order.
+    /// The findings of its results, in order.
     pub(crate) findings: Vec<Finding>,
-    /// What is only let go.
+    /// What only has to be released.
     pub(crate) spent: Spent,
     ghost current_is: { IsSide current } by { Prim.hlevel props },
     ghost baseline_is: { IsSide baseline } by { Prim.hlevel props },

@@ -39,13 +39,13 @@ use std::thread::Threads;
 pub(crate) struct Paired {
     /// The baseline state of each current result.
     states: Vec<Option<State>>,
-    /// Whether each baseline result is somebody's partner.
+    /// Whether each baseline result is the match of a current result.
     taken: Vec<bool>,
     /// The drafts of those that aren't.
     left: Vec<Draft>,
 }
 
-/// What is written of the runs of logs.
+/// What is written for the runs of logs.
 #[derive(Drop)]
 struct Current {
     side: Side,
@@ -79,7 +79,7 @@ fn pair_results<R: Threads + Sync>(
     })
 }
 
-/// What reports tell of the results that are written, where that is asked for.
+/// The findings of the written results, if they are requested.
 fn tell_results<R: Threads + Sync>(
     rt: &R,
     alloc: Global,
@@ -104,7 +104,7 @@ fn tell_results<R: Threads + Sync>(
     Ok(findings)
 }
 
-/// What is written of the runs of logs, whose results have these states.
+/// Returns what is written for the runs of logs, whose results have these states.
 fn current_side(
     alloc: Global,
     current: Half<'_, '_>,
@@ -146,7 +146,7 @@ fn current_side(
     })
 }
 
-/// Matches the results of logs with those of baselines, and takes out of them what is written and told.
+/// Matches the results of logs with those of baselines, and takes out of them what is written and reported.
 fn prepare_sides<R: Threads + Sync>(
     rt: &R,
     alloc: Global,
@@ -189,11 +189,11 @@ fn prepare_sides<R: Threads + Sync>(
     })
 }
 
-/// What is written of runs of logs and of runs of baselines, in which nothing is at fault: each current result with its
-/// level, its baseline state and its suppressions, and the unmatched results of the baselines as absent (SARIF 2.1.0,
-/// "baselineState property"). They are found by tables that hash with the options' seed, on which no answer depends;
-/// the threads of the options share the work. Beside it stands what reports tell of these results, where that is asked
-/// for. `AllocError` where memory is wanting.
+/// Returns everything that is written for runs of logs and baselines without errors: each current result with its
+/// level, its baseline state and its suppressions, and the unmatched baseline results as absent (SARIF 2.1.0,
+/// "baselineState property"). Matching uses tables that hash with the options' seed, on which no result depends;
+/// the threads of the options share the work. If findings are requested, the result has them too. Returns
+/// `AllocError` if memory runs out.
 pub fn prepare<R: Threads + Sync>(
     rt: &R,
     alloc: Global,

@@ -21,7 +21,7 @@ fn state_text(state: State) -> &'static str
     }
 }
 
-/// Adds a comma, where something stands before.
+/// Adds a comma, if something is before it.
 pub(crate) fn push_comma(text: &mut String, later: bool) -> Result<(), AllocError>
     ensures { OnOk result (string_bytes text.new ≡ string_bytes text.old ++ comma_if later) }
 {
@@ -31,8 +31,8 @@ pub(crate) fn push_comma(text: &mut String, later: bool) -> Result<(), AllocErro
     Ok(())
 }
 
-/// Adds the texts of those results that have a state, with commas between them. There is a state, or
-/// none, for each result. Where memory is wanting, some of it may have been added.
+/// Adds the texts of the results that have a state, with commas between them. There is a state, or none, for each
+/// result. If memory runs out, some of the text may have been added.
 pub(crate) fn push_results(
     text: &mut String,
     drafts: &[Draft],

@@ -27,9 +27,9 @@ fn has_any(states: &[Option<State>]) -> bool
     states.iter().any(|state| state.is_some())
 }
 
-/// Adds the texts of runs, with commas between them. There are the drafts of all their results in order, and
-/// a state, or none, for each; a result without a state is left out. Where memory is wanting, some of it
-/// may have been added.
+/// Adds the texts of runs, with commas between them. The drafts are those of all their results in order, with a
+/// state, or none, for each; a result without a state is left out. If memory runs out, some of the text may have
+/// been added.
 pub(crate) fn push_runs(
     alloc: Global,
     text: &mut String,
@@ -57,8 +57,8 @@ pub(crate) fn push_runs(
     Ok(())
 }
 
-/// Adds the texts of those runs alone of which some result has a state, as [`push_runs`] does, after others
-/// where something stands before.
+/// Adds the texts of only those runs of which some result has a state, as [`push_runs`] does, after others if
+/// there are any.
 pub(crate) fn push_left_runs(
     alloc: Global,
     text: &mut String,

@@ -10,8 +10,8 @@ use sarif_model::State;
 use sarif_results::Draft;
 use sarif_suppress::Marks;
 
-/// Counts those of these results that have a state, by it, their level, and whether they are
-/// suppressed. There is a state, or none, for each result. Takes no memory.
+/// Counts the results that have a state by state, level and whether they are suppressed. There is a state, or
+/// none, for each result. Does not allocate.
 pub fn count_results(counts: &mut Counts, drafts: &[Draft], states: &[Option<State>])
     requires count { length states.now ≡ length drafts.now }
     requires few { total_of counts.old + length drafts.now < 4294967296 }
@@ -26,7 +26,7 @@ pub fn count_results(counts: &mut Counts, drafts: &[Draft], states: &[Option<Sta
     }
 }
 
-/// Marks the entries of the suppression file that match these results. Takes no memory.
+/// Marks the entries of the suppression file that match these results. Does not allocate.
 pub fn mark_entries(marks: &mut Marks, drafts: &[Draft])
     ensures { marks.new ≡ marked marks.old drafts.now }
 {

@@ -1,4 +1,4 @@
-//! Telling what reports say of results, from the logs and baselines that these were read from.
+//! Collecting the findings of results, from the logs and baselines that they were read from.
 ghost use Rattle.std.specs.Prelude.{◌≡◌, ◌<◌, ◌≤◌, ◌++◌, ◌∷◌, [], IfOk, OnOk, Some, length, map};
 ghost use Rattle.std.specs.List.{All, cons_option};
 ghost use Rattle.sarif_model.specs.declared.kinds.State.TheVariants.{Absent};
@@ -22,7 +22,7 @@ use std::alloc::{AllocError, Global};
 use std::thread;
 use std::thread::Threads;
 
-/// Of fewer results a thread of their own is not worth its start.
+/// For fewer results it is not worth starting another thread.
 const FEWEST_SHARED: usize = 64;
 
 /// Each of these runs, with the names that are looked up for its results.
@@ -70,7 +70,7 @@ fn push_told<'l, 'w, 't, 'a>(
     Ok(())
 }
 
-/// Those of the results at these places that are reported. There are a draft and a state, or none, for each.
+/// Returns the findings of the reported results at these spots. There are a draft and a state, or none, for each.
 fn list_told<'l, 'w, 't, 'a>(
     alloc: Global,
     reporting: &Reporting,
@@ -100,7 +100,7 @@ fn list_told<'l, 'w, 't, 'a>(
     Ok(told)
 }
 
-/// What is told of one of them.
+/// Returns the finding of one of them.
 #[tactic(auto, using(crate::proofs::ResultsAlike::told_members))]
 fn tell(
     alloc: Global,
@@ -114,7 +114,7 @@ fn tell(
     finding_of(alloc, reporting, &run.named, &found, told.level, told.state)
 }
 
-/// What is told of these, one after another.
+/// Returns the findings of these, in order.
 fn tell_in_turn(
     alloc: Global,
     reporting: &Reporting,
@@ -129,7 +129,7 @@ fn tell_in_turn(
     Ok(findings)
 }
 
-/// What is told of these, in at most `threads` threads, this one among them.
+/// Returns the findings of these. At most `threads` threads collect them, including this one.
 #[cycle(telling)]
 fn tell_all<R: Threads + Sync>(
     rt: &R,
@@ -164,7 +164,7 @@ fn tell_all<R: Threads + Sync>(
     Ok(findings)
 }
 
-/// What is told of the results of logs, which have these states.
+/// Returns the findings of the results of logs, which have these states.
 pub(crate) fn tell_current<R: Threads + Sync>(
     rt: &R,
     alloc: Global,
@@ -191,7 +191,7 @@ pub(crate) fn tell_current<R: Threads + Sync>(
     tell_all(rt, alloc, reporting, &told, asked.options.workers)
 }
 
-/// Adds a place, unless it is taken.
+/// Adds a spot, unless it is taken.
 fn push_unless(left: &mut Vec<Spot>, is_taken: bool, spot: Spot) -> Result<(), AllocError>
     ensures { OnOk result
         (left.new.items ≡ left.old.items ++ not_taken (is_taken ∷ []) (spot ∷ [])) }
@@ -202,7 +202,7 @@ fn push_unless(left: &mut Vec<Spot>, is_taken: bool, spot: Spot) -> Result<(), A
     Ok(())
 }
 
-/// The places that aren't taken.
+/// Returns the spots that are not taken.
 fn left_spots(alloc: Global, spots: &[Spot], taken: &[bool]) -> Result<Vec<Spot>, AllocError>
     requires { length taken.now ≡ length spots.now }
     ensures { IfOk result (λ left. left.items ≡ not_taken taken.now spots.now) }
@@ -214,7 +214,7 @@ fn left_spots(alloc: Global, spots: &[Spot], taken: &[bool]) -> Result<Vec<Spot>
     Ok(left)
 }
 
-/// What is told of the results of baselines that aren't taken, which have these drafts, as absent.
+/// Returns the findings of the baseline results that are not taken, which have these drafts, as absent.
 pub(crate) fn tell_left<R: Threads + Sync>(
     rt: &R,
     alloc: Global,

@@ -1,4 +1,4 @@
-//! Results that are reported, and the runs that they stand in.
+//! Reported results, and the runs that they are in.
 ghost use Rattle.std.specs.Prelude.{◌≡◌, ◌<◌, length};
 ghost use Rattle.std.specs.Coded.{codes};
 ghost use Rattle.serde_json.specs.Data.{Data};
@@ -14,7 +14,7 @@ use sarif_findings::NamedRun;
 use sarif_model::{Level, State};
 use sarif_runs::OpenedRun;
 
-/// A run whose results reports may tell of, with the names that are looked up for each of them.
+/// A run whose results may be reported, with the names that are looked up for each of them.
 #[derive(Drop)]
 pub(crate) struct ToldRun<'w, 't: 'w, 'a: 't> {
     pub(crate) opened: &'w OpenedRun<'t, 'a>,
@@ -25,7 +25,7 @@ pub(crate) struct ToldRun<'w, 't: 'w, 'a: 't> {
         ≡ finding_of reporting (placed_of opened.now).run found level state },
 }
 
-/// A result that reports tell of.
+/// A reported result.
 #[derive(Clone, Copy)]
 pub(crate) struct Told<'l, 'w: 'l, 't: 'w, 'a: 't> {
     pub(crate) run: &'l ToldRun<'w, 't, 'a>,

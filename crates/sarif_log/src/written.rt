@@ -21,7 +21,7 @@ use std::alloc::{AllocError, Global};
 use std::thread;
 use std::thread::Threads;
 
-/// The text of the log with this gate, made in a thread of its own while this one does something else.
+/// Returns the text of the log with this gate, made in a separate thread while this one does something else.
 fn text_beside<R: Threads + Sync, T: Drop, Say: FnOnce() -> T>(
     rt: &R,
     alloc: Global,
@@ -50,8 +50,8 @@ fn text_beside<R: Threads + Sync, T: Drop, Say: FnOnce() -> T>(
     thread::join(rt, write, say)
 }
 
-/// The log of what was prepared, with its gate, and what `tell` makes of its counts and of what reports tell of its
-/// results, which is made beside its text.
+/// Returns the log of what was prepared, with its gate, and what `tell` returns for its counts and findings, which
+/// runs while the text is made.
 pub(crate) fn write_log<
     R: Threads + Sync,
     B: Drop,

@@ -102,7 +102,7 @@ assembled_is inputs policy asked prepared merged ready assembled =
       told = made.told;
     }
 
--- ---- the faults of the runs of logs, and then of those of baselines
+-- ---- the errors of the runs of logs, and then of those of baselines
 
 faults_apart : (xs ys : List Placed) → faults_of_runs (xs ++ ys) ≡ faults_of_runs xs ++ faults_of_runs ys
 faults_apart xs ys = flat_map-append run_faults xs ys
@@ -116,9 +116,9 @@ refused_by_first xs ys fault refused =
 pub left_after_first : (xs ys : List Placed) → faults_of_runs xs ≡ [] → faults_of_runs (xs ++ ys) ≡ faults_of_runs ys
 left_after_first xs ys none = faults_apart xs ys ∙ ap (λ faults. faults ++ faults_of_runs ys) none
 
--- ---- the faults of all inputs
+-- ---- the errors of all inputs
 
--- within the limits no number of sources is a fault
+-- within the limits the number of sources is not an error
 few_sources : (ls : List (List ℕ)) → length ls ≤ 1000 → number_faults Log ls ≡ []
 few_sources ls few = let within : nat_lt 1000 (length ls) ≡ false = grind (arith, nat_tests) in rw within refl
 
@@ -134,7 +134,7 @@ module _ (ls bs : List (List ℕ)) (few_ls : length ls ≤ 1000) (few_bs : lengt
   within = ap (λ x. x ++ number_faults Baseline bs) (few_sources ls few_ls) ∙ few_baselines bs few_bs
 
   module _ (sources : source_faults 0 0 (sources_of ls bs) ≡ []) where
-    -- where reading has no fault, the first is that of the suppression file
+    -- if reading has no error, the first error is that of the suppression file
     pub file_first : (fault : MergeFault) → first (file_faults (file_or_none file today)) ≡ Some fault → first (faults_of (given ls bs file today)) ≡ Some fault
     file_first fault is =
         let runs = faults_of_runs (placed (numbered Log 0 ls) ++ placed (numbered Baseline 0 bs)) in
@@ -142,7 +142,7 @@ module _ (ls bs : List (List ℕ)) (few_ls : length ls ≤ 1000) (few_bs : lengt
         ap first (nothing_before (number_faults Log ls) (number_faults Baseline bs) (source_faults 0 0 (sources_of ls bs)) [] (files ++ runs) within sources refl)
         ∙ first_of files runs fault is
 
-    -- where reading and the suppression file have no fault, the faults are those of the runs
+    -- if reading and the suppression file have no error, the errors are those of the runs
     pub faults_are : file_faults (file_or_none file today) ≡ [] → faults_of (given ls bs file today) ≡ faults_of_runs (placed (numbered Log 0 ls) ++ placed (numbered Baseline 0 bs))
     faults_are sound =
         nothing_before (number_faults Log ls) (number_faults Baseline bs) (source_faults 0 0 (sources_of ls bs)) (file_faults (file_or_none file today)) (faults_of_runs (placed (numbered Log 0 ls) ++ placed (numbered Baseline 0 bs)))

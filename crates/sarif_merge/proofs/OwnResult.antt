@@ -1,4 +1,4 @@
--- Each written result is the input's result in its place, by its own record and its own state.
+-- Each written result is the input's result at its position, with its own record and its own state.
 use Rattle.std.proofs.Common.{◌≡◌, ℕ, zero, suc, ◌+◌, ◌<◌, ◌≤◌, ◌++◌, Bool, true, false, ◌&&◌, if◌then◌else◌, List, [], ◌∷◌, map, take, drop, length, get_or, Option, Some, None, Result, Ok, Err, option_and_then, codes, arith, refl, sym, ap, subst, ◌∙◌}
 use Rattle.std.proofs.lemmas.List.{drop-drop, get_or-append-add, get_or-drop, get_or-take, get_or_append_left, length-drop, length-map, length-take-le}
 use Rattle.std.proofs.lemmas.List.Concat.{flat_map-append}
@@ -40,7 +40,7 @@ use Rattle.sarif_merge.specs.OwnResult.{IsResult, baseline_of, partner_at, numbe
 -- ---- runs and results by their places
 
 module _ (listed : Listing) where
-  -- a run as it is written takes the records and states of its own results
+  -- a written run uses the records and states of its own results
   merged_at : (rs : List Record) (ss : List State) (runs : List Data) (k : ℕ) → k < length runs
       → get_or (merged_runs listed rs ss runs) k null
       ≡ merged_run listed (take (length (results_of (get_or runs k null))) (drop (results_total (take k runs)) rs)) (take (length (results_of (get_or runs k null))) (drop (results_total (take k runs)) ss)) (get_or runs k null)
@@ -91,7 +91,7 @@ module _ (listed : Listing) where
   results_written (r ∷ rs) (s ∷ ss) [] = refl
   results_written (r ∷ rs) (s ∷ ss) (d ∷ ds) = ap suc (results_written rs ss ds)
 
-  -- a result is written by the record and the state in its place
+  -- a result is written with the record and the state at its position
   written_at : (rs : List Record) (ss : List State) (ds : List Data) (i : ℕ) (r : Record) (s : State)
       → i < length rs → i < length ss → i < length ds
       → get_or (written_all listed rs ss ds) i null ≡ written listed (get_or rs i r) (get_or ss i s) (get_or ds i null)
@@ -189,7 +189,7 @@ part_long xs b c fits = length-take-le c (drop b xs) (omega (arith, fits, length
 part_at : {X : Type 0} (xs : List X) (b c i : ℕ) (d : X) → i < c → get_or (take c (drop b xs)) i d ≡ get_or xs (b + i) d
 part_at xs b c i d within = get_or-take c (drop b xs) i d within ∙ get_or-drop b xs i d
 
--- ---- of all input runs
+-- ---- for all input runs
 
 -- faultless inputs have faultless input runs
 faultless_runs : (inputs : Inputs) → faults_of inputs ≡ [] → faults_of_runs (input_runs inputs) ≡ []

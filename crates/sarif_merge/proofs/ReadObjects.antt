@@ -35,7 +35,7 @@ passes : (b : Bool) (ds : List Data) (x : ⊤) → ((if b then Ok ds else Err Ba
 passes true ds x h = refl
 passes false ds x h = cc
 
--- what the check of `results` says of what stands there
+-- what the check of `results` says about the value there
 checked : Option Data → Result ⊤ Fault
 checked found = (elements_of (of_kind BadRun as_array (option_and_then unless_null found)) >>= if_objects BadRun) >>= λ _. Ok tt
 

@@ -1,4 +1,4 @@
--- What a merge from readers into a writer gives, and why it is refused.
+-- What a merge from readers into a writer produces, and why it is rejected.
 use Rattle.std.specs.Prelude.{◌≡◌, ℕ, ◌<◌, ◌≤◌, List, [], ◌⊎◌, Option, Some, length, take}
 use Rattle.std.specs.Io.KnownBytes.{Appends}
 use Rattle.sarif_model.specs.declared.merge_fault.MergeFault.{MergeFault}
@@ -15,15 +15,15 @@ use Rattle.sarif_merge.specs.Given.{given_by}
 use Rattle.sarif_merge.specs.Merged.{IsMerged}
 use Rattle.sarif_merge.specs.MergedLog.{output_text}
 
--- reading ended at one of the sources, and the refusal says so
+-- reading ended at one of the sources, and the rejection says so
 abbrev pub IsStopped : {R : Type 0} → (R → Option (List ℕ)) → Readers R → Readers R → MergeFault
     → Type 0
 IsStopped remaining old new fault =
     (stopped : ReadersFault) × HasStoppedAt remaining old new stopped
     × (fault ≡ fault_of_readers stopped)
 
--- all sources were read, and the merge of what was read is refused: memory or a thread was wanting, or this is the
--- first fault
+-- all sources were read, and the merge of what was read is rejected: memory ran out, a thread could not be
+-- started, or this is the first error
 abbrev pub IsAtFault : {R : Type 0} → (R → Option (List ℕ)) → Readers R → Readers R
     → Option ℕ → MergeFault → Type 0
 IsAtFault remaining old new today fault =
@@ -34,8 +34,8 @@ IsAtFault remaining old new today fault =
 abbrev pub AreFew : {R : Type 0} → Readers R → Type 0
 AreFew all = (length all.logs.items ≤ 1000) × (length all.baselines.items ≤ 1000)
 
--- a refusal before anything is written: too many sources, else what ended reading, else the first fault of what was
--- read
+-- a rejection before anything is written: too many sources, otherwise what ended reading, otherwise the first
+-- error of what was read
 abbrev pub IsRefused : {R : Type 0} → (R → Option (List ℕ)) → Readers R → Readers R
     → Option ℕ → MergeFault → Type 0
 IsRefused remaining old new today fault =
@@ -49,7 +49,7 @@ IsMergedFrom remaining old new today policy asked merged =
     (contents : SourceContents) × WereRead remaining old new contents
     × IsMerged (given_by contents today) policy asked merged
 
--- all sources were read, nothing is at fault in them, and a proper front of the text was written
+-- all sources were read, they have no errors, and a proper prefix of the text was written
 abbrev pub IsPartlyWritten : {R : Type 0} → (R → Option (List ℕ)) → Readers R → Readers R
     → Option ℕ → Policy → Option (List ℕ) → Option (List ℕ) → Type 0
 IsPartlyWritten remaining old new today policy before after =

@@ -10,7 +10,7 @@ abbrev pub given : List (List ℕ) → List (List ℕ) → Option (List ℕ) →
 given logs baselines suppressions today =
     record { logs = logs; baselines = baselines; suppressions = suppressions; today = today }
 
--- the same on a day
+-- the same for a date
 abbrev pub given_by : SourceContents → Option ℕ → Inputs
 given_by contents today = given contents.logs contents.baselines contents.suppressions today
 

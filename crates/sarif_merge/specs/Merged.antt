@@ -17,8 +17,8 @@ abbrev pub HoldsFirst : List Data → List ℕ → Type 0
 HoldsFirst runs text =
     (gate : Data) × (rest : List Data) × (text ≡ compact_text (log_with gate (runs ++ rest)))
 
--- nothing is at fault, and what is given is the defined merge: its text begins with the input runs, it is the text of
--- the merged log, counts, verdict and numbers are those of that log, and what reports tell is told of its results
+-- there are no errors, and the result is the defined merge: its text begins with the input runs, it is the text of
+-- the merged log, counts, verdict and numbers are those of that log, and the findings are those of its results
 pub record IsMerged (inputs : Inputs) (policy : Policy) (asked : Option Reporting)
     (merged : Merged) : Type 0 where
   pub faultless : faults_of inputs ≡ []

@@ -31,14 +31,14 @@ number_among_all inputs k seq = results_total (take k (run_values (input_runs in
 abbrev pub baseline_of : Inputs → List Record
 baseline_of inputs = records_of (baseline_runs inputs)
 
--- the partner in the baseline of the current result with that number, where it has one
+-- the match in the baseline of the current result with that number, if it has one
 abbrev pub partner_at : Inputs → ℕ → Option Record
 partner_at inputs place =
     let partners = partners_of (current_of inputs) (baseline_of inputs) in
     partner_in (baseline_of inputs) (slice_index_or partners place None)
 
--- the current result with that number, as it is written: with the level of this record, the baseline state of the
--- record beside its partner, and its own suppressions with those that the suppression file adds
+-- the current result with that number, as it is written: with the level of this record, the baseline state that
+-- follows from its match, and its own suppressions with those that the suppression file adds
 abbrev pub written_by : Inputs → Record → ℕ → Data → Data
 written_by inputs r place result =
     written (listing_of (file_given inputs)) r (state_of r (partner_at inputs place)) result

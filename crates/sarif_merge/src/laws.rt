@@ -31,7 +31,7 @@ fn written_runs_hold_no_fraction()
     written_passes_where_its_parts_do();
 }
 
-/// The runs of a merged log hold no number with a fraction, whatever its inputs.
+/// The runs of a merged log hold no number with a fraction, for any inputs.
 pub fn merged_runs_hold_no_fraction()
     ensures { (inputs : Inputs) → list_any has_float (runs_written inputs) ≡ false }
 {
@@ -39,8 +39,8 @@ pub fn merged_runs_hold_no_fraction()
     written_runs_hold_no_fraction();
 }
 
-/// Each input run is written in its place, with as many results as it has; and each of them in its
-/// place, with its own record, its own baseline state and its own suppressions.
+/// Each input run is written at its position, with as many results as it has; and each of them at its position,
+/// with its own record, its own baseline state and its own suppressions.
 pub fn each_result_is_written_as_its_own()
     ensures runs { (inputs : Inputs) → length (written_inputs inputs) ≡ length (input_runs inputs) }
     ensures results { (inputs : Inputs) (k : ℕ) → k < length (input_runs inputs)

@@ -28,7 +28,7 @@ use std::sync::Wait;
 use std::thread;
 use std::thread::Threads;
 
-/// The merged log of what was prepared, and what `tell` makes of it, made while the scratches are let go.
+/// The merged log of what was prepared, and what `tell` returns for it, made while the scratches are released.
 fn assemble_beside<
     R: Threads + Sync,
     B: Drop,
@@ -62,7 +62,7 @@ fn assemble_beside<
     made
 }
 
-/// Merges sources of which there are not too many, and gives what `tell` makes of the merge beside it.
+/// Merges at most 1,000 logs and 1,000 baselines. Returns the merge and what `tell` computed from it.
 pub(crate) fn merge_few<
     G: Gate + Sync,
     R: Threads + Wait + Sync,
@@ -99,17 +99,14 @@ pub(crate) fn tell_nothing(_counts: &Counts, _findings: &Vec<Finding>) -> Result
     Ok(())
 }
 
-/// Merges logs with baselines: gives each current result its effective level, its baseline state and its suppressions,
-/// adds the unmatched results of the baselines as absent, and says what the gate makes of it.
-///
-/// The merged log and its counts depend on the sources, the policy and the day alone, and neither on the number of
-/// workers nor on the order in which these are done. `observer` looks on while results are judged.
-///
-/// A refusal is the first fault of the inputs with its place: `TooMany` where there are too many logs or baselines, and
-/// then the faults of reading the logs and the baselines, of the suppression file, of the logs' runs and results, and
-/// of the baselines' runs and results. Its cause may be any but `TooLong`, `ReadFailed` and `WriteFailed`.
-/// `OutOfMemory`, where memory is wanting, and `NoWorker`, where a thread can't be started, stand nowhere, and may come
-/// in place of each of these.
+/// Merges logs with baselines: gives each current result its effective level, its baseline state and its
+/// suppressions, adds the unmatched results of the baselines as absent, and computes the gate's verdict. The
+/// merged log and its counts depend only on the sources, the policy and today's date, and neither on the number of
+/// workers nor on their order. `observer` observes the judging of results. A rejection is the first error of the
+/// inputs with its place: `TooMany` if there are too many logs or baselines, and then the errors of reading the
+/// logs and the baselines, of the suppression file, of the logs' runs and results, and of the baselines' runs and
+/// results. Its cause is any except `TooLong`, `ReadFailed` and `WriteFailed`. `OutOfMemory`, if memory runs out,
+/// and `NoWorker`, if a thread cannot be started, have no place, and may be returned instead of any of these.
 pub fn merge_bytes<G: Gate + Sync, R: Threads + Wait + Sync>(
     rt: &R,
     alloc: Global,
@@ -117,20 +114,20 @@ pub fn merge_bytes<G: Gate + Sync, R: Threads + Wait + Sync>(
     options: &Options,
     observer: &G,
 ) -> Result<Merged, MergeFault>
-    // Ok comes only where nothing is at fault.
+    // Ok is returned only if there are no errors.
     ensures faultless { IfOk result (λ _. faults_of (inputs_of sources.now options.now) ≡ []) }
     // The log begins with the input runs: each result once, in its run's order, with its level, its state and
     // its suppressions.
     ensures inputs { IfOk result
         (λ merged. HoldsFirst (written_inputs (inputs_of sources.now options.now)) merged.log) }
-    // After these stand just the unmatched results of the baselines, as absent, and nothing after the log.
+    // After these come exactly the unmatched results of the baselines, as absent, and nothing after the log.
     ensures log { IfOk result (λ merged. merged.log
         ≡ output_text (inputs_of sources.now options.now) options.now.policy) }
     // Counts, verdict and numbers are those of the log that is written.
     ensures gate { let inputs = inputs_of sources.now options.now in
         IfOk result (HasGate (runs_written inputs) options.now.policy (without_of inputs)
         (unused_in inputs)) }
-    // Nothing is told of it.
+    // It has no findings.
     ensures untold { IfOk result (λ merged. merged.findings.items ≡ []) }
     ensures refusals { IfErr result (λ fault. IsWanting fault
         ⊎ (first_fault (inputs_of sources.now options.now) ≡ Some fault)) }

@@ -26,15 +26,13 @@ use std::io::{Read, Write};
 use std::sync::Wait;
 use std::thread::Threads;
 
-/// Merges logs and baselines from readers, as [`merge_bytes`](crate::merge_bytes) does with bytes: reads all sources,
-/// the logs, the baselines and the suppression file, then merges what was read, and writes nothing. Where reports are
-/// asked for, what they tell stands beside the log; and beside the merge stands what `tell` makes of its counts and of
-/// that, while the log's text is made.
-///
-/// A refusal is `TooMany` for more than 1,000 logs or else more than 1,000 baselines; else `ReadFailed` or `TooLong` at
-/// the first source that can't be read to its end; else the first fault of what was read, as
-/// [`merge_bytes`](crate::merge_bytes) answers it. `OutOfMemory`, where memory is wanting, also in `tell`, and
-/// `NoWorker`, where a thread can't be started, stand nowhere.
+/// Merges logs and baselines from readers, as [`merge_bytes`](crate::merge_bytes) does with bytes: reads all
+/// sources, the logs, the baselines and the suppression file, then merges what was read, and writes nothing. If
+/// findings are requested, the result has them too, and what `tell` computes from the counts and findings while
+/// the log's text is made. A rejection is `TooMany` for more than 1,000 logs or otherwise more than 1,000
+/// baselines; otherwise `ReadFailed` or `TooLong` at the first source that cannot be read to its end; otherwise
+/// the first error of what was read, as [`merge_bytes`](crate::merge_bytes) returns it. `OutOfMemory`, if memory
+/// runs out, including in `tell`, and `NoWorker`, if a thread cannot be started, have no place.
 #[tactic(auto, using(sarif_streams::proofs::QuietReaders::same_failure, sarif_streams::proofs::QuietReaders::no_write))]
 pub fn merge_readers<
     R: Read,
@@ -54,8 +52,8 @@ pub fn merge_readers<
     requires baselines { All (λ reader. failed_calls reader < 2 ^ 63) readers.old.baselines.items }
     requires suppressions { failed_calls_if readers.old.suppressions < 2 ^ 63 }
     requires tells { Tell.IsAlwaysCallable tell }
-    // Ok comes only where all sources were read and nothing is at fault in them; it is the merge of these, with what
-    // reports tell of it.
+    // Ok is returned only if all sources were read and have no errors; the result is the merge of these, with its
+    // findings.
     ensures merged { IfOk result (λ made. IsMergedFrom R.remaining readers.old readers.new
         asked.now.options.now.today asked.now.options.now.policy (reporting_in asked.now) made.0) }
     // And what was made of it.
@@ -63,7 +61,7 @@ pub fn merge_readers<
         made.0.counts made.0.findings (Ok made.1)) }
     ensures refused { IfErr result
         (IsRefused R.remaining readers.old readers.new asked.now.options.now.today) }
-    // A failed read is answered as such, and only one.
+    // A failed read is reported as such, and only one.
     ensures read_failed { RisesIf (read_failed_in result)
         (failures readers.old) (failures readers.new) }
     ensures risen { NoNumberFalls readers.old readers.new }
@@ -75,11 +73,9 @@ pub fn merge_readers<
     Ok(made)
 }
 
-/// Merges logs and baselines from readers into a writer: reads and merges as [`merge_readers`] does, then writes the
-/// text of the log.
-///
-/// The refusals are those of [`merge_readers`], which have written nothing, and `WriteFailed` at the output, where a
-/// write failed: a part of the text may have been written then.
+/// Merges logs and baselines from readers into a writer: reads and merges as [`merge_readers`] does, then writes
+/// the text of the log. The rejections are those of [`merge_readers`], which have written nothing, and
+/// `WriteFailed` at the output, if a write failed: a part of the text may have been written then.
 pub fn merge_to<R: Read, W: Write, G: Gate + Sync, T: Threads + Wait + Sync>(
     rt: &T,
     alloc: Global,
@@ -92,19 +88,19 @@ pub fn merge_to<R: Read, W: Write, G: Gate + Sync, T: Threads + Wait + Sync>(
     requires baselines { All (λ reader. failed_calls reader < 2 ^ 63) readers.old.baselines.items }
     requires suppressions { failed_calls_if readers.old.suppressions < 2 ^ 63 }
     requires writes { failed_calls out.old < 2 ^ 63 }
-    // Ok comes only where all sources were read and nothing is at fault in them; it is the merge of these.
+    // Ok is returned only if all sources were read and have no errors; the result is the merge of these.
     ensures merged { IfOk result
         (IsMergedFrom R.remaining readers.old readers.new options.now.today
         options.now.policy None) }
     // The text was written, and nothing else.
     ensures written { IfOk result (λ merged. Appends (W.contents (inner_of out.old))
         (W.contents (inner_of out.new)) merged.log) }
-    // A refusal before writing, and its cause.
+    // A rejection before writing, and its cause.
     ensures refused { IfErr result (λ fault. (fault.cause ≡ WriteFailed → ⊥) → IsRefused R.remaining
         readers.old readers.new options.now.today fault) }
     ensures untouched { IfErr result
         (λ fault. (fault.cause ≡ WriteFailed → ⊥) → out.new ≡ out.old) }
-    // A refusal while writing.
+    // A rejection while writing.
     ensures part { IfErr result (λ fault. fault.cause ≡ WriteFailed → IsPartlyWritten R.remaining
         readers.old readers.new options.now.today options.now.policy
         (W.contents (inner_of out.old)) (W.contents (inner_of out.new))) }

@@ -78,7 +78,7 @@ fn slice_of(bytes: &Option<Vec<u8>>) -> Option<&[u8]>
     bytes.as_ref().map(Vec::as_slice)
 }
 
-/// So many scratches, in which sources are indexed.
+/// A number of scratches, in which sources are indexed.
 pub(crate) fn make_scratches(alloc: Global, count: usize) -> Result<Vec<Scratch>, AllocError>
     ensures { IfOk result (λ scratches. length scratches.items ≡ count) }
 {

@@ -1,4 +1,4 @@
--- What the elements of an array and the members of an object stand for.
+-- The values of the elements of an array and of the members of an object.
 use Rattle.std.proofs.Common.{◌≡◌, ◌↔◌, suc, List, [], ◌∷◌, map, length, refl, ap}
 use Rattle.serde_json.specs.declared.value.Value.{Value}
 use Rattle.serde_json.specs.View.{view, items_view}

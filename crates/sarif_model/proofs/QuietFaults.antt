@@ -1,4 +1,5 @@
--- Which refusals say that a read or a write failed: none for a fault of what was read. No public clause speaks of these.
+-- Which rejections say that a read or a write failed: none for an error in what was read. Internal: no public
+-- contract refers to these.
 use Rattle.std.proofs.Common.{◌≡◌, refl}
 use Rattle.sarif_model.specs.declared.fault.Fault.{Fault}
 use Rattle.sarif_model.specs.declared.merge_fault.At.{At}

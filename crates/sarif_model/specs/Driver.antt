@@ -1,12 +1,12 @@
--- Reading a log: its stripped runs, or the first fault with the run that it names (SARIF 2.1.0, "sarifLog object",
--- "run object", "tool object", "toolComponent object").
+-- Reading a log: its stripped runs, or the first error with its run (SARIF 2.1.0, "sarifLog object", "run object",
+-- "tool object", "toolComponent object").
 use Rattle.std.specs.Prelude.{◌+◌, ℕ, List, ◌∷◌, Option, codes, option_and_then, if◌then◌else◌}
 use Rattle.serde_json.specs.Data.{Data}
 use Rattle.serde_json.specs.Find.{get, as_str}
 
 -- ---- a run
 
--- the text `name` of the object `driver` of the object `tool`
+-- the string `name` of the object `driver` of the object `tool`
 abbrev pub driver_name : Data → Option (List ℕ)
 driver_name run =
     option_and_then as_str

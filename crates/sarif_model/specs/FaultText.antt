@@ -1,4 +1,4 @@
--- The texts of the places at which a fault stands.
+-- The printed places of errors.
 use Rattle.std.specs.Prelude.{ℕ, List, [], ◌++◌, codes, decimal}
 use Rattle.sarif_model.specs.declared.merge_fault.Source.{Source}
 use Rattle.sarif_model.specs.declared.merge_fault.Source.TheVariants.{Log, Baseline, Suppress, Output}

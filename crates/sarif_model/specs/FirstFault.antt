@@ -1,4 +1,4 @@
--- The faults of the inputs of a merge, in the order in which they are looked for, and what a refusal answers.
+-- The errors of the inputs of a merge, in the order of the checks, and the meaning of a rejection.
 use Rattle.std.specs.Prelude.{◌≡◌, ◌≤◌, ◌<◌, List, [], ◌∷◌, ◌++◌, ◌⊎◌, Option, Some, None, Result, Ok, Err, if◌then◌else◌}
 use Rattle.sarif_model.specs.declared.merge_fault.At.TheVariants.{Nowhere}
 use Rattle.sarif_model.specs.declared.merge_fault.Cause.TheVariants.{NoWorker}
@@ -9,16 +9,16 @@ abbrev pub first : List MergeFault → Option MergeFault
 first [] = None
 first (fault ∷ faults) = Some fault
 
--- the refusal where a thread could not be started
+-- the rejection if a thread could not be started
 abbrev pub no_worker : MergeFault
 no_worker = record { at = Nowhere; cause = NoWorker }
 
--- memory or a thread was wanting
+-- memory ran out, or a thread could not be started
 abbrev pub IsWanting : MergeFault → Type 0
 IsWanting fault = (fault ≡ out_of_memory) ⊎ (fault ≡ no_worker)
 
--- an answer where these are the faults: Ok only where there is none, and a refusal is the first of them, or want of
--- memory or of a thread
+-- a result if these are the errors: Ok only if there is none, and a rejection is the first of them, or means that
+-- memory ran out or that a thread could not be started
 abbrev pub Answers : {T : Type 0} → List MergeFault → Result T MergeFault → Type 0
 Answers faults (Ok v) = faults ≡ []
 Answers faults (Err fault) = IsWanting fault ⊎ (first faults ≡ Some fault)

@@ -1,5 +1,6 @@
--- How texts are hashed. A long one is hashed by a number that is worked out once and kept beside it, so that hashing a
--- text which many results share costs its bytes once. No public clause of the merge speaks of it.
+-- How strings are hashed. A long string is hashed by a number that is computed once and stored with it, so that
+-- hashing a string that many results share costs its bytes only once. Internal: no public contract of the merge
+-- refers to this module.
 use Rattle.std.specs.Prelude.{ℕ, List, [], ◌∷◌, length, nat_le, slice_index, if◌then◌else◌}
 use Rattle.std.specs.Int.{w64, from_be_bytes}
 use Rattle.std.specs.Hash as fed
@@ -12,10 +13,10 @@ first_bits d =
     from_be_bytes w64 (slice_index d 0 ∷ slice_index d 1 ∷ slice_index d 2 ∷ slice_index d 3
     ∷ slice_index d 4 ∷ slice_index d 5 ∷ slice_index d 6 ∷ slice_index d 7 ∷ [])
 
--- those of the SHA-256 digest of a text (FIPS 180-4)
+-- the first 64 bits of the SHA-256 digest of a string (FIPS 180-4)
 unfoldable pub digest_of : List ℕ → ℕ
 digest_of text = first_bits (sha256 text)
 
--- what a hasher is fed of a text: the bytes of one of at most 1,024, else the digest
+-- what a hasher is fed for a string: its bytes if there are at most 1,024, otherwise the digest
 unfoldable pub fed_of : List ℕ → HashWrites
 fed_of text = if nat_le (length text) 1024 then fed.str text else fed.u64 (digest_of text)

@@ -6,7 +6,7 @@ use Rattle.sarif_model.specs.Members.{elements}
 use Rattle.std.specs.Prelude.{if◌then◌else◌}
 use Rattle.std.specs.Prelude.{not, filter}
 
--- the array of results, where there is one
+-- the array of results, if there is one
 abbrev pub results_array : Data → Option Items
 results_array run = option_and_then as_array (get (codes "results") run)
 
@@ -35,7 +35,7 @@ abbrev pub results_total : List Data → ℕ
 results_total [] = 0
 results_total (run ∷ runs) = length (results_of run) + results_total runs
 
--- the elements of `runs`; null is no runs
+-- the elements of `runs`; null means no runs
 abbrev pub runs_of : Data → List Data
 runs_of log = elements_or_none (option_and_then as_array (get (codes "runs") log))
 

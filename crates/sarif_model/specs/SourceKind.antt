@@ -1,4 +1,4 @@
--- The sources of a kind by their numbers. No public clause of the merge speaks of it.
+-- The sources of a kind by their numbers. Internal: no public contract of the merge refers to this module.
 use Rattle.std.specs.Prelude.{ℕ}
 use Rattle.sarif_model.specs.declared.merge_fault.Source.{Source}
 use Rattle.sarif_model.specs.declared.merge_fault.Source.TheVariants as source

@@ -9,14 +9,14 @@ use Rattle.sarif_model.specs.declared.kinds.Status.TheVariants.{Accepted}
 use Rattle.sarif_model.specs.Status.{status_named}
 use Rattle.sarif_model.specs.Members.{◌>>=◌, of_kind, member_at}
 
--- where a suppression stands: in the source or outside (suppression object, "kind property")
+-- where a suppression is: in the source or outside (suppression object, "kind property")
 abbrev pub is_suppression_kind : List ℕ → Bool
 is_suppression_kind text = bytes_eq text (codes "inSource") || bytes_eq text (codes "external")
 
 abbrev pub kind_text : Data → Option (List ℕ)
 kind_text suppression = option_and_then as_str (member_at (codes "kind") suppression)
 
--- it must have a kind that is one of these
+-- its kind is required and one of these
 abbrev pub check_suppression_kind : Data → Result ⊤ Fault
 check_suppression_kind suppression =
     if unwrap_or (option_map is_suppression_kind (kind_text suppression)) false

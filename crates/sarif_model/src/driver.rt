@@ -5,7 +5,7 @@ ghost use Rattle.sarif_model.specs.Driver as said;
 
 use serde_json::Value;
 
-/// The `name` of the driver of the run's tool, where it is a text.
+/// The `name` of the driver of the run's tool, if it is a string.
 pub fn driver_name(run: &Value) -> Option<&str>
     ensures { option_map (λ s. s.now) result ≡ said.driver_name (view run.now) }
 {

@@ -8,60 +8,56 @@ pub enum Fault {
     /// The bytes are not UTF-8, not JSON, or nested more than 127 deep.
     #[error("NotJson")]
     NotJson = 1,
-    /// The value is no object, or `runs`, which must be there, is neither an array nor null.
+    /// The value is not an object, or `runs`, which is required, is neither an array nor null.
     #[error("NotLog")]
     NotLog = 2,
     /// `version`, which must be there, is not supported: a log or a baseline must have the string
     /// `2.1.0`, the suppression file the integer 1 or 2.
     #[error("WrongVersion")]
     WrongVersion = 3,
-    /// A run that is no object, or whose `tool.driver.name`, which must be there, is no text, or
-    /// whose `results` are no array of objects.
+    /// A run that is not an object, or whose `tool.driver.name`, which is required, is not a string, or whose
+    /// `results` are not an array of objects.
     #[error("BadRun")]
     BadRun = 4,
-    /// A run that names external property files: its `externalPropertyFileReferences` are no empty
-    /// object.
+    /// A run that names external property files: its `externalPropertyFileReferences` is not an empty object.
     #[error("ExternalProperties")]
     ExternalProperties = 5,
-    /// `tool.extensions` that are no array of objects, `rules` of the driver or of an extension
-    /// that are no array, or a rule of these that is no object, or whose `id`, which must be there,
-    /// is no text, or whose `defaultConfiguration` is no object.
+    /// `tool.extensions` that is not an array of objects, `rules` of the driver or of an extension that is not an
+    /// array, or a rule that is not an object, or whose `id`, which is required, is not a string, or whose
+    /// `defaultConfiguration` is not an object.
     #[error("BadRules")]
     BadRules = 6,
-    /// An index that is no whole number from -1 to 4,294,967,295, or past the table that it is
-    /// looked up in.
+    /// An index that is not an integer from -1 to 4,294,967,295, or past the end of its table.
     #[error("BadIndex")]
     BadIndex = 7,
-    /// A `level` of a rule, of an override or of a result that is none of the four texts.
+    /// A `level` of a rule, of an override or of a result that is none of the four strings.
     #[error("BadLevel")]
     BadLevel = 8,
-    /// A `kind` of a result that is none of the six texts.
+    /// A `kind` of a result that is none of the six strings.
     #[error("BadKind")]
     BadKind = 9,
-    /// A `correlationGuid` of a result that is no text that stands for a guid.
+    /// A `correlationGuid` of a result that is not a string that represents a GUID.
     #[error("BadGuid")]
     BadGuid = 10,
-    /// `fingerprints` or `partialFingerprints` of a result that are no object of texts.
+    /// `fingerprints` or `partialFingerprints` of a result that is not an object of strings.
     #[error("BadFingerprint")]
     BadFingerprint = 11,
-    /// Of a run: `artifacts` that are no array of objects, or one whose `location` is no object, or
-    /// holds a `uri` or a `uriBaseId` that is no text. Of a result: `locations` that are no array,
-    /// or of which the first is no object, or holds a `physicalLocation` that is no object, or this
-    /// an `artifactLocation` that is no object, or this a `uri` or a `uriBaseId` that is no text.
+    /// For a run: `artifacts` that is not an array of objects, or an artifact whose `location` is not an object,
+    /// or contains a `uri` or `uriBaseId` that is not a string. For a result: `locations` that is not an array, or
+    /// whose first element is not an object, or contains a `physicalLocation` that is not an object, or an
+    /// `artifactLocation` in it that is not an object, or a `uri` or `uriBaseId` in that is not a string.
     #[error("BadLocation")]
     BadLocation = 12,
-    /// `suppressions` of a result that are no array of objects, or one of them whose `kind`, which
-    /// must be there, is neither `inSource` nor `external`, or whose `status` is none of the three
-    /// texts.
+    /// `suppressions` of a result that is not an array of objects, or a suppression whose `kind`, which is
+    /// required, is neither `inSource` nor `external`, or whose `status` is none of the three strings.
     #[error("BadSuppression")]
     BadSuppression = 13,
-    /// Of a run: `invocations`, or `ruleConfigurationOverrides` of one, that are no array of
-    /// objects, or an override with a `descriptor`, a `toolComponent` in it or a `configuration`
-    /// that is no object, or with an `id` in its descriptor that is no text. Of a result: a
-    /// `message` that is no object, or holds a `text` or an `id` that is no text, or `arguments`
-    /// that are no array of texts; a `ruleId` that is no text; a `rule` that is no object, or holds
-    /// an `id` that is no text, or a `toolComponent` that is no object; a `provenance` that is no
-    /// object.
+    /// For a run: `invocations`, or `ruleConfigurationOverrides` of one, that is not an array of objects, or an
+    /// override with a `descriptor`, a `toolComponent` in it or a `configuration` that is not an object, or with
+    /// an `id` in its descriptor that is not a string. For a result: a `message` that is not an object, or
+    /// contains a `text` or `id` that is not a string, or `arguments` that is not an array of strings; a `ruleId`
+    /// that is not a string; a `rule` that is not an object, or contains an `id` that is not a string, or a
+    /// `toolComponent` that is not an object; a `provenance` that is not an object.
     #[error("BadMember")]
     BadMember = 14,
     /// A result whose `baselineState` is already `absent`.

@@ -4,8 +4,8 @@ ghost use Rattle.sarif_model.specs.Guid.{guid_of_text};
 
 use uuid::Uuid;
 
-/// The guid that `text` stands for in any of the forms of a guid, as a number, or `None` where it
-/// stands for none (RFC 9562).
+/// Returns the GUID that `text` represents in any of the forms of a GUID, as a number, or `None` if it represents
+/// none (RFC 9562).
 #[tactic(auto, unfolding(crate::specs::Guid::guid_of_text))]
 pub fn read_guid(text: &str) -> Option<u128>
     ensures { result ≡ guid_of_text text.now }

@@ -1,4 +1,4 @@
-//! The texts of `level`, `kind`, `baselineState` and a suppression's `status`, as types.
+//! The values of `level`, `kind`, `baselineState` and a suppression's `status`, as types.
 ghost use Rattle.std.specs.Prelude.{◌≡◌};
 ghost use Rattle.sarif_model.specs.Level.{level_name, level_named};
 ghost use Rattle.sarif_model.specs.Kind.{kind_name, kind_named};
@@ -8,13 +8,13 @@ ghost use Rattle.sarif_model.specs.Status.{status_name, status_named};
 /// The severity of a result, in rising order (SARIF 2.1.0, "level property").
 #[derive(Clone, Copy, Debug, PartialEq, Eq, PartialOrd, Ord, Hash)]
 pub enum Level {
-    /// The text `none`: severity doesn't apply, as where the kind isn't `fail`.
+    /// The string `none`: severity does not apply, for example if the kind is not `fail`.
     NoLevel,
-    /// The text `note`: a minor problem, or what could be better.
+    /// The string `note`: a minor problem, or a possible improvement.
     Note,
-    /// The text `warning`: a problem.
+    /// The string `warning`: a problem.
     Warning,
-    /// The text `error`: a serious problem.
+    /// The string `error`: a serious problem.
     Error,
 }
 
@@ -31,7 +31,7 @@ impl Level {
         }
     }
 
-    /// The level whose text is `name`, or `None` where there is none.
+    /// Returns the level whose string is `name`, or `None` if there is none.
     pub fn from_name(name: &str) -> Option<Level>
         ensures { result ≡ level_named name.now }
     {
@@ -49,21 +49,20 @@ impl Level {
     }
 }
 
-/// What a result says of its rule (SARIF 2.1.0, "kind property").
+/// The outcome of a rule for a result (SARIF 2.1.0, "kind property").
 #[derive(Clone, Copy, Debug, PartialEq, Eq, PartialOrd, Ord, Hash)]
 pub enum Kind {
-    /// The text `pass`: the rule was evaluated, and no problem was found.
+    /// The string `pass`: the rule was evaluated, and no problem was found.
     Pass,
-    /// The text `open`: the rule was evaluated, and whether there is a problem could not be told.
+    /// The string `open`: the rule was evaluated, and it could not be decided whether there is a problem.
     Undecided,
-    /// The text `informational`: the result only tells something.
+    /// The string `informational`: the result is only information.
     Informational,
-    /// The text `notApplicable`: the rule was not evaluated, as it doesn't apply there.
+    /// The string `notApplicable`: the rule was not evaluated, because it does not apply.
     NotApplicable,
-    /// The text `review`: a person is to look whether there is a problem.
+    /// The string `review`: a person needs to check whether there is a problem.
     Review,
-    /// The text `fail`: the rule was evaluated, and a problem was found. A result without a kind
-    /// has this one.
+    /// The string `fail`: the rule was evaluated, and a problem was found. A result without a kind has this one.
     Fail,
 }
 
@@ -82,7 +81,7 @@ impl Kind {
         }
     }
 
-    /// The kind whose text is `name`, or `None` where there is none.
+    /// Returns the kind whose string is `name`, or `None` if there is none.
     pub fn from_name(name: &str) -> Option<Kind>
         ensures { result ≡ kind_named name.now }
     {
@@ -104,16 +103,16 @@ impl Kind {
     }
 }
 
-/// How a result stands to the baseline (SARIF 2.1.0, "baselineState property").
+/// The state of a result relative to the baseline (SARIF 2.1.0, "baselineState property").
 #[derive(Clone, Copy, Debug, PartialEq, Eq, PartialOrd, Ord, Hash)]
 pub enum State {
-    /// The text `new`: no result of the baseline is its partner.
+    /// The string `new`: it matches no baseline result.
     New,
-    /// The text `unchanged`: its partner has the same kind, level, message and place.
+    /// The string `unchanged`: the matching baseline result has the same kind, level, message and place.
     Unchanged,
-    /// The text `updated`: its partner differs in one of these.
+    /// The string `updated`: the matching baseline result differs in one of these.
     Updated,
-    /// The text `absent`: a result of the baseline that is the partner of no current result.
+    /// The string `absent`: a baseline result that no current result matches.
     Absent,
 }
 
@@ -130,7 +129,7 @@ impl State {
         }
     }
 
-    /// The baseline state whose text is `name`, or `None` where there is none.
+    /// Returns the baseline state whose string is `name`, or `None` if there is none.
     pub fn from_name(name: &str) -> Option<State>
         ensures { result ≡ state_named name.now }
     {
@@ -151,11 +150,11 @@ impl State {
 /// How far a suppression was reviewed (SARIF 2.1.0, suppression object, "status property").
 #[derive(Clone, Copy, Debug, PartialEq, Eq, PartialOrd, Ord, Hash)]
 pub enum Status {
-    /// The text `accepted`: the suppression holds. A suppression without a status has this one.
+    /// The string `accepted`: the suppression is in effect. A suppression without a status has this one.
     Accepted,
-    /// The text `underReview`: it is not decided, and the result is active.
+    /// The string `underReview`: the suppression is not decided, and the result is active.
     UnderReview,
-    /// The text `rejected`: the suppression was refused, and the result is active.
+    /// The string `rejected`: the suppression was rejected, and the result is active.
     Rejected,
 }
 
@@ -171,7 +170,7 @@ impl Status {
         }
     }
 
-    /// The status whose text is `name`, or `None` where there is none.
+    /// Returns the status whose string is `name`, or `None` if there is none.
     pub fn from_name(name: &str) -> Option<Status>
         ensures { result ≡ status_named name.now }
     {

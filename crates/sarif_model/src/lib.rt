@@ -1,4 +1,4 @@
-//! The vocabulary of a merge: the kinds, texts and sequences, places, records, faults and their places.
+//! The vocabulary of a merge: kinds, strings and sequences, places, records, errors and their places.
 #![tactic(auto)]
 
 mod driver;

@@ -1,5 +1,5 @@
-//! Reading the members of an object by kind. A member that is null counts as absent; `wrong` is the
-//! error of a member that is of another kind.
+//! Reading the members of an object by type. A null member is treated as missing; `wrong` is the error for a
+//! member of another type.
 ghost use Rattle.std.specs.Prelude.{◌≡◌, map, option_map, option_and_then};
 ghost use Rattle.sarif_model.specs.Members.{result_map};
 ghost use Rattle.serde_json.specs.View.{view};
@@ -7,7 +7,7 @@ ghost use Rattle.sarif_model.specs.Members as said;
 
 use serde_json::Value;
 
-/// The member `name` of an object, where it is there and not null. What is no object has no
+/// Returns the member `name` of an object, if it is there and not null. A value that is not an object has no
 /// members.
 pub fn member_at<'a>(value: &'a Value, name: &str) -> Option<&'a Value>
     ensures { option_map (λ v. view v.now) result ≡ said.member_at name.now (view value.now) }
@@ -18,8 +18,8 @@ pub fn member_at<'a>(value: &'a Value, name: &str) -> Option<&'a Value>
     }
 }
 
-/// The text `name` of an object; `None` where the member is absent or null, or where this is no
-/// object. `wrong` where the member is no text.
+/// Returns the string `name` of an object; `None` if the member is missing or null, or if this is not an object.
+/// Returns `wrong` if the member is not a string.
 pub fn text_at<'a, E: Drop>(value: &'a Value, name: &str, wrong: E) -> Result<Option<&'a str>, E>
     ensures { result_map (option_map (λ s. s.now)) result
         ≡ said.text_at wrong name.now (view value.now) }
@@ -33,8 +33,8 @@ pub fn text_at<'a, E: Drop>(value: &'a Value, name: &str, wrong: E) -> Result<Op
     }
 }
 
-/// The object `name` of an object; `None` where the member is absent or null, or where this is no
-/// object. `wrong` where the member is no object.
+/// Returns the object `name` of an object; `None` if the member is missing or null, or if this is not an object.
+/// Returns `wrong` if the member is not an object.
 pub fn object_at<'a, E: Drop>(
     value: &'a Value,
     name: &str,
@@ -55,8 +55,8 @@ pub fn object_at<'a, E: Drop>(
     }
 }
 
-/// The elements of the array `name` of an object; where the member is absent or null there are
-/// none. `wrong` where the member is no array.
+/// Returns the elements of the array `name` of an object; none if the member is missing or null. Returns `wrong`
+/// if the member is not an array.
 #[tactic(auto, using(crate::proofs::Elements::elements_items_view))]
 pub fn elements_at<'a, E: Drop>(value: &'a Value, name: &str, wrong: E) -> Result<&'a [Value], E>
     ensures { result_map (λ vs. map view vs.now) result
@@ -83,8 +83,8 @@ fn are_objects(values: &[Value]) -> bool
     true
 }
 
-/// The elements of the array of objects `name` of an object; where the member is absent or null
-/// there are none. `wrong` where the member is no array, or one of its elements is no object.
+/// Returns the elements of the array of objects `name` of an object; none if the member is missing or null.
+/// Returns `wrong` if the member is not an array, or an element is not an object.
 #[tactic(auto, using(crate::proofs::Elements::elements_items_view))]
 pub fn objects_at<'a, E: Drop>(value: &'a Value, name: &str, wrong: E) -> Result<&'a [Value], E>
     ensures { result_map (λ vs. map view vs.now) result
@@ -105,8 +105,8 @@ pub fn objects_at<'a, E: Drop>(value: &'a Value, name: &str, wrong: E) -> Result
     }
 }
 
-/// The index `name` of an object: a whole number from 0 to 2^32 - 1. `None` where the member is
-/// absent, null or -1. `wrong` where it is anything else.
+/// Returns the index `name` of an object: an integer from 0 to 2^32 - 1; `None` if the member is missing, null or
+/// -1. Returns `wrong` if it is anything else.
 pub fn index_at<E: Drop>(value: &Value, name: &str, wrong: E) -> Result<Option<u32>, E>
     ensures { result ≡ said.index_at wrong name.now (view value.now) }
 {
@@ -135,8 +135,8 @@ pub fn member_within<'a>(value: Option<&'a Value>, name: &str) -> Option<&'a Val
     }
 }
 
-/// The text `name` of an object that may be absent itself; `None` where the object or the member is
-/// absent, or the member is null. `wrong` where the member is no text.
+/// Returns the string `name` of an object that may itself be missing; `None` if the object or the member is
+/// missing, or the member is null. Returns `wrong` if the member is not a string.
 pub fn text_within<'a, E: Drop>(
     value: Option<&'a Value>,
     name: &str,
@@ -151,8 +151,8 @@ pub fn text_within<'a, E: Drop>(
     }
 }
 
-/// The object `name` of an object that may be absent itself; `None` where the outer object or the
-/// member is absent, or the member is null. `wrong` where the member is no object.
+/// Returns the object `name` of an object that may itself be missing; `None` if the outer object or the member is
+/// missing, or the member is null. Returns `wrong` if the member is not an object.
 pub fn object_within<'a, E: Drop>(
     value: Option<&'a Value>,
     name: &str,
@@ -167,9 +167,8 @@ pub fn object_within<'a, E: Drop>(
     }
 }
 
-/// The index `name` of an object that may be absent itself, a whole number from 0 to 2^32 - 1;
-/// `None` where the object or the member is absent, or the member is null or -1. `wrong` where the
-/// member is anything else.
+/// Returns the index `name` of an object that may itself be missing, an integer from 0 to 2^32 - 1; `None` if the
+/// object or the member is missing, or the member is null or -1. Returns `wrong` if the member is anything else.
 pub fn index_within<E: Drop>(value: Option<&Value>, name: &str, wrong: E) -> Result<Option<u32>, E>
     ensures { result
         ≡ said.if_there (said.index_at wrong name.now) (option_map (λ v. view v.now) value.entry) }
@@ -180,8 +179,8 @@ pub fn index_within<E: Drop>(value: Option<&Value>, name: &str, wrong: E) -> Res
     }
 }
 
-/// The first of these values; `None` where there are none. `wrong` where it is no object, also
-/// where it is null.
+/// Returns the first of these values; `None` if there are none. Returns `wrong` if it is not an object, even if it
+/// is null.
 pub fn first_object<'a, E: Drop>(values: &'a [Value], wrong: E) -> Result<Option<&'a Value>, E>
     ensures { result_map (option_map (λ v. view v.now)) result
         ≡ said.if_object wrong (said.first_of (map view values.now)) }

@@ -1,4 +1,4 @@
-//! Why a merge is refused, and where.
+//! Why a merge is rejected, and where.
 ghost use Rattle.std.specs.Prelude.{◌≡◌};
 ghost use Rattle.sarif_model.specs.MergeFault.{cause_of, fault_at, exit_status, out_of_memory};
 
@@ -7,7 +7,7 @@ use std::alloc::{AllocError, AllocFailed};
 use std::fmt;
 use thiserror::Error;
 
-/// What a merge reads and writes. Logs and baselines count from 0, each among their own kind.
+/// What a merge reads and writes. Logs and baselines are numbered from 0, each kind separately.
 #[derive(Clone, Copy, Debug, PartialEq, Eq)]
 pub enum Source {
     /// A log, by its number among the logs.
@@ -20,10 +20,10 @@ pub enum Source {
     Output,
 }
 
-/// What is at fault. Runs count from 0 within their log or baseline, results within their run.
+/// Where an error is. Runs are numbered from 0 within their log or baseline, results within their run.
 #[derive(Clone, Copy, Debug, PartialEq, Eq)]
 pub enum At {
-    /// No input: memory or threads were wanting.
+    /// No input: memory ran out, or a thread could not be started.
     Nowhere,
     /// All of a source.
     Whole(Source),
@@ -50,7 +50,7 @@ pub enum Cause {
     /// A write of an output failed, or took none of at least one byte.
     #[error("WriteFailed")]
     WriteFailed,
-    /// Memory was wanting.
+    /// Memory ran out.
     #[error("OutOfMemory")]
     OutOfMemory,
     /// A thread could not be started.
@@ -59,7 +59,7 @@ pub enum Cause {
 }
 
 impl Cause {
-    /// The program's exit status: 3 where a read or a write failed, else 2.
+    /// The program's exit status: 3 if a read or a write failed, otherwise 2.
     pub fn status(self) -> u8
         ensures { result ≡ exit_status self }
     {
@@ -78,17 +78,17 @@ impl From<Fault> for Cause {
     }
 }
 
-/// Why a merge is refused, and what is at fault.
+/// Why a merge is rejected, and where the error is.
 #[derive(Clone, Copy, Debug, PartialEq, Eq)]
 pub struct MergeFault {
-    /// What is at fault.
+    /// Where the error is.
     pub at: At,
     /// What is wrong there.
     pub cause: Cause,
 }
 
 impl MergeFault {
-    /// The cause at this place; want of memory or of a thread is nowhere.
+    /// The cause with this place; OutOfMemory and NoWorker have no place.
     pub fn found(at: At, cause: Cause) -> MergeFault
         ensures { result ≡ fault_at at cause }
     {

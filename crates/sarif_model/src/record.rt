@@ -1,16 +1,16 @@
-//! What matching and suppressing know of a result.
+//! What matching and suppressing need of a result.
 use crate::kinds::{Kind, Level, Status};
 use crate::message::Message;
 use crate::place::Place;
 use crate::sequence::{Pairs, Sequence};
 use crate::text::Text;
 
-/// A result with what its run says of it (SARIF 2.1.0, "result object").
+/// A result with what its run says about it (SARIF 2.1.0, "result object").
 #[derive(Debug, Drop)]
 pub struct Record {
     /// The driver's `name`.
     pub tool: Text,
-    /// `ruleId`, else `rule.id`, else the descriptor's `id`, else the empty text.
+    /// `ruleId`, otherwise `rule.id`, otherwise the descriptor's `id`, otherwise the empty string.
     pub rule_id: Text,
     /// `kind`; absent it is `fail`.
     pub kind: Kind,

@@ -1,4 +1,4 @@
-//! A list that contracts see as its items, whatever room is kept for more.
+//! A list that contracts see as its items, regardless of its capacity.
 ghost use Rattle.std.specs.Prelude.{◌≡◌, List, ◌++◌, ◌∷◌, [], length, OnOk, OnErr};
 ghost use Rattle.std.specs.Cmp.Lexicographic.{pointwise, lists_equiv, lists_per};
 ghost use Rattle.std.specs.Hash as fed;
@@ -15,7 +15,7 @@ pub struct Sequence<T> {
     items: Vec<T>,
 }
 
-/// A map from texts to texts, as `fingerprints` is, in the byte order of its names.
+/// A map from strings to strings, such as `fingerprints`, in the byte order of its names.
 pub type Pairs = Sequence<(Text, Text)>;
 
 impl<T> Model for Sequence<T> {
@@ -25,7 +25,7 @@ impl<T> Model for Sequence<T> {
 }
 
 impl<T> Sequence<T> {
-    /// The empty list; takes no memory.
+    /// The empty list; does not allocate.
     pub fn new(alloc: Global) -> Sequence<T>
         ensures { result ≡ [] }
     {
@@ -43,8 +43,8 @@ impl<T> Sequence<T> {
 }
 
 impl<T: Drop> Sequence<T> {
-    /// Puts `item` at the end. `AllocError` where memory is wanting; then the list is as it was,
-    /// and the item is let go.
+    /// Adds `item` to the end. Returns `AllocError` if memory runs out; then the list is unchanged, and the item
+    /// is dropped.
     pub fn push(&mut self, item: T) -> Result<(), AllocError>
         ensures ok { OnOk result (self.new ≡ self.old ++ item ∷ []) }
         ensures err { OnErr result (self.new ≡ self.old) }

@@ -1,4 +1,4 @@
-//! A text that contracts see as its bytes, and that is compared and hashed by them.
+//! A string that contracts see as its bytes, and that is compared and hashed by them.
 ghost use Rattle.std.specs.Prelude.{◌≡◌, ◌⊎◌, ℕ, List, Some, refl, bytes_eq, string_bytes};
 ghost use Rattle.std.specs.Prelude.{IfOk, option_map};
 ghost use Rattle.std.proofs.Common.{rules};
@@ -22,13 +22,12 @@ use std::sync::ArcStr;
 /// The length in bytes of the longest text whose bytes are hashed each time.
 const LONGEST_HASHED: usize = 1024;
 
-/// A text of a log, held once for all its clones, in whatever threads they are. Contracts see its
-/// UTF-8 bytes.
+/// A string of a log, stored once for all its clones, in any threads. Contracts see its UTF-8 bytes.
 #[derive(Drop)]
 pub struct Text {
     content: ArcStr,
-    /// What a longer text is hashed by, or 0 where that wasn't worked out. Nobody can choose texts
-    /// many of which share it.
+    /// The number by which a longer string is hashed, or 0 if it was not computed. Nobody can choose strings so
+    /// that many of them share it.
     digest: u64,
 }
 
@@ -40,7 +39,7 @@ impl Model for Text {
     ghost invariant = { λ t. (t.digest ≡ 0) ⊎ (t.digest ≡ digest_of (arc_str_bytes t.content)) };
 }
 
-/// The first 64 bits of the SHA-256 digest of a text.
+/// The first 64 bits of the SHA-256 digest of a string.
 #[tactic(auto, unfolding(crate::specs::Hashed::digest_of))]
 fn digest(text: &str) -> u64
     ensures { result ≡ digest_of text.now }
@@ -52,7 +51,7 @@ fn digest(text: &str) -> u64
 }
 
 impl Text {
-    /// A copy of `text`. `AllocError` where memory for it is wanting.
+    /// Returns a copy of `text`. Returns `AllocError` if memory for it runs out.
     pub fn copy_of(alloc: Global, text: &str) -> Result<Text, AllocError>
         ensures { IfOk result (λ t. t ≡ text.now) }
     {
@@ -61,8 +60,8 @@ impl Text {
         Ok(Text { content, digest })
     }
 
-    /// The text that `text` is. Its bytes are neither copied nor looked at. `AllocError` where
-    /// memory for it is wanting.
+    /// Returns `text` as a `Text`. Its bytes are neither copied nor read. Returns `AllocError` if memory for it
+    /// runs out.
     pub fn from_string(text: String) -> Result<Text, AllocError>
         ensures { IfOk result (λ t. t ≡ string_bytes text) }
     {
@@ -77,7 +76,7 @@ impl Text {
         self.content.as_str()
     }
 
-    /// Its digest, as it is kept or else worked out.
+    /// Its digest, as it is stored or otherwise computed.
     fn digest(&self) -> u64
         ensures { result ≡ digest_of self.now }
     {
@@ -100,7 +99,7 @@ fn digest_if_long(text: &str) -> u64
     }
 }
 
-/// A copy of `text`, where there is one.
+/// A copy of `text`, if there is one.
 pub fn copy_if_there(alloc: Global, text: Option<&str>) -> Result<Option<Text>, AllocError>
     ensures { IfOk result (λ copy. copy ≡ option_map (λ s. s.now) text.entry) }
 {

@@ -1,4 +1,4 @@
--- The texts that were made of some reports are what is told of these reports.
+-- The texts that were made for some reports are the texts of these reports.
 use Rattle.std.proofs.Common.{◌≡◌, ◌∙◌, ◌<◌, ℕ, List, [], ◌∷◌, map, length, get_or, refl, sym, ap, subst, arith}
 use Rattle.std.specs.Prelude.{Result, Ok, IfOk}
 use Rattle.std.proofs.lemmas.List.{ext_get_or, get_or-map, length-map}

@@ -20,7 +20,7 @@ use Rattle.sarif_request.specs.declared.wanted.Wanted.{Wanted}
 abbrev pub reporting_of : Request → Reporting
 reporting_of request = record { policy = request.options.policy; root = request.root }
 
--- what is told of a merge whose reports have these writers: nothing if there is no writer
+-- the findings of a merge whose reports have these writers: none if there is no writer
 abbrev pub reporting_for : {W : Type 0} → Request → List (Wanted W) → Option Reporting
 reporting_for request [] = None
 reporting_for request (writer ∷ others) = Some (reporting_of request)
@@ -49,7 +49,7 @@ pub record IsWritten {W : Type 0} (contents : W → Option (List ℕ)) (told : R
   pub appended : Appends (contents (inner_of old.to)) (contents (inner_of new.to))
       (told old.report)
 
--- each writer got its text: if these are the texts of their reports, each report was written
+-- each writer received its text: if these are the texts of their reports, each report was written
 abbrev pub AreTaken : {W : Type 0} → (W → Option (List ℕ)) → List (List ℕ)
     → List (Wanted (Counted W)) → List (Wanted (Counted W)) → Type 0
 AreTaken contents texts old new = (told : Report → List ℕ) → texts ≡ texts_for old told

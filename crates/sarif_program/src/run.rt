@@ -1,4 +1,4 @@
-//! Doing what a request asks for, over readers and writers of any kind.
+//! Serves a request, over readers and writers of any kind.
 ghost use Rattle.std.specs.Prelude.{◌≡◌, [], ◌<◌, ◌≤◌, ◌+◌, ◌^◌, false, nat_eq, IfOk, Ok};
 ghost use Rattle.std.specs.List.{All, AllZip};
 ghost use Rattle.std.specs.Io.KnownBytes.{Appends};

@@ -36,8 +36,8 @@ fn text_of<T: Threads + Sync>(
     Text::from_string(report_text(rt, alloc, report, told, threads)?)
 }
 
-/// Returns the texts of these reports, which are made at the same time. One that shares its work among threads has at
-/// most `threads`.
+/// Returns the texts of these reports, which are made at the same time. A report that shares its work among
+/// threads uses at most `threads`.
 fn texts_told<T: Threads + Sync>(
     rt: &T,
     alloc: Global,

@@ -1,4 +1,4 @@
--- What stands beside a member isn't touched where that member is left out.
+-- The other members are unchanged if a member is left out.
 use Rattle.std.proofs.Common.{◌≡◌, ℕ, List, true, false, refl, true≢false, sym, ap, ◌∙◌, codes, bytes_eq, is_some, unwrap_or, option_map, option_and_then}
 use Rattle.std.proofs.lemmas.Slice.Eq.{bytes_eq-Decides}
 use Rattle.serde_json.specs.Data.{Data}
@@ -13,7 +13,7 @@ use Rattle.sarif_model.specs.declared.fault.Fault.TheVariants.{BadRun, ExternalP
 pub member_beside : (r k : List ℕ) (d : Data) → bytes_eq k r ≡ false → get k (without_member r d) ≡ get k d
 member_beside r k d apart = get-without_other k r d (λ same. true≢false (sym ((bytes_eq-Decides k r).1 same) ∙ apart))
 
--- a run's members but its results are found in the run beside its results
+-- a run's members except its results are found in the run without its results
 pub bare_get : (k : List ℕ) (run : Data) → bytes_eq k (codes "results") ≡ false → get k (bare run) ≡ get k run
 bare_get k run apart = member_beside (codes "results") k run apart
 

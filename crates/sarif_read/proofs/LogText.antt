@@ -1,4 +1,4 @@
--- JSON of bytes by the parser's two clauses: what it read, and why it refused.
+-- The JSON value of bytes, by the parser's two clauses: what it read, and why it rejected them.
 use Rattle.std.proofs.Common.{◌≡◌, ℕ, List, Some, None, if◌then◌else◌, refl, Err}
 use Rattle.serde_json.specs.Data.{Data}
 use Rattle.sarif_model.specs.declared.fault.Fault.TheVariants.{NotJson}
@@ -7,7 +7,7 @@ use Rattle.json_parts.specs.Indexed.{json_of}
 use Rattle.json_parts.specs.Mark.{without_mark}
 use Rattle.sarif_read.specs.Reading.{log_of, log_of_value}
 
--- the whole log by what is read of its text
+-- the whole log by what is read from its bytes
 pub log_of_text : (bytes : List ℕ) (d : Data) → json_of (without_mark bytes) ≡ Some d → log_of bytes ≡ log_of_value (stripped d)
 unfolding log_of
 log_of_text bytes d is = rw is refl

@@ -1,4 +1,4 @@
--- What the elements of an array and the members of an object stand for.
+-- The values of the elements of an array and of the members of an object.
 use Rattle.std.proofs.Common.{◌≡◌, ◌↔◌, Bool, true, false, IsTrue, List, [], ◌∷◌, length, refl, arith}
 use Rattle.serde_json.specs.View.{members_view}
 use Rattle.serde_json.proofs.Views.{Entry}

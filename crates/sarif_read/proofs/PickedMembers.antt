@@ -15,7 +15,7 @@ use Rattle.json_parts.proofs.Order.{read_ordered}
 use Rattle.json_parts.proofs.Stripped.{differ}
 use Rattle.sarif_read.specs.Picked.{picked, picked_onto, with_own}
 
--- ---- what tokens stand for has ordered members
+-- ---- the value of tokens has ordered members
 
 value_ordered : (j : json.Json) (o : Option Data) → of_json j ≡ o → IsOrdered (unwrap_or o null)
 value_ordered j None is = tt

@@ -11,7 +11,7 @@ use Rattle.sarif_model.specs.Run.{results_array}
 use Rattle.sarif_read.specs.Reading.{check_run, check_tool, check_external, check_results}
 use Rattle.sarif_read.proofs.WholeRuns.{bind_ok}
 
--- what the check of `results` says of what stands there
+-- what the check of `results` says about the value there
 checked : Option Data → Result ⊤ Fault
 checked found = (elements_of (of_kind BadRun as_array (option_and_then unless_null found)) >>= if_objects BadRun) >>= λ _. Ok tt
 

@@ -1,4 +1,4 @@
--- What a run of an indexed log stands for, by its parts.
+-- The value of a run of an indexed log, by its parts.
 use Rattle.std.proofs.Common.{◌≡◌, ℕ, zero, suc, ◌<◌, ◌≤◌, List, [], ◌∷◌, map, length, Bool, true, false, not, if◌then◌else◌, IsTrue, Option, Some, None, is_some, refl, sym, ap, ◌∙◌, arith, codes, bytes_eq, slice_index_or, option_and_then, Vec, Global}
 use Rattle.std.specs.Ordering.{nat_cmp, match_ordering, is_eq}
 use Rattle.std.specs.declared.cmp.Ordering.{Ordering}
@@ -62,7 +62,7 @@ none_step Less r l d ms is none later = rw (other_name Less r l is) (ap (λ rest
 none_step Equal r l d ms is none later = cc
 none_step Greater r l d ms is none later = rw (other_name Greater r l is) (ap (λ rest. member l d rest) (later none))
 
--- where there is no member of that name, none is taken out
+-- if there is no member with that name, none is taken out
 pub without_none : (r : List ℕ) (ms : Members) → get_member r ms ≡ None → without r ms ≡ ms
 without_none r no_members none = refl
 without_none r (member l d ms) none = none_step _ r l d ms refl none (without_none r ms)

@@ -11,14 +11,14 @@ pub stripped_items_view : (vs : List Value) → stripped_items (items_view vs) �
 stripped_items_view [] = refl
 stripped_items_view (v ∷ vs) = ap (λ ds. Rattle.serde_json.specs.Data.item (stripped (view v)) ds) (stripped_items_view vs)
 
--- a value is no deeper than the array that holds it
+-- a value is no deeper than its array
 pub item_depth_at : (vs : List Value) (i : ℕ) (v : Value) → i < length vs → depth (view (slice_index_or vs i v)) ≤ items_depth (items_view vs)
 item_depth_at [] i v below = absurd (omega (arith, below))
 item_depth_at (w ∷ vs) zero v below = omega arith
 item_depth_at (w ∷ vs) (suc i) v below =
     let rest : depth (view (slice_index_or vs i v)) ≤ items_depth (items_view vs) = item_depth_at vs i v (omega (arith, below)) in omega (arith, rest)
 
--- a value is no deeper than the object that holds it
+-- a value is no deeper than its object
 pub member_depth_at : (before : List Entry) (k : String Global) (v : Value) (after : List Entry) → depth (view v) ≤ members_depth (members_view (before ++ (k, v) ∷ after))
 member_depth_at [] k v after = omega arith
 member_depth_at (e ∷ before) k v after =

@@ -1,4 +1,4 @@
--- A run beside its results (SARIF 2.1.0, "run object").
+-- A run without its results (SARIF 2.1.0, "run object").
 use Rattle.std.specs.Prelude.{Bool, false, not, is_some, codes}
 use Rattle.serde_json.specs.Data.{Data, null, boolean, number, string, array, object}
 use Rattle.serde_json.specs.Find.{get_member}

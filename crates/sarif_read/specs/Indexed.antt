@@ -1,11 +1,11 @@
--- The value that a run of an indexed log stands for.
+-- The value of a run of an indexed log.
 use Rattle.std.specs.Prelude.{ℕ, List, Option, Some, None, codes}
 use Rattle.serde_json.specs.Data.{Data, null, boolean, number, string, array, object, put}
 use Rattle.serde_json.specs.View.{view}
 use Rattle.sarif_read.specs.declared.indexed_run.IndexedRun.{IndexedRun}
 use Rattle.sarif_read.specs.Listed.{listed_member}
 
--- an object with that member, where there is one
+-- an object with that member, if there is one
 abbrev pub with_member : List ℕ → Option Data → Data → Data
 with_member name None d = d
 with_member name (Some found) null = null

@@ -1,4 +1,4 @@
--- The results of a run as they stand in an index.
+-- The results of a run as they are in an index.
 use Rattle.std.specs.Prelude.{⊤, List, [], ◌∷◌, map, Option, Some, None}
 use Rattle.json.specs.Token.{Token}
 use Rattle.json_parts.specs.Indexed.{data_of}
@@ -13,13 +13,13 @@ use Rattle.sarif_read.specs.declared.listed.Listed.TheVariants.{Missing, Null, A
 abbrev pub value_at : List Token → Data
 value_at tokens = stripped (data_of tokens)
 
--- the places of the results; where there is no array there are none
+-- the nodes of the results; if there is no array there are none
 abbrev pub nodes_of : Listed → List (List Token)
 nodes_of Missing = []
 nodes_of Null = []
 nodes_of (Array nodes) = nodes.items
 
--- what stands at `results`
+-- the value at `results`
 abbrev pub listed_member : Listed → Option Data
 listed_member Missing = None
 listed_member Null = Some null

@@ -1,5 +1,5 @@
--- Reading a log: its stripped runs, or the first fault with the run that it names (SARIF 2.1.0, "sarifLog object",
--- "run object", "tool object", "toolComponent object").
+-- Reading a log: its stripped runs, or the first error with its run (SARIF 2.1.0, "sarifLog object", "run object",
+-- "tool object", "toolComponent object").
 use Rattle.std.specs.Prelude.{◌+◌, ℕ, ⊤, Bool, true, false, not, nat_lt, List, [], ◌∷◌, length, Option, Some, None, Result, Ok, Err, codes, is_some, option_map, option_and_then, unwrap_or, if◌then◌else◌}
 use Rattle.serde_json.specs.Data.{Data, null, boolean, number, string, array, object, Members, no_members, member}
 use Rattle.serde_json.specs.Find.{get, as_str, as_object}

@@ -36,7 +36,7 @@ fn put_results(
     Ok(())
 }
 
-/// A run with these results; what is no object stays.
+/// A run with these results; a value that is not an object is unchanged.
 pub(crate) fn with_results(alloc: Global, run: Value, results: Value) -> Result<Value, AllocError>
     ensures { IfOk result (λ whole. view whole
         ≡ with_member (codes "results") (Some (view results)) (view run)) }

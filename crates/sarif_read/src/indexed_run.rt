@@ -11,9 +11,8 @@ use crate::run::RawRun;
 use serde_json::Value;
 use std::alloc::{AllocError, Global};
 
-/// A run of a log whose form was checked (SARIF 2.1.0, "run object"): what stands beside its
-/// results, and the places of its results in the log's index. Contracts see it by `run_of`, which is
-/// the whole run, stripped.
+/// A run of a log whose form was checked (SARIF 2.1.0, "run object"): the run without its results, and the nodes
+/// of its results in the log's index. Contracts see it by `run_of`, which is the whole run, stripped.
 #[derive(Drop)]
 pub struct IndexedRun<'t, 'a> {
     bare: Value,
@@ -79,7 +78,7 @@ impl<'t, 'a> IndexedRun<'t, 'a> {
         bare
     }
 
-    /// Result `seq` of the run, counted from 0, stripped. `AllocError` where memory for it is wanting.
+    /// Result `seq` of the run, numbered from 0, stripped. Returns `AllocError` if memory for it runs out.
     #[tactic(auto, using(crate::proofs::RunOf::count_results, crate::proofs::RunOf::nth_result))]
     pub fn result(&self, alloc: Global, seq: u32) -> Result<Value, AllocError>
         requires { seq < length (results_of (run_of self.now)) }
@@ -91,8 +90,8 @@ impl<'t, 'a> IndexedRun<'t, 'a> {
         }
     }
 
-    /// Result `seq` of the run, with those of its members alone that have one of these names. `AllocError` where
-    /// memory for them is wanting.
+    /// Result `seq` of the run, with only its members that have one of these names. Returns `AllocError` if memory
+    /// for them runs out.
     #[tactic(auto, using(crate::proofs::RunOf::count_results, crate::proofs::RunOf::nth_result))]
     pub fn picked(&self, alloc: Global, seq: u32, names: &[&str]) -> Result<Value, AllocError>
         requires { seq < length (results_of (run_of self.now)) }
@@ -121,8 +120,8 @@ impl<'t, 'a> IndexedRun<'t, 'a> {
         }
     }
 
-    /// The run with all its results, as [`read_log`](crate::read_log) gives it. `AllocError` where memory for the
-    /// results is wanting.
+    /// The run with all its results, as [`read_log`](crate::read_log) returns it. Returns `AllocError` if memory
+    /// for the results runs out.
     #[tactic(auto, using(crate::proofs::RunOf::few_whole))]
     pub fn into_raw(self, alloc: Global) -> Result<RawRun, AllocError>
         ensures { IfOk result (λ run. view run ≡ run_of self.entry) }

@@ -21,7 +21,7 @@ use json_parts::{Index, Node};
 use sarif_model::{Fault, MOST_RESULTS, MOST_RUNS, Refusal};
 use std::alloc::Global;
 
-/// What stands at `results` of a run: an array of objects, null or nothing, else `BadRun`.
+/// The value at `results` of a run: an array of objects, null or missing, otherwise `BadRun`.
 #[tactic(auto, using(crate::proofs::ListResults::list_steps))]
 fn list_results<'t, 'a>(alloc: Global, run: &Node<'t, 'a>) -> Result<Listed<'t, 'a>, Refusal<Fault>>
     requires { IsOrdered (data_of run.now) }
@@ -84,7 +84,7 @@ fn refused_at(number: u32, refusal: Refusal<Fault>) -> Refusal<ReadFault>
     }
 }
 
-/// The runs, each of which has the form of one, with at most 1,000,000 results in all.
+/// The runs, each of which has the form of a run, with at most 1,000,000 results in all.
 fn index_each<'t, 'a>(
     alloc: Global,
     nodes: &[Node<'t, 'a>],
@@ -111,7 +111,7 @@ fn index_each<'t, 'a>(
     Ok(runs)
 }
 
-/// The places of the runs, of an object with `runs`, an array or null: else `NotLog`.
+/// The nodes of the runs of an object whose `runs` is an array or null; otherwise `NotLog`.
 #[tactic(auto, using(crate::proofs::ListRuns::list_steps))]
 fn list_runs<'t, 'a>(alloc: Global, log: &Node<'t, 'a>) -> Result<Vec<Node<'t, 'a>>, Refusal<Fault>>
     requires { IsOrdered (data_of log.now) }
@@ -130,7 +130,7 @@ fn list_runs<'t, 'a>(alloc: Global, log: &Node<'t, 'a>) -> Result<Vec<Node<'t, '
     elements_of(alloc, &found)?.ok_or(Refusal::Fault(Fault::NotLog))
 }
 
-/// The `version` is the text `2.1.0`: else `WrongVersion`.
+/// The `version` is the string `2.1.0`; otherwise `WrongVersion`.
 fn check_version(log: &Node<'_, '_>) -> Result<(), Fault>
     requires { IsOrdered (data_of log.now) }
     ensures { result ≡ said.check_version (value_at log.now) }

@@ -8,7 +8,7 @@ ghost use Rattle.sarif_model.specs.Run.{results_array};
 ghost use Rattle.sarif_read.specs.Reading.{log_of, check_run};
 ghost use Rattle.sarif_read.specs.Stripping.{stripped};
 
-/// What is stripped and stands inside an object holds no number with a fraction.
+/// A value inside a stripped object holds no number with a fraction.
 pub fn stripped_holds_no_fraction()
     ensures { (members : Members) → has_float (stripped (object members)) ≡ false }
 {}
@@ -24,8 +24,8 @@ pub fn read_runs_hold_no_fraction()
         → list_any has_float runs ≡ false }
 {}
 
-/// A run that is read has results exactly where `results` is there and not null, and then it is an
-/// array of objects.
+/// A run that is read has results if and only if `results` is there and not null, and then it is an array of
+/// objects.
 pub fn runs_have_results_where_they_are_listed()
     ensures { (run : Data) (before now : ℕ) → check_run before run ≡ Ok now
         → is_some (results_array run) ≡ is_some (member_at (codes "results") run) }

@@ -1,7 +1,7 @@
-//! The results of a run, as they stand in an index.
+//! The results of a run, as they are in an index.
 use json_parts::Node;
 
-/// What stands at `results` of a run (SARIF 2.1.0, run object, "results property").
+/// The value at `results` of a run (SARIF 2.1.0, run object, "results property").
 #[derive(Drop)]
 pub(crate) enum Listed<'t, 'a> {
     /// Nothing, or what stripping leaves out.

@@ -1,4 +1,4 @@
-//! Looking into a value of an indexed text as it stands once it is stripped.
+//! Reading a value of an indexed document as it is after stripping.
 ghost use Rattle.std.specs.Prelude.{◌≡◌, map, is_some, option_map, IfOk, IfSome};
 ghost use Rattle.serde_json.specs.Find.{get, as_null, as_str, as_array};
 ghost use Rattle.serde_json.specs.View.{items_of};

@@ -1,4 +1,4 @@
-//! Some of the members of a value of an indexed text: a value may hold much more than is looked at.
+//! Some of the members of a value of an indexed document: a value may hold much more than is needed.
 ghost use Rattle.std.specs.Prelude.{◌≡◌, map, IfOk, OnOk};
 ghost use Rattle.serde_json.specs.Find.{get};
 ghost use Rattle.serde_json.specs.View.{view, members_view};

@@ -5,10 +5,10 @@ ghost use Rattle.sarif_read.specs.ReadRefusal.{whole, refusal_of_fault, refusal_
 use json_parts::IndexFault;
 use sarif_model::{Fault, Refusal};
 
-/// Why `read_log` refuses a log.
+/// Why `read_log` rejects a log.
 #[derive(Clone, Copy, Debug, PartialEq, Eq)]
 pub struct ReadFault {
-    /// The run that is at fault, counted from 0, where the fault is one of a run.
+    /// The run with the error, numbered from 0, if the error is in a run.
     pub run: Option<u32>,
     /// What is wrong.
     pub fault: Fault,

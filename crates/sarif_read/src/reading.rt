@@ -17,7 +17,7 @@ use sarif_model::{Fault, Refusal, driver_name};
 use serde_json::Value;
 use std::alloc::Global;
 
-/// The run is an object with a tool that has a driver that has a name: else `BadRun`.
+/// The run is an object with a tool that has a driver that has a name; otherwise `BadRun`.
 pub(crate) fn check_tool(run: &Value) -> Result<(), Fault>
     ensures { result ≡ said.check_tool (view run.now) }
 {
@@ -37,7 +37,7 @@ fn is_empty_object(value: &Value) -> bool
     }
 }
 
-/// The run names no external property files: else `ExternalProperties`.
+/// The run names no external property files; otherwise `ExternalProperties`.
 pub(crate) fn check_external(run: &Value) -> Result<(), Fault>
     ensures { result ≡ said.check_external (view run.now) }
 {

@@ -6,8 +6,7 @@ ghost use Rattle.sarif_model.specs.Run.{is_absent_result};
 use serde_json::Value;
 use std::marker::Model;
 
-/// Whether the `baselineState` of a result is the text `absent` (SARIF 2.1.0, "baselineState
-/// property").
+/// Returns whether the `baselineState` of a result is the string `absent` (SARIF 2.1.0, "baselineState property").
 pub fn is_marked_absent(found: &Value) -> bool
     ensures { result ≡ is_absent_result (seen found.now) }
 {
@@ -93,7 +92,7 @@ impl RawRun {
         &self.results()[seq as usize]
     }
 
-    /// Whether the `baselineState` of result `seq` is the text `absent`.
+    /// Returns whether the `baselineState` of result `seq` is the string `absent`.
     pub fn is_absent(&self, seq: u32) -> bool
         requires { seq < length (results_of (seen self.now)) }
         ensures { result ≡ is_absent_result (result_at (seen self.now) seq) }

@@ -7,9 +7,9 @@ ghost use Rattle.sarif_read.specs.Stripping.{stripped, stripped_members};
 use serde_json::{Map, Value};
 use std::alloc::AllocError;
 
-/// A copy of `value` without each object member whose value is a number that isn't held as a whole
-/// number, or an array that holds such a number directly or within arrays only, at every depth.
-/// `AllocError` where memory for the copy is wanting.
+/// Returns a copy of `value` without each object member whose value is a number not held as an integer, or an
+/// array that holds such a number directly or within arrays only, at every depth. Returns `AllocError` if memory
+/// for the copy runs out.
 pub fn strip(value: &Value) -> Result<Value, AllocError>
     ensures { IfOk result (λ v. view v ≡ stripped (view value.now)) }
 {
@@ -18,7 +18,7 @@ pub fn strip(value: &Value) -> Result<Value, AllocError>
     Ok(copy)
 }
 
-/// Strips `value` where it stands, as [`strip`] does to a copy. It takes no memory.
+/// Strips `value` in place, as [`strip`] does to a copy. Does not allocate.
 #[cycle(strip)]
 #[tactic(auto, using(crate::proofs::Stripped::stripped_items_view, crate::proofs::Stripped::item_depth_at, std::proofs::lemmas::List::take_all))]
 pub fn strip_in_place(value: &mut Value)

@@ -1,4 +1,4 @@
--- Writing a text in another way, byte by byte.
+-- Escaping a string, byte by byte.
 use Rattle.std.proofs.Common.{◌≡◌, ◌<◌, ◌≤◌, ◌==◌, ◌||◌, ◌+◌, ℕ, Bool, true, false, List, [], ◌∷◌, ◌++◌, length, drop, get_or, codes, encode_utf8, chars, IsUtf8, refl, sym, ap, ◌∙◌, append-nil, append_assoc, flat_map, if◌then◌else◌, arith}
 use Rattle.std.specs.Prelude.{encode_utf8_all}
 use Rattle.std.specs.List.{slice_range}
@@ -40,7 +40,7 @@ five_ways true b d e f p q r s t x h = cc
 five_ways false true d e f p q r s t x h = cc
 five_ways false false d e f p q r s t x h = three_ways d e f r s t x h
 
--- the other characters stand as they are
+-- the other characters are unchanged
 as_it_stands : (way : Escaping) (c : ℕ) → escapes way c ≡ false → escaped_char way c ≡ encode_utf8 c
 as_it_stands Message c h = rw h refl
 as_it_stands Property c h = three_ways (c == 37) (c == 58) (c == 44) (codes "%25") (codes "%3A") (codes "%2C") (encode_utf8 c) h
@@ -48,7 +48,7 @@ as_it_stands Markdown c h = rw h refl
 as_it_stands Page c h =
     five_ways (c == 38) (c == 60) (c == 62) (c == 34) (c == 39) (codes "&amp;") (codes "&lt;") (codes "&gt;") (codes "&quot;") (codes "&#39;") (encode_utf8 c) h
 
--- ---- a text by its bytes
+-- ---- a string by its bytes
 
 byte_stands : (way : Escaping) (b : ℕ) (rest : List ℕ) → escapes way b ≡ false
     → flat_map (escaped_byte way) (b ∷ rest) ≡ b ∷ flat_map (escaped_byte way) rest
@@ -87,7 +87,7 @@ pub escaped_bytes : (way : Escaping) (text : List ℕ) → IsUtf8 text → escap
 unfolding escaped
 escaped_bytes way text utf8 = text_bytes way (chars text) ∙ ap (flat_map (escaped_byte way)) (encodes-chars text utf8)
 
--- ---- a text that is being written, of which the bytes from `added` to `i` stand as they are
+-- ---- a partly escaped string, of which the bytes from `added` to `i` are unchanged
 
 pub stands_step : (way : Escaping) (bs : List ℕ) (added i : ℕ) (text whole : List ℕ) → added ≤ i → i < length bs
     → escapes way (get_or bs i 0) ≡ false

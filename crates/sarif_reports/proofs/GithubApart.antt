@@ -24,7 +24,7 @@ use Rattle.sarif_findings.proofs.HighBytes.{high_apart, char_kept}
 use Rattle.sarif_reports.proofs.TextApart.{is_plain, seen_in_line, same_ends, decimal_plain}
 use Rattle.sarif_findings.proofs.ToldFindings.{IsShown, IsPath, IsTold, all_told}
 
--- what follows within a line, with so many lines that end
+-- what follows within a line, with this number of ends of lines
 record Inner (count : ℕ) (text : List ℕ) : Type 0 where
   ends : count_by (λ b. b == 10) text ≡ count
   commands : are_commands false text ≡ true

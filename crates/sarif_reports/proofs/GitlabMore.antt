@@ -29,7 +29,7 @@ use Rattle.sarif_reports.specs.GitlabObjects.{object_of, objects_after, joined_o
 use Rattle.sarif_reports.specs.GitlabReport.{quality_of, hashed_text, are_alike, same_path, path_or_null, rank_among, items_after, mark_of, gitlab_of}
 use Rattle.sarif_reports.specs.GitlabParts.{stands_in_string, quoted_text, identity_of, rank_text, rule_text, location_text, severity_text, number_in, number_of, key_cmp, counted}
 
--- ---- an object and a text that is hashed, by their parts
+-- ---- an object and a hashed string, by their parts
 
 pub quality_parts : (f : Finding) (mark : List ℕ)
     → compact_text (quality_of f mark) ≡ rule_text f ++ ((codes ",\"fingerprint\":" ++ quoted_text mark) ++ (location_text f ++ severity_text f.level))
@@ -42,7 +42,7 @@ hashed_parts f rank = simp append_assoc
 
 -- ---- results with one identity are alike
 
--- what stands after a quoted text is apart from it
+-- what follows a quoted string is separate from it
 json_cut : (a b r s : List ℕ) → quoted a ++ r ≡ quoted b ++ s → (a ≡ b) × (r ≡ s)
 json_cut a b r s e =
     let inner : escape a ++ 34 ∷ r ≡ escape b ++ 34 ∷ s = sym (append_assoc (escape a) (34 ∷ []) r) ∙ ap (drop 1) e ∙ append_assoc (escape b) (34 ∷ []) s in
@@ -79,7 +79,7 @@ same_path-is None (Some b) h = cc
 same_path-is (Some a) None h = cc
 same_path-is (Some a) (Some b) h = ap Some ((bytes_eq-Decides a b).0 h)
 
--- texts that begin with the identities of two results and are the same are of results that are alike
+-- equal strings that begin with the identities of two results belong to results that are alike
 pub identity_cut : (f g : Finding) (r s : List ℕ) → identity_of f ++ r ≡ identity_of g ++ s → (are_alike f g ≡ true) × (r ≡ s)
 identity_cut f g r s e =
     let whole = sym (identity_pieces f r) ∙ e ∙ identity_pieces g s in
@@ -116,7 +116,7 @@ identity_tells f g =
 
 -- ---- one result after another
 
--- a text after two additions
+-- a string after two additions
 pub joined : (old mid new x y : List ℕ) → mid ≡ old ++ x → new ≡ mid ++ y → new ≡ old ++ (x ++ y)
 joined old mid new x y p q = q ∙ ap (λ t. t ++ y) p ∙ append_assoc old x y
 
@@ -208,7 +208,7 @@ joined_apart (x ∷ xs) [] some more = absurd (omega (arith, more))
 joined_apart (x ∷ xs) (y ∷ ys) some more =
     append_assoc (compact_text x) (joined_objects true xs) (joined_objects true (y ∷ ys)) ∙ ap (λ t. compact_text x ++ t) (joined_on xs (y ∷ ys))
 
--- the objects of two halves, behind a text
+-- the objects of two halves, after a string
 pub joined_halves : (begin first rest text : List ℕ) (low high xs : List Ranked) → low ++ high ≡ xs → 0 < length low → 0 < length high
     → first ≡ begin ++ joined_objects false (map object_of low) → rest ≡ 44 ∷ joined_objects false (map object_of high) → text ≡ first ++ rest
     → text ≡ begin ++ joined_objects false (map object_of xs)
@@ -222,7 +222,7 @@ joined_halves begin first rest text low high xs whole some more front back both 
     ∙ append_assoc begin (joined_objects false ls) (44 ∷ joined_objects false hs)
     ∙ ap (λ t. begin ++ t) (joined_apart ls hs low_some high_some ∙ ap (joined_objects false) are)
 
--- ---- a text in which nothing is escaped
+-- ---- a string in which nothing is escaped
 
 quote_apart : (b : ℕ) → stands_in_string b ≡ true → (b == 34) ≡ false
 quote_apart b h = grind (arith, nat_tests, h)

@@ -1,4 +1,4 @@
--- The texts that are hashed differ from each other.
+-- The strings that are hashed differ from each other.
 use Rattle.std.proofs.Common.{◌≡◌, ◌<◌, ◌≤◌, ◌^◌, ◌+◌, ℕ, true, false, cond, List, [], ◌∷◌, ◌++◌, length, drop, bytes_eq, decimal, subst, ap, sym, ◌∙◌, append_assoc, arith}
 use Rattle.std.specs.List.{count_by, AllByRecursion, IsDistinct}
 use Rattle.std.proofs.lemmas.Bool.{false_from_ne_true}

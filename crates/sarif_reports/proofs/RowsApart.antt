@@ -28,7 +28,7 @@ use Rattle.sarif_reports.proofs.SeenTexts.{IsSeenText, shown_text, place_seen, e
 use Rattle.sarif_reports.proofs.TextApart.{seen_in_line, same_ends}
 use Rattle.sarif_findings.proofs.ToldFindings.{IsTold, all_told}
 
--- so many lines end, and each has eight bars, where so many stand before
+-- this many lines end, each with eight bars, after this many earlier ones
 record Cells (count before : ℕ) (text : List ℕ) : Type 0 where
   ends : count_by (λ b. b == 10) text ≡ count
   bars : have_bars 8 before text ≡ true
@@ -149,7 +149,7 @@ all_rows (f ∷ fs) h =
     let count : length fs + 1 ≡ length (f ∷ fs) = omega arith in
     subst (λ n. Cells n 0 (flat_map result_row (f ∷ fs))) count (row_text (length fs) f (flat_map result_row fs) h.0 (all_rows fs h.1))
 
--- the rows that stand in the table
+-- the rows of the table
 table_rows : (reporting : Reporting) (log : Data)
     → Cells (length (take 200 (reported_of reporting log))) 0 (flat_map result_row (take 200 (reported_of reporting log)))
 table_rows reporting log =

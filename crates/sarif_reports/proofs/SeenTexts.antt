@@ -1,4 +1,4 @@
--- Texts whose characters are all seen, and what is written for them.
+-- Strings of visible characters, and their escaped forms.
 use Rattle.std.proofs.Common.{◌≡◌, ◌<◌, ◌^◌, ◌==◌, ◌++◌, ℕ, Bool, true, false, not, ◌&&◌, List, [], ◌∷◌, Option, Some, None, IfSome, codes, chars, decimal, flat_map, if◌then◌else◌, refl, sym, ap, ap₂, ◌∙◌}
 use Rattle.std.specs.Prelude.{encode_utf8_all, nat_lt}
 use Rattle.std.specs.List.{list_all}
@@ -58,7 +58,7 @@ place_text (Some path) line column p l c =
 pub place_seen : (f : Finding) → IsTold f → IsSeenText (spot_text f)
 place_seen f told = place_text f.path f.line f.column told.path told.line told.column
 
--- what is written for such a text is what is written for its characters
+-- the escaped form of such a string is the escaped form of its characters
 pub escaped_chars : (way : Escaping) (text : List ℕ) (is : IsSeenText text) → escaped way text ≡ flat_map (escaped_char way) is.0
 unfolding escaped
 escaped_chars way text is = ap (λ t. flat_map (escaped_char way) (chars t)) (sym is.1) ∙ ap (flat_map (escaped_char way)) (chars_back is.0)

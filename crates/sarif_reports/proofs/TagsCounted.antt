@@ -18,7 +18,7 @@ use Rattle.sarif_reports.specs.HtmlLaws.{tags_in, link_tags, row_tags}
 use Rattle.sarif_reports.specs.HtmlReport.{hit_word, row_class, row_data, hit_cells, row_front, linked_to, rule_cell, place_text, place_cells, message_cells, result_row, is_same_file, rows_below}
 use Rattle.sarif_reports.proofs.EscapedApart.{page_apart}
 
--- so many tags stand in it
+-- it contains this many tags
 record Tags (count : ℕ) (text : List ℕ) : Type 0 where
   told : tags_in text ≡ count
 

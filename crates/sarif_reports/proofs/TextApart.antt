@@ -107,12 +107,12 @@ line_ends n cs h =
       signs = λ b. or_from (b && false) (has_two_signs false cs) (and-false b) h.signs;
     }
 
--- a line's first character is no colon
+-- a line's first character is not a colon
 line_begins : (n c : ℕ) (cs : List ℕ) → (c == 58) ≡ false → Within n (c ∷ cs) → AreLines n (c ∷ cs)
 line_begins n c cs e h =
     record { ends = h.ends; seen = h.seen; colons = or_from (true && c == 58) (has_colon_line (c == 10) cs) e h.colons; signs = h.signs }
 
--- ---- the same of their bytes
+-- ---- the same for their bytes
 
 abbrev WithinText : ℕ → List ℕ → Type 0
 WithinText n text = (cs : List ℕ) × (encode_utf8_all cs ≡ text) × Within n cs

@@ -1,4 +1,4 @@
--- Texts in which some characters are written in another way.
+-- Strings in which some characters are replaced.
 use Rattle.std.specs.Prelude.{ℕ, Bool, ◌||◌, List, ◌==◌, ◌++◌, codes, chars, encode_utf8, flat_map, if◌then◌else◌}
 use Rattle.std.specs.Fmt.{decimal}
 use Rattle.sarif_findings.specs.Shown.{is_between}
@@ -22,7 +22,7 @@ is_mark c =
     is_between 33 43 c || c == 46 || is_between 58 64 c || is_between 91 96 c
     || is_between 123 126 c
 
--- a character of a text in Markdown: a mark by its number
+-- a character in Markdown: a mark is written by its number
 abbrev pub markdown_char : ℕ → List ℕ
 markdown_char c = if is_mark c then codes "&#" ++ (decimal c ++ codes ";") else encode_utf8 c
 
@@ -41,6 +41,6 @@ escaped_char Property c = property_char c
 escaped_char Markdown c = markdown_char c
 escaped_char Page c = page_char c
 
--- a text, character by character
+-- a string, character by character
 unfoldable pub escaped : Escaping → List ℕ → List ℕ
 escaped way text = flat_map (escaped_char way) (chars text)

@@ -1,5 +1,5 @@
--- Texts written in another way, byte by byte: only ASCII characters are.
--- No clause of the program speaks of it.
+-- Strings that are escaped byte by byte: only ASCII characters are replaced. Internal: no contract of the program
+-- refers to this module.
 use Rattle.std.specs.Prelude.{ℕ, Bool, ◌||◌, List, [], ◌∷◌, ◌==◌, if◌then◌else◌}
 use Rattle.sarif_reports.specs.declared.escaping.Escaping.{Escaping}
 use Rattle.sarif_reports.specs.declared.escaping.Escaping.TheVariants.{Message, Property, Markdown, Page}

@@ -1,4 +1,4 @@
--- What is asked of an escaped text, as a log may hold any text.
+-- Properties of escaped strings, for any string of a log.
 use Rattle.std.specs.Prelude.{ℕ, Bool, true, false, not, ◌&&◌, ◌||◌, ◌==◌, nat_eq, List, [], ◌∷◌, codes, if◌then◌else◌}
 use Rattle.std.specs.List.{starts_with}
 use Rattle.std.specs.Char.{is_ascii_digit}
@@ -6,7 +6,7 @@ use Rattle.sarif_reports.specs.Escaped.{is_mark}
 
 -- ---- in a page
 
--- whether an entity of the five stands first
+-- whether the string starts with one of the five entities
 abbrev pub begins_entity : List ℕ → Bool
 begins_entity bs =
     starts_with nat_eq bs (codes "&amp;")
@@ -19,7 +19,7 @@ begins_entity bs =
 abbrev pub is_markup : ℕ → Bool
 is_markup b = b == 60 || (b == 62 || (b == 34 || b == 39))
 
--- whether none of these stands in it, and each `&` begins an entity
+-- whether none of these occurs in it, and each `&` begins an entity
 abbrev pub is_element_text : List ℕ → Bool
 is_element_text [] = true
 is_element_text (b ∷ bs) =

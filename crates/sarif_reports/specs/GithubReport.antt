@@ -1,4 +1,4 @@
--- The report for GitHub Actions: one workflow command a result.
+-- The report for GitHub Actions: one workflow command per result.
 use Rattle.std.specs.Prelude.{ℕ, List, [], ◌∷◌, ◌++◌, Option, Some, None, codes, flat_map}
 use Rattle.std.specs.Fmt.{decimal}
 use Rattle.sarif_model.specs.declared.kinds.Level.{Level}
@@ -13,17 +13,17 @@ command_of Warning = codes "::warning "
 command_of Note = codes "::notice "
 command_of NoLevel = codes "::notice "
 
--- a path, where there is one
+-- a path, if there is one
 abbrev pub file_property : Option (List ℕ) → List ℕ
 file_property None = []
 file_property (Some path) = codes "file=" ++ (escaped Property path ++ codes ",")
 
--- a number under this name, where there is one
+-- a number under this name, if there is one
 abbrev pub number_property : List ℕ → Option ℕ → List ℕ
 number_property name None = []
 number_property name (Some n) = name ++ (decimal n ++ codes ",")
 
--- RULE (TOOL), or TOOL where there is no rule
+-- RULE (TOOL), or TOOL if there is no rule
 abbrev pub title : List ℕ → List ℕ → List ℕ
 title [] tool = escaped Property tool
 title (b ∷ bs) tool =

@@ -1,4 +1,4 @@
--- The texts that the report for GitLab is put together from.
+-- The strings of the report for GitLab.
 use Rattle.std.specs.Prelude.{ℕ, Bool, not, ◌&&◌, ◌||◌, ◌==◌, nat_le, List, [], ◌∷◌, ◌++◌, codes, slice_index, unwrap_or}
 use Rattle.std.specs.Fmt.{decimal}
 use Rattle.std.specs.BTreeMap as tree
@@ -14,15 +14,15 @@ use Rattle.sarif_findings.specs.declared.finding.Finding.{Finding}
 use Rattle.sarif_reports.specs.declared.identities.Identity.{Identity}
 use Rattle.sarif_reports.specs.GitlabReport.{or_unknown, path_or_null, severity}
 
--- whether a byte stands in a string of JSON as it is
+-- whether a byte is written unchanged in a JSON string
 abbrev pub stands_in_string : ℕ → Bool
 stands_in_string b = nat_le 32 b && not (b == 34 || b == 92)
 
--- a text as JSON writes it
+-- a string as JSON
 unfoldable pub quoted_text : List ℕ → List ℕ
 quoted_text text = quoted text
 
--- [TOOL,RULE,PATH,MESSAGE of a text that is hashed
+-- [TOOL,RULE,PATH,MESSAGE of a hashed string
 unfoldable pub identity_of : Finding → List ℕ
 identity_of f =
     codes "[" ++ (quoted_text f.tool
@@ -30,11 +30,11 @@ identity_of f =
     ++ (codes "," ++ (compact_text (path_or_null f.path)
     ++ (codes "," ++ quoted_text f.message))))))
 
--- ,RANK] of such a text
+-- ,RANK] of such a string
 abbrev pub rank_text : ℕ → List ℕ
 rank_text rank = codes "," ++ (decimal rank ++ codes "]")
 
--- the same, and the hash of what is hashed of the first result with it
+-- the same, and the hash for the first result with it
 abbrev pub identity_with : Finding → Identity
 identity_with f = record {
   text = identity_of f;

@@ -42,7 +42,7 @@ hashed_text f rank =
     (item (string f.message)
     (item (number (unsigned rank)) no_items))))))
 
--- what is hashed of these results, which stand after the earlier ones
+-- the strings to hash for these results, which follow the earlier ones
 abbrev pub texts_after : List Finding → List Finding → List (List ℕ)
 texts_after earlier [] = []
 texts_after earlier (f ∷ fs) =
@@ -51,7 +51,7 @@ texts_after earlier (f ∷ fs) =
 abbrev pub hashed_texts : List Finding → List (List ℕ)
 hashed_texts findings = texts_after [] findings
 
--- the fingerprint of the result that has so many like it before it
+-- the fingerprint of a result that comes after this many equal ones
 abbrev pub mark_of : Finding → ℕ → List ℕ
 mark_of f rank = encode_lower (sha256 (hashed_text f rank))
 
@@ -84,7 +84,7 @@ quality_of f mark =
     (member (codes "location") (location_of f)
     (member (codes "severity") (string (severity f.level)) no_members)))))
 
--- these results, which stand after the earlier ones
+-- these results, which follow the earlier ones
 abbrev pub items_after : List Finding → List Finding → Items
 items_after earlier [] = no_items
 items_after earlier (f ∷ fs) =

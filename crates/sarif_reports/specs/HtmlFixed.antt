@@ -1,4 +1,4 @@
--- What is the same on each page: nothing of a log stands in it.
+-- The text that is the same on each page: it contains nothing from a log.
 use Rattle.std.specs.Prelude.{ℕ, List, ◌++◌, codes}
 
 -- no script, and nothing that is loaded; up to the verdict in the title
@@ -64,7 +64,7 @@ table_end =
     codes "</tbody>\n" ++ (
     codes "</table>\n")
 
--- in place of the table of results
+-- instead of the table of results
 unfoldable pub nothing_reported : List ℕ
 nothing_reported = codes "<p>No results are reported.</p>\n"
 

@@ -1,9 +1,9 @@
--- What is asked of the rows of a page, as a log may hold any text.
+-- Properties of the rows of a page, for any strings of a log.
 use Rattle.std.specs.Prelude.{ℕ, ◌+◌, ◌==◌, List, [], ◌∷◌, Option, Some, None}
 use Rattle.std.specs.List.{count_by}
 use Rattle.sarif_findings.specs.declared.finding.Finding.{Finding}
 
--- how many tags stand in it, as each begins with `<`
+-- the number of tags in it: each begins with `<`
 abbrev pub tags_in : List ℕ → ℕ
 tags_in text = count_by (λ b. b == 60) text
 
@@ -13,6 +13,6 @@ link_tags [] help = 0
 link_tags (b ∷ bs) None = 0
 link_tags (b ∷ bs) (Some uri) = 2
 
--- those of a row: its own, its seven cells', two codes' and a link's
+-- the tags of a row: its own, those of its seven cells, of two codes and of a link
 abbrev pub row_tags : Finding → ℕ
 row_tags f = 20 + link_tags f.rule f.help

@@ -1,5 +1,5 @@
--- The page: the verdict, the counts, and the first 10,000 reported results. Texts of a log stand in element text and
--- in `href` alone, escaped.
+-- The page: the verdict, the counts, and the first 10,000 reported results. Strings of a log are only in element
+-- text and in `href`, escaped.
 use Rattle.std.specs.Prelude.{ℕ, ◌-◌, Bool, true, false, ◌==◌, List, [], ◌∷◌, ◌++◌, length, take, Option, Some, None, codes, bytes_eq, nat_lt, if◌then◌else◌}
 use Rattle.std.specs.Fmt.{decimal}
 use Rattle.sarif_model.specs.declared.kinds.Level.{Level}
@@ -87,7 +87,7 @@ linked_to rule uri =
     codes "<a href=\"" ++ (escaped Page uri
     ++ (codes "\" rel=\"noopener noreferrer\">" ++ (escaped Page rule ++ codes "</a>")))
 
--- a rule, which links to its page where there is one
+-- a rule, which links to its page if there is one
 abbrev pub linked : List ℕ → Option (List ℕ) → List ℕ
 linked rule None = escaped Page rule
 linked rule (Some uri) = linked_to rule uri

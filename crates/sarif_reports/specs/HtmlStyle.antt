@@ -1,5 +1,5 @@
--- The style of the page: light and dark, on a phone and printed. What the boxes leave out isn't displayed. Hits,
--- levels and states are told apart by their words and by weight or slant, beside colour.
+-- The style of the page: light and dark, on a phone and printed. Rows that a filter excludes are not displayed.
+-- Hits, levels and states differ by their words and by weight or slant, not only by color.
 use Rattle.std.specs.Prelude.{ℕ, List, ◌++◌, codes}
 
 -- lines of CSS

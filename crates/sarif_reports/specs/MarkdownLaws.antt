@@ -1,7 +1,7 @@
--- What is asked of the table of results in Markdown, as a log may hold any text.
+-- Properties of the table of results in Markdown, for any strings of a log.
 use Rattle.std.specs.Prelude.{ℕ, ◌+◌, Bool, ◌&&◌, ◌==◌, List, [], ◌∷◌, if◌then◌else◌}
 
--- whether each line ends, and has so many bars; some of the first line's were read already
+-- whether each line ends and has this many bars; some of the first line's were read already
 abbrev pub have_bars : ℕ → ℕ → List ℕ → Bool
 have_bars count before [] = before == 0
 have_bars count before (b ∷ bs) =

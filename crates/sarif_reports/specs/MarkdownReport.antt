@@ -15,7 +15,7 @@ use Rattle.sarif_reports.specs.declared.escaping.Escaping.TheVariants.{Markdown}
 use Rattle.sarif_findings.specs.Finding.{spot_text}
 use Rattle.sarif_reports.specs.Escaped.{escaped}
 
--- a text as code, in which nothing is looked for; an empty text is nothing
+-- a string as code, without markup; an empty string gives nothing
 abbrev pub code_of : List ℕ → List ℕ
 code_of [] = []
 code_of (b ∷ bs) = codes "<code>" ++ (escaped Markdown (b ∷ bs) ++ codes "</code>")

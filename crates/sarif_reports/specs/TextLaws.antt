@@ -1,14 +1,14 @@
--- What is asked of the text report. A text is its characters here.
+-- Properties of the text report. A string is a list of characters here.
 use Rattle.std.specs.Prelude.{◌≡◌, ℕ, Bool, true, false, ◌&&◌, ◌||◌, ◌==◌, List, [], ◌∷◌, encode_utf8_all}
 use Rattle.std.specs.List.{count_by, list_all}
 use Rattle.sarif_findings.specs.ShownLaws.{is_seen, has_two_signs}
 
--- whether a line begins with a colon, also one at the front where a line begins there
+-- whether a line begins with a colon, including the first if a line begins there
 abbrev pub has_colon_line : Bool → List ℕ → Bool
 has_colon_line begins [] = false
 has_colon_line begins (c ∷ cs) = (begins && c == 58) || has_colon_line (c == 10) cs
 
--- so many lines of characters that are seen, of which none begins with a colon and none holds two `#` together
+-- this many lines of visible characters, none of which begins with a colon or contains two adjacent `#`
 pub record AreLines (count : ℕ) (cs : List ℕ) : Type 0 where
   pub ends : count_by (λ c. c == 10) cs ≡ count
   pub seen : list_all (λ c. c == 10 || is_seen c) cs ≡ true

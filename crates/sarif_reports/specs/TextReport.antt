@@ -1,11 +1,11 @@
--- The report that people, editors and problem matchers read: one line a result.
+-- The report for people, editors and problem matchers: one line per result.
 use Rattle.std.specs.Prelude.{ℕ, List, [], ◌∷◌, ◌++◌, codes, flat_map}
 use Rattle.sarif_model.specs.Level.{level_name}
 use Rattle.sarif_model.specs.State.{state_name}
 use Rattle.sarif_findings.specs.declared.finding.Finding.{Finding}
 use Rattle.sarif_findings.specs.Finding.{spot_text}
 
--- the rule in brackets, where there is one
+-- the rule in brackets, if there is one
 abbrev pub bracketed : List ℕ → List ℕ
 bracketed [] = []
 bracketed (b ∷ bs) = codes " [" ++ ((b ∷ bs) ++ codes "]")

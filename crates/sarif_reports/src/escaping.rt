@@ -1,9 +1,9 @@
-//! Texts in which some characters are written in another way.
+//! Strings in which some characters are replaced.
 ghost use Rattle.std.specs.Prelude.{◌≡◌, ◌++◌, OnOk, string_bytes};
 
 use std::alloc::{AllocError, Global};
 
-/// What a text is written for.
+/// The format for which a string is escaped.
 #[derive(Clone, Copy, Debug, PartialEq, Eq)]
 pub(crate) enum Escaping {
     /// The message of a workflow command.
@@ -101,8 +101,7 @@ impl Escaping {
         }
     }
 
-    /// Adds what is written for this text. What stands between two characters that are written in another way is
-    /// added whole.
+    /// Adds the escaped string. Text between two replaced characters is added at once.
     pub(crate) fn push_str(
         self,
         alloc: Global,

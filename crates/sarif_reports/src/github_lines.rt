@@ -7,7 +7,7 @@ use sarif_findings::Finding;
 use sarif_model::{Level, Text};
 use std::alloc::{AllocError, Global};
 
-/// The workflow command of a level, with what stands round it.
+/// The workflow command of a level, with the text around it.
 fn command(level: Level) -> &'static str
     ensures { result.now ≡ said.command_of level }
 {
@@ -18,7 +18,7 @@ fn command(level: Level) -> &'static str
     }
 }
 
-/// Adds the path, where there is one.
+/// Adds the path, if there is one.
 fn push_file(alloc: Global, text: &mut String, path: &Option<Text>) -> Result<(), AllocError>
     ensures { OnOk result
         (string_bytes text.new ≡ string_bytes text.old ++ said.file_property path.now) }
@@ -31,7 +31,7 @@ fn push_file(alloc: Global, text: &mut String, path: &Option<Text>) -> Result<()
     Ok(())
 }
 
-/// Adds a number under a name, where there is one.
+/// Adds a number under a name, if there is one.
 fn push_number(
     alloc: Global,
     text: &mut String,
@@ -64,7 +64,7 @@ fn push_title(alloc: Global, text: &mut String, rule: &str, tool: &str) -> Resul
     Ok(())
 }
 
-/// Adds the properties that say where the result stands.
+/// Adds the properties with the place of the result.
 fn push_position(alloc: Global, text: &mut String, finding: &Finding) -> Result<(), AllocError>
     ensures { OnOk result
         (string_bytes text.new ≡ string_bytes text.old ++ said.position_of finding.now) }
@@ -99,9 +99,8 @@ fn push_line(alloc: Global, text: &mut String, finding: &Finding) -> Result<(), 
     Ok(())
 }
 
-/// The report for GitHub Actions, one workflow command a result:
-/// `::COMMAND file=PATH,line=LINE,col=COLUMN,title=TITLE::MESSAGE`. `AllocError` where memory for it
-/// is wanting.
+/// Returns the report for GitHub Actions, one workflow command per result: `::COMMAND
+/// file=PATH,line=LINE,col=COLUMN,title=TITLE::MESSAGE`. Returns `AllocError` if memory for it runs out.
 pub fn github_report(alloc: Global, findings: &[Finding]) -> Result<String, AllocError>
     ensures { IfOk result (λ s. string_bytes s ≡ said.github_of findings.now) }
 {

@@ -9,10 +9,10 @@ use sarif_findings::Finding;
 use std::alloc::{AllocError, Global};
 use std::thread::Threads;
 
-/// The report for GitLab's code quality widget, a JSON array. It has one object a result, with a fingerprint that no
-/// other has: it is hashed from the result's tool, rule, path and message, and how many results with the same four
-/// stand before it. The results are hashed, and the objects are made, in at most `threads` threads, this one among
-/// them. `AllocError` where memory is wanting.
+/// Returns the report for GitLab's code quality widget, a JSON array. It has one object per result, with a unique
+/// fingerprint: a hash of the result's tool, rule, path and message, and the number of earlier results with the
+/// same four. At most `threads` threads, including this one, hash the results and make the objects. Returns
+/// `AllocError` if memory runs out.
 #[tactic(auto, using(crate::proofs::GitlabMore::whole_array))]
 pub fn gitlab_report<R: Threads + Sync>(
     rt: &R,

@@ -1,4 +1,4 @@
-//! What is the same on each page: nothing of a log stands in it.
+//! The text that is the same on each page: it contains nothing from a log.
 ghost use Rattle.std.specs.Prelude.{◌≡◌};
 ghost use Rattle.sarif_reports.specs.HtmlFixed as fixed;
 ghost use Rattle.sarif_reports.specs.HtmlStyle as fixed_style;
@@ -201,7 +201,7 @@ pub(crate) fn table_end() -> &'static str
 "
 }
 
-/// In place of the table of results.
+/// Instead of the table of results.
 #[tactic(auto, unfolding(crate::specs::HtmlFixed::nothing_reported))]
 pub(crate) fn nothing_reported() -> &'static str
     ensures { result.now ≡ fixed.nothing_reported }

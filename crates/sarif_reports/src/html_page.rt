@@ -15,7 +15,7 @@ use sarif_findings::Finding;
 use sarif_model::{State, Text};
 use std::alloc::{AllocError, Global};
 
-/// How many results stand in the table.
+/// The maximum number of results in the table.
 const MOST_ROWS: usize = 10_000;
 
 /// Adds the page up to its heading.
@@ -147,7 +147,7 @@ fn push_link(alloc: Global, text: &mut String, rule: &str, uri: &str) -> Result<
     Ok(())
 }
 
-/// Adds the rule, which links to its page where there is one.
+/// Adds the rule, which links to its page if there is one.
 fn push_rule(alloc: Global, text: &mut String, finding: &Finding) -> Result<(), AllocError>
     ensures { OnOk result (string_bytes text.new
         ≡ string_bytes text.old ++ said.rule_cell finding.now.rule finding.now.help) }
@@ -250,7 +250,7 @@ fn push_rows(alloc: Global, text: &mut String, findings: &[Finding]) -> Result<(
     Ok(())
 }
 
-/// The first of the results, as many as stand in the table.
+/// The first results, as many as the table holds.
 fn first_rows(findings: &[Finding]) -> &[Finding]
     ensures { result.now ≡ take 10000 findings.now }
 {
@@ -303,8 +303,8 @@ fn push_results(alloc: Global, text: &mut String, findings: &[Finding]) -> Resul
     Ok(())
 }
 
-/// The page: the verdict, the counts, and a table of the first 10,000 reported results.
-/// `AllocError` where memory for it is wanting.
+/// Returns the page: the verdict, the counts, and a table of the first 10,000 reported results. Returns
+/// `AllocError` if memory for it runs out.
 #[tactic(auto, unfolding(crate::specs::HtmlReport::html_of))]
 pub fn html_report(
     alloc: Global,

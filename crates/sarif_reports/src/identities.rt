@@ -13,10 +13,10 @@ use sha2::{Digest, Sha256};
 use std::alloc::{AllocError, Global};
 use std::thread::Threads;
 
-/// Of fewer results a thread of their own is not worth its start.
+/// For fewer results it is not worth starting another thread.
 const LEAST_SHARED: usize = 32;
 
-/// The room that a text of one result is begun with, in bytes.
+/// The initial capacity for the text of one result, in bytes.
 const FIRST_ROOM: usize = 256;
 
 /// What results that are alike have in common.

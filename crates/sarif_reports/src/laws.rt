@@ -1,5 +1,5 @@
-//! Laws of reports, each the contract of a function that does nothing. A log is written by strangers, so these hold of
-//! any text.
+//! Laws of reports. Each law is the contract of a function that does nothing. A log may be hostile, so the laws
+//! cover any strings.
 ghost use Rattle.std.specs.Prelude.{◌≡◌, ◌<◌, ◌==◌, ◌^◌, ℕ, List, true, false, [], Some, None, bytes_eq};
 ghost use Rattle.std.specs.Prelude.{flat_map, length, take};
 ghost use Rattle.std.specs.List.{IsDistinct, count_by, sum_by};
@@ -27,52 +27,52 @@ ghost use Rattle.sarif_findings.specs.ShownLaws.{are_seen, has_two_signs};
 ghost use Rattle.sarif_reports.specs.TextLaws.{IsTextOfLines};
 ghost use Rattle.sarif_reports.specs.TextReport.{text_lines_of};
 
-/// No character of what is shown of a text is a control character, a separator of lines, or one that hides or steers.
+/// No character of a shown string is a control character, a line separator, or a character that hides or controls
+/// others.
 pub fn shown_texts_are_seen()
     ensures { (cs : List ℕ) → are_seen (shown_chars cs) ≡ true }
 {}
 
-/// Nowhere in what is shown of a text do two `#` stand together.
+/// A shown string never contains two adjacent `#`.
 pub fn shown_signs_stand_apart()
     ensures { (cs : List ℕ) → has_two_signs false (shown_chars cs) ≡ false }
 {}
 
-/// What stands of a text in a page has no `<`, `>`, `"` and `'`, and each `&` of it begins an entity: no text makes a
-/// tag or an attribute.
+/// A string in a page contains no `<`, `>`, `"` or `'`, and each `&` of it begins an entity: no string makes a tag
+/// or an attribute.
 pub fn page_texts_hold_no_markup()
     ensures { (text : List ℕ) → is_element_text (escaped Page text) ≡ true }
 {}
 
-/// Each mark of what stands of a text in Markdown is part of a `&#N;`: no text makes a cell, a link, an emphasis or a
-/// tag.
+/// Each mark of a string in Markdown is part of a `&#N;`: no string makes a cell, a link, emphasis or a tag.
 pub fn markdown_texts_hold_no_mark()
     ensures { (text : List ℕ) → has_no_mark (escaped Markdown text) ≡ true }
 {}
 
-/// The texts that fingerprints are made of differ from each other, also where results are alike. So the fingerprints
-/// of a report do, where SHA-256 doesn't collide.
+/// The strings for fingerprints differ from each other, even if results are alike. So the fingerprints of a report
+/// differ, unless SHA-256 collides.
 pub fn hashed_texts_differ()
     ensures { (findings : List Finding) → length findings < 2 ^ 64
         → IsDistinct bytes_eq (hashed_texts findings) }
 {}
 
-/// Of the reported results of a finished log as many are hits as the gate counts.
+/// The number of hits among the reported results of a merged log is the number that the gate counts.
 pub fn reported_hits_are_counted()
     ensures { (reporting : Reporting) (log : Data) →
         count_by (λ f. f.hit) (reported_of reporting log)
         ≡ hits_of (count_of (runs_of log)) reporting.policy }
 {}
 
-/// The text report of a log has just as many lines as there are reported results, no control character beside their
-/// ends, no line that begins with a colon, and nowhere two `#` together.
+/// The text report of a log has exactly one line per reported result, no control character except their ends, no
+/// line that begins with a colon, and no two adjacent `#`.
 pub fn text_reports_have_a_line_a_result()
     ensures { (reporting : Reporting) (log : Data) →
         IsTextOfLines (length (reported_of reporting log))
         (text_lines_of (reported_of reporting log)) }
 {}
 
-/// Each line of the report for GitHub Actions begins with one of its three commands, and there are as many lines as
-/// reported results: no log gives the build service a command of its own.
+/// Each line of the report for GitHub Actions begins with one of its three commands, and there is one line per
+/// reported result: no log adds a command.
 pub fn github_lines_begin_with_commands()
     ensures commands { (reporting : Reporting) (log : Data) →
         are_commands true (github_of (reported_of reporting log)) ≡ true }
@@ -81,8 +81,8 @@ pub fn github_lines_begin_with_commands()
         ≡ length (reported_of reporting log) }
 {}
 
-/// In Markdown the table of results has a line a row, and each of its lines has eight bars: no log makes a line or a
-/// cell of its own.
+/// In Markdown the table of results has one line per row, and each line has eight bars: no log adds a line or a
+/// cell.
 pub fn markdown_rows_have_their_cells()
     ensures bars { (reporting : Reporting) (log : Data) →
         have_bars 8 0 (flat_map result_row (take 200 (reported_of reporting log))) ≡ true }
@@ -91,15 +91,15 @@ pub fn markdown_rows_have_their_cells()
         ≡ length (take 200 (reported_of reporting log)) }
 {}
 
-/// Read as JSON, the report for GitLab is the array of its objects, whatever their texts hold: no log makes an object
-/// or a member of its own.
+/// Read as JSON, the report for GitLab is the array of its objects, for any strings: no log adds an object or a
+/// member.
 pub fn gitlab_reports_read_back()
     ensures { (reporting : Reporting) (log : Data)
         → document (gitlab_of (reported_of reporting log))
         ≡ Some (outline (array (items_after [] (reported_of reporting log)))) }
 {}
 
-/// Each row of a page has its own tags, whatever the texts of its result hold: no log makes a tag or a cell of its own.
+/// Each row of a page has only its own tags, for any strings of its result: no log adds a tag or a cell.
 pub fn page_rows_have_their_tags()
     ensures { (findings : List Finding) → tags_in (rows_below None findings)
         ≡ sum_by row_tags findings }

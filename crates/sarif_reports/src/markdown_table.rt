@@ -13,7 +13,7 @@ use sarif_findings::Finding;
 use sarif_model::State;
 use std::alloc::{AllocError, Global};
 
-/// How many results stand in the table.
+/// The maximum number of results in the table.
 const MOST_ROWS: usize = 200;
 
 const COUNTS_HEAD: &str = "\
@@ -22,7 +22,7 @@ const COUNTS_HEAD: &str = "\
 const RESULTS_HEAD: &str = "\
 \n| hit | level | place | rule | message | tool | state |\n|---|---|---|---|---|---|---|\n";
 
-/// Adds a text as code; an empty text is nothing.
+/// Adds a string as code; an empty string adds nothing.
 fn push_code(alloc: Global, text: &mut String, plain: &str) -> Result<(), AllocError>
     ensures { OnOk result
         (string_bytes text.new ≡ string_bytes text.old ++ said.code_of plain.now) }
@@ -162,7 +162,7 @@ fn push_rows(alloc: Global, text: &mut String, findings: &[Finding]) -> Result<(
     Ok(())
 }
 
-/// The first of the results, as many as stand in the table.
+/// The first results, as many as the table holds.
 fn first_rows(findings: &[Finding]) -> &[Finding]
     ensures { result.now ≡ take 200 findings.now }
 {
@@ -197,7 +197,7 @@ fn push_table(alloc: Global, text: &mut String, findings: &[Finding]) -> Result<
     Ok(())
 }
 
-/// Adds the table of results, where there are any.
+/// Adds the table of results, if there are any.
 fn push_results(alloc: Global, text: &mut String, findings: &[Finding]) -> Result<(), AllocError>
     ensures { OnOk result
         (string_bytes text.new ≡ string_bytes text.old ++ said.results_table findings.now) }
@@ -208,8 +208,8 @@ fn push_results(alloc: Global, text: &mut String, findings: &[Finding]) -> Resul
     Ok(())
 }
 
-/// The report for job summaries and comments on a change: the verdict, the counts, and a table of
-/// the first 200 reported results. `AllocError` where memory for it is wanting.
+/// Returns the report for job summaries and comments on a change: the verdict, the counts, and a table of the
+/// first 200 reported results. Returns `AllocError` if memory for it runs out.
 pub fn markdown_report(
     alloc: Global,
     counts: &Counts,

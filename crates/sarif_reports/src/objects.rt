@@ -14,10 +14,10 @@ use std::alloc::{AllocError, Global};
 use std::thread;
 use std::thread::Threads;
 
-/// Of fewer results a thread of their own is not worth its start.
+/// For fewer results it is not worth starting another thread.
 const FEWEST_SHARED: usize = 64;
 
-/// The fingerprint of the result that has so many like it before it.
+/// The fingerprint of a result that comes after this many equal ones.
 fn fingerprint(alloc: Global, identity: &str, rank: u64) -> Result<String, AllocError>
     ensures { IfOk result
         (λ s. string_bytes s ≡ encode_lower (sha256 (identity.now ++ rank_text rank))) }
@@ -50,7 +50,7 @@ fn push_object(alloc: Global, text: &mut String, one: &Ranked<'_>) -> Result<(),
     Ok(())
 }
 
-/// Adds a comma, where something stands before.
+/// Adds a comma, if something is before it.
 fn push_comma(text: &mut String, later: bool) -> Result<(), AllocError>
     ensures { OnOk result (string_bytes text.new ≡ string_bytes text.old ++ comma_if later) }
 {
@@ -60,7 +60,7 @@ fn push_comma(text: &mut String, later: bool) -> Result<(), AllocError>
     Ok(())
 }
 
-/// The objects of these results, one after another, behind a text.
+/// The objects of these results, in order, after a string.
 fn objects_in_turn(alloc: Global, begin: &str, ranked: &[Ranked<'_>]) -> Result<String, AllocError>
     ensures { IfOk result
         (λ s. string_bytes s ≡ begin.now ++ joined_objects false (map object_of ranked.now)) }
@@ -85,8 +85,7 @@ fn halves<'s, 'f>(ranked: &'s [Ranked<'f>]) -> (&'s [Ranked<'f>], &'s [Ranked<'f
     ranked.split_at(ranked.len() / 2)
 }
 
-/// The objects of these results behind a text, made in at most `threads` threads, this one among
-/// them.
+/// The objects of these results after a string. At most `threads` threads make them, including this one.
 #[cycle(objects)]
 pub(crate) fn objects_of<R: Threads + Sync>(
     rt: &R,

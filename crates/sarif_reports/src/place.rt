@@ -1,11 +1,11 @@
-//! What a report tells of a result.
+//! What a report says about a result.
 ghost use Rattle.std.specs.Prelude.{◌≡◌, ◌++◌, OnOk, string_bytes};
 ghost use Rattle.sarif_findings.specs.Finding as said;
 
 use sarif_findings::Finding;
 use std::alloc::{AllocError, Global};
 
-/// Whether the first character that is no space is a colon.
+/// Returns whether the first character that is not a space is a colon.
 fn begins_with_colon(path: &str) -> bool
     ensures { result ≡ said.begins_with_colon path.now }
 {
@@ -17,7 +17,7 @@ fn begins_with_colon(path: &str) -> bool
     false
 }
 
-/// Adds a colon and the number, where there is one.
+/// Adds a colon and the number, if there is one.
 fn push_numbered(alloc: Global, text: &mut String, number: Option<u32>) -> Result<(), AllocError>
     ensures { OnOk result (string_bytes text.new ≡ string_bytes text.old ++ said.numbered number) }
 {
@@ -40,7 +40,7 @@ fn push_path(text: &mut String, path: &str) -> Result<(), AllocError>
     Ok(())
 }
 
-/// Adds where the result stands: its path, line and column, as many of these as there are, or `-`.
+/// Adds the place of the result: its path, line and column, as far as they are known, or `-`.
 pub(crate) fn push_place(
     alloc: Global,
     text: &mut String,

@@ -9,7 +9,7 @@ use sarif_findings::Finding;
 use sarif_model::Level;
 use std::alloc::{AllocError, Global};
 
-/// Adds a member's text: what stands before its value, and the value.
+/// Adds a member's text: the text before its value, and the value.
 fn push_member(
     alloc: Global,
     text: &mut String,

@@ -1,4 +1,4 @@
-//! Texts as JSON writes them.
+//! Strings as JSON.
 ghost use Rattle.std.specs.Prelude.{◌≡◌, ◌++◌, true, string_bytes, OnOk};
 ghost use Rattle.std.specs.List.{list_all};
 ghost use Rattle.sarif_reports.specs.GitlabParts.{stands_in_string, quoted_text};
@@ -7,7 +7,7 @@ use json_parts::push_value;
 use serde_json::Value;
 use std::alloc::{AllocError, Global};
 
-/// Whether each of these bytes stands in a string of JSON as it is.
+/// Returns whether each of these bytes is written unchanged in a JSON string.
 fn all_stand(bytes: &[u8]) -> bool
     ensures { result ≡ list_all stands_in_string bytes.now }
 {
@@ -19,7 +19,7 @@ fn all_stand(bytes: &[u8]) -> bool
     true
 }
 
-/// Adds a text in which nothing is escaped.
+/// Adds a string in which nothing is escaped.
 fn push_whole(text: &mut String, plain: &str) -> Result<(), AllocError>
     requires { list_all stands_in_string plain.now ≡ true }
     ensures { OnOk result (string_bytes text.new ≡ string_bytes text.old ++ quoted_text plain.now) }
@@ -30,7 +30,7 @@ fn push_whole(text: &mut String, plain: &str) -> Result<(), AllocError>
     Ok(())
 }
 
-/// Adds a text as JSON writes it.
+/// Adds a string as JSON.
 #[tactic(auto, unfolding(crate::specs::GitlabParts::quoted_text))]
 pub(crate) fn push_quoted(alloc: Global, text: &mut String, plain: &str) -> Result<(), AllocError>
     ensures { OnOk result (string_bytes text.new ≡ string_bytes text.old ++ quoted_text plain.now) }

@@ -1,4 +1,4 @@
-//! How many of the results before each are like it, which tells their fingerprints for GitLab apart.
+//! The number of earlier equal results for each result, which makes their fingerprints for GitLab different.
 ghost use Rattle.std.specs.Prelude.{◌≡◌, ◌<◌, ◌+◌, ◌^◌, ℕ, List, [], ◌++◌, bytes_eq, map, IfOk, OnOk, if◌then◌else◌};
 ghost use Rattle.sha2.specs.Sha256.{sha256};
 ghost use Rattle.sarif_reports.specs.GitlabReport.{mark_of, quality_of};
@@ -13,7 +13,7 @@ use sarif_model::Text;
 use std::alloc::{AllocError, Global};
 use std::collections::BTreeMap;
 
-/// The first 64 bits of a digest. Nobody can choose identities many of which share them.
+/// The first 64 bits of a digest. Nobody can choose identities so that many of them share these bits.
 fn number_in(digest: &[u8; 32]) -> u64
     ensures { result ≡ number_in digest.now }
 {
@@ -69,7 +69,7 @@ fn rank_next<'f>(
     })
 }
 
-/// These results, each with how many like it stand before it. Results with the same identity are alike.
+/// These results, each with the number of equal ones before it. Results with the same identity are equal.
 pub(crate) fn rank_all<'f>(
     alloc: Global,
     findings: &'f [Finding],

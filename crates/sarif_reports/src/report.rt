@@ -11,15 +11,15 @@ use std::thread::Threads;
 /// A report on a merged log.
 #[derive(Clone, Copy, Debug, PartialEq, Eq)]
 pub enum Report {
-    /// For people, editors and problem matchers: one line a result.
+    /// For people, editors and problem matchers: one line per result.
     Text,
-    /// For GitHub Actions: one workflow command a result.
+    /// For GitHub Actions: one workflow command per result.
     Github,
     /// For job summaries and comments on a change: the verdict, the counts and a table.
     Markdown,
     /// For GitLab's code quality widget: one JSON array.
     Gitlab,
-    /// For people: a page of its own.
+    /// For people: a self-contained page.
     Html,
 }
 
@@ -60,18 +60,19 @@ impl Report {
     }
 }
 
-/// What reports are made of: the counts and the policy of the gate, and the results that are told of.
+/// The input of reports: the counts and the policy of the gate, and the findings.
 #[derive(Clone, Copy, Drop)]
 pub struct Told<'a> {
     /// How many results the merged log has, by baseline state, level and suppression.
     pub counts: &'a Counts,
-    /// The policy of the gate, by which the hits and the verdict are told.
+    /// The policy of the gate, which decides the hits and the verdict.
     pub policy: &'a Policy,
-    /// The results that are told of, in the order of the merged log.
+    /// The findings, in the order of the merged log.
     pub findings: &'a [Finding],
 }
 
-/// The text of a report, made in at most `threads` threads, this one among them. `AllocError` where memory is wanting.
+/// Returns the text of a report. At most `threads` threads make it, including this one. Returns `AllocError` if
+/// memory runs out.
 pub fn report_text<R: Threads + Sync>(
     rt: &R,
     alloc: Global,

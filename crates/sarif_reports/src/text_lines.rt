@@ -6,7 +6,7 @@ use crate::place::push_place;
 use sarif_findings::Finding;
 use std::alloc::{AllocError, Global};
 
-/// Adds the rule in brackets, where there is one.
+/// Adds the rule in brackets, if there is one.
 fn push_bracketed(text: &mut String, rule: &str) -> Result<(), AllocError>
     ensures { OnOk result
         (string_bytes text.new ≡ string_bytes text.old ++ said.bracketed rule.now) }
@@ -56,8 +56,8 @@ fn push_line(alloc: Global, text: &mut String, finding: &Finding) -> Result<(), 
     Ok(())
 }
 
-/// The report for people, editors and problem matchers, one line a result:
-/// `PLACE: LEVEL: MESSAGE [RULE] (TOOL, STATE)`. `AllocError` where memory for it is wanting.
+/// Returns the report for people, editors and problem matchers, one line per result: `PLACE: LEVEL: MESSAGE [RULE]
+/// (TOOL, STATE)`. Returns `AllocError` if memory for it runs out.
 pub fn text_report(alloc: Global, findings: &[Finding]) -> Result<String, AllocError>
     ensures { IfOk result (λ s. string_bytes s ≡ said.text_lines_of findings.now) }
 {

@@ -1,4 +1,4 @@
--- What was found among right words of the program is what they ask for.
+-- If the arguments are valid, the matches that were found are those of the program's options.
 use Rattle.std.proofs.Common.{◌≡◌, ◌∙◌, ap, sym, subst, true, [], List}
 use Rattle.std.specs.Borrow.{Bor}
 use Rattle.clap.specs.Words.{App, Row, Text, fault_of, is_simple, is_simple_and_free, matches_of}

@@ -1,4 +1,4 @@
--- What is read of the text of a number.
+-- The number that a string represents.
 use Rattle.std.proofs.Common.{◌≡◌, ℕ, Option, refl}
 use Rattle.std.specs.Prelude.{Some, None, Result, Ok, Err}
 use Rattle.std.specs.Str.Parse.{ParsesUnsigned}

@@ -1,4 +1,4 @@
--- The parser's matches as rows under the names of their arguments, and that its contract tells them of this program.
+-- The parser's matches as rows under the names of their arguments, and that its contract covers this program.
 use Rattle.std.proofs.Common.{◌≡◌, true, refl, List, option_map}
 use Rattle.std.specs.Borrow.{Bor}
 use Rattle.clap.specs.Words.{Text, all_of, first_of, first_value, is_simple, is_simple_and_free, matched_of, raw_values, rows_of}

@@ -1,5 +1,5 @@
--- What an error of the parser is told as, where its kind is one of those that the words have, and what is told of names
--- that can't stand together.
+-- How an error of the parser is reported, if its kind is possible for arguments, and how clashing names are
+-- reported.
 use Rattle.std.proofs.Common.{◌≡◌, ◌∙◌, sym, refl, inl, inr, ◌⊎◌, List}
 use Rattle.std.specs.Borrow.{Bor}
 use Rattle.clap.specs.Words.{IsAmong, Row, Text, fault_of}
@@ -12,7 +12,7 @@ use Rattle.sarif_request.specs.Command.{AreLevels, program}
 use Rattle.sarif_request.specs.Names.{names_of}
 use Rattle.sarif_request.specs.Words.{AsksFor, HaveClash, IsUsageOrWanting, Tells, IsAsked, IsFaultOf, names_in}
 
--- want of memory is neither the help nor the version
+-- OutOfMemory is neither the help nor the version
 neither : (k : ErrorKind) → k ≡ kind.OutOfMemory → IsAsked k → ⊥
 neither k e (inl help) = let no : kind.OutOfMemory ≡ kind.DisplayHelp = sym e ∙ help in cc
 neither k e (inr version) = let no : kind.OutOfMemory ≡ kind.DisplayVersion = sym e ∙ version in cc
@@ -25,14 +25,14 @@ told levels words k (Help text) names (inl e) tells = absurd (neither k e tells)
 told levels words k (Help text) names (inr among) tells = (levels, names, k, among, tells)
 told levels words k OutOfMemory names has tells = tt
 
--- what is told of names that can't stand together
+-- how clashing names are reported
 pub clashing : (levels : Bor (List (Bor Text))) (words : List Text) (fault : WordsFault) → AreLevels levels
     → HaveClash (program levels) words → IsUsageOrWanting fault → IsFaultOf words fault
 clashing levels words (Usage text) names clash told = (levels, names, inr clash)
 clashing levels words (Help text) names clash told = absurd told
 clashing levels words OutOfMemory names clash told = tt
 
--- the names of a request are those among the words
+-- the names of a request are the names in the arguments
 pub same_names : (rows : List Row) (request : Request) → AsksFor rows request → names_of request ≡ names_in rows
 same_names rows request asks =
     rw (asks.logs, asks.baselines, asks.suppress, asks.out, asks.reports) refl

@@ -1,4 +1,4 @@
--- Which names among the words can't stand together.
+-- Which names in the arguments clash.
 use Rattle.std.specs.Prelude.{Bool, List, [], ◌∷◌, Option, Some, None, ◌&&◌, ◌||◌, map, not, false, codes, bytes_eq, count_by, nat_lt, if◌then◌else◌}
 use Rattle.std.specs.List.{list_any}
 use Rattle.std.specs.Option.{option_map_or}
@@ -62,7 +62,7 @@ replaces_inputs names = list_any (replaces_input names) (report_names names)
 abbrev pub reads_twice : Names → Bool
 reads_twice names = nat_lt 1 (count_by (λ log. bytes_eq log standard) names.logs)
 
--- why the names can't stand together, where they can't
+-- why the names clash, if they do
 abbrev pub clash_of : Names → Option Clash
 clash_of names =
     if replaces_suppressions names then Some Suppressions else (

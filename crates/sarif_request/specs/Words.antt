@@ -1,4 +1,4 @@
--- What the words of the command line ask for, and what is answered where they ask for nothing.
+-- What the arguments of the command line ask for, and the result if they make no request.
 use Rattle.std.specs.Prelude.{◌≡◌, ◌≢◌, ℕ, Bool, false, List, [], ◌∷◌, flat_map, Option, Some, None, Result, Ok, Err, unwrap_or, option_and_then, codes, bytes_eq, min, max, ◌<◌, ◌^◌, ◌⊎◌, ⊤}
 use Rattle.std.specs.Borrow.{Bor}
 use Rattle.std.specs.Option.{option_map_or}
@@ -25,33 +25,33 @@ words_status (Usage text) = 2
 words_status (Help text) = 0
 words_status OutOfMemory = 2
 
--- a kind of answer that is no mistake: the words ask for the help, or for the version
+-- a kind of result that is not a mistake: the arguments ask for the help, or for the version
 abbrev pub IsAsked : ErrorKind → Type 0
 IsAsked k = (k ≡ kind.DisplayHelp) ⊎ (k ≡ kind.DisplayVersion)
 
--- what an error of the parser is told as
+-- how an error of the parser is reported
 abbrev pub Tells : ErrorKind → WordsFault → Type 0
 Tells k (Usage text) = (¬ IsAsked k) × (k ≢ kind.OutOfMemory)
 Tells k (Help text) = IsAsked k
 Tells k OutOfMemory = ⊤
 
--- all values of an argument, in the order of the words
+-- all values of an argument, in the order of the arguments
 abbrev pub values_of : Text → List Row → List Text
 values_of name rows = unwrap_or (all_of name rows) []
 
--- a text of digits that writes a number of 32 bits
+-- a string of digits that represents a 32-bit number
 abbrev pub IsWhole : Text → Type 0
 IsWhole text =
     IsNumeral 10 (without_leading_plus text)
     × (digits_value 10 (without_leading_plus text) < 2 ^ 32)
 
--- the number that a text writes, where there is a text and it writes one
+-- the number that a string represents, if there is a string and it represents one
 abbrev pub IsRead : Option Text → Option ℕ → Type 0
 IsRead None n = n ≡ None
 IsRead (Some text) None = ¬ IsWhole text
 IsRead (Some text) (Some n) = IsWhole text × (n ≡ digits_value 10 (without_leading_plus text))
 
--- that number, else the default
+-- that number, otherwise the default
 abbrev pub IsReadOr : ℕ → Option Text → ℕ → Type 0
 IsReadOr default text n = (read : Option ℕ) × IsRead text read × (n ≡ unwrap_or read default)
 
@@ -59,7 +59,7 @@ IsReadOr default text n = (read : Option ℕ) × IsRead text read × (n ≡ unwr
 abbrev pub in_range : ℕ → ℕ
 in_range n = max 1 (min n 64)
 
--- the least level that counts
+-- the minimum level of a hit
 abbrev pub fail_on_in : List Row → Level
 fail_on_in rows =
     unwrap_or (option_and_then level_named (first_of (codes "fail-on") rows))
@@ -75,7 +75,7 @@ abbrev pub reports_in : List Row → List (Wanted Text)
 reports_in rows =
     flat_map (λ report. wanted_if report (first_of (report_name report) rows)) all_reports
 
--- a word with no value stands there: its value is the text `true`
+-- an option without a value is given: its value is the string `true`
 abbrev pub is_set : Text → List Row → Bool
 is_set name rows = option_map_or (λ text. bytes_eq text (codes "true")) (first_of name rows) false
 
@@ -95,7 +95,7 @@ pub record AsksFor (rows : List Row) (request : Request) : Type 0 where
   pub states : request.options.policy.states ≡ default_policy.states
   pub max : IsReadOr default_policy.max (one_of (codes "max") rows) request.options.policy.max
 
--- the names among the words
+-- the names in the arguments
 abbrev pub names_in : List Row → Names
 names_in rows = record {
   logs = values_of (codes "log") rows;
@@ -105,19 +105,19 @@ names_in rows = record {
   reports = reports_in rows;
 }
 
--- nothing is wrong with the words by themselves, but with the names among them
+-- the arguments are valid, but the names in them clash
 abbrev pub HaveClash : App → List Text → Type 0
 HaveClash app words = (fault_of app words ≡ [])
     × (clash : Clash) × (clash_of (names_in (matches_of app words)) ≡ Some clash)
 
--- a fault that says that, for which memory may be wanting
+-- an error that says so, or that memory ran out
 abbrev pub IsUsageOrWanting : WordsFault → Type 0
 IsUsageOrWanting (Usage text) = ⊤
 IsUsageOrWanting (Help text) = ⊥
 IsUsageOrWanting OutOfMemory = ⊤
 
--- a fault tells what is wrong with the words, or what they ask for in place of a merge; memory may be wanting for
--- any text
+-- an error says what is wrong with the arguments, or what they ask for instead of a merge; memory may run out for
+-- any of its texts
 abbrev pub IsFaultOf : List Text → WordsFault → Type 0
 IsFaultOf words (Usage text) = (levels : Bor (List (Bor Text))) × AreLevels levels
     × (((k : ErrorKind) × IsAmong k (fault_of (program levels) words) × (¬ IsAsked k))
@@ -126,7 +126,7 @@ IsFaultOf words (Help text) = (levels : Bor (List (Bor Text))) × AreLevels leve
     × (k : ErrorKind) × IsAmong k (fault_of (program levels) words) × IsAsked k
 IsFaultOf words OutOfMemory = ⊤
 
--- a request comes only where nothing is wrong with the words or the names among them, and is what they ask for
+-- a request is returned only if the arguments are valid and no names in them clash, and it is what they ask for
 abbrev pub Answers : List Text → Result Request WordsFault → Type 0
 Answers words (Ok request) = (levels : Bor (List (Bor Text))) × AreLevels levels
     × (fault_of (program levels) words ≡ []) × AsksFor (matches_of (program levels) words) request

@@ -1,4 +1,4 @@
-//! Names among the words that can't stand together.
+//! Names in the arguments that clash.
 ghost use Rattle.std.specs.Prelude.{◌≡◌, Option, map};
 ghost use Rattle.sarif_request.specs.Names as said;
 
@@ -7,7 +7,7 @@ use crate::wanted::Wanted;
 use sarif_model::Text;
 use sarif_streams::STANDARD;
 
-/// Why names can't stand together.
+/// Why names clash.
 #[derive(Clone, Copy, Debug, PartialEq, Eq)]
 pub enum Clash {
     /// An output would take the place of the suppression file.
@@ -21,7 +21,7 @@ pub enum Clash {
 }
 
 impl Clash {
-    /// What is said of it.
+    /// The sentence for users.
     pub fn sentence(self) -> &'static str {
         match self {
             Clash::Suppressions => {
@@ -36,7 +36,7 @@ impl Clash {
     }
 }
 
-/// Why the names of this request can't stand together, or `None` where they can. Names are compared byte for byte.
+/// Returns why the names of this request clash, or `None` if they don't. Names are compared byte for byte.
 pub fn clash_of(request: &Request) -> Option<Clash>
     ensures { result ≡ said.clash_of (said.names_of request.now) }
 {

@@ -1,4 +1,4 @@
-//! What one run of the program is asked to do.
+//! The request of one run of the program.
 ghost use Rattle.std.specs.Prelude.{◌≡◌, [], ◌∷◌, IfOk, None, codes, false};
 ghost use Rattle.sarif_counts.specs.Policy.{default_policy};
 
@@ -9,7 +9,7 @@ use sarif_streams::STANDARD;
 use std::alloc::{AllocError, Global};
 use std::hash::RandomState;
 
-/// What one run is asked to do. Sources are named as they were written, in the order of the words.
+/// The request of one run. Sources have the names that were passed, in the order of the arguments.
 #[derive(Debug, Drop)]
 pub struct Request {
     /// The logs to merge; `-` is standard input.
@@ -25,15 +25,15 @@ pub struct Request {
     pub reports: Vec<Wanted<Text>>,
     /// What the paths of reports are read without where they begin with it.
     pub root: Text,
-    /// Whether a fault is explained.
+    /// Whether errors are explained.
     pub explain: bool,
     /// How they are merged.
     pub options: Options,
 }
 
 impl Request {
-    /// To merge one log from standard input to standard output, with one worker, the default policy and no report.
-    /// `AllocError` where memory for it is wanting.
+    /// Returns the request to merge one log from standard input to standard output, with one worker, the default
+    /// policy and no report. Returns `AllocError` if memory for it runs out.
     pub fn of_standard_streams(alloc: Global, seed: RandomState) -> Result<Request, AllocError>
         ensures logs { IfOk result (λ request. request.logs.items ≡ codes "-" ∷ []) }
         ensures out { IfOk result (λ request. request.out ≡ codes "-") }

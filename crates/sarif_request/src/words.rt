@@ -1,4 +1,4 @@
-//! Reading the words of the command line.
+//! Reading the arguments of the command line.
 ghost use Rattle.std.specs.Prelude.{◌≡◌, ◌↔◌, IfOk, IsTrue, [], map, unwrap_or, string_bytes, option_and_then, codes};
 ghost use Rattle.clap.specs.Words.{kind_of, rows_of, found_of, first_of, one_of};
 ghost use Rattle.sarif_model.specs.Level.{level_named};
@@ -18,19 +18,19 @@ use sarif_reports::Report;
 use std::alloc::{AllocError, AllocFailed, Global};
 use std::hash::RandomState;
 
-/// Why the words make no request.
+/// Why the arguments make no request.
 #[derive(Debug, Drop)]
 pub enum WordsFault {
-    /// The words are wrong: the text says how.
+    /// The arguments are invalid: the text says why.
     Usage(Text),
-    /// The help or the version was asked for: the text is that.
+    /// The arguments ask for the help or the version: the text is that.
     Help(Text),
-    /// Memory was wanting.
+    /// Memory ran out.
     OutOfMemory,
 }
 
 impl WordsFault {
-    /// The program's exit status: 0 where the help or the version was asked for, else 2.
+    /// Returns the program's exit status: 0 for the help or the version, otherwise 2.
     pub fn status(&self) -> u8
         ensures { result ≡ words_status self.now }
     {
@@ -52,10 +52,9 @@ impl From<AllocError> for WordsFault {
     }
 }
 
-/// What the words after the program's name ask for. The tables of the merge hash with `seed`.
-///
-/// `Usage` where the words are wrong, also where names among them can't stand together; `Help` where they ask for the
-/// help or the version; `OutOfMemory` where memory is wanting.
+/// Returns the request of the arguments after the program's name. The tables of the merge hash with `seed`.
+/// Returns `Usage` if the arguments are invalid or names in them clash; `Help` if they ask for the help or the
+/// version; `OutOfMemory` if memory runs out.
 pub fn read_words(alloc: Global, seed: RandomState, words: &[String]) -> Result<Request, WordsFault>
     ensures { Answers (map string_bytes words.now) result }
 {
@@ -72,7 +71,7 @@ pub fn read_words(alloc: Global, seed: RandomState, words: &[String]) -> Result<
     }
 }
 
-/// That names can't stand together, told as the parser tells a mistake.
+/// Clashing names, reported as the parser reports a mistake.
 fn usage_of(alloc: Global, clash: Clash) -> WordsFault
     ensures { IsUsageOrWanting result }
 {
@@ -89,7 +88,7 @@ fn told_of(alloc: Global, clash: Clash) -> Result<Text, AllocError> {
     Text::from_string(text)
 }
 
-/// What was asked for. The ranges of the numbers were checked with the words.
+/// Returns the request. The ranges of the numbers were checked with the arguments.
 #[tactic(auto, using(crate::proofs::Rows::first_in_rows))]
 fn request_of(
     alloc: Global,
@@ -157,7 +156,7 @@ fn name_of(alloc: Global, matches: &ArgMatches<'_>, id: &str) -> Result<Option<T
     }
 }
 
-/// That value, and the empty text where there is none.
+/// Returns that value, or the empty string if there is none.
 #[tactic(auto, using(crate::proofs::Rows::first_in_rows))]
 fn text_in(alloc: Global, matches: &ArgMatches<'_>, id: &str) -> Result<Text, AllocError>
     ensures { IfOk result
@@ -180,7 +179,7 @@ fn reports_of(alloc: Global, matches: &ArgMatches<'_>) -> Result<Vec<Wanted<Text
     Ok(reports)
 }
 
-/// Whether a word with no value stands there.
+/// Returns whether an option without a value is given.
 #[tactic(auto, using(crate::proofs::Rows::first_in_rows))]
 fn is_set(matches: &ArgMatches<'_>, id: &str) -> bool
     ensures { result ≡ is_set id.now (rows_of (found_of matches.now)) }
@@ -213,7 +212,7 @@ fn policy_of(matches: &ArgMatches<'_>) -> Policy
     }
 }
 
-/// The least level that counts.
+/// Returns the minimum level of a hit.
 #[tactic(auto, using(crate::proofs::Rows::first_in_rows))]
 fn fail_on_of(matches: &ArgMatches<'_>) -> Option<Level>
     ensures { result ≡ option_and_then level_named
@@ -225,7 +224,7 @@ fn fail_on_of(matches: &ArgMatches<'_>) -> Option<Level>
     }
 }
 
-/// What the parser of the words answers, as a fault with the parser's text.
+/// Returns the result of the parser as an error with the parser's text.
 fn fault_of(alloc: Global, error: &clap::Error) -> WordsFault
     ensures { Tells (kind_of error.now) result }
 {
@@ -239,14 +238,14 @@ fn fault_of(alloc: Global, error: &clap::Error) -> WordsFault
     }
 }
 
-/// Whether that is no mistake: the words ask for the help or for the version.
+/// Returns whether that is not a mistake: the arguments ask for the help or for the version.
 fn is_asked(kind: ErrorKind) -> bool
     ensures { IsTrue result ↔ IsAsked kind }
 {
     kind == ErrorKind::DisplayHelp || kind == ErrorKind::DisplayVersion
 }
 
-/// What the parser of the words says of its answer.
+/// Returns the parser's text for its result.
 fn text_of(alloc: Global, error: &clap::Error) -> Result<Text, AllocError> {
     Text::from_string(error.to_string(alloc)?)
 }

@@ -31,7 +31,7 @@ counted_accepted Accepted = refl
 counted_accepted UnderReview = refl
 counted_accepted Rejected = refl
 
--- the status that is read of this member
+-- the status that is read from this member
 abbrev of_member : Option Data → Result Status Fault
 of_member found = of_kind BadSuppression as_status (option_and_then unless_null found) >>= λ status. Ok (unwrap_or status Accepted)
 

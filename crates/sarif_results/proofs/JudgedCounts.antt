@@ -17,7 +17,7 @@ use Rattle.sarif_runs.specs.Placed.{Placed}
 use Rattle.sarif_runs.specs.Judging.{skips, with_record, item_by, item_of, items_of, opening_fault, opened_or, first_bad, run_faults, faults_of_runs, records_in, records_of}
 use Rattle.sarif_model.specs.Run.{present}
 
--- ---- of one run
+-- ---- for one run
 
 -- the results that are judged, where those that are absent already are skipped or not
 abbrev kept : Bool → List Data → List Data
@@ -66,7 +66,7 @@ records_of_log p all sound = of_run p sound ∙ kept_all (skips p.source) all (r
 pub records_of_baseline : (p : Placed) → skips p.source ≡ true → run_faults p ≡ [] → length (records_in (items_of p)) ≡ length (present (results_of p.run))
 records_of_baseline p skip sound = of_run p sound ∙ kept_present (skips p.source) skip (results_of p.run)
 
--- ---- of all runs
+-- ---- for all runs
 
 pub no_faults_here : (xs ys : List MergeFault) → xs ++ ys ≡ [] → xs ≡ []
 no_faults_here [] ys none = refl

@@ -10,7 +10,7 @@ use Rattle.sarif_runs.specs.Placed.{Placed}
 use Rattle.sarif_runs.specs.Spots.{no_run, placed_at, spots_in, spots_from}
 use Rattle.sarif_results.specs.OutcomesAt.{outcome_at}
 
--- the run that stands behind others
+-- the run after the others
 at_seam : (done : List Placed) (p : Placed) (rest : List Placed) → placed_at (done ++ p ∷ rest) (length done) ≡ p
 at_seam done p rest = get_or-append_seam done p rest no_run
 

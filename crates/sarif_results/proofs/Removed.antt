@@ -1,4 +1,4 @@
--- A map without an entry, beside its members without those of that name.
+-- A map without an entry, and its members without those of that name.
 use Rattle.std.proofs.Common.{◌≡◌, ℕ, Bool, true, false, cond, List, [], ◌∷◌, Option, Some, None, nat_cmp, is_eq, bytes_eq, string_bytes, if◌then◌else◌, String, Global, true≢false, refl, sym, ap}
 use Rattle.std.proofs.lemmas.Map.Text.{is_eq-slice_cmp}
 use Rattle.std.specs.Cmp.Lexicographic.{slice_cmp}
@@ -10,7 +10,7 @@ use Rattle.serde_json.specs.View.{view, members_view}
 use Rattle.serde_json.proofs.Views.{Entry}
 use Rattle.json_parts.specs.Without.{without}
 
--- a name that isn't there: one entry more
+-- a name that is not there: one more entry
 stays : (here same : Bool) (v : Value) (rest : List Entry) (found : Option Value) (k : List ℕ) (d : Data) (ms ns : Members)
     → here ≡ same → cond here (Some v) found ≡ None → (found ≡ None → ns ≡ ms)
     → (if same then ns else member k d ns) ≡ member k d ms

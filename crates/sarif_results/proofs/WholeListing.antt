@@ -1,4 +1,4 @@
--- No number with a fraction comes in by the suppressions that a file adds, by the laws of what is written of it.
+-- The suppressions that a file adds contain no number with a fraction, by the laws of what is written for it.
 use Rattle.std.proofs.Common.{◌≡◌, Bool, true, false, not, ◌&&◌, ◌||◌, List, [], ◌∷◌, refl, sym, ap, ◌∙◌}
 use Rattle.std.proofs.lemmas.Bool.{not-true}
 use Rattle.std.specs.List.{list_any, list_all}

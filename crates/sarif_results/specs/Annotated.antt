@@ -9,7 +9,7 @@ use Rattle.sarif_model.specs.Level.{level_name}
 use Rattle.sarif_model.specs.State.{state_name}
 use Rattle.sarif_counts.specs.CountOf.{items_in}
 
--- an object with its members changed; what is no object stays
+-- an object with its members changed; a value that is not an object is unchanged
 abbrev pub on_members : (Members → Members) → Data → Data
 on_members change null = null
 on_members change (boolean b) = boolean b
@@ -18,7 +18,7 @@ on_members change (string s) = string s
 on_members change (array ds) = array ds
 on_members change (object ms) = object (change ms)
 
--- the result's own suppressions, as they stand
+-- the result's own suppressions, unchanged
 abbrev pub own_suppressions : Members → Items
 own_suppressions ms = items_in (get_member (codes "suppressions") ms)
 

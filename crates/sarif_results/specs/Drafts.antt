@@ -1,5 +1,5 @@
--- For the contracts between workers and the writing of the log; no public clause of the merge speaks of it.
--- A draft is a result as it is written, but for its baseline state, which only matching tells.
+-- For the contracts between workers and the writing of the log. Internal: no public contract of the merge refers
+-- to this module. A draft is a written result without its baseline state, which is known only after matching.
 use Rattle.std.specs.Prelude.{◌≡◌, ◌+◌, false, ◌&&◌, List, [], ◌∷◌, ◌++◌, codes, unwrap_or, ⊤}
 use Rattle.std.specs.List.{AllByRecursion}
 use Rattle.serde_json.specs.Data.{Data, null, boolean, number, string, array, object, Items, Members, no_members, put}
@@ -20,15 +20,15 @@ use Rattle.sarif_model.specs.Run.{results_of}
 
 -- ---- a result
 
--- which suppressions are written for a result with that record and those suppressions of its own
+-- which suppressions are written for a result with that record and these own suppressions
 abbrev pub Listing : Type 0
 Listing = Record → List Data → List Data
 
--- the members of an object; what is no object has none
+-- the members of an object; a value that is not an object has none
 abbrev pub members_in : Data → Members
 members_in d = unwrap_or (as_object d) no_members
 
--- this is an object
+-- the value is an object
 abbrev pub IsObject : Data → Type 0
 IsObject null = ⊥
 IsObject (boolean b) = ⊥

@@ -1,5 +1,5 @@
--- What is assembled: runs of which nothing is at fault, and the outcomes of all their results. No public clause of the
--- merge speaks of it.
+-- What is assembled: runs without errors, and the outcomes of all their results. Internal: no public contract of
+-- the merge refers to this module.
 use Rattle.std.specs.Prelude.{◌≡◌, ◌≤◌, Bool, List, [], map, length}
 use Rattle.std.specs.List.{AllByRecursion}
 use Rattle.sarif_model.specs.Run.{results_total}
@@ -14,7 +14,7 @@ use Rattle.sarif_results.specs.declared.judged.Judged.{Judged}
 abbrev pub placed_in : Judged → List Placed
 placed_in judged = map placed_of judged.runs.items
 
--- the runs of logs (false), or of baselines (true), none of which is at fault, with the outcomes of their results
+-- the runs of logs (false) or of baselines (true), all without errors, with the outcomes of their results
 pub record IsJudged (file : File) (baseline : Bool) (judged : Judged) : Type 0 where
   pub outcomes : judged.outcomes.items ≡ all_outcomes file (placed_in judged)
   pub faultless : faults_of_runs (placed_in judged) ≡ []

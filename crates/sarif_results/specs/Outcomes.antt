@@ -1,4 +1,5 @@
--- What a worker makes of a result: its item, and its draft. No public clause of the merge speaks of drafts.
+-- What a worker makes of a result: its item, and its draft. Internal: no public contract of the merge refers to
+-- drafts.
 use Rattle.std.specs.Prelude.{ℕ, Bool, true, false, List, map, length, Option, Some, None}
 use Rattle.std.specs.List.{flat_map, range_with_len}
 use Rattle.serde_json.specs.Data.{Data}
@@ -19,8 +20,8 @@ abbrev pub draft_in : File → Record → Data → Draft
 draft_in file r d =
     draft_by (λ r own. suppressions_of own file r) (applied_of file) r (members_in d)
 
--- only a result of a log has a draft at once, where it has a record: of a baseline (true) matching tells which are
--- written
+-- only a current result with a record has a draft at once: for a baseline result (true) matching decides whether
+-- it is written
 abbrev pub draft_beside : File → Bool → Data → Item → Option Draft
 draft_beside file true d item = None
 draft_beside file false d (Sound r) = Some (draft_in file r d)
@@ -37,6 +38,6 @@ outcome_of file p seq = record {
 abbrev pub outcomes_of : File → Placed → List Outcome
 outcomes_of file p = map (outcome_of file p) (range_with_len 0 (length (results_of p.run)))
 
--- those of these runs, in the order of runs and results
+-- the outcomes of these runs, in the order of runs and results
 abbrev pub all_outcomes : File → List Placed → List Outcome
 all_outcomes file runs = flat_map (outcomes_of file) runs

@@ -1,5 +1,5 @@
--- How the results of all runs are shared out among workers: as places in one list, some of them to each shard. No
--- public clause of the merge speaks of it.
+-- How the results of all runs are shared among workers: as spots in one list, a range of them for each shard.
+-- Internal: no public contract of the merge refers to this module.
 use Rattle.std.specs.Prelude.{◌≡◌, ℕ, ◌+◌, ◌*◌, ◌<◌, List, ◌∷◌, ◌++◌, map}
 use Rattle.sarif_suppress.specs.File.{File}
 use Rattle.sarif_results.specs.declared.outcome.Outcome.{Outcome}

@@ -9,7 +9,7 @@ ghost use Rattle.sarif_counts.specs.CountOf.{items_in};
 use serde_json::{Map, Value};
 use std::alloc::{AllocError, Global};
 
-/// The items of an array; what is no array has none.
+/// The items of an array; a value that is not an array has none.
 fn into_items(alloc: Global, value: Value) -> Vec<Value>
     ensures { items_view result.items ≡ items_in (Some (view value)) }
 {
@@ -19,7 +19,7 @@ fn into_items(alloc: Global, value: Value) -> Vec<Value>
     }
 }
 
-/// Sets the member `name`, and hands out what stood there.
+/// Sets the member `name`, and returns its previous value.
 fn replace_member(
     alloc: Global,
     members: &mut Map<String, Value>,
@@ -36,7 +36,7 @@ fn replace_member(
     Ok(old)
 }
 
-/// Takes a result's own suppressions out, and leaves null in their place.
+/// Takes a result's own suppressions out, and leaves null instead.
 pub(crate) fn take_suppressions(
     alloc: Global,
     members: &mut Map<String, Value>,

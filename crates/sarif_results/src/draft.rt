@@ -1,4 +1,4 @@
-//! A result as it is written, but for its baseline state.
+//! A written result without its baseline state.
 ghost use Rattle.std.specs.Prelude.{◌≡◌, IfOk, false, codes};
 ghost use Rattle.serde_json.specs.View.{view, items_view, members_view};
 ghost use Rattle.serde_json.specs.Written.{has_float, items_have_float, members_have_float};
@@ -17,8 +17,8 @@ use sarif_suppress::{
 use serde_json::{Map, Value, put};
 use std::alloc::{AllocError, Global};
 
-/// A result with its level and its suppressions, as a text that is open at its baseline state (SARIF
-/// 2.1.0, "result object").
+/// A result with its level and its suppressions, as a text that is open at its baseline state (SARIF 2.1.0,
+/// "result object").
 #[derive(Debug, Drop)]
 pub struct Draft {
     /// Its effective level.
@@ -31,7 +31,7 @@ pub struct Draft {
     pub text: Around,
 }
 
-/// The members of an object; what is no object has none.
+/// The members of an object; a value that is not an object has none.
 pub fn into_members(alloc: Global, value: Value) -> Map<String, Value>
     requires whole { has_float (view value) ≡ false }
     ensures members { members_view result.entries ≡ members_in (view value) }
@@ -74,9 +74,9 @@ fn finish_draft(
     })
 }
 
-/// The draft of the result `found` of a log, which holds no number with a fraction: with its
-/// effective level, its own suppressions and those that the suppression file gives it. `AllocError`
-/// where memory for it is wanting.
+/// Returns the draft of the current result `found`, which holds no number with a fraction: with its effective
+/// level, its own suppressions and those that the suppression file adds. Returns `AllocError` if memory for it
+/// runs out.
 pub fn draft_current(
     alloc: Global,
     found: Value,
@@ -97,8 +97,8 @@ pub fn draft_current(
     Ok(draft)
 }
 
-/// The draft of the result `found` of a baseline, which holds no number with a fraction: with its
-/// effective level and its own suppressions. `AllocError` where memory for it is wanting.
+/// Returns the draft of the baseline result `found`, which holds no number with a fraction: with its effective
+/// level and its own suppressions. Returns `AllocError` if memory for it runs out.
 pub fn draft_absent(alloc: Global, found: Value, record: &Record) -> Result<Draft, AllocError>
     requires whole { has_float (view found) ≡ false }
     ensures { IfOk result (λ draft. draft ≡ draft_by (λ _ own. own) unapplied

@@ -1,4 +1,4 @@
-//! What is kept of each result until it is written: its draft, and what was made of it.
+//! A result until it is written: its draft, and its outcome.
 #![tactic(auto)]
 
 mod annotate;

@@ -7,7 +7,7 @@ use sarif_runs::Item;
 /// What a worker made of a result.
 #[derive(Debug, Drop)]
 pub struct Outcome {
-    /// Its record, its first fault, or that it is skipped.
+    /// Its record, its first error, or that it is skipped.
     pub item: Item,
     /// Its draft, where it is one of a log and has a record.
     pub draft: Option<Draft>,

@@ -1,4 +1,4 @@
--- A run's head and its tool's name don't look at the run's results.
+-- A run's head and its tool's name do not depend on the run's results.
 use Rattle.std.proofs.Common.{◌≡◌, [], refl, ap, codes, unwrap_or}
 use Rattle.serde_json.specs.Data.{Data}
 use Rattle.sarif_read.specs.Bare.{bare}

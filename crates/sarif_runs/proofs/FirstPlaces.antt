@@ -48,7 +48,7 @@ pub found_nowhere : {X : Type 0} (p : X → Bool) (xs : List X) → position p x
 found_nowhere p xs e =
     find_at p xs ∙ slice_get_past xs (position_or_len p xs) (place_is_none _ _ e)
 
--- what stands at a key after a new one is put at a key that had none
+-- the value at a key after a new value is added at a key that had none
 put_at : (same : Bool) (had : Option ℕ) (i : ℕ) → (same ≡ true → had ≡ None) → cond same (Some i) had ≡ first_or had same i
 put_at true had i none = sym (ap (λ o. first_or o true i) (none refl))
 put_at false had i none = sym (first_or-not_here had i)

@@ -1,4 +1,4 @@
--- What the record of a result says of it rests on thirteen of its members.
+-- The record of a result depends on thirteen of its members.
 use Rattle.std.proofs.Common.{◌≡◌, ℕ, true, false, ◌&&◌, List, [], ◌∷◌, codes, refl, sym, ap, ◌∙◌}
 use Rattle.std.specs.Prelude.{Ok, Err, option_and_then, unwrap_or, if◌then◌else◌}
 use Rattle.serde_json.specs.Data.{Data}
@@ -157,21 +157,21 @@ picked_alike x = record {
   locations = picked_get (codes "locations") record_names x refl;
 }
 
--- whether a result is marked as absent is told by these members
+-- whether a result is marked as absent depends only on these members
 pub absent_members : (x : Data) → is_absent_result (picked record_names x) ≡ is_absent_result x
 absent_members x = absent_same (picked record_names x) x (picked_alike x)
 
--- all that a result says of itself is told by these members
+-- a result's own members depend only on these members
 own_members : (x : Data) → parts_of (picked record_names x) ≡ parts_of x
 own_members x = parts_same (picked record_names x) x (picked_alike x)
 
--- what is made of a result's value is told by these members
+-- the item of a result's value depends only on these members
 recorded : (run found : Data) → record_item run (picked record_names found) ≡ record_item run found
 unfolding record_in
 recorded run found =
     ap (λ parts. item_by (head_of run >>= λ head. parts >>= record_by head (tool_name run))) (own_members found)
 
--- what is known of a result of a baseline is told by these members
+-- the item of a baseline result depends only on these members
 pub known_item : (p : Placed) (seq : ℕ) (found : Data) (item : Item) → skips p.source ≡ true
     → found ≡ picked record_names (result_at p.run seq) → is_absent_result found ≡ false
     → item ≡ record_item p.run found → item ≡ item_of p seq

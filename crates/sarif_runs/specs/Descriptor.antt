@@ -1,6 +1,6 @@
--- Which rule a result or an override means (SARIF 2.1.0, "reportingDescriptorReference object", "ruleIndex
--- property"). A descriptor is the number of a component, of which 0 is the driver and k + 1 the extension k, and
--- the place of the rule in that component.
+-- The rule of a result or an override (SARIF 2.1.0, "reportingDescriptorReference object", "ruleIndex property").
+-- A descriptor is the number of a component (0 is the driver, k + 1 is extension k) and the index of the rule in
+-- that component.
 use Rattle.std.specs.Prelude.{ℕ, ◌+◌, nat_lt, List, length, slice_get, Option, Some, None, Result, Ok, Err, option_map, if◌then◌else◌}
 use Rattle.std.specs.Option.{ok_or}
 use Rattle.sarif_model.specs.declared.fault.Fault.{Fault}
@@ -24,14 +24,15 @@ abbrev pub component_number : Option ℕ → ℕ
 component_number None = 0
 component_number (Some extension) = extension + 1
 
--- the index goes before the id, of which the first rule counts; an index past the rules is a fault
+-- the index takes precedence over the id; for an id the first rule with it is used; an index past the end is an
+-- error
 abbrev pub rule_number : List Rule → Option ℕ → Option (List ℕ) → Result (Option ℕ) Fault
 rule_number rules (Some index) id =
     if nat_lt index (length rules) then Ok (Some index) else Err BadIndex
 rule_number rules None (Some id) = Ok (first_with_id id rules)
 rule_number rules None None = Ok None
 
--- the descriptor that a reference means, if it means one; a component past the list is a fault
+-- the descriptor that a reference names, if it names one; a component past the end is an error
 abbrev pub descriptor_of : List (List Rule) → Reference → Result (Option (ℕ × ℕ)) Fault
 descriptor_of components named = do
   let number = component_number named.component

@@ -11,7 +11,7 @@ use Rattle.sarif_model.specs.Members.{◌>>=◌, result_map, of_kind, member_at}
 abbrev pub Pair : Type 0
 Pair = List ℕ × List ℕ
 
--- a value of a map of texts: a text, or null, which counts as absent
+-- a value of a map of strings: a string, or null, which is treated as missing
 abbrev pub text_or_null : Data → Result (Option (List ℕ)) Fault
 text_or_null null = Ok None
 text_or_null (boolean b) = Err BadFingerprint
@@ -25,7 +25,7 @@ abbrev pub with_pair : List ℕ → Option (List ℕ) → List Pair → List Pai
 with_pair name None pairs = pairs
 with_pair name (Some value) pairs = (name, value) ∷ pairs
 
--- the names with their texts, in order
+-- the names with their strings, in order
 abbrev pub pairs_among : Members → Result (List Pair) Fault
 pairs_among no_members = Ok []
 pairs_among (member name d ms) =
@@ -35,6 +35,6 @@ abbrev pub pairs_of : Option Members → Result (List Pair) Fault
 pairs_of None = Ok []
 pairs_of (Some ms) = pairs_among ms
 
--- the map of texts of that name; absent it is empty
+-- the map of strings with that name; empty if it is missing
 abbrev pub pairs_at : List ℕ → Data → Result (List Pair) Fault
 pairs_at name result = of_kind BadFingerprint as_object (member_at name result) >>= pairs_of

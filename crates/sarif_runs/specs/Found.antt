@@ -1,4 +1,4 @@
--- What is made of a result's value. No public clause of the merge speaks of it.
+-- The item of a result's value. Internal: no public contract of the merge refers to this module.
 use Rattle.serde_json.specs.Data.{Data}
 use Rattle.sarif_model.specs.Members.{◌>>=◌}
 use Rattle.sarif_runs.specs.Head.{head_of}

@@ -1,4 +1,4 @@
--- What the merge knows of each result, and the faults of runs and results.
+-- The item of each result, and the errors of runs and results.
 use Rattle.std.specs.Prelude.{ℕ, ◌+◌, Bool, true, false, ◌&&◌, List, [], ◌∷◌, map, length, Option, Some, None, Result, Ok, Err, if◌then◌else◌}
 use Rattle.std.specs.List.{flat_map, range_with_len}
 use Rattle.serde_json.specs.Data.{Data}
@@ -28,7 +28,7 @@ abbrev pub item_by : Result Record Fault → Item
 item_by (Ok r) = Sound r
 item_by (Err fault) = Bad fault
 
--- the result of a run with that number: its record, its first fault, or skipped
+-- the item of the result of a run with that number: its record, its first error, or skipped
 abbrev pub item_of : Placed → ℕ → Item
 item_of p seq =
     if skips p.source && is_absent_result (result_at p.run seq) then Skipped
@@ -42,7 +42,7 @@ abbrev pub fault_of : {X : Type 0} → Result X Fault → Option Fault
 fault_of (Ok x) = None
 fault_of (Err fault) = Some fault
 
--- the fault of opening a run, where it has one
+-- the error of opening a run, if it has one
 abbrev pub opening_fault : Placed → Option Fault
 opening_fault p = fault_of (head_of p.run)
 
@@ -61,11 +61,11 @@ records_in (found ∷ items) = with_record found (records_in items)
 abbrev pub records_of : List Placed → List Record
 records_of runs = flat_map (λ p. records_in (items_of p)) runs
 
--- what stands as a run in each place
+-- the run at each position
 abbrev pub run_values : List Placed → List Data
 run_values runs = map (λ p. p.run) runs
 
--- ---- faults
+-- ---- errors
 
 -- the first bad result, where the first one has number n
 abbrev pub first_bad : (ℕ → At) → ℕ → List Item → List MergeFault
@@ -74,7 +74,7 @@ first_bad at n (Sound r ∷ items) = first_bad at (n + 1) items
 first_bad at n (Bad fault ∷ items) = fault_at (at n) (cause_of fault) ∷ []
 first_bad at n (Skipped ∷ items) = first_bad at (n + 1) items
 
--- the fault of opening a run, else that of its first bad result
+-- the error of opening a run, otherwise the error of its first invalid result
 abbrev pub opened_or : Source → ℕ → Option Fault → List Item → List MergeFault
 opened_or source number (Some fault) items = fault_at (Run source number) (cause_of fault) ∷ []
 opened_or source number None items = first_bad (Single source number) 0 items
@@ -82,6 +82,6 @@ opened_or source number None items = first_bad (Single source number) 0 items
 abbrev pub run_faults : Placed → List MergeFault
 run_faults p = opened_or p.source p.number (opening_fault p) (items_of p)
 
--- the faults of these runs, in order
+-- the errors of these runs, in order
 abbrev pub faults_of_runs : List Placed → List MergeFault
 faults_of_runs runs = flat_map run_faults runs

@@ -37,7 +37,7 @@ abbrev pub overrides_at : List (List Override) → Option ℕ → Result (List O
 overrides_at invocations None = Ok []
 overrides_at invocations (Some i) = ok_or (slice_get invocations i) BadIndex
 
--- the level of the first override that specifies the descriptor, whatever later ones say
+-- the level of the first override that specifies the descriptor; later ones are ignored
 abbrev pub overriding_level : List Override → Option (ℕ × ℕ) → Option Level
 overriding_level overrides None = None
 overriding_level overrides (Some d) = option_and_then (λ o. o.level) (find (specifies d) overrides)
@@ -56,7 +56,8 @@ abbrev pub default_level : List (List Rule) → Option (ℕ × ℕ) → Option L
 default_level components None = None
 default_level components (Some d) = option_and_then (λ rule. rule.level) (rule_at components d)
 
--- the effective level of a result with that descriptor; an invocation past the list is a fault, needed or not
+-- the effective level of a result with that descriptor; an invocation past the end is an error even if it is not
+-- needed
 abbrev pub level_with : RunHead → Parts → Option (ℕ × ℕ) → Result Level Fault
 level_with head parts descriptor = do
   overriding ← overriding_level_at head.invocations parts.invocation descriptor

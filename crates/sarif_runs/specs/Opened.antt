@@ -1,4 +1,4 @@
--- A run that was opened, as the definitions see it. No public clause of the merge speaks of it.
+-- An opened run, as the definitions see it. Internal: no public contract of the merge refers to this module.
 use Rattle.sarif_read.specs.Indexed.{run_of}
 use Rattle.sarif_runs.specs.declared.opened.OpenedRun.{OpenedRun}
 use Rattle.sarif_runs.specs.Placed.{Placed}

@@ -22,7 +22,7 @@ override_of components d = do
   level ← if_there level_at configuration
   Ok (record { descriptor = descriptor; level = level })
 
--- the overrides of each invocation, as they stand
+-- the overrides of each invocation, unchanged
 abbrev pub override_lists : List Data → Result (List (List Data)) Fault
 override_lists invocations =
     read_each (objects_at BadMember (codes "ruleConfigurationOverrides")) invocations

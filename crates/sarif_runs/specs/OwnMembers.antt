@@ -1,5 +1,5 @@
--- A result's own members, each by a check of its own, and all of them in the order of these checks
--- (SARIF 2.1.0, "result object"). Absent and null pass each check that doesn't say "must".
+-- A result's own members, each with a separate check, and all of them in the order of these checks (SARIF 2.1.0,
+-- "result object"). Missing members and null pass each check that does not say "must".
 use Rattle.std.specs.Prelude.{ℕ, List, [], Option, Some, None, Result, Ok, Err, codes, if◌then◌else◌, ⊤, option_and_then, unwrap_or}
 use Rattle.std.specs.Option.{option_or}
 use Rattle.serde_json.specs.Data.{Data}
@@ -67,7 +67,7 @@ text_of d = as_text (as_str d) where
   as_text None = Err BadMember
   as_text (Some text) = Ok text
 
--- the elements of an array of texts, in an object that may be absent; absent they are none
+-- the elements of an array of strings in an object that may be missing; empty if it is missing
 abbrev pub texts_within : List ℕ → Option Data → Result (List (List ℕ)) Fault
 texts_within name None = Ok []
 texts_within name (Some d) = elements_at BadMember name d >>= read_each text_of
@@ -80,7 +80,7 @@ own_message result = do
   args ← texts_within (codes "arguments") message
   Ok (record { text = text; id = id; args = args })
 
--- `ruleId`, else `rule.id`
+-- `ruleId`, otherwise `rule.id`
 unfoldable pub own_rule_id : Data → Result (Option (List ℕ)) Fault
 own_rule_id result = do
   own ← text_at BadMember (codes "ruleId") result
@@ -105,7 +105,7 @@ abbrev pub tool_component : Data → Option Data
 tool_component result =
     option_and_then (member_at (codes "toolComponent")) (member_at (codes "rule") result)
 
--- `rule.index`, else `ruleIndex`; the component's index; the invocation's
+-- `rule.index`, otherwise `ruleIndex`; the component's index; the invocation's index
 unfoldable pub own_indexes : Data → Result Indexes Fault
 own_indexes result = do
   own ← index_at BadIndex (codes "ruleIndex") result
@@ -118,7 +118,7 @@ own_indexes result = do
     invocation = invocation;
   })
 
--- the artifact of the first location, which must be an object where there is one
+-- the artifact of the first location, which must be an object if there is one
 unfoldable pub own_location : Data → Result Location Fault
 own_location result = do
   locations ← elements_at BadLocation (codes "locations") result
@@ -130,7 +130,7 @@ own_location result = do
   index ← index_within (codes "index") artifact
   Ok (record { uri = uri; base = base; artifact = index })
 
--- the members of a result, or the first of its faults in the order of these checks
+-- the members of a result, or its first error in the order of these checks
 unfoldable pub parts_of : Data → Result Parts Fault
 parts_of result = do
   _ ← check_present result

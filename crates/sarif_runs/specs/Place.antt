@@ -8,7 +8,7 @@ use Rattle.sarif_runs.specs.declared.parts.Parts.{Parts}
 use Rattle.sarif_model.specs.declared.place.Place.{Place}
 use Rattle.sarif_model.specs.Members.{◌>>=◌, text_at, object_at, objects_at, read_each, if_there}
 
--- `uri` and `uriBaseId` of an artifact's `location`; its `index` is followed nowhere
+-- `uri` and `uriBaseId` of an artifact's `location`; its `index` is not followed
 unfoldable pub artifact_of : Data → Result Place Fault
 artifact_of d = do
   location ← object_at BadLocation (codes "location") d
@@ -20,7 +20,8 @@ artifact_of d = do
 unfoldable pub artifacts_of : Data → Result (List Place) Fault
 artifacts_of run = objects_at BadLocation (codes "artifacts") run >>= read_each artifact_of
 
--- a `uri` stands with the base beside it; without it the artifact's place, in one step; else both are absent
+-- a `uri` goes with the base next to it; without a `uri` the artifact's place is used, in one step; otherwise both
+-- are missing
 abbrev pub place_by : List Place → Option (List ℕ) → Option (List ℕ) → Option ℕ
     → Result Place Fault
 place_by artifacts (Some uri) base artifact = Ok (record { uri = Some uri; base = base })

@@ -1,4 +1,4 @@
--- A run in the log or the baseline that it stands in.
+-- A run in its log or baseline.
 use Rattle.std.specs.Prelude.{ℕ}
 use Rattle.serde_json.specs.Data.{Data}
 use Rattle.sarif_model.specs.declared.merge_fault.Source.{Source}

@@ -1,4 +1,4 @@
--- The record of a result: its own members, and what its run says of it (SARIF 2.1.0, "result object").
+-- The record of a result: its own members, and what its run says about it (SARIF 2.1.0, "result object").
 use Rattle.std.specs.Prelude.{ℕ, List, [], Option, Some, None, Result, Ok, option_map, unwrap_or}
 use Rattle.serde_json.specs.Data.{Data}
 use Rattle.sarif_model.specs.declared.fault.Fault.{Fault}
@@ -24,12 +24,12 @@ abbrev pub descriptor_id : List (List Rule) → Option (ℕ × ℕ) → Option (
 descriptor_id components None = None
 descriptor_id components (Some d) = option_map (λ rule. rule.id) (rule_at components d)
 
--- the result's own id, else that of its descriptor, else the empty text
+-- the result's own id, otherwise its descriptor's id, otherwise the empty string
 abbrev pub rule_id_of : List (List Rule) → Option (List ℕ) → Option (ℕ × ℕ) → List ℕ
 rule_id_of components (Some id) descriptor = id
 rule_id_of components None descriptor = unwrap_or (descriptor_id components descriptor) []
 
--- the record of a result with these members of its own, in a run with that head and that tool
+-- the record of a result with these own members, in a run with that head and that tool
 unfoldable pub record_by : RunHead → List ℕ → Parts → Result Record Fault
 record_by head tool parts = do
   descriptor ← descriptor_of head.components (reference_of parts)
@@ -48,11 +48,11 @@ record_by head tool parts = do
     held = parts.held;
   })
 
--- the record of a result of a run with that head and that tool, or its first fault
+-- the record of a result of a run with that head and that tool, or its first error
 unfoldable pub record_in : RunHead → List ℕ → Data → Result Record Fault
 record_in head tool result = parts_of result >>= record_by head tool
 
--- the record of the result with that number, or the first fault
+-- the record of the result with that number, or the first error
 unfoldable pub record_of : Data → ℕ → Result Record Fault
 record_of run seq = do
   head ← head_of run

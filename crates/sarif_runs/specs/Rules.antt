@@ -9,7 +9,7 @@ use Rattle.sarif_model.specs.Members.{◌>>=◌, text_at, object_at, elements_at
 use Rattle.sarif_runs.specs.declared.component.Rule.{Rule}
 use Rattle.sarif_runs.specs.Reading.{list_if_there, level_at}
 
--- a text that must be there
+-- a required string
 abbrev pub required : {X : Type 0} → Option X → Result X Fault
 required None = Err BadRules
 required (Some x) = Ok x

@@ -1,5 +1,5 @@
--- How the results of all runs are shared out among workers: as places in one list, some of them to each shard. No
--- public clause of the merge speaks of it.
+-- How the results of all runs are shared among workers: as spots in one list, a range of them for each shard.
+-- Internal: no public contract of the merge refers to this module.
 use Rattle.std.specs.Prelude.{◌≡◌, ℕ, ◌+◌, ◌*◌, ◌<◌, List, [], ◌∷◌, ◌++◌, map, take, drop, length, slice_index_or}
 use Rattle.std.specs.List.{range_with_len}
 use Rattle.serde_json.specs.Data.{null}
@@ -19,7 +19,7 @@ placed_at runs k = slice_index_or runs k no_run
 abbrev pub spots_in : ℕ → ℕ → List Spot
 spots_in run count = map (λ seq. record { run = run; seq = seq }) (range_with_len 0 count)
 
--- those of these runs, of which the first has number n
+-- the runs, of which the first has number n
 abbrev pub spots_from : ℕ → List Placed → List Spot
 spots_from n [] = []
 spots_from n (p ∷ runs) = spots_in n (length (results_of p.run)) ++ spots_from (n + 1) runs
@@ -29,6 +29,6 @@ abbrev pub IsSpotOf : List Placed → Spot → Type 0
 IsSpotOf runs spot =
     (spot.run < length runs) × (spot.seq < length (results_of (placed_at runs spot.run).run))
 
--- the places of shard k, where each has so many
+-- the spots of shard k, if each shard has that many
 abbrev pub shard_of : ℕ → List Spot → ℕ → List Spot
 shard_of size spots k = take size (drop (k * size) spots)

@@ -23,10 +23,9 @@ pub struct RunHead {
 }
 
 impl RunHead {
-    /// The component and the place of the result's rule, if it has one (SARIF 2.1.0, "rule
-    /// property"). Component 0 is the driver, `k + 1` the extension `k`. Takes no memory.
-    ///
-    /// `BadIndex` where the component or the rule is past its table.
+    /// The component and the index of the result's rule, if it has one (SARIF 2.1.0, "rule property"). Component 0
+    /// is the driver, `k + 1` the extension `k`. Does not allocate. Returns `BadIndex` if the component or the
+    /// rule is past the end of its table.
     pub fn descriptor(&self, parts: &Parts) -> Result<Option<(usize, usize)>, Fault>
         ensures { result ≡ descriptor_of self.now.components (reference_of parts.now) }
     {
@@ -39,9 +38,8 @@ impl RunHead {
         )
     }
 
-    /// The effective level of the result (SARIF 2.1.0, "level property"). Takes no memory.
-    ///
-    /// `BadIndex` where the descriptor or the invocation is past its table, needed or not.
+    /// The effective level of the result (SARIF 2.1.0, "level property"). Does not allocate. Returns `BadIndex` if
+    /// the descriptor or the invocation is past the end of its table, even if it is not needed.
     pub fn level(&self, parts: &Parts) -> Result<Level, Fault>
         ensures { result ≡ effective.level_of self.now parts.now }
     {
@@ -83,7 +81,7 @@ impl RunHead {
         }
     }
 
-    /// The rule id of a result: its own, else its rule's, else the empty text (SARIF 2.1.0, "ruleId
+    /// The rule id of a result: its own, otherwise its rule's, otherwise the empty string (SARIF 2.1.0, "ruleId
     /// property").
     pub(crate) fn rule_id(
         &self,
@@ -121,10 +119,8 @@ impl RunHead {
         self.rule(descriptor)?.level
     }
 
-    /// The artifact of the result's first location (SARIF 2.1.0, "artifactLocation object").
-    ///
-    /// `BadIndex` where there is no `uri` and the artifact is past its table; `OutOfMemory` where
-    /// memory is wanting.
+    /// The artifact of the result's first location (SARIF 2.1.0, "artifactLocation object"). Returns `BadIndex` if
+    /// there is no `uri` and the artifact is past the end of its table; `OutOfMemory` if memory runs out.
     pub fn place(&self, parts: &Parts) -> Result<Place, Refusal<Fault>>
         ensures ok { IfOk result (λ place. place_of self.now.artifacts parts.now ≡ Ok place) }
         ensures err { IfFault result (λ fault. place_of self.now.artifacts parts.now ≡ Err fault) }
@@ -160,7 +156,7 @@ impl RunHead {
         Ok(Place { uri, base })
     }
 
-    /// The place `own`, with the texts of the artifact where they are the same.
+    /// The place `own`, sharing the artifact's strings that are equal.
     fn share_place(&self, own: Place, artifact: Option<u32>) -> Result<Place, AllocError>
         ensures { IfOk result (λ place. place ≡ own) }
     {
@@ -193,14 +189,14 @@ fn first_level(
     }
 }
 
-/// The text `own`, as `held` where that is the same text, so that it is held once.
+/// The string `own`, as `held` if both are equal, so that it is stored once.
 fn share(own: Text, held: &Text) -> Result<Text, AllocError>
     ensures { IfOk result (λ text. text ≡ own) }
 {
     if own == *held { held.clone() } else { Ok(own) }
 }
 
-/// The text `own`, where there is one, as `held` where that is there and is the same text.
+/// The string `own`, if there is one, as `held` if that is there and both are equal.
 fn share_if_there(own: Option<Text>, held: &Option<Text>) -> Result<Option<Text>, AllocError>
     ensures { IfOk result (λ text. text ≡ own) }
 {
@@ -210,7 +206,7 @@ fn share_if_there(own: Option<Text>, held: &Option<Text>) -> Result<Option<Text>
     }
 }
 
-/// A text, where there is one; it isn't copied.
+/// A string, if there is one; it is not copied.
 fn copied(text: &Option<Text>) -> Result<Option<Text>, AllocError>
     ensures { IfOk result (λ copy. copy ≡ text.now) }
 {
@@ -245,7 +241,7 @@ pub(crate) fn find_descriptor(
     }
 }
 
-/// The place of the rule with that index, else of the first with that id.
+/// The index of the rule with that index, otherwise of the first rule with that id.
 fn find_rule(
     component: &Component,
     index: Option<u32>,

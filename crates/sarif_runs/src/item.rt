@@ -1,4 +1,4 @@
-//! What is known of a result before results are matched.
+//! What is known about a result before results are matched.
 use sarif_model::{Fault, Record};
 
 /// A result of a run as its worker found it.
@@ -6,7 +6,7 @@ use sarif_model::{Fault, Record};
 pub enum Item {
     /// Its record.
     Sound(Record),
-    /// Its first fault.
+    /// Its first error.
     Bad(Fault),
     /// A result of a baseline that is absent already.
     Skipped,

@@ -5,8 +5,8 @@ ghost use Rattle.serde_json.specs.Find.{get_member};
 ghost use Rattle.json_parts.specs.Ordered.{AreMembersOrdered};
 ghost use Rattle.sarif_runs.specs.Fingerprints.{pairs_among};
 
-/// Two objects whose names have the same values give the same pairs, in whatever order their members
-/// stood in the text: in what is read, names rise.
+/// Two objects with the same value at each name give the same pairs, in any order of members in the JSON: when
+/// members are read, names are sorted.
 pub fn same_members_give_the_same_pairs()
     ensures { (ms ns : Members) → AreMembersOrdered ms → AreMembersOrdered ns
         → ((name : List ℕ) → get_member name ms ≡ get_member name ns)

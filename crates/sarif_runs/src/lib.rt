@@ -1,4 +1,4 @@
-//! A run, opened: its rules, overrides and artifacts; what a result says of itself, and its record.
+//! A run, opened: its rules, overrides and artifacts; a result's own members, and its record.
 #![tactic(auto)]
 
 mod component;

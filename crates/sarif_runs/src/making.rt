@@ -15,12 +15,10 @@ use sarif_read::RawRun;
 use serde_json::Value;
 use std::alloc::{AllocError, Global};
 
-/// Makes the record of a result of a run with that head and that tool (SARIF 2.1.0, "result
-/// object").
-///
-/// The faults are those of [`read_members`](sarif_runs::read_members), and then `BadIndex` where
-/// the component, the rule, the invocation or, with no `uri`, the artifact is past its table.
-/// `OutOfMemory` may come in place of any of them, where memory is wanting.
+/// Makes the record of a result of a run with that head and that tool (SARIF 2.1.0, "result object"). The errors
+/// are those of [`read_members`](sarif_runs::read_members), and then `BadIndex` if the component, the rule, the
+/// invocation or, without a `uri`, the artifact is past the end of its table. Returns `OutOfMemory` if memory runs
+/// out.
 #[tactic(auto, unfolding(crate::specs::Record::record_in))]
 pub fn make_record_of(
     alloc: Global,
@@ -38,9 +36,8 @@ pub fn make_record_of(
     finish_record(alloc, head, tool, parts)
 }
 
-/// Makes the record of result `seq` of a run, counted from 0, with the head that was opened from
-/// that run and the name of the run's driver. The faults are those of [`make_record_of`], so also
-/// `BadIndex` and `OutOfMemory`.
+/// Makes the record of result `seq` of a run, numbered from 0, with the head that was opened from that run and the
+/// name of the run's driver. The errors are those of [`make_record_of`], including `BadIndex` and `OutOfMemory`.
 #[tactic(auto, unfolding(crate::specs::Record::record_of))]
 pub fn make_record(
     alloc: Global,
@@ -57,8 +54,8 @@ pub fn make_record(
     make_record_of(alloc, head, &tool, run.result(seq))
 }
 
-/// The name of the run's driver (SARIF 2.1.0, toolComponent object, "name property"); where there
-/// is none, the empty text. `AllocError` where memory for it is wanting.
+/// The name of the run's driver (SARIF 2.1.0, toolComponent object, "name property"), or the empty string. Returns
+/// `AllocError` if memory for it runs out.
 pub fn copy_tool_name(alloc: Global, run: &Value) -> Result<Text, AllocError>
     ensures { IfOk result (λ name. name ≡ tool_name (view run.now)) }
 {
@@ -68,7 +65,7 @@ pub fn copy_tool_name(alloc: Global, run: &Value) -> Result<Text, AllocError>
     }
 }
 
-/// The record of a result with these members of its own.
+/// The record of a result with these own members.
 #[tactic(auto, unfolding(crate::specs::Record::record_by))]
 fn finish_record(
     alloc: Global,

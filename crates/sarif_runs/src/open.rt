@@ -22,18 +22,12 @@ use serde_json::Value;
 use std::alloc::{AllocError, Global};
 use std::hash::RandomState;
 
-/// Reads the rules, overrides and artifacts of a run. Its results aren't looked at, and may be
-/// missing.
-///
-/// The first of these that is wrong, in this order, is the fault:
-/// - of the driver and then of each extension (SARIF 2.1.0, "toolComponent object"), rule by rule,
-///   `BadRules`, and `BadLevel` of its default level;
-/// - of the artifacts `BadLocation`;
-/// - of the invocations `BadMember`, and then override by override `BadMember`, `BadIndex`,
-///   `BadLevel`.
-///
-/// `OutOfMemory` may come in place of any of them, where memory is wanting. The head's tables hash
-/// with `seed`, which no log can know; no answer depends on it.
+/// Reads the rules, overrides and artifacts of a run. It does not read the results, which may be missing. It
+/// returns the first error in this order: for the driver and then each extension (SARIF 2.1.0, "toolComponent
+/// object"), rule by rule, `BadRules`, and `BadLevel` for its default level; for the artifacts `BadLocation`; for
+/// the invocations `BadMember`, and then for each override `BadMember`, `BadIndex`, `BadLevel`. It returns
+/// `OutOfMemory` if memory runs out. The head's tables hash with `seed`, which no log can know; no result depends
+/// on it.
 #[tactic(auto, unfolding(crate::specs::Head::head_of))]
 pub fn open_value(alloc: Global, seed: RandomState, run: &Value) -> Result<RunHead, Refusal<Fault>>
     ensures ok { IfOk result (λ head. head_of (view run.now) ≡ Ok head) }
@@ -49,8 +43,8 @@ pub fn open_value(alloc: Global, seed: RandomState, run: &Value) -> Result<RunHe
     })
 }
 
-/// Reads the rules, overrides and artifacts of a run that was read. `BadRules`, `BadLevel`, `BadLocation`, `BadMember`,
-/// `BadIndex` and `OutOfMemory` come where [`open_value`] answers them; `seed` is as there.
+/// Reads the rules, overrides and artifacts of a whole run. Returns `BadRules`, `BadLevel`, `BadLocation`,
+/// `BadMember`, `BadIndex` and `OutOfMemory` as [`open_value`] does; `seed` has the same meaning.
 pub fn open_run(alloc: Global, seed: RandomState, run: &RawRun) -> Result<RunHead, Refusal<Fault>>
     ensures ok { IfOk result (λ head. head_of (view run.now) ≡ Ok head) }
     ensures err { IfFault result (λ fault. head_of (view run.now) ≡ Err fault) }
@@ -92,7 +86,7 @@ fn read_driver(
     }
 }
 
-/// Puts the extensions behind the components so far.
+/// Adds the extensions after the components so far.
 fn read_extensions(
     alloc: Global,
     seed: RandomState,
@@ -176,7 +170,7 @@ fn read_artifact(alloc: Global, artifact: &Value) -> Result<Place, Refusal<Fault
     Ok(Place { uri, base })
 }
 
-/// A copy of a text, where there is one.
+/// A copy of a string, if there is one.
 fn copy_if_there(alloc: Global, text: Option<&str>) -> Result<Option<Text>, AllocError>
     ensures { IfOk result (λ copy. copy ≡ option_map (λ s. s.now) text.entry) }
 {
@@ -200,7 +194,7 @@ fn read_invocations(
     read_lists(alloc, seed, components, lists.as_slice())
 }
 
-/// The overrides of each invocation, as they stand.
+/// The overrides of each invocation, unchanged.
 fn override_lists<'a>(
     alloc: Global,
     invocations: &'a [Value],

@@ -16,11 +16,11 @@ use serde_json::Value;
 use std::alloc::{AllocError, Global};
 use std::hash::RandomState;
 
-/// A run with the log or the baseline that it stands in, and what opening it gave: its head, or its
-/// fault (SARIF 2.1.0, "run object").
+/// A run with its log or baseline and the outcome of opening it: its head, or its error (SARIF 2.1.0, "run
+/// object").
 #[derive(Drop)]
 pub struct OpenedRun<'t, 'a> {
-    /// The log or the baseline that it stands in.
+    /// The log or the baseline that it is in.
     pub source: Source,
     /// Its number in its source, from 0.
     pub number: u32,
@@ -32,7 +32,7 @@ pub struct OpenedRun<'t, 'a> {
     ghost whole: { has_float (run_of run) ≡ false },
 }
 
-/// The head of a run, or its fault.
+/// The head of a run, or its error.
 fn open_head(
     alloc: Global,
     seed: RandomState,
@@ -55,9 +55,9 @@ impl<'t, 'a> OpenedRun<'t, 'a> {
     ghost use Rattle.sarif_read.specs.Picked.{picked};
     ghost use Rattle.sarif_model.specs.Run.{result_at, results_array, results_of};
 
-    /// Opens run `number` of a source, which holds no number with a fraction. The tables of its head hash with `seed`,
-    /// on which no answer depends. `AllocError` where memory is wanting; a fault of the run is no error, but is kept
-    /// with it (see `fault`).
+    /// Opens run `number` of a source, which holds no number with a fraction. The tables of its head hash with
+    /// `seed`, on which no result depends. Returns `AllocError` if memory runs out. An error of the run is not
+    /// returned; it is kept with the run (see `fault`).
     #[tactic(auto, using(crate::proofs::Beside::bare_head, crate::proofs::Beside::bare_tool_name))]
     pub fn open(
         alloc: Global,
@@ -81,8 +81,7 @@ impl<'t, 'a> OpenedRun<'t, 'a> {
         })
     }
 
-    /// Why the run can't be opened, where that is so: the first fault that [`open_value`](sarif_runs::open_value)
-    /// answers of it.
+    /// Why the run cannot be opened: the first error of [`open_value`](sarif_runs::open_value), or `None`.
     pub fn fault(&self) -> Option<Fault>
         ensures { result ≡ opening_fault (placed_of self.now) }
     {
@@ -122,7 +121,7 @@ impl<'t, 'a> OpenedRun<'t, 'a> {
         self.run.result(alloc, seq)
     }
 
-    /// What is known of this value as a result of the run: its record, or its first error. Returns `AllocError` if
+    /// The item of this value as a result of the run: its record, or its first error. Returns `AllocError` if
     /// memory runs out.
     pub fn item_of(&self, alloc: Global, found: &Value) -> Result<Item, AllocError>
         ensures { IfOk result
@@ -139,8 +138,8 @@ impl<'t, 'a> OpenedRun<'t, 'a> {
         }
     }
 
-    /// Result `seq` of the run, counted from 0, with those of its members alone that have one of these names.
-    /// `AllocError` where memory for them is wanting.
+    /// Result `seq` of the run, numbered from 0, with only its members that have one of these names. Returns
+    /// `AllocError` if memory for them runs out.
     pub fn picked(&self, alloc: Global, seq: u32, names: &[&str]) -> Result<Value, AllocError>
         requires { seq < length (results_of (placed_of self.now).run) }
         ensures { IfOk result (λ found. view found ≡ picked (map (λ name. name.now) names.now)

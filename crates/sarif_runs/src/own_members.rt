@@ -1,4 +1,4 @@
-//! A result's own members: nine checks, in order, each of which reads what it checks.
+//! A result's own members: nine checks, in order. Each reads what it checks.
 ghost use Rattle.std.specs.Prelude.{◌≡◌, ◌<◌, length, Ok, Err, IfOk};
 ghost use Rattle.serde_json.specs.View.{view as seen};
 ghost use Rattle.sarif_model.specs.Run.{results_of, result_at};
@@ -50,8 +50,7 @@ fn read_kind(result_value: &Value) -> Result<Kind, Fault>
     }
 }
 
-/// The level of a result as it stands, or `BadLevel` (SARIF 2.1.0, result object, "level
-/// property").
+/// The level of a result as it is written, or `BadLevel` (SARIF 2.1.0, result object, "level property").
 fn read_level(result_value: &Value) -> Result<Option<Level>, Fault>
     ensures { result ≡ own_level (seen result_value.now) }
 {
@@ -78,19 +77,12 @@ fn read_correlation_guid(result_value: &Value) -> Result<Option<u128>, Fault>
     }
 }
 
-/// The own members of a result (SARIF 2.1.0, "result object"), or its first fault in this order:
-///
-/// 1. `AbsentInput` where `baselineState` is `absent`
-/// 2. `BadKind` for `kind`
-/// 3. `BadLevel` for `level`
-/// 4. `BadGuid` for `correlationGuid`
-/// 5. `BadFingerprint` for `fingerprints` and `partialFingerprints`
-/// 6. `BadSuppression` for `suppressions`
-/// 7. `BadMember` for `message`, `ruleId`, `rule` and `provenance`
-/// 8. `BadIndex` for the indexes in `ruleIndex`, `rule` and `provenance`
-/// 9. `BadLocation` for the first of `locations`, then `BadIndex` for its artifact
-///
-/// `OutOfMemory` may come in place of each of these but the first four, where memory is wanting.
+/// The own members of a result (SARIF 2.1.0, "result object"), or its first error in this order: `AbsentInput` if
+/// `baselineState` is `absent`; `BadKind` for `kind`; `BadLevel` for `level`; `BadGuid` for `correlationGuid`;
+/// `BadFingerprint` for `fingerprints` and `partialFingerprints`; `BadSuppression` for `suppressions`; `BadMember`
+/// for `message`, `ruleId`, `rule` and `provenance`; `BadIndex` for the indexes in `ruleIndex`, `rule` and
+/// `provenance`; `BadLocation` for the first of `locations`, then `BadIndex` for its artifact. Returns
+/// `OutOfMemory` instead of any of these except the first four if memory runs out.
 #[tactic(auto, unfolding(crate::specs::OwnMembers::parts_of))]
 pub fn read_members(alloc: Global, result_value: &Value) -> Result<Parts, Refusal<Fault>>
     ensures ok { IfOk result (λ parts. parts_of (seen result_value.now) ≡ Ok parts) }
@@ -123,9 +115,8 @@ pub fn read_members(alloc: Global, result_value: &Value) -> Result<Parts, Refusa
     })
 }
 
-/// The own members of result `seq` of `run`, counted from 0 (SARIF 2.1.0, run object, "results
-/// property"), or its first fault: the faults are those of [`read_members`], in the same order, and
-/// `OutOfMemory` where memory is wanting.
+/// The own members of result `seq` of `run`, numbered from 0 (SARIF 2.1.0, run object, "results property"), or its
+/// first error: the errors are those of [`read_members`], in the same order, and `OutOfMemory` if memory runs out.
 pub fn read_parts(alloc: Global, run: &RawRun, seq: u32) -> Result<Parts, Refusal<Fault>>
     requires { seq < length (results_of (seen run.now)) }
     ensures ok { IfOk result (λ parts. parts_of (result_at (seen run.now) seq) ≡ Ok parts) }

@@ -1,4 +1,4 @@
-//! A result's own members, before its run is asked.
+//! A result's own members, without what its run says about it.
 use sarif_model::{Kind, Level, Message, Pairs, Sequence, Status, Text};
 
 /// The members of a result that the merge reads (SARIF 2.1.0, "result object"). An index that is
@@ -7,11 +7,11 @@ use sarif_model::{Kind, Level, Message, Pairs, Sequence, Status, Text};
 pub struct Parts {
     /// `kind`; absent it is `fail`.
     pub kind: Kind,
-    /// `level`, as it stands.
+    /// `level`, as it is written.
     pub level: Option<Level>,
-    /// `ruleId`, else `rule.id`.
+    /// `ruleId`, otherwise `rule.id`.
     pub rule_id: Option<Text>,
-    /// `rule.index`, else `ruleIndex`.
+    /// `rule.index`, otherwise `ruleIndex`.
     pub rule_index: Option<u32>,
     /// `rule.toolComponent.index`: the extension.
     pub component: Option<u32>,
@@ -21,9 +21,9 @@ pub struct Parts {
     pub message: Message,
     /// `uri` of the first location's artifact.
     pub uri: Option<Text>,
-    /// `uriBaseId` beside it.
+    /// `uriBaseId` next to it.
     pub base: Option<Text>,
-    /// `index` beside it.
+    /// `index` next to it.
     pub artifact: Option<u32>,
     /// `correlationGuid`, as a number.
     pub guid: Option<u128>,

@@ -24,7 +24,7 @@ pub(crate) fn objects_within<'a>(
     }
 }
 
-/// The `level` of an object that may be absent: one of the four texts, else `BadLevel`.
+/// The `level` of an object that may be missing: one of the four strings, otherwise `BadLevel`.
 pub(crate) fn level_within(object: Option<&Value>) -> Result<Option<Level>, Fault>
     ensures { result
         ≡ said.if_there told.level_at (option_map (λ v. view v.now) object.entry) }

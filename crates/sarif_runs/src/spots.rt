@@ -25,7 +25,7 @@ fn push_spots(spots: &mut Vec<Spot>, run: u32, count: u32) -> Result<(), AllocEr
     Ok(())
 }
 
-/// The places of the results of these runs, in order. `AllocError` where memory for the list is wanting.
+/// The spots of the results of these runs, in order. Returns `AllocError` if memory for the list runs out.
 pub fn list_spots(alloc: Global, runs: &[OpenedRun<'_, '_>]) -> Result<Vec<Spot>, AllocError>
     requires few { length runs.now ≤ 10000 }
     ensures { IfOk result (λ spots. spots.items ≡ spots_from 0 (map placed_of runs.now)) }

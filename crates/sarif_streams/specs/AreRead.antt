@@ -8,8 +8,8 @@ use Rattle.sarif_streams.specs.declared.readers.ReadersFault.TheVariants.{ReadFa
 use Rattle.sarif_streams.specs.Counted.{inner_of, failed_calls}
 use Rattle.sarif_streams.specs.Source.{IsWithinLimit, IsPastLimit}
 
--- the reader gave just these bytes and is at its end, and no call of it failed; `remaining` is what a reader has left,
--- where it tells that
+-- the reader returned exactly these bytes and is at its end, and none of its calls failed; `remaining` is what a
+-- reader has left, if it says so
 abbrev pub IsRead : {R : Type 0} → (R → Option (List ℕ)) → Counted R → Counted R → List ℕ → Type 0
 IsRead remaining old new bytes =
     Consumes (remaining (inner_of old)) (remaining (inner_of new)) bytes
@@ -28,8 +28,8 @@ AreRead remaining (old ∷ olds) (new ∷ news) [] = ⊥
 AreRead remaining (old ∷ olds) (new ∷ news) (bytes ∷ rest) =
     IsRead remaining old new bytes × AreRead remaining olds news rest
 
--- why reading this source ended: a read of it failed, which is counted; it is too long, which it is where it tells; or
--- memory was wanting
+-- why reading this source ended: a read failed, which is counted; the source is too long, which is true if it says
+-- so; or memory ran out
 abbrev pub HasStopped : {R : Type 0} → (R → Option (List ℕ)) → Source
     → Counted R → Counted R → ReadersFault → Type 0
 HasStopped remaining source old new (ReadFailed at) =

@@ -1,4 +1,4 @@
--- Which refusals of a merge say that a read or a write failed, and how many of them did.
+-- Which rejections of a merge say that a read or a write failed, and how many calls failed.
 use Rattle.std.specs.Prelude.{◌≡◌, ◌≤◌, ℕ, List, [], ◌∷◌, ⊤, Bool, true, false, Result, Ok, Err}
 use Rattle.std.specs.List.{sum_by}
 use Rattle.sarif_streams.specs.declared.counted.Counted.{Counted}

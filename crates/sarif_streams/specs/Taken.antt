@@ -7,19 +7,19 @@ use Rattle.sarif_streams.specs.declared.target.Console.TheVariants.{Output, Erro
 use Rattle.sarif_streams.specs.declared.target.Target.{Target}
 use Rattle.sarif_streams.specs.declared.target.Target.TheVariants.{File, Standard}
 
--- the file that stood open; where none did, any: the one that the write opened
+-- the open file; if none was open, any file: the one that the write opened
 abbrev pub IsOpenBefore : {F : Type 0} → Option F → F → Type 0
 IsOpenBefore None before = ⊤
 IsOpenBefore (Some file) before = file ≡ before
 
--- by the file that stands open before a write, and by the one after it
+-- by the file that is open before a write, and by the file after it
 abbrev pub TakesAs : {F E : Type 0} → (F → Option (List ℕ))
     → Option F → Option F → Result ℕ E → List ℕ → Type 0
 TakesAs held old None r buf = ⊤
 TakesAs {F} held old (Some after) r buf =
     (before : F) × IsOpenBefore old before × WriteAppends (held before) (held after) r buf
 
--- the same of a file or of a standard stream, of which `sent` is what it holds
+-- the same for a file or a standard stream, of which `sent` is what it holds
 abbrev pub TargetTakesAs : {R O F D E : Type 0} → (F → Option (List ℕ)) → (O → Option (List ℕ))
     → Target R O F D → Target R O F D → Result ℕ E → List ℕ → Type 0
 TargetTakesAs held sent (File old) (File new) r buf =

@@ -11,7 +11,7 @@ use Rattle.sarif_streams.specs.Counted.{inner_of}
 use Rattle.sarif_streams.specs.Failing.{failed_calls_in, NoneFalls}
 use Rattle.sarif_streams.specs.OptionalReader.{failed_calls_if}
 
--- the bytes of the logs, of the baselines and of the suppression file, where there is one
+-- the bytes of the logs, of the baselines and of the suppression file, if there is one
 pub record SourceContents : Type 0 where
   pub logs : List (List ℕ)
   pub baselines : List (List ℕ)
@@ -76,7 +76,7 @@ HasStoppedAt remaining old new fault =
     × AreRead remaining old.baselines.items new.baselines.items baselines
     × HasStoppedIf remaining old.suppressions new.suppressions fault))
 
--- a reader tells what it has left
+-- a reader says what it has left
 abbrev pub Tells : {R : Type 0} → (R → Option (List ℕ)) → Counted R → Type 0
 Tells remaining reader = IsSome (remaining (inner_of reader))
 

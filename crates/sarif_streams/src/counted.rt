@@ -12,7 +12,7 @@ use thiserror::Error;
 #[error("Failed")]
 pub struct Failed;
 
-/// A reader or a writer, beside the number of its calls that failed.
+/// A reader or a writer, together with the number of its failed calls.
 #[derive(Debug, Drop)]
 pub struct Counted<D> {
     inner: D,
@@ -54,8 +54,7 @@ impl<D> Counted<D> {
 }
 
 impl<R: Read> Counted<R> {
-    /// Hands on what the reader gives. `Failed` is answered, and counted, exactly where its call
-    /// failed.
+    /// Forwards what the reader returns. Returns and counts `Failed` if and only if its call failed.
     pub fn read(&mut self, buf: &mut [u8]) -> Result<usize, Failed>
         requires { failed_calls self.old < 2 ^ 63 }
         ensures bound { ReadsAtMost result buf.new }
@@ -72,8 +71,8 @@ impl<R: Read> Counted<R> {
 }
 
 impl<W: Write> Counted<W> {
-    /// Hands on what the writer takes. `Failed` is answered, and counted, exactly where its call
-    /// failed or took none of at least one byte.
+    /// Forwards what the writer accepts. Returns and counts `Failed` if and only if its call failed, or accepted
+    /// none of at least one byte.
     pub fn write(&mut self, buf: &[u8]) -> Result<usize, Failed>
         requires { failed_calls self.old < 2 ^ 63 }
         ensures bound { WritesAtMost result buf.now }

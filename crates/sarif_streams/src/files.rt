@@ -9,7 +9,7 @@ use std::fs;
 use std::io::{self, Read};
 use std::rt::Files;
 
-/// Where an input file stands.
+/// The state of an input file.
 #[derive(Drop)]
 enum Stage<F> {
     Unopened,

@@ -1,4 +1,4 @@
-//! What a source is read from, and what is kept of it for an explanation.
+//! Where a source is read from, and what is kept of it for an explanation.
 ghost use Rattle.std.specs.Prelude.{◌≡◌, None};
 ghost use Rattle.std.specs.Io.{ReadsAtMost};
 ghost use Rattle.std.specs.Io.KnownBytes.{ReadConsumes};

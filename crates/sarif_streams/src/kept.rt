@@ -6,7 +6,8 @@ ghost use Rattle.sarif_streams.specs.Kept.{kept_in};
 
 use std::io::{self, Read, Write};
 
-/// A reader or a writer, beside what its last failed call said, and beside what was read where that is asked for.
+/// A reader or a writer, together with the message of its last failed call and, if requested, the bytes that were
+/// read.
 #[derive(Drop)]
 pub struct Kept<D> {
     inner: D,
@@ -15,7 +16,7 @@ pub struct Kept<D> {
 }
 
 impl<D> Kept<D> {
-    /// Keeps what is read beside `bytes`, where there are any; else nothing but the last error.
+    /// Keeps the bytes that are read in `bytes`, if it is there; otherwise only the last error.
     pub fn new(inner: D, bytes: Option<Vec<u8>>) -> Kept<D>
         ensures { kept_in result ≡ inner }
     {
@@ -39,7 +40,7 @@ impl<D> Kept<D> {
         self.error
     }
 
-    /// Keeps bytes, where that is asked for. Where memory is wanting, nothing is kept any more.
+    /// Keeps bytes, if requested. If memory runs out, nothing is kept any more.
     fn keep(&mut self, bytes: &[u8])
         ensures { kept_in self.new ≡ kept_in self.old }
     {

@@ -1,4 +1,5 @@
-//! Sources read whole and outputs written whole: files and standard streams, the numbers of failed calls.
+//! Sources are read completely and outputs are written completely: files and standard streams, the numbers of
+//! failed calls.
 #![tactic(auto)]
 
 mod counted;

@@ -1,4 +1,4 @@
-//! An output that is whole or untouched.
+//! An output that is complete or untouched.
 ghost use Rattle.std.specs.Prelude.{◌≡◌, ◌<◌, None, IfOk, IsErr, IsOk, IsSome, OnErr, OnOk, length};
 ghost use Rattle.std.specs.Io.{WritesAtMost};
 ghost use Rattle.std.specs.Io.KnownBytes.{Keeps, WriteAppends};
@@ -23,15 +23,15 @@ enum Writing<F> {
     Unopened,
     /// A device, a pipe or a socket, written as it is.
     AsIs(F),
-    /// A new file, beside the name that it is to have.
+    /// A new file, in the same folder as the name that it is to get.
     Beside(F),
     /// Committed, or given up.
     Over,
 }
 
-/// A text on its way into a file. At its first bytes a new file is made beside the name that it is to have;
-/// where they are all taken a write of no bytes commits it: the new file gets the name. Until then, and where
-/// anything fails, what stood under the name stands, and no new file is left.
+/// An output on its way into a file. Its first bytes create a new file in the same folder. When all bytes are
+/// accepted, a write of no bytes commits it: the new file is renamed. Until then, and if anything fails, the
+/// existing file stays, and no new file remains.
 #[derive(Drop)]
 pub struct OutputFile<'a, R, F> {
     files: &'a R,
@@ -40,7 +40,7 @@ pub struct OutputFile<'a, R, F> {
 }
 
 impl<'a, R, F> OutputFile<'a, R, F> {
-    /// An output to this place. Nothing is opened yet: nothing is known of `R` here by which it could be.
+    /// An output to this place. Nothing is opened yet: this type does not know how to open an `R`.
     pub fn new(files: &'a R, place: Place) -> OutputFile<'a, R, F>
         ensures place { result.place ≡ place }
         ensures unopened { result.writing ≡ Unopened }
@@ -54,8 +54,8 @@ impl<'a, R, F> OutputFile<'a, R, F> {
 }
 
 impl<R: Files> OutputFile<'_, R, R::File> {
-    /// Puts a text that was taken whole under its name; a text of no bytes makes an empty file. It fails where the
-    /// new file can't be made, synced or renamed, or a write failed before; then the old file stands.
+    /// Renames a completely written file; an empty output creates an empty file. Fails if the new file cannot be
+    /// created, synced or renamed, or if an earlier write failed; the existing file then stays.
     pub fn commit(&mut self) -> io::Result<()>
         ensures place { self.new.place ≡ self.old.place }
         ensures over { self.new.writing ≡ Over }
@@ -82,7 +82,7 @@ impl<R: Files> OutputFile<'_, R, R::File> {
         std::mem::replace(&mut self.writing, Writing::Over)
     }
 
-    /// Lets the text go: no new file is left.
+    /// Gives the output up: no new file remains.
     fn give_up(&mut self)
         ensures place { self.new.place ≡ self.old.place }
         ensures over { self.new.writing ≡ Over }
@@ -92,7 +92,7 @@ impl<R: Files> OutputFile<'_, R, R::File> {
         }
     }
 
-    /// Hands bytes to the open file.
+    /// Passes bytes to the open file.
     fn take(&mut self, buf: &[u8]) -> io::Result<usize>
         ensures bound { WritesAtMost result buf.now }
         ensures place { self.new.place ≡ self.old.place }
@@ -118,12 +118,12 @@ impl<R: Files> Write for OutputFile<'_, R, R::File> {
         ensures bound { WritesAtMost result buf.now }
         ensures bytes { WriteAppends None None result buf.now }
         ensures place { self.new.place ≡ self.old.place }
-        // Bytes are taken by an open file alone.
+        // Only an open file accepts bytes.
         ensures open { IfOk result (λ n. 0 < n → IsSome (file_of self.new.writing)) }
-        // What is handed on is what the file took.
+        // Forwards what the file accepted.
         ensures handed { TakesAs R.File.contents (file_of self.old.writing)
             (file_of self.new.writing) result buf.now }
-        // Where a write fails the text is given up, and no more is taken.
+        // If a write fails, the output is given up and accepts no more bytes.
         ensures failed { OnErr result (self.new.writing ≡ Over) }
         ensures spent { self.old.writing ≡ Over → IsErr result }
         // No bytes commit.
@@ -149,7 +149,7 @@ impl<R: Files> Write for OutputFile<'_, R, R::File> {
     fn flush(&mut self) -> io::Result<()>
         ensures bytes { Keeps None None }
         ensures place { self.new.place ≡ self.old.place }
-        // Where nothing was written, nothing is opened, and that is fine.
+        // If nothing was written, nothing is opened, and the call succeeds.
         ensures unopened { self.old.writing ≡ Unopened
             → IsOk result × (self.new.writing ≡ Unopened) }
     {
@@ -227,7 +227,7 @@ fn renamed<R: Files>(files: &R, place: &Place, file: &R::File) -> io::Result<()>
     }
 }
 
-/// Removes a new file. Where that fails too, nothing more can be done.
+/// Removes a new file. If that fails too, nothing more can be done.
 fn remove_new<R: Files>(files: &R, place: &Place) {
     if let Place::Named { new, .. } = place {
         let _ = fs::remove_file(files, new.as_path());

@@ -1,4 +1,4 @@
-//! Where an output goes, and under which name it is written until it is whole.
+//! The name of an output, and the name under which it is written until it is complete.
 use std::alloc::{AllocError, Global};
 use std::fs;
 use std::io::{self, ErrorKind};
@@ -13,16 +13,16 @@ const LINKS: usize = 40;
 pub enum Place {
     /// A name of the system's own, which is written as it is.
     System(PathBuf),
-    /// A name that isn't a link, and a name of a new file beside it.
+    /// A name that is not a link, and the name of a new file in the same folder.
     Named { whole: PathBuf, new: PathBuf },
     /// The links can't be followed to their end.
     Lost(ErrorKind),
 }
 
 impl Place {
-    /// Follows the links of `name`; the name beside what they lead to has `number` in it. This looks at links alone,
-    /// and opens and changes nothing. `AllocError` where memory for the names is wanting; links that can't be followed
-    /// to their end give the place `Lost`.
+    /// Follows the links of `name`. The new file's name contains `number` and is in the folder of the link's
+    /// target. This call only reads links; it opens and changes nothing. Returns `AllocError` if memory for the
+    /// names runs out. Links that cannot be followed to their end give the place `Lost`.
     pub fn of<R: Files>(
         files: &R,
         alloc: Global,
@@ -44,7 +44,7 @@ impl Place {
         Ok(Place::Lost(ErrorKind::FilesystemLoop))
     }
 
-    /// A name that is no link, with a name beside it.
+    /// A name that is not a link, with a name in the same folder.
     fn beside(alloc: Global, whole: PathBuf, number: u64) -> Result<Place, AllocError> {
         let name = format!(in alloc; ".sarif_gate-{number:016x}")?;
         let new = whole.as_path().with_file_name(alloc, name.as_str())?;
@@ -57,7 +57,7 @@ fn is_of_system(path: Path<'_>) -> bool {
     path.starts_with("/dev") || path.starts_with("/proc")
 }
 
-/// What a link names; nothing where no link stands. Where that can't be told it is an error.
+/// The target of a link; `None` if there is no link. Returns an error if that cannot be determined.
 fn link_at<R: Files>(files: &R, alloc: Global, path: Path<'_>) -> io::Result<Option<PathBuf>> {
     match fs::symlink_metadata(files, path) {
         Ok(found) if found.is_symlink() => {

@@ -4,14 +4,14 @@ use sarif_model::Source;
 use std::alloc::{AllocError, AllocFailed};
 use thiserror::Error;
 
-/// What a merge reads: the logs, the baselines, and the suppression file, where there is one.
+/// The inputs of a merge: the logs, the baselines, and the suppression file, if there is one.
 #[derive(Debug, Drop)]
 pub struct Readers<R> {
     /// A reader for each log, in order.
     pub logs: Vec<Counted<R>>,
     /// A reader for each baseline, in order.
     pub baselines: Vec<Counted<R>>,
-    /// The reader of the suppression file, where there is one.
+    /// The reader of the suppression file, if there is one.
     pub suppressions: Option<Counted<R>>,
 }
 
@@ -22,11 +22,11 @@ pub struct SourceBytes {
     pub logs: Vec<Vec<u8>>,
     /// The bytes of each baseline, in order.
     pub baselines: Vec<Vec<u8>>,
-    /// The bytes of the suppression file, where there is one.
+    /// The bytes of the suppression file, if there is one.
     pub suppressions: Option<Vec<u8>>,
 }
 
-/// Why the sources of a merge were not all read. No write can be at fault.
+/// Why not all sources of a merge were read. A write cannot be the reason.
 #[derive(Clone, Copy, Debug, PartialEq, Eq, Error)]
 pub enum ReadersFault {
     /// A read of this source failed.
@@ -35,7 +35,7 @@ pub enum ReadersFault {
     /// This source has more than 67,108,864 bytes.
     #[error("{0}: TooLong")]
     TooLong(Source),
-    /// Memory was wanting.
+    /// Memory ran out.
     #[error("OutOfMemory")]
     OutOfMemory,
 }

@@ -1,4 +1,4 @@
-//! Why a merge is refused, and where.
+//! Why a merge is rejected, and where.
 ghost use Rattle.std.specs.Prelude.{◌≡◌};
 ghost use Rattle.sarif_streams.specs.ReadersFault.{fault_of_readers};
 

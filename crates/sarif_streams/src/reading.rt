@@ -61,7 +61,7 @@ fn read_readers<R: Read>(
     Ok(sources)
 }
 
-/// Reads the suppression file to its end, where there is one.
+/// Reads the suppression file to its end, if there is one.
 fn read_optional<R: Read>(
     alloc: Global,
     reader: &mut Option<Counted<R>>,
@@ -83,11 +83,10 @@ fn read_optional<R: Read>(
     }
 }
 
-/// Reads all sources to their ends, in this order: the logs, the baselines, the suppression file.
-///
-/// The first source that can't be read ends it: `ReadFailed` where a read of it failed, `TooLong` where it has more
-/// than 67,108,864 bytes, each with the source; `OutOfMemory` where memory is wanting. What stands before it was read,
-/// and what comes after it is untouched.
+/// Reads all sources to their ends, in this order: the logs, the baselines, the suppression file. The first source
+/// that cannot be read ends it: `ReadFailed` if a read failed, `TooLong` if it has more than 67,108,864 bytes,
+/// each with the source; `OutOfMemory` if memory runs out. The sources before it were read, and the sources after
+/// it are untouched.
 pub fn read_sources<R: Read>(
     alloc: Global,
     readers: &mut Readers<R>,

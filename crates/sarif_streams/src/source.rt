@@ -12,7 +12,7 @@ use thiserror::Error;
 /// How many bytes a source may have.
 const SOURCE_LIMIT: usize = 67_108_864;
 
-/// How many bytes one read asks for.
+/// How many bytes one read requests.
 const BUFFER: usize = 65_536;
 
 /// Why a source was not read.
@@ -24,7 +24,7 @@ pub enum SourceFault {
     /// There are more than 67,108,864 bytes.
     #[error("TooLong")]
     TooLong = 2,
-    /// Memory was wanting.
+    /// Memory ran out.
     #[error("OutOfMemory")]
     OutOfMemory = 3,
 }
@@ -39,11 +39,9 @@ impl From<AllocError> for SourceFault {
     }
 }
 
-/// All bytes up to the read that gives none, at most 67,108,864.
-///
-/// `ReadFailed` at the first read that fails, of whatever cause; `TooLong` after one byte past the
-/// limit, so also where the reader has no end; `OutOfMemory` where memory is wanting. What was read
-/// stays read.
+/// All bytes up to the read that returns none, at most 67,108,864. Returns `ReadFailed` at the first read that
+/// fails, for any reason; `TooLong` after one byte past the limit, even if the reader has no end; `OutOfMemory` if
+/// memory runs out. Bytes that were read stay read.
 pub fn read_source<R: Read>(alloc: Global, source: &mut Counted<R>) -> Result<Vec<u8>, SourceFault>
     requires { failed_calls source.old < 2 ^ 63 }
     ensures bytes { IfOk result (λ v. Consumes (R.remaining (inner_of source.old))

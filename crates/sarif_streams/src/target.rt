@@ -11,18 +11,18 @@ use std::alloc::{AllocError, Global};
 use std::io::{self, Write};
 use std::rt::Files;
 
-/// A file that is whole or untouched, or standard output.
+/// A file that is complete or untouched, or standard output.
 #[derive(Drop)]
 pub enum Target<'a, R: Files, O> {
-    /// A file, which is whole or untouched.
+    /// A file, which is complete or untouched.
     File(OutputFile<'a, R, R::File>),
-    /// Standard output, which takes a text as it comes.
+    /// Standard output, which is written immediately.
     Standard(O),
 }
 
 impl<'a, R: Files, O: Drop> Target<'a, R, O> {
-    /// The output of a name: `-` is standard output. Nothing is opened yet; a new file beside that of the name has
-    /// `number` in its name. `AllocError` where memory for the names is wanting.
+    /// The output with a name: `-` is standard output. Nothing is opened yet. The name of the new file contains
+    /// `number`. Returns `AllocError` if memory for the names runs out.
     pub fn of(
         files: &'a R,
         standard: O,

@@ -1,11 +1,11 @@
--- Pairs that stand among others, one after another.
+-- Consecutive pairs within a list of pairs.
 use Rattle.std.proofs.Common.{◌≡◌, ℕ, ◌+◌, ◌<◌, zero, suc, Bool, true, ◌||◌, List, [], ◌∷◌, length, drop, get_or, refl, sym, ap, ◌∙◌}
 use mathlib.Core.Bool.{or-true}
 use Rattle.std.specs.List.{list_any}
 use Rattle.std.proofs.lemmas.List.{drop_more}
 use Rattle.sarif_suppress.specs.Matching.{is_pair, are_among}
 
--- what stands in an end of a list stands in the list
+-- what is in the end of a list is in the list
 any_drop : {X : Type 0} (test : X → Bool) (n : ℕ) (xs : List X) → list_any test (drop n xs) ≡ true → list_any test xs ≡ true
 any_drop test zero xs t = t
 any_drop test (suc n) [] t = t

@@ -1,4 +1,4 @@
--- The beginnings of a uri: what is found for them, one after another.
+-- The prefixes of a URI: what is found for them, in order.
 use Rattle.std.proofs.Common.{◌≡◌, ℕ, ◌+◌, ◌<◌, ◌≤◌, List, [], ◌∷◌, ◌++◌, map, length, take, get_or, refl, sym, ap, ◌∙◌, arith}
 use Rattle.std.specs.List.{flat_map}
 use Rattle.std.proofs.lemmas.List.{append-nil, append_assoc, take_more, length-take-le}
@@ -7,7 +7,7 @@ use Rattle.std.proofs.lemmas.Grind.{flat_map-append}
 use Rattle.sarif_suppress.specs.declared.prefixes.PrefixTable.{PrefixTable}
 use Rattle.sarif_suppress.specs.Prefixes.{beginnings, next_hash, hash_of, found_with, found_under}
 
--- the hash of what was gone through, with one byte more
+-- the hash of the bytes so far, with one more byte
 pub hash_step : (base hash next : ℕ) (text : List ℕ) (i d : ℕ) → i < length text → hash ≡ hash_of base (take i text) → next ≡ next_hash base hash (get_or text i d) → next ≡ hash_of base (take (i + 1) text)
 hash_step base hash next text i d within so_far is =
     rw (take_more text i d within, fold-append, is, so_far) refl
@@ -16,7 +16,7 @@ map-append : {A B : Type 0} (f : A → B) (xs ys : List A) → map f (xs ++ ys) 
 map-append f [] ys = refl
 map-append f (x ∷ xs) ys = ap (λ zs. f x ∷ zs) (map-append f xs ys)
 
--- a text with one byte more has itself as a beginning more
+-- a string with one more byte has one more prefix: itself
 one_longer : (text : List ℕ) (b : ℕ) → beginnings (text ++ b ∷ []) ≡ beginnings text ++ (text ++ b ∷ []) ∷ []
 one_longer [] b = refl
 one_longer (c ∷ text) b =

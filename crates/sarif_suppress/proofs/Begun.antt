@@ -1,4 +1,4 @@
--- An entry that is filed under a prefix is found for each uri that begins with it.
+-- An entry that is filed under a prefix is found for each URI with that prefix.
 use Rattle.std.proofs.Common.{◌≡◌, ℕ, zero, suc, ◌+◌, ◌-◌, ◌<◌, Bool, true, false, List, [], ◌∷◌, ◌++◌, map, length, take, Option, Some, None, nat_eq, refl, ap, ◌∙◌, arith, if◌then◌else◌}
 use Rattle.std.proofs.lemmas.Option.{slice_get_within, same_Some}
 use Rattle.std.proofs.lemmas.Bool.{or_left, or_right}
@@ -20,7 +20,7 @@ use Rattle.sarif_suppress.proofs.Numbered.{has, has_from}
 self : (n : ℕ) → nat_eq n n ≡ true
 self n = grind (arith, nat_tests)
 
--- what is under a text is found for each text that begins with it
+-- what is filed under a string is found for each string that begins with it
 under_beginning : (n : ℕ) (under : List ℕ → List ℕ) (prefix rest : List ℕ) → has n (under prefix) ≡ true → has n (flat_map under (beginnings (prefix ++ rest))) ≡ true
 under_beginning n under [] [] found =
     list_any-append (λ m. nat_eq m n) (under []) [] ∙ or_left (has n (under [])) false found
@@ -45,7 +45,7 @@ listed_within lengths n listed =
     ] refl listed
 
 module _ {S H : Type 0} (entries : List Entry) (table : PrefixTable S H) (n : ℕ) (e : Entry) (prefix : List ℕ) where
-  -- the entry's length is marked, and its number stands under its hash
+  -- the entry's length is marked, and its number is filed under its hash
   under_its_own : IsPrefixTable entries table → slice_get entries n ≡ Some e → prefix_key e.conditions ≡ Some prefix → (is_listed table.lengths.items (length prefix) ≡ true) × (has n (found_under table prefix) ≡ true)
   under_its_own is at key =
       let hash : ℕ = hash_of table.base prefix in

@@ -81,7 +81,7 @@ its_pair p (q ∷ qs) t =
     turned : is_pair q p ≡ true → is_pair p q ≡ true
     turned same = (pair_means p q).1 (sym ((pair_means q p).0 same))
 
--- each condition holds of the result
+-- each condition is true for the result
 record Parts (c : Conditions) (r : Record) : Type 0 where
   rule : is_wanted c.rule_id r.rule_id ≡ true
   tool : is_wanted c.tool r.tool ≡ true
@@ -112,7 +112,7 @@ parts_of c r holds =
           partial = ep ∙ (and_parts f p t5).1;
         }
 
--- what one of these holds of is asked for
+-- a condition that one of these satisfies
 module _ (g f p u ru t o : Bool) where
   abbrev one_of : Bool
   one_of = g || (f || (p || (u || (ru || (t || o)))))
@@ -158,7 +158,7 @@ module _ (e : Entry) (r : Record) (begun : Bool) where
   abbrev by_tool : Bool
   by_tool = asks_for_text Tool r.tool e
 
-  -- an entry whose prefix is found where the uri begins with it is filed under what the result has
+  -- an entry whose prefix is found if the URI begins with it is filed under a value of the result
   is_filed : (g : Option ℕ) (f p : List (List ℕ × List ℕ)) (u ru px t : Option (List ℕ)) → e.conditions ≡ made g f p u ru px t → Parts (made g f p u ru px t) r → ((prefix : List ℕ) → prefix_key (made g f p u ru px t) ≡ Some prefix → begins (Some prefix) r.place.uri ≡ true → begun ≡ true) → (is_asked e r || begun) ≡ true
   is_filed (Some g) f p u ru px t is parts found =
       or_left (is_asked e r) begun (or_left by_guid _ (rw is (its_guid g r.guid parts.guid)))
@@ -187,7 +187,7 @@ among today r es table is n e at match =
     ∙ ap (λ b. b || has n beginning) (has_candidates es r n e at)
     ∙ is_filed e r (has n beginning) c.guid c.full c.partial c.uri c.rule_id c.uri_prefix c.tool refl (parts_of c r (and_parts (not (is_expired today e)) (hold c r) match).1) begun
 
--- those of these that match, in order, are all entries that match
+-- the matching ones among these, in order, are all matching entries
 pub selected : {S H : Type 0} (today : Option ℕ) (r : Record) (es : List Entry) (table : PrefixTable S H) (numbers : List ℕ) → IsPrefixTable es table → numbers ≡ candidates es r ++ option_map_or (found_for table) r.place.uri [] → with_numbers [] (filter (passes_at (λ e. matches today e r) es) numbers) ≡ numbers_from (λ e. matches today e r) 0 es
 selected today r es table numbers is found =
     rw found (selected_from (λ e. matches today e r) es (candidates es r ++ option_map_or (found_for table) r.place.uri []) (among today r es table is))

@@ -1,4 +1,4 @@
--- Reading the entries one after another, as a loop does.
+-- Reading the entries in order, as a loop does.
 use Rattle.std.proofs.Common.{◌≡◌, ℕ, ◌+◌, ◌<◌, ◌≤◌, List, [], ◌∷◌, ◌++◌, map, length, drop, slice_index_or, Option, Result, Ok, Err, refl, sym, ap, ◌∙◌}
 use Rattle.std.proofs.lemmas.List.{append-nil, append_assoc, drop_more, at_drop_all}
 use Rattle.serde_json.specs.declared.value.Value.{Value}
@@ -19,7 +19,7 @@ joined front (Err fault) = Err fault
 left_of : (values : List Value) (n : ℕ) (value : Value) → n < length values → value ≡ slice_index_or values n value → drop n values ≡ value ∷ drop (n + 1) values
 left_of values n value within is = drop_more values n value within ∙ ap (λ v. v ∷ drop (n + 1) values) (sym is)
 
--- one entry more
+-- one more entry
 joined_push : (front : List Entry) (e : Entry) (left : Result (List Entry) FileFault) → joined (front ++ e ∷ []) left ≡ joined front (left >>= λ es. Ok (e ∷ es))
 joined_push front e (Ok es) = ap Ok (append_assoc front (e ∷ []) es)
 joined_push front e (Err fault) = refl

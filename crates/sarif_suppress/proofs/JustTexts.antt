@@ -1,11 +1,11 @@
--- The members of an entry's object, one after another, as a loop goes through them.
+-- The members of an entry's object, in order, as a loop goes through them.
 use Rattle.std.proofs.Common.{◌≡◌, ℕ, ◌-◌, ◌≤◌, List, [], ◌∷◌, map, drop, length, nat_eq, refl, ◌∙◌, arith, Bor}
 use Rattle.std.proofs.lemmas.Bool.Decides.{nat_tests}
 use Rattle.std.proofs.lemmas.List.{length-drop}
 use Rattle.serde_json.specs.Data.{no_members}
 use Rattle.sarif_suppress.specs.Written.{are_just}
 
--- texts that no member is left for
+-- strings for which no member is left
 none_left : (texts : List (Bor (List ℕ) × Bor (List ℕ))) → are_just (map (λ p. (p.0.now, p.1.now)) texts) no_members ≡ nat_eq (length texts) 0
 none_left [] = refl
 none_left (p ∷ ps) = grind (arith, nat_tests)

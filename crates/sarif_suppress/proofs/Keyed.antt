@@ -1,4 +1,4 @@
--- What the keys of a set tell of the objects of entries in a list.
+-- The meaning of the keys of a set for the objects of entries in a list.
 use Rattle.std.proofs.Common.{◌≡◌, ℕ, zero, suc, ◌+◌, ◌<◌, length, drop, get_or, slice_get, arith, Bool, true, false, ◌&&◌, ◌||◌, List, [], ◌∷◌, ◌++◌, Option, Some, None, Bor, option_map, codes, bytes_eq, refl, sym, ap, ◌∙◌}
 use mathlib.Core.Bool.{or-false}
 use Rattle.std.specs.Bool.{Decides}
@@ -50,7 +50,7 @@ same_parts k q = ap (λ b. status.ghosts.eq k.status q.status && b) (same_texts 
 key_means : (k q : Key) → Decides (same_key k q) ((k.status ≡ q.status) × (justification_of k ≡ justification_of q))
 key_means k q = rw (same_parts k q) (Decides-and _ _ (status_means k.status q.status) (text_means (justification_of k) (justification_of q)))
 
--- ---- what is read of an object
+-- ---- the members that are read from an object
 
 read_status : (s : Status) (j : Option (List ℕ)) → status_in (object (text_members (texts_with s j))) ≡ Some s
 read_status Accepted None = refl
@@ -87,11 +87,11 @@ told_by k q d mine =
     let same : (k.status ≡ q.status) × (justification_of k ≡ justification_of q) = (key_means k q).0 t in
     sym (rw (same.0, same.1) refl) ∙ mine)
 
--- where no status is read, the value has no key
+-- if no status is read, the value has no key
 pub no_status : (q : Key) (d : Data) → status_in d ≡ None → has_key q d ≡ false
 no_status q d none = false_from_ne_true _ (λ t. let found : status_in d ≡ Some q.status = (reads q d t).0 in cc)
 
--- where it hasn't the key that is read of it, it has none
+-- if the value lacks the key that is read, it has no key
 pub no_other : (k q : Key) (d : Data) → status_in d ≡ Some k.status → text_in (codes "justification") d ≡ justification_of k → has_key k d ≡ false → has_key q d ≡ false
 no_other k q d status text unlike = false_from_ne_true _ (λ t.
     let there : (status_in d ≡ Some q.status) × (text_in (codes "justification") d ≡ justification_of q) = reads q d t in
@@ -112,7 +112,7 @@ without_key keys values d none has = λ q.
 
 -- ---- one number after the other
 
--- the objects of the numbers that are left, behind those of the next one
+-- the objects of the remaining numbers, after the object of the next one
 pub next_object : (list new : List Data) (entries : List Entry) (numbers : List ℕ) (i : ℕ) → i < length numbers → new ≡ with_object_if list (slice_get entries (get_or numbers i 0)) → with_objects_at new entries (drop (i + 1) numbers) ≡ with_objects_at list entries (drop i numbers)
 next_object list new entries [] i within added = absurd (omega (arith, within))
 next_object list new entries (n ∷ ns) zero within added = rw added refl

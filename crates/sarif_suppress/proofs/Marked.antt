@@ -23,7 +23,7 @@ none_set (e ∷ es) = ap (λ marks. false ∷ marks) (none_set es)
 pub unset : (file : File) → replicate (length file.entries) false ≡ marks_of file []
 unset file = none_set file.entries
 
--- what stands behind the front is marked
+-- what is after the front is marked
 with_mark-append : (front : List Bool) (mark : Bool) (rest : List Bool) (n : ℕ) → n ≡ length front → with_mark (front ++ mark ∷ rest) n ≡ front ++ true ∷ rest
 with_mark-append front mark rest n here =
     let within : length front < length (front ++ mark ∷ rest) = omega (arith, length-append front (mark ∷ rest)) in

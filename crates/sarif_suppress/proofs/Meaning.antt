@@ -68,7 +68,7 @@ among_means wanted found =
     let each : Decides (are_among wanted found) (All (Contains found) wanted) = Decides-by_and (λ pair. list_any (λ p. is_pair p pair) found) (Contains found) (λ ps. are_among ps found) (λ pair. (found_among found pair, among_found found pair)) refl (λ _ _. refl) wanted in
     Decides-like (are_among wanted found) (λ all pair is. All-contains (Contains found) wanted pair all is) (λ h k d within. h _ (Contains-get_or wanted k d within)) each
 
--- the conditions, one after another
+-- the conditions, in order
 pub meets : (c : Conditions) (r : Record) → Decides (hold c r) (Meets c r)
 meets c r =
     Decides-like (hold c r)

@@ -1,4 +1,4 @@
--- The numbers of entries: what stands at each, and the lists of the tables as one.
+-- The numbers of entries: the entry of each number, and the lists of the tables as one.
 use Rattle.std.proofs.Common.{◌≡◌, ℕ, zero, suc, ◌+◌, ◌<◌, ◌≤◌, Bool, true, false, not, ◌&&◌, List, [], ◌∷◌, ◌++◌, map, filter, length, drop, get_or, Some, nat_eq, refl, sym, ap, ◌∙◌, arith, if◌then◌else◌}
 use Rattle.std.specs.Prelude.{slice_get}
 use Rattle.std.specs.List.{list_all, list_any}
@@ -15,14 +15,14 @@ use Rattle.sarif_suppress.specs.Suppressing.{is_accepted, statuses_suppress}
 use Rattle.sarif_suppress.specs.Written.{with_object, with_object_if, with_objects, with_objects_at}
 use Rattle.serde_json.specs.Data.{Data}
 
--- ---- what stands at a number
+-- ---- the entry of a number
 
--- these stand in the whole list from number n on
+-- these are in the whole list from number n on
 abbrev pub IsPart : List Entry → ℕ → List Entry → Type 0
 IsPart whole n [] = Unit {0}
 IsPart whole n (e ∷ es) = (slice_get whole n ≡ Some e) × IsPart whole (n + 1) es
 
--- what follows the front stands there
+-- what follows the front is at that place
 IsPart-append : (front es : List Entry) → IsPart (front ++ es) (length front) es
 IsPart-append front [] = tt
 IsPart-append front (e ∷ es) =
@@ -32,11 +32,11 @@ IsPart-append front (e ∷ es) =
     let rest : IsPart ((front ++ e ∷ []) ++ es) (length (front ++ e ∷ [])) es = IsPart-append (front ++ e ∷ []) es in
     (here, rw next (rw append_assoc at rest))
 
--- a list stands in itself
+-- a list is contained in itself
 pub whole_is_part : (es : List Entry) → IsPart es 0 es
 whole_is_part es = IsPart-append [] es
 
--- ---- which numbers stand in a list
+-- ---- which numbers are in a list
 
 -- the number is among these
 abbrev pub has : ℕ → List ℕ → Bool
@@ -56,7 +56,7 @@ none_before test n s es is = below test n s es (omega arith)
           | false ↦ below test n (s + 1) es (omega arith)
         ]
 
--- the number of an entry is among those of the entries that pass just where the entry passes
+-- the number of an entry is among the numbers of the passing entries if and only if the entry passes
 pub has_from : (test : Entry → Bool) (s m n : ℕ) (es : List Entry) (e : Entry) → m ≡ s + n → slice_get es n ≡ Some e → has m (numbers_from test s es) ≡ test e
 has_from test s m n [] e at is = let never : ⊥ = cc in absurd never
 has_from test s m zero (x ∷ es) e at is =
@@ -86,7 +86,7 @@ joined : (is : Bool) (n : ℕ) (old rest : List ℕ) → (old ++ (if is then n �
 joined true n old rest = append_assoc old (n ∷ []) rest
 joined false n old rest = rw append-nil refl
 
--- the number of entry n goes behind the numbers below it, if the entry passes the test
+-- the number of entry n comes after the numbers below it, if the entry passes the test
 pub one_more : (test : Entry → Bool) (n : ℕ) (es : List Entry) (e : Entry) (old new whole : List ℕ) → n < length es → e ≡ get_or es n e → new ≡ old ++ (if test e then n ∷ [] else []) → old ++ numbers_from test n (drop n es) ≡ whole → new ++ numbers_from test (n + 1) (drop (n + 1) es) ≡ whole
 one_more test n es e old new whole within is added so_far =
     let left : drop n es ≡ e ∷ drop (n + 1) es = drop_more es n e within ∙ ap (λ x. x ∷ drop (n + 1) es) (sym is) in

@@ -37,7 +37,7 @@ just_means (p ∷ ps) (member name d ms) =
     let each : Decides (are_just (p ∷ ps) (member name d ms)) ((p.0 ≡ name) × (d ≡ string p.1) × (ms ≡ text_members ps)) = and_all _ _ _ (bytes_eq-Decides p.0 name) (string_means p.1 d) (just_means ps ms) in
     (λ t. let h : (p.0 ≡ name) × (d ≡ string p.1) × (ms ≡ text_members ps) = each.0 t in cc, λ e. each.1 (cc, cc, cc))
 
--- a value is tested for just these texts
+-- a value is tested for exactly these strings
 pub texts_mean : (ps : List (List ℕ × List ℕ)) (d : Data) → Decides (option_map_or (are_just ps) (as_object d) false) (d ≡ object (text_members ps))
 texts_mean ps null = (λ t. absurd (false≢true t), λ is. cc)
 texts_mean ps (boolean b) = (λ t. absurd (false≢true t), λ is. cc)
@@ -46,13 +46,13 @@ texts_mean ps (string s) = (λ t. absurd (false≢true t), λ is. cc)
 texts_mean ps (array ds) = (λ t. absurd (false≢true t), λ is. cc)
 texts_mean ps (object ms) = (λ t. ap object ((just_means ps ms).0 t), λ is. (just_means ps ms).1 cc)
 
--- a value passes the test of an entry just where it is the entry's object
+-- a value passes the test of an entry if and only if it is the entry's object
 pub object_means : (e : Entry) (d : Data) → Decides (is_object_of e d) (d ≡ object_of e)
 object_means e d = texts_mean (texts_of e) d
 
 -- ---- a test of suppressions over the written list
 
--- where one of the values is the object, the object passes a test that all of them pass
+-- if one of the values is the object, the object passes a test that all of them pass
 held_passes : (accepts : Data → Bool) (e : Entry) (list : List Data) → list_any (is_object_of e) list ≡ true → (list_all accepts list && accepts (object_of e)) ≡ list_all accepts list
 held_passes accepts e [] t = absurd (false≢true t)
 held_passes accepts e (d ∷ ds) t =
@@ -77,7 +77,8 @@ with_object_passes accepts e list =
       | false ↦ λ _. list_all-append accepts list (object_of e ∷ []) ∙ ap (λ b. list_all accepts list && b) (and-true (accepts (object_of e)))
     ] refl
 
--- a test holds of all that is written just where it holds of all own suppressions and of all entries' objects
+-- a test is true for everything that is written if and only if it is true for all own suppressions and all
+-- entries' objects
 pub written_passes : (accepts : Data → Bool) (list : List Data) (es : List Entry) → list_all accepts (with_objects list es) ≡ (list_all accepts list && list_all (λ e. accepts (object_of e)) es)
 written_passes accepts list [] = sym (and-true (list_all accepts list))
 written_passes accepts list (e ∷ es) =
@@ -98,7 +99,7 @@ not_empty : (list : List Data) (es : List Entry) → is_empty list ≡ false →
 not_empty list [] is = is
 not_empty list (e ∷ es) is = not_empty (with_object list e) es (with_object_empty e list)
 
--- nothing is written just where there is no own suppression and no entry
+-- nothing is written if and only if there is no own suppression and no entry
 pub written_empty : (list : List Data) (es : List Entry) → is_empty (with_objects list es) ≡ (is_empty list && is_empty es)
 written_empty list [] = sym (and-true (is_empty list))
 written_empty list (e ∷ es) = not_empty (with_object list e) es (with_object_empty e list) ∙ sym (and-false (is_empty list))

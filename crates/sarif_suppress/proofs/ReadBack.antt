@@ -18,7 +18,7 @@ use Rattle.sarif_suppress.specs.Written.{object_of, with_objects, suppressions_o
 use Rattle.sarif_suppress.proofs.Numbered.{is_empty-append}
 use Rattle.sarif_suppress.proofs.ObjectTest.{written_passes, written_empty}
 
--- a status is read of it, and passes the test
+-- a status is read from it, and passes the test
 abbrev passes : (Status → Bool) → Result Status Fault → Bool
 passes test (Ok status) = test status
 passes test (Err fault) = false
@@ -32,7 +32,7 @@ object_status e =
       | Rejected ↦ elim e.justification as (λ j. status_of (object_of (record { conditions = e.conditions; expires = e.expires; status = Rejected; justification = j })) ≡ Ok Rejected) [ None ↦ refl | Some text ↦ refl ]
     ]
 
--- values of which these statuses are read
+-- values from which these statuses are read
 record AreRead (ds : List Data) (statuses : List Status) : Type 0 where
   read : read_each status_of ds ≡ Ok statuses
   tests : (test : Status → Bool) → list_all (λ d. passes test (status_of d)) ds ≡ list_all test statuses
@@ -48,7 +48,7 @@ one_more d ds status statuses is are = record {
   none = refl;
 }
 
--- all values of which a status is read
+-- all values from which a status is read
 are_read : (ds : List Data) → list_all (λ d. passes (λ _. true) (status_of d)) ds ≡ true → (statuses : List Status) × AreRead ds statuses
 are_read [] all = ([], record { read = refl; tests = λ _. refl; none = refl })
 are_read (d ∷ ds) all =
@@ -68,7 +68,7 @@ objects_pass test [] = refl
 objects_pass test (e ∷ es) =
     rw (object_status e, objects_pass test es) refl
 
--- the values of which a list of statuses was read
+-- the values from which a list of statuses was read
 were_read : (ds : List Data) (statuses : List Status) → read_each status_of ds ≡ Ok statuses → AreRead ds statuses
 were_read [] statuses read =
     let none : [] ≡ statuses = ok_same [] statuses read in

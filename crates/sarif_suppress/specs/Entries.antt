@@ -46,7 +46,7 @@ abbrev pub check_object : Version → FileFault → Option Members → Result �
 check_object version wrong None = Err wrong
 check_object version wrong (Some ms) = unless_fault (are_members_of version ms) wrong
 
--- an entry is an object of members that its version knows, whatever their values
+-- an entry is an object whose member names its version knows, with any values
 abbrev pub check_members : Version → FileFault → Data → Result ⊤ FileFault
 check_members version wrong d = check_object version wrong (as_object d)
 
@@ -54,7 +54,7 @@ abbrev pub guid_or : FileFault → Option (List ℕ) → Result (Option ℕ) Fil
 guid_or wrong None = Ok None
 guid_or wrong (Some text) = or_wrong wrong (guid_of_text text)
 
--- the guid of that name, where there is one
+-- the GUID with that name, if there is one
 abbrev pub guid_at : FileFault → List ℕ → Data → Result (Option ℕ) FileFault
 guid_at wrong name d = text_at wrong name d >>= guid_or wrong
 
@@ -74,7 +74,7 @@ abbrev pub with_pair : List ℕ → Option (List ℕ) → List (List ℕ × List
 with_pair name None pairs = pairs
 with_pair name (Some text) pairs = (name, text) ∷ pairs
 
--- the members that are texts, with their names, in order
+-- the members that are strings, with their names, in order
 abbrev pub pairs_of : Members → List (List ℕ × List ℕ)
 pairs_of no_members = []
 pairs_of (member name d ms) = with_pair name (as_str d) (pairs_of ms)
@@ -89,7 +89,7 @@ abbrev pub pairs_of_member : FileFault → Option Data
 pairs_of_member wrong None = Ok []
 pairs_of_member wrong (Some d) = pairs_or wrong (as_object d)
 
--- the object of texts of that name, without its null members; absent it is empty
+-- the object of strings with that name, without its null members; empty if it is missing
 abbrev pub pairs_at : FileFault → List ℕ → Data → Result (List (List ℕ × List ℕ)) FileFault
 pairs_at wrong name d = pairs_of_member wrong (member_at name d)
 
@@ -109,7 +109,7 @@ abbrev pub day_of_member : FileFault → Option Data → Result (Option ℕ) Fil
 day_of_member wrong None = Ok None
 day_of_member wrong (Some d) = day_or wrong (option_and_then as_u64 (as_number d))
 
--- the day of that name, where there is one
+-- the date with that name, if there is one
 abbrev pub day_at : FileFault → List ℕ → Data → Result (Option ℕ) FileFault
 day_at wrong name d = day_of_member wrong (member_at name d)
 
@@ -163,7 +163,7 @@ members_of wrong d = do
 abbrev pub check_condition : ℕ → Entry → Result ⊤ FileFault
 check_condition n e = unless_fault (is_any e.conditions) (in_entry n EmptyMatch)
 
--- where an entry has a last day, the day is known
+-- if an entry has an expiry date, today's date is known
 abbrev pub check_today : ℕ → Option ℕ → Entry → Result ⊤ FileFault
 check_today n today e = unless_fault (not (is_some e.expires && is_none today)) (in_entry n NeedsToday)
 

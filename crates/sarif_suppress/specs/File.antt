@@ -13,7 +13,7 @@ use Rattle.sarif_suppress.specs.declared.version.Version.TheVariants.{First, Sec
 use Rattle.sarif_suppress.specs.FileFault.{whole}
 use Rattle.sarif_suppress.specs.Entries.{unless_fault, entry_of}
 
--- the entries of a suppression file in order, and the day for which it was read, where one is known
+-- the entries of a suppression file in order, and the date for which it was read, if one is known
 pub record File : Type 0 where
   pub entries : List Entry
   pub today : Option ℕ
@@ -31,7 +31,7 @@ version_or None = Err (whole WrongVersion)
 version_or (Some n) =
     if nat_eq n 1 then Ok First else (if nat_eq n 2 then Ok Second else Err (whole WrongVersion))
 
--- `version` is the whole number 1 or 2
+-- `version` is the integer 1 or 2
 abbrev pub check_version : Data → Result Version FileFault
 check_version d =
     version_or (option_and_then as_u64 (option_and_then as_number (get (codes "version") d)))
@@ -40,7 +40,7 @@ check_version d =
 abbrev pub check_count : List Data → Result ⊤ FileFault
 check_count ds = unless_fault (nat_le (length ds) 10000) (whole TooMany)
 
--- the entries from number n on, or the fault of the first that has one
+-- the entries from number n on, or the first error among them
 unfoldable pub entries_from : Version → Option ℕ → ℕ → List Data
     → Result (List Entry) FileFault
 entries_from version today n [] = Ok []
@@ -49,7 +49,7 @@ entries_from version today n (d ∷ ds) = do
   es ← entries_from version today (n + 1) ds
   Ok (e ∷ es)
 
--- the file that a value stands for
+-- the file that a value represents
 unfoldable pub file_of_value : Option ℕ → Data → Result File FileFault
 file_of_value today d = do
   ds ← check_list d

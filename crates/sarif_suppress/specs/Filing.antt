@@ -1,5 +1,5 @@
--- Where an entry is filed, so that a result meets only those that may match it: under the most telling of its
--- conditions. No public clause of the merge speaks of it.
+-- Where an entry is filed, so that a result is compared only with entries that may match it: under its most
+-- specific condition. Internal: no public contract of the merge refers to this module.
 use Rattle.std.specs.Prelude.{ℕ, Bool, false, ◌&&◌, List, [], ◌++◌, Option, None, is_none, nat_eq, bytes_eq, slice_get, if◌then◌else◌}
 use Rattle.std.specs.List.{flat_map}
 use Rattle.std.specs.Option.{option_map_or}
@@ -13,27 +13,27 @@ use Rattle.sarif_suppress.specs.declared.filing.PairCondition.TheVariants.{Full,
 use Rattle.sarif_suppress.specs.Matching.{is_pair, is_empty}
 use Rattle.sarif_suppress.specs.Numbers.{numbers_from}
 
--- neither a guid nor fingerprints are named
+-- the entry names neither a GUID nor fingerprints
 abbrev pub is_unmarked : Conditions → Bool
 is_unmarked c = is_none c.guid && (is_empty c.full && is_empty c.partial)
 
--- the first fingerprint that is named, where it is the most telling condition
+-- the first named fingerprint, if it is the most specific condition
 abbrev pub pair_key : PairCondition → Conditions → Option (List ℕ × List ℕ)
 pair_key Full c = if is_none c.guid then slice_get c.full 0 else None
 pair_key Partial c = if is_none c.guid && is_empty c.full then slice_get c.partial 0 else None
 
--- neither a uri, nor a prefix of one, nor a rule id is named
+-- the entry names neither a URI nor a URI prefix nor a rule id
 abbrev pub has_tool_alone : Conditions → Bool
 has_tool_alone c = is_none c.uri && (is_none c.rule_id && is_none c.uri_prefix)
 
--- the text that is named, where it is the most telling condition
+-- the named string, if it is the most specific condition
 abbrev pub text_key : TextCondition → Conditions → Option (List ℕ)
 text_key Uri c = if is_unmarked c then c.uri else None
 text_key RuleId c = if is_unmarked c && is_none c.uri then c.rule_id else None
 text_key Tool c =
     if is_unmarked c && has_tool_alone c then c.tool else None
 
--- the prefix that is named, where it is the most telling condition
+-- the named prefix, if it is the most specific condition
 abbrev pub prefix_key : Conditions → Option (List ℕ)
 prefix_key c =
     if is_unmarked c && (is_none c.uri && is_none c.rule_id) then c.uri_prefix else None
@@ -42,7 +42,7 @@ prefix_key c =
 abbrev pub has_no_key : Conditions → Bool
 has_no_key c = is_unmarked c && (has_tool_alone c && is_none c.tool)
 
--- the entry is filed under that guid, that fingerprint, that text, or nowhere
+-- the entry is filed under that GUID, that fingerprint, that string, or nowhere
 abbrev pub asks_for_guid : ℕ → Entry → Bool
 asks_for_guid guid e = option_map_or (λ own. nat_eq own guid) e.conditions.guid false
 
@@ -57,8 +57,8 @@ asks_for_text which text e =
 abbrev pub asks_for_none : Entry → Bool
 asks_for_none e = has_no_key e.conditions
 
--- the numbers of the entries that are filed under what a result has, but for prefixes, and of those that are filed
--- nowhere
+-- the numbers of the entries that are filed under values of a result, except prefixes, and of the entries that are
+-- filed nowhere
 abbrev pub candidates : List Entry → Record → List ℕ
 candidates es r =
     option_map_or (λ guid. numbers_from (asks_for_guid guid) 0 es) r.guid []

@@ -1,4 +1,5 @@
--- Marks of the entries that matched a result. No public clause of the merge speaks of it.
+-- Marks for the suppression entries that matched a result. Internal: no public contract of the merge refers to
+-- this module.
 use Rattle.std.specs.Prelude.{ℕ, Bool, true, List, [], ◌∷◌, length, map, nat_lt, slice_set, if◌then◌else◌}
 use Rattle.std.specs.List.{list_any}
 use Rattle.sarif_model.specs.declared.record.Record.{Record}

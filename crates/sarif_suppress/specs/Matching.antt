@@ -5,24 +5,24 @@ use Rattle.sarif_model.specs.declared.record.Record.{Record}
 use Rattle.sarif_suppress.specs.declared.conditions.Conditions.{Conditions}
 use Rattle.sarif_suppress.specs.declared.entry.Entry.{Entry}
 
--- the text is the one that is asked for, if one is
+-- the string is the required one, if one is required
 abbrev pub is_wanted : Option (List ℕ) → List ℕ → Bool
 is_wanted None found = true
 is_wanted (Some text) found = bytes_eq text found
 
--- there is a text, and it is the one that is asked for, if one is
+-- there is a string, and it is the required one, if one is required
 abbrev pub is_there : Option (List ℕ) → Option (List ℕ) → Bool
 is_there None found = true
 is_there (Some text) None = false
 is_there (Some text) (Some found) = bytes_eq text found
 
--- there is a text, and it begins as is asked for, if anything is
+-- there is a string, and it begins with the required prefix, if one is required
 abbrev pub begins : Option (List ℕ) → Option (List ℕ) → Bool
 begins None found = true
 begins (Some prefix) None = false
 begins (Some prefix) (Some found) = starts_with nat_eq found prefix
 
--- there is a guid, and it is the one that is asked for, if one is
+-- there is a GUID, and it is the required one, if one is required
 abbrev pub is_guid : Option ℕ → Option ℕ → Bool
 is_guid None found = true
 is_guid (Some guid) None = false
@@ -32,7 +32,7 @@ is_guid (Some guid) (Some found) = nat_eq guid found
 abbrev pub is_pair : List ℕ × List ℕ → List ℕ × List ℕ → Bool
 is_pair a b = bytes_eq a.0 b.0 && bytes_eq a.1 b.1
 
--- each pair that is asked for stands among those found
+-- each required pair is among the pairs of the result
 abbrev pub are_among : List (List ℕ × List ℕ) → List (List ℕ × List ℕ) → Bool
 are_among wanted found = list_all (λ pair. list_any (λ p. is_pair p pair) found) wanted
 
@@ -50,7 +50,7 @@ is_any c =
     || (is_some c.guid
     || (not (is_empty c.full) || not (is_empty c.partial))))))
 
--- every condition that is named holds of the result
+-- every named condition is true for the result
 abbrev pub hold : Conditions → Record → Bool
 hold c r =
     is_wanted c.rule_id r.rule_id
@@ -60,7 +60,7 @@ hold c r =
     && (is_guid c.guid r.guid
     && (are_among c.full r.full && are_among c.partial r.partial)))))
 
--- the last day lies before today; with no last day, or where no day is known, an entry doesn't expire
+-- the expiry date is before today; an entry without an expiry date, or without today's date, does not expire
 abbrev pub is_past : Option ℕ → Option ℕ → Bool
 is_past None last = false
 is_past (Some today) None = false
@@ -73,7 +73,7 @@ is_expired today e = is_past today e.expires
 abbrev pub matches : Option ℕ → Entry → Record → Bool
 matches today e r = not (is_expired today e) && hold e.conditions r
 
--- ---- the same in words
+-- ---- the same as propositions
 
 -- the result meets every condition that is named
 pub record Meets (c : Conditions) (r : Record) : Type 0 where
@@ -86,7 +86,7 @@ pub record Meets (c : Conditions) (r : Record) : Type 0 where
   pub full : (pair : List ℕ × List ℕ) → Contains c.full pair → Contains r.full pair
   pub partial : (pair : List ℕ × List ℕ) → Contains c.partial pair → Contains r.partial pair
 
--- the last day of the entry, where it has one, isn't over today, and the result meets its conditions
+-- the expiry date of the entry, if it has one, is not before today, and the result satisfies its conditions
 pub record Matches (today : Option ℕ) (e : Entry) (r : Record) : Type 0 where
   pub in_time : (last day : ℕ) → e.expires ≡ Some last → today ≡ Some day → day ≤ last
   pub meets : Meets e.conditions r

@@ -22,7 +22,7 @@ with_numbers rising numbers = fold (insert_key nat_cmp) rising numbers
 abbrev pub passes_at : (Entry → Bool) → List Entry → ℕ → Bool
 passes_at test entries n = option_map_or test (slice_get entries n) false
 
--- a list of numbers for each key; no public clause of the merge speaks of this and the next
+-- a list of numbers for each key. Internal: no public contract of the merge refers to this and the next
 abbrev pub NumbersBy : Type 0 → Type 0 → Type 0
 NumbersBy K S = IndexMap K (Vec ℕ Global) S
 

@@ -1,5 +1,6 @@
--- The entries that are filed under a prefix of a uri, found by the hashes of the beginnings of a uri. No fact is known
--- of a hash but that equal texts have equal ones. No public clause of the merge speaks of it.
+-- The entries that are filed under a URI prefix, found by the hashes of the prefixes of a URI. The only known
+-- property of a hash is that equal strings have equal hashes. Internal: no public contract of the merge refers to
+-- this module.
 use Rattle.std.specs.Prelude.{◌≡◌, ℕ, ◌+◌, ◌*◌, ◌%◌, Bool, false, List, [], ◌∷◌, length, map, take, nat_eq, slice_get, if◌then◌else◌}
 use Rattle.std.specs.List.{flat_map, fold, list_any}
 use Rattle.std.specs.Option.{option_map_or}
@@ -8,15 +9,15 @@ use Rattle.sarif_suppress.specs.declared.prefixes.PrefixTable.{PrefixTable}
 use Rattle.sarif_suppress.specs.Filing.{prefix_key}
 use Rattle.sarif_suppress.specs.Numbers.{numbers_from, numbers_at}
 
--- the hash of a text with one byte more, from that of the text
+-- the hash of a string with one more byte, from the hash of the string
 unfoldable pub next_hash : ℕ → ℕ → ℕ → ℕ
 next_hash base hash byte = (base * hash + byte + 1) % 4294967291
 
--- the hash of a text
+-- the hash of a string
 abbrev pub hash_of : ℕ → List ℕ → ℕ
 hash_of base text = fold (next_hash base) 0 text
 
--- all that a text begins with, from nothing to the whole
+-- all prefixes of a string, from the empty string to the whole string
 abbrev pub beginnings : List ℕ → List (List ℕ)
 beginnings [] = [] ∷ []
 beginnings (b ∷ bs) = [] ∷ map (λ front. b ∷ front) (beginnings bs)
@@ -46,15 +47,15 @@ pub record IsPrefixTable {S H : Type 0} (entries : List Entry) (table : PrefixTa
       ≡ numbers_from (asks_for_hash table.base hash) 0 entries
 
 module _ {S H : Type 0} (table : PrefixTable S H) where
-  -- the numbers of the entries that the table has for a text of that length and hash
+  -- the numbers of the entries that the table has for a string with that length and hash
   abbrev pub found_with : ℕ → ℕ → List ℕ
   found_with n hash =
       if is_listed table.lengths.items n then numbers_at nat_eq table.by_hash hash else []
 
-  -- the same for a text
+  -- the same for a string
   abbrev pub found_under : List ℕ → List ℕ
   found_under text = found_with (length text) (hash_of table.base text)
 
-  -- the same for all that a uri begins with, as far as there are prefixes of such a length
+  -- the same for all prefixes of a URI, for lengths that some filed prefix has
   abbrev pub found_for : List ℕ → List ℕ
   found_for uri = flat_map found_under (beginnings (take (length table.lengths.items) uri))

@@ -1,4 +1,5 @@
--- The tables of the numbers of entries, by what they are filed under. No public clause of the merge speaks of it.
+-- The tables of the numbers of entries, by the condition under which they are filed. Internal: no public contract
+-- of the merge refers to this module.
 use Rattle.std.specs.Prelude.{◌≡◌, ℕ, List, nat_eq, bytes_eq}
 use Rattle.sarif_suppress.specs.declared.entry.Entry.{Entry}
 use Rattle.sarif_suppress.specs.declared.filing.PairCondition.TheVariants.{Full, Partial}
@@ -10,7 +11,7 @@ use Rattle.sarif_suppress.specs.Filing.{asks_for_guid, asks_for_pair, asks_for_t
 use Rattle.sarif_suppress.specs.Matching.{is_pair}
 use Rattle.sarif_suppress.specs.Numbers.{numbers_from, numbers_at}
 
--- each table has just the entries that are filed under a fingerprint of its kind
+-- each table has exactly the entries that are filed under a fingerprint of its kind
 pub record ArePairTables {S H : Type 0} (entries : List Entry) (tables : PairTables S H)
     : Type 0 where
   pub full : (pair : List ℕ × List ℕ)
@@ -19,7 +20,7 @@ pub record ArePairTables {S H : Type 0} (entries : List Entry) (tables : PairTab
       → numbers_at is_pair tables.partial pair
       ≡ numbers_from (asks_for_pair Partial pair) 0 entries
 
--- each table has just the entries that are filed under a text of its kind
+-- each table has exactly the entries that are filed under a string of its kind
 pub record AreTextTables {S H : Type 0} (entries : List Entry) (tables : TextTables S H)
     : Type 0 where
   pub uris : (uri : List ℕ)
@@ -29,7 +30,7 @@ pub record AreTextTables {S H : Type 0} (entries : List Entry) (tables : TextTab
   pub tools : (tool : List ℕ)
       → numbers_at bytes_eq tables.tools tool ≡ numbers_from (asks_for_text Tool tool) 0 entries
 
--- each table has just the entries that are filed in it
+-- each table has exactly the entries that are filed in it
 pub record IsTable {S H : Type 0} (entries : List Entry) (table : Table S H) : Type 0 where
   pub guids : (guid : ℕ)
       → numbers_at nat_eq table.guids guid ≡ numbers_from (asks_for_guid guid) 0 entries

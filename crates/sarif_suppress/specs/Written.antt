@@ -1,4 +1,4 @@
--- What is written of the entries that match a result (SARIF 2.1.0, suppression object).
+-- The suppressions that are written for the matching entries of a result (SARIF 2.1.0, suppression object).
 use Rattle.std.specs.Prelude.{ℕ, Bool, true, false, ◌&&◌, List, [], ◌∷◌, ◌++◌, Option, Some, None, bytes_eq, codes, slice_get, if◌then◌else◌}
 use Rattle.std.specs.Option.{option_map_or}
 use Rattle.std.specs.List.{list_any}
@@ -11,7 +11,7 @@ use Rattle.sarif_suppress.specs.Entries.{with_pair}
 use Rattle.sarif_suppress.specs.File.{File}
 use Rattle.sarif_suppress.specs.Suppressing.{matching}
 
--- the members of an entry's object, each a text, in the order of their names
+-- the members of an entry's object, each a string, in the order of their names
 abbrev pub texts_of : Entry → List (List ℕ × List ℕ)
 texts_of e =
     with_pair (codes "justification") e.justification
@@ -21,7 +21,7 @@ abbrev pub text_members : List (List ℕ × List ℕ) → Members
 text_members [] = no_members
 text_members (p ∷ ps) = member p.0 (string p.1) (text_members ps)
 
--- the object that is written for an entry: `kind`, which is `external`, `status`, and `justification` where there is
+-- the object that is written for an entry: `kind`, which is `external`, `status`, and `justification` if there is
 -- one
 abbrev pub object_of : Entry → Data
 object_of e = object (text_members (texts_of e))
@@ -29,7 +29,7 @@ object_of e = object (text_members (texts_of e))
 abbrev pub is_string : List ℕ → Data → Bool
 is_string text d = option_map_or (bytes_eq text) (as_str d) false
 
--- the members are just these texts
+-- the members are exactly these strings
 abbrev pub are_just : List (List ℕ × List ℕ) → Members → Bool
 are_just [] no_members = true
 are_just [] (member name d ms) = false
@@ -40,7 +40,7 @@ are_just (p ∷ ps) (member name d ms) = bytes_eq p.0 name && (is_string p.1 d &
 abbrev pub is_object_of : Entry → Data → Bool
 is_object_of e d = option_map_or (are_just (texts_of e)) (as_object d) false
 
--- the list with the entry's object, unless an equal one stands in it already
+-- the list with the entry's object, unless it already contains an equal one
 abbrev pub with_object : List Data → Entry → List Data
 with_object list e = if list_any (is_object_of e) list then list else list ++ object_of e ∷ []
 
@@ -49,8 +49,8 @@ abbrev pub with_objects : List Data → List Entry → List Data
 with_objects list [] = list
 with_objects list (e ∷ es) = with_objects (with_object list e) es
 
--- the suppressions of a current result: its own as they stand, and then the objects of the matching entries in
--- file order, without each that equals one before it
+-- the suppressions of a current result: its own, unchanged, and then the objects of the matching entries in file
+-- order, each only if no equal one comes before it
 abbrev pub suppressions_of : List Data → File → Record → List Data
 suppressions_of own file r = with_objects own (matching file r)
 

@@ -1,4 +1,4 @@
-//! What an entry asks of a result.
+//! What an entry requires of a result.
 ghost use Rattle.std.specs.Prelude.{◌≡◌, ℕ, IfSome, drop, true};
 ghost use Rattle.std.specs.List.{list_any};
 ghost use Rattle.sarif_suppress.specs.Matching as said;
@@ -18,13 +18,13 @@ pub struct Conditions {
     pub uri_prefix: Option<Text>,
     /// `guid`: the result's `correlationGuid`, as a number.
     pub guid: Option<u128>,
-    /// `fingerprints`: each of them stands among the result's.
+    /// `fingerprints`: each of them is among the result's fingerprints.
     pub full: Pairs,
-    /// `partialFingerprints`: the same of the partial ones.
+    /// `partialFingerprints`: each of them is among the result's partial fingerprints.
     pub partial: Pairs,
 }
 
-/// Whether `found` is the text that is asked for, if one is.
+/// Returns whether `found` is the required string, if one is required.
 fn is_wanted(wanted: &Option<Text>, found: &Text) -> bool
     ensures { result ≡ said.is_wanted wanted.now found.now }
 {
@@ -34,8 +34,7 @@ fn is_wanted(wanted: &Option<Text>, found: &Text) -> bool
     }
 }
 
-/// Whether there is a text `found` and it is the one that is asked for; where none is asked for
-/// that holds.
+/// Returns whether there is a string `found` and it is the required one; `true` if none is required.
 fn is_there(wanted: &Option<Text>, found: &Option<Text>) -> bool
     ensures { result ≡ said.is_there wanted.now found.now }
 {
@@ -46,7 +45,7 @@ fn is_there(wanted: &Option<Text>, found: &Option<Text>) -> bool
     }
 }
 
-/// Whether there is a text that begins as is asked for.
+/// Returns whether there is a string with the required prefix.
 fn begins(wanted: &Option<Text>, found: &Option<Text>) -> bool
     ensures { result ≡ said.begins wanted.now found.now }
 {
@@ -60,7 +59,7 @@ fn begins(wanted: &Option<Text>, found: &Option<Text>) -> bool
     }
 }
 
-/// Whether the guid is the one that is asked for, if one is.
+/// Returns whether the GUID is the required one, if one is required.
 fn is_guid(wanted: Option<u128>, found: Option<u128>) -> bool
     ensures { result ≡ said.is_guid wanted found }
 {
@@ -71,7 +70,7 @@ fn is_guid(wanted: Option<u128>, found: Option<u128>) -> bool
     }
 }
 
-/// What stands behind the pair, where it is there.
+/// What follows the pair, if it is there.
 fn behind<'a>(found: &'a [(Text, Text)], pair: &(Text, Text)) -> Option<&'a [(Text, Text)]>
     ensures there { IfSome result
         (λ rest. list_any (λ p. said.is_pair p pair.now) found.now ≡ true) }
@@ -85,8 +84,8 @@ fn behind<'a>(found: &'a [(Text, Text)], pair: &(Text, Text)) -> Option<&'a [(Te
     None
 }
 
-/// Whether each pair that is asked for stands among those found. Where both are in one order, as
-/// the members of objects are, this is one walk.
+/// Returns whether each required pair is among the pairs of the result. Both are in the same order, as the members
+/// of objects are, so this is a single pass.
 fn are_among(wanted: &[(Text, Text)], found: &[(Text, Text)]) -> bool
     ensures { result ≡ said.are_among wanted.now found.now }
 {
@@ -115,11 +114,11 @@ impl Conditions {
             || !self.partial.as_slice().is_empty()
     }
 
-    /// Whether every condition that is named holds of the result.
+    /// Returns whether every named condition is true for the result.
     pub(crate) fn hold(&self, record: &Record) -> bool
         ensures { result ≡ said.hold self.now «record».now }
     {
-        // Numbers first, and then what tells entries of one rule apart.
+        // Numbers first, and then what distinguishes entries of one rule.
         is_guid(self.guid, record.guid)
             && is_there(&self.uri, &record.place.uri)
             && begins(&self.uri_prefix, &record.place.uri)

@@ -5,13 +5,12 @@ ghost use Rattle.sarif_suppress.specs.Matching as said;
 use crate::conditions::Conditions;
 use sarif_model::{Record, Status, Text};
 
-/// An entry of the suppression file: which results it suppresses, until when, and what is written
-/// of it.
+/// An entry of the suppression file: which results it suppresses, until when, and the suppression that it adds.
 #[derive(Debug, Drop)]
 pub struct Entry {
-    /// What the entry asks of a result.
+    /// What the entry requires of a result.
     pub conditions: Conditions,
-    /// `expires`: the last day on which it suppresses, as the number yyyymmdd.
+    /// `expires`: the last date on which it suppresses, as the number YYYYMMDD.
     pub expires: Option<u32>,
     /// `status`; absent it is `accepted`.
     pub status: Status,
@@ -20,7 +19,7 @@ pub struct Entry {
 }
 
 impl Entry {
-    /// Whether the last day of the entry lies before `today`.
+    /// Returns whether the expiry date of the entry is before `today`.
     fn is_expired(&self, today: Option<u32>) -> bool
         ensures { result ≡ said.is_expired today self.now }
     {

@@ -1,4 +1,4 @@
-//! Under which of its conditions an entry is filed: the most telling one.
+//! The condition under which an entry is filed: the most specific one.
 ghost use Rattle.std.specs.Prelude.{◌≡◌};
 ghost use Rattle.std.specs.Option.{option_copied};
 ghost use Rattle.sarif_suppress.specs.Filing as said;
@@ -6,7 +6,7 @@ ghost use Rattle.sarif_suppress.specs.Filing as said;
 use crate::conditions::Conditions;
 use sarif_model::Text;
 
-/// A condition that is a text of the result.
+/// A condition on a string of the result.
 #[derive(Clone, Copy)]
 pub(crate) enum TextCondition {
     Uri,
@@ -14,7 +14,7 @@ pub(crate) enum TextCondition {
     Tool,
 }
 
-/// A condition that asks for fingerprints of the result.
+/// A condition on fingerprints of the result.
 #[derive(Clone, Copy)]
 pub(crate) enum PairCondition {
     Full,
@@ -22,7 +22,7 @@ pub(crate) enum PairCondition {
 }
 
 impl Conditions {
-    /// Whether neither a guid nor fingerprints are named.
+    /// Returns whether the entry names neither a GUID nor fingerprints.
     fn is_unmarked(&self) -> bool
         ensures { result ≡ said.is_unmarked self.now }
     {
@@ -63,7 +63,7 @@ impl Conditions {
         }
     }
 
-    /// Whether neither a uri, nor a prefix of one, nor a rule id is named.
+    /// Returns whether the entry names neither a URI nor a URI prefix nor a rule id.
     fn has_tool_alone(&self) -> bool
         ensures { result ≡ said.has_tool_alone self.now }
     {
@@ -81,7 +81,7 @@ impl Conditions {
         }
     }
 
-    /// Whether the entry is filed nowhere.
+    /// Returns whether the entry is filed nowhere.
     pub(crate) fn has_no_key(&self) -> bool
         ensures { result ≡ said.has_no_key self.now }
     {

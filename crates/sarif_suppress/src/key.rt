@@ -1,4 +1,4 @@
-//! What the object of an entry says. Equal objects are found by it, with no walk over all of them.
+//! The content of an entry's object. Equal objects are found by it without comparing all of them.
 ghost use Rattle.std.specs.Prelude.{◌≡◌, false, map, option_map};
 ghost use Rattle.std.specs.Option.{option_map_or};
 ghost use Rattle.serde_json.specs.View.{view, members_view};
@@ -10,7 +10,7 @@ use crate::entry::Entry;
 use sarif_model::{Status, Text};
 use serde_json::{Map, Value};
 
-/// The status and the justification of an entry. Objects of entries are equal just where these are.
+/// The status and the justification of an entry. Objects of entries are equal if and only if these are.
 #[derive(Clone, Copy, Debug, PartialEq, Eq, Hash)]
 pub(crate) struct Key<'a> {
     pub(crate) status: Status,
@@ -38,7 +38,7 @@ fn is_string(text: &str, value: &Value) -> bool
     }
 }
 
-/// Whether the members are just these texts, each under its name.
+/// Returns whether the members are exactly these strings, each under its name.
 fn are_just(texts: &[(&str, &str)], members: &Map<String, Value>) -> bool
     ensures { result ≡ said.are_just (map (λ p. (p.0.now, p.1.now)) texts.now)
         (members_view members.now.entries) }
@@ -57,7 +57,7 @@ fn are_just(texts: &[(&str, &str)], members: &Map<String, Value>) -> bool
     at == texts.len()
 }
 
-/// A text under its name.
+/// A string under its name.
 fn named<'a>(name: &'a str, text: &'a str) -> (&'a str, &'a str)
     ensures name { result.0.now ≡ name.now }
     ensures text { result.1.now ≡ text.now }
@@ -65,7 +65,7 @@ fn named<'a>(name: &'a str, text: &'a str) -> (&'a str, &'a str)
     (name, text)
 }
 
-/// Whether the members are just those of the object with that key.
+/// Returns whether the members are exactly those of the object with that key.
 fn are_members_of(key: &Key, members: &Map<String, Value>) -> bool
     ensures { result ≡ said.are_just (texts_with key.now.status (justification_of key.now))
         (members_view members.now.entries) }

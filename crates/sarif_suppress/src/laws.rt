@@ -12,9 +12,8 @@ ghost use Rattle.sarif_suppress.specs.Matching.{is_empty};
 ghost use Rattle.sarif_suppress.specs.Suppressing.{matching, statuses_suppress, is_suppressed};
 ghost use Rattle.sarif_suppress.specs.Written.{is_object_of, object_of, suppressions_of};
 
-/// A test holds of every suppression that is written just where it holds of every own one and of
-/// the object of every entry that matches. So the objects that aren't written again change no such
-/// test.
+/// A test is true for every written suppression if and only if it is true for every own one and for the object of
+/// every matching entry. So leaving out repeated objects changes no such test.
 #[tactic(auto, using(crate::proofs::ObjectTest::written_passes))]
 pub fn written_passes_where_its_parts_do()
     ensures { (accepts : Data → Bool) (own : List Data) (file : File) (r : Record)
@@ -22,7 +21,7 @@ pub fn written_passes_where_its_parts_do()
         ≡ (list_all accepts own && list_all (λ e. accepts (object_of e)) (matching file r)) }
 {}
 
-/// Nothing is written just where there is no own suppression and no entry that matches.
+/// Nothing is written if and only if there is no own suppression and no matching entry.
 #[tactic(auto, using(crate::proofs::ObjectTest::written_empty))]
 pub fn nothing_is_written_of_nothing()
     ensures { (own : List Data) (file : File) (r : Record)
@@ -35,16 +34,14 @@ pub fn object_holds_no_fraction()
     ensures { (e : Entry) → has_float (object_of e) ≡ false }
 {}
 
-/// The test by which an entry's object is found among suppressions holds of that object and of no
-/// other value.
+/// The test that finds an entry's object among suppressions is true for that object and for no other value.
 #[tactic(auto, using(crate::proofs::ObjectTest::object_means))]
 pub fn just_its_object_is_an_entrys()
     ensures { (e : Entry) (d : Data) → IsTrue (is_object_of e d) ↔ (d ≡ object_of e) }
 {}
 
-/// What a finished log says of a result: where its own suppressions have the statuses of its
-/// record, the statuses that are read of the written list suppress just where the result is
-/// suppressed.
+/// What a merged log says about a result: if its own suppressions have the statuses of its record, the statuses in
+/// the written list suppress if and only if the result is suppressed.
 #[tactic(auto, using(crate::proofs::ReadBack::read_back))]
 pub fn written_suppressions_say_what_is_suppressed()
     ensures { (own : List Data) (file : File) (r : Record) → read_each status_of own ≡ Ok r.held

@@ -1,5 +1,4 @@
-//! The suppression file of `sarif_gate`: which entries a result matches, and what is written of
-//! them.
+//! The suppression file of `sarif_gate`: which entries match a result, and the suppressions that they add.
 #![tactic(auto)]
 
 mod conditions;

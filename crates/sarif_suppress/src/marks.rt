@@ -57,8 +57,8 @@ impl Marks {
         Ok(Marks { marks })
     }
 
-    /// Sets the marks of the entries that matched a result. Takes no memory. Where the marks were
-    /// those of the results so far, they are then those of these and this one.
+    /// Sets the marks of the entries that matched a result. Does not allocate. If the marks were those of the
+    /// results so far, they are then those of these results and this one.
     pub fn set(&mut self, applied: &Applied)
         ensures marks { self.new ≡ with_marks self.old applied.now.entries }
         ensures one_more { (file : File) (rs : List Record) (r : Record)
@@ -69,8 +69,8 @@ impl Marks {
         set_marks(&mut self.marks, applied.entries.as_slice());
     }
 
-    /// How many entries are not marked. Takes no memory. Where the marks are those of all results,
-    /// these are the unused entries.
+    /// Returns how many entries are not marked. Does not allocate. If the marks are those of all results, these
+    /// are the unused entries.
     pub fn unused(&self) -> u32
         ensures unset { result ≡ count_by (λ mark. not mark) self.now }
         ensures unused { (file : File) (rs : List Record) → self.now ≡ marks_of file rs

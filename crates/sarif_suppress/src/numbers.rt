@@ -6,7 +6,7 @@ use indexmap::IndexMap;
 use std::alloc::{AllocError, Global};
 use std::hash::{BuildHasher, Hash};
 
-/// Puts the number behind those that the table has for the key.
+/// Adds the number after those that the table has for the key.
 pub(crate) fn add_number<K: Eq + Hash + Drop, S: BuildHasher + Copy>(
     alloc: Global,
     table: &mut IndexMap<K, Vec<u32>, S>,
@@ -26,7 +26,7 @@ pub(crate) fn add_number<K: Eq + Hash + Drop, S: BuildHasher + Copy>(
     Ok(())
 }
 
-/// The numbers of the entries that are filed under `key`. Where none is filed, no key is hashed.
+/// Returns the numbers of the entries that are filed under `key`. If none is filed, no key is hashed.
 pub(crate) fn numbers_for<'a, K: Eq + Hash, S: BuildHasher + Copy>(
     table: &'a IndexMap<K, Vec<u32>, S>,
     key: &K,

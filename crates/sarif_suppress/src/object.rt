@@ -11,7 +11,7 @@ use serde_json::{Value, json};
 use std::alloc::{AllocError, Global};
 use std::hash::BuildHasher;
 
-/// Up to so many entries, each one's object is looked for among those before it, one by one.
+/// Up to this number of entries, each entry's object is compared with the earlier ones one by one.
 const FEW: usize = 4;
 
 /// The object of an entry: its `kind`, which is `external`, its `status`, and its `justification`
@@ -37,7 +37,7 @@ pub(crate) fn is_object_of(entry: &Entry, value: &Value) -> bool
     is_object_with(&key_of(entry), value)
 }
 
-/// Puts the entry's object at the end, unless an equal one stands in the list already.
+/// Adds the entry's object to the end, unless the list already contains an equal one.
 fn add_object(alloc: Global, list: &mut Vec<Value>, entry: &Entry) -> Result<(), AllocError>
     ensures { OnOk result (map view list.new.items
         ≡ said.with_object (map view list.old.items) entry.now) }
@@ -61,8 +61,8 @@ fn holds_object(values: &[Value], entry: &Entry) -> bool
     false
 }
 
-/// Puts the object of the entry of that number at the end, if there is such an entry, unless an
-/// equal one stands in the list already.
+/// Adds the object of the entry with that number to the end, if there is such an entry and the list contains no
+/// equal one.
 fn add_object_at(
     alloc: Global,
     list: &mut Vec<Value>,
@@ -78,8 +78,8 @@ fn add_object_at(
     }
 }
 
-/// Puts the objects of the entries of these numbers at the end, one by one, each unless an equal
-/// one stands in the list already.
+/// Adds the objects of the entries with these numbers to the end, in order, each only if the list contains no
+/// equal one.
 fn add_objects(
     alloc: Global,
     list: &mut Vec<Value>,
@@ -95,8 +95,8 @@ fn add_objects(
     Ok(())
 }
 
-/// The list with the objects of the entries of these numbers behind it, without each that equals
-/// one that stands before it.
+/// Returns the list followed by the objects of the entries with these numbers, each only if no equal one comes
+/// before it.
 pub(crate) fn with_objects<S: BuildHasher + Copy>(
     alloc: Global,
     hasher: S,

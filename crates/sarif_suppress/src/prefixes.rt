@@ -1,6 +1,6 @@
-//! The entries that are filed under a prefix of a uri. One walk over a uri makes the hashes of all
-//! its beginnings, and the entries are found by the hashes of their prefixes. So what is found may
-//! be more than what the uri begins with, and is never less.
+//! The entries that are filed under a URI prefix. One pass over a URI computes the hashes of all its prefixes, and
+//! the entries are found by the hashes of theirs. So the result may contain entries that do not match, but it
+//! misses none.
 ghost use Rattle.std.specs.Prelude.{◌≡◌, ◌≤◌, ◌++◌, ◌||◌, [], ℕ, length, nat_eq, IfOk, OnOk};
 ghost use Rattle.std.specs.List.{flat_map};
 ghost use Rattle.std.specs.Option.{option_map_or};
@@ -23,7 +23,7 @@ pub(crate) struct PrefixTable<S: BuildHasher + Copy> {
     /// What the hashes are made with. It comes of the hasher, so nobody can know it who writes a
     /// file.
     base: u32,
-    /// For each number of bytes whether a prefix has so many.
+    /// For each number of bytes, whether a prefix has that length.
     lengths: Vec<bool>,
     by_hash: IndexMap<u32, Vec<u32>, S>,
 }
@@ -46,8 +46,7 @@ impl<S: BuildHasher + Copy> PrefixTable<S> {
         })
     }
 
-    /// Adds the numbers of the entries under whose prefix a beginning of the uri is found; without
-    /// a uri there are none.
+    /// Adds the numbers of the entries whose prefix is found for a prefix of the URI; adds nothing without a URI.
     pub(crate) fn add_for(&self, found: &mut Vec<u32>, uri: &Option<Text>) -> Result<(), AllocError>
         ensures { OnOk result (found.new.items
             ≡ found.old.items ++ option_map_or (said.found_for self.now) uri.now []) }
@@ -74,8 +73,7 @@ impl<S: BuildHasher + Copy> PrefixTable<S> {
         Ok(())
     }
 
-    /// Adds the numbers of the entries under whose prefix a text of that length and that hash is
-    /// found.
+    /// Adds the numbers of the entries whose prefix has that length and that hash.
     fn add_with_hash(
         &self,
         found: &mut Vec<u32>,
@@ -92,7 +90,7 @@ impl<S: BuildHasher + Copy> PrefixTable<S> {
     }
 }
 
-/// The hash of a text with one byte more behind it.
+/// Returns the hash of a string with one more byte.
 #[tactic(auto, unfolding(crate::specs::Prefixes::next_hash))]
 fn next_hash(base: u32, hash: u32, byte: u8) -> u32
     ensures { result ≡ said.next_hash base hash byte }
@@ -101,7 +99,7 @@ fn next_hash(base: u32, hash: u32, byte: u8) -> u32
     ((product + u64::from(byte) + 1) % MODULUS) as u32
 }
 
-/// The hash of a text.
+/// Returns the hash of a string.
 fn hash_of(base: u32, text: &[u8]) -> u32
     ensures { result ≡ said.hash_of base text.now }
 {

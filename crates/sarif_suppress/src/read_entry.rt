@@ -1,5 +1,4 @@
-//! Reading an entry of the suppression file. Each check says when it passes and else gives its
-//! fault.
+//! Reading an entry of the suppression file. Each check succeeds or returns its error.
 ghost use Rattle.std.specs.Prelude.{◌≡◌, option_map, Ok, Err, IfOk};
 ghost use Rattle.serde_json.specs.View.{view, members_view};
 ghost use Rattle.sarif_model.specs.Members as told;
@@ -27,7 +26,7 @@ fn are_members_of(version: Version, members: &Map<String, Value>) -> bool
     true
 }
 
-/// Passes an object whose members are all ones that the version knows; else `wrong`.
+/// Accepts an object whose members are all known to the version; otherwise returns `wrong`.
 fn check_members(version: Version, wrong: FileFault, entry: &Value) -> Result<(), FileFault>
     ensures { result ≡ said.check_members version wrong (view entry.now) }
 {
@@ -43,7 +42,7 @@ fn check_members(version: Version, wrong: FileFault, entry: &Value) -> Result<()
     }
 }
 
-/// A copy of a text, if there is one.
+/// A copy of a string, if there is one.
 fn copied(alloc: Global, text: Option<&str>) -> Result<Option<Text>, AllocError>
     ensures { IfOk result (λ copy. copy ≡ option_map (λ s. s.now) text.entry) }
 {
@@ -53,7 +52,7 @@ fn copied(alloc: Global, text: Option<&str>) -> Result<Option<Text>, AllocError>
     }
 }
 
-/// The text `name` of an entry.
+/// The string `name` of an entry.
 fn own_text_at(
     alloc: Global,
     entry: &Value,
@@ -68,7 +67,7 @@ fn own_text_at(
     Ok(copied(alloc, text)?)
 }
 
-/// The guid `name` of an entry.
+/// The GUID `name` of an entry.
 fn guid_at(entry: &Value, name: &str, wrong: FileFault) -> Result<Option<u128>, FileFault>
     ensures { result ≡ said.guid_at wrong name.now (view entry.now) }
 {
@@ -81,7 +80,7 @@ fn guid_at(entry: &Value, name: &str, wrong: FileFault) -> Result<Option<u128>, 
     }
 }
 
-/// Whether all members are texts or null.
+/// Returns whether all members are strings or null.
 fn are_texts(members: &Map<String, Value>) -> bool
     ensures { result ≡ said.are_texts (members_view members.now.entries) }
 {
@@ -93,7 +92,7 @@ fn are_texts(members: &Map<String, Value>) -> bool
     true
 }
 
-/// The members that are texts, with their names.
+/// The members that are strings, with their names.
 fn pairs_of(alloc: Global, members: &Map<String, Value>) -> Result<Pairs, AllocError>
     ensures { IfOk result (λ pairs. pairs ≡ said.pairs_of (members_view members.now.entries)) }
 {
@@ -107,7 +106,7 @@ fn pairs_of(alloc: Global, members: &Map<String, Value>) -> Result<Pairs, AllocE
     Ok(pairs)
 }
 
-/// The map of texts `name` of an entry, without its null members; absent it is empty.
+/// The map of strings `name` of an entry, without its null members; empty if it is missing.
 fn pairs_at(
     alloc: Global,
     entry: &Value,
@@ -148,7 +147,7 @@ fn is_day(number: u64) -> bool
         && day <= 31
 }
 
-/// The day `name` of an entry.
+/// The date `name` of an entry.
 fn day_at(entry: &Value, name: &str, wrong: FileFault) -> Result<Option<u32>, FileFault>
     ensures { result ≡ said.day_at wrong name.now (view entry.now) }
 {
@@ -235,7 +234,7 @@ fn check_condition(number: u32, entry: &Entry) -> Result<(), FileFault>
     }
 }
 
-/// Passes an entry without a last day, and every entry where the day is known.
+/// Accepts an entry without an expiry date, and every entry if today's date is known.
 fn check_today(number: u32, today: Option<u32>, entry: &Entry) -> Result<(), FileFault>
     ensures { result ≡ said.check_today number today entry.now }
 {

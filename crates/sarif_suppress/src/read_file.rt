@@ -1,4 +1,4 @@
-//! Reading the suppression file: first its form, and then its entries one after another.
+//! Reading the suppression file: first its form, then its entries in order.
 ghost use Rattle.std.specs.Prelude.{◌≡◌, ◌≤◌, length, map, Ok, Err, Some, None, IfOk, OnOk};
 ghost use Rattle.serde_json.specs.View.{view};
 ghost use Rattle.sarif_model.specs.Members.{result_map};
@@ -55,7 +55,7 @@ fn check_count(entries: &[Value]) -> Result<(), FileFault>
     }
 }
 
-/// The entries, or the fault of the first that has one.
+/// Returns the entries, or the first error among them.
 #[tactic(auto, using(crate::proofs::FromEntries::goes_on, crate::proofs::FromEntries::stops, crate::proofs::FromEntries::at_end))]
 fn read_entries(
     alloc: Global,
@@ -96,7 +96,7 @@ fn read_json(alloc: Global, bytes: &[u8]) -> Result<Value, Refusal<FileFault>>
     }
 }
 
-/// The file that a value stands for.
+/// Returns the file that a value represents.
 #[tactic(auto, unfolding(crate::specs::File::file_of_value))]
 fn read_value<S: BuildHasher + Copy>(
     alloc: Global,
@@ -114,14 +114,11 @@ fn read_value<S: BuildHasher + Copy>(
     Ok(Suppressions::new(alloc, hasher, entries, today)?)
 }
 
-/// Reads a suppression file, an object with `version` and `suppressions`; `docs/formats.md`
-/// describes it. `today` is the day as the number yyyymmdd, if one is known: no clock is read. The
-/// tables have the seed of the standard hasher, which who writes a log may know: see
-/// [`read_rules_with`].
-///
-/// The checks are made in this order, and the first that fails is answered: `NotJson`, `NotList`,
-/// `WrongVersion`, `TooMany`, and then for each entry in turn `BadEntry`, `EmptyMatch` and
-/// `NeedsToday`. `OutOfMemory` may come instead where memory is wanting.
+/// Reads a suppression file, an object with `version` and `suppressions`; `docs/formats.md` describes it. `today`
+/// is the date as the number YYYYMMDD, if one is known: no clock is read. The tables use the seed of the standard
+/// hasher, which the author of a log may know: see [`read_rules_with`]. It makes the checks in this order and
+/// returns the first error: `NotJson`, `NotList`, `WrongVersion`, `TooMany`, and then for each entry `BadEntry`,
+/// `EmptyMatch` and `NeedsToday`. Returns `OutOfMemory` if memory runs out.
 pub fn read_rules(
     alloc: Global,
     bytes: &[u8],
@@ -134,11 +131,10 @@ pub fn read_rules(
     read_rules_with(alloc, hasher, bytes, today)
 }
 
-/// Reads a suppression file for the day `today`, as [`read_rules`] does. The tables of the entries
-/// hash with `hasher`: a `RandomState`, say, whose seed no log can know. The answers are the same
-/// whatever it is: also here the first of `NotJson`, `NotList`, `WrongVersion` and `TooMany`, and
-/// then of `BadEntry`, `EmptyMatch` and `NeedsToday` of each entry in turn, or `OutOfMemory` where
-/// memory is wanting.
+/// Reads a suppression file for the date `today`, as [`read_rules`] does. The tables of the entries hash with
+/// `hasher`, for example a `RandomState` whose seed no log can know. The result does not depend on the hasher: it
+/// is the first error of `NotJson`, `NotList`, `WrongVersion` and `TooMany`, then of `BadEntry`, `EmptyMatch` and
+/// `NeedsToday` for each entry, or `OutOfMemory` if memory runs out.
 #[tactic(auto, unfolding(crate::specs::File::file_of))]
 pub fn read_rules_with<S: BuildHasher + Copy>(
     alloc: Global,

@@ -49,7 +49,7 @@ fn add_matching(
     Ok(())
 }
 
-/// Those of these numbers whose entries match the result, rising, each once.
+/// Returns those of these numbers whose entries match the result, in rising order, each once.
 pub(crate) fn select(
     alloc: Global,
     entries: &[Entry],

@@ -18,8 +18,8 @@ use std::alloc::{AllocError, Global};
 use std::hash::{BuildHasher, RandomState};
 use std::marker::Model;
 
-/// The entries of a suppression file, on the day for which it was read. Contracts see the file: its
-/// entries in order, and the day, whatever the hasher of its tables.
+/// The entries of a suppression file, on the date for which it was read. Contracts see the file: its entries in
+/// order, and the date, regardless of the hasher of its tables.
 #[derive(Drop)]
 pub struct Suppressions<S: BuildHasher + Copy = RandomState> {
     /// By which the keys of a result's suppressions are hashed.
@@ -54,8 +54,8 @@ pub struct Applied {
 }
 
 impl<S: BuildHasher + Copy> Suppressions<S> {
-    /// No entries: what stands where there is no suppression file. `AllocError` where memory for
-    /// the empty tables is wanting.
+    /// No entries: the value without a suppression file. Returns `AllocError` if memory for the empty tables runs
+    /// out.
     pub fn none(alloc: Global, hasher: S, today: Option<u32>) -> Result<Suppressions<S>, AllocError>
         ensures { IfOk result (λ s. s ≡ record { entries = []; today = today }) }
     {
@@ -98,8 +98,8 @@ impl<S: BuildHasher + Copy> Suppressions<S> {
         self.entries.is_empty()
     }
 
-    /// Which entries match the result, and whether it is then suppressed (SARIF 2.1.0, result
-    /// object, "suppressions property"). `AllocError` where memory is wanting.
+    /// Returns which entries match the result, and whether it is then suppressed (SARIF 2.1.0, result object,
+    /// "suppressions property"). Returns `AllocError` if memory runs out.
     pub fn apply(&self, alloc: Global, record: &Record) -> Result<Applied, AllocError>
         ensures entries { IfOk result
             (λ applied. applied.entries ≡ matching_numbers self.now «record».now) }
@@ -116,16 +116,16 @@ impl<S: BuildHasher + Copy> Suppressions<S> {
         })
     }
 
-    /// How many entries match none of the results. Takes no memory.
+    /// Returns how many entries match none of the results. Does not allocate.
     pub fn unused(&self, records: &[Record]) -> u32
         ensures { result ≡ unused_of self.now records.now }
     {
         count_unused(&self.entries, self.today, records) as u32
     }
 
-    /// The object that is written for entry `n`, counted from 0: its `kind`, which is `external`,
-    /// its `status`, and its `justification` where it has one (SARIF 2.1.0, suppression object).
-    /// `AllocError` where memory for it is wanting.
+    /// Returns the object that is written for entry `n`, numbered from 0: its `kind`, which is `external`, its
+    /// `status`, and its `justification` if it has one (SARIF 2.1.0, suppression object). Returns `AllocError` if
+    /// memory for it runs out.
     pub fn object(&self, alloc: Global, n: u32) -> Result<Value, AllocError>
         requires { n < length self.now.entries }
         ensures { IfOk result
@@ -134,9 +134,9 @@ impl<S: BuildHasher + Copy> Suppressions<S> {
         object_of(alloc, &self.entries[n as usize])
     }
 
-    /// What is written of a result to which the file was applied: its `own` suppressions as they
-    /// stand, and then the objects of the entries that match, in file order, without each that
-    /// equals one that stands before it. `AllocError` where memory for the list is wanting.
+    /// Returns the suppressions of a result to which the file was applied: its `own` suppressions, unchanged, and
+    /// then the objects of the matching entries in file order, each only if no equal one comes before it. Returns
+    /// `AllocError` if memory for the list runs out.
     pub fn written(
         &self,
         alloc: Global,
@@ -152,7 +152,7 @@ impl<S: BuildHasher + Copy> Suppressions<S> {
         Ok(list)
     }
 
-    /// A mark for each entry, none of them set. `AllocError` where memory for them is wanting.
+    /// Returns a mark for each entry, none of them set. Returns `AllocError` if memory for them runs out.
     #[tactic(auto, using(crate::proofs::Marked::unset))]
     pub fn marks(&self, alloc: Global) -> Result<Marks, AllocError>
         ensures { IfOk result (λ marks. marks ≡ marks_of self.now []) }

@@ -1,7 +1,7 @@
-//! The numbers of the entries by what they ask for, so that a result meets only those that may
-//! match it. Each entry is filed under the most telling of its conditions: its guid, else its first
-//! fingerprint, else its first partial fingerprint, else its uri, else its rule id, else its prefix
-//! of a uri, else its tool. Those that are filed under a prefix stand in a table of their own.
+//! The numbers of the entries by their conditions, so that a result is compared only with entries that may match
+//! it. Each entry is filed under its most specific condition: its GUID, otherwise its first fingerprint, otherwise
+//! its first partial fingerprint, otherwise its URI, otherwise its rule id, otherwise its URI prefix, otherwise
+//! its tool. Entries under a prefix are in a separate table.
 ghost use Rattle.std.specs.Prelude.{◌≡◌, ◌≤◌, ◌++◌, [], List, ℕ, length, nat_eq, bytes_eq, IfOk, OnOk};
 ghost use Rattle.std.specs.List.{flat_map};
 ghost use Rattle.std.specs.Option.{option_map_or};
@@ -118,7 +118,7 @@ fn add_with_pairs<S: BuildHasher + Copy>(
     Ok(())
 }
 
-/// For each guid the numbers of the entries that name it, rising.
+/// For each GUID the numbers of the entries that name it, rising.
 fn numbers_by_guid<S: BuildHasher + Copy>(
     alloc: Global,
     hasher: S,

@@ -43,8 +43,8 @@ fn keys_in<'a, S: BuildHasher + Copy>(
     Ok(keys)
 }
 
-/// Puts the entry's object at the end of the list, and its key among the keys, unless it is one of
-/// them. They are the keys of the list, and of what stands before it.
+/// Adds the entry's object to the end of the list, and its key to the keys, unless the keys contain it. The keys
+/// are those of the list and of what is before it.
 fn add_unseen<'a, S: BuildHasher + Copy>(
     alloc: Global,
     keys: &mut IndexSet<Key<'a>, S>,

@@ -1,6 +1,5 @@
-//! Tests of the suppression file: how it is read, which entries match a result, what is written of them.
-//!
-//! The tests are in a crate of their own, so that no library is proved a second time for its tests.
+//! Tests of the suppression file: how it is read, which entries match a result, and the suppressions that they
+//! add. The tests are in a separate crate, so that no library is proved a second time for its tests.
 #![tactic(auto)]
 
 #[cfg(test)]

@@ -1,5 +1,5 @@
-//! Examples of the suppression file worked by hand, and that each call succeeds with ample memory.
-//! What a file makes of a result is asked in few functions, each of which lets the file go once.
+//! Examples of the suppression file worked out by hand, and that each call succeeds if there is enough memory. Few
+//! functions apply a file to a result, and each of them drops the file once.
 mod applying;
 mod conditions;
 mod entries;
@@ -18,7 +18,7 @@ use std::test::Fail;
 /// A suppression file by the standard hasher.
 type Plain = Suppressions<BuildHasherDefault<FoldHasher>>;
 
-/// A suppression file as it is written, and the day for which it is read.
+/// A suppression file as it is written, and the date for which it is read.
 #[derive(Clone, Copy)]
 struct FileText<'a> {
     version: u32,
@@ -37,7 +37,7 @@ struct Outcome {
     list: String,
 }
 
-/// A file of version 1 with these entries, for no day.
+/// A file of version 1 with these entries, for no date.
 fn first_version(entries: &str) -> FileText<'_> {
     FileText {
         version: 1,
@@ -46,7 +46,7 @@ fn first_version(entries: &str) -> FileText<'_> {
     }
 }
 
-/// The same of version 2.
+/// The same for version 2.
 fn second_version(entries: &str) -> FileText<'_> {
     FileText {
         version: 2,
@@ -68,7 +68,7 @@ fn rules_of(alloc: Global, file: FileText) -> Result<Plain, Refusal<FileFault>> 
     read_rules(alloc, text.as_str().as_bytes(), file.today)
 }
 
-/// The array that a text stands for.
+/// The array that this JSON represents.
 fn array_of(alloc: Global, text: &str) -> Vec<Value> {
     match Value::from_str(alloc, text) {
         Ok(Value::Array(values)) => values,
@@ -76,7 +76,7 @@ fn array_of(alloc: Global, text: &str) -> Vec<Value> {
     }
 }
 
-/// What a file makes of a result with these suppressions of its own.
+/// The effect of a file on a result with these own suppressions.
 fn outcome_by(
     alloc: Global,
     rules: &Plain,
@@ -92,7 +92,7 @@ fn outcome_by(
     })
 }
 
-/// What is asked of a file that isn't read yet.
+/// A question about a file that is not read yet.
 fn asked_of<A, Ask: FnOnce(&Plain) -> Result<A, AllocError>>(
     alloc: Global,
     file: FileText,
@@ -106,7 +106,7 @@ fn asked_of<A, Ask: FnOnce(&Plain) -> Result<A, AllocError>>(
     Ok(answer?)
 }
 
-/// What a file that isn't read yet makes of a result with these suppressions of its own.
+/// The effect of a file that is not read yet on a result with these own suppressions.
 fn outcome_of(
     alloc: Global,
     file: FileText,
@@ -127,18 +127,18 @@ fn in_entry(number: u32, fault: Fault) -> Refusal<FileFault> {
     Refusal::Fault(FileFault { entry, fault })
 }
 
-/// The fault of these bytes, read for that day, if they have one.
+/// The error of these bytes, read for that date, if they have one.
 fn fault_of(alloc: Global, bytes: &[u8], today: Option<u32>) -> Option<Refusal<FileFault>> {
     read_rules(alloc, bytes, today).err()
 }
 
-/// The fault of the file, if it has one.
+/// The error of the file, if it has one.
 fn fault_of_text(alloc: Global, file: FileText) -> Result<Option<Refusal<FileFault>>, AllocError> {
     let text = text_of(alloc, file)?;
     Ok(fault_of(alloc, text.as_str().as_bytes(), file.today))
 }
 
-/// Whether each of these files has that fault, or none.
+/// Returns whether each of these files has that error, or none.
 fn all_files_have(alloc: Global, files: &[&str], fault: Option<Refusal<FileFault>>) -> bool {
     for file in files {
         if fault_of(alloc, file.as_bytes(), None) != fault {
@@ -148,7 +148,7 @@ fn all_files_have(alloc: Global, files: &[&str], fault: Option<Refusal<FileFault
     true
 }
 
-/// Whether each of these lists of entries, as a file of that version, has that fault, or none.
+/// Returns whether each of these lists of entries, as a file of that version, has that error, or none.
 fn all_entries_have(
     alloc: Global,
     version: u32,
@@ -178,7 +178,7 @@ fn unused_of(
     asked_of(alloc, file, |rules| Ok(rules.unused(findings)))
 }
 
-/// A copy of a text that may be absent.
+/// A copy of a string that may be missing.
 fn copy_of(alloc: Global, text: Option<&str>) -> Result<Option<Text>, AllocError> {
     match text {
         Some(text) => Ok(Some(Text::copy_of(alloc, text)?)),
@@ -186,7 +186,7 @@ fn copy_of(alloc: Global, text: Option<&str>) -> Result<Option<Text>, AllocError
     }
 }
 
-/// A result of the tool `lint` with that rule id, at that uri, without suppressions.
+/// A result of the tool `lint` with that rule id, at that URI, without suppressions.
 fn result_at(alloc: Global, rule_id: &str, uri: Option<&str>) -> Result<Record, AllocError> {
     Ok(Record {
         tool: Text::copy_of(alloc, "lint")?,
@@ -209,7 +209,7 @@ fn result_at(alloc: Global, rule_id: &str, uri: Option<&str>) -> Result<Record, 
     })
 }
 
-/// The same result with one more suppression of its own, of that status.
+/// The same result with one more own suppression, of that status.
 fn with_own(mut finding: Record, status: Status) -> Result<Record, AllocError> {
     finding.held.push(status)?;
     Ok(finding)
@@ -228,8 +228,7 @@ fn expect_entries(
     Ok(())
 }
 
-/// Asserts what is written of a result with these suppressions of its own, and whether it is
-/// suppressed.
+/// Asserts the written suppressions of a result with these own suppressions, and whether it is suppressed.
 fn expect_written(
     rt: &(impl Abort + AllocGlobal),
     file: FileText,

@@ -194,7 +194,7 @@ impl<'t, 'a> Element<'t, 'a> {
     }
 }
 
-/// A walk over the items of an array. Contracts see the tokens from the next item on.
+/// An iterator over the items of an array. Contracts see the tokens from the next item on.
 #[derive(Drop)]
 pub(crate) struct Items<'t, 'a> {
     next: Element<'t, 'a>,
@@ -221,7 +221,7 @@ impl<'t, 'a> Items<'t, 'a> {
     }
 }
 
-/// A walk over the members of an object. Contracts see the tokens from the next member on.
+/// An iterator over the members of an object. Contracts see the tokens from the next member on.
 #[derive(Drop)]
 pub(crate) struct Members<'t, 'a> {
     next: Element<'t, 'a>,

@@ -1,4 +1,4 @@
-//! Reading the tokens of a text into nodes.
+//! Reading the tokens of a document into nodes.
 ghost use Rattle.std.specs.Prelude.{◌≡◌, ◌<◌, [], ◌∷◌, ◌++◌, length, slice_set, Some, None, Err, OnOk, IfErr};
 ghost use Rattle.json.specs.Json.{skip_value};
 ghost use Rattle.json.specs.Reads.{skip_items, skip_members};

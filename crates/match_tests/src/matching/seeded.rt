@@ -1,5 +1,5 @@
-//! The matching beside one that follows the rule word by word, on lists drawn by a seeded
-//! generator, and on long lists.
+//! Matching compared with a matching that follows the rule word by word, on lists from a seeded generator and on
+//! long lists.
 use super::matched;
 use super::sketch::{A, Sketch, record, records};
 use sarif_match::{Matching, Tier, key, match_all_with, state, tiers};
@@ -129,7 +129,7 @@ fn paired_at(
     Ok(None)
 }
 
-/// The partners by the rule, read word by word.
+/// The matches by the rule, read word by word.
 fn plain_partners(
     alloc: Global,
     current: &[Record],
@@ -195,7 +195,7 @@ fn equal_results(alloc: Global) -> Result<Vec<Record>, AllocError> {
     Ok(made)
 }
 
-/// Asserts that each result has the one of its own number as partner.
+/// Asserts that each result matches the one with its own number.
 fn expect_in_order(rt: &impl Abort, current: &[Record], baseline: &[Record], matching: &Matching) {
     let mut number = 0u32;
     for finding in current {
@@ -239,7 +239,7 @@ fn named_results(alloc: Global, is_backwards: bool) -> Result<Vec<Record>, Alloc
     Ok(made)
 }
 
-/// Asserts that the first result has the last one as partner, and so on.
+/// Asserts that the first result matches the last one, and so on.
 fn expect_backwards(rt: &impl Abort, matching: &Matching) {
     for number in 0..MANY {
         assert_eq!(rt; matching.partner(number), Some(MANY - 1 - number));

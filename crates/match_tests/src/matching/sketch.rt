@@ -2,7 +2,7 @@
 use sarif_model::{Kind, Level, Message, Pairs, Place, Record, Sequence, Text};
 use std::alloc::{AllocError, Global};
 
-/// What a test says of a result.
+/// A description of a result in a test.
 #[derive(Clone, Copy)]
 pub struct Sketch<'a> {
     pub tool: &'a str,

@@ -86,7 +86,7 @@ fn items_come_out_in_the_order_of_their_numbers(rt: HostRuntime) -> Result<(), F
     Ok(())
 }
 
-// What the arrivals come to: how many runs they assemble to, or the fault.
+// The outcome of the arrivals: how many runs they assemble to, or the error.
 fn told(alloc: Global, runs: u32, arrivals: Vec<Piece<u8, u8>>) -> Result<u32, CollectFault>
     requires runs { runs ≤ 10000 }
     requires few { vec_len arrivals < 2 ^ 32 }

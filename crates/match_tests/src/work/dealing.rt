@@ -43,7 +43,7 @@ fn draw_out(deal: &Deal, drawn: &[AtomicU64], hand: &mut Hand)
     }
 }
 
-// Each hand draws on a thread of its own.
+// Each hand draws in a separate thread.
 fn draw_each<R: Threads + Sync>(rt: &R, deal: &Deal, drawn: &[AtomicU64], hands: &mut [Hand])
     requires { All (IsHandOf deal.now) hands.old }
     ensures len { length hands.new ≡ length hands.old }

@@ -32,8 +32,7 @@ fn waits_for_two(count: &AtomicU64) -> bool {
     false
 }
 
-/// Runs with so many items. The item of a run with a number is 100,000 times the run, and the
-/// number.
+/// Runs with this many items. The item of a run with a number is 100,000 times the run, plus the number.
 #[derive(Clone, Copy)]
 struct Numbers<'a> {
     counts: &'a [u32],

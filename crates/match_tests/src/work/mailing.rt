@@ -103,8 +103,8 @@ fn carry(run: u32, body: u8) -> Sent {
 // How many parcels each sender sends.
 const PARCELS: u32 = 1000;
 
-/// Of each sender, how many parcels came in the order in which they were sent, and of all, how many
-/// came out of it.
+/// For each sender, how many parcels came in the order in which they were sent, and overall, how many came out of
+/// order.
 #[derive(Clone, Copy)]
 struct Tally {
     in_order: [u32; 4],
@@ -130,7 +130,7 @@ fn send_numbered<R: Wait>(rt: &R, mailbox: &Mailbox<u32>, post: &mut Post<u32>)
     }
 }
 
-// Each post sends numbered parcels, on a thread of its own.
+// Each post sends numbered parcels, in a separate thread.
 fn send_each<R: Threads + Wait + Sync>(rt: &R, mailbox: &Mailbox<u32>, posts: &mut [Post<u32>])
     requires { All (IsPostOf mailbox.now) posts.old }
     ensures len { length posts.new ≡ length posts.old }

@@ -101,7 +101,7 @@ fn merge_other<R: Abort + AllocGlobal + Threads + Wait + Sync>(rt: &R) -> Result
 #[test]
 fn what_no_result_is_paired_with_is_absent(rt: HostRuntime) -> Result<(), Fail> {
     let merged = merge_other(&rt)?;
-    // Its absent result is skipped in a baseline, and refused in a log.
+    // Its absent result is skipped in a baseline, and rejected in a log.
     let mut again = one_log(rt.alloc(), SECOND)?;
     again.baseline(rt.alloc(), merged.log.as_str())?;
     let wanted = Wanted {

@@ -1,4 +1,4 @@
-//! The places and causes of faults, their texts and their statuses.
+//! The places and causes of errors, their strings and their exit statuses.
 use sarif_model::{At, Cause, Fault, MergeFault, Source};
 use sarif_streams::ReadersFault;
 use std::alloc::AllocError;

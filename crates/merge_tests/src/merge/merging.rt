@@ -1,5 +1,5 @@
-//! Merging texts. A list of runs is written `lint: A M; b: `, so each run is a tool and its results,
-//! each by its name or by its own text, which has no blank.
+//! Merging texts. A list of runs is written `lint: A M; b: `: each run is a tool and its results, each by its name
+//! or by its own JSON without spaces.
 use sarif_counts::{Options, Policy, Verdict};
 use sarif_gather::{Gate, NoGate};
 use sarif_log::Merged;
@@ -68,7 +68,7 @@ fn push_run(text: &mut String, run: &str) -> Result<(), Fail> {
     Ok(())
 }
 
-/// The runs as they stand in a log, their members in the order in which they are written.
+/// The runs as they are in a log, their members in the order in which they are written.
 pub fn json_of_runs(alloc: Global, runs: &str) -> Result<String, Fail> {
     let mut text = String::from_str(alloc, "[")?;
     let mut is_first = true;
@@ -83,7 +83,7 @@ pub fn json_of_runs(alloc: Global, runs: &str) -> Result<String, Fail> {
     Ok(text)
 }
 
-/// The log with these runs, which stand in JSON.
+/// The log with these runs, given as JSON.
 pub fn log_with(alloc: Global, runs: &str) -> Result<String, AllocError> {
     format!(in alloc; "{{\"version\":\"2.1.0\",\"runs\":{runs}}}")
 }
@@ -121,14 +121,14 @@ impl Given {
         }
     }
 
-    /// One more log, as it stands.
+    /// One more log, unchanged.
     pub fn log(&mut self, alloc: Global, text: &str) -> Result<(), AllocError> {
         let bytes = text.as_bytes().to_vec(alloc)?;
         self.sources.logs.push(bytes)?;
         Ok(())
     }
 
-    /// One more baseline, as it stands.
+    /// One more baseline, unchanged.
     pub fn baseline(&mut self, alloc: Global, text: &str) -> Result<(), AllocError> {
         let bytes = text.as_bytes().to_vec(alloc)?;
         self.sources.baselines.push(bytes)?;
@@ -200,7 +200,7 @@ pub fn merge_watched<G: Gate + Sync, R: Abort + AllocGlobal + Threads + Wait + S
     merge_bytes(rt, rt.alloc(), &given.sources, &options, observer)
 }
 
-/// The same of one log, from a reader into a writer that holds what it took.
+/// The same for one log, from a reader into a writer that holds what it accepted.
 pub fn write_watched<G: Gate + Sync, R: Abort + AllocGlobal + Threads + Wait + Sync>(
     rt: &R,
     log: &[u8],
@@ -231,7 +231,7 @@ pub fn write_watched<G: Gate + Sync, R: Abort + AllocGlobal + Threads + Wait + S
     Ok(taken)
 }
 
-/// The merge by nobody's gate.
+/// The merge without an observer.
 pub fn merge<R: Abort + AllocGlobal + Threads + Wait + Sync>(
     rt: &R,
     given: &Given,
@@ -239,7 +239,7 @@ pub fn merge<R: Abort + AllocGlobal + Threads + Wait + Sync>(
     merge_watched(rt, given, &NoGate)
 }
 
-/// Asserts that what is given is refused with this text.
+/// Asserts that these inputs are rejected with this string.
 pub fn expect_refusal<R: Abort + AllocGlobal + Threads + Wait + Sync>(
     rt: &R,
     given: &Given,
@@ -297,7 +297,7 @@ fn text_of(alloc: Global, wanted: Wanted, runs: &str) -> Result<String, AllocErr
     )
 }
 
-/// Asserts that the merged log holds just that, and these runs, which stand in JSON.
+/// Asserts that the merged log is exactly that, with these runs, given as JSON.
 pub fn expect_runs<R: Abort + AllocGlobal + Threads + Wait + Sync>(
     rt: &R,
     given: &Given,

@@ -5,7 +5,7 @@ use std::io;
 use std::io::{Read, Write};
 use std::test::Fail;
 
-/// Gives so many bytes a read, and fails at the read after `good` of them.
+/// Returns this many bytes per read, and fails at the read after `good` of them.
 #[derive(Drop)]
 struct Failing {
     piece: usize,

@@ -1,4 +1,4 @@
-//! Merges that are refused, and which of several faults is answered.
+//! Merges that are rejected, and which of several errors is reported.
 use crate::merge::merging::{
     Given, beside, expect_part, expect_refusal, log_of, log_with, merge, one_log,
 };
@@ -16,7 +16,7 @@ const WHOLE: &str = concat!(
 
 const BROKEN: &str = r#"{"version":"2.1.0","runs":[{"tool":{"driver":{"nam"#;
 
-/// So many times the part, parted by commas, between brackets.
+/// This many times the part, separated by commas, between brackets.
 fn list_of(alloc: Global, times: u32, part: &str) -> Result<String, AllocError> {
     let mut text = String::from_str(alloc, "[")?;
     for number in 0..times {
@@ -29,7 +29,7 @@ fn list_of(alloc: Global, times: u32, part: &str) -> Result<String, AllocError> 
     Ok(text)
 }
 
-/// A log of so many runs without a result.
+/// A log of this many runs without results.
 fn log_of_runs(alloc: Global, times: u32) -> Result<String, AllocError> {
     let runs = list_of(
         alloc,
@@ -39,7 +39,7 @@ fn log_of_runs(alloc: Global, times: u32) -> Result<String, AllocError> {
     log_with(alloc, runs.as_str())
 }
 
-/// A log of one run with so many results that are empty.
+/// A log of one run with this many empty results.
 fn log_of_results(alloc: Global, times: u32) -> Result<String, AllocError> {
     let results = list_of(alloc, times, "{}")?;
     let runs = format!(in alloc;
@@ -59,7 +59,7 @@ fn nested(alloc: Global, depth: u32) -> Result<String, AllocError> {
     Ok(text)
 }
 
-/// One log and, where its text isn't empty, one baseline are refused with this text.
+/// One log and, if its text is not empty, one baseline are rejected with this string.
 fn expect_faulty<R: Abort + AllocGlobal + Threads + Wait + Sync>(
     rt: &R,
     log: &str,
@@ -163,7 +163,7 @@ fn a_skipped_result_is_never_bad_but_its_run_may_be(rt: HostRuntime) -> Result<(
     expect_faulty(&rt, WHOLE, rules.as_str(), "baseline 0, run 0: BadRules")
 }
 
-/// So many logs and so many baselines of this text.
+/// This many logs and this many baselines with this text.
 fn many(alloc: Global, logs: u32, baselines: u32, text: &str) -> Result<Given, AllocError> {
     let mut given = Given::new(alloc);
     for _ in 0..logs {

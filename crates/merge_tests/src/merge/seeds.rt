@@ -1,4 +1,4 @@
-//! That the merged log has the same bytes whatever the tables hash with.
+//! The merged log has the same bytes for any seed of the tables.
 use crate::merge::merging::{Bytes, Given, NOTHING, Wanted, beside, expect_log};
 use std::alloc::{AllocError, Global};
 use std::test::Fail;
@@ -13,7 +13,7 @@ fn push_members(text: &mut String, alloc: Global, number: u32) -> Result<(), All
     text.push_str(members.as_str())
 }
 
-/// Pushes a result as it stands in a log.
+/// Adds a result as it is in a log.
 fn push_result(text: &mut String, alloc: Global, number: u32) -> Result<(), AllocError> {
     text.push_str(" {")?;
     push_members(text, alloc, number)?;

@@ -1,4 +1,4 @@
-//! What reports tell of a merge.
+//! The findings of a merge.
 use crate::merge::merging::{ZEROS, seed_of};
 use sarif_counts::{Options, Policy, States};
 use sarif_findings::{Finding, Reporting};
@@ -21,7 +21,7 @@ const LOG: &str = r#"{"version":"2.1.0","runs":[{"tool":{"driver":{"name":"T"}},
 {"ruleId":"C","message":{"text":"{0} is new","arguments":["this"]},"locations":[
 {"physicalLocation":{"artifactLocation":{"uri":"file:///b/a.c"},"region":{"startLine":3}}}]}]}]}"#;
 
-/// The first of these, one that is absent already, and one that is gone.
+/// The first of these, one that is already absent, and one that is no longer reported.
 const BASELINE: &str = r#"{"version":"2.1.0","runs":[{"tool":{"driver":{"name":"T"}},"results":[
 {"ruleId":"D","level":"note","message":{"text":"long gone"},"baselineState":"absent"},
 {"ruleId":"A","level":"error","message":{"text":"known"}},
@@ -49,13 +49,13 @@ fn strict() -> Policy {
     }
 }
 
-/// A merge with these options, of which reports are made by this.
+/// A merge with these options, with findings for this.
 fn asked_by<'o>(options: &'o Options, made: &'o Option<Reporting>) -> Asked<'o> {
     let reporting = made.as_ref();
     Asked { options, reporting }
 }
 
-/// What is told of a log with this baseline.
+/// The findings of a log with this baseline.
 fn told_of<'s, R: Abort + AllocGlobal + Threads + Wait + Sync>(
     rt: &R,
     log: &'s str,
@@ -107,7 +107,7 @@ fn numbered_result(alloc: Global, number: usize) -> Result<String, AllocError> {
     format!(in alloc; "{{\"message\":{{\"text\":\"{number}\"}},\"suppressions\":[{own}]}}")
 }
 
-/// A log with so many results, and its text report.
+/// A log with this many results, and its text report.
 fn numbered_log(alloc: Global, count: usize) -> Result<(String, String), AllocError> {
     let mut log = String::from_str(alloc, "{\"version\":\"2.1.0\",\"runs\":[{\"results\":[")?;
     let mut lines = String::new(alloc);

@@ -86,7 +86,7 @@ fn two_workers_meet_over_what_a_reader_gives(rt: HostRuntime) -> Result<(), Fail
     Ok(())
 }
 
-/// Notes of which shards it heard, each by its bit, and how often.
+/// Notes which shards it saw, each by its bit, and how often.
 #[derive(Drop)]
 struct Heard {
     shards: AtomicU64,
@@ -134,7 +134,7 @@ impl Gate for Onlooker {
     }
 }
 
-/// A run of so many results.
+/// A run with this many results.
 fn run_of_many(alloc: Global, times: u32) -> Result<String, AllocError> {
     let mut runs = String::from_str(alloc, "lint:")?;
     for _ in 0..times {
@@ -160,7 +160,7 @@ fn each_shard_is_judged_and_taken_once(rt: HostRuntime) -> Result<(), Fail> {
     Ok(())
 }
 
-/// The results of one run are shared out, so that a log of one run keeps many workers busy.
+/// The results of one run are shared among workers, so that a log of one run keeps many workers busy.
 #[test]
 fn results_of_one_run_are_shared_out(rt: HostRuntime) -> Result<(), Fail> {
     let mut given = one_log(rt.alloc(), "lint: A A")?;

@@ -52,7 +52,7 @@ fn results_are_made_one_at_a_time(rt: HostRuntime) -> Result<(), Fail> {
     Ok(())
 }
 
-/// Whether the run that is kept beside its results has none.
+/// Returns whether the run without its results has none.
 fn is_bare(run: IndexedRun<'_, '_>) -> bool {
     run.into_bare().get("results").is_none()
 }

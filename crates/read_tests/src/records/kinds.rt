@@ -1,4 +1,4 @@
-//! The texts of each variant, there and back.
+//! The strings of each variant, there and back.
 use sarif_model::{Kind, Level, State, Status};
 use std::test::Fail;
 

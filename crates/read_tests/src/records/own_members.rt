@@ -6,7 +6,7 @@ use std::alloc::Global;
 use std::process::Abort;
 use std::test::Fail;
 
-/// What `read_parts` answers for a result with this JSON text, once it is read and stripped.
+/// What `read_parts` returns for a result with this JSON, after it is read and stripped.
 fn read(alloc: Global, text: &str) -> Result<Result<Parts, Refusal<Fault>>, Fail> {
     let run = format!(in alloc;
         "{{\"tool\":{{\"driver\":{{\"name\":\"lint\"}}}},\"results\":[{text}]}}"
@@ -115,7 +115,7 @@ fn an_absent_status_is_accepted(rt: HostRuntime) -> Result<(), Fail> {
     Ok(())
 }
 
-/// A result in which nothing is said.
+/// A result without members.
 fn is_empty(parts: &Parts) -> bool {
     let message = &parts.message;
     let names_nothing = message.text.is_none()
@@ -248,7 +248,7 @@ fn no_other_value_is_an_index(rt: HostRuntime) -> Result<(), Fail> {
     Ok(())
 }
 
-/// The fault for which a result is refused, where it is.
+/// The error for which a result is rejected, if it is rejected.
 fn fault_of(alloc: Global, text: &str) -> Result<Option<Fault>, Fail> {
     match read(alloc, text)? {
         Ok(_) => Ok(None),

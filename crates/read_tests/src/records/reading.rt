@@ -1,9 +1,9 @@
-//! Logs that are read whole.
+//! Logs that are read as whole values.
 use sarif_read::read_log;
 use std::alloc::Global;
 use std::test::Fail;
 
-/// The runs of a log as JSON texts that end in a newline each.
+/// The runs of a log as JSON, each with a newline.
 fn read_runs(alloc: Global, log: &str) -> Result<String, Fail> {
     let log = read_log(alloc, log.as_bytes())?;
     let mut runs = String::new(alloc);

@@ -1,4 +1,4 @@
-//! Faults of the suppression file.
+//! Errors of the suppression file.
 use super::check;
 use sarif_model::{At, Cause, Fault, Source};
 use std::test::Fail;

@@ -1,4 +1,4 @@
-//! Faults of whole logs, and those of no input.
+//! Errors of whole logs, and errors without an input.
 use super::check;
 use sarif_explain::{FaultSource, explanation};
 use sarif_model::{At, Cause, Fault, MergeFault, Source};

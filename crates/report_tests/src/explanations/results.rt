@@ -1,4 +1,4 @@
-//! Faults of results.
+//! Errors of results.
 use super::check;
 use sarif_model::{At, Cause, Fault, Source};
 use std::alloc::Global;

@@ -1,4 +1,4 @@
-//! Faults of runs.
+//! Errors of runs.
 use super::check;
 use sarif_model::{At, Cause, Fault, Source};
 use std::alloc::Global;

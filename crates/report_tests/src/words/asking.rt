@@ -1,4 +1,4 @@
-//! Which words ask for what.
+//! Which arguments ask for what.
 
 use crate::words::seed;
 use sarif_counts::{Options, States};
@@ -18,13 +18,13 @@ fn read(rt: &HostRuntime, line: &str) -> Result<Result<Request, WordsFault>, All
     Ok(read_words(rt.alloc(), seed()?, words.as_slice()))
 }
 
-/// What the words ask for; a refusal fails the test.
+/// The request of the arguments; a rejection fails the test.
 fn accepted(rt: &HostRuntime, line: &str) -> Result<Request, Fail> {
     let read = read(rt, line)?;
     Ok(read.map_err(|_| "refused")?)
 }
 
-/// Whether these are just the names.
+/// Returns whether these are exactly the names.
 fn are_named(found: &[Text], names: &[&str]) -> bool {
     if found.len() != names.len() {
         return false;
@@ -240,7 +240,7 @@ fn names_that_may_stand_together_do(rt: HostRuntime) -> Result<(), Fail> {
         // A log, or a baseline, is replaced by the merged log.
         "a --out a",
         "a --baseline b --out b",
-        // A log stands twice.
+        // A log is named twice.
         "a a --out o",
         // Standard input, standard output and files of that name.
         "- --out -",
@@ -251,7 +251,7 @@ fn names_that_may_stand_together_do(rt: HostRuntime) -> Result<(), Fail> {
         // A name is compared byte for byte.
         "a --out o --text ./o",
         "a --out o --text O",
-        // The root is no name.
+        // The root is not a file name.
         "a --out o --text t --root t",
     ] {
         match read(&rt, line)? {

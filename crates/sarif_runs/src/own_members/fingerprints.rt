@@ -19,7 +19,7 @@ pub(super) struct Fingerprints {
     pub partial: Pairs,
 }
 
-/// The names of these members with their texts, in order, without those that are null.
+/// The names of these members with their strings, in order, without members that are null.
 #[tactic(auto, using(crate::proofs::Pairs::pair_steps))]
 fn pairs_of_members(alloc: Global, members: &Map<String, Value>) -> Result<Pairs, Refusal<Fault>>
     ensures ok { IfOk result (λ pairs. pairs_among (members_view members.now.entries) ≡ Ok pairs) }
@@ -40,7 +40,7 @@ fn pairs_of_members(alloc: Global, members: &Map<String, Value>) -> Result<Pairs
     Ok(pairs)
 }
 
-/// The map of texts `name` of a result; absent it is empty. A value that is null counts as absent.
+/// The map of strings `name` of a result; empty if it is missing. A null value is treated as missing.
 fn read_pairs(alloc: Global, result_value: &Value, name: &str) -> Result<Pairs, Refusal<Fault>>
     ensures ok { IfOk result (λ pairs. pairs_at name.now (seen result_value.now) ≡ Ok pairs) }
     ensures err { IfFault result (λ fault. pairs_at name.now (seen result_value.now) ≡ Err fault) }

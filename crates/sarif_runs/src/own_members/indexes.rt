@@ -10,7 +10,7 @@ use serde_json::Value;
 /// The indexes by which a result names parts of its run. One that is absent or -1 is `None`.
 #[derive(Clone, Copy)]
 pub(super) struct Indexes {
-    /// `rule.index`, else `ruleIndex`.
+    /// `rule.index`, otherwise `ruleIndex`.
     pub rule_index: Option<u32>,
     /// `rule.toolComponent.index`: the extension.
     pub component: Option<u32>,

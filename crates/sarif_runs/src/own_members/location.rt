@@ -20,8 +20,8 @@ pub(super) struct Location {
     pub artifact: Option<u32>,
 }
 
-/// The artifact of the first location of a result. `BadLocation` where a member is of a wrong
-/// kind, then `BadIndex` (SARIF 2.1.0, result object, "locations property").
+/// The artifact of the first location of a result. Returns `BadLocation` if a member has the wrong type, then
+/// `BadIndex` (SARIF 2.1.0, result object, "locations property").
 #[tactic(auto, unfolding(crate::specs::OwnMembers::own_location))]
 pub(super) fn read_location(alloc: Global, result_value: &Value) -> Result<Location, Refusal<Fault>>
     ensures ok { IfOk result (λ location. own_location (seen result_value.now) ≡ Ok location) }

@@ -11,12 +11,12 @@ use sarif_model::{Fault, Message, Refusal, Sequence, Text, copy_if_there};
 use serde_json::Value;
 use std::alloc::Global;
 
-/// What a result says, and of which rule.
+/// The message of a result, and its rule.
 #[derive(Drop)]
 pub(super) struct MessageAndRule {
     /// `message`.
     pub message: Message,
-    /// `ruleId`, else `rule.id`.
+    /// `ruleId`, otherwise `rule.id`.
     pub rule_id: Option<Text>,
 }
 
@@ -27,7 +27,7 @@ fn read_text(value: &Value) -> Result<&str, Fault>
     value.as_str().ok_or(Fault::BadMember)
 }
 
-/// The texts that these values are, in order.
+/// The strings among these values, in order.
 #[tactic(auto, using(sarif_model::proofs::ReadEach::read_steps))]
 fn texts_of(alloc: Global, values: &[Value]) -> Result<Sequence<Text>, Refusal<Fault>>
     ensures ok { IfOk result (λ texts. read_each text_of (map seen values.now) ≡ Ok texts) }
@@ -40,7 +40,7 @@ fn texts_of(alloc: Global, values: &[Value]) -> Result<Sequence<Text>, Refusal<F
     Ok(texts)
 }
 
-/// The elements of the array of texts `name` of an object that may be absent; absent they are none.
+/// The elements of the array of strings `name` of an object that may be missing; empty if it is missing.
 fn read_texts(
     alloc: Global,
     value: Option<&Value>,
@@ -74,7 +74,7 @@ fn read_message(alloc: Global, result_value: &Value) -> Result<Message, Refusal<
     })
 }
 
-/// `ruleId` of a result, else its `rule.id`.
+/// `ruleId` of a result, otherwise its `rule.id`.
 #[tactic(auto, unfolding(crate::specs::OwnMembers::own_rule_id))]
 fn read_rule_id(result_value: &Value) -> Result<Option<&str>, Fault>
     ensures { result_map (option_map (λ id. id.now)) result ≡ own_rule_id (seen result_value.now) }
@@ -86,9 +86,8 @@ fn read_rule_id(result_value: &Value) -> Result<Option<&str>, Fault>
     Ok(own.or(id))
 }
 
-/// The message of a result and its rule's id; `BadMember` where a member is of a wrong kind
-/// (SARIF 2.1.0, result object, "message property", "ruleId property", "rule property",
-/// "provenance property").
+/// The message of a result and its rule's id; `BadMember` if a member has the wrong type (SARIF 2.1.0, result
+/// object, "message property", "ruleId property", "rule property", "provenance property").
 #[tactic(auto, unfolding(crate::specs::OwnMembers::own_message_and_rule))]
 pub(super) fn read_message_and_rule(
     alloc: Global,

@@ -11,7 +11,7 @@ use sarif_model::{Fault, Refusal, Sequence, Status};
 use serde_json::Value;
 use std::alloc::Global;
 
-/// `BadSuppression` where the `kind` of a suppression isn't one of its two texts.
+/// Returns `BadSuppression` if the `kind` of a suppression is not one of its two strings.
 fn check_kind(suppression: &Value) -> Result<(), Fault>
     ensures { result ≡ check_suppression_kind (seen suppression.now) }
 {

@@ -21,7 +21,7 @@ fn one_suppression_under_review_keeps_a_result_active(rt: HostRuntime) -> Result
     expect_written(&rt, file, &finding, own, (own, false))
 }
 
-/// Asserts what is written of a result of that rule, which was accepted in its source.
+/// Asserts the written suppressions of a result of that rule, which was accepted in its source.
 fn expect_of_accepted(
     rt: &(impl Abort + AllocGlobal),
     file: FileText,
@@ -64,7 +64,7 @@ fn entries_are_applied_in_file_order(rt: HostRuntime) -> Result<(), Fail> {
     expect_written(&rt, file, &finding, "[]", (list, false))
 }
 
-/// Asserts which entries match a result at the place `a.c` with that rule id and guid.
+/// Asserts which entries match a result at the place `a.c` with that rule id and GUID.
 fn expect_with_guid(
     rt: &(impl Abort + AllocGlobal),
     file: FileText,
@@ -104,7 +104,7 @@ fn pairs_of(alloc: Global, pairs: &[(&str, &str)]) -> Result<Sequence<(Text, Tex
     Ok(made)
 }
 
-/// Asserts the entries that match a result of the rule `R1` at that uri, with these fingerprints.
+/// Asserts the entries that match a result of the rule `R1` at that URI, with these fingerprints.
 fn expect_with_fingerprints(
     rt: &(impl Abort + AllocGlobal),
     file: FileText,
@@ -156,7 +156,7 @@ fn unmarked_by(alloc: Global, rules: &Plain, rule_ids: &[&str]) -> Result<Vec<u3
     Ok(counts)
 }
 
-/// The same of a file that isn't read yet.
+/// The same for a file that is not read yet.
 fn unmarked_of(
     alloc: Global,
     file: FileText,
@@ -181,12 +181,12 @@ fn size_and_object(alloc: Global, rules: &Plain) -> Result<(u32, String), AllocE
     Ok((rules.len(), rules.object(alloc, 0)?.to_string(alloc)?))
 }
 
-/// The same of a file that isn't read yet.
+/// The same for a file that is not read yet.
 fn size_and_object_of(alloc: Global, file: FileText) -> Result<(u32, String), Refusal<FileFault>> {
     asked_of(alloc, file, |rules| size_and_object(alloc, rules))
 }
 
-/// The same where there is no file.
+/// The same without a file.
 fn size_and_object_of_none(alloc: Global) -> Result<(u32, String), AllocError> {
     let rules: Plain = Suppressions::none(alloc, BuildHasherDefault::<FoldHasher>::new(), None)?;
     size_and_object(alloc, &rules)

@@ -17,8 +17,8 @@ fn add_pair(
     pairs.push((name, Text::copy_of(alloc, value)?))
 }
 
-/// Whether the entry, alone in a file of version 2, suppresses the result, where it matches it just
-/// then.
+/// Returns whether the entry, alone in a file of version 2, suppresses the result; it must match it if and only if
+/// it suppresses it.
 fn is_suppressed_by(
     alloc: Global,
     entry: &str,
@@ -139,8 +139,8 @@ fn each_fingerprint_must_stand_with_its_value(rt: HostRuntime) -> Result<(), Fai
     expect_each(&rt, &same, &other, &finding)
 }
 
-/// Asserts whether an entry for `gen/` that ends on 31 January 2025 suppresses a result at that uri
-/// on that day.
+/// Asserts whether an entry for `gen/` that expires on 31 January 2025 suppresses a result at that URI on that
+/// date.
 fn expect_on(
     rt: &(impl Abort + AllocGlobal),
     uri: &str,

@@ -1,4 +1,4 @@
-//! Which entries are refused, and why.
+//! Which entries are rejected, and why.
 use super::{FileText, all_entries_have, fault_of_text, in_entry, second_version};
 use sarif_model::{Fault, Refusal};
 use sarif_suppress::FileFault;
@@ -29,7 +29,7 @@ const VALUES: [(&str, &str); 6] = [
     ("object", "{}"),
 ];
 
-/// The fault of an entry with this member alone.
+/// The error of an entry with only this member.
 fn fault_of_member(
     alloc: Global,
     member: &str,
@@ -43,7 +43,7 @@ fn fault_of_member(
     fault_of_text(alloc, file)
 }
 
-/// Whether a member is refused with every value of another kind than its own.
+/// Returns whether a member is rejected with every value of another type.
 fn is_of_its_kind_alone(alloc: Global, member: &str, wanted: &str) -> Result<bool, AllocError> {
     for (kind, value) in VALUES {
         let fault = fault_of_member(alloc, member, value)?;

@@ -1,4 +1,4 @@
-//! Which files are refused, and why.
+//! Which files are rejected, and why.
 use super::{all_entries_have, all_files_have, fault_of, in_entry, whole};
 use sarif_model::Fault;
 use sarif_suppress::FileFault;
@@ -79,7 +79,7 @@ fn one_order_mark_is_dropped(rt: HostRuntime) {
     );
 }
 
-/// That many numbers with commas between them, which are no entries.
+/// That many numbers with commas between them, which are not entries.
 fn numbers(alloc: Global, count: u32) -> Result<String, AllocError> {
     let mut text = String::from_str(alloc, "0")?;
     for _ in 1..count {
@@ -106,7 +106,7 @@ fn ten_thousand_entries_are_the_most(rt: HostRuntime) -> Result<(), Fail> {
     Ok(())
 }
 
-/// Whether the fault is written so.
+/// Returns whether the error is printed like this.
 fn is_said(alloc: Global, fault: FileFault, text: &str) -> Result<bool, AllocError> {
     Ok(format!(in alloc; "{fault}")?.as_str() == text)
 }

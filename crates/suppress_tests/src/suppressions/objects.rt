@@ -1,5 +1,4 @@
-//! What is written of a result: its own suppressions as they stand, and the objects of entries,
-//! each of them once.
+//! The written suppressions of a result: its own, unchanged, and the objects of entries, each of them once.
 use super::{expect_written, first_version, result_at, unused_of, with_own};
 use sarif_model::{Record, Status};
 use std::alloc::{AllocError, Global};
@@ -29,7 +28,7 @@ fn equal_objects_are_written_once(rt: HostRuntime) -> Result<(), Fail> {
     Ok(())
 }
 
-/// A result of the rule `R1` with an accepted suppression of its own.
+/// A result of the rule `R1` with an accepted own suppression.
 fn accepted(alloc: Global) -> Result<Record, AllocError> {
     with_own(result_at(alloc, "R1", None)?, Status::Accepted)
 }

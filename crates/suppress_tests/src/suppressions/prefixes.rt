@@ -1,4 +1,4 @@
-//! Entries that name a prefix of a uri.
+//! Entries that name a URI prefix.
 use super::{expect_entries, result_at, second_version};
 use std::process::Abort;
 use std::test::Fail;
@@ -16,8 +16,7 @@ fn expect_at(
     Ok(())
 }
 
-/// Six entries that name a prefix, two of them beside the tool: nested, doubled, empty, of two
-/// lengths.
+/// Six entries that name a prefix, two of them together with the tool: nested, repeated, empty, of two lengths.
 const ENTRIES: &str = "{\"uriPrefix\":\"src/\"},{\"uriPrefix\":\"src/gen/\"},\
     {\"uriPrefix\":\"lib/\"},{\"uriPrefix\":\"src/\",\"tool\":\"lint\"},\
     {\"uriPrefix\":\"\",\"tool\":\"other\"},{\"uriPrefix\":\"src/\"}";
@@ -37,7 +36,7 @@ fn a_uri_shorter_than_each_prefix_matches_none(rt: HostRuntime) -> Result<(), Fa
     expect_at(&rt, ENTRIES, &[("src", &[])])
 }
 
-/// Prefixes of one uri, the longest first, and none of them as long as another.
+/// Prefixes of one URI, the longest first, all of different lengths.
 const FALLING: &str = "{\"uriPrefix\":\"src/gen/a.c\"},{\"uriPrefix\":\"src/gen\"},\
     {\"uriPrefix\":\"s\"},{\"uriPrefix\":\"\"}";
 

@@ -3,7 +3,7 @@ use Rattle.serde_json.specs.View.{members_view}
 use Rattle.sarif_suppress.specs.Written.{are_just}
 use Rattle.sarif_suppress.proofs.key.are_just.Given as goal
 
--- the members gone through are the texts before those that are left
+-- the members so far are the strings before the remaining ones
 abbrev pub invariant-loop-name : goal.invariant-loop-name
 invariant-loop-name l = record {
   within : l.at ≤ length l.texts;

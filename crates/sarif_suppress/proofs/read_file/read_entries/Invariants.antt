@@ -4,7 +4,7 @@ use Rattle.sarif_suppress.specs.File.{entries_from}
 use Rattle.sarif_suppress.proofs.FromEntries.{joined}
 use Rattle.sarif_suppress.proofs.read_file.read_entries.Given as goal
 
--- the entries so far, and then those that are left, or the first fault of these
+-- the entries so far, followed by the remaining ones, or the first error among them
 abbrev pub invariant-loop-number : goal.invariant-loop-number
 invariant-loop-number l = record {
   count : length l.entries.items ≡ l.number;

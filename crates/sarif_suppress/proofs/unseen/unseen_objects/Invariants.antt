@@ -4,7 +4,8 @@ use Rattle.sarif_suppress.specs.Keys.{HasKeysOf}
 use Rattle.sarif_suppress.specs.Written.{with_objects_at}
 use Rattle.sarif_suppress.proofs.unseen.unseen_objects.Given as goal
 
--- what is left is added behind the objects so far, and the keys are those of the own suppressions and of these
+-- the remaining objects are added after the objects so far, and the keys are those of the own suppressions and of
+-- these objects
 abbrev pub invariant-loop-number : goal.invariant-loop-number
 invariant-loop-number g l = record {
   keys : HasKeysOf l.keys (map view l.own ++ map view l.unseen.items);
