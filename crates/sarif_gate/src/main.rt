@@ -5,7 +5,6 @@ ghost use Rattle.std.specs.Prelude.{◌≡◌, ◌≤◌, ◌<◌, ◌^◌, IfOk
 ghost use Rattle.std.specs.List.{All};
 ghost use Rattle.sarif_streams.specs.Counted.{failed_calls};
 ghost use Rattle.sarif_streams.specs.OptionalReader.{failed_calls_if};
-ghost use Rattle.sarif_program.specs.Reports.{HaveRoom};
 ghost use Rattle.sarif_request.specs.Words.{Answers, words_status};
 ghost use Rattle.sarif_request.specs.declared.request.Request.{Request as Asked};
 ghost use Rattle.sarif_request.specs.declared.words.WordsFault.{WordsFault as Mistake};
@@ -120,7 +119,7 @@ fn merge_streams<'a, T: Threads + Wait + Sync>(
     requires baselines { All (λ reader. failed_calls reader < 2 ^ 63) readers.old.baselines.items }
     requires suppressions { failed_calls_if readers.old.suppressions < 2 ^ 63 }
     requires writes { failed_calls writers.old.out < 2 ^ 63 }
-    requires reports { HaveRoom writers.old.reports }
+    requires reports { All (λ report. failed_calls report.to < 2 ^ 63) writers.old.reports.items }
     requires says { failed_calls writers.old.say < 2 ^ 63 }
     ensures known { result ≤ 3 }
 {

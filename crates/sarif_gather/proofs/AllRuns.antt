@@ -1,4 +1,4 @@
--- All runs: arrivals are accepted, and close every run, just where they are lawful.
+-- All runs: arrivals are accepted, and close every run, if and only if they are lawful.
 use Rattle.std.proofs.Common.{◌≡◌, ℕ, zero, suc, ◌+◌, ◌<◌, ◌≤◌, List, [], ◌∷◌, ◌++◌, map, length, replicate, Some, None, refl, sym, ap, ◌∙◌, subst, ⊎_elim, arith, zero-add}
 use Rattle.std.specs.Prelude.{slice_get}
 use Rattle.std.specs.List.{range_with_len, flat_map}
@@ -28,7 +28,7 @@ module _ {T C : Type 0} where
       (λ (n : run_in p ≡ run → ⊥). subst (AreOf run) (sym (on_other run p ps n)) (on_mine run ps))
       (cases_eq (run_in p) run)
 
-  -- where no arrival is refused, no piece of any run is, and no arrival is of a stranger
+  -- if no arrival is rejected, no piece of any run is, and no arrival belongs to an unknown run
   run_accepted : (runs : List (Held T C)) (ps : List (Piece T C)) (run : ℕ) (h : Held T C) → slice_get runs run ≡ Some h → AllAccepted runs ps → Accepted h (on_run run ps)
   run_accepted runs [] run h at all = tt
   run_accepted runs (p ∷ ps) run h at all = ⊎_elim
@@ -48,7 +48,7 @@ module _ {T C : Type 0} where
       (λ (n : run_in p ≡ run → ⊥). on_other run p ps n ∙ no_stranger (with_piece runs p) ps all.1 run (let same = length_by runs p (slice_get runs (run_in p)) in omega (arith, same)))
       (cases_eq (run_in p) run)
 
-  -- where no piece of any run is refused, and no arrival is of a stranger, no arrival is refused
+  -- if no piece of any run is rejected, and no arrival belongs to an unknown run, no arrival is rejected
   all_accepted : (runs : List (Held T C)) (ps : List (Piece T C)) → ((run : ℕ) → length runs ≤ run → on_run run ps ≡ [])
       → ((run : ℕ) (h : Held T C) → slice_get runs run ≡ Some h → Accepted h (on_run run ps)) → AllAccepted runs ps
   all_accepted runs [] known each = tt
@@ -139,7 +139,7 @@ module _ {T C : Type 0} (runs : ℕ) (arrivals : List (Piece T C)) where
     pub lawful_closed : first_open (all_after (replicate runs empty_run) arrivals) ≡ None
     lawful_closed = ap first_open lawful_held ∙ no_open (assembled runs arrivals)
 
--- what is told of arrivals
+-- properties of arrivals
 module _ {T C : Type 0} (runs : ℕ) (arrivals ps : List (Piece T C)) (is : arrivals ≡ ps) where
   pub told_lists : (lists : List (Whole T C)) → AllAccepted (replicate runs empty_run) ps → all_after (replicate runs empty_run) ps ≡ map closed_run lists → IsLawful runs arrivals × (lists ≡ assembled runs arrivals)
   told_lists lists all held =

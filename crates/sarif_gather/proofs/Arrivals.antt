@@ -106,7 +106,7 @@ others_first : {A : Type 0} (f : A → ℕ) (x : A) (xs : List A) → total f xs
 others_first f x xs none zero y n at = absurd (n refl)
 others_first f x xs none (suc j) y n at = none_of f xs none j y at
 
--- the one that has it, where there is just one
+-- the one that has it, if there is exactly one
 pub the_one : {A : Type 0} (f : A → ℕ) (xs : List A) → total f xs ≡ 1 → (k : ℕ) × (x : A) × (slice_get xs k ≡ Some x) × (f x ≡ 1) × ((j : ℕ) (y : A) → j ≢ k → slice_get xs j ≡ Some y → f y ≡ 0)
 the_one f [] one = absurd (omega arith)
 the_one f (x ∷ xs) one = ⊎_elim

@@ -1,4 +1,4 @@
--- Arrivals at a collector, one after another.
+-- Arrivals at a collector, in order.
 use Rattle.std.proofs.Common.{◌≡◌, inr, ℕ, zero, suc, cond, Bool, true, false, List, [], ◌∷◌, ◌++◌, length, take, Option, Some, None, refl, sym, ap, ◌∙◌, subst, arith}
 use Rattle.std.specs.Prelude.{slice_get}
 use Rattle.std.proofs.lemmas.List.{take_at, take_all}
@@ -41,7 +41,7 @@ module _ {T C : Type 0} where
   at_length [] p rest = refl
   at_length (q ∷ ps) p rest = at_length ps p rest
 
-  -- a reason against a piece is neither want of memory nor that a run has no close
+  -- a reason against a piece is neither that memory ran out nor that a run has no close
   never_open : (bodies : List (ℕ × T)) (p : Piece T C) (w : Why) → Later w → refusal_of_open bodies p ≡ Some w → ⊥
   never_open bodies (Item run seq body) w late e = never_by (has_number seq bodies) w late e
   never_open bodies (Close run count tail) w late e = never_short (counts_up 0 count bodies) w late e
@@ -54,7 +54,7 @@ module _ {T C : Type 0} where
   never None p w late e = never_is Stranger w (λ l. l) late e
   never (Some h) p w late e = never_tail h.tail h.bodies p w late e
 
-  -- the first refused arrival
+  -- the first rejected arrival
   module _ (runs : List (Held T C)) (arrivals ps : List (Piece T C)) (p : Piece T C) (rest : List (Piece T C)) (is : arrivals ≡ ps ++ p ∷ rest) (at : ℕ) (len : at ≡ length ps) (all : AllAccepted runs ps) where
     taken_before : take at arrivals ≡ ps
     taken_before = ap (take at) is ∙ take_at ps (p ∷ rest) at (sym len)
@@ -83,14 +83,14 @@ module _ {T C : Type 0} where
       here = by_reason (refusal_of (all_after runs ps) p) why refl r;
     }
 
-  -- all were taken, and a run has no close
+  -- all were accepted, and a run has no close
   pub left_open : (runs : List (Held T C)) (arrivals ps : List (Piece T C)) → arrivals ≡ ps → (at : ℕ) → at ≡ length ps → AllAccepted runs ps → (run : ℕ) → first_open (all_after runs ps) ≡ Some run → IsFirstFault runs arrivals at (Unclosed run)
   left_open runs arrivals ps is at len all run open_run = record {
     before = subst (AllAccepted runs) (sym (ap (take at) is ∙ take_all at ps (omega arith))) all;
     here = (len ∙ ap length (sym is), ap (λ l. first_open (all_after runs l)) is ∙ open_run);
   }
 
-  -- where all are accepted, none is refused at any place
+  -- if all are accepted, none is rejected at any position
   taken_at : (runs : List (Held T C)) (arrivals : List (Piece T C)) (at : ℕ) (why : Why) → AllAccepted runs arrivals → RefusesAt runs arrivals at why → ⊥
   taken_at runs [] at why all refused = let e = refused.1 in cc
   taken_at runs (p ∷ ps) zero why all refused =
@@ -98,7 +98,7 @@ module _ {T C : Type 0} where
       let e : None ≡ Some why = sym all.0 ∙ ap (refusal_of runs) same ∙ refused.2 in cc
   taken_at runs (p ∷ ps) (suc at) why all refused = taken_at (with_piece runs p) ps at why all.1 refused
 
-  -- arrivals that a fault is told of are refused, or leave a run open, if it isn't want of memory
+  -- arrivals with an error are rejected, or leave a run open, unless memory ran out
   pub taken_lacks : (runs : List (Held T C)) (arrivals : List (Piece T C)) (at : ℕ) (why : Why) → AllAccepted runs arrivals → first_open (all_after runs arrivals) ≡ None → FaultHere runs arrivals at why → why ≡ OutOfMemory
   taken_lacks runs arrivals at OutOfMemory all closed here = refl
   taken_lacks runs arrivals at (Unclosed run) all closed here = absurd (let e : Some run ≡ None = sym here.1 ∙ closed in cc)

@@ -91,7 +91,7 @@ module _ {T : Type 0} where
   below_rising a k [] lt up = refl
   below_rising a k (e ∷ es) lt up = at_other k e es (λ q. omega (arith, up.0)) ∙ below_rising (e.0 + 1) k es (omega (arith, up.0)) up.1
 
-  -- rising numbers, of which each from a on and below n is there, and no more, count up
+  -- rising numbers that include each number from a up to n, and no others, are consecutive
   pub counts : (a n : ℕ) (es : List (ℕ × T)) → Rising a es → a + length es ≡ n → ((k : ℕ) → a ≤ k → k < n → bodies_at k es ≢ []) → counts_up a n es ≡ true
   counts a n [] up len there = eq-eqb a n (omega arith)
   counts a n (e ∷ es) up len there =
@@ -125,7 +125,7 @@ module _ {T : Type 0} where
   length-enumerate a [] = refl
   length-enumerate a (x ∷ xs) = ap suc (length-enumerate (a + 1) xs)
 
-  -- bodies that a row tells stand in its order
+  -- bodies that a row contains are in its order
   pub in_order_row : (xs : List T) (bodies : List (ℕ × T)) → Tells (enumerate_from 0 xs) bodies → in_order bodies ≡ xs
   in_order_row xs bodies t =
       let len : length bodies ≡ length xs = sym t.len ∙ length-enumerate 0 xs in

@@ -39,7 +39,7 @@ pub total_le : {A : Type 0} (f g : A → ℕ) (vs : List A) → ((j : ℕ) (u : 
 total_le f g [] le = omega arith
 total_le f g (u ∷ vs) le = let h = total_le f g vs (λ j w at. le (suc j) w at) in let here = le 0 u refl in omega arith
 
--- where one has all of g, it has all of f
+-- if one has all of g, it has all of f
 pub total_whole : {A : Type 0} (f g : A → ℕ) (vs : List A) (i : ℕ) (v : A) → get_elem? vs i ≡ some v → g v ≡ total g vs → ((j : ℕ) (u : A) → get_elem? vs j ≡ some u → g u ≡ 0 → f u ≡ 0) → total f vs ≡ f v
 total_whole f g [] i v at whole none = absurd (some-ne-none v (sym at))
 total_whole f g (u ∷ vs) zero v at whole none =

@@ -1,4 +1,4 @@
--- Where an end of each worker was taken, all was taken.
+-- If an end of each worker was received, everything was received.
 use Rattle.std.proofs.Common.{◌≡◌, ℕ, zero, suc, ◌+◌, ◌<◌, ◌≤◌, ◌⊎◌, false, List, [], ◌∷◌, ◌++◌, map, refl, sym, ap, ◌∙◌, subst, inl, inr, ⊎_elim, arith}
 use Rattle.std.proofs.lemmas.Bool.{cases_eq, cases_lt}
 use Rattle.std.proofs.lemmas.List.{map-append}
@@ -57,7 +57,7 @@ module _ {T C : Type 0} where
   nothing_there [] y b e = cc
   nothing_there (z ∷ a) y b e = cc
 
-  -- of a list with its one end at the end, a part that isn't nothing has the end
+  -- in a list whose only end is its last element, a suffix that is not empty contains the end
   end_is_last : (a b : List (Parcel T C)) (ps : List (Piece T C)) → a ++ b ≡ map Carry ps ++ End false ∷ [] → (b ≡ []) ⊎ (0 < ends_in b)
   end_is_last [] b [] e = inr (let n = ap ends_in e in omega arith)
   end_is_last [] b (p ∷ ps) e = inr (let n = ap ends_in e ∙ ends_in-append (map Carry ps) (End false ∷ []) in omega arith)
@@ -76,7 +76,7 @@ module _ {T C : Type 0} where
       (λ (q : x.0 ≡ k → ⊥). let other = ap ends_in (of_other x.0 k x.1 h q) in let cons = ends_in-append (x.1 ∷ []) (parcels_in h) in let rest = ends_of k h in omega arith)
       (cases_eq x.0 k)
 
-  -- each worker below m sent pieces and then its end, and m ends were taken: then nothing is left
+  -- each worker below m sent pieces and then its end, and m ends were received: then nothing is left
   pub all_taken : (m : ℕ) (taken left : List (ℕ × Parcel T C)) → ((k : ℕ) → k < m → (ps : List (Piece T C)) × (of_sender k (taken ++ left) ≡ map Carry ps ++ End false ∷ []))
       → ((k : ℕ) → m ≤ k → of_sender k (taken ++ left) ≡ []) → ends_in (parcels_in taken) ≡ m → left ≡ []
   all_taken m taken [] each none ends = refl

@@ -1,4 +1,4 @@
--- All that was taken is all that was sent, so the collector has each run whole.
+-- Everything that was received is everything that was sent, so the collector has each run completely.
 use Rattle.std.proofs.Common.{◌≡◌, ℕ, ◌+◌, ◌<◌, ◌≤◌, true, List, [], ◌∷◌, ◌++◌, map, replicate, Some, refl, sym, ap, ◌∙◌, subst, arith, append-nil}
 use Rattle.std.specs.Prelude.{slice_get}
 use Rattle.std.proofs.lemmas.Bool.{OnFalse_at}
@@ -72,7 +72,7 @@ module _ {T C : Type 0} (count : ℕ → ℕ) (item : ℕ → ℕ → T) (end : 
     taken_of : (k : ℕ) → of_sender k (taken_by g.desk) ≡ of_sender k (taken_by g.desk ++ left)
     taken_of k = ap (of_sender k) (sym (append-nil (taken_by g.desk))) ∙ ap (λ l. of_sender k (taken_by g.desk ++ l)) (sym none_left)
 
-    -- what was taken is what the workers of the work sent
+    -- what was received is what the workers of the work sent
     honest : AreHonest count item end runs (map (λ b. drawn_by b.hand) g.backs.items) (taken_by g.desk)
     honest = record {
       shared = λ run. total-map (times run) (λ (b : Back (Parcel T C)). drawn_by b.hand) g.backs.items

@@ -22,7 +22,7 @@ use Rattle.sarif_gather.proofs.RunByRun.{run_by_run, length-all_after, run_after
 use Rattle.sarif_gather.proofs.Wholes.{wholes_again}
 
 module _ {T C : Type 0} (count : ℕ → ℕ) (item : ℕ → ℕ → T) (end : ℕ → C) (runs : ℕ) (shares : List (List ℕ)) (arrived : List (ℕ × Parcel T C)) (honest : AreHonest count item end runs shares arrived) where
-  -- of a worker that hasn't the run nothing of it arrived
+  -- nothing of the run arrived from a worker that does not have the run
   none_from : (run j : ℕ) → ((share : List ℕ) → slice_get shares j ≡ Some share → times run share ≡ 0) → on_run run (carried (of_sender j arrived)) ≡ []
   none_from run j none = ⊎_elim
       (λ (low : j < length shares). let s = at_below shares j low in ap (λ l. on_run run (carried l)) (honest.each j s.0 s.1) ∙ not_mine count item end run s.0 (none s.0 s.1))

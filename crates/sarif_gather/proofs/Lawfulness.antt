@@ -1,4 +1,5 @@
--- One run: its pieces are accepted, and close it, just where they are lawful; and it is then what they assemble to.
+-- One run: its pieces are accepted, and close it, if and only if they are lawful; the run is then what they
+-- assemble to.
 use Rattle.std.proofs.Common.{◌≡◌, ◌≢◌, ℕ, zero, suc, ◌+◌, ◌<◌, ◌≤◌, cond, ltb, Bool, true, false, List, [], ◌∷◌, ◌++◌, map, length, Option, Some, None, refl, sym, ap, ◌∙◌, subst, ⊎_elim, arith, append-nil, append_assoc, zero-add}
 use Rattle.std.specs.Prelude.{is_none}
 use Rattle.std.specs.List.{range_with_len, enumerate_from}
@@ -38,7 +39,7 @@ numbered_from item a zero = refl
 numbered_from item a (suc n) = ap (λ l. (a, item a) ∷ l) (numbered_from item (a + 1) n)
 
 module _ {T C : Type 0} where
-  -- no piece of the run is refused
+  -- no piece of the run is rejected
   abbrev pub Accepted : Held T C → List (Piece T C) → Type 0
   Accepted h [] = Unit {0}
   Accepted h (p ∷ ps) = (refusal_at h p ≡ None) × Accepted (step_at h p) ps
@@ -66,7 +67,7 @@ module _ {T C : Type 0} where
   AreOf run [] = Unit {0}
   AreOf run (p ∷ ps) = (run_in p ≡ run) × AreOf run ps
 
-  -- what is known of a run's pieces once it is closed, where these bodies came before them
+  -- what is known about a run's pieces once it is closed, if these bodies came before them
   pub record Ends (run : ℕ) (bodies : List (ℕ × T)) (ps : List (Piece T C)) (w : Whole T C) : Type 0 where
     pub more : List (ℕ × T)
     pub order : ps ≡ map (λ b. Item run b.0 b.1) more ++ Close run (length (bodies ++ more)) w.tail ∷ []

@@ -1,4 +1,4 @@
--- Bodies in a row and early ones behind them: what is among them, and where one more goes.
+-- Bodies in a row, followed by early ones: what they contain, and where one more goes.
 use Rattle.std.proofs.Common.{◌≡◌, ℕ, ◌+◌, ◌<◌, ◌≤◌, ◌&&◌, true, false, cond, List, [], ◌∷◌, ◌++◌, map, length, Ordering, Some, refl, sym, ap, ◌∙◌, subst, ⊎_elim, arith, append_assoc}
 use Rattle.std.specs.Prelude.{is_some}
 use Rattle.std.specs.Ordering.{nat_cmp, match_ordering, is_eq}
@@ -107,7 +107,7 @@ module _ {T : Type 0} where
       ⊎_elim (λ (h : k < length xs). absurd (true≢false (sym (has_in_row 0 k xs es (omega arith) (omega arith)) ∙ none)))
       (λ (h : length xs ≤ k). (h, sym (has_past_row 0 k xs es (omega arith)) ∙ none)) (cases_lt k (length xs))
 
-  -- a row, and early bodies behind it, that count up together are one list
+  -- a row followed by early bodies, consecutive together, is one list
   pub list_of : (count : ℕ) (xs : List T) (es : List (ℕ × T)) → counts_up 0 count (enumerate_from 0 xs ++ es) ≡ true → enumerate_from 0 xs ++ es ≡ enumerate_from 0 (xs ++ map (λ e. e.1) es)
   list_of count xs es h =
       let rest : counts_up (length xs) count es ≡ true = ap (λ n. counts_up n count es) (omega arith) ∙ sym (counts_through_row 0 count xs es) ∙ h in

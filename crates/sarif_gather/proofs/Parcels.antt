@@ -33,7 +33,7 @@ module _ {T C : Type 0} where
   ends_in-append (Carry p ∷ a) b = ends_in-append a b
   ends_in-append (End s ∷ a) b = let h = ends_in-append a b in omega arith
 
-  -- one more parcel that was taken
+  -- one more received parcel
   pub carried_push : (h : List (ℕ × Parcel T C)) (x : ℕ × Parcel T C) (p : Piece T C) → x.1 ≡ Carry p → carried (parcels_in (h ++ x ∷ [])) ≡ carried (parcels_in h) ++ p ∷ []
   carried_push h x p is = ap carried (map-append (λ e. e.1) h (x ∷ [])) ∙ carried-append (parcels_in h) (x.1 ∷ []) ∙ ap (λ q. carried (parcels_in h) ++ carried (q ∷ [])) is
 

@@ -9,7 +9,7 @@ use mathlib.Core.Option.{some}
 use lib.ListN.{get_elem?}
 
 module _ {A : Type 0} where
-  -- what stands in a list with one more element
+  -- the content of a list with one more element
   pub slice_get_push : (xs : List A) (y : A) (k : ℕ) (x : A) → slice_get (xs ++ y ∷ []) k ≡ Some x → (slice_get xs k ≡ Some x) ⊎ ((k ≡ length xs) × (y ≡ x))
   slice_get_push [] y zero x e = inr (refl, cc)
   slice_get_push [] y (suc k) x e = absurd (cc)
@@ -31,7 +31,7 @@ module _ {A : Type 0} where
   slice_get_longer (z ∷ zs) ys zero x e = e
   slice_get_longer (z ∷ zs) ys (suc k) x e = slice_get_longer zs ys k x e
 
-  -- where no element passes, this one doesn't
+  -- if no element passes, this one does not
   pub none_passes : (p : A → Bool) (xs : List A) → list_any p xs ≡ false → (k : ℕ) (x : A) → slice_get xs k ≡ Some x → p x ≡ false
   none_passes p [] none k x e = absurd (cc)
   none_passes p (y ∷ ys) none zero x e = let same : y ≡ x = cc in ap p (sym same) ∙ (or_parts (p y) (list_any p ys) none).0

@@ -29,7 +29,7 @@ module _ {P : Type 0} where
   pub settles_at_none : (v : View P) (t : List (ℕ × P)) (m : ℕ) (s : List (ℕ × List P)) → v ≡ Taker t m s → Held 0 (Settles (taken_in v) (made_in v) (settled_in v)) → Settles t m s []
   settles_at_none v t m s is h = settles_at v t m s [] is (subst (λ items. Settles (taken_in v) (made_in v) (settled_in v) items) (nil_from_length h.0 h.1) h.2)
 
-  -- with nothing left, what arrived is whole
+  -- if nothing is left, what arrived is complete
   pub whole : (mailbox : Mailbox P) (posts : List (Post P)) (arrived : List (ℕ × P)) → Settles arrived mailbox.senders (map returned posts) [] → AreWhole mailbox posts arrived
   whole mailbox posts arrived h = record {
     each = λ i post at. ap (of_sender (number_of post)) (sym (append-nil arrived)) ∙ sym (h.past i (number_of post) (sent_by post) (elem_of returned posts i post at));

@@ -40,7 +40,7 @@ module _ {P : Type 0} where
       (λ (q : x.0 ≡ k → ⊥). sym (of_other x.0 k x.1 h q) ∙ none)
       (cases_eq x.0 k)
 
-  -- where no later sender has any, these are all
+  -- if no later sender has any, these are all
   tally_all : (m : ℕ) (h : List (ℕ × P)) → ((k : ℕ) → m ≤ k → of_sender k h ≡ []) → length h ≡ tally m h
   tally_all m [] none = sym (tally-nil [] refl m)
   tally_all m (x ∷ h) none = ⊎_elim
@@ -61,14 +61,14 @@ module _ {P : Type 0} where
       ∙ tally_same m (t ++ items) (t' ++ items') (λ k lt. let at = all k lt in sym (one.past at.0 k at.1 at.2) ∙ two.past at.0 k at.1 at.2)
       ∙ sym (tally_all m (t' ++ items') two.strangers)
 
-  -- once as many were taken as stood there, nothing stands there
+  -- once as many were received as were there, nothing is left
   pub none_left : (t left items items' : List (ℕ × P)) (m : ℕ) (s : List (ℕ × List P)) → ((k : ℕ) → k < m → (i : ℕ) × (l : List P) × (get_elem? s i ≡ some (k, l))) → Settles t m s items → Settles (t ++ left) m s items' → length left ≡ length items → Settles (t ++ left) m s []
   none_left t left items items' m s all one two len =
       let same = same_length t (t ++ left) m s items items' all one two in
       let none : items' ≡ [] = nil_from_length items' (omega (arith, length-append t items, length-append t left, length-append (t ++ left) items')) in
       subst (λ l. Settles (t ++ left) m s l) none two
 
-  -- before that, something stands there
+  -- before that, something is left
   pub more_left : (t left items : List (ℕ × P)) (m : ℕ) (s : List (ℕ × List P)) → ((k : ℕ) → k < m → (i : ℕ) × (l : List P) × (get_elem? s i ≡ some (k, l))) → Settles t m s items → Settles (t ++ left) m s [] → length left < length items → ⊥
   more_left t left items m s all one two lt =
       let same = same_length t (t ++ left) m s items [] all one two in

@@ -23,7 +23,7 @@ module _ {T : Type 0} where
       λ i. (head i).1 ∷ items_again (a + 1) xs ys tail i
 
 module _ {T C : Type 0} where
-  -- closed runs as a collector has them tell the runs
+  -- closed runs as a collector has them determine the runs
   closed_again : (v w : Whole T C) → closed_run v ≡ closed_run w → v ≡ w
   closed_again v w e =
       let items = items_again 0 v.items w.items (ap (λ h. h.bodies) e) in
@@ -47,7 +47,7 @@ module _ {T C : Type 0} where
   pub no_open : (ws : List (Whole T C)) → first_open (map closed_run ws) ≡ None
   no_open ws = none_open 0 ws
 
-  -- where no run is open, each is closed
+  -- if no run is open, each is closed
   pub closed_at : (n : ℕ) (hs : List (Held T C)) → position_from (λ h. is_none h.tail) n hs ≡ None → (k : ℕ) (h : Held T C) → slice_get hs k ≡ Some h → is_none h.tail ≡ false
   closed_at n [] none k h at = absurd (cc)
   closed_at n (g ∷ hs) none zero h at = let same : g ≡ h = cc in ap (λ r. is_none r.tail) (sym same) ∙ closed_head (is_none g.tail) n (position_from (λ r. is_none r.tail) (n + 1) hs) none

@@ -13,7 +13,7 @@ module _ {T C : Type 0} where
   AllAccepted runs (piece ∷ pieces) =
       (refusal_of runs piece ≡ None) × AllAccepted (with_piece runs piece) pieces
 
-  -- this is the first reason against the arrival at this place
+  -- this is the first reason against the arrival at this position
   abbrev pub RefusesAt : List (Held T C) → List (Piece T C) → ℕ → Why → Type 0
   RefusesAt runs arrivals at why =
       (piece : Piece T C)
@@ -27,8 +27,8 @@ module _ {T C : Type 0} where
       × (slice_get arrivals at ≡ Some piece)
       × (refusal_of (all_after runs (take at arrivals)) piece ≡ None)
 
-  -- what the reason says of the place. For want of memory an arrival was refused against which there is no other
-  -- reason, or no collector was made at all
+  -- what the reason says about the position. If memory ran out, the rejected arrival has no other reason against
+  -- it, or no collector was made
   abbrev pub FaultHere : List (Held T C) → List (Piece T C) → ℕ → Why → Type 0
   FaultHere runs arrivals at OutOfMemory = (at ≡ 0) ⊎ AcceptsAt runs arrivals at
   FaultHere runs arrivals at (Unclosed run) =
@@ -38,7 +38,7 @@ module _ {T C : Type 0} where
   FaultHere runs arrivals at Double = RefusesAt runs arrivals at Double
   FaultHere runs arrivals at Short = RefusesAt runs arrivals at Short
 
-  -- no arrival before this place has a reason against it, and what is told holds there
+  -- no arrival before this position has a reason against it, and the property is true there
   pub record IsFirstFault (runs : List (Held T C)) (arrivals : List (Piece T C)) (at : ℕ)
       (why : Why) : Type 0 where
     pub before : AllAccepted runs (take at arrivals)

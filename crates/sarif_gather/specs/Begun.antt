@@ -1,5 +1,4 @@
--- For proofs inside this crate; no public clause speaks of it.
--- What the threads of a gathering begin with.
+-- Internal: no public contract refers to this module. What the threads of a gathering begin with.
 use Rattle.std.specs.Prelude.{◌≡◌, ℕ, [], Some, slice_get, length}
 use Rattle.sarif_gather.specs.declared.piece.Parcel.{Parcel}
 use Rattle.sarif_gather.specs.declared.mailbox.Mailbox.{Mailbox}

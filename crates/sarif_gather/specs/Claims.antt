@@ -6,7 +6,7 @@ use Rattle.atomic_table.specs.Table.{State}
 use Rattle.sarif_gather.specs.declared.deal.rule.Terms.{Terms}
 use Rattle.sarif_gather.specs.declared.deal.rule.HandView.{HandView}
 
--- how often x stands in the list
+-- how often x occurs in the list
 abbrev pub times : ℕ → List ℕ → ℕ
 times x [] = 0
 times x (y ∷ ys) = (if y == x then 1 else 0) + times x ys
@@ -15,7 +15,7 @@ abbrev pub total : {A : Type 0} → (A → ℕ) → List A → ℕ
 total f [] = 0
 total f (v ∷ vs) = f v + total f vs
 
--- 1 for each number below n, and else 0
+-- 1 for each number below n, and otherwise 0
 abbrev pub once_below : ℕ → ℕ → ℕ
 once_below x n = if nat_lt x n then 1 else 0
 
@@ -30,8 +30,8 @@ drew found v =
     then (hand_view v.runs v.hands v.parts v.marks (v.drawn ++ found ∷ []))
     else (hand_view v.runs v.hands v.parts (v.marks + 1) v.drawn)
 
--- what a hand knows fits the word: where it found no run, all were claimed. A view that was left behind has no part,
--- and has drawn nothing
+-- a hand's knowledge agrees with the word: if it found no run, all were claimed. An unused view has no part, and
+-- has drawn nothing
 pub record Fits (k : Terms) (word : ℕ) (v : HandView) : Type 0 where
   pub marks : v.marks ≤ v.parts
   pub spent : 0 < v.marks → k.runs ≤ word
@@ -49,8 +49,8 @@ pub record Dealt (k : Terms) (s : State (Unit {0}) HandView) : Type 0 where
   pub drawn : (x : ℕ)
       → total (λ v. times x v.drawn) s.views ≡ once_below x (min (slice_index s.words 0) k.runs)
 
--- what a look at the word tells: where a hand of those that it stands for found no run, all are claimed; and who stands
--- for all hands has drawn the first runs, each once
+-- what a look at the word shows: if a hand that it represents found no run, all are claimed; if it represents all
+-- hands, they have drawn the first runs, each once
 pub record Learns (v : HandView) (word : ℕ) : Type 0 where
   pub spent : 0 < v.marks → v.runs ≤ word
   pub drawn : v.parts ≡ v.hands → 0 < v.parts

@@ -47,7 +47,7 @@ module _ {T C : Type 0} where
   abbrev pub with_piece : List (Held T C) → Piece T C → List (Held T C)
   with_piece runs piece = set_in runs (slice_get runs (run_in piece)) piece
 
--- the reason that is told: the first that applies, and where there is none, that there was no memory
+-- the reported reason: the first that applies, or, if there is none, that memory ran out
 abbrev pub IsReason : Option Why → Why → Type 0
 IsReason None why = why ≡ OutOfMemory
 IsReason (Some reason) why = why ≡ reason

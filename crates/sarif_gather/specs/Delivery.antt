@@ -1,4 +1,5 @@
--- The delivery core: what each sender sent is what was taken of it, and then what the mailbox holds of it.
+-- The delivery core: what each sender sent is what was received from it, followed by what the mailbox holds from
+-- it.
 use Rattle.std.specs.Prelude.{◌≡◌, ℕ, suc, ◌+◌, ◌≤◌, List, [], ◌++◌, length}
 use mathlib.Core.Option.{some}
 use lib.ListN.{get_elem?}
@@ -33,13 +34,13 @@ module _ {P : Type 0} where
   sent_in (Sender number sent) = sent
   sent_in Gone = []
 
-  -- the view of the end that sender k has, where `now` is what was taken of it and what the mailbox holds of it
+  -- the view of the end of sender k, if `now` is what was received from it and what the mailbox holds from it
   abbrev pub FitsSender : List P → ℕ → View P → Type 0
   FitsSender now k (Taker taken made settled) = ⊥
   FitsSender now k (Sender number sent) = (number ≡ k) × (sent ≡ now)
   FitsSender now k Gone = Unit {0}
 
-  -- what the taker learns: later senders sent nothing, and what each returned sender sent arrived, or stands in the
+  -- what the receiver learns: later senders sent nothing, and what each returned sender sent arrived or is in the
   -- mailbox
   pub record Settles (taken : List (ℕ × P)) (made : ℕ) (settled : List (ℕ × List P))
       (items : List (ℕ × P)) : Type 0 where

@@ -1,4 +1,4 @@
--- What a clause says of a mailbox and its ends.
+-- The meaning of a mailbox and its ends.
 use Rattle.std.specs.Prelude.{◌≡◌, ℕ, ◌<◌, ◌≤◌, List, [], length, Some, slice_get}
 use Rattle.crossbeam_queue.specs.Passes.{view, IsPassOf, ruled_capacity}
 use Rattle.sarif_gather.specs.declared.mailbox.Mailbox.{Mailbox}
@@ -35,7 +35,7 @@ module _ {P : Type 0} where
     pub number : number_of end ≡ k
     pub sent : sent_by end ≡ []
 
-  -- a new mailbox with this room for so many senders, its posts and its desk
+  -- a new mailbox with this room for this many senders, its posts and its desk
   pub record AreNew (room senders : ℕ) (mailbox : Mailbox P) (posts : List (Post P))
       (desk : Desk P) : Type 0 where
     pub room_is : ruled_capacity mailbox.line ≡ room
@@ -55,7 +55,7 @@ module _ {P : Type 0} where
     pub all : (k : ℕ) → k < mailbox.senders
         → (i : ℕ) × (post : Post P) × (slice_get posts i ≡ Some post) × (number_of post ≡ k)
 
-  -- of each post's sender arrived what it sent, whole, once and in order, and of nobody else anything
+  -- from each post's sender everything that it sent arrived, once and in order, and nothing from anyone else
   pub record AreWhole (mailbox : Mailbox P) (posts : List (Post P)) (arrived : List (ℕ × P))
       : Type 0 where
     pub each : (i : ℕ) (post : Post P) → slice_get posts i ≡ Some post

@@ -1,5 +1,4 @@
--- For proofs inside this crate; no public clause speaks of it.
--- What the calling thread has once all workers are joined.
+-- Internal: no public contract refers to this module. What the calling thread has once all workers are joined.
 use Rattle.std.specs.Prelude.{◌≡◌, ℕ, false, List, Some, slice_get, length}
 use Rattle.sarif_gather.specs.declared.piece.Parcel.{Parcel}
 use Rattle.sarif_gather.specs.declared.mailbox.Mailbox.{Mailbox}
@@ -13,7 +12,8 @@ use Rattle.sarif_gather.specs.Pieces.{carried, ends_in, parcels_in}
 use Rattle.sarif_gather.specs.Served.{IsServed}
 
 module _ {T C : Type 0} (count : ℕ → ℕ) (item : ℕ → ℕ → T) (end : ℕ → C) where
-  -- each worker sent all of its runs, and an end of each was taken; the collector took in all that was taken
+  -- each worker sent all of its runs, and an end of each was received; the collector accepted everything that was
+  -- received
   pub record IsGathered (mailbox : Mailbox (Parcel T C)) (deal : Deal) (before : List (Held T C))
       (workers : ℕ) (g : Gathered T C) : Type 0 where
     pub desk_of : IsDeskOf mailbox g.desk

@@ -1,4 +1,4 @@
--- What a clause says of a deal and its hands.
+-- The meaning of a deal and its hands.
 use Rattle.std.specs.Prelude.{◌≡◌, ℕ, ◌+◌, Bool, false, List, [], ◌∷◌, ◌++◌, length, Some, slice_get}
 use Rattle.std.specs.declared.alloc.Global.{Global}
 use Rattle.atomic_table.specs.declared.shared.Seat.{Seat}

@@ -9,8 +9,8 @@ use Rattle.sarif_gather.specs.Pieces.{on_run, pieces_of, parcels_of, carried, pa
 use Rattle.sarif_gather.specs.Senders.{of_sender}
 
 module _ {T C : Type 0} (count : ℕ → ℕ) (item : ℕ → ℕ → T) (end : ℕ → C) where
-  -- each run of the work is in one worker's list, once, and no other run is; and of each worker arrived the pieces of
-  -- its runs and its end, of nobody else anything
+  -- each run of the work is in one worker's list, once, and no other run is; from each worker the pieces of its
+  -- runs and its end arrived, and nothing from anyone else
   pub record AreHonest (runs : ℕ) (shares : List (List ℕ)) (arrived : List (ℕ × Parcel T C))
       : Type 0 where
     pub shared : (run : ℕ) → total (λ share. times run share) shares ≡ once_below run runs
@@ -18,8 +18,8 @@ module _ {T C : Type 0} (count : ℕ → ℕ) (item : ℕ → ℕ → T) (end : 
         → of_sender worker arrived ≡ parcels_of count item end share
     pub strangers : (sender : ℕ) → length shares ≤ sender → of_sender sender arrived ≡ []
 
-  -- the pieces that arrived are lawful, those of each run are the work's in their order, none is refused, and they
-  -- assemble to the work's lists
+  -- the pieces that arrived are lawful, those of each run are the work's in their order, none is rejected, and
+  -- they assemble to the work's lists
   pub record AreTaken (runs : ℕ) (arrived : List (ℕ × Parcel T C)) : Type 0 where
     pub lawful : IsLawful runs (carried (parcels_in arrived))
     pub of_run : (run : ℕ) → run < runs

@@ -7,7 +7,7 @@ use Rattle.sarif_gather.specs.Held.{empty_run, closed_run, first_open}
 use Rattle.sarif_gather.specs.Lawful.{IsLawful, assembled}
 
 module _ {T C : Type 0} where
-  -- arrivals are lawful just where none of them is refused and they leave no run open
+  -- arrivals are lawful if and only if none of them is rejected and they leave no run open
   abbrev pub AreTakenWhereLawful : ℕ → List (Piece T C) → Type 0
   AreTakenWhereLawful runs arrivals =
       IsLawful runs arrivals

@@ -41,7 +41,7 @@ module _ {T C : Type 0} where
   lists_of count item end runs =
       map (λ run. whole_run (count run) (item run) (end run)) (range_with_len 0 runs)
 
--- what stands in a list, without the senders
+-- the content of a list, without the senders
 abbrev pub parcels_in : {P : Type 0} → List (ℕ × P) → List P
 parcels_in h = map (λ x. x.1) h
 

@@ -1,5 +1,4 @@
--- For proofs inside this crate; no public clause speaks of it.
--- What a worker gives back.
+-- Internal: no public contract refers to this module. What a worker returns.
 use Rattle.std.specs.Prelude.{◌≡◌, ℕ, true}
 use Rattle.std.specs.Bool.{OnFalse}
 use Rattle.sarif_gather.specs.declared.piece.Parcel.{Parcel}

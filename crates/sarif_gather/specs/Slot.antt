@@ -1,4 +1,4 @@
--- What stands in a collector, as the held run that it is.
+-- The content of a collector, as the held run that it represents.
 use Rattle.std.specs.Prelude.{Some, None}
 use Rattle.std.specs.declared.vec.Vec.{Vec}
 use Rattle.std.specs.declared.alloc.Global.{Global}

@@ -10,20 +10,19 @@ use crate::lists::Lists;
 use crate::piece::{Piece, Refused, Why};
 use std::alloc::Global;
 
-/// The number of the first arrival that is refused, and why; or the number of all arrivals, where a
-/// run has no close.
+/// The number of the first rejected arrival, and why; or the number of all arrivals, if a run has no close.
 #[derive(Clone, Copy, Debug, PartialEq, Eq)]
 pub struct CollectFault {
     /// The number of the arrival, from 0, or how many there are.
     pub at: u32,
-    /// Why it is refused.
+    /// Why it is rejected.
     pub why: Why,
 }
 
-/// What these arrivals assemble to, exactly where they are lawful and there is memory; else the
-/// first fault: the number of the first arrival that is refused, with the reason that
-/// [`Collector::accept`] gives, or the number of all arrivals with `Unclosed`, where a run has no
-/// close. Where there is no memory for a collector, that is `OutOfMemory` at 0.
+/// Returns what these arrivals assemble to, if and only if they are lawful and there is enough memory. Otherwise
+/// it returns the first error: the number of the first rejected arrival, with the reason of [`Collector::accept`],
+/// or the number of all arrivals with `Unclosed`, if a run has no close. If memory for a collector runs out, that
+/// is `OutOfMemory` at 0.
 pub fn collect<T: Drop, C: Drop>(
     alloc: Global,
     runs: u32,

@@ -37,8 +37,8 @@ impl<T, C> Model for Collector<T, C> {
 }
 
 impl<T: Drop, C: Drop> Collector<T, C> {
-    /// A collector of `runs` runs, at most 10,000, all of them open and without items. `AllocError`
-    /// where memory for it is wanting.
+    /// Returns a collector of `runs` runs, at most 10,000, all of them open and without items. Returns
+    /// `AllocError` if memory for it runs out.
     pub fn new(alloc: Global, runs: u32) -> Result<Self, AllocError>
         requires { runs ≤ 10000 }
         ensures { IfOk result (λ c. c ≡ replicate runs empty_run) }
@@ -54,11 +54,10 @@ impl<T: Drop, C: Drop> Collector<T, C> {
         })
     }
 
-    /// Takes in a piece, or hands it back with the first reason against it; then all stays as it
-    /// was. The reason is `Stranger` where its run isn't one of these; `AfterClose` where its run
-    /// is closed; `Double` where its run has an item with its number; `Short` where it is a close
-    /// and the items of its run aren't just those up to its count; `OutOfMemory` where memory for
-    /// it is wanting.
+    /// Accepts a piece, or returns it with the first reason against it; then nothing changes. The reason is
+    /// `Stranger` if its run is not one of these; `AfterClose` if its run is closed; `Double` if its run has an
+    /// item with its number; `Short` if it is a close and the items of its run are not exactly those up to its
+    /// count; `OutOfMemory` if memory for it runs out.
     pub fn accept(&mut self, piece: Piece<T, C>) -> Result<(), Refused<T, C>>
         ensures ok { OnOk result ((refusal_of self.old piece ≡ None)
             × (self.new ≡ with_piece self.old piece)) }
@@ -75,8 +74,8 @@ impl<T: Drop, C: Drop> Collector<T, C> {
         self.slots[run].accept(self.alloc, piece)
     }
 
-    /// The runs' items and tails. Where a run has no close, the error is the least such run, with
-    /// the collector as it was.
+    /// Returns the runs' items and tails. If a run has no close, the error is the first such run, with the
+    /// unchanged collector.
     pub fn finish(self) -> Result<Lists<T, C>, (u32, Self)>
         ensures ok { IfOk result (λ l. self ≡ map closed_run l) }
         ensures err { IfErr result (λ e. (e.1 ≡ self) × (first_open self ≡ Some e.0)) }

@@ -17,8 +17,8 @@ pub use state::Deal;
 use std::alloc::{AllocError, Global};
 
 impl Deal {
-    /// A deal of `runs` runs, at most 10,000, and all its hands, of which there are `hands`, 1 to
-    /// 64. `AllocError` where memory for them is wanting.
+    /// Returns a deal of `runs` runs, at most 10,000, and all its hands, of which there are `hands`, 1 to 64.
+    /// Returns `AllocError` if memory for them runs out.
     pub fn new(alloc: Global, runs: u32, hands: u32) -> Result<(Self, Vec<Hand>), AllocError>
         requires runs { runs ≤ 10000 }
         requires hands { (1 ≤ hands) × (hands ≤ 64) }

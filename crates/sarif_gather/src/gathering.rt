@@ -229,11 +229,9 @@ fn parted<P: Drop>(
     Ok((posts, hands))
 }
 
-/// Reads all runs of a work by `workers` threads, 1 to 64, over a mailbox with room for `room`
-/// parcels, 1 to 4,096, and puts their items together again in order. `observer` looks on.
-///
-/// `NoWorker` where a thread can't be started; `OutOfMemory` where memory is wanting, also to a
-/// worker for what it makes.
+/// Makes all runs of a work in `workers` threads, 1 to 64, over a mailbox with room for `room` parcels, 1 to
+/// 4,096, and returns their items in order. `observer` sees each item. Returns `NoWorker` if a thread cannot be
+/// started; `OutOfMemory` if memory runs out, including the memory of a worker for its items.
 pub fn gather<W: Work + Sync, G: Gate + Sync, R: Threads + Wait + Sync>(
     rt: &R,
     alloc: Global,

@@ -5,15 +5,15 @@ ghost use Rattle.sarif_gather.specs.declared.piece.Parcel.{Parcel};
 ghost use Rattle.sarif_gather.specs.Honest.{AreHonest, AreTaken};
 ghost use Rattle.sarif_gather.specs.Laws.{AreTakenWhereLawful, AreAssembled};
 
-/// Arrivals are lawful exactly where a collector refuses none of them and is left with no open run;
-/// and then each of its runs is what the arrivals assemble to.
+/// Arrivals are lawful if and only if a collector rejects none of them and has no open run at the end; then each
+/// of its runs is what the arrivals assemble to.
 pub fn lawful_arrivals_are_just_those_that_are_taken<T, C>()
     ensures taken { (runs : ℕ) (arrivals : List (Piece T C)) → AreTakenWhereLawful runs arrivals }
     ensures assembled { (runs : ℕ) (arrivals : List (Piece T C)) → AreAssembled runs arrivals }
 {}
 
-/// What the workers of a work send is lawful, whatever the order in which it arrives: no piece of
-/// an honest worker is refused, and the pieces assemble to the work's lists.
+/// What the workers of a work send is lawful, in any order of arrival: no piece of an honest worker is rejected,
+/// and the pieces assemble to the work's lists.
 pub fn pieces_of_honest_workers_are_taken<T, C>()
     ensures { (count : ℕ → ℕ) (item : ℕ → ℕ → T) (end : ℕ → C) (runs : ℕ) (shares : List (List ℕ))
         (arrived : List (ℕ × Parcel T C)) → AreHonest count item end runs shares arrived

@@ -35,8 +35,8 @@ pub struct Full<P> {
 }
 
 impl<P: Drop> Mailbox<P> {
-    /// A mailbox that holds `room` parcels, 1 to 4,096, a post for each of `senders` senders, 1 to
-    /// 64, in order, and the taker's desk. `AllocError` where memory for them is wanting.
+    /// Returns a mailbox that holds `room` parcels, 1 to 4,096, a post for each of `senders` senders, 1 to 64, in
+    /// order, and the receiver's desk. Returns `AllocError` if memory for them runs out.
     pub fn new(
         alloc: Global,
         room: u32,
@@ -60,8 +60,8 @@ impl<P: Drop> Mailbox<P> {
         Ok((mailbox, posts, Desk::new(pass)))
     }
 
-    /// Puts a parcel at the back, and wakes the taker if it sleeps. `Full`, with the parcel, only
-    /// where the mailbox was full.
+    /// Adds a parcel to the back, and wakes the receiver if it sleeps. Returns `Full`, with the parcel, only if
+    /// the mailbox was full.
     pub fn send<R: Wait>(&self, rt: &R, post: &mut Post<P>, parcel: P) -> Result<(), Full<P>>
         requires { IsPostOf self.now post.old }
         ensures post { IsPostOf self.now post.new × (number_of post.new ≡ number_of post.old) }
@@ -81,8 +81,8 @@ impl<P: Drop> Mailbox<P> {
         }
     }
 
-    /// Takes the sender and the parcel at the front, and wakes a sender that sleeps for want of
-    /// room. None comes only where the mailbox was empty.
+    /// Takes the sender and the parcel at the front, and wakes a sender that waits for room. Returns `None` only
+    /// if the mailbox was empty.
     pub fn take<R: Wait>(&self, rt: &R, desk: &mut Desk<P>) -> Option<(u32, P)>
         requires { IsDeskOf self.now desk.old }
         ensures desk { IsDeskOf self.now desk.new }

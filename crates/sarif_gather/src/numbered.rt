@@ -29,7 +29,7 @@ impl<T> Model for Numbered<T> {
 }
 
 impl<T: Drop> Numbered<T> {
-    /// No bodies; this takes no memory.
+    /// No bodies; does not allocate.
     pub fn new(alloc: Global) -> Self
         ensures { result ≡ [] }
     {
@@ -46,8 +46,7 @@ impl<T: Drop> Numbered<T> {
         (seq as usize) < self.row.len() || self.early.contains_key(&seq)
     }
 
-    /// Puts a body at a number that has none. Where memory is wanting, the body comes back, and all
-    /// stays as it was.
+    /// Adds a body at a number that has none. If memory runs out, the body is returned and nothing changes.
     pub fn insert(&mut self, seq: u32, body: T) -> Result<(), T>
         requires { has_number seq self.old ≡ false }
         ensures ok { OnOk result (self.new ≡ insert_entry nat_cmp self.old seq body) }
@@ -67,7 +66,7 @@ impl<T: Drop> Numbered<T> {
         }
     }
 
-    /// Whether the numbers are just those from 0 up to `count`.
+    /// Returns whether the numbers are exactly those from 0 up to `count`.
     pub fn is_just(&self, count: u32) -> bool
         ensures { result ≡ counts_up 0 count self.now }
     {
@@ -81,8 +80,8 @@ impl<T: Drop> Numbered<T> {
         next == count as u64
     }
 
-    /// The bodies in the order of their numbers, which must be just those from 0 on. Where memory
-    /// for the list is wanting, all bodies come back.
+    /// Returns the bodies in the order of their numbers, which must be exactly those from 0. If memory for the
+    /// list runs out, all bodies are returned.
     pub fn into_list(self) -> Result<Vec<T>, Numbered<T>>
         requires { (count : ℕ) × (counts_up 0 count self ≡ true) }
         ensures ok { IfOk result (λ v. self ≡ enumerate_from 0 v.items) }

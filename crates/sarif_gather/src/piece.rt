@@ -22,7 +22,7 @@ impl<T, C> Piece<T, C> {
     }
 }
 
-/// What stands in a mailbox.
+/// The content of a mailbox.
 #[derive(Debug, Drop, PartialEq, Eq)]
 pub enum Parcel<T, C> {
     /// A piece for the collector.
@@ -31,7 +31,7 @@ pub enum Parcel<T, C> {
     End { short: bool },
 }
 
-/// Why arrivals are no lawful ones.
+/// Why arrivals are not lawful.
 #[derive(Clone, Copy, Debug, PartialEq, Eq)]
 pub enum Why {
     /// The run isn't one of these runs.
@@ -40,18 +40,18 @@ pub enum Why {
     AfterClose,
     /// The run has an item with this number.
     Double,
-    /// The run's items aren't just those from 0 up to the close's count.
+    /// The run's items are not exactly those from 0 up to the close's count.
     Short,
     /// There was no memory.
     OutOfMemory,
-    /// All pieces were taken, and this run, the least such one, has no close.
+    /// All pieces were accepted, and this run, the first such one, has no close.
     Unclosed(u32),
 }
 
-/// A piece that wasn't taken.
+/// A rejected piece.
 #[derive(Debug, Drop, PartialEq, Eq)]
 pub struct Refused<T, C> {
-    /// The piece, as it was handed in.
+    /// The piece, as it was passed.
     pub piece: Piece<T, C>,
     /// The first reason against it.
     pub why: Why,

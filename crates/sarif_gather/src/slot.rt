@@ -19,9 +19,8 @@ pub enum Slot<T, C> {
 }
 
 impl<T: Drop, C: Drop> Slot<T, C> {
-    /// Takes in a piece of this run, or hands it back with the first reason against it:
-    /// `AfterClose`, `Double`, `Short` or `OutOfMemory`, as for
-    /// [`Collector::accept`](crate::Collector::accept). Then all stays as it was.
+    /// Accepts a piece of this run, or returns it with the first reason against it: `AfterClose`, `Double`,
+    /// `Short` or `OutOfMemory`, as for [`Collector::accept`](crate::Collector::accept). Then nothing changes.
     pub fn accept(&mut self, alloc: Global, piece: Piece<T, C>) -> Result<(), Refused<T, C>>
         ensures ok { OnOk result ((refusal_at (held_of self.old) piece ≡ None)
             × (held_of self.new ≡ step_at (held_of self.old) piece)) }

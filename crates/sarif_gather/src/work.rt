@@ -1,4 +1,4 @@
-//! What workers do, and who watches them.
+//! What workers do, and who observes them.
 ghost use Rattle.std.specs.Prelude.{◌≡◌, ◌≤◌, ◌<◌, ℕ, IfOk};
 
 use std::alloc::{AllocError, Global};
@@ -12,7 +12,7 @@ pub trait Work {
     /// What a worker makes of an item, and the collector gets.
     type Item: Send + Drop;
 
-    /// What stands at the end of a run, behind its items.
+    /// The tail of a run, after its items.
     type Tail: Send + Drop;
 
     // How many runs there are.
@@ -34,7 +34,7 @@ pub trait Work {
     fn runs(&self) -> u32
         ensures { result ≡ run_count self.now };
 
-    /// A head of run `run`, counted from 0. `AllocError` where memory for it is wanting.
+    /// A head of run `run`, numbered from 0. Returns `AllocError` if memory for it runs out.
     fn start(&self, alloc: Global, run: u32) -> Result<Self::Head, AllocError>
         requires { run < run_count self.now }
         ensures { IfOk result (IsHeadOf self.now run) };
@@ -45,7 +45,7 @@ pub trait Work {
         ensures { (run : ℕ) → run < run_count self.now → IsHeadOf self.now run head.now
             → result ≡ count self.now run };
 
-    /// Item `seq` of the head's run, counted from 0. `AllocError` where memory for it is wanting.
+    /// Item `seq` of the head's run, numbered from 0. Returns `AllocError` if memory for it runs out.
     fn make(&self, alloc: Global, head: &Self::Head, seq: u32) -> Result<Self::Item, AllocError>
         requires { (run : ℕ) × (run < run_count self.now) × IsHeadOf self.now run head.now
             × (seq < count self.now run) }
@@ -62,7 +62,7 @@ pub trait Work {
     ghost few: { (w : Self) → run_count w ≤ 10000 };
 }
 
-/// Looks on while a work is gathered. No answer depends on it.
+/// Observes a work while it is gathered. No result depends on it.
 pub trait Gate {
     /// A worker calls it just before it makes an item.
     fn making(&self, run: u32, seq: u32);

@@ -1,4 +1,4 @@
--- A text that was written whole, and then no bytes, was written whole.
+-- An output that was written completely, and then no bytes, was written completely.
 use Rattle.std.proofs.Common.{◌∙◌, ℕ, List, [], Option, Some, None}
 use Rattle.std.proofs.lemmas.List.{append-nil}
 use Rattle.std.specs.Io.KnownBytes.{Appends}

@@ -1,4 +1,4 @@
--- A refusal that is no failed read and no failed write has status 2.
+-- A rejection that is neither a failed read nor a failed write has exit status 2.
 use Rattle.std.proofs.Common.{◌≡◌, ℕ, ◌+◌, Bool, true, false, nat_eq, arith, refl}
 use Rattle.sarif_model.specs.declared.merge_fault.Cause.{Cause}
 use Rattle.sarif_model.specs.declared.merge_fault.Cause.TheVariants.{ReadFailed, WriteFailed}
@@ -11,12 +11,12 @@ quiet_status ReadFailed read written = cc
 quiet_status WriteFailed read written = cc
 quiet_status _ read written = refl
 
--- where the number of failed reads is as it was, no read failed
+-- if the number of failed reads is unchanged, no read failed
 pub no_rise : (failed : Bool) (old new : ℕ) → RisesIf failed old new → new ≡ old → failed ≡ false
 no_rise true old new rise same = absurd (omega (arith, rise, same))
 no_rise false old new rise same = refl
 
--- a refusal that is no failed write has status 3 just where a read failed
+-- a rejection that is not a failed write has exit status 3 if and only if a read failed
 pub refused_rise : (cause : Cause) (old new written : ℕ) → is_write_failed cause ≡ false → RisesIf (is_read_failed cause) old new
     → RisesIf (nat_eq (exit_status cause) 3) (old + written) (new + written)
 refused_rise ReadFailed old new written quiet rise = omega (arith, rise)

@@ -25,7 +25,7 @@ abbrev pub reporting_for : {W : Type 0} → Request → List (Wanted W) → Opti
 reporting_for request [] = None
 reporting_for request (writer ∷ others) = Some (reporting_of request)
 
--- the text of a report of a merged log with these counts, of which this is told
+-- the text of a report of a merged log with these counts and these findings
 abbrev pub report_with : Request → Counts → Vec Finding Global → Report → List ℕ
 report_with request counts findings one =
     report_of one (count_at counts) request.options.policy findings.items

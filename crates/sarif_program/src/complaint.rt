@@ -1,4 +1,4 @@
-//! The line that tells what stopped a run.
+//! The line that says what stopped a run.
 ghost use Rattle.std.specs.Prelude.{◌≡◌, ◌<◌, ◌^◌, None, Some};
 ghost use Rattle.sarif_streams.specs.Counted.{failed_calls};
 
@@ -14,7 +14,7 @@ const LINE: usize = 160;
 /// What stopped a run.
 #[derive(Clone, Copy, Debug, PartialEq, Eq)]
 pub enum Complaint {
-    /// The merge was refused, or the merged log was not written.
+    /// The merge was rejected, or the merged log was not written.
     Fault(MergeFault),
     /// A report was not written.
     Lost(Report),
@@ -29,17 +29,17 @@ impl fmt::Display for Complaint {
     }
 }
 
-/// Where complaints go, and the last of them.
+/// Where error messages go, and the last of them.
 #[derive(Debug, Drop)]
 pub struct Complaints<E> {
-    /// Where complaints are written, a line each.
+    /// Where error messages are written, one line each.
     pub out: Counted<E>,
-    /// The last complaint, whether its line was taken or not; `None` where there was none.
+    /// The last error message, even if its line was not written; `None` if there was none.
     pub last: Option<Complaint>,
 }
 
 impl<E> Complaints<E> {
-    /// Complaints that are written to `out`; there is none so far.
+    /// Error messages that are written to `out`; there is none so far.
     pub fn new(out: E) -> Complaints<E>
         ensures none { failed_calls result.out ≡ 0 }
         ensures last { result.last ≡ None }
@@ -52,8 +52,8 @@ impl<E> Complaints<E> {
 }
 
 impl<E: Write> Complaints<E> {
-    /// Writes `sarif_gate: ` and the complaint as one line, without memory. Where the line isn't taken,
-    /// nothing more can be told.
+    /// Writes `sarif_gate: ` and the message as one line, without allocating. If the line cannot be written,
+    /// nothing more can be reported.
     pub fn complain(&mut self, complaint: Complaint)
         requires { failed_calls self.old.out < 2 ^ 63 }
         ensures last { self.new.last ≡ Some complaint }

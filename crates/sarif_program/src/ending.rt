@@ -1,4 +1,4 @@
-//! How a run ends: what is told, and with which exit status.
+//! How a run ends: the messages and the exit status.
 ghost use Rattle.std.specs.Prelude.{◌≡◌, ◌<◌, ◌≤◌, ◌^◌, Some, nat_eq, length};
 ghost use Rattle.std.specs.List.{All};
 ghost use Rattle.std.specs.Io.KnownBytes.{Appends};
@@ -28,7 +28,7 @@ fn status_of_verdict(verdict: Verdict) -> u8
     }
 }
 
-/// Tells why the merge was refused: the status.
+/// Reports why the merge was rejected. Returns the exit status.
 pub(crate) fn refuse<E: Write>(complaints: &mut Complaints<E>, fault: MergeFault) -> u8
     requires { failed_calls complaints.old.out < 2 ^ 63 }
     ensures status { result ≡ exit_status fault.cause }
@@ -38,7 +38,8 @@ pub(crate) fn refuse<E: Write>(complaints: &mut Complaints<E>, fault: MergeFault
     fault.cause.status()
 }
 
-/// Tells what was not written: the status. A lost summary is told by the status alone.
+/// Reports which output was not written. Returns the exit status. A lost summary is reported by the exit status
+/// only.
 fn tell_lost<E: Write>(complaints: &mut Complaints<E>, lost: Lost) -> u8
     requires { failed_calls complaints.old.out < 2 ^ 63 }
     ensures { result ≡ 3 }

@@ -1,5 +1,5 @@
-//! What one run of `sarif_gate` does, over readers and writers of any kind: it merges, writes the log, the reports and
-//! the summary, and complains of what stopped it.
+//! What one run of `sarif_gate` does, over readers and writers of any kind: it merges, writes the log, the reports
+//! and the summary, and reports what stopped it.
 #![tactic(auto)]
 
 mod complaint;

@@ -51,8 +51,7 @@ fn reporting_of<W>(
     Ok(Some(Reporting { policy, root }))
 }
 
-/// Merges what the readers give, with what reports tell of it, where that is asked for, and gives what `tell` makes
-/// of it.
+/// Merges what the readers return, with findings if they are requested, and returns what `tell` computes.
 fn merge_told<
     'o,
     R: Read,
@@ -85,8 +84,8 @@ fn merge_told<
     merge_readers(rt, alloc, readers, &asked, &NoGate, tell)
 }
 
-/// Merges what the readers give, for a request whose reports have these writers, and makes the summary and the texts of
-/// these reports.
+/// Merges the sources for a request whose reports have these writers, and makes the summary and the texts of these
+/// reports.
 fn merge_for<R: Read, W, T: Threads + Wait + Sync>(
     rt: &T,
     alloc: Global,
@@ -119,10 +118,10 @@ fn merge_for<R: Read, W, T: Threads + Wait + Sync>(
     merge_told(rt, alloc, &request.options, &made, readers, tell)
 }
 
-/// Merges what the readers give, and writes the merged log, then the reports that there are writers for, and then
-/// the summary; or it complains of what stopped it: the program's exit status. It is 0 where the gate passes and 1
-/// where it fails, 3 where a read or a write failed, and 2 where the merge was refused for another reason or memory
-/// was wanting, and then nothing was written. Where the complaint isn't taken, the status is the same.
+/// Merges what the readers return, and writes the merged log, then the reports that there are writers for, and
+/// then the summary; or it reports what stopped it. Returns the program's exit status: 0 if the gate passes and 1
+/// if it fails, 3 if a read or a write failed, and 2 if the merge was rejected for another reason or memory ran
+/// out; then nothing was written. If the message cannot be written, the status is the same.
 pub fn run_request<R: Read, W: Write, S: Write, P: Write, E: Write, T: Threads + Wait + Sync>(
     rt: &T,
     alloc: Global,
@@ -138,8 +137,8 @@ pub fn run_request<R: Read, W: Write, S: Write, P: Write, E: Write, T: Threads +
     requires reports { All (λ wanted. failed_calls wanted.to < 2 ^ 63) writers.old.reports.items }
     requires says { failed_calls writers.old.say < 2 ^ 63 }
     requires complains { failed_calls complaints.old.out < 2 ^ 63 }
-    // 0 or 1 only where `out` got the merged log of what was read, each writer of a report got the report of
-    // this log, and `say` got its summary; 0 with the verdict pass, and 1 with fail.
+    // 0 or 1 only if `out` received the merged log of what was read, each writer of a report received the report
+    // of this log, and `say` received its summary; 0 with the verdict pass, and 1 with fail.
     ensures accepted { result < 2 → (merged : Outcome) × (result ≡ verdict_status merged.verdict)
         × IsMergedFrom R.remaining readers.old readers.new
         «request».now.options.today «request».now.options.policy
@@ -150,18 +149,18 @@ pub fn run_request<R: Read, W: Write, S: Write, P: Write, E: Write, T: Threads +
         writers.old.reports.items writers.new.reports.items
         × Appends (S.contents (inner_of writers.old.say)) (S.contents (inner_of writers.new.say))
         (summary_of (count_at merged.counts) «request».now.options.policy) }
-    // 3 exactly where a read or a write of one of these failed.
+    // 3 if and only if a read or a write of one of these failed.
     ensures failed { RisesIf (nat_eq result 3)
         (failures readers.old + writer_failures writers.old)
         (failures readers.new + writer_failures writers.new) }
-    // A merge that is refused writes nothing.
+    // A rejected merge writes nothing.
     ensures untouched { result ≡ 2 → writers.new ≡ writers.old }
     // Nor does one that stopped at a read that failed.
     ensures unread { failures readers.new ≡ failures readers.old + 1 → writers.new ≡ writers.old }
     // None of these numbers fell.
     ensures risen { NoNumberFalls readers.old readers.new
         × (writer_failures writers.old ≤ writer_failures writers.new) }
-    // Where all sources were read and one of them has a fault, it answers 2.
+    // If all sources were read and one of them has an error, it returns 2.
     ensures faulty { (contents : SourceContents) → AllTell R.remaining readers.old
         → WereRead R.remaining readers.old readers.new contents
         → (faults_of (given_by contents «request».now.options.today) ≡ [] → ⊥) → result ≡ 2 }

@@ -14,8 +14,8 @@ impl RandomSource for SameBytes {
     }
 }
 
-/// A seed that no log can know. Where the system has no random bytes it is the same in each run, which costs time at
-/// worst: no answer depends on it. So no error comes.
+/// Returns a seed that no log can know. If the system has no random bytes, the seed is the same in each run; that
+/// only costs time: no result depends on it. So there is no error.
 pub fn seed_of<R: RandomSource>(rt: &R) -> io::Result<RandomState> {
     match RandomState::new(rt) {
         Ok(seed) => Ok(seed),

@@ -1,4 +1,4 @@
-//! Making the texts that people and review services read of a merge.
+//! The texts of a merge for people and review services.
 ghost use Rattle.std.specs.Prelude.{◌≡◌, ◌≤◌, IfOk, map};
 ghost use Rattle.sarif_counts.specs.Counts.{count_at};
 ghost use Rattle.sarif_counts.specs.Summary.{summary_of};
@@ -14,7 +14,7 @@ use std::alloc::{AllocError, Global};
 use std::thread;
 use std::thread::Threads;
 
-/// The texts of an accepted merge, beside its log.
+/// The texts of an accepted merge, except its log.
 #[derive(Debug, Drop)]
 pub(crate) struct Texts {
     pub(crate) reports: Vec<Text>,
@@ -102,8 +102,8 @@ fn reports_of<W, T: Threads + Sync>(
     texts_told(rt, alloc, &told, reports, request.options.workers)
 }
 
-/// The summary of a merge with these counts, and the texts of the reports that there are writers for. The threads of
-/// the options share the work of reports.
+/// The summary of a merge with these counts, and the texts of the reports that there are writers for. The threads
+/// of the options share the work of reports.
 pub(crate) fn texts_of<W, T: Threads + Sync>(
     rt: &T,
     alloc: Global,

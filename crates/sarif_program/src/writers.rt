@@ -1,8 +1,8 @@
-//! Where the texts of a run go.
+//! Where the outputs of a run go.
 use sarif_request::Wanted;
 use sarif_streams::Counted;
 
-/// Where the texts of a run go.
+/// Where the outputs of a run go.
 #[derive(Debug, Drop)]
 pub struct Writers<W, S, P> {
     /// The merged log.

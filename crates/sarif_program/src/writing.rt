@@ -23,7 +23,7 @@ pub(crate) enum Lost {
     Summary,
 }
 
-/// Writes a text whole, and then no bytes, which ends it: the writer commits what it took.
+/// Writes an output completely, and then no bytes, which ends it: the writer commits what it accepted.
 #[tactic(auto, using(crate::proofs::Ended::ended))]
 fn put_out<W: Write>(out: &mut Counted<W>, text: &[u8]) -> Result<(), Failed>
     requires { failed_calls out.old < 2 ^ 63 }

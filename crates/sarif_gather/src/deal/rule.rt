@@ -1,4 +1,4 @@
-//! The deal's rule, and what each step tells.
+//! The deal's rule, and what each step shows.
 ghost use Rattle.std.specs.Prelude.{◌≡◌, ◌+◌, ◌-◌, [], ◌++◌};
 ghost use Rattle.sarif_gather.specs.Claims.{Dealt, Learns, hand_view, drew};
 
@@ -20,7 +20,7 @@ pub struct HandView {
     pub runs: u32,
     /// To how many hands they are dealt.
     pub hands: u32,
-    /// How many hands it stands for.
+    /// How many hands it represents.
     pub parts: u32,
     /// How many of these found no run.
     pub marks: u32,
@@ -64,7 +64,7 @@ impl Play<(), HandView> for Draws {
     ghost then = { λ step me found after. after ≡ (drew found me.0, me.1) };
 }
 
-/// A look at the word by the hand that stands for all.
+/// A look at the word by the hand that represents all.
 pub struct Counts;
 
 impl Play<(), HandView> for Counts {

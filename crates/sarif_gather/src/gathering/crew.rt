@@ -13,7 +13,7 @@ use crate::work::Work;
 pub struct Workplace<'a, W: Work, G> {
     /// The work that is gathered.
     pub work: &'a W,
-    /// Who looks on.
+    /// The observer.
     pub observer: &'a G,
     /// The deal of the work's runs.
     pub deal: &'a Deal,

@@ -15,7 +15,7 @@ use crate::work::{Gate, Work};
 use std::alloc::{AllocError, Global};
 use std::sync::Wait;
 
-/// What a worker gives back.
+/// What a worker returns.
 #[derive(Drop)]
 pub struct Back<P> {
     /// The post by which it sent.
@@ -56,7 +56,7 @@ fn send_run<W: Work, G: Gate, R: Wait>(
     Ok(())
 }
 
-// Draws runs and sends them, until no run is left. False where there was no memory for all.
+// Draws runs and sends them, until no run is left. Returns `false` if memory ran out.
 fn send_runs<W: Work, G: Gate, R: Wait>(
     rt: &R,
     alloc: Global,

@@ -1,4 +1,4 @@
-//! The mailbox's rule, and what each step tells.
+//! The mailbox's rule, and what each step shows.
 ghost use Rattle.std.specs.Prelude.{◌≡◌, ◌+◌, [], ◌∷◌, ◌++◌};
 ghost use Rattle.sarif_gather.specs.declared.mailbox.rule.View.TheVariants.{Taker, Sender, Gone};
 ghost use Rattle.sarif_gather.specs.Delivery.{Delivers, Settles, taken_in, made_in, settled_in};
@@ -9,7 +9,7 @@ use std::collections::LinkedList;
 
 /// What an end of the mailbox knows. No value of it is made.
 pub enum View<P> {
-    /// What was taken, how many posts were made, and what those sent whose posts came back.
+    /// What was received, how many posts were made, and what the senders of returned posts sent.
     Taker {
         taken: LinkedList<(u32, P)>,
         made: u32,
@@ -24,8 +24,8 @@ pub enum View<P> {
     Gone,
 }
 
-/// The rule that the mailbox keeps with its ends: what each sender sent is what was taken of it,
-/// and then what stands in the mailbox of it.
+/// The invariant of the mailbox and its ends: what each sender sent is what was received from it, followed by what
+/// the mailbox holds from it.
 pub struct Delivery;
 
 impl<P> Protocol<(u32, P), View<P>> for Delivery {
@@ -64,8 +64,7 @@ impl<P> Lesson<(u32, P), View<P>> for Sends {
     ghost fact = { λ v items. Unit {0} };
 }
 
-/// A parcel was taken. Of what stands in the mailbox, the desk knows what each returned sender
-/// sent.
+/// A parcel was received. The desk knows which of the parcels in the mailbox each returned sender sent.
 pub struct Takes;
 
 impl<P> Outcome<(u32, P), View<P>> for Takes {

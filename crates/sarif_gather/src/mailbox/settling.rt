@@ -13,7 +13,7 @@ use crossbeam_queue::Pass;
 use std::alloc::Global;
 use std::sync::Wait;
 
-/// What stood in the mailbox in the end, front first, each parcel with its sender.
+/// What was in the mailbox at the end, front first, each parcel with its sender.
 #[derive(Drop)]
 pub struct Settled<P> {
     /// The parcels, each with the number of its sender.
@@ -21,9 +21,8 @@ pub struct Settled<P> {
 }
 
 impl<P: Drop> Mailbox<P> {
-    /// Ends the mailbox: what was taken, and then what is left, is what each sender sent. Where
-    /// memory for what is left is wanting, the mailbox, the desk and the posts come back as they
-    /// were.
+    /// Ends the mailbox: what was received, followed by what is left, is what each sender sent. If memory for what
+    /// is left runs out, the mailbox, the desk and the posts are returned unchanged.
     pub fn settle<R: Wait>(
         self,
         rt: &R,

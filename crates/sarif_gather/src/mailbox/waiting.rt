@@ -1,7 +1,6 @@
-//! Sending to a full mailbox and taking from an empty one: the thread sleeps until it is woken.
-//!
-//! No wake-up is lost. Who waits announces it first and looks again before it sleeps; who sends or
-//! takes ends, after that, a wait that was announced.
+//! Sending to a full mailbox and receiving from an empty one: the thread sleeps until it is woken. No wake-up is
+//! lost. A thread announces that it waits and looks again before it sleeps; a thread that sends or receives then
+//! ends an announced wait.
 ghost use Rattle.std.specs.Prelude.{◌≡◌, [], ◌∷◌, ◌++◌, OnOk, IfErr, MatchOption};
 ghost use Rattle.sarif_gather.specs.Ends.{IsPostOf, IsDeskOf, number_of, sent_by, taken_by};
 
@@ -92,9 +91,8 @@ impl<P: Drop> Mailbox<P> {
         None
     }
 
-    // Takes, and wakes a sender where half of the room is free: a sender that is woken at each
-    // parcel would soon sleep again. Who finds the mailbox empty took its last parcel before, and
-    // woke a sender by that.
+    // Receives, and wakes a sender when half of the room is free: a sender that is woken for each parcel would
+    // soon sleep again. A thread that finds the mailbox empty took its last parcel before, and woke a sender then.
     fn take_one<R: Wait>(&self, rt: &R, desk: &mut Desk<P>) -> Option<(u32, P)>
         requires { IsDeskOf self.now desk.old }
         ensures desk { IsDeskOf self.now desk.new }
