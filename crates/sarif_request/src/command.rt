@@ -60,7 +60,7 @@ fn of_rows<'a>(alloc: Global, levels: ValueParser<'a>) -> Result<Command<'a>, Al
     Ok(command)
 }
 
-/// Returns the command without options.
+/// Returns the command without options. The help shows the logs before the options of their group.
 fn named<'a>(alloc: Global) -> Command<'a>
     ensures { app_of result ≡ start }
 {
@@ -71,6 +71,7 @@ fn named<'a>(alloc: Global) -> Command<'a>
         .version(VERSION)
         .about(ABOUT)
         .after_help(AFTER)
+        .next_display_order(1)
 }
 
 /// Adds an option for each report.

@@ -15,4 +15,5 @@ returns c =
     ∙ ap (on_top (λ s. record s { disable_version_flag = true })) helpless in
     let versed : app_of c.version.result ≡ start =
     ap app_of_fields c.version.ensures ∙ ap (on_top (λ s. record s { has_version = true })) bare in
-    ap app_of_fields c.after_help.ensures ∙ (ap app_of_fields c.about.ensures ∙ versed)
+    ap app_of_fields c.next_display_order.ensures
+    ∙ (ap app_of_fields c.after_help.ensures ∙ (ap app_of_fields c.about.ensures ∙ versed))
