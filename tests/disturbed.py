@@ -5,13 +5,14 @@ log, and no other file, unless the program was killed.
 """
 
 import signal
+import stat
 import tempfile
 from pathlib import Path
 
 from cases import line, log, ruled, run
 from cases_memory import BEFORE, DAY, ENTRIES, NOW, memory
 from cases_output import linked
-from refusing import Refusal, Room
+from refusing import Refusal, Room, run as run_with, state
 
 LOST = line("output: WriteFailed")
 UNREAD = [line(f"{part}: ReadFailed") for part in ("log 0", "log 1", "baseline 0", "suppressions")]
@@ -83,6 +84,55 @@ def one_byte_a_call(command, room, preloaded):
     return faults + [f"it made {ran.made} calls"] * (ran.made < 2 * calm.made)
 
 
+def each_new_file_is_synced(command, room, preloaded):
+    """A run in which the sync of the new file fails: it is made, before the file gets its name."""
+    calm, left = room.run(command, preloaded, Refusal("sync"))
+    ran, after = room.run(command, preloaded, Refusal("sync", 1))
+    faults = [f"{calm.made} files were synced, and not one"] * (calm.made != 1)
+    fault = wrong(ran, after, calm, left, room.before)
+    return faults + [fault] * bool(fault)
+
+
+def no_random_bytes(command, room, preloaded):
+    """Runs with random bytes that are zeros, and where each request for some fails: nothing else changes."""
+    calm, left = room.run(command, preloaded, Refusal("sync"))
+    faults, zeros = [], None
+    for first in range(3):
+        ran, after = room.run(command, preloaded, Refusal("chance", first))
+        is_equal = told(ran) == told(calm) and after == left
+        faults += [f"where request {first} fails: status {ran.status}"] * (not is_equal)
+        zeros = zeros or ran
+    # One for the seed of the tables, which no log may know, and one for the name of the new file.
+    return faults + [f"random bytes were requested {zeros.made} times, and not twice"] * (zeros.made != 2)
+
+
+TAKEN = ".sarif_gate-0000000000000000"
+
+
+def a_name_that_is_taken(command, room, preloaded):
+    """A run whose new file has a name that another file has: that file stays, and the old output too."""
+    before = room.before
+    (room.folder / TAKEN).write_bytes(b"of another program")
+    room.before = state(room.folder)
+    ran, after = room.run(command, preloaded, Refusal("chance"))
+    is_refused = ran.status == 3 and ran.stderr == LOST and after == room.before
+    (room.folder / TAKEN).unlink()
+    room.before = before
+    return [f"status {ran.status}, it said {ran.stderr[:200]!r}, and left {sorted(after)}"] * (not is_refused)
+
+
+def opened_to_nobody_else(command, room, preloaded):
+    """Runs over an old output that only its owner may read, ended at each call: the new file is open to nobody else."""
+    (room.folder / "o").chmod(0o600)
+    calm, _ = room.run(command, preloaded, Refusal("files"))
+    seen = set()
+    for first in range(1, calm.made + 1):
+        run_with(command, room.case, room.folder, preloaded, Refusal("files", first, signal=signal.SIGKILL))
+        seen |= {stat.S_IMODE(it.stat().st_mode) for it in room.folder.glob(".sarif_gate-*")}
+        room.restore(state(room.folder))
+    return [f"new files had the modes {[f'{it:o}' for it in sorted(seen)]}, and not 600"] * (seen != {0o600})
+
+
 def ways(wanted):
     yield "each call on files fails in turn", lambda *its: each_call_fails(*its, wanted)
     for number in SIGNALS:
@@ -91,10 +141,17 @@ def ways(wanted):
     yield "one byte a read and a write", one_byte_a_call
 
 
+def ways_of_new_files():
+    yield "the new file is synced", each_new_file_is_synced
+    yield "random bytes are zeros, or there are none", no_random_bytes
+    yield "the name of the new file is taken", a_name_that_is_taken
+    yield "the new file is open to nobody else", opened_to_nobody_else
+
+
 def checks(command, preloaded):
     """A name and the errors of each row in each way."""
-    for case, wanted in rows():
-        for name, way in ways(wanted):
+    for number, (case, wanted) in enumerate(rows()):
+        for name, way in [*ways(wanted), *ways_of_new_files()] if number == 0 else ways(wanted):
             with tempfile.TemporaryDirectory() as folder:
                 room = Room(case, Path(folder, "room"))
                 yield f"{case.name}, {name}", way(command, room, preloaded)

@@ -2,6 +2,8 @@
 
    REFUSE_KIND    memory: allocations (malloc, calloc, realloc, aligned_alloc, posix_memalign);
                   files: open, read, write, writev, fsync, fchmod, statx, readlink, rename, unlink
+                  sync: fsync alone
+                  chance: getentropy, which then gives zeros
    REFUSE_FIRST   the first call that fails, numbered from 1; 0 or empty: none
    REFUSE_LAST    the last call that fails; empty: only the first
    REFUSE_SIGNAL  the program gets this signal instead of the failure
@@ -13,7 +15,7 @@
 
 typedef unsigned long size;
 
-enum kind { NOTHING, MEMORY, FILES };
+enum kind { NOTHING, MEMORY, FILES, SYNCS, CHANCE };
 
 enum error { IO_ERROR = 5, OUT_OF_MEMORY = 12, NO_ACCESS = 13, NO_SPACE = 28 };
 
@@ -32,6 +34,7 @@ enum call {
     UNLINK = 87,
     READLINK = 89,
     FCHMOD = 91,
+    GETRANDOM = 318,
     STATX = 332,
 };
 
@@ -88,7 +91,7 @@ __attribute__((constructor)) static void start(void) {
     if (name)
         note = note_in(name);
     if (kind)
-        counted = *kind == 'm' ? MEMORY : FILES;
+        counted = *kind == 'm' ? MEMORY : *kind == 's' ? SYNCS : *kind == 'c' ? CHANCE : FILES;
 }
 
 /* Counts a call. Returns whether it must fail. */
@@ -168,7 +171,7 @@ long writev(int file, const struct part *parts, int count) {
 }
 
 int fsync(int file) {
-    return refuses(FILES) ? fails(IO_ERROR) : (int)syscall(FSYNC, file);
+    return refuses(FILES) || refuses(SYNCS) ? fails(IO_ERROR) : (int)syscall(FSYNC, file);
 }
 
 int fchmod(int file, unsigned mode) {
@@ -191,4 +194,15 @@ int rename(const char *from, const char *to) {
 
 int unlink(const char *path) {
     return refuses(FILES) ? fails(IO_ERROR) : (int)syscall(UNLINK, path);
+}
+
+/* Random bytes. Where they are counted they are zeros, so that what is made of them is known. */
+int getentropy(void *bytes, size count) {
+    if (refuses(CHANCE))
+        return fails(IO_ERROR);
+    if (counted != CHANCE)
+        return syscall(GETRANDOM, bytes, count, 0L) == (long)count ? 0 : fails(IO_ERROR);
+    for (size at = 0; at < count; at++)
+        ((volatile char *)bytes)[at] = 0;
+    return 0;
 }

@@ -16,7 +16,7 @@ KITS_FLAGS = ["--target=x86_64-linux-gnu", "-fuse-ld=lld"]
 
 @dataclass
 class Refusal:
-    """The calls of a kind, memory or files, that fail. They are numbered from 1. If `first` is 0, none fails."""
+    """The calls of a kind of tests/refuse.c that fail. They are numbered from 1. If `first` is 0, none fails."""
 
     kind: str
     first: int = 0
