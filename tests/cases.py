@@ -195,6 +195,12 @@ def refused(fault):
     return {"stdout": b"", "stderr": line(fault), "status": status}
 
 
+def says_what_is_wrong(answer):
+    """Checks that standard error says something, and not that memory ran out."""
+    wrong = ["nothing is on standard error"] * (not answer.stderr)
+    return wrong + ["it says that memory ran out"] * (b"OutOfMemory" in answer.stderr)
+
+
 # ---- Checks of a merged log
 
 

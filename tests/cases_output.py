@@ -248,7 +248,7 @@ def names():
         out=OLD,
         status=2,
         stdout=b"",
-        check=lambda answer: ["nothing stands on standard error"] * (not answer.stderr),
+        check=says_what_is_wrong,
     )
 
 

@@ -120,7 +120,7 @@ def wrong(name, words, files=()):
         status=2,
         stdout=b"",
         look=holds({"a": ONE, **given}),
-        check=lambda answer: ["nothing stands on standard error"] * (not answer.stderr),
+        check=says_what_is_wrong,
     )
 
 

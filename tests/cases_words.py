@@ -91,8 +91,7 @@ def usage():
 
 
 def says_usage(answer):
-    wrong = ["nothing stands on standard error"] * (not answer.stderr)
-    return wrong + ["an output was written"] * (answer.out is not None)
+    return says_what_is_wrong(answer) + ["an output was written"] * (answer.out is not None)
 
 
 OPTIONS = ("--baseline", "--suppress", "--today", "--workers", "--fail-on", "--max", "--out")

@@ -144,8 +144,8 @@ def ways(wanted):
 def ways_of_new_files():
     yield "the new file is synced", each_new_file_is_synced
     yield "random bytes are zeros, or there are none", no_random_bytes
-    yield "the name of the new file is taken", a_name_that_is_taken
-    yield "the new file is open to nobody else", opened_to_nobody_else
+    yield "the name of the new file exists already", a_name_that_is_taken
+    yield "the new file opens to its owner only", opened_to_nobody_else
 
 
 def checks(command, preloaded):
