@@ -208,7 +208,11 @@ def tells(gate, states=None, levels=None):
     """The gate object, and the states or the levels of all results in order."""
 
     def check(answer):
-        log = json.loads(answer.stdout if answer.out is None else answer.out)
+        whole = answer.stdout if answer.out is None else answer.out
+        try:
+            log = json.loads(whole)
+        except ValueError:
+            return [f"the merged log isn't JSON: {whole[:60]!r}"]
         wrong = [f"the gate is {log['properties']['gate']}"] * (log["properties"]["gate"] != gate)
         results = [it for run in log["runs"] for it in run.get("results", [])]
         for name, wanted in (("baselineState", states), ("level", levels)):
