@@ -6,15 +6,15 @@ use Rattle.std.proofs.lemmas.Bool.{cases_lt}
 use Rattle.std.proofs.lemmas.Nat.{div-add-mod', mod_below}
 use denote.Ref.{Bor}
 use denote.Param.Members.{Shared}
-use Rattle.std.proofs.lemmas.List.{take-append-drop, length-append, length-take-le, length-drop, get_or_append_left, get_or-append-add, drop-drop, map-append, take_more}
+use Rattle.std.proofs.lemmas.List.{take-append-drop, length-append, length-take, length-take-le, length-drop, get_or_append_left, get_or-append-add, drop-drop, map-append, take_more}
 use Rattle.std.proofs.lemmas.Grind.{flat_map-append}
 use Rattle.std.proofs.lemmas.Slice.Zip.{AllZip-map, all_zipped_more}
 use Rattle.std.specs.Prelude.{Result, Ok, min, slice_index_or}
 use Rattle.std.specs.declared.alloc.Global.{Global}
 use Rattle.std.specs.declared.vec.Vec.{Vec}
 use Rattle.std.specs.Fork.{AcceptsChunks, GivesChunk}
-use Rattle.std.specs.List.{AllZip, flat_map}
-use Rattle.sarif_gather.specs.Sharing.{AcceptsParts, AreJoined, GivesEach, GivesEachAt, GivesPart, GivesParts}
+use Rattle.std.specs.List.{AllByRecursion, AllZip, flat_map}
+use Rattle.sarif_gather.specs.Sharing.{AcceptsParts, AreJoined, GivesEach, GivesEachAt, GivesInParts, GivesPart, GivesParts}
 
 -- how the number of chunks compares with the length
 pub spans : (count len size : ℕ) → 0 < size → count ≡ len / size + min 1 (len % size) → (len ≤ count * size) × (count * size < len + size)
@@ -42,12 +42,13 @@ cut_zipped R n all xs xs' ys ys' made front back is low high =
     (subst (λ js. AllZip R js (ys ++ ys')) (ap (λ l. l ++ xs') front ∙ ap (λ l. take n all ++ l) back ∙ take-append-drop n all)
     (both_zipped R xs xs' ys ys' low high))
 
--- one more list after the others
-pub joined_more : {U E : Type 0} (rs : List (Result (Vec U Global) E)) (us : List U) (v : Vec U Global) → AreJoined rs us → AreJoined (rs ++ Ok v ∷ []) (us ++ v.items)
-joined_more rs us v are = (
+-- one more value after the others
+pub joined_more : {V U E : Type 0} (content : V → List U) (rs : List (Result V E)) (us : List U) (v : V)
+    → AreJoined content rs us → AreJoined content (rs ++ Ok v ∷ []) (us ++ content v)
+joined_more content rs us v are = (
   are.0 ++ v ∷ [],
   map-append Ok are.0 (v ∷ []) ∙ ap (λ l. l ++ Ok v ∷ []) are.1,
-  flat_map-append (λ w. w.items) are.0 (v ∷ []) ∙ ap (λ l. l ++ (v.items ++ [])) are.2 ∙ ap (λ l. us ++ l) (append-nil v.items),
+  flat_map-append content are.0 (v ∷ []) ∙ ap (λ l. l ++ (content v ++ [])) are.2 ∙ ap (λ l. us ++ l) (append-nil (content v)),
 )
 
 module _ {F T R : Type 0} (g : Shared F (ℕ × (Bor (List T) × Unit {0})) R) (f : F) where
@@ -75,6 +76,13 @@ module _ {F T R : Type 0} (g : Shared F (ℕ × (Bor (List T) × Unit {0})) R) (
 
     one_part : (xs : List T) (n : ℕ) (ys : List T) (r : R) → ys ≡ drop (n * size) xs → GivesChunk g f size xs n r → GivesPart g f (n * size) (take size ys) r
     one_part xs n ys r is h = record { shown = h.argument; shows = h.argument_is.value ∙ ap (take size) (sym is); call = h.call }
+
+    -- if each but the last is full, none is empty
+    pub cut_some : (n : ℕ) (xs : List T) → 0 < size → n * size < length xs + size → AllByRecursion (λ p. 0 < length p) (cut n xs)
+    cut_some zero xs pos long = tt
+    cut_some (suc n) xs pos long =
+        let more = suc-mul n size in
+        (omega (arith, more, length-take size xs), cut_some n (drop size xs) pos (omega (arith, more, length-drop size xs)))
 
     -- chunks from the one with this number on
     pub chunks_given : (n from : ℕ) (xs ys : List T) (rs : List R) → ys ≡ drop (from * size) xs → length rs ≡ n → n * size < length ys + size
@@ -113,12 +121,11 @@ one_more R xs i d ys y below so_far here =
 
 pub parts_whole : {F T U E : Type 0} (g : Shared F (ℕ × (Bor (List T) × Unit {0})) (Result (Vec U Global) E)) (f : F) (R : T → U → Type 0)
     → ((start : ℕ) (p : List T) (v : Vec U Global) → GivesPart g f start p (Ok v) → AllZip R p v.items)
-    → (xs : List T) (rs : List (Result (Vec U Global) E)) (us : List U) → (parts : List (List T)) × (flat_map (λ p. p) parts ≡ xs) × GivesParts g f 0 parts rs → AreJoined rs us → AllZip R xs us
-parts_whole g f R each xs rs us given are =
-    let parts = given.0 in
+    → (xs : List T) (rs : List (Result (Vec U Global) E)) (us : List U) → GivesInParts g f xs rs → AreJoined (λ v. v.items) rs us → AllZip R xs us
+parts_whole g f R each xs rs us made are =
     let lists = are.0 in
-    let zipped = parts_zipped g f R each 0 parts lists (subst (λ l. GivesParts g f 0 parts l) (sym are.1) given.2) in
-    subst (λ l. AllZip R l us) given.1 (subst (λ l. AllZip R (flat_map (λ p. p) parts) l) are.2 zipped)
+    let zipped = parts_zipped g f R each 0 made.parts lists (subst (λ l. GivesParts g f 0 made.parts l) (sym are.1) made.given) in
+    subst (λ l. AllZip R l us) made.whole (subst (λ l. AllZip R (flat_map (λ p. p) made.parts) l) are.2 zipped)
 
 -- an element of a part is one of the whole
 pub part_within : {T : Type 0} (xs before part after : List T) (k : ℕ) (d : T) → before ++ (part ++ after) ≡ xs → k < length part

@@ -1,8 +1,6 @@
 -- What the calls of one function give, when threads share them.
-use Rattle.std.specs.Prelude.{◌≡◌, ℕ, ⊤, ◌+◌, ◌++◌, List, [], ◌∷◌, length, map, Result, Ok}
-use Rattle.std.specs.List.{All, AllZip, flat_map}
-use Rattle.std.specs.declared.alloc.Global.{Global}
-use Rattle.std.specs.declared.vec.Vec.{Vec}
+use Rattle.std.specs.Prelude.{◌≡◌, ◌<◌, ℕ, ⊤, ◌+◌, ◌++◌, List, [], ◌∷◌, length, map, Result, Ok}
+use Rattle.std.specs.List.{All, AllByRecursion, AllZip, flat_map}
 use denote.Ref.{Bor}
 use denote.Param.Members.{Shared}
 use Rattle.std.specs.Fn.{FnReturnsAt}
@@ -36,6 +34,13 @@ module _ {F T R : Type 0} (g : Shared F (ℕ × (Bor (List T) × Unit {0})) R) (
   GivesParts start (p ∷ ps) [] = ⊥
   GivesParts start (p ∷ ps) (r ∷ rs) = GivesPart start p r × GivesParts (start + length p) ps rs
 
+  -- each of these is what a call of f may give with a part of xs. The parts have elements, and together are xs
+  pub record GivesInParts (xs : List T) (rs : List R) : Type 0 where
+    pub parts : List (List T)
+    pub whole : flat_map (λ p. p) parts ≡ xs
+    pub some : AllByRecursion (λ p. 0 < length p) parts
+    pub given : GivesParts 0 parts rs
+
 module _ {F T U E : Type 0} (g : Shared F (Bor T × Unit {0}) (Result U E)) (f : F) where
   -- f may be called with a reference to each of these
   abbrev pub AcceptsEachAt : List T → Type 0
@@ -45,7 +50,7 @@ module _ {F T U E : Type 0} (g : Shared F (Bor T × Unit {0}) (Result U E)) (f :
   abbrev pub GivesEachAt : List T → List U → Type 0
   GivesEachAt xs us = AllZip (λ x u. FnReturnsAt g f x (Ok u)) xs us
 
--- all of these are lists, which are us when concatenated
-abbrev pub AreJoined : {U E : Type 0} → List (Result (Vec U Global) E) → List U → Type 0
-AreJoined {U} {E} rs us =
-    (lists : List (Vec U Global)) × (map Ok lists ≡ rs) × (flat_map (λ v. v.items) lists ≡ us)
+-- all of these are values, whose contents are us when concatenated
+abbrev pub AreJoined : {V U E : Type 0} → (V → List U) → List (Result V E) → List U → Type 0
+AreJoined {V} content rs us =
+    (values : List V) × (map Ok values ≡ rs) × (flat_map content values ≡ us)

@@ -1,8 +1,7 @@
 //! Sharing work among threads.
-ghost use Rattle.std.specs.Prelude.{◌≡◌, ◌<◌, List, IfOk};
-ghost use Rattle.std.specs.List.{flat_map};
+ghost use Rattle.std.specs.Prelude.{◌<◌, IfOk};
 ghost use denote.Param.Send.{IsSend, IsSync};
-ghost use Rattle.sarif_gather.specs.Sharing.{AcceptsEach, AcceptsEachAt, AcceptsParts, AreJoined, GivesEach, GivesEachAt, GivesParts};
+ghost use Rattle.sarif_gather.specs.Sharing.{AcceptsEach, AcceptsEachAt, AcceptsParts, AreJoined, GivesEach, GivesEachAt, GivesInParts};
 
 use std::alloc::{AllocError, Global};
 use std::thread;
@@ -102,16 +101,15 @@ pub fn share_jobs<
     jobs_by(sharing.rt, sharing.alloc, jobs, threads, one)
 }
 
-/// Returns what `part` returns for each of some parts, which together are `items`, in order. `part` gets the
-/// position where its part begins. Returns `AllocError` if memory for the list runs out.
+/// Returns what `part` returns for each of some parts, which together are `items`, in order. None of them is empty.
+/// `part` gets the position where its part begins. Returns `AllocError` if memory for the list runs out.
 pub fn share_parts<R: Threads + Sync, T: Sync, X: Send + Drop, F: Fn(usize, &[T]) -> X + Sync>(
     sharing: &Sharing<'_, R>,
     items: &[T],
     part: &F,
 ) -> Result<Vec<X>, AllocError>
     requires { AcceptsParts F.Fn part.now items.now }
-    ensures { IfOk result (λ made. (parts : List (List _)) × (flat_map (λ p. p) parts ≡ items.now)
-        × GivesParts F.Fn part.now 0 parts made.items) }
+    ensures { IfOk result (λ made. GivesInParts F.Fn part.now items.now made.items) }
 {
     let threads = worth(items.len(), sharing.threads, sharing.least);
     let size = part_size(items.len(), threads);
@@ -141,7 +139,7 @@ fn joined<U: Drop>(
     count: usize,
     lists: Vec<Result<Vec<U>, AllocError>>,
 ) -> Result<Vec<U>, AllocError>
-    ensures { IfOk result (λ all. AreJoined lists.items all.items) }
+    ensures { IfOk result (λ all. AreJoined (λ list. list.items) lists.items all.items) }
 {
     let mut all = Vec::with_capacity(alloc, count)?;
     for list in lists {

@@ -9,8 +9,8 @@ loop-list-preserved g c =
     let list = c.in-Some.list in
     let left = c.next.new.self.rest.items in
     let step : l.list-iterator.rest.items ≡ list ∷ left = search rules in
-    let more = joined_more l.yielded l.all.items c.in_ok-list.field-0 l.invariant.1 in (
+    let more = joined_more (λ v. v.items) l.yielded l.all.items c.in_ok-list.field-0 l.invariant.1 in (
       l.invariant.0 ∙ ap (λ js. l.yielded ++ js) step ∙ sym (append_assoc l.yielded (list ∷ []) left),
-      subst (λ us. AreJoined (l.yielded ++ list ∷ []) us) (sym c.in_ok-append.ensures.items)
-          (subst (λ r. AreJoined (l.yielded ++ r ∷ []) (l.all.items ++ c.in_ok-list.field-0.items)) (sym c.in_ok-list.was) more),
+      subst (λ us. AreJoined (λ v. v.items) (l.yielded ++ list ∷ []) us) (sym c.in_ok-append.ensures.items)
+          (subst (λ r. AreJoined (λ v. v.items) (l.yielded ++ r ∷ []) (l.all.items ++ c.in_ok-list.field-0.items)) (sym c.in_ok-list.was) more),
     )

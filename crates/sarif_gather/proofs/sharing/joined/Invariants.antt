@@ -5,4 +5,4 @@ use Rattle.sarif_gather.proofs.sharing.joined.Given as goal
 abbrev pub invariant-loop-list : goal.invariant-loop-list
 invariant-loop-list g l =
     (parts : l.fn.lists.items ≡ l.yielded ++ l.list-iterator.rest.items)
-    × AreJoined l.yielded l.all.items
+    × AreJoined (λ list. list.items) l.yielded l.all.items
