@@ -17,4 +17,5 @@ pub mod Runs
 pub mod Settlements
 pub mod Sharings
 pub mod Tallies
+pub mod TwoPosts
 pub mod Wholes

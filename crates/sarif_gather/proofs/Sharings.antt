@@ -154,3 +154,13 @@ module _ {F J U E : Type 0} (g : Shared F (J × Unit {0}) (Result U E)) (f : F) 
   jobs_hold R one [] (u ∷ us) given = absurd given
   jobs_hold R one (j ∷ js) [] given = absurd given
   jobs_hold R one (j ∷ js) (u ∷ us) given = (one j u given.0, jobs_hold R one js us given.1)
+
+  -- for a caller: the same where the jobs are references to xs
+  pub refs_hold : {T : Type 0} (see : J → T) (R : T → U → Type 0) → ((j : J) (u : U) → g.post f (j, tt) (Ok u) → R (see j) u)
+      → (js : List J) (xs : List T) (us : List U) → map see js ≡ xs → GivesEach g f js us → AllZip R xs us
+  refs_hold see R one js xs us are given = subst (λ l. AllZip R l us) are (seen js us given) where
+    seen : (ks : List J) (vs : List U) → GivesEach g f ks vs → AllZip R (map see ks) vs
+    seen [] [] made = tt
+    seen [] (v ∷ vs) made = absurd made
+    seen (k ∷ ks) [] made = absurd made
+    seen (k ∷ ks) (v ∷ vs) made = (one k v made.0, seen ks vs made.1)

@@ -21,5 +21,5 @@ pub use gathering::{GatherFault, gather};
 pub use lists::Lists;
 pub use mailbox::{Desk, Full, Mailbox, Post, Settled};
 pub use piece::{Parcel, Piece, Refused, Why};
-pub use sharing::{Sharing, share_each, share_jobs, share_parts};
+pub use sharing::{Sharing, each_of, share_each, share_jobs, share_parts};
 pub use work::{Gate, NoGate, Work};

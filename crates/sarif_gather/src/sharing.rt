@@ -1,5 +1,5 @@
 //! Sharing work among threads.
-ghost use Rattle.std.specs.Prelude.{◌<◌, IfOk};
+ghost use Rattle.std.specs.Prelude.{◌≡◌, ◌<◌, IfOk, map};
 ghost use denote.Param.Send.{IsSend, IsSync};
 ghost use Rattle.sarif_gather.specs.Sharing.{AcceptsEach, AcceptsEachAt, AcceptsParts, AreJoined, GivesEach, GivesEachAt, GivesInParts};
 
@@ -169,4 +169,16 @@ pub fn share_each<
     { each_in_turn(alloc, some, one) };
     let lists = share_parts(sharing, items, &part)?;
     joined(alloc, items.len(), lists)
+}
+
+/// Returns references to these, in order: the jobs of a call of `share_jobs` in which each is only read. Returns
+/// `AllocError` if memory for the list runs out.
+pub fn each_of<'t, T>(alloc: Global, items: &'t [T]) -> Result<Vec<&'t T>, AllocError>
+    ensures { IfOk result (λ each. map (λ one. one.now) each.items ≡ items.now) }
+{
+    let mut each = Vec::with_capacity(alloc, items.len())?;
+    for item in items {
+        each.push(item)?;
+    }
+    Ok(each)
 }
