@@ -18,65 +18,54 @@ use Rattle.sarif_counts.proofs.Carried.{same_state_name, same_level_name}
 
 -- ---- states and levels by their names
 
-abbrev pub is_state : State → Option State → Bool
-is_state s None = false
-is_state s (Some t) = same_state s t
-
-abbrev pub is_level : Level → Option Level → Bool
-is_level l None = false
-is_level l (Some m) = same_level l m
-
 other_text : (name text : List ℕ) → bytes_eq text name ≡ false → bytes_eq name text ≡ false
 other_text name text e =
     false_from_ne_true _ (λ same. true≢false (sym ((bytes_eq-Decides text name).1 (sym ((bytes_eq-Decides name text).0 same))) ∙ e))
 
-same_as : (text : List ℕ) (s t : State) → bytes_eq text (state_name t) ≡ true → bytes_eq (state_name s) text ≡ same_state s t
-same_as text s t e = ap (bytes_eq (state_name s)) ((bytes_eq-Decides text (state_name t)).0 e) ∙ same_state_name s t
+abbrev pub is_one : {X : Type 0} → (X → X → Bool) → X → Option X → Bool
+is_one same x None = false
+is_one same x (Some y) = same x y
 
-no_state : (s : State) (text : List ℕ) → bytes_eq text (state_name New) ≡ false → bytes_eq text (state_name Unchanged) ≡ false
-    → bytes_eq text (state_name Updated) ≡ false → bytes_eq text (state_name Absent) ≡ false → bytes_eq (state_name s) text ≡ false
-no_state New text e0 e1 e2 e3 = other_text (state_name New) text e0
-no_state Unchanged text e0 e1 e2 e3 = other_text (state_name Unchanged) text e1
-no_state Updated text e0 e1 e2 e3 = other_text (state_name Updated) text e2
-no_state Absent text e0 e1 e2 e3 = other_text (state_name Absent) text e3
+-- four values with a name each
+module _ {X : Type 0} (name : X → List ℕ) (same : X → X → Bool) (same_name : (x y : X) → bytes_eq (name x) (name y) ≡ same x y)
+    (a b c d : X) (each : (P : X → Type 0) → P a → P b → P c → P d → (x : X) → P x) where
+  same_as : (text : List ℕ) (x y : X) → bytes_eq text (name y) ≡ true → bytes_eq (name x) text ≡ same x y
+  same_as text x y e = ap (bytes_eq (name x)) ((bytes_eq-Decides text (name y)).0 e) ∙ same_name x y
 
-state_by : (b0 b1 b2 b3 : Bool) (s : State) (text : List ℕ) → bytes_eq text (state_name New) ≡ b0 → bytes_eq text (state_name Unchanged) ≡ b1
-    → bytes_eq text (state_name Updated) ≡ b2 → bytes_eq text (state_name Absent) ≡ b3
-    → bytes_eq (state_name s) text
-    ≡ is_state s (if b0 then Some New else (if b1 then Some Unchanged else (if b2 then Some Updated else (if b3 then Some Absent else None))))
-state_by true b1 b2 b3 s text e0 e1 e2 e3 = same_as text s New e0
-state_by false true b2 b3 s text e0 e1 e2 e3 = same_as text s Unchanged e1
-state_by false false true b3 s text e0 e1 e2 e3 = same_as text s Updated e2
-state_by false false false true s text e0 e1 e2 e3 = same_as text s Absent e3
-state_by false false false false s text e0 e1 e2 e3 = no_state s text e0 e1 e2 e3
+  one_by : (b0 b1 b2 b3 : Bool) (x : X) (text : List ℕ) → bytes_eq text (name a) ≡ b0 → bytes_eq text (name b) ≡ b1 → bytes_eq text (name c) ≡ b2 → bytes_eq text (name d) ≡ b3
+      → bytes_eq (name x) text ≡ is_one same x (if b0 then Some a else (if b1 then Some b else (if b2 then Some c else (if b3 then Some d else None))))
+  one_by true b1 b2 b3 x text e0 e1 e2 e3 = same_as text x a e0
+  one_by false true b2 b3 x text e0 e1 e2 e3 = same_as text x b e1
+  one_by false false true b3 x text e0 e1 e2 e3 = same_as text x c e2
+  one_by false false false true x text e0 e1 e2 e3 = same_as text x d e3
+  one_by false false false false x text e0 e1 e2 e3 =
+      each (λ y. bytes_eq (name y) text ≡ false) (other_text (name a) text e0) (other_text (name b) text e1) (other_text (name c) text e2) (other_text (name d) text e3) x
+
+each_state : (P : State → Type 0) → P New → P Unchanged → P Updated → P Absent → (s : State) → P s
+each_state P n u p o New = n
+each_state P n u p o Unchanged = u
+each_state P n u p o Updated = p
+each_state P n u p o Absent = o
+
+each_level : (P : Level → Type 0) → P NoLevel → P Note → P Warning → P Error → (l : Level) → P l
+each_level P o n w e NoLevel = o
+each_level P o n w e Note = n
+each_level P o n w e Warning = w
+each_level P o n w e Error = e
+
+abbrev pub is_state : State → Option State → Bool
+is_state s o = is_one same_state s o
+
+abbrev pub is_level : Level → Option Level → Bool
+is_level l o = is_one same_level l o
 
 pub state_tells : (s : State) (o : Option (List ℕ)) → is_text (state_name s) o ≡ is_state s (option_and_then state_named o)
 state_tells s None = refl
-state_tells s (Some text) = state_by _ _ _ _ s text refl refl refl refl
-
-same_level_as : (text : List ℕ) (l m : Level) → bytes_eq text (level_name m) ≡ true → bytes_eq (level_name l) text ≡ same_level l m
-same_level_as text l m e = ap (bytes_eq (level_name l)) ((bytes_eq-Decides text (level_name m)).0 e) ∙ same_level_name l m
-
-no_level : (l : Level) (text : List ℕ) → bytes_eq text (level_name NoLevel) ≡ false → bytes_eq text (level_name Note) ≡ false
-    → bytes_eq text (level_name Warning) ≡ false → bytes_eq text (level_name Error) ≡ false → bytes_eq (level_name l) text ≡ false
-no_level NoLevel text e0 e1 e2 e3 = other_text (level_name NoLevel) text e0
-no_level Note text e0 e1 e2 e3 = other_text (level_name Note) text e1
-no_level Warning text e0 e1 e2 e3 = other_text (level_name Warning) text e2
-no_level Error text e0 e1 e2 e3 = other_text (level_name Error) text e3
-
-level_by : (b0 b1 b2 b3 : Bool) (l : Level) (text : List ℕ) → bytes_eq text (level_name NoLevel) ≡ b0 → bytes_eq text (level_name Note) ≡ b1
-    → bytes_eq text (level_name Warning) ≡ b2 → bytes_eq text (level_name Error) ≡ b3
-    → bytes_eq (level_name l) text
-    ≡ is_level l (if b0 then Some NoLevel else (if b1 then Some Note else (if b2 then Some Warning else (if b3 then Some Error else None))))
-level_by true b1 b2 b3 l text e0 e1 e2 e3 = same_level_as text l NoLevel e0
-level_by false true b2 b3 l text e0 e1 e2 e3 = same_level_as text l Note e1
-level_by false false true b3 l text e0 e1 e2 e3 = same_level_as text l Warning e2
-level_by false false false true l text e0 e1 e2 e3 = same_level_as text l Error e3
-level_by false false false false l text e0 e1 e2 e3 = no_level l text e0 e1 e2 e3
+state_tells s (Some text) = one_by state_name same_state same_state_name New Unchanged Updated Absent each_state _ _ _ _ s text refl refl refl refl
 
 pub level_tells : (l : Level) (o : Option (List ℕ)) → is_text (level_name l) o ≡ is_level l (option_and_then level_named o)
 level_tells l None = refl
-level_tells l (Some text) = level_by _ _ _ _ l text refl refl refl refl
+level_tells l (Some text) = one_by level_name same_level same_level_name NoLevel Note Warning Error each_level _ _ _ _ l text refl refl refl refl
 
 -- ---- sums
 
@@ -154,32 +143,20 @@ abbrev pub hits_in : Policy → Option State → Option Level → Bool → ℕ
 hits_in policy None ol side = 0
 hits_in policy (Some s) ol side = count_if (is_listed policy.states s) (count_if (at_least_in policy.fail_on ol && side) 1)
 
+-- it is a hit of its state, and none of another
+hit_in : (policy : Policy) (ol : Option Level) (side : Bool) (s : State)
+    → count_if (is_listed policy.states s) (severe_of (λ l. count_if (is_level l ol && same_side false side) 1) policy.fail_on) ≡ hits_in policy (Some s) ol (same_side false side)
+hit_in policy ol side s = ap (count_if (is_listed policy.states s)) (severe_one ol (same_side false side) policy.fail_on)
+
+none_in : (policy : Policy) (s : State) → count_if (is_listed policy.states s) (severe_of (λ _. 0) policy.fail_on) ≡ 0
+none_in policy s = none_at (is_listed policy.states s) policy.fail_on
+
 pub hits_one : (policy : Policy) (os : Option State) (ol : Option Level) (side : Bool) → hits_of (one_of os ol side) policy ≡ hits_in policy os ol (same_side false side)
 hits_one policy None ol side = hits_zero policy
-hits_one policy (Some New) ol side =
-    let here = ap (count_if (is_listed policy.states New)) (severe_one ol (same_side false side) policy.fail_on) in
-    let u = none_at (is_listed policy.states Unchanged) policy.fail_on in
-    let p = none_at (is_listed policy.states Updated) policy.fail_on in
-    let o = none_at (is_listed policy.states Absent) policy.fail_on in
-    omega (arith, here, u, p, o)
-hits_one policy (Some Unchanged) ol side =
-    let here = ap (count_if (is_listed policy.states Unchanged)) (severe_one ol (same_side false side) policy.fail_on) in
-    let u = none_at (is_listed policy.states New) policy.fail_on in
-    let p = none_at (is_listed policy.states Updated) policy.fail_on in
-    let o = none_at (is_listed policy.states Absent) policy.fail_on in
-    omega (arith, here, u, p, o)
-hits_one policy (Some Updated) ol side =
-    let here = ap (count_if (is_listed policy.states Updated)) (severe_one ol (same_side false side) policy.fail_on) in
-    let u = none_at (is_listed policy.states New) policy.fail_on in
-    let p = none_at (is_listed policy.states Unchanged) policy.fail_on in
-    let o = none_at (is_listed policy.states Absent) policy.fail_on in
-    omega (arith, here, u, p, o)
-hits_one policy (Some Absent) ol side =
-    let here = ap (count_if (is_listed policy.states Absent)) (severe_one ol (same_side false side) policy.fail_on) in
-    let u = none_at (is_listed policy.states New) policy.fail_on in
-    let p = none_at (is_listed policy.states Unchanged) policy.fail_on in
-    let o = none_at (is_listed policy.states Updated) policy.fail_on in
-    omega (arith, here, u, p, o)
+hits_one policy (Some New) ol side = omega (arith, hit_in policy ol side New, none_in policy Unchanged, none_in policy Updated, none_in policy Absent)
+hits_one policy (Some Unchanged) ol side = omega (arith, hit_in policy ol side Unchanged, none_in policy New, none_in policy Updated, none_in policy Absent)
+hits_one policy (Some Updated) ol side = omega (arith, hit_in policy ol side Updated, none_in policy New, none_in policy Unchanged, none_in policy Absent)
+hits_one policy (Some Absent) ol side = omega (arith, hit_in policy ol side Absent, none_in policy New, none_in policy Unchanged, none_in policy Updated)
 
 -- ---- counts that are the same
 
