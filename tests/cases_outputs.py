@@ -1,5 +1,6 @@
 """Cases of the options for reports: files, standard streams, outputs that can't be written, explanations."""
 
+import os
 import re
 import stat
 
@@ -105,6 +106,26 @@ def streams():
         look=holds({"a": ONE}),
         **refused("log 1: NotJson"),
     )
+
+
+# ---- A terminal
+
+WAITS = b"sarif_gate: reading a SARIF log from standard input; --help shows the options\n"
+
+
+def typed(text):
+    """The name of a terminal at which this text was typed, and then the end of the input."""
+    keyboard, terminal = os.openpty()
+    os.write(keyboard, text + b"\n\x04")
+    return os.ttyname(terminal)
+
+
+def terminals():
+    given = {"stdout": ONE_MERGED, "look": holds({"a": ONE})}
+    streams = {"stdin": typed(ONE)}
+    yield one("no arguments in a terminal", [], streams=streams, stderr=WAITS + ONE_SUMMARY, **given)
+    streams = {"stdin": typed(ONE)}
+    yield one("- in a terminal", ["--out", "-", "-"], streams=streams, stderr=ONE_SUMMARY, **given)
 
 
 # ---- Invalid arguments
@@ -347,7 +368,7 @@ def explains(fault, **wanted):
 
 
 def explained(name, files, fault, words=("--out", "o", "a"), **wanted):
-    status = refused(fault)["status"]
+    status = refused(fault.split(" (")[0])["status"]
     check = explains(fault, **wanted)
     words = ["--explain", *words]
     return one(name, words, group="explain", files=files, status=status, stdout=b"", check=check)
@@ -400,7 +421,7 @@ def explanations():
     yield explained(
         "a file that isn't there",
         {},
-        "log 1: ReadFailed",
+        "log 1: ReadFailed (b b)",
         named,
         file="b b",
         system=True,
@@ -428,5 +449,5 @@ def explanations():
 
 
 def cases():
-    for part in (streams, clashes, versions, failures, refusals, empty, kept_modes, explanations):
+    for part in (streams, terminals, clashes, versions, failures, refusals, empty, kept_modes, explanations):
         yield from part()

@@ -67,19 +67,27 @@ fn push_stop(
     push_line(alloc, lines, "wanted", wanted_by(fault).sentence())
 }
 
-/// Adds the position of the error, what was found there, and what is expected.
+/// Adds the position of the error, what was found there, and what is expected. Returns whether a member is missing.
 fn push_spot(
     alloc: Global,
     lines: &mut String,
     fault: &MergeFault,
     bytes: &[u8],
-) -> Result<(), AllocError> {
+) -> Result<bool, AllocError> {
     let Cause::Of(wrong) = fault.cause else {
-        return push_line(alloc, lines, "wanted", wanted_by(fault).sentence());
+        push_line(alloc, lines, "wanted", wanted_by(fault).sentence())?;
+        return Ok(false);
     };
     match Value::from_slice(alloc, without_mark(bytes)) {
-        Ok(value) => push_misfit(alloc, lines, &misfit_of(alloc, &value, fault.at, wrong)?),
-        Err(error) => push_stop(alloc, lines, fault, &error),
+        Ok(value) => {
+            let misfit = misfit_of(alloc, &value, fault.at, wrong)?;
+            push_misfit(alloc, lines, &misfit)?;
+            Ok(misfit.missing.is_some())
+        }
+        Err(error) => {
+            push_stop(alloc, lines, fault, &error)?;
+            Ok(false)
+        }
     }
 }
 
@@ -112,8 +120,9 @@ pub fn explanation(
     if !source.file.is_empty() {
         push_line(alloc, &mut lines, "file", source.file)?;
     }
-    push_spot(alloc, &mut lines, fault, source.bytes)?;
+    let is_missing = push_spot(alloc, &mut lines, fault, source.bytes)?;
     push_system(alloc, &mut lines, fault.cause, source.system)?;
-    push_line(alloc, &mut lines, "advice", advice_on(fault.cause))?;
+    let advice = advice_on(fault, is_missing);
+    push_line(alloc, &mut lines, "advice", advice)?;
     Ok(lines)
 }

@@ -2,8 +2,9 @@
 use crate::outputs::Outputs;
 use crate::sources::Source as Reading;
 use sarif_explain::{FaultSource, explanation};
+use sarif_findings::shown;
 use sarif_model::{At, Cause, MergeFault, Source, Text};
-use sarif_program::Complaint;
+use sarif_program::{Complaint, Complaints};
 use sarif_reports::Report;
 use sarif_request::{Request, Wanted};
 use sarif_streams::{Counted, Kept, Readers};
@@ -22,49 +23,74 @@ pub struct Ended<'a, 'b> {
 }
 
 impl Ended<'_, '_> {
-    /// Writes the explanation of an error message. If memory for it runs out, nothing is written.
+    /// Writes an error message with its explanation. If memory for the explanation runs out, writes only the message.
     pub fn explain(&self, rt: &HostRuntime, complaint: Complaint) {
-        let explained = match complaint {
-            Complaint::Fault(fault) => self.explained(rt.alloc(), &fault),
-            Complaint::Lost(report) => self.lost(rt.alloc(), report),
+        match self.told(rt.alloc(), complaint) {
+            Ok(told) => {
+                let told = told.as_str();
+                let _ = eprint!(rt; "{told}");
+            }
+            Err(_) => Complaints::new(rt.stderr()).complain(complaint),
+        }
+    }
+
+    /// Returns the line of an error message, and the lines of its explanation.
+    fn told(&self, alloc: Global, complaint: Complaint) -> Result<String, AllocError> {
+        let lines = match complaint {
+            Complaint::Fault(fault) => self.explained(alloc, &fault)?,
+            Complaint::Lost(report) => self.lost(alloc, report)?,
         };
-        if let Ok(lines) = explained {
-            let lines = lines.as_str();
-            let _ = eprint!(rt; "{lines}");
+        let lines = lines.as_str();
+        match self.unread_name(complaint) {
+            Some(name) => {
+                let name = shown(alloc, name.as_str())?;
+                let name = name.as_str();
+                format!(in alloc; "sarif_gate: {complaint} ({name})\n{lines}")
+            }
+            None => format!(in alloc; "sarif_gate: {complaint}\n{lines}"),
         }
     }
 
-    /// The explanation of an error, by its source.
+    /// Returns the name of the file that could not be read, if that is the error.
+    fn unread_name(&self, complaint: Complaint) -> Option<&Text> {
+        match complaint {
+            Complaint::Fault(fault) if fault.cause == Cause::ReadFailed => {
+                self.name_of(source_of(&fault)?)
+            }
+            _ => None,
+        }
+    }
+
+    /// Returns the name of a source or of the merged log, as it was passed.
+    fn name_of(&self, source: Source) -> Option<&Text> {
+        match source {
+            Source::Log(number) => self.request.logs.get(number as usize),
+            Source::Baseline(number) => self.request.baselines.get(number as usize),
+            Source::Suppress => self.request.suppress.as_ref(),
+            Source::Output => Some(&self.request.out),
+        }
+    }
+
+    /// Returns the explanation of an error, by its source.
     fn explained(&self, alloc: Global, fault: &MergeFault) -> Result<String, AllocError> {
-        let request = self.request;
         let readers = self.readers;
-        match source_of(fault) {
-            Some(Source::Log(number)) => {
-                let number = number as usize;
-                of_kept(
-                    alloc,
-                    fault,
-                    request.logs.get(number),
-                    readers.logs.get(number),
-                )
+        let Some(source) = source_of(fault) else {
+            return of_source(alloc, fault, "", &[], None);
+        };
+        let name = self.name_of(source);
+        match source {
+            Source::Log(number) => {
+                of_kept(alloc, fault, name, readers.logs.get(number as usize))
             }
-            Some(Source::Baseline(number)) => {
-                let number = number as usize;
-                let name = request.baselines.get(number);
-                of_kept(alloc, fault, name, readers.baselines.get(number))
+            Source::Baseline(number) => {
+                of_kept(alloc, fault, name, readers.baselines.get(number as usize))
             }
-            Some(Source::Suppress) => {
-                let name = request.suppress.as_ref();
-                of_kept(alloc, fault, name, readers.suppressions.as_ref())
-            }
-            Some(Source::Output) => {
-                of_kept(alloc, fault, Some(&request.out), Some(&self.writers.out))
-            }
-            None => of_source(alloc, fault, "", &[], None),
+            Source::Suppress => of_kept(alloc, fault, name, readers.suppressions.as_ref()),
+            Source::Output => of_kept(alloc, fault, name, Some(&self.writers.out)),
         }
     }
 
-    /// The explanation of a report that was not written.
+    /// Returns the explanation of a report that was not written.
     fn lost(&self, alloc: Global, report: Report) -> Result<String, AllocError> {
         let fault = MergeFault {
             at: At::Whole(Source::Output),

@@ -22,6 +22,7 @@ use sarif_streams::Readers;
 use sources::{Source, sources_of};
 use std::alloc::AllocError;
 use std::hash::RandomState;
+use std::io::IsTerminal;
 use std::process::ExitCode;
 use std::sync::Wait;
 use std::thread::Threads;
@@ -29,7 +30,10 @@ use std::{env, io};
 
 fn main(rt: HostRuntime) -> ExitCode {
     let status = match words_of(&rt) {
-        Ok((words, seed)) if words.is_empty() => run_streams(&rt, &rt, seed),
+        Ok((words, seed)) if words.is_empty() => {
+            tell_terminal(&rt);
+            run_streams(&rt, &rt, seed)
+        }
         Ok((words, seed)) => run_words(&rt, &rt, seed, words.as_slice()),
         Err(error) => {
             tell_unread(&rt, &error);
@@ -106,8 +110,8 @@ fn merge_named<T: Threads + Wait + Sync>(
     Ok(merge_streams(rt, threads, request, &mut readers, &mut writers))
 }
 
-/// Merges what the readers give into what the writers take, and returns the exit status. If `request.explain` is
-/// set, explains on standard error what stopped the merge. The caller owns and drops all streams.
+/// Merges what the readers return, writes to the writers, and returns the exit status. If `request.explain` is set,
+/// the error message is written with its explanation. The caller owns and drops all streams.
 fn merge_streams<'a, T: Threads + Wait + Sync>(
     rt: &'a HostRuntime,
     threads: &T,
@@ -123,7 +127,18 @@ fn merge_streams<'a, T: Threads + Wait + Sync>(
     requires says { failed_calls writers.old.say < 2 ^ 63 }
     ensures known { result ≤ 3 }
 {
-    let mut complaints = Complaints::new(rt.stderr());
+    if !request.explain {
+        let mut complaints = Complaints::new(rt.stderr());
+        return run_request(
+            threads,
+            rt.alloc(),
+            request,
+            readers,
+            writers,
+            &mut complaints,
+        );
+    }
+    let mut complaints = Complaints::new(io::sink());
     let status = run_request(
         threads,
         rt.alloc(),
@@ -132,7 +147,7 @@ fn merge_streams<'a, T: Threads + Wait + Sync>(
         writers,
         &mut complaints,
     );
-    if let (true, Some(complaint)) = (request.explain, complaints.last) {
+    if let Some(complaint) = complaints.last {
         let ended = Ended {
             request,
             readers: &*readers,
@@ -141,6 +156,15 @@ fn merge_streams<'a, T: Threads + Wait + Sync>(
         ended.explain(rt, complaint);
     }
     status
+}
+
+/// Says on standard error that the program waits for a log, if standard input is a terminal.
+fn tell_terminal(rt: &HostRuntime) {
+    if rt.stdin().is_terminal() {
+        let _ = eprintln!(rt;
+            "sarif_gate: reading a SARIF log from standard input; --help shows the options"
+        );
+    }
 }
 
 /// Prints the help on standard output, and usage errors on standard error.

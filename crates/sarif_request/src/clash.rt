@@ -6,34 +6,120 @@ use crate::request::Request;
 use crate::wanted::Wanted;
 use sarif_model::Text;
 use sarif_streams::STANDARD;
+use std::alloc::{AllocError, Global};
 
 /// Why names clash.
 #[derive(Clone, Copy, Debug, PartialEq, Eq)]
 pub enum Clash {
-    /// An output would take the place of the suppression file.
+    /// An output would overwrite the suppression file.
     Suppressions,
-    /// Two outputs have one name.
+    /// Two outputs have the same name.
     Outputs,
-    /// A report would take the place of a log or of a baseline.
+    /// A report would overwrite a log or a baseline.
     Inputs,
     /// Standard input is more than one of the logs.
     StandardInput,
 }
 
+/// An output of a request.
+#[derive(Clone, Copy)]
+struct Output<'a> {
+    /// The name of its option.
+    option: &'a str,
+    /// The name of its file; `-` is standard output.
+    file: &'a str,
+}
+
 impl Clash {
-    /// The sentence for users.
-    pub fn sentence(self) -> &'static str {
+    /// Returns the sentence for users, which names the options and the file of this request that clash. Returns
+    /// `AllocError` if memory runs out.
+    pub fn sentence(self, alloc: Global, request: &Request) -> Result<String, AllocError> {
         match self {
-            Clash::Suppressions => {
-                "an output has the name of the suppression file, which it would replace"
+            Clash::Suppressions => suppressions_told(alloc, request),
+            Clash::Outputs => outputs_told(alloc, request),
+            Clash::Inputs => inputs_told(alloc, request),
+            Clash::StandardInput => {
+                String::from_str(alloc, "standard input (-) can be only one of the logs")
             }
-            Clash::Outputs => "two outputs have one name; - is standard output, for one of them",
-            Clash::Inputs => {
-                "a report has the name of a log or of a baseline, which it would replace"
-            }
-            Clash::StandardInput => "standard input, -, is more than one of the logs",
         }
     }
+}
+
+/// Returns the outputs of a request: the merged log and then the reports.
+fn outputs_of<'a>(alloc: Global, request: &'a Request) -> Result<Vec<Output<'a>>, AllocError> {
+    let mut outputs = Vec::new(alloc);
+    outputs.push(Output {
+        option: "out",
+        file: request.out.as_str(),
+    })?;
+    for report in &request.reports {
+        outputs.push(Output {
+            option: report.report.name(),
+            file: report.to.as_str(),
+        })?;
+    }
+    Ok(outputs)
+}
+
+/// Names the first output with the name of the suppression file.
+fn suppressions_told(alloc: Global, request: &Request) -> Result<String, AllocError> {
+    let name = match &request.suppress {
+        Some(name) => name.as_str(),
+        None => "",
+    };
+    let outputs = outputs_of(alloc, request)?;
+    let option = match outputs.iter().find(|output| output.file == name) {
+        Some(output) => output.option,
+        None => "out",
+    };
+    format!(in alloc; "--{option} would overwrite the suppression file {name}")
+}
+
+/// Names the first two outputs with one name.
+fn outputs_told(alloc: Global, request: &Request) -> Result<String, AllocError> {
+    let outputs = outputs_of(alloc, request)?;
+    for first in &outputs {
+        for second in &outputs {
+            if first.option != second.option && first.file == second.file {
+                return two_outputs_told(alloc, *first, *second);
+            }
+        }
+    }
+    String::from_str(alloc, "two outputs have the same name")
+}
+
+/// Names two outputs with one name.
+fn two_outputs_told(
+    alloc: Global,
+    first: Output<'_>,
+    second: Output<'_>,
+) -> Result<String, AllocError> {
+    let (one, other, file) = (first.option, second.option, first.file);
+    if file == STANDARD {
+        format!(in alloc;
+            "--{one} and --{other} both write to standard output (-); only one output can"
+        )
+    } else {
+        format!(in alloc;
+            "--{one} and --{other} both write to {file}; each output needs its own file"
+        )
+    }
+}
+
+/// Names the first report with the name of a log or of a baseline.
+fn inputs_told(alloc: Global, request: &Request) -> Result<String, AllocError> {
+    for report in &request.reports {
+        if replaces_input(request, &report.to) {
+            let option = report.report.name();
+            let name = report.to.as_str();
+            return if request.logs.contains(&report.to) {
+                format!(in alloc; "--{option} would overwrite the log {name}")
+            } else {
+                format!(in alloc; "--{option} would overwrite the baseline {name}")
+            };
+        }
+    }
+    String::from_str(alloc, "a report would overwrite a log or a baseline")
 }
 
 /// Returns why the names of this request clash, or `None` if they don't. Names are compared byte for byte.

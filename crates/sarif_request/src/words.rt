@@ -63,7 +63,7 @@ pub fn read_words(alloc: Global, seed: RandomState, words: &[String]) -> Result<
         Ok(matches) => {
             let request = request_of(alloc, seed, &matches)?;
             if let Some(clash) = clash_of(&request) {
-                return Err(usage_of(alloc, clash));
+                return Err(usage_of(alloc, clash, &request));
             }
             Ok(request)
         }
@@ -71,19 +71,19 @@ pub fn read_words(alloc: Global, seed: RandomState, words: &[String]) -> Result<
     }
 }
 
-/// Clashing names, reported as the parser reports a mistake.
-fn usage_of(alloc: Global, clash: Clash) -> WordsFault
+/// Returns a clash of names as the parser reports a mistake.
+fn usage_of(alloc: Global, clash: Clash, request: &Request) -> WordsFault
     ensures { IsUsageOrWanting result }
 {
-    match told_of(alloc, clash) {
+    match told_of(alloc, clash, request) {
         Ok(text) => WordsFault::Usage(text),
         Err(_) => WordsFault::OutOfMemory,
     }
 }
 
-/// The text of it.
-fn told_of(alloc: Global, clash: Clash) -> Result<Text, AllocError> {
-    let sentence = clash.sentence();
+/// Returns the message about a clash of names.
+fn told_of(alloc: Global, clash: Clash, request: &Request) -> Result<Text, AllocError> {
+    let sentence = clash.sentence(alloc, request)?;
     let text = format!(in alloc; "error: {sentence}\n\nFor more information, try '--help'.\n")?;
     Text::from_string(text)
 }

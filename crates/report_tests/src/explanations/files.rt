@@ -35,7 +35,17 @@ fn a_file_has_a_version_and_a_list_within_the_limit(rt: HostRuntime) -> Result<(
   where: /version
   found: 1.0
   wanted: the number 1 or 2, without a fraction
-  advice: have the file written in a version that is read
+  advice: write the file in version 2, with "version": 2
+"#,
+        ),
+        (
+            Cause::Of(Fault::WrongVersion),
+            r#"{"suppressions":[]}"#,
+            r#"  file: found.sarif
+  where: 
+  found: nothing
+  wanted: the member version, the number 1 or 2, without a fraction
+  advice: add "version": 2 to the file
 "#,
         ),
         (

@@ -94,7 +94,7 @@ fn a_log_has_one_version(rt: HostRuntime) -> Result<(), Fail> {
   where: 
   found: nothing
   wanted: the member version, the text 2.1.0
-  advice: have the file written in a version that is read
+  advice: if the file is SARIF 2.1.0, add "version": "2.1.0" to it; otherwise configure the analyser to write SARIF 2.1.0
 "#,
         ),
         (
@@ -103,7 +103,7 @@ fn a_log_has_one_version(rt: HostRuntime) -> Result<(), Fail> {
   where: /version
   found: "2.0.0"
   wanted: the text 2.1.0
-  advice: have the file written in a version that is read
+  advice: configure the analyser to write SARIF 2.1.0, or convert the log to it
 "#,
         ),
         (
@@ -112,7 +112,7 @@ fn a_log_has_one_version(rt: HostRuntime) -> Result<(), Fail> {
   where: /version
   found: 2.1
   wanted: the text 2.1.0
-  advice: have the file written in a version that is read
+  advice: configure the analyser to write SARIF 2.1.0, or convert the log to it
 "#,
         ),
     ] {

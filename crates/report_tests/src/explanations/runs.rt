@@ -110,7 +110,7 @@ fn a_run_stands_in_one_log_and_within_the_limits(rt: HostRuntime) -> Result<(), 
   where: /runs/0/externalPropertyFileReferences
   found: {"results":[]}
   wanted: an empty object, or no such member
-  advice: let the analyser write everything into the log
+  advice: if you don't need what is in the other file, drop the reference: jq 'del(.runs[].externalPropertyFileReferences)' LOG > NEW_LOG
 "#,
         ),
         (

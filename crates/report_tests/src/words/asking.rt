@@ -206,20 +206,59 @@ fn wrong_words_are_usage(rt: HostRuntime) -> Result<(), Fail> {
 #[test]
 fn names_that_clash_are_usage(rt: HostRuntime) -> Result<(), Fail> {
     for (line, told) in [
-        ("a --out o --suppress o", "the suppression file"),
-        ("a --out - --suppress -", "the suppression file"),
-        ("a --out o --html s --suppress s", "the suppression file"),
-        ("a --out o --text - --suppress -", "the suppression file"),
-        ("a --out o --text o", "two outputs"),
-        ("a --out o --html o", "two outputs"),
-        ("a --out - --github -", "two outputs"),
-        ("a --out o --text t --github t", "two outputs"),
-        ("a --out o --gitlab p --html p", "two outputs"),
-        ("a --out o --markdown - --html -", "two outputs"),
-        ("a b --out o --text b", "a log or of a baseline"),
-        ("a --out o --baseline b --html b", "a log or of a baseline"),
-        ("- - --out o", "standard input"),
-        ("- a - --out o", "standard input"),
+        (
+            "a --out o --suppress o",
+            "--out would overwrite the suppression file o",
+        ),
+        (
+            "a --out - --suppress -",
+            "--out would overwrite the suppression file -",
+        ),
+        (
+            "a --out o --html s --suppress s",
+            "--html would overwrite the suppression file s",
+        ),
+        (
+            "a --out o --text - --suppress -",
+            "--text would overwrite the suppression file -",
+        ),
+        (
+            "a --out o --text o",
+            "--out and --text both write to o; each output needs its own file",
+        ),
+        (
+            "a --out o --html o",
+            "--out and --html both write to o; each output needs its own file",
+        ),
+        (
+            "a --out - --github -",
+            "--out and --github both write to standard output (-)",
+        ),
+        (
+            "a --out o --github t --text t",
+            "--text and --github both write to t",
+        ),
+        (
+            "a --out o --gitlab p --html p",
+            "--gitlab and --html both write to p",
+        ),
+        (
+            "a --out o --markdown - --html -",
+            "--markdown and --html both write to standard output (-)",
+        ),
+        ("a b --out o --text b", "--text would overwrite the log b"),
+        (
+            "a --out o --baseline b --html b",
+            "--html would overwrite the baseline b",
+        ),
+        (
+            "- - --out o",
+            "standard input (-) can be only one of the logs",
+        ),
+        (
+            "- a - --out o",
+            "standard input (-) can be only one of the logs",
+        ),
     ] {
         match read(&rt, line)? {
             Err(WordsFault::Usage(text)) => {
