@@ -383,8 +383,8 @@ def explanations():
         "  file: found.sarif",
         "  where: /runs/0/results/7/correlationGuid",
         '  found: "x"',
-        "  wanted: a GUID, as 0f14d0ab-9605-4a62-a9e4-5ed26688389b",
-        "  advice: report it to the makers of the analyser, or drop the member",
+        "  wanted: a GUID, for example 0f14d0ab-9605-4a62-a9e4-5ed26688389b",
+        "  advice: report it to the developers of the analyser, or fix or drop the member before the merge",
         "",
     ]
     given = {"group": "explain", "files": {"found.sarif": bad}, "status": 2, "stdout": b""}

@@ -9,10 +9,12 @@ const SPLIT: &str = "split the analysis, or drop what you don't need";
 fn advice_on_version(at: At, is_missing: bool) -> &'static str {
     match (at, is_missing) {
         (At::Whole(Source::Suppress), true) => "add \"version\": 2 to the file",
-        (At::Whole(Source::Suppress), false) => "write the file in version 2, with \"version\": 2",
+        (At::Whole(Source::Suppress), false) => {
+            "write the file in version 2, with \"version\": 2"
+        }
         (_, true) => {
-            "if the file is SARIF 2.1.0, add \"version\": \"2.1.0\" to it; otherwise configure the \
-             analyser to write SARIF 2.1.0"
+            "if the file is SARIF 2.1.0, add \"version\": \"2.1.0\" to it; otherwise configure \
+             the analyser to write SARIF 2.1.0"
         }
         (_, false) => "configure the analyser to write SARIF 2.1.0, or convert the log to it",
     }
@@ -21,15 +23,20 @@ fn advice_on_version(at: At, is_missing: bool) -> &'static str {
 /// Returns what to do about an error in what was read.
 fn advice_on_fault(fault: Fault, at: At, is_missing: bool) -> &'static str {
     match fault {
-        Fault::NotJson => "mend it there, or see whether what wrote the file wrote it to its end",
-        Fault::NotLog => "see that the file is a SARIF log, and no file was named in its place",
+        Fault::NotJson => {
+            "fix the file there, or check that the analyser ended normally and wrote the whole \
+             file"
+        }
+        Fault::NotLog => {
+            "check that you passed the right file, and that the analyser writes SARIF 2.1.0"
+        }
         Fault::WrongVersion => advice_on_version(at, is_missing),
         Fault::BadRun | Fault::BadRules => {
-            "report it to the makers of the analyser, or mend the run"
+            "report it to the developers of the analyser, or fix the run before the merge"
         }
         Fault::ExternalProperties => {
-            "if you don't need what is in the other file, drop the reference: \
-             jq 'del(.runs[].externalPropertyFileReferences)' LOG > NEW_LOG"
+            "if you don't need what is in the other file, drop the reference: jq \
+             'del(.runs[].externalPropertyFileReferences)' LOG > NEW_LOG"
         }
         Fault::BadIndex
         | Fault::BadLevel
@@ -38,13 +45,20 @@ fn advice_on_fault(fault: Fault, at: At, is_missing: bool) -> &'static str {
         | Fault::BadFingerprint
         | Fault::BadLocation
         | Fault::BadSuppression
-        | Fault::BadMember => "report it to the makers of the analyser, or drop the member",
-        Fault::AbsentInput => "name the file with --baseline, or merge the log of the analyser",
+        | Fault::BadMember => {
+            "report it to the developers of the analyser, or fix or drop the member before the \
+             merge"
+        }
+        Fault::AbsentInput => {
+            "pass the file with --baseline, or merge the analyser's own log instead"
+        }
         Fault::TooMany => SPLIT,
-        Fault::NotList => "give the file the array suppressions, and see that it is the right one",
-        Fault::BadEntry => "mend the entry, or hold the file to its JSON Schema",
-        Fault::EmptyMatch => "name a condition, since else every result would be suppressed",
-        Fault::NeedsToday => "add --today with the day as YYYYMMDD",
+        Fault::NotList => {
+            "check that you passed the right file; a suppression file has an array suppressions"
+        }
+        Fault::BadEntry => "fix the entry, or validate the file against its JSON Schema",
+        Fault::EmptyMatch => "add a condition; without one, the entry would match every result",
+        Fault::NeedsToday => "pass today's date as YYYYMMDD: --today \"$(date -u +%Y%m%d)\"",
     }
 }
 
@@ -53,9 +67,11 @@ pub(crate) fn advice_on(fault: &MergeFault, is_missing: bool) -> &'static str {
     match fault.cause {
         Cause::Of(wrong) => advice_on_fault(wrong, fault.at, is_missing),
         Cause::TooLong => SPLIT,
-        Cause::ReadFailed => "see the name, that it is no folder, and the permissions",
-        Cause::WriteFailed => "see the name, the permissions, and the room on the disk",
-        Cause::OutOfMemory => "give the program more memory, or merge less at a time",
-        Cause::NoWorker => "name fewer --workers, or let the program start more threads",
+        Cause::ReadFailed => "check that the file exists, is not a folder and is readable",
+        Cause::WriteFailed => {
+            "check that the folder exists, that you may write there, and that the disk has room"
+        }
+        Cause::OutOfMemory => "make more memory available, or merge fewer logs in one call",
+        Cause::NoWorker => "lower --workers, or allow the program to start more threads",
     }
 }

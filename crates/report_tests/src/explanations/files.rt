@@ -15,7 +15,7 @@ fn a_file_has_a_version_and_a_list_within_the_limit(rt: HostRuntime) -> Result<(
   line: 1
   column: 2
   wanted: JSON in UTF-8, nested at most 127 deep
-  advice: mend it there, or see whether what wrote the file wrote it to its end
+  advice: fix the file there, or check that the analyser ended normally and wrote the whole file
 "#,
         ),
         (
@@ -25,7 +25,7 @@ fn a_file_has_a_version_and_a_list_within_the_limit(rt: HostRuntime) -> Result<(
   where: 
   found: nothing
   wanted: the member suppressions, an array
-  advice: give the file the array suppressions, and see that it is the right one
+  advice: check that you passed the right file; a suppression file has an array suppressions
 "#,
         ),
         (
@@ -34,7 +34,7 @@ fn a_file_has_a_version_and_a_list_within_the_limit(rt: HostRuntime) -> Result<(
             r#"  file: found.sarif
   where: /version
   found: 1.0
-  wanted: the number 1 or 2, without a fraction
+  wanted: the integer 1 or 2, written without a fraction
   advice: write the file in version 2, with "version": 2
 "#,
         ),
@@ -44,7 +44,7 @@ fn a_file_has_a_version_and_a_list_within_the_limit(rt: HostRuntime) -> Result<(
             r#"  file: found.sarif
   where: 
   found: nothing
-  wanted: the member version, the number 1 or 2, without a fraction
+  wanted: the member version, the integer 1 or 2, written without a fraction
   advice: add "version": 2 to the file
 "#,
         ),
@@ -55,7 +55,7 @@ fn a_file_has_a_version_and_a_list_within_the_limit(rt: HostRuntime) -> Result<(
   where: /suppressions
   found: []
   wanted: at most 10000 entries
-  advice: split the analysis, or drop what is not needed
+  advice: split the analysis, or drop what you don't need
 "#,
         ),
     ] {
@@ -72,8 +72,8 @@ fn an_entry_has_the_members_of_its_version(rt: HostRuntime) -> Result<(), Fail> 
             r#"  file: found.sarif
   where: /suppressions/0
   found: 7
-  wanted: an object of the members that its version has
-  advice: mend the entry, or hold the file to its JSON Schema
+  wanted: an object with only the members that its version has
+  advice: fix the entry, or validate the file against its JSON Schema
 "#,
         ),
         (
@@ -81,8 +81,8 @@ fn an_entry_has_the_members_of_its_version(rt: HostRuntime) -> Result<(), Fail> 
             r#"  file: found.sarif
   where: /suppressions/0/uriPrefix
   found: null
-  wanted: in version 1 no members but tool, ruleId, uri, guid, fingerprints, partialFingerprints, status and justification
-  advice: mend the entry, or hold the file to its JSON Schema
+  wanted: in version 1 only the members tool, ruleId, uri, guid, fingerprints, partialFingerprints, status and justification
+  advice: fix the entry, or validate the file against its JSON Schema
 "#,
         ),
         (
@@ -90,8 +90,8 @@ fn an_entry_has_the_members_of_its_version(rt: HostRuntime) -> Result<(), Fail> 
             r#"  file: found.sarif
   where: /suppressions/0/until
   found: 20251231
-  wanted: no members but tool, ruleId, uri, uriPrefix, guid, fingerprints, partialFingerprints, expires, status and justification
-  advice: mend the entry, or hold the file to its JSON Schema
+  wanted: only the members tool, ruleId, uri, uriPrefix, guid, fingerprints, partialFingerprints, expires, status and justification
+  advice: fix the entry, or validate the file against its JSON Schema
 "#,
         ),
         (
@@ -99,8 +99,8 @@ fn an_entry_has_the_members_of_its_version(rt: HostRuntime) -> Result<(), Fail> 
             r#"  file: found.sarif
   where: /suppressions/0/tool
   found: 1.5
-  wanted: a text
-  advice: mend the entry, or hold the file to its JSON Schema
+  wanted: a string
+  advice: fix the entry, or validate the file against its JSON Schema
 "#,
         ),
         (
@@ -108,8 +108,8 @@ fn an_entry_has_the_members_of_its_version(rt: HostRuntime) -> Result<(), Fail> 
             r#"  file: found.sarif
   where: /suppressions/0/expires
   found: 20251301
-  wanted: a day as the number YYYYMMDD, from 10000101 to 99991231
-  advice: mend the entry, or hold the file to its JSON Schema
+  wanted: a date as the integer YYYYMMDD, from 10000101 to 99991231
+  advice: fix the entry, or validate the file against its JSON Schema
 "#,
         ),
     ] {
@@ -134,8 +134,8 @@ fn an_entry_names_a_condition_and_may_need_the_day(rt: HostRuntime) -> Result<()
             r#"  file: found.sarif
   where: /suppressions/1
   found: {"fingerprints":{"a":null}}
-  wanted: one of tool, ruleId, uri, uriPrefix, guid, fingerprints and partialFingerprints at least
-  advice: name a condition, since else every result would be suppressed
+  wanted: at least one of tool, ruleId, uri, uriPrefix, guid, fingerprints and partialFingerprints
+  advice: add a condition; without one, the entry would match every result
 "#,
         ),
         (
@@ -144,8 +144,8 @@ fn an_entry_names_a_condition_and_may_need_the_day(rt: HostRuntime) -> Result<()
             r#"  file: found.sarif
   where: /suppressions/1/expires
   found: 20251231
-  wanted: the day of today, since the entry has a last day
-  advice: add --today with the day as YYYYMMDD
+  wanted: today's date, since the entry has an expiry date
+  advice: pass today's date as YYYYMMDD: --today "$(date -u +%Y%m%d)"
 "#,
         ),
     ] {

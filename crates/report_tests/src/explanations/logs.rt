@@ -15,7 +15,7 @@ fn json_tells_where_its_reading_stopped(rt: HostRuntime) -> Result<(), Fail> {
   line: 1
   column: 27
   wanted: JSON in UTF-8, nested at most 127 deep
-  advice: mend it there, or see whether what wrote the file wrote it to its end
+  advice: fix the file there, or check that the analyser ended normally and wrote the whole file
 "#,
         ),
         (
@@ -24,7 +24,7 @@ fn json_tells_where_its_reading_stopped(rt: HostRuntime) -> Result<(), Fail> {
   line: 2
   column: 2
   wanted: JSON in UTF-8, nested at most 127 deep
-  advice: mend it there, or see whether what wrote the file wrote it to its end
+  advice: fix the file there, or check that the analyser ended normally and wrote the whole file
 "#,
         ),
     ] {
@@ -49,7 +49,7 @@ fn a_log_is_an_object_with_runs(rt: HostRuntime) -> Result<(), Fail> {
   where: 
   found: []
   wanted: an object with runs, an array or null
-  advice: see that the file is a SARIF log, and no file was named in its place
+  advice: check that you passed the right file, and that the analyser writes SARIF 2.1.0
 "#,
         ),
         (
@@ -58,7 +58,7 @@ fn a_log_is_an_object_with_runs(rt: HostRuntime) -> Result<(), Fail> {
   where: 
   found: nothing
   wanted: the member runs, an array of runs, or null
-  advice: see that the file is a SARIF log, and no file was named in its place
+  advice: check that you passed the right file, and that the analyser writes SARIF 2.1.0
 "#,
         ),
         (
@@ -67,7 +67,7 @@ fn a_log_is_an_object_with_runs(rt: HostRuntime) -> Result<(), Fail> {
   where: /runs
   found: {"a":1}
   wanted: an array of runs, or null
-  advice: see that the file is a SARIF log, and no file was named in its place
+  advice: check that you passed the right file, and that the analyser writes SARIF 2.1.0
 "#,
         ),
         (
@@ -76,7 +76,7 @@ fn a_log_is_an_object_with_runs(rt: HostRuntime) -> Result<(), Fail> {
   where: /runs
   found: [1.5]
   wanted: an array of runs, or null
-  advice: see that the file is a SARIF log, and no file was named in its place
+  advice: check that you passed the right file, and that the analyser writes SARIF 2.1.0
 "#,
         ),
     ] {
@@ -93,7 +93,7 @@ fn a_log_has_one_version(rt: HostRuntime) -> Result<(), Fail> {
             r#"  file: found.sarif
   where: 
   found: nothing
-  wanted: the member version, the text 2.1.0
+  wanted: the member version, the string 2.1.0
   advice: if the file is SARIF 2.1.0, add "version": "2.1.0" to it; otherwise configure the analyser to write SARIF 2.1.0
 "#,
         ),
@@ -102,7 +102,7 @@ fn a_log_has_one_version(rt: HostRuntime) -> Result<(), Fail> {
             r#"  file: found.sarif
   where: /version
   found: "2.0.0"
-  wanted: the text 2.1.0
+  wanted: the string 2.1.0
   advice: configure the analyser to write SARIF 2.1.0, or convert the log to it
 "#,
         ),
@@ -111,7 +111,7 @@ fn a_log_has_one_version(rt: HostRuntime) -> Result<(), Fail> {
             r#"  file: found.sarif
   where: /version
   found: 2.1
-  wanted: the text 2.1.0
+  wanted: the string 2.1.0
   advice: configure the analyser to write SARIF 2.1.0, or convert the log to it
 "#,
         ),
@@ -133,16 +133,16 @@ fn limits_are_told(rt: HostRuntime) -> Result<(), Fail> {
     let runs = r#"  file: found.sarif
   where: /runs
   found: []
-  wanted: at most 1000 logs and 1000 baselines, and in all of them 10000 runs and 1000000 results
-  advice: split the analysis, or drop what is not needed
+  wanted: at most 1000 logs and 1000 baselines, with at most 10000 runs and 1000000 results in all
+  advice: split the analysis, or drop what you don't need
 "#;
     let many = r#"  file: found.sarif
-  wanted: at most 1000 logs and 1000 baselines, and in all of them 10000 runs and 1000000 results
-  advice: split the analysis, or drop what is not needed
+  wanted: at most 1000 logs and 1000 baselines, with at most 10000 runs and 1000000 results in all
+  advice: split the analysis, or drop what you don't need
 "#;
     let long = r#"  file: found.sarif
   wanted: at most 67108864 bytes
-  advice: split the analysis, or drop what is not needed
+  advice: split the analysis, or drop what you don't need
 "#;
     let alloc = rt.alloc();
     let text = r#"{"version":"2.1.0","runs":[]}"#;
@@ -167,9 +167,9 @@ fn the_system_says_why_a_call_failed(rt: HostRuntime) -> Result<(), Fail> {
     assert_eq!(rt;
         explanation(alloc, &fault, &read)?.as_str(),
         r#"  file: a b.sarif
-  wanted: a file that is there and can be read to its end
+  wanted: a file that exists and can be read to its end
   system: Is a directory (os error 21)
-  advice: see the name, that it is no folder, and the permissions
+  advice: check that the file exists, is not a folder and is readable
 "#
     );
     let written = FaultSource {
@@ -184,9 +184,9 @@ fn the_system_says_why_a_call_failed(rt: HostRuntime) -> Result<(), Fail> {
     assert_eq!(rt;
         explanation(alloc, &fault, &written)?.as_str(),
         r#"  file: merged.sarif
-  wanted: a name that can be written, and room for the whole text
+  wanted: a file that can be written, and enough room on the disk
   system: No space left on device
-  advice: see the name, the permissions, and the room on the disk
+  advice: check that the folder exists, that you may write there, and that the disk has room
 "#
     );
     Ok(())
@@ -198,13 +198,13 @@ fn faults_of_no_input_have_two_lines(rt: HostRuntime) -> Result<(), Fail> {
         (
             Cause::OutOfMemory,
             r#"  wanted: memory for what is read and for what is written
-  advice: give the program more memory, or merge less at a time
+  advice: make more memory available, or merge fewer logs in one call
 "#,
         ),
         (
             Cause::NoWorker,
             r#"  wanted: as many threads as there are workers
-  advice: name fewer --workers, or let the program start more threads
+  advice: lower --workers, or allow the program to start more threads
 "#,
         ),
     ] {

@@ -28,8 +28,8 @@ fn a_guid_is_told_at_its_result(rt: HostRuntime) -> Result<(), Fail> {
     let wanted = r#"  file: found.sarif
   where: /runs/0/results/7/correlationGuid
   found: "x"
-  wanted: a GUID, as 0f14d0ab-9605-4a62-a9e4-5ed26688389b
-  advice: report it to the makers of the analyser, or drop the member
+  wanted: a GUID, for example 0f14d0ab-9605-4a62-a9e4-5ed26688389b
+  advice: report it to the developers of the analyser, or fix or drop the member before the merge
 "#;
     let at = At::Single(Source::Log(0), 0, 7);
     check(&rt, rt.alloc(), at, Cause::Of(Fault::BadGuid), text, wanted)
@@ -44,8 +44,8 @@ fn state_kind_and_level_are_of_their_texts(rt: HostRuntime) -> Result<(), Fail> 
             r#"  file: found.sarif
   where: /runs/1/results/0/baselineState
   found: "absent"
-  wanted: any state but absent, or none: a log holds current results alone
-  advice: name the file with --baseline, or merge the log of the analyser
+  wanted: no baselineState, or one other than absent: a log may contain only current results
+  advice: pass the file with --baseline, or merge the analyser's own log instead
 "#,
         ),
         (
@@ -55,7 +55,7 @@ fn state_kind_and_level_are_of_their_texts(rt: HostRuntime) -> Result<(), Fail> 
   where: /runs/1/results/0/kind
   found: "bad"
   wanted: pass, open, informational, notApplicable, review or fail
-  advice: report it to the makers of the analyser, or drop the member
+  advice: report it to the developers of the analyser, or fix or drop the member before the merge
 "#,
         ),
         (
@@ -65,7 +65,7 @@ fn state_kind_and_level_are_of_their_texts(rt: HostRuntime) -> Result<(), Fail> 
   where: /runs/1/results/0/level
   found: ["error"]
   wanted: error, warning, note or none
-  advice: report it to the makers of the analyser, or drop the member
+  advice: report it to the developers of the analyser, or fix or drop the member before the merge
 "#,
         ),
     ] {
@@ -82,8 +82,8 @@ fn fingerprints_are_told_by_their_names(rt: HostRuntime) -> Result<(), Fail> {
             r#"  file: found.sarif
   where: /runs/1/results/0/fingerprints/b~1c~0d
   found: 1
-  wanted: a text or null
-  advice: report it to the makers of the analyser, or drop the member
+  wanted: a string or null
+  advice: report it to the developers of the analyser, or fix or drop the member before the merge
 "#,
         ),
         (
@@ -91,8 +91,8 @@ fn fingerprints_are_told_by_their_names(rt: HostRuntime) -> Result<(), Fail> {
             r#"  file: found.sarif
   where: /runs/1/results/0/partialFingerprints
   found: ["x"]
-  wanted: an object whose members are texts or null
-  advice: report it to the makers of the analyser, or drop the member
+  wanted: an object whose members are strings or null
+  advice: report it to the developers of the analyser, or fix or drop the member before the merge
 "#,
         ),
     ] {
@@ -116,7 +116,7 @@ fn suppressions_have_a_kind_and_a_status(rt: HostRuntime) -> Result<(), Fail> {
   where: /runs/1/results/0/suppressions/0
   found: null
   wanted: an object
-  advice: report it to the makers of the analyser, or drop the member
+  advice: report it to the developers of the analyser, or fix or drop the member before the merge
 "#,
         ),
         (
@@ -125,7 +125,7 @@ fn suppressions_have_a_kind_and_a_status(rt: HostRuntime) -> Result<(), Fail> {
   where: /runs/1/results/0/suppressions/1
   found: nothing
   wanted: the member kind, inSource or external
-  advice: report it to the makers of the analyser, or drop the member
+  advice: report it to the developers of the analyser, or fix or drop the member before the merge
 "#,
         ),
         (
@@ -134,7 +134,7 @@ fn suppressions_have_a_kind_and_a_status(rt: HostRuntime) -> Result<(), Fail> {
   where: /runs/1/results/0/suppressions/0/status
   found: "new"
   wanted: accepted, underReview or rejected
-  advice: report it to the makers of the analyser, or drop the member
+  advice: report it to the developers of the analyser, or fix or drop the member before the merge
 "#,
         ),
     ] {
@@ -157,8 +157,8 @@ fn message_rule_and_provenance_are_of_their_kinds(rt: HostRuntime) -> Result<(),
             r#"  file: found.sarif
   where: /runs/1/results/0/message/arguments/1
   found: null
-  wanted: a text
-  advice: report it to the makers of the analyser, or drop the member
+  wanted: a string
+  advice: report it to the developers of the analyser, or fix or drop the member before the merge
 "#,
         ),
         (
@@ -167,7 +167,7 @@ fn message_rule_and_provenance_are_of_their_kinds(rt: HostRuntime) -> Result<(),
   where: /runs/1/results/0/rule/toolComponent
   found: 0
   wanted: an object
-  advice: report it to the makers of the analyser, or drop the member
+  advice: report it to the developers of the analyser, or fix or drop the member before the merge
 "#,
         ),
         (
@@ -176,7 +176,7 @@ fn message_rule_and_provenance_are_of_their_kinds(rt: HostRuntime) -> Result<(),
   where: /runs/1/results/0/provenance
   found: "0123456789012345678901234567890123456789012345678901234567890123456789012345678...
   wanted: an object
-  advice: report it to the makers of the analyser, or drop the member
+  advice: report it to the developers of the analyser, or fix or drop the member before the merge
 "#,
         ),
         (
@@ -185,7 +185,7 @@ fn message_rule_and_provenance_are_of_their_kinds(rt: HostRuntime) -> Result<(),
   where: /runs/1/results/0/provenance
   found: " 23456789012345678901234567890123456789012345678901234567890123456789012345678"
   wanted: an object
-  advice: report it to the makers of the analyser, or drop the member
+  advice: report it to the developers of the analyser, or fix or drop the member before the merge
 "#,
         ),
     ] {
@@ -202,8 +202,8 @@ fn indexes_are_whole_numbers_within_their_tables(rt: HostRuntime) -> Result<(), 
             r#"  file: found.sarif
   where: /runs/1/results/0/ruleIndex
   found: 4294967296
-  wanted: a whole number from -1 to 4294967295
-  advice: report it to the makers of the analyser, or drop the member
+  wanted: an integer from -1 to 4294967295
+  advice: report it to the developers of the analyser, or fix or drop the member before the merge
 "#,
         ),
         (
@@ -212,7 +212,7 @@ fn indexes_are_whole_numbers_within_their_tables(rt: HostRuntime) -> Result<(), 
   where: /runs/1/results/0/ruleIndex
   found: 0
   wanted: the index of one of the rules of the component, or -1
-  advice: report it to the makers of the analyser, or drop the member
+  advice: report it to the developers of the analyser, or fix or drop the member before the merge
 "#,
         ),
         (
@@ -221,7 +221,7 @@ fn indexes_are_whole_numbers_within_their_tables(rt: HostRuntime) -> Result<(), 
   where: /runs/1/results/0/rule/toolComponent/index
   found: 2
   wanted: the index of one of the extensions of the tool, or -1
-  advice: report it to the makers of the analyser, or drop the member
+  advice: report it to the developers of the analyser, or fix or drop the member before the merge
 "#,
         ),
         (
@@ -230,7 +230,7 @@ fn indexes_are_whole_numbers_within_their_tables(rt: HostRuntime) -> Result<(), 
   where: /runs/1/results/0/provenance/invocationIndex
   found: 0
   wanted: the index of one of the invocations of the run, or -1
-  advice: report it to the makers of the analyser, or drop the member
+  advice: report it to the developers of the analyser, or fix or drop the member before the merge
 "#,
         ),
         (
@@ -239,7 +239,7 @@ fn indexes_are_whole_numbers_within_their_tables(rt: HostRuntime) -> Result<(), 
   where: /runs/1/results/0/locations/0/physicalLocation/artifactLocation/index
   found: 1
   wanted: the index of one of the artifacts of the run, or -1
-  advice: report it to the makers of the analyser, or drop the member
+  advice: report it to the developers of the analyser, or fix or drop the member before the merge
 "#,
         ),
     ] {
@@ -257,7 +257,7 @@ fn the_first_location_is_of_its_form(rt: HostRuntime) -> Result<(), Fail> {
   where: /runs/1/results/0/locations/0
   found: 7
   wanted: an object
-  advice: report it to the makers of the analyser, or drop the member
+  advice: report it to the developers of the analyser, or fix or drop the member before the merge
 "#,
         ),
         (
@@ -265,8 +265,8 @@ fn the_first_location_is_of_its_form(rt: HostRuntime) -> Result<(), Fail> {
             r#"  file: found.sarif
   where: /runs/1/results/0/locations/0/physicalLocation/artifactLocation/uriBaseId
   found: {}
-  wanted: a text
-  advice: report it to the makers of the analyser, or drop the member
+  wanted: a string
+  advice: report it to the developers of the analyser, or fix or drop the member before the merge
 "#,
         ),
     ] {

@@ -27,8 +27,8 @@ fn a_run_has_a_tool_with_a_named_driver(rt: HostRuntime) -> Result<(), Fail> {
             r#"  file: found.sarif
   where: /runs/0
   found: 7
-  wanted: an object with a tool, its driver and its name
-  advice: report it to the makers of the analyser, or mend the run
+  wanted: an object with a tool whose driver has a name
+  advice: report it to the developers of the analyser, or fix the run before the merge
 "#,
         ),
         (
@@ -37,7 +37,7 @@ fn a_run_has_a_tool_with_a_named_driver(rt: HostRuntime) -> Result<(), Fail> {
   where: /runs/0
   found: nothing
   wanted: the member tool, an object
-  advice: report it to the makers of the analyser, or mend the run
+  advice: report it to the developers of the analyser, or fix the run before the merge
 "#,
         ),
         (
@@ -46,7 +46,7 @@ fn a_run_has_a_tool_with_a_named_driver(rt: HostRuntime) -> Result<(), Fail> {
   where: /runs/0/tool
   found: null
   wanted: an object
-  advice: report it to the makers of the analyser, or mend the run
+  advice: report it to the developers of the analyser, or fix the run before the merge
 "#,
         ),
         (
@@ -55,7 +55,7 @@ fn a_run_has_a_tool_with_a_named_driver(rt: HostRuntime) -> Result<(), Fail> {
   where: /runs/0/tool/driver
   found: "lint"
   wanted: an object
-  advice: report it to the makers of the analyser, or mend the run
+  advice: report it to the developers of the analyser, or fix the run before the merge
 "#,
         ),
         (
@@ -63,8 +63,8 @@ fn a_run_has_a_tool_with_a_named_driver(rt: HostRuntime) -> Result<(), Fail> {
             r#"  file: found.sarif
   where: /runs/0/tool/driver
   found: nothing
-  wanted: the member name, a text
-  advice: report it to the makers of the analyser, or mend the run
+  wanted: the member name, a string
+  advice: report it to the developers of the analyser, or fix the run before the merge
 "#,
         ),
     ] {
@@ -82,7 +82,7 @@ fn results_are_objects(rt: HostRuntime) -> Result<(), Fail> {
   where: /runs/0/results
   found: {}
   wanted: an array of objects
-  advice: report it to the makers of the analyser, or mend the run
+  advice: report it to the developers of the analyser, or fix the run before the merge
 "#,
         ),
         (
@@ -91,7 +91,7 @@ fn results_are_objects(rt: HostRuntime) -> Result<(), Fail> {
   where: /runs/0/results/1
   found: "r"
   wanted: an object
-  advice: report it to the makers of the analyser, or mend the run
+  advice: report it to the developers of the analyser, or fix the run before the merge
 "#,
         ),
     ] {
@@ -120,7 +120,7 @@ fn a_run_stands_in_one_log_and_within_the_limits(rt: HostRuntime) -> Result<(), 
   where: /runs/0/results
   found: []
   wanted: at most 1000000 results
-  advice: split the analysis, or drop what is not needed
+  advice: split the analysis, or drop what you don't need
 "#,
         ),
     ] {
@@ -138,7 +138,7 @@ fn rules_are_objects_with_an_id(rt: HostRuntime) -> Result<(), Fail> {
   where: /runs/0/tool/extensions/0
   found: 1
   wanted: an object
-  advice: report it to the makers of the analyser, or mend the run
+  advice: report it to the developers of the analyser, or fix the run before the merge
 "#,
         ),
         (
@@ -147,7 +147,7 @@ fn rules_are_objects_with_an_id(rt: HostRuntime) -> Result<(), Fail> {
   where: /runs/0/tool/driver/rules
   found: "R1"
   wanted: an array
-  advice: report it to the makers of the analyser, or mend the run
+  advice: report it to the developers of the analyser, or fix the run before the merge
 "#,
         ),
         (
@@ -155,8 +155,8 @@ fn rules_are_objects_with_an_id(rt: HostRuntime) -> Result<(), Fail> {
             r#"  file: found.sarif
   where: /runs/0/tool/driver/rules/1
   found: nothing
-  wanted: the member id, a text
-  advice: report it to the makers of the analyser, or mend the run
+  wanted: the member id, a string
+  advice: report it to the developers of the analyser, or fix the run before the merge
 "#,
         ),
         (
@@ -165,7 +165,7 @@ fn rules_are_objects_with_an_id(rt: HostRuntime) -> Result<(), Fail> {
   where: /runs/0/tool/extensions/1/rules/0
   found: null
   wanted: an object
-  advice: report it to the makers of the analyser, or mend the run
+  advice: report it to the developers of the analyser, or fix the run before the merge
 "#,
         ),
     ] {
@@ -183,7 +183,7 @@ fn levels_of_a_run_are_of_the_four(rt: HostRuntime) -> Result<(), Fail> {
   where: /runs/0/tool/driver/rules/0/defaultConfiguration/level
   found: "high"
   wanted: error, warning, note or none
-  advice: report it to the makers of the analyser, or drop the member
+  advice: report it to the developers of the analyser, or fix or drop the member before the merge
 "#,
         ),
         (
@@ -192,7 +192,7 @@ fn levels_of_a_run_are_of_the_four(rt: HostRuntime) -> Result<(), Fail> {
   where: /runs/0/invocations/1/ruleConfigurationOverrides/0/configuration/level
   found: 3
   wanted: error, warning, note or none
-  advice: report it to the makers of the analyser, or drop the member
+  advice: report it to the developers of the analyser, or fix or drop the member before the merge
 "#,
         ),
     ] {
@@ -210,8 +210,8 @@ fn artifacts_and_overrides_are_of_their_kinds(rt: HostRuntime) -> Result<(), Fai
             r#"  file: found.sarif
   where: /runs/0/artifacts/1/location/uri
   found: 1
-  wanted: a text
-  advice: report it to the makers of the analyser, or drop the member
+  wanted: a string
+  advice: report it to the developers of the analyser, or fix or drop the member before the merge
 "#,
         ),
         (
@@ -221,7 +221,7 @@ fn artifacts_and_overrides_are_of_their_kinds(rt: HostRuntime) -> Result<(), Fai
   where: /runs/0/invocations/1/ruleConfigurationOverrides
   found: {}
   wanted: an array of objects
-  advice: report it to the makers of the analyser, or drop the member
+  advice: report it to the developers of the analyser, or fix or drop the member before the merge
 "#,
         ),
         (
@@ -231,7 +231,7 @@ fn artifacts_and_overrides_are_of_their_kinds(rt: HostRuntime) -> Result<(), Fai
   where: /runs/0/invocations/0/ruleConfigurationOverrides/0/descriptor
   found: 1
   wanted: an object
-  advice: report it to the makers of the analyser, or drop the member
+  advice: report it to the developers of the analyser, or fix or drop the member before the merge
 "#,
         ),
     ] {
@@ -249,7 +249,7 @@ fn indexes_of_overrides_are_within_their_tables(rt: HostRuntime) -> Result<(), F
   where: /runs/0/invocations/0/ruleConfigurationOverrides/0/descriptor/index
   found: 0
   wanted: the index of one of the rules of the component, or -1
-  advice: report it to the makers of the analyser, or drop the member
+  advice: report it to the developers of the analyser, or fix or drop the member before the merge
 "#,
         ),
         (
@@ -257,8 +257,8 @@ fn indexes_of_overrides_are_within_their_tables(rt: HostRuntime) -> Result<(), F
             r#"  file: found.sarif
   where: /runs/0/invocations/0/ruleConfigurationOverrides/0/descriptor/toolComponent/index
   found: "0"
-  wanted: a whole number from -1 to 4294967295
-  advice: report it to the makers of the analyser, or drop the member
+  wanted: an integer from -1 to 4294967295
+  advice: report it to the developers of the analyser, or fix or drop the member before the merge
 "#,
         ),
     ] {
