@@ -1,13 +1,13 @@
-//! Which members are looked at for which fault, in the order in which a merge looks at them: the tables.
+//! The tables of the members that are checked for each error, in the order in which a merge checks them.
 use crate::wanted::Wanted;
 use sarif_model::Fault;
 
 /// Whether a member may be absent.
 #[derive(Clone, Copy, Debug, PartialEq, Eq)]
 pub(crate) enum Need {
-    /// It may be missing or null.
+    /// The member may be missing or null.
     May,
-    /// It is required.
+    /// The member is required.
     Must,
 }
 

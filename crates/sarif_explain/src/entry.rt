@@ -36,7 +36,7 @@ fn misfit_of_names<'a>(alloc: Global, second: bool, entry: &Place<'a>) -> Found<
     Ok(None)
 }
 
-/// What is at fault in an entry of the file for that fault.
+/// Returns what is wrong in an entry of the file that has this error.
 pub(crate) fn misfit_of_entry<'a>(
     alloc: Global,
     file: &Value,

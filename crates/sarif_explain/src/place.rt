@@ -1,4 +1,4 @@
-//! A position in a walk through a source.
+//! A position in a source: a value and the path to it.
 use crate::pointer::{push_index, push_name};
 use serde_json::Value;
 use std::alloc::{AllocError, Global};

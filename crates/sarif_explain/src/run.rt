@@ -86,7 +86,7 @@ fn misfit_of_invocations<'a>(alloc: Global, run: &Place<'a>, fault: Fault) -> Fo
     Ok(None)
 }
 
-/// What is at fault in a run for that fault, where its own members or what stands beside its results is.
+/// Returns what is wrong in a run that has this error, outside its results.
 pub(crate) fn misfit_of_run<'a>(alloc: Global, run: &Place<'a>, fault: Fault) -> Found<'a> {
     let found = misfit_in(alloc, run, run_checks(fault))?;
     if found.is_some() {

@@ -14,7 +14,7 @@ fn misfit_of_location<'a>(alloc: Global, place: &Place<'a>, fault: Fault) -> Fou
     }
 }
 
-/// What is at fault in a result of the run for that fault.
+/// Returns what is wrong in a result of the run that has this error.
 pub(crate) fn misfit_of_result<'a>(
     alloc: Global,
     run: &Place<'_>,

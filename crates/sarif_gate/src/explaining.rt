@@ -108,7 +108,7 @@ fn destination_of<T>(report: Report, reports: &[Wanted<T>]) -> Option<&T> {
     Some(&wanted.to)
 }
 
-/// The source of an error.
+/// Returns the source of an error.
 fn source_of(fault: &MergeFault) -> Option<Source> {
     match fault.at {
         At::Nowhere => None,
@@ -117,7 +117,7 @@ fn source_of(fault: &MergeFault) -> Option<Source> {
     }
 }
 
-/// The explanation of an error in a source with this name, from what was kept of it.
+/// Returns the explanation of an error in a source with this name, from the bytes and the error that were kept.
 fn of_kept<'a, D>(
     alloc: Global,
     fault: &MergeFault,
@@ -137,7 +137,7 @@ fn of_kept<'a, D>(
     }
 }
 
-/// The explanation of an error in a source with this name, these bytes and this system error.
+/// Returns the explanation of an error in a source with this name, these bytes and this system error.
 fn of_source(
     alloc: Global,
     fault: &MergeFault,
@@ -154,7 +154,7 @@ fn of_source(
     }
 }
 
-/// The explanation of an error in a source with this name, these bytes and this system message.
+/// Returns the explanation of an error in a source with this name, these bytes and this system message.
 fn by_system<'a>(
     alloc: Global,
     fault: &MergeFault,

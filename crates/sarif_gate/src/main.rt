@@ -1,4 +1,4 @@
-//! Merges SARIF 2.1.0 logs, and fails where too many new or updated results are left.
+//! Merges SARIF 2.1.0 logs, and fails if too many new or updated results are left.
 #![tactic(auto)]
 
 ghost use Rattle.std.specs.Prelude.{◌≡◌, ◌≤◌, ◌<◌, ◌^◌, IfOk, IfErr, Result, map, string_bytes};
@@ -51,7 +51,7 @@ fn words_of(rt: &HostRuntime) -> io::Result<(Vec<String>, RandomState)> {
     Ok((words, seed_of(rt)?))
 }
 
-/// Merges one log from standard input to standard output, and says on standard error how it went.
+/// Merges one log from standard input to standard output, and writes the summary or the error to standard error.
 fn run_streams<T: Threads + Wait + Sync>(rt: &HostRuntime, threads: &T, seed: RandomState) -> u8
     ensures known { result ≤ 3 }
 {
@@ -61,7 +61,7 @@ fn run_streams<T: Threads + Wait + Sync>(rt: &HostRuntime, threads: &T, seed: Ra
     }
 }
 
-/// Does what the arguments ask for.
+/// Does what the arguments request.
 fn run_words<T: Threads + Wait + Sync>(
     rt: &HostRuntime,
     threads: &T,

@@ -10,7 +10,7 @@ use Rattle.sarif_request.specs.declared.words.WordsFault.TheVariants.{Usage, Hel
 use Rattle.sarif_request.specs.declared.request.Request.{Request}
 use Rattle.sarif_request.specs.Command.{AreLevels, program}
 use Rattle.sarif_request.specs.Names.{names_of}
-use Rattle.sarif_request.specs.Words.{AsksFor, HaveClash, IsUsageOrWanting, Tells, IsAsked, IsFaultOf, names_in}
+use Rattle.sarif_request.specs.Words.{AsksFor, HaveClash, IsUsageOrOutOfMemory, Tells, IsAsked, IsFaultOf, names_in}
 
 -- OutOfMemory is neither the help nor the version
 neither : (k : ErrorKind) → k ≡ kind.OutOfMemory → IsAsked k → ⊥
@@ -27,7 +27,7 @@ told levels words k OutOfMemory names has tells = tt
 
 -- how clashing names are reported
 pub clashing : (levels : Bor (List (Bor Text))) (words : List Text) (fault : WordsFault) → AreLevels levels
-    → HaveClash (program levels) words → IsUsageOrWanting fault → IsFaultOf words fault
+    → HaveClash (program levels) words → IsUsageOrOutOfMemory fault → IsFaultOf words fault
 clashing levels words (Usage text) names clash told = (levels, names, inr clash)
 clashing levels words (Help text) names clash told = absurd told
 clashing levels words OutOfMemory names clash told = tt

@@ -1,4 +1,4 @@
--- What the arguments of the command line ask for, and the result if they make no request.
+-- What the arguments of the command line request, and the result if they make no request.
 use Rattle.std.specs.Prelude.{◌≡◌, ◌≢◌, ℕ, Bool, false, List, [], ◌∷◌, flat_map, Option, Some, None, Result, Ok, Err, unwrap_or, option_and_then, codes, bytes_eq, min, max, ◌<◌, ◌^◌, ◌⊎◌, ⊤}
 use Rattle.std.specs.Borrow.{Bor}
 use Rattle.std.specs.Option.{option_map_or}
@@ -25,7 +25,7 @@ words_status (Usage text) = 2
 words_status (Help text) = 0
 words_status OutOfMemory = 2
 
--- a kind of result that is not a mistake: the arguments ask for the help, or for the version
+-- a kind of result that is not a mistake: the arguments request the help or the version
 abbrev pub IsAsked : ErrorKind → Type 0
 IsAsked k = (k ≡ kind.DisplayHelp) ⊎ (k ≡ kind.DisplayVersion)
 
@@ -111,12 +111,12 @@ HaveClash app words = (fault_of app words ≡ [])
     × (clash : Clash) × (clash_of (names_in (matches_of app words)) ≡ Some clash)
 
 -- an error that says so, or that memory ran out
-abbrev pub IsUsageOrWanting : WordsFault → Type 0
-IsUsageOrWanting (Usage text) = ⊤
-IsUsageOrWanting (Help text) = ⊥
-IsUsageOrWanting OutOfMemory = ⊤
+abbrev pub IsUsageOrOutOfMemory : WordsFault → Type 0
+IsUsageOrOutOfMemory (Usage text) = ⊤
+IsUsageOrOutOfMemory (Help text) = ⊥
+IsUsageOrOutOfMemory OutOfMemory = ⊤
 
--- an error says what is wrong with the arguments, or what they ask for instead of a merge; memory may run out for
+-- an error says what is wrong with the arguments, or what they request instead of a merge; memory may run out for
 -- any of its texts
 abbrev pub IsFaultOf : List Text → WordsFault → Type 0
 IsFaultOf words (Usage text) = (levels : Bor (List (Bor Text))) × AreLevels levels
@@ -126,7 +126,7 @@ IsFaultOf words (Help text) = (levels : Bor (List (Bor Text))) × AreLevels leve
     × (k : ErrorKind) × IsAmong k (fault_of (program levels) words) × IsAsked k
 IsFaultOf words OutOfMemory = ⊤
 
--- a request is returned only if the arguments are valid and no names in them clash, and it is what they ask for
+-- a request is returned only if the arguments are valid and no names in them clash, and it is what they request
 abbrev pub Answers : List Text → Result Request WordsFault → Type 0
 Answers words (Ok request) = (levels : Bor (List (Bor Text))) × AreLevels levels
     × (fault_of (program levels) words ≡ []) × AsksFor (matches_of (program levels) words) request

@@ -1,4 +1,4 @@
-//! What one run of `sarif_gate` is asked to do, and how the arguments of its command line are read.
+//! The request of one run of `sarif_gate`, and how the arguments of its command line are read.
 #![tactic(auto)]
 
 mod clash;

@@ -3,7 +3,7 @@ ghost use Rattle.std.specs.Prelude.{◌≡◌, ◌↔◌, IfOk, IsTrue, [], map,
 ghost use Rattle.clap.specs.Words.{kind_of, rows_of, found_of, first_of, one_of};
 ghost use Rattle.sarif_model.specs.Level.{level_named};
 ghost use Rattle.sarif_counts.specs.Policy.{default_policy};
-ghost use Rattle.sarif_request.specs.Words.{words_status, Tells, IsAsked, AsksFor, Answers, IsRead, IsReadOr, IsUsageOrWanting};
+ghost use Rattle.sarif_request.specs.Words.{words_status, Tells, IsAsked, AsksFor, Answers, IsRead, IsReadOr, IsUsageOrOutOfMemory};
 ghost use Rattle.sarif_request.specs.Words.{fail_on_in, is_set, reports_in, values_of};
 
 use crate::clash::{Clash, clash_of};
@@ -23,7 +23,7 @@ use std::hash::RandomState;
 pub enum WordsFault {
     /// The arguments are invalid: the text says why.
     Usage(Text),
-    /// The arguments ask for the help or the version: the text is that.
+    /// The arguments request the help or the version, which is the text.
     Help(Text),
     /// Memory ran out.
     OutOfMemory,
@@ -53,7 +53,7 @@ impl From<AllocError> for WordsFault {
 }
 
 /// Returns the request of the arguments after the program's name. The tables of the merge hash with `seed`.
-/// Returns `Usage` if the arguments are invalid or names in them clash; `Help` if they ask for the help or the
+/// Returns `Usage` if the arguments are invalid or names in them clash; `Help` if they request the help or the
 /// version; `OutOfMemory` if memory runs out.
 pub fn read_words(alloc: Global, seed: RandomState, words: &[String]) -> Result<Request, WordsFault>
     ensures { Answers (map string_bytes words.now) result }
@@ -73,7 +73,7 @@ pub fn read_words(alloc: Global, seed: RandomState, words: &[String]) -> Result<
 
 /// Returns a clash of names as the parser reports a mistake.
 fn usage_of(alloc: Global, clash: Clash, request: &Request) -> WordsFault
-    ensures { IsUsageOrWanting result }
+    ensures { IsUsageOrOutOfMemory result }
 {
     match told_of(alloc, clash, request) {
         Ok(text) => WordsFault::Usage(text),
@@ -238,7 +238,7 @@ fn fault_of(alloc: Global, error: &clap::Error) -> WordsFault
     }
 }
 
-/// Returns whether that is not a mistake: the arguments ask for the help or for the version.
+/// Returns whether that is not a mistake: the arguments request the help or the version.
 fn is_asked(kind: ErrorKind) -> bool
     ensures { IsTrue result ↔ IsAsked kind }
 {
