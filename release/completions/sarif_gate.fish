@@ -14,6 +14,6 @@ complete -c sarif_gate -l markdown -r -F -d 'Write the verdict, the counts and a
 complete -c sarif_gate -l gitlab -r -F -d 'Write a JSON report for GitLab\'s code quality widget'
 complete -c sarif_gate -l html -r -F -d 'Write an HTML page that needs no other file'
 complete -c sarif_gate -l workers -x -d 'Number of worker threads, 1 to 64, besides the main thread'
-complete -c sarif_gate -l explain -d 'After an error, also print the file, the position in it, what was found there and what was expected'
+complete -c sarif_gate -l explain -d 'After an error, also print the file, the position in it, what was found there, what was expected and what to do'
 complete -c sarif_gate -s h -l help -d 'Print help'
 complete -c sarif_gate -s V -l version -d 'Print version'

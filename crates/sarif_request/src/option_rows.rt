@@ -150,7 +150,7 @@ static ROWS: [OptionRow; 12] = [
         id: "explain",
         value: "",
         help: "After an error, also print the file, the position in it, what was found\n\
-            there and what was expected",
+            there, what was expected and what to do",
         group: Group::Other,
         kind: Kind::Flag,
         default: None,
