@@ -197,13 +197,13 @@ fn faults_of_no_input_have_two_lines(rt: HostRuntime) -> Result<(), Fail> {
     for (cause, wanted) in [
         (
             Cause::OutOfMemory,
-            r#"  wanted: memory for what is read and for what is written
+            r#"  wanted: enough memory for the inputs and the outputs
   advice: make more memory available, or merge fewer logs in one call
 "#,
         ),
         (
             Cause::NoWorker,
-            r#"  wanted: as many threads as there are workers
+            r#"  wanted: as many threads as --workers requests
   advice: lower --workers, or allow the program to start more threads
 "#,
         ),
