@@ -36,8 +36,12 @@ impl Request {
     /// policy and no report. Returns `AllocError` if memory for it runs out.
     pub fn of_standard_streams(alloc: Global, seed: RandomState) -> Result<Request, AllocError>
         ensures logs { IfOk result (λ request. request.logs.items ≡ codes "-" ∷ []) }
+        ensures baselines { IfOk result (λ request. request.baselines.items ≡ []) }
+        ensures suppress { IfOk result (λ request. request.suppress ≡ None) }
         ensures out { IfOk result (λ request. request.out ≡ codes "-") }
         ensures reports { IfOk result (λ request. request.reports.items ≡ []) }
+        ensures root { IfOk result (λ request. request.root ≡ []) }
+        ensures explain { IfOk result (λ request. request.explain ≡ false) }
         ensures workers { IfOk result (λ request. request.options.workers ≡ 1) }
         ensures policy { IfOk result (λ request. request.options.policy ≡ default_policy) }
         ensures today { IfOk result (λ request. request.options.today ≡ None) }
