@@ -39,6 +39,7 @@ fn check_version(file: &Value) -> Result<Version, FileFault>
     match file.get("version").and_then(Value::as_u64) {
         Some(1) => Ok(Version::First),
         Some(2) => Ok(Version::Second),
+        Some(4) => Ok(Version::Fourth),
         _ => Err(FileFault::from(Fault::WrongVersion)),
     }
 }
