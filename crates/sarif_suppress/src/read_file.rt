@@ -32,7 +32,7 @@ fn check_list(file: &Value) -> Result<&[Value], FileFault>
     }
 }
 
-/// Passes a file whose `version` is 1 or 2, and gives it.
+/// Passes a file whose `version` is 1, 2 or 4, and gives it.
 fn check_version(file: &Value) -> Result<Version, FileFault>
     ensures { result ≡ said.check_version (view file.now) }
 {
