@@ -59,8 +59,8 @@ def run(results, driver=None, **members):
     return {"tool": {"driver": {"name": "t", **(driver or {})}}, "results": results, **members}
 
 
-def entries(found):
-    return compact({"version": 2, "suppressions": found})
+def entries(found, version=2):
+    return compact({"version": version, "suppressions": found})
 
 
 def message(text="m", **members):
@@ -185,6 +185,25 @@ def entries_by(condition, guid="00000000-0000-0000-0000-{:012}"):
         yield Input([text], suppress=entries([condition(i) for i in range(count)]))
         found = [{"guid": guid.format(i)} for i in range(count)]
         yield Input([text], suppress=entries(found))
+
+    return make
+
+
+def accepted(text, uri):
+    """Results of one rule, with a twentieth as many entries that name the rule, a text and a URI of other results,
+    compared with as many by GUID. Text and URI are made from a number; one of them may be the same for all."""
+
+    def make(count):
+        results = [message(text(f"{i}"), ruleId="R", **at(uri(f"{i}"))) for i in range(count)]
+        merged, many = log(run(results)), range(count // 20)
+        conditions = [
+            {"tool": "t", "ruleId": "R", "message": text(f"x{i}"), "uri": uri(f"x{i}")}
+            for i in many
+        ]
+        yield Input([merged], suppress=entries(conditions, 4))
+        guid = "00000000-0000-0000-0000-{:012}"
+        found = [{"tool": "t", "ruleId": "R", "guid": guid.format(i)} for i in many]
+        yield Input([merged], suppress=entries(found, 4))
 
     return make
 
@@ -442,6 +461,9 @@ SHAPES = {
         entries_by(lambda i: {"ruleId": f"R{i % 50}", "uri": f"srx/{i}.c"}),
         10_000,
     ),
+    # Accepted results without fingerprints: one text in many files, and many texts in one file.
+    "accepted_of_one_text": (accepted(lambda n: "m", lambda n: f"src/{n}.c"), 200_000),
+    "accepted_of_one_file": (accepted(lambda n: f"m{n}", lambda n: "src/a.c"), 200_000),
     "overrides_of_nothing": (overrides_of_nothing, 20_000),
     "overrides_of_one": (overrides_of_one, 20_000),
     "invocations": (invocations, 20_000),

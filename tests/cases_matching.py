@@ -306,6 +306,78 @@ def dated():
         )
 
 
+def said(**members):
+    """An error whose message has these members."""
+    return {"level": "error", "message": members}
+
+
+def worded():
+    """Conditions on the message, which version 4 of the file has."""
+
+    def accepts(what, results, entry, hits, unused=0):
+        accepted = len(results) - hits
+        counts = gate(
+            "fail",
+            hits,
+            unused=unused,
+            new=[hits, 0, 0, 0],
+            suppressed={"new": [accepted, 0, 0, 0]},
+        )
+        return merging(
+            "suppress",
+            what,
+            [log(run("lint", *results))],
+            suppress=rules(entry, version=4),
+            status=1,
+            check=tells(counts),
+        )
+
+    other = [
+        {**said(text="M"), "ruleId": "R1"},
+        {**said(id="m"), "ruleId": "R1"},
+        {"level": "error", "ruleId": "R1"},
+    ]
+    yield accepts("a message's text is compared byte by byte", other, {"message": "m"}, 3, 1)
+    lists = [["u", "v"], ["v", "u"], ["u"], ["u", "v", "w"]]
+    five = [said(id="i", arguments=it) for it in lists] + [said(id="j", arguments=["u", "v"])]
+    both = {"messageId": "i", "messageArguments": ["u", "v"]}
+    yield accepts("a message's id and its arguments", five, both, 4)
+    yield accepts("a message's id alone", five, {"messageId": "i"}, 1)
+    yield accepts("a message's arguments alone", five, {"messageArguments": ["u", "v"]}, 3)
+    placed = [
+        {**said(text=text), **at(uri)} for text in ("m", "n") for uri in ("a.c", "b.c")
+    ] + [said(text="m")]
+    yield accepts("a message at a URI", placed, {"message": "m", "uri": "b.c"}, 4)
+    yield accepts("a message at any place", placed, {"message": "m"}, 2)
+    begun = {"message": "m", "uriPrefix": "a"}
+    yield accepts("a message below a prefix", placed, begun, 4)
+    no_list = {"message": "m", "messageArguments": []}
+    yield accepts("an empty array of arguments is no condition", placed, no_list, 2)
+    bad = [
+        (1, {"message": "m"}),
+        (2, {"message": "m"}),
+        (2, {"message": None, "tool": "lint"}),
+        (4, {"message": 1}),
+        (4, {"message": ["m"]}),
+        (4, {"message": {"text": "m"}}),
+        (2, {"messageId": "m"}),
+        (1, {"messageArguments": []}),
+        (4, {"messageId": ["m"]}),
+        (4, {"messageArguments": "m"}),
+        (4, {"messageArguments": ["m", None]}),
+    ]
+    none = {"messageArguments": [], "fingerprints": {}}
+    given = [(*it, "BadEntry") for it in bad] + [(4, none, "EmptyMatch")]
+    for version, entry, cause in given:
+        yield merging(
+            "suppress",
+            f"version {version} with {json.dumps(entry)}",
+            [log(run("lint", ruled(level="error")))],
+            suppress=rules(entry, version=version),
+            **refused(f"suppressions, entry 0: {cause}"),
+        )
+
+
 def refusals():
     given = [
         (b"{", ": NotJson"),
@@ -328,7 +400,7 @@ def refusals():
             suppress=file,
             **refused(f"suppressions{fault}"),
         )
-    for version in (1, 2):
+    for version in (1, 2, 4):
         yield merging(
             "suppress",
             f"no entries in version {version}",
@@ -349,5 +421,5 @@ def refusals():
 
 
 def cases():
-    for part in (examples, states, moved, again, several, suppressed, dated, refusals):
+    for part in (examples, states, moved, again, several, suppressed, dated, worded, refusals):
         yield from part()

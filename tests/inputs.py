@@ -249,7 +249,7 @@ class Inputs:
     # ---- a suppression file
 
     def rules(self):
-        version = self.any([1, 2, 2, 2])
+        version = self.any([1, 2, 2, 4, 4])
         if self.chance(self.wrong):
             version = self.any([3, Raw("1.0"), "1", None, True])
         entries = self.value(self.list([1, 3, 4, 3], lambda: self.entry(version)))
@@ -262,6 +262,11 @@ class Inputs:
             ("uriPrefix", 0.3, self.one(["gen/", "", "a.c"])),
             ("expires", 0.3, self.one(days + wrong)),
         ]
+        worded = [
+            ("message", 0.2, self.one(["m", "n", ""])),
+            ("messageId", 0.1, self.one(["i", "m"])),
+            ("messageArguments", 0.1, self.one([["x"], ["x", "y"], []])),
+        ]
         found = self.members(
             ("tool", 0.3, self.one(["lint", "flint", "x"])),
             ("ruleId", 0.4, self.one(RULES)),
@@ -272,6 +277,7 @@ class Inputs:
             ("status", 0.5, self.one(["accepted", "accepted", *STATUSES])),
             ("justification", 0.3, self.one(["j", "k"])),
             *dated * (version != 1 or self.chance(self.wrong)),
+            *worded * (version == 4 or self.chance(self.wrong)),
         )
         if not self.chance(0.1 * bool(self.wrong)):
             found.setdefault("ruleId", self.any(RULES))

@@ -335,13 +335,15 @@ TABLE = (
     "justification",
 )
 DATED = ("uriPrefix", "expires")
+WORDED = ("message", "messageId", "messageArguments")
+KNOWN = {1: TABLE, 2: (*TABLE, *DATED), 4: (*TABLE, *DATED, *WORDED)}
 
 
 class Entry:
     """An entry of the suppression file."""
 
     def __init__(self, entry, version, today):
-        if not isinstance(entry, dict) or not set(entry) <= {*TABLE, *DATED[: 2 * (version - 1)]}:
+        if not isinstance(entry, dict) or not set(entry) <= set(KNOWN[version]):
             raise Fault("BadEntry")
         names = ("tool", "ruleId", "uri", "uriPrefix")
         self.tool, self.rule, self.uri, self.prefix = (
@@ -350,11 +352,17 @@ class Entry:
         self.guid = guid(entry, "guid", "BadEntry")
         self.full = texts(entry, "fingerprints", "BadEntry")
         self.partial = texts(entry, "partialFingerprints", "BadEntry")
+        self.message = of_kind(entry, "message", str, "BadEntry")
+        self.message_id = of_kind(entry, "messageId", str, "BadEntry")
+        self.arguments = of_kind(entry, "messageArguments", list, "BadEntry") or []
+        if not all(isinstance(it, str) for it in self.arguments):
+            raise Fault("BadEntry")
         self.status = one_of(entry, "status", STATUSES, "BadEntry") or "accepted"
         self.justification = of_kind(entry, "justification", str, "BadEntry")
         self.expires = self.day(entry.get("expires"))
-        named = (self.tool, self.rule, self.uri, self.prefix, self.guid)
-        if all(it is None for it in named) and not self.full and not self.partial:
+        named = (self.tool, self.rule, self.uri, self.prefix, self.guid, self.message, self.message_id)
+        lists = (self.full, self.partial, self.arguments)
+        if all(it is None for it in named) and not any(lists):
             raise Fault("EmptyMatch")
         if self.expires is not None and today is None:
             raise Fault("NeedsToday")
@@ -371,11 +379,15 @@ class Entry:
 
     def matches(self, record):
         uri = record.place[0]
+        text, name, arguments = record.message
         wanted = (
             (self.tool, record.tool),
             (self.rule, record.rule),
             (self.uri, uri),
             (self.guid, record.guid),
+            (self.message, text),
+            (self.message_id, name),
+            (self.arguments or None, list(arguments)),
         )
         return (
             not self.is_expired
@@ -395,7 +407,7 @@ def read_rules(source, today):
     if not isinstance(file, dict) or not isinstance(file.get("suppressions"), list):
         raise Fault("NotList")
     version = file.get("version")
-    if not is_whole(version) or version not in (1, 2):
+    if not is_whole(version) or version not in KNOWN:
         raise Fault("WrongVersion")
     if len(file["suppressions"]) > MOST_ENTRIES:
         raise Fault("TooMany")

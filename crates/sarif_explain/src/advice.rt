@@ -8,9 +8,9 @@ const SPLIT: &str = "split the analysis, or drop what you don't need";
 /// `version`.
 fn advice_on_version(at: At, is_missing: bool) -> &'static str {
     match (at, is_missing) {
-        (At::Whole(Source::Suppress), true) => "add \"version\": 2 to the file",
+        (At::Whole(Source::Suppress), true) => "add \"version\": 4 to the file",
         (At::Whole(Source::Suppress), false) => {
-            "write the file in version 2, with \"version\": 2"
+            "write the file in version 4, with \"version\": 4"
         }
         (_, true) => {
             "if the file is SARIF 2.1.0, add \"version\": \"2.1.0\" to it; otherwise configure \

@@ -7,30 +7,35 @@ use sarif_model::Fault;
 use serde_json::Value;
 use std::alloc::Global;
 
-/// Whether an entry may have a member of that name, in a file of version 1 or of version 2.
-fn is_known(second: bool, name: &str) -> bool {
+/// Whether an entry may have a member of that name, in a file of that version, which is 1, 2 or 4.
+fn is_known(version: u64, name: &str) -> bool {
     match name {
         "tool" | "ruleId" | "uri" | "guid" | "fingerprints" | "partialFingerprints" => true,
         "status" | "justification" => true,
-        "uriPrefix" | "expires" => second,
+        "uriPrefix" | "expires" => version >= 2,
+        "message" | "messageId" | "messageArguments" => version >= 4,
         _ => false,
     }
 }
 
+/// The members that an entry may have in a file of that version.
+fn members_of(version: u64) -> Wanted {
+    match version {
+        1 => Wanted::FirstMembers,
+        2 => Wanted::SecondMembers,
+        _ => Wanted::FourthMembers,
+    }
+}
+
 /// The first member that the version of the file doesn't have.
-fn misfit_of_names<'a>(alloc: Global, second: bool, entry: &Place<'a>) -> Found<'a> {
+fn misfit_of_names<'a>(alloc: Global, version: u64, entry: &Place<'a>) -> Found<'a> {
     let Value::Object(members) = entry.value else {
         return Ok(None);
     };
     for (name, member) in members.iter() {
-        if !is_known(second, name.as_str()) {
-            let wanted = if second {
-                Wanted::SecondMembers
-            } else {
-                Wanted::FirstMembers
-            };
+        if !is_known(version, name.as_str()) {
             let place = entry.member(alloc, name.as_str(), member)?;
-            return Ok(Some(Misfit::at(place, wanted)));
+            return Ok(Some(Misfit::at(place, members_of(version))));
         }
     }
     Ok(None)
@@ -43,9 +48,9 @@ pub(crate) fn misfit_of_entry<'a>(
     entry: &Place<'a>,
     fault: Fault,
 ) -> Found<'a> {
-    let second = file.get("version").and_then(Value::as_u64) == Some(2);
+    let version = file.get("version").and_then(Value::as_u64);
     if fault == Fault::BadEntry {
-        let found = misfit_of_names(alloc, second, entry)?;
+        let found = misfit_of_names(alloc, version.unwrap_or(1), entry)?;
         if found.is_some() {
             return Ok(found);
         }

@@ -29,7 +29,7 @@ fn is_wanted_text(wanted: Wanted, text: &str) -> bool {
 fn is_wanted_number(wanted: Wanted, number: i64) -> bool {
     match wanted {
         Wanted::Index => matches!(number, -1..=4_294_967_295),
-        Wanted::FileVersion => number == 1 || number == 2,
+        Wanted::FileVersion => matches!(number, 1 | 2 | 4),
         Wanted::Day => match u64::try_from(number) {
             Ok(day) => is_day(day),
             Err(_) => false,

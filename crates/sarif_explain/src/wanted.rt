@@ -36,6 +36,7 @@ pub(crate) enum Wanted {
     Entry,
     FirstMembers,
     SecondMembers,
+    FourthMembers,
     Day,
     Condition,
     Today,
@@ -84,7 +85,7 @@ impl Wanted {
             Wanted::Rule => "the index of one of the rules of the component, or -1",
             Wanted::Invocation => "the index of one of the invocations of the run, or -1",
             Wanted::Artifact => "the index of one of the artifacts of the run, or -1",
-            Wanted::FileVersion => "the integer 1 or 2, written without a fraction",
+            Wanted::FileVersion => "the integer 1, 2 or 4, written without a fraction",
             Wanted::Entries => "an object with an array suppressions",
             Wanted::Entry => "an object with only the members that its version has",
             Wanted::FirstMembers => {
@@ -92,13 +93,18 @@ impl Wanted {
                  partialFingerprints, status and justification"
             }
             Wanted::SecondMembers => {
-                "only the members tool, ruleId, uri, uriPrefix, guid, fingerprints, \
+                "in version 2 only the members tool, ruleId, uri, uriPrefix, guid, fingerprints, \
                  partialFingerprints, expires, status and justification"
+            }
+            Wanted::FourthMembers => {
+                "only the members tool, ruleId, uri, uriPrefix, guid, fingerprints, \
+                 partialFingerprints, message, messageId, messageArguments, expires, status and \
+                 justification"
             }
             Wanted::Day => "a date as the integer YYYYMMDD, from 10000101 to 99991231",
             Wanted::Condition => {
-                "at least one of tool, ruleId, uri, uriPrefix, guid, fingerprints and \
-                 partialFingerprints"
+                "at least one of tool, ruleId, uri, uriPrefix, guid, fingerprints, \
+                 partialFingerprints, message, messageId and messageArguments"
             }
             Wanted::Today => "today's date, since the entry has an expiry date",
             Wanted::FewRuns => {

@@ -1,7 +1,8 @@
 -- What the test of an entry against a result means.
-use Rattle.std.proofs.Common.{◌≡◌, ℕ, zero, suc, ◌≤◌, true, not, List, [], ◌∷◌, ◌++◌, take, drop, length, Option, Some, None, nat_lt, refl, sym, ap, ◌∙◌, arith}
+use Rattle.std.proofs.Common.{◌≡◌, ◌⊎◌, inl, inr, bytes_eq, ℕ, zero, suc, ◌≤◌, true, not, List, [], ◌∷◌, ◌++◌, take, drop, length, Option, Some, None, nat_lt, refl, sym, ap, ◌∙◌, arith}
 use mathlib.Core.Bool.{or-true}
 use Rattle.std.specs.Bool.{Decides}
+use Rattle.std.specs.Cmp.Lexicographic.{pointwise}
 use Rattle.std.specs.List.{All, Contains, list_any}
 use Rattle.std.proofs.Math.Seq.{take-append_seam}
 use Rattle.std.proofs.lemmas.Bool.{false≢true, eqb-true, eq-eqb}
@@ -9,11 +10,11 @@ use Rattle.std.proofs.lemmas.Bool.Decides.{nat_tests, Decides-and, Decides-like,
 use Rattle.std.proofs.lemmas.List.{take-append-drop}
 use Rattle.std.proofs.lemmas.List.Elements.{All-contains, Contains-get_or}
 use Rattle.std.proofs.lemmas.Map.Views.{Contains-from_any}
-use Rattle.std.proofs.lemmas.Slice.Eq.{bytes_eq-Decides}
+use Rattle.std.proofs.lemmas.Slice.Eq.{bytes_eq-Decides, slice_eq-Decides}
 use Rattle.sarif_model.specs.declared.record.Record.{Record}
 use Rattle.sarif_suppress.specs.declared.conditions.Conditions.{Conditions}
 use Rattle.sarif_suppress.specs.declared.entry.Entry.{Entry}
-use Rattle.sarif_suppress.specs.Matching.{is_wanted, is_there, begins, is_guid, is_pair, are_among, hold, is_past, matches, Meets, Matches}
+use Rattle.sarif_suppress.specs.Matching.{is_wanted, is_there, begins, is_guid, is_pair, are_among, are_wanted, hold, is_past, matches, Meets, Matches}
 
 text_means : (wanted : Option (List ℕ)) (found : List ℕ) → Decides (is_wanted wanted found) ((text : List ℕ) → wanted ≡ Some text → found ≡ text)
 text_means None found = (λ _ text is. cc, λ _. refl)
@@ -45,6 +46,16 @@ begins_means (Some wanted) (Some found) = (
       (bytes_eq-Decides wanted (take (length wanted) found)).1 (rw split (sym (take-append_seam wanted rest))),
 )
 
+wanted_means : (wanted found : List (List ℕ)) → Decides (are_wanted wanted found) (wanted ≡ [] ⊎ wanted ≡ found)
+wanted_means [] found = (λ _. inl refl, λ _. refl)
+wanted_means (text ∷ texts) found =
+    let each : Decides (pointwise bytes_eq (text ∷ texts) found) (text ∷ texts ≡ found) = slice_eq-Decides bytes_eq-Decides (text ∷ texts) found _ refl in
+    (λ t. inr (each.0 t), either each.1)
+  where
+    either : (text ∷ texts ≡ found → pointwise bytes_eq (text ∷ texts) found ≡ true) → text ∷ texts ≡ [] ⊎ text ∷ texts ≡ found → pointwise bytes_eq (text ∷ texts) found ≡ true
+    either same (inl none) = let never : ⊥ = cc in absurd never
+    either same (inr is) = same is
+
 pub pair_means : (a b : List ℕ × List ℕ) → Decides (is_pair a b) (a ≡ b)
 pair_means a b =
     Decides-like (is_pair a b) (λ h. pair_from a b h.0 h.1) (λ e. (ap (λ p. p.0) e, ap (λ p. p.1) e)) (Decides-and _ _ (bytes_eq-Decides a.0 b.0) (bytes_eq-Decides a.1 b.1))
@@ -72,9 +83,10 @@ among_means wanted found =
 pub meets : (c : Conditions) (r : Record) → Decides (hold c r) (Meets c r)
 meets c r =
     Decides-like (hold c r)
-    (λ h. record { rule_id = h.0; tool = h.1.0; uri = h.1.1.0; uri_prefix = h.1.1.1.0; guid = h.1.1.1.1.0; full = h.1.1.1.1.1.0; partial = h.1.1.1.1.1.1 })
-    (λ m. (m.rule_id, (m.tool, (m.uri, (m.uri_prefix, (m.guid, (m.full, m.partial)))))))
-    (Decides-and _ _ (text_means c.rule_id r.rule_id) (Decides-and _ _ (text_means c.tool r.tool) (Decides-and _ _ (there_means c.uri r.place.uri) (Decides-and _ _ (begins_means c.uri_prefix r.place.uri) (Decides-and _ _ (guid_means c.guid r.guid) (Decides-and _ _ (among_means c.full r.full) (among_means c.partial r.partial)))))))
+    (λ h. record { rule_id = h.0.0; tool = h.0.1.0; uri = h.0.1.1.0; uri_prefix = h.0.1.1.1.0; guid = h.0.1.1.1.1.0; full = h.0.1.1.1.1.1.0; partial = h.0.1.1.1.1.1.1; message = h.1.0; message_id = h.1.1.0; message_args = h.1.1.1 })
+    (λ m. ((m.rule_id, (m.tool, (m.uri, (m.uri_prefix, (m.guid, (m.full, m.partial)))))), (m.message, (m.message_id, m.message_args))))
+    (Decides-and _ _ (Decides-and _ _ (text_means c.rule_id r.rule_id) (Decides-and _ _ (text_means c.tool r.tool) (Decides-and _ _ (there_means c.uri r.place.uri) (Decides-and _ _ (begins_means c.uri_prefix r.place.uri) (Decides-and _ _ (guid_means c.guid r.guid) (Decides-and _ _ (among_means c.full r.full) (among_means c.partial r.partial)))))))
+    (Decides-and _ _ (there_means c.message r.message.text) (Decides-and _ _ (there_means c.message_id r.message.id) (wanted_means c.message_args r.message.args))))
 
 in_time : (today expires : Option ℕ) → Decides (not (is_past today expires)) ((last day : ℕ) → expires ≡ Some last → today ≡ Some day → day ≤ last)
 in_time None expires = (λ _ last day _ is. let never : ⊥ = cc in absurd never, λ _. refl)

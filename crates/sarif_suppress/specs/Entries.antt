@@ -3,7 +3,7 @@ use Rattle.std.specs.Prelude.{ℕ, ⊤, Bool, true, false, ◌&&◌, ◌||◌, �
 use Rattle.serde_json.specs.Data.{Data, null, boolean, number, string, array, object, Members, no_members, member}
 use Rattle.serde_json.specs.Find.{as_str, as_object, as_number, as_u64}
 use Rattle.sarif_model.specs.Guid.{guid_of_text}
-use Rattle.sarif_model.specs.Members.{◌>>=◌, member_at, text_at, or_wrong}
+use Rattle.sarif_model.specs.Members.{◌>>=◌, member_at, text_at, elements_at, read_each, or_wrong}
 use Rattle.sarif_model.specs.Status.{status_named}
 use Rattle.sarif_model.specs.declared.kinds.Status.{Status}
 use Rattle.sarif_model.specs.declared.kinds.Status.TheVariants.{Accepted}
@@ -12,7 +12,7 @@ use Rattle.sarif_suppress.specs.declared.entry.Entry.{Entry}
 use Rattle.sarif_suppress.specs.declared.fault.FileFault.{FileFault}
 use Rattle.sarif_model.specs.declared.fault.Fault.TheVariants.{BadEntry, EmptyMatch, NeedsToday}
 use Rattle.sarif_suppress.specs.declared.version.Version.{Version}
-use Rattle.sarif_suppress.specs.declared.version.Version.TheVariants.{First, Second}
+use Rattle.sarif_suppress.specs.declared.version.Version.TheVariants.{First, Second, Fourth}
 use Rattle.sarif_suppress.specs.FileFault.{in_entry}
 use Rattle.sarif_suppress.specs.Matching.{is_any}
 
@@ -28,11 +28,20 @@ is_first_member name =
     || (bytes_eq name (codes "status")
     || bytes_eq name (codes "justification")))))))
 
--- the same for an entry of either version
+-- the same for an entry of the second version
+abbrev pub is_second_member : List ℕ → Bool
+is_second_member name =
+    is_first_member name || (bytes_eq name (codes "uriPrefix") || bytes_eq name (codes "expires"))
+
+-- the same for an entry of any version
 abbrev pub has_member : Version → List ℕ → Bool
 has_member First name = is_first_member name
-has_member Second name =
-    is_first_member name || (bytes_eq name (codes "uriPrefix") || bytes_eq name (codes "expires"))
+has_member Second name = is_second_member name
+has_member Fourth name =
+    is_second_member name
+    || (bytes_eq name (codes "message")
+    || (bytes_eq name (codes "messageId")
+    || bytes_eq name (codes "messageArguments")))
 
 abbrev pub are_members_of : Version → Members → Bool
 are_members_of version no_members = true
@@ -93,6 +102,17 @@ pairs_of_member wrong (Some d) = pairs_or wrong (as_object d)
 abbrev pub pairs_at : FileFault → List ℕ → Data → Result (List (List ℕ × List ℕ)) FileFault
 pairs_at wrong name d = pairs_of_member wrong (member_at name d)
 
+abbrev pub text_if : FileFault → Option (List ℕ) → Result (List ℕ) FileFault
+text_if wrong None = Err wrong
+text_if wrong (Some text) = Ok text
+
+abbrev pub text_or : FileFault → Data → Result (List ℕ) FileFault
+text_or wrong d = text_if wrong (as_str d)
+
+-- the elements of the array of strings with that name; empty if it is missing
+abbrev pub texts_at : FileFault → List ℕ → Data → Result (List (List ℕ)) FileFault
+texts_at wrong name d = elements_at wrong name d >>= read_each (text_or wrong)
+
 abbrev pub is_within : ℕ → ℕ → ℕ → Bool
 is_within least greatest n = nat_le least n && nat_le n greatest
 
@@ -135,6 +155,9 @@ conditions_of wrong d = do
   guid ← guid_at wrong (codes "guid") d
   full ← pairs_at wrong (codes "fingerprints") d
   partial ← pairs_at wrong (codes "partialFingerprints") d
+  message ← text_at wrong (codes "message") d
+  message_id ← text_at wrong (codes "messageId") d
+  message_args ← texts_at wrong (codes "messageArguments") d
   Ok (record {
     tool = tool;
     rule_id = rule_id;
@@ -143,6 +166,9 @@ conditions_of wrong d = do
     guid = guid;
     full = full;
     partial = partial;
+    message = message;
+    message_id = message_id;
+    message_args = message_args;
   })
 
 -- the members of an entry, each of its kind or null

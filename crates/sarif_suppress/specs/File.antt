@@ -9,7 +9,7 @@ use Rattle.sarif_suppress.specs.declared.entry.Entry.{Entry}
 use Rattle.sarif_suppress.specs.declared.fault.FileFault.{FileFault}
 use Rattle.sarif_model.specs.declared.fault.Fault.TheVariants.{NotJson, NotList, WrongVersion, TooMany}
 use Rattle.sarif_suppress.specs.declared.version.Version.{Version}
-use Rattle.sarif_suppress.specs.declared.version.Version.TheVariants.{First, Second}
+use Rattle.sarif_suppress.specs.declared.version.Version.TheVariants.{First, Second, Fourth}
 use Rattle.sarif_suppress.specs.FileFault.{whole}
 use Rattle.sarif_suppress.specs.Entries.{unless_fault, entry_of}
 
@@ -29,9 +29,11 @@ check_list d = list_or (option_and_then as_array (get (codes "suppressions") d))
 abbrev pub version_or : Option ℕ → Result Version FileFault
 version_or None = Err (whole WrongVersion)
 version_or (Some n) =
-    if nat_eq n 1 then Ok First else (if nat_eq n 2 then Ok Second else Err (whole WrongVersion))
+    if nat_eq n 1 then Ok First
+    else (if nat_eq n 2 then Ok Second
+    else (if nat_eq n 4 then Ok Fourth else Err (whole WrongVersion)))
 
--- `version` is the integer 1 or 2
+-- `version` is the integer 1, 2 or 4
 abbrev pub check_version : Data → Result Version FileFault
 check_version d =
     version_or (option_and_then as_u64 (option_and_then as_number (get (codes "version") d)))

@@ -1,5 +1,6 @@
 -- Which results an entry of the suppression file matches.
-use Rattle.std.specs.Prelude.{◌≡◌, ℕ, ◌≤◌, Bool, true, false, not, ◌&&◌, ◌||◌, List, [], ◌∷◌, ◌++◌, Option, Some, None, Contains, is_some, nat_eq, nat_lt, bytes_eq}
+use Rattle.std.specs.Prelude.{◌≡◌, ◌⊎◌, ℕ, ◌≤◌, Bool, true, false, not, ◌&&◌, ◌||◌, List, [], ◌∷◌, ◌++◌, Option, Some, None, Contains, is_some, nat_eq, nat_lt, bytes_eq}
+use Rattle.std.specs.Cmp.Lexicographic.{pointwise}
 use Rattle.std.specs.List.{list_any, list_all, starts_with}
 use Rattle.sarif_model.specs.declared.record.Record.{Record}
 use Rattle.sarif_suppress.specs.declared.conditions.Conditions.{Conditions}
@@ -36,6 +37,11 @@ is_pair a b = bytes_eq a.0 b.0 && bytes_eq a.1 b.1
 abbrev pub are_among : List (List ℕ × List ℕ) → List (List ℕ × List ℕ) → Bool
 are_among wanted found = list_all (λ pair. list_any (λ p. is_pair p pair) found) wanted
 
+-- the strings are the required ones in their order, if some are required
+abbrev pub are_wanted : List (List ℕ) → List (List ℕ) → Bool
+are_wanted [] found = true
+are_wanted (text ∷ texts) found = pointwise bytes_eq (text ∷ texts) found
+
 abbrev pub is_empty : {A : Type 0} → List A → Bool
 is_empty [] = true
 is_empty (x ∷ xs) = false
@@ -48,17 +54,30 @@ is_any c =
     || (is_some c.uri
     || (is_some c.uri_prefix
     || (is_some c.guid
-    || (not (is_empty c.full) || not (is_empty c.partial))))))
+    || (not (is_empty c.full)
+    || (not (is_empty c.partial)
+    || (is_some c.message
+    || (is_some c.message_id || not (is_empty c.message_args)))))))))
 
--- every named condition is true for the result
-abbrev pub hold : Conditions → Record → Bool
-hold c r =
+-- every named condition on the message is true for the result
+abbrev pub message_holds : Conditions → Record → Bool
+message_holds c r =
+    is_there c.message r.message.text
+    && (is_there c.message_id r.message.id && are_wanted c.message_args r.message.args)
+
+-- the same for the other conditions
+abbrev pub hold_without_message : Conditions → Record → Bool
+hold_without_message c r =
     is_wanted c.rule_id r.rule_id
     && (is_wanted c.tool r.tool
     && (is_there c.uri r.place.uri
     && (begins c.uri_prefix r.place.uri
     && (is_guid c.guid r.guid
     && (are_among c.full r.full && are_among c.partial r.partial)))))
+
+-- every named condition is true for the result
+abbrev pub hold : Conditions → Record → Bool
+hold c r = hold_without_message c r && message_holds c r
 
 -- the expiry date is before today; an entry without an expiry date, or without today's date, does not expire
 abbrev pub is_past : Option ℕ → Option ℕ → Bool
@@ -85,6 +104,9 @@ pub record Meets (c : Conditions) (r : Record) : Type 0 where
   pub guid : (guid : ℕ) → c.guid ≡ Some guid → r.guid ≡ Some guid
   pub full : (pair : List ℕ × List ℕ) → Contains c.full pair → Contains r.full pair
   pub partial : (pair : List ℕ × List ℕ) → Contains c.partial pair → Contains r.partial pair
+  pub message : (text : List ℕ) → c.message ≡ Some text → r.message.text ≡ Some text
+  pub message_id : (id : List ℕ) → c.message_id ≡ Some id → r.message.id ≡ Some id
+  pub message_args : c.message_args ≡ [] ⊎ c.message_args ≡ r.message.args
 
 -- the expiry date of the entry, if it has one, is not before today, and the result satisfies its conditions
 pub record Matches (today : Option ℕ) (e : Entry) (r : Record) : Type 0 where

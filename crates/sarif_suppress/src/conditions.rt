@@ -3,7 +3,7 @@ ghost use Rattle.std.specs.Prelude.{◌≡◌, ℕ, IfSome, drop, true};
 ghost use Rattle.std.specs.List.{list_any};
 ghost use Rattle.sarif_suppress.specs.Matching as said;
 
-use sarif_model::{Pairs, Record, Text};
+use sarif_model::{Pairs, Record, Sequence, Text};
 
 /// The conditions that an entry names. One that is `None`, or an empty map, isn't named.
 #[derive(Debug, Drop)]
@@ -22,6 +22,12 @@ pub struct Conditions {
     pub full: Pairs,
     /// `partialFingerprints`: each of them is among the result's partial fingerprints.
     pub partial: Pairs,
+    /// `message`: the text of the result's message.
+    pub message: Option<Text>,
+    /// `messageId`: the id of the result's message.
+    pub message_id: Option<Text>,
+    /// `messageArguments`: the arguments of the result's message, all of them in order.
+    pub message_args: Sequence<Text>,
 }
 
 /// Returns whether `found` is the required string, if one is required.
@@ -100,6 +106,13 @@ fn are_among(wanted: &[(Text, Text)], found: &[(Text, Text)]) -> bool
     true
 }
 
+/// Returns whether the texts are the required ones in their order, if some are required.
+fn are_wanted(wanted: &Sequence<Text>, found: &Sequence<Text>) -> bool
+    ensures { result ≡ said.are_wanted wanted.now found.now }
+{
+    wanted.as_slice().is_empty() || wanted == found
+}
+
 impl Conditions {
     /// Whether at least one condition is named.
     pub(crate) fn is_any(&self) -> bool
@@ -112,11 +125,30 @@ impl Conditions {
             || self.guid.is_some()
             || !self.full.as_slice().is_empty()
             || !self.partial.as_slice().is_empty()
+            || self.message.is_some()
+            || self.message_id.is_some()
+            || !self.message_args.as_slice().is_empty()
     }
 
     /// Returns whether every named condition is true for the result.
     pub(crate) fn hold(&self, record: &Record) -> bool
         ensures { result ≡ said.hold self.now «record».now }
+    {
+        self.hold_without_message(record) && self.message_holds(record)
+    }
+
+    /// Returns whether every named condition on the message is true for the result.
+    fn message_holds(&self, record: &Record) -> bool
+        ensures { result ≡ said.message_holds self.now «record».now }
+    {
+        is_there(&self.message, &record.message.text)
+            && is_there(&self.message_id, &record.message.id)
+            && are_wanted(&self.message_args, &record.message.args)
+    }
+
+    /// The same for the other conditions.
+    fn hold_without_message(&self, record: &Record) -> bool
+        ensures { result ≡ said.hold_without_message self.now «record».now }
     {
         // Numbers first, and then what distinguishes entries of one rule.
         is_guid(self.guid, record.guid)

@@ -1,5 +1,5 @@
 //! Reading an entry of the suppression file. Each check succeeds or returns its error.
-ghost use Rattle.std.specs.Prelude.{◌≡◌, option_map, Ok, Err, IfOk};
+ghost use Rattle.std.specs.Prelude.{◌≡◌, map, option_map, Ok, Err, IfOk};
 ghost use Rattle.serde_json.specs.View.{view, members_view};
 ghost use Rattle.sarif_model.specs.Members as told;
 ghost use Rattle.sarif_model.specs.Refusal.{IfFault};
@@ -9,7 +9,7 @@ use crate::conditions::Conditions;
 use crate::entry::Entry;
 use crate::fault::FileFault;
 use crate::version::Version;
-use sarif_model::members::{member_at, text_at};
+use sarif_model::members::{elements_at, member_at, text_at};
 use sarif_model::{Fault, Pairs, Refusal, Sequence, Status, Text, read_guid};
 use serde_json::{Map, Value};
 use std::alloc::{AllocError, Global};
@@ -132,6 +132,46 @@ fn pairs_at(
     }
 }
 
+/// The text that `value` is; otherwise returns `wrong`.
+fn read_text(value: &Value, wrong: FileFault) -> Result<&str, FileFault>
+    ensures { told.result_map (λ text. text.now) result ≡ said.text_or wrong (view value.now) }
+{
+    value.as_str().ok_or(wrong)
+}
+
+/// The strings that these values are, in order.
+#[tactic(auto, using(sarif_model::proofs::ReadEach::read_steps))]
+fn texts_of(
+    alloc: Global,
+    values: &[Value],
+    wrong: FileFault,
+) -> Result<Sequence<Text>, Refusal<FileFault>>
+    ensures ok { IfOk result
+        (λ texts. told.read_each (said.text_or wrong) (map view values.now) ≡ Ok texts) }
+    ensures err { IfFault result
+        (λ fault. told.read_each (said.text_or wrong) (map view values.now) ≡ Err fault) }
+{
+    let mut texts = Sequence::new(alloc);
+    for value in values {
+        texts.push(Text::copy_of(alloc, read_text(value, wrong)?)?)?;
+    }
+    Ok(texts)
+}
+
+/// The array of strings `name` of an entry; empty if it is missing.
+fn texts_at(
+    alloc: Global,
+    entry: &Value,
+    name: &str,
+    wrong: FileFault,
+) -> Result<Sequence<Text>, Refusal<FileFault>>
+    ensures ok { IfOk result (λ texts. said.texts_at wrong name.now (view entry.now) ≡ Ok texts) }
+    ensures err { IfFault result
+        (λ fault. said.texts_at wrong name.now (view entry.now) ≡ Err fault) }
+{
+    texts_of(alloc, elements_at(entry, name, wrong)?, wrong)
+}
+
 /// Whether the number is a day yyyymmdd of the years 1000 to 9999, of a month 1 to 12 and a day 1
 /// to 31.
 fn is_day(number: u64) -> bool
@@ -194,6 +234,9 @@ fn conditions_of(
     let guid = guid_at(entry, "guid", wrong)?;
     let full = pairs_at(alloc, entry, "fingerprints", wrong)?;
     let partial = pairs_at(alloc, entry, "partialFingerprints", wrong)?;
+    let message = own_text_at(alloc, entry, "message", wrong)?;
+    let message_id = own_text_at(alloc, entry, "messageId", wrong)?;
+    let message_args = texts_at(alloc, entry, "messageArguments", wrong)?;
     Ok(Conditions {
         tool,
         rule_id,
@@ -202,6 +245,9 @@ fn conditions_of(
         guid,
         full,
         partial,
+        message,
+        message_id,
+        message_args,
     })
 }
 

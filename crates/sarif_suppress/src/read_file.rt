@@ -32,13 +32,14 @@ fn check_list(file: &Value) -> Result<&[Value], FileFault>
     }
 }
 
-/// Passes a file whose `version` is 1 or 2, and gives it.
+/// Passes a file whose `version` is 1, 2 or 4, and gives it.
 fn check_version(file: &Value) -> Result<Version, FileFault>
     ensures { result ≡ said.check_version (view file.now) }
 {
     match file.get("version").and_then(Value::as_u64) {
         Some(1) => Ok(Version::First),
         Some(2) => Ok(Version::Second),
+        Some(4) => Ok(Version::Fourth),
         _ => Err(FileFault::from(Fault::WrongVersion)),
     }
 }

@@ -1,7 +1,7 @@
 //! The numbers of the entries by their conditions, so that a result is compared only with entries that may match
 //! it. Each entry is filed under its most specific condition: its GUID, otherwise its first fingerprint, otherwise
-//! its first partial fingerprint, otherwise its URI, otherwise its rule id, otherwise its URI prefix, otherwise
-//! its tool. Entries under a prefix are in a separate table.
+//! its first partial fingerprint, otherwise its message's text and its URI together, otherwise one of these, otherwise
+//! its rule id, otherwise its URI prefix, otherwise its tool. Entries under a prefix are in a separate table.
 ghost use Rattle.std.specs.Prelude.{◌≡◌, ◌≤◌, ◌++◌, [], List, ℕ, length, nat_eq, bytes_eq, IfOk, OnOk};
 ghost use Rattle.std.specs.List.{flat_map};
 ghost use Rattle.std.specs.Option.{option_map_or};
@@ -18,11 +18,12 @@ use sarif_model::{Record, Text};
 use std::alloc::{AllocError, Global};
 use std::hash::BuildHasher;
 
-/// The numbers of the entries, rising, by the fingerprint that each is filed under.
+/// The numbers of the entries, rising, by the pair of texts that each is filed under.
 #[derive(Drop)]
 struct PairTables<S: BuildHasher + Copy> {
     full: IndexMap<(Text, Text), Vec<u32>, S>,
     partial: IndexMap<(Text, Text), Vec<u32>, S>,
+    placed: IndexMap<(Text, Text), Vec<u32>, S>,
 }
 
 impl<S: BuildHasher + Copy> PairTables<S> {
@@ -33,13 +34,19 @@ impl<S: BuildHasher + Copy> PairTables<S> {
     {
         let full = numbers_by_pair(alloc, hasher, entries, PairCondition::Full)?;
         let partial = numbers_by_pair(alloc, hasher, entries, PairCondition::Partial)?;
-        Ok(PairTables { full, partial })
+        let placed = numbers_by_pair(alloc, hasher, entries, PairCondition::MessageAt)?;
+        Ok(PairTables {
+            full,
+            partial,
+            placed,
+        })
     }
 }
 
 /// The numbers of the entries, rising, by the text that each is filed under.
 #[derive(Drop)]
 struct TextTables<S: BuildHasher + Copy> {
+    messages: IndexMap<Text, Vec<u32>, S>,
     uris: IndexMap<Text, Vec<u32>, S>,
     rules: IndexMap<Text, Vec<u32>, S>,
     tools: IndexMap<Text, Vec<u32>, S>,
@@ -51,10 +58,16 @@ impl<S: BuildHasher + Copy> TextTables<S> {
         requires { length entries.now ≤ 10000 }
         ensures { IfOk result (AreTextTables entries.now) }
     {
+        let messages = numbers_by_text(alloc, hasher, entries, TextCondition::Message)?;
         let uris = numbers_by_text(alloc, hasher, entries, TextCondition::Uri)?;
         let rules = numbers_by_text(alloc, hasher, entries, TextCondition::RuleId)?;
         let tools = numbers_by_text(alloc, hasher, entries, TextCondition::Tool)?;
-        Ok(TextTables { uris, rules, tools })
+        Ok(TextTables {
+            messages,
+            uris,
+            rules,
+            tools,
+        })
     }
 }
 
@@ -95,11 +108,31 @@ impl<S: BuildHasher + Copy> Table<S> {
         found.extend_from_slice(numbers_with_guid(&self.guids, record.guid))?;
         add_with_pairs(&mut found, &self.pairs.full, record.full.as_slice())?;
         add_with_pairs(&mut found, &self.pairs.partial, record.partial.as_slice())?;
-        found.extend_from_slice(numbers_with_text(&self.texts.uris, &record.place.uri))?;
+        self.add_for_message_and_uri(&mut found, record)?;
         found.extend_from_slice(numbers_for(&self.texts.rules, &record.rule_id))?;
         found.extend_from_slice(numbers_for(&self.texts.tools, &record.tool))?;
         found.extend_from_slice(&self.others)?;
         Ok(found)
+    }
+
+    /// Adds the numbers of the entries that are filed under the text of the result's message, its URI, or both.
+    fn add_for_message_and_uri(
+        &self,
+        found: &mut Vec<u32>,
+        record: &Record,
+    ) -> Result<(), AllocError>
+        ensures { OnOk result (found.new.items ≡ ((found.old.items
+            ++ option_map_or (numbers_at is_pair self.now.pairs.placed)
+            (said.both «record».now.message.text «record».now.place.uri) [])
+            ++ option_map_or (numbers_at bytes_eq self.now.texts.messages)
+            «record».now.message.text [])
+            ++ option_map_or (numbers_at bytes_eq self.now.texts.uris) «record».now.place.uri []) }
+    {
+        let (text, uri) = (&record.message.text, &record.place.uri);
+        found.extend_from_slice(numbers_with_both(&self.pairs.placed, text, uri)?)?;
+        found.extend_from_slice(numbers_with_text(&self.texts.messages, text))?;
+        found.extend_from_slice(numbers_with_text(&self.texts.uris, uri))?;
+        Ok(())
     }
 }
 
@@ -137,7 +170,7 @@ fn numbers_by_guid<S: BuildHasher + Copy>(
     Ok(table)
 }
 
-/// For each fingerprint the numbers of the entries that are filed under it, rising.
+/// For each pair of texts the numbers of the entries that are filed under it, rising.
 fn numbers_by_pair<S: BuildHasher + Copy>(
     alloc: Global,
     hasher: S,
@@ -203,6 +236,24 @@ fn numbers_with_guid<S: BuildHasher + Copy>(
     match guid {
         Some(guid) => numbers_for(table, &guid),
         None => &[],
+    }
+}
+
+/// The numbers of the entries that are filed under both texts; without them there are none.
+fn numbers_with_both<'a, S: BuildHasher + Copy>(
+    table: &'a IndexMap<(Text, Text), Vec<u32>, S>,
+    first: &Option<Text>,
+    second: &Option<Text>,
+) -> Result<&'a [u32], AllocError>
+    ensures { IfOk result (λ found. found.now ≡ option_map_or (numbers_at is_pair table.now)
+        (said.both first.now second.now) []) }
+{
+    match (first, second) {
+        (Some(first), Some(second)) => {
+            let key = (first.clone()?, second.clone()?);
+            Ok(numbers_for(table, &key))
+        }
+        (Some(_), None) | (None, _) => Ok(&[]),
     }
 }
 

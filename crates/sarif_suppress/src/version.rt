@@ -9,6 +9,8 @@ pub enum Version {
     First,
     /// `"version": 2`, which has `uriPrefix` and `expires` too.
     Second,
+    /// `"version": 4`, which has `message`, `messageId` and `messageArguments` too.
+    Fourth,
 }
 
 impl Version {
@@ -18,9 +20,22 @@ impl Version {
     {
         match self {
             Version::First => is_first_member(name),
-            Version::Second => is_first_member(name) || name == "uriPrefix" || name == "expires",
+            Version::Second => is_second_member(name),
+            Version::Fourth => {
+                is_second_member(name)
+                    || name == "message"
+                    || name == "messageId"
+                    || name == "messageArguments"
+            }
         }
     }
+}
+
+/// Whether an entry of the second version may have a member of that name.
+fn is_second_member(name: &str) -> bool
+    ensures { result ≡ said.is_second_member name.now }
+{
+    is_first_member(name) || name == "uriPrefix" || name == "expires"
 }
 
 /// Whether an entry of the first version may have a member of that name.

@@ -4,6 +4,7 @@ mod applying;
 mod conditions;
 mod entries;
 mod files;
+mod messages;
 mod objects;
 mod prefixes;
 
@@ -50,6 +51,15 @@ fn first_version(entries: &str) -> FileText<'_> {
 fn second_version(entries: &str) -> FileText<'_> {
     FileText {
         version: 2,
+        entries,
+        today: None,
+    }
+}
+
+/// The same for version 4.
+fn fourth_version(entries: &str) -> FileText<'_> {
+    FileText {
+        version: 4,
         entries,
         today: None,
     }

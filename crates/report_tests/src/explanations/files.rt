@@ -34,8 +34,8 @@ fn a_file_has_a_version_and_a_list_within_the_limit(rt: HostRuntime) -> Result<(
             r#"  file: found.sarif
   where: /version
   found: 1.0
-  wanted: the integer 1 or 2, written without a fraction
-  advice: write the file in version 2, with "version": 2
+  wanted: the integer 1, 2 or 4, written without a fraction
+  advice: write the file in version 4, with "version": 4
 "#,
         ),
         (
@@ -44,8 +44,8 @@ fn a_file_has_a_version_and_a_list_within_the_limit(rt: HostRuntime) -> Result<(
             r#"  file: found.sarif
   where: 
   found: nothing
-  wanted: the member version, the integer 1 or 2, written without a fraction
-  advice: add "version": 2 to the file
+  wanted: the member version, the integer 1, 2 or 4, written without a fraction
+  advice: add "version": 4 to the file
 "#,
         ),
         (
@@ -90,7 +90,34 @@ fn an_entry_has_the_members_of_its_version(rt: HostRuntime) -> Result<(), Fail> 
             r#"  file: found.sarif
   where: /suppressions/0/until
   found: 20251231
-  wanted: only the members tool, ruleId, uri, uriPrefix, guid, fingerprints, partialFingerprints, expires, status and justification
+  wanted: in version 2 only the members tool, ruleId, uri, uriPrefix, guid, fingerprints, partialFingerprints, expires, status and justification
+  advice: fix the entry, or validate the file against its JSON Schema
+"#,
+        ),
+        (
+            r#"{"version":2,"suppressions":[{"tool":"lint","message":"m"}]}"#,
+            r#"  file: found.sarif
+  where: /suppressions/0/message
+  found: "m"
+  wanted: in version 2 only the members tool, ruleId, uri, uriPrefix, guid, fingerprints, partialFingerprints, expires, status and justification
+  advice: fix the entry, or validate the file against its JSON Schema
+"#,
+        ),
+        (
+            r#"{"version":4,"suppressions":[{"message":"m","until":20251231}]}"#,
+            r#"  file: found.sarif
+  where: /suppressions/0/until
+  found: 20251231
+  wanted: only the members tool, ruleId, uri, uriPrefix, guid, fingerprints, partialFingerprints, message, messageId, messageArguments, expires, status and justification
+  advice: fix the entry, or validate the file against its JSON Schema
+"#,
+        ),
+        (
+            r#"{"version":4,"suppressions":[{"messageArguments":["m",null]}]}"#,
+            r#"  file: found.sarif
+  where: /suppressions/0/messageArguments/1
+  found: null
+  wanted: a string
   advice: fix the entry, or validate the file against its JSON Schema
 "#,
         ),
@@ -134,7 +161,7 @@ fn an_entry_names_a_condition_and_may_need_the_day(rt: HostRuntime) -> Result<()
             r#"  file: found.sarif
   where: /suppressions/1
   found: {"fingerprints":{"a":null}}
-  wanted: at least one of tool, ruleId, uri, uriPrefix, guid, fingerprints and partialFingerprints
+  wanted: at least one of tool, ruleId, uri, uriPrefix, guid, fingerprints, partialFingerprints, message, messageId and messageArguments
   advice: add a condition; without one, the entry would match every result
 "#,
         ),

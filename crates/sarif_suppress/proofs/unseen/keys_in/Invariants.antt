@@ -1,4 +1,4 @@
-use Rattle.std.proofs.Common.{◌≡◌, map, take}
+use Rattle.std.proofs.Common.{map, take}
 use Rattle.serde_json.specs.View.{view}
 use Rattle.sarif_suppress.specs.Keys.{HasKeysOf}
 use Rattle.sarif_suppress.proofs.unseen.keys_in.Given as goal

@@ -1,0 +1,119 @@
+//! Conditions on the message of a result, which version 4 has.
+use super::{all_entries_have, fourth_version, in_entry, outcome_of, result_at};
+use sarif_model::{Fault, Record, Sequence, Text};
+use std::alloc::{AllocError, Global};
+use std::process::Abort;
+use std::test::Fail;
+
+/// A result whose message has an id and these arguments, and no text.
+fn result_with(alloc: Global, id: &str, args: &[&str]) -> Result<Record, AllocError> {
+    let mut finding = result_at(alloc, "R1", None)?;
+    finding.message.text = None;
+    finding.message.id = Some(Text::copy_of(alloc, id)?);
+    finding.message.args = Sequence::new(alloc);
+    for arg in args {
+        finding.message.args.push(Text::copy_of(alloc, arg)?)?;
+    }
+    Ok(finding)
+}
+
+/// Whether the entry, alone in a file of version 4, suppresses the result.
+fn suppresses(
+    rt: &(impl Abort + AllocGlobal),
+    entry: &str,
+    finding: &Record,
+) -> Result<bool, Fail> {
+    let outcome = outcome_of(rt.alloc(), fourth_version(entry), finding, "[]")?;
+    assert_eq!(rt; outcome.entries.as_slice().is_empty(), !outcome.suppressed);
+    Ok(outcome.suppressed)
+}
+
+#[test]
+fn a_text_is_compared_byte_by_byte(rt: HostRuntime) -> Result<(), Fail> {
+    let mut finding = result_at(rt.alloc(), "R1", None)?;
+    for (text, wanted) in [("m", true), ("M", false), ("", false), ("mm", false)] {
+        finding.message.text = Some(Text::copy_of(rt.alloc(), text)?);
+        assert_eq!(rt; suppresses(&rt, "{\"message\":\"m\"}", &finding)?, wanted);
+    }
+    let id_alone = result_with(rt.alloc(), "m", &[])?;
+    assert!(rt; !suppresses(&rt, "{\"message\":\"m\"}", &id_alone)?);
+    Ok(())
+}
+
+#[test]
+fn an_id_and_arguments_are_conditions_of_their_own(rt: HostRuntime) -> Result<(), Fail> {
+    let both = "{\"messageId\":\"i\",\"messageArguments\":[\"u\",\"v\"]}";
+    let id = "{\"messageId\":\"i\"}";
+    let arguments = "{\"messageArguments\":[\"u\",\"v\"]}";
+    let lists: [(&str, &[&str], [bool; 3]); 5] = [
+        ("i", &["u", "v"], [true, true, true]),
+        ("i", &["v", "u"], [false, true, false]),
+        ("i", &["u"], [false, true, false]),
+        ("i", &["u", "v", "w"], [false, true, false]),
+        ("j", &["u", "v"], [false, false, true]),
+    ];
+    for (name, args, wanted) in lists {
+        let finding = result_with(rt.alloc(), name, args)?;
+        assert_eq!(rt; suppresses(&rt, both, &finding)?, wanted[0]);
+        assert_eq!(rt; suppresses(&rt, id, &finding)?, wanted[1]);
+        assert_eq!(rt; suppresses(&rt, arguments, &finding)?, wanted[2]);
+    }
+    Ok(())
+}
+
+/// Entries of one file with a text, a URI, both or a prefix: each is found where its conditions hold.
+#[test]
+fn a_text_and_a_uri_are_looked_up_together_and_alone(rt: HostRuntime) -> Result<(), Fail> {
+    let entries = concat!(
+        r#"{"message":"m","uri":"a.c"},{"message":"m"},{"uri":"a.c"},{"message":"m","uri":"b.c"},"#,
+        r#"{"message":"n","uri":"a.c"},{"message":"m","uriPrefix":"a"},{"messageId":"i"},"#,
+        r#"{"message":"m","uri":"a.c","ruleId":"R2"}"#
+    );
+    for (uri, wanted) in [
+        (Some("a.c"), [0, 1, 2, 5].as_slice()),
+        (Some("b.c"), [1, 3].as_slice()),
+        (Some("ab.c"), [1, 5].as_slice()),
+        (None, [1].as_slice()),
+    ] {
+        let mut finding = result_at(rt.alloc(), "R1", uri)?;
+        finding.message.text = Some(Text::copy_of(rt.alloc(), "m")?);
+        let outcome = outcome_of(rt.alloc(), fourth_version(entries), &finding, "[]")?;
+        assert_eq!(rt; outcome.entries.as_slice(), wanted);
+    }
+    Ok(())
+}
+
+#[test]
+fn other_versions_and_other_kinds_are_refused(rt: HostRuntime) -> Result<(), Fail> {
+    let members = [
+        "{\"tool\":\"lint\",\"message\":\"m\"}",
+        "{\"tool\":\"lint\",\"message\":null}",
+        "{\"tool\":\"lint\",\"messageId\":\"m\"}",
+        "{\"tool\":\"lint\",\"messageArguments\":[]}",
+    ];
+    let kinds = [
+        "{\"message\":1}",
+        "{\"message\":[\"m\"]}",
+        "{\"message\":{\"text\":\"m\"}}",
+        "{\"messageId\":[\"m\"]}",
+        "{\"messageArguments\":\"m\"}",
+        "{\"messageArguments\":[\"m\",null]}",
+    ];
+    let fault = Some(in_entry(0, Fault::BadEntry));
+    assert!(rt; all_entries_have(rt.alloc(), 1, &members, None, fault)?);
+    assert!(rt; all_entries_have(rt.alloc(), 2, &members, None, fault)?);
+    assert!(rt; all_entries_have(rt.alloc(), 4, &kinds, None, fault)?);
+    assert!(rt; all_entries_have(rt.alloc(), 4, &members, None, None)?);
+    Ok(())
+}
+
+#[test]
+fn an_empty_array_of_arguments_is_no_condition(rt: HostRuntime) -> Result<(), Fail> {
+    let entries = [
+        "{\"messageArguments\":[],\"fingerprints\":{}}",
+        "{\"message\":null,\"messageId\":null,\"messageArguments\":null}",
+    ];
+    let fault = Some(in_entry(0, Fault::EmptyMatch));
+    assert!(rt; all_entries_have(rt.alloc(), 4, &entries, None, fault)?);
+    Ok(())
+}
