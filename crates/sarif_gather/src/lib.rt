@@ -1,7 +1,7 @@
 //! Many workers read the runs of a work; one collector puts the numbered results together again.
+//! `whole.rt` has the call for a whole list of arrivals, which the merge doesn't make.
 #![tactic(auto)]
 
-mod collect_fault;
 mod collector;
 mod deal;
 mod gathering;
@@ -12,9 +12,9 @@ mod numbered;
 mod piece;
 mod sharing;
 mod slot;
+mod whole;
 mod work;
 
-pub use collect_fault::{CollectFault, collect};
 pub use collector::Collector;
 pub use deal::{Deal, Hand};
 pub use gathering::{GatherFault, gather};
@@ -22,4 +22,5 @@ pub use lists::Lists;
 pub use mailbox::{Desk, Full, Mailbox, Post, Settled};
 pub use piece::{Parcel, Piece, Refused, Why};
 pub use sharing::{Sharing, each_of, share_each, share_jobs, share_parts};
+pub use whole::{CollectFault, collect};
 pub use work::{Gate, NoGate, Work};

@@ -1,5 +1,5 @@
 //! The key of a result at each tier.
-ghost use Rattle.std.specs.Prelude.{◌≡◌, not, IsOkAnd};
+ghost use Rattle.std.specs.Prelude.{◌≡◌, not};
 ghost use Rattle.std.specs.Option.{option_map};
 ghost use Rattle.sarif_match.specs.Key.{key_of, is_empty, is_unnamed};
 ghost use Rattle.sarif_match.specs.KeyParts.{parts_of};
@@ -8,15 +8,6 @@ ghost use Rattle.sarif_match.specs.declared.tier.Tier.TheVariants.{Guid, Fingerp
 use crate::tier::Tier;
 use crate::tier_key::Key;
 use sarif_model::{Record, Text};
-use std::alloc::AllocError;
-
-/// The key of a result at a tier, or `None` where it has none. The key borrows, so `AllocError`
-/// never comes.
-pub fn key<'a>(finding: &'a Record, tier: &Tier) -> Result<Option<Key<'a>>, AllocError>
-    ensures { IsOkAnd result (λ k. option_map parts_of k ≡ key_of finding.now tier.now) }
-{
-    Ok(key_at(finding, tier))
-}
 
 /// The key of a result at a tier.
 pub(crate) fn key_at<'a>(finding: &'a Record, tier: &Tier) -> Option<Key<'a>>

@@ -1,5 +1,5 @@
-//! Which results of a merge are new: current results are paired with those of a baseline, tier by
-//! tier.
+//! Which results of a merge are new: current results are paired with those of a baseline, tier by tier. `whole.rt`
+//! has the calls that the merge doesn't make.
 #![tactic(auto)]
 
 mod keys;
@@ -14,10 +14,11 @@ mod states;
 mod tier;
 mod tier_key;
 mod tier_list;
+mod whole;
 
-pub use keys::key;
-pub use matching::{Matching, match_all, match_all_with};
+pub use matching::{Matching, match_all_with};
 pub use states::state;
 pub use tier::Tier;
 pub use tier_key::Key;
 pub use tier_list::tiers;
+pub use whole::{key, match_all};

@@ -11,7 +11,7 @@ use crate::tier::Tier;
 use crate::tier_list::tiers;
 use sarif_model::Record;
 use std::alloc::{AllocError, Global};
-use std::hash::{BuildHasher, BuildHasherDefault, FoldHasher};
+use std::hash::BuildHasher;
 use std::marker::Model;
 
 /// The baseline result that each current result matches. Contracts see the list of partners: for each current
@@ -61,27 +61,10 @@ impl Matching {
     }
 }
 
-/// Matches each current result with at most one baseline result, tier by tier. At each tier, unmatched results
-/// with equal keys match in order: the first with the first, the second with the second, and so on. Each list has
-/// at most 1,000,000 results. The tables use the seed of the standard hasher, which the author of a log may know:
-/// see [`match_all_with`]. Returns `AllocError` if memory runs out.
-pub fn match_all<'a>(
-    alloc: Global,
-    current: &'a [Record],
-    baseline: &'a [Record],
-) -> Result<Matching, AllocError>
-    requires current { length current.now ≤ 1000000 }
-    requires baseline { length baseline.now ≤ 1000000 }
-    ensures { IfOk result (λ matching. matching ≡ partners_of current.now baseline.now) }
-{
-    let hasher = BuildHasherDefault::<FoldHasher>::new();
-    match_all_with(alloc, hasher, current, baseline)
-}
-
-/// Matches each current result with at most one baseline result, as [`match_all`] does, with tables that hash with
-/// `hasher`, for example a `RandomState` whose seed no log can know. The result does not depend on the hasher.
-/// Each list has at most 1,000,000 results. Without a baseline no table is made. Returns `AllocError` if memory
-/// runs out.
+/// Matches each current result with at most one baseline result, as [`match_all`](crate::match_all) does, with
+/// tables that hash with `hasher`, for example a `RandomState` whose seed no log can know. The result does not
+/// depend on the hasher. Each list has at most 1,000,000 results. Without a baseline no table is made. Returns
+/// `AllocError` if memory runs out.
 pub fn match_all_with<'a, S: BuildHasher + Copy>(
     alloc: Global,
     hasher: S,

@@ -1,12 +1,10 @@
-//! Runs of an indexed log with all their results made.
-ghost use Rattle.std.specs.Prelude.{◌≡◌, ◌≤◌, Some, map, length, codes, IfOk, OnOk};
+//! All results of a run of an indexed log.
+ghost use Rattle.std.specs.Prelude.{◌≡◌, Some, map, codes, IfOk, OnOk};
 ghost use Rattle.serde_json.specs.Data.{put};
 ghost use Rattle.serde_json.specs.View.{view, members_view};
-ghost use Rattle.sarif_read.specs.Listed.{value_at, listed_member};
-ghost use Rattle.sarif_read.specs.Indexed.{with_member, run_of};
+ghost use Rattle.sarif_read.specs.Listed.{value_at};
+ghost use Rattle.sarif_read.specs.Indexed.{with_member};
 
-use crate::indexed_run::IndexedRun;
-use crate::run::RawRun;
 use json_parts::Node;
 use serde_json::{Map, Value};
 use std::alloc::{AllocError, Global};
@@ -48,18 +46,4 @@ pub(crate) fn with_results(alloc: Global, run: Value, results: Value) -> Result<
         }
         _ => Ok(run),
     }
-}
-
-/// The runs with all their results.
-pub(crate) fn fill_each(
-    alloc: Global,
-    runs: Vec<IndexedRun<'_, '_>>,
-) -> Result<Vec<RawRun>, AllocError>
-    ensures { IfOk result (λ filled. map view filled.items ≡ map run_of runs.entry.items) }
-{
-    let mut filled = Vec::with_capacity(alloc, runs.len())?;
-    for run in runs {
-        filled.push(run.into_raw(alloc)?)?;
-    }
-    Ok(filled)
 }

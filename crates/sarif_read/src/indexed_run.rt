@@ -7,7 +7,7 @@ ghost use Rattle.sarif_read.specs.Listed.{nodes_of};
 use crate::filling::{values_of, with_results};
 use crate::listed::Listed;
 use crate::picking::pick_members;
-use crate::run::RawRun;
+use crate::whole::RawRun;
 use serde_json::Value;
 use std::alloc::{AllocError, Global};
 

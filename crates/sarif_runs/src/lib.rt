@@ -1,4 +1,5 @@
-//! A run, opened: its rules, overrides and artifacts; a result's own members, and its record.
+//! A run, opened: its rules, overrides and artifacts; a result's own members, and its record. `whole.rt` has the
+//! calls for whole runs, which the merge doesn't make.
 #![tactic(auto)]
 
 mod component;
@@ -13,15 +14,17 @@ mod own_members;
 mod parts;
 mod reading;
 mod spots;
+mod whole;
 
 pub use component::{Component, Rule};
 pub use head::RunHead;
 pub use invocation::{Invocation, Override};
 pub use item::Item;
 pub use laws::same_members_give_the_same_pairs;
-pub use making::{copy_tool_name, make_record, make_record_of};
-pub use open::{open_run, open_value};
+pub use making::{copy_tool_name, make_record_of};
+pub use open::open_value;
 pub use opened::OpenedRun;
-pub use own_members::{read_members, read_parts};
+pub use own_members::read_members;
 pub use parts::Parts;
 pub use spots::{Spot, list_spots};
+pub use whole::{make_record, open_run, read_parts};

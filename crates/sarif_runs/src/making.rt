@@ -1,17 +1,14 @@
 //! The record of a result.
-ghost use Rattle.std.specs.Prelude.{◌≡◌, ◌<◌, length, Ok, Err, IfOk};
+ghost use Rattle.std.specs.Prelude.{◌≡◌, Ok, Err, IfOk};
 ghost use Rattle.serde_json.specs.View.{view};
 ghost use Rattle.sarif_model.specs.Refusal.{IfFault};
-ghost use Rattle.sarif_model.specs.Run.{results_of};
 ghost use Rattle.sarif_runs.specs.Reading.{Gives};
-ghost use Rattle.sarif_runs.specs.Head.{head_of};
-ghost use Rattle.sarif_runs.specs.Record.{tool_name, rule_id_of, record_by, record_in, record_of};
+ghost use Rattle.sarif_runs.specs.Record.{tool_name, rule_id_of, record_by, record_in};
 
 use crate::head::RunHead;
 use crate::own_members::read_members;
 use crate::parts::Parts;
 use sarif_model::{Fault, Record, Refusal, Text, driver_name};
-use sarif_read::RawRun;
 use serde_json::Value;
 use std::alloc::{AllocError, Global};
 
@@ -34,24 +31,6 @@ pub fn make_record_of(
     let parts = read_members(alloc, result_value)?;
     let tool = tool.clone()?;
     finish_record(alloc, head, tool, parts)
-}
-
-/// Makes the record of result `seq` of a run, numbered from 0, with the head that was opened from that run and the
-/// name of the run's driver. The errors are those of [`make_record_of`], including `BadIndex` and `OutOfMemory`.
-#[tactic(auto, unfolding(crate::specs::Record::record_of))]
-pub fn make_record(
-    alloc: Global,
-    head: &RunHead,
-    run: &RawRun,
-    seq: u32,
-) -> Result<Record, Refusal<Fault>>
-    requires opened { head_of (view run.now) ≡ Ok head.now }
-    requires in_run { seq < length (results_of (view run.now)) }
-    ensures ok { IfOk result (λ made. record_of (view run.now) seq ≡ Ok made) }
-    ensures err { IfFault result (λ fault. record_of (view run.now) seq ≡ Err fault) }
-{
-    let tool = copy_tool_name(alloc, run.value())?;
-    make_record_of(alloc, head, &tool, run.result(seq))
 }
 
 /// The name of the run's driver (SARIF 2.1.0, toolComponent object, "name property"), or the empty string. Returns

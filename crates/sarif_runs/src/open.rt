@@ -17,7 +17,6 @@ use sarif_model::members::{
     elements_at, index_within, object_at, object_within, objects_at, text_at, text_within,
 };
 use sarif_model::{Fault, Place, Refusal, Sequence, Text};
-use sarif_read::RawRun;
 use serde_json::Value;
 use std::alloc::{AllocError, Global};
 use std::hash::RandomState;
@@ -41,15 +40,6 @@ pub fn open_value(alloc: Global, seed: RandomState, run: &Value) -> Result<RunHe
         invocations,
         artifacts,
     })
-}
-
-/// Reads the rules, overrides and artifacts of a whole run. Returns `BadRules`, `BadLevel`, `BadLocation`,
-/// `BadMember`, `BadIndex` and `OutOfMemory` as [`open_value`] does; `seed` has the same meaning.
-pub fn open_run(alloc: Global, seed: RandomState, run: &RawRun) -> Result<RunHead, Refusal<Fault>>
-    ensures ok { IfOk result (λ head. head_of (view run.now) ≡ Ok head) }
-    ensures err { IfFault result (λ fault. head_of (view run.now) ≡ Err fault) }
-{
-    open_value(alloc, seed, run.value())
 }
 
 #[tactic(auto, unfolding(crate::specs::Rules::components_of))]

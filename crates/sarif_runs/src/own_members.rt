@@ -1,7 +1,6 @@
 //! A result's own members: nine checks, in order. Each reads what it checks.
-ghost use Rattle.std.specs.Prelude.{◌≡◌, ◌<◌, length, Ok, Err, IfOk};
+ghost use Rattle.std.specs.Prelude.{◌≡◌, Ok, Err, IfOk};
 ghost use Rattle.serde_json.specs.View.{view as seen};
-ghost use Rattle.sarif_model.specs.Run.{results_of, result_at};
 ghost use Rattle.sarif_runs.specs.OwnMembers.{check_present, own_kind, own_level, own_guid};
 ghost use Rattle.sarif_runs.specs.OwnMembers.{parts_of};
 ghost use Rattle.sarif_model.specs.Refusal.{IfFault};
@@ -19,7 +18,7 @@ use location::read_location;
 use message::read_message_and_rule;
 use sarif_model::members::member_at;
 use sarif_model::{Fault, Kind, Level, Refusal, read_guid};
-use sarif_read::{RawRun, is_marked_absent};
+use sarif_read::is_marked_absent;
 use serde_json::Value;
 use std::alloc::Global;
 use suppressions::read_statuses;
@@ -113,14 +112,4 @@ pub fn read_members(alloc: Global, result_value: &Value) -> Result<Parts, Refusa
         partial: fingerprints.partial,
         held,
     })
-}
-
-/// The own members of result `seq` of `run`, numbered from 0 (SARIF 2.1.0, run object, "results property"), or its
-/// first error: the errors are those of [`read_members`], in the same order, and `OutOfMemory` if memory runs out.
-pub fn read_parts(alloc: Global, run: &RawRun, seq: u32) -> Result<Parts, Refusal<Fault>>
-    requires { seq < length (results_of (seen run.now)) }
-    ensures ok { IfOk result (λ parts. parts_of (result_at (seen run.now) seq) ≡ Ok parts) }
-    ensures err { IfFault result (λ fault. parts_of (result_at (seen run.now) seq) ≡ Err fault) }
-{
-    read_members(alloc, run.result(seq))
 }

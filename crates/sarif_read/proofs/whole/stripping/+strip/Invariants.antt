@@ -2,7 +2,7 @@ use Rattle.std.proofs.Common.{◌≡◌, ◌+◌, ◌*◌, take, map}
 use Rattle.serde_json.specs.Data.{depth, items_depth, members_depth}
 use Rattle.serde_json.specs.View.{view, items_view, members_view}
 use Rattle.sarif_read.specs.Stripping.{stripped}
-use Rattle.sarif_read.proofs.stripping.+strip.Given as goal
+use Rattle.sarif_read.proofs.whole.stripping.+strip.Given as goal
 
 abbrev pub decreases-strip_in_place : goal.decreases-strip_in_place
 decreases-strip_in_place l = 3 * depth (view l.value.now)

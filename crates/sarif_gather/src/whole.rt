@@ -1,4 +1,5 @@
-//! A whole list of arrivals, on one thread.
+//! A whole list of arrivals, on one thread. Only tests and callers outside this program use this call: the merge
+//! collects arrivals as they come.
 ghost use Rattle.std.specs.Prelude.{◌≡◌, ◌≤◌, ◌<◌, ◌^◌, replicate, vec_len, IfOk, IfErr};
 ghost use Rattle.sarif_gather.specs.declared.piece.Why.TheVariants.{OutOfMemory};
 ghost use Rattle.sarif_gather.specs.Arriving.{IsFirstFault};

@@ -1,20 +1,7 @@
 //! A run of a log that was read, with its results.
-ghost use Rattle.std.specs.Prelude.{◌≡◌};
-ghost use Rattle.serde_json.specs.View.{view as seen};
-ghost use Rattle.sarif_model.specs.Run.{is_absent_result};
-
+use crate::absent::is_marked_absent;
 use serde_json::Value;
 use std::marker::Model;
-
-/// Returns whether the `baselineState` of a result is the string `absent` (SARIF 2.1.0, "baselineState property").
-pub fn is_marked_absent(found: &Value) -> bool
-    ensures { result ≡ is_absent_result (seen found.now) }
-{
-    match found.get("baselineState").and_then(Value::as_str) {
-        Some("absent") => true,
-        _ => false,
-    }
-}
 
 /// A run whose form `read_log` checked: its results are objects, at most 1,000,000 (SARIF 2.1.0,
 /// "run object"). Contracts see the run as its `Value`.

@@ -7,7 +7,7 @@ use Rattle.sarif_gather.specs.declared.piece.Why.TheVariants.{Unclosed}
 use Rattle.sarif_gather.proofs.AllRuns.{told_lists, told_fault}
 use Rattle.sarif_gather.proofs.Arrived.{accepted_push, first_refused, left_open}
 use Rattle.sarif_gather.proofs.Parcels.{all_after_push}
-use Rattle.sarif_gather.proofs.collect_fault.collect.Goals as goal
+use Rattle.sarif_gather.proofs.whole.collect.Goals as goal
 
 pub returns-in-Err-clause-first : goal.returns-in-Err-clause-first
 returns-in-Err-clause-first g c =

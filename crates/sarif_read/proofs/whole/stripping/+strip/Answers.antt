@@ -4,7 +4,7 @@ use Rattle.serde_json.specs.View.{view, items_of, items_view, members_view}
 use Rattle.serde_json.specs.declared.value.Value.{the_lemmas}
 use Rattle.sarif_read.specs.Stripping.{stripped, stripped_items, stripped_members}
 use Rattle.sarif_read.proofs.Stripped.{stripped_items_view, member_depth_at, stripped_from_retain}
-use Rattle.sarif_read.proofs.stripping.+strip.Goals as goal
+use Rattle.sarif_read.proofs.whole.stripping.+strip.Goals as goal
 
 pub strip_in_place-returns-in-Array : goal.strip_in_place-returns-in-Array
 strip_in_place-returns-in-Array t c =

@@ -3,7 +3,7 @@ use Rattle.std.specs.Vec.Iter.{into_iter_items}
 use Rattle.sarif_gather.specs.Arriving.{AllAccepted}
 use Rattle.sarif_gather.specs.Collecting.{all_after}
 use Rattle.sarif_gather.specs.Held.{empty_run}
-use Rattle.sarif_gather.proofs.collect_fault.collect.Given as goal
+use Rattle.sarif_gather.proofs.whole.collect.Given as goal
 
 abbrev pub invariant-loop-piece : goal.invariant-loop-piece
 invariant-loop-piece g l =

@@ -1,5 +1,5 @@
 //! A log that was read.
-use crate::run::RawRun;
+use crate::whole::run::RawRun;
 use std::marker::Model;
 
 /// The runs of a log that `read_log` accepted, in order. Contracts see the list of their values.

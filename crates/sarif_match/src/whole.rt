@@ -1,0 +1,40 @@
+//! Calls that the merge doesn't make. Only tests and callers outside this program use them: a matching with the
+//! standard hasher, and the key of a single result.
+ghost use Rattle.std.specs.Prelude.{◌≡◌, ◌≤◌, length, IfOk, IsOkAnd};
+ghost use Rattle.std.specs.Option.{option_map};
+ghost use Rattle.sarif_match.specs.Key.{key_of};
+ghost use Rattle.sarif_match.specs.KeyParts.{parts_of};
+ghost use Rattle.sarif_match.specs.Partners.{partners_of};
+
+use crate::keys::key_at;
+use crate::matching::{Matching, match_all_with};
+use crate::tier::Tier;
+use crate::tier_key::Key;
+use sarif_model::Record;
+use std::alloc::{AllocError, Global};
+use std::hash::{BuildHasherDefault, FoldHasher};
+
+/// Matches each current result with at most one baseline result, tier by tier. At each tier, unmatched results
+/// with equal keys match in order: the first with the first, the second with the second, and so on. Each list has
+/// at most 1,000,000 results. The tables use the seed of the standard hasher, which the author of a log may know:
+/// see [`match_all_with`](crate::match_all_with). Returns `AllocError` if memory runs out.
+pub fn match_all<'a>(
+    alloc: Global,
+    current: &'a [Record],
+    baseline: &'a [Record],
+) -> Result<Matching, AllocError>
+    requires current { length current.now ≤ 1000000 }
+    requires baseline { length baseline.now ≤ 1000000 }
+    ensures { IfOk result (λ matching. matching ≡ partners_of current.now baseline.now) }
+{
+    let hasher = BuildHasherDefault::<FoldHasher>::new();
+    match_all_with(alloc, hasher, current, baseline)
+}
+
+/// The key of a result at a tier, or `None` where it has none. The key borrows, so `AllocError`
+/// never comes.
+pub fn key<'a>(finding: &'a Record, tier: &Tier) -> Result<Option<Key<'a>>, AllocError>
+    ensures { IsOkAnd result (λ k. option_map parts_of k ≡ key_of finding.now tier.now) }
+{
+    Ok(key_at(finding, tier))
+}
