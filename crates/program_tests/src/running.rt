@@ -59,6 +59,21 @@ gate: pass, hits 0, max 0
 const BAD: &str = "{\"version\":\"2.1.0\",\"runs\":[{\"tool\":{\"driver\":{\"name\":\"lint\"}},\
     \"results\":[{\"message\":{\"text\":\"m\"},\"correlationGuid\":\"x\"}]}]}";
 
+/// A log of two runs with three equal results, and a baseline with two of them.
+const THREE: &str = concat!(
+    r#"{"version":"2.1.0","runs":[{"tool":{"driver":{"name":"lint"}},"results":["#,
+    r#"{"message":{"text":"m"},"ruleId":"R1"},{"message":{"text":"m"},"ruleId":"R1"}]},"#,
+    r#"{"tool":{"driver":{"name":"lint"}},"results":[{"message":{"text":"m"},"ruleId":"R1"}]}]}"#
+);
+
+const TWO: &str = concat!(
+    r#"{"version":"2.1.0","runs":[{"tool":{"driver":{"name":"lint"}},"results":["#,
+    r#"{"message":{"text":"m"},"ruleId":"R1"},{"message":{"text":"m"},"ruleId":"R1"}]}]}"#
+);
+
+/// Its first 50 bytes.
+const BROKEN: &str = r#"{"version":"2.1.0","runs":[{"tool":{"driver":{"nam"#;
+
 /// Returns at most `piece` of its bytes per read, and fails after this many reads.
 #[derive(Drop)]
 struct Given {
@@ -79,8 +94,13 @@ impl Given {
 
     /// The log, ten bytes per read, which fails after this many reads.
     fn failing(good: u32) -> Given {
+        Given::failing_over(LOG, good)
+    }
+
+    /// A text, ten bytes per read, which fails after this many reads.
+    fn failing_over(text: &'static str, good: u32) -> Given {
         Given {
-            bytes: LOG.as_bytes(),
+            bytes: text.as_bytes(),
             piece: 10,
             good,
         }
@@ -304,6 +324,36 @@ fn each_read_that_is_reached_may_fail(rt: HostRuntime) -> Result<(), Fail> {
     Ok(())
 }
 
+/// The reads of a log come before those of its baseline. Each has one for every ten bytes, and one more to see its end.
+#[test]
+fn each_read_of_a_log_or_of_its_baseline_may_fail(rt: HostRuntime) -> Result<(), Fail> {
+    let none = "{\"version\":1,\"suppressions\":[]}";
+    for (is_log, wanted) in [
+        (true, b"sarif_gate: log 0: ReadFailed\n".as_slice()),
+        (false, b"sarif_gate: baseline 0: ReadFailed\n".as_slice()),
+    ] {
+        let text = if is_log { THREE } else { TWO };
+        let reads = text.len().div_ceil(10) as u32 + 1;
+        for good in 0..reads + 1 {
+            let ended = run_all(
+                &rt,
+                rt.alloc(),
+                Given::failing_over(THREE, if is_log { good } else { 1000 }),
+                Given::failing_over(TWO, if is_log { 1000 } else { good }),
+                Given::whole(none),
+            )?;
+            let is_whole = good == reads;
+            assert_eq!(rt; ended.status, if is_whole { 0 } else { 3 });
+            assert_eq!(rt; ended.out.is_empty(), !is_whole);
+            assert_eq!(rt;
+                ended.complain.as_slice(),
+                if is_whole { b"" } else { wanted }
+            );
+        }
+    }
+    Ok(())
+}
+
 #[test]
 fn a_write_that_fails_leaves_the_beginning(rt: HostRuntime) -> Result<(), Fail> {
     let request = Request::of_standard_streams(rt.alloc(), seed()?)?;
@@ -329,6 +379,10 @@ fn a_write_may_fail_at_each_byte(rt: HostRuntime) -> Result<(), Fail> {
         assert_eq!(rt; ended.out.len(), room);
         assert!(rt; MERGED.as_bytes().starts_with(ended.out.as_slice()));
         assert!(rt; ended.say.is_empty());
+        assert_eq!(rt;
+            ended.complain.as_slice(),
+            b"sarif_gate: output: WriteFailed\n".as_slice()
+        );
     }
     Ok(())
 }
@@ -345,12 +399,16 @@ fn a_writer_that_takes_a_byte_at_a_time(rt: HostRuntime) -> Result<(), Fail> {
 }
 
 #[test]
-fn a_lost_summary_is_told_by_the_status(rt: HostRuntime) -> Result<(), Fail> {
+fn a_lost_summary_is_told_by_the_status_alone(rt: HostRuntime) -> Result<(), Fail> {
     let request = Request::of_standard_streams(rt.alloc(), seed()?)?;
-    let rooms = Rooms { say: 0, ..AMPLE };
-    let ended = run(&rt, rt.alloc(), &request, Given::whole(LOG), rooms)?;
-    assert_eq!(rt; ended.status, 3);
-    assert_eq!(rt; ended.out.as_slice(), MERGED.as_bytes());
+    for room in 0..SUMMARY.len() {
+        let rooms = Rooms { say: room, ..AMPLE };
+        let ended = run(&rt, rt.alloc(), &request, Given::whole(LOG), rooms)?;
+        assert_eq!(rt; ended.status, 3);
+        assert_eq!(rt; ended.out.as_slice(), MERGED.as_bytes());
+        assert_eq!(rt; ended.say.len(), room);
+        assert!(rt; ended.complain.is_empty());
+    }
     Ok(())
 }
 
@@ -361,9 +419,13 @@ fn a_lost_complaint_changes_no_status(rt: HostRuntime) -> Result<(), Fail> {
         complain: 0,
         ..AMPLE
     };
-    let ended = run(&rt, rt.alloc(), &request, Given::whole("{}"), rooms)?;
-    assert_eq!(rt; ended.status, 2);
-    assert!(rt; ended.out.is_empty());
+    for log in [BROKEN, "{}"] {
+        let ended = run(&rt, rt.alloc(), &request, Given::whole(log), rooms)?;
+        assert_eq!(rt; ended.status, 2);
+        assert!(rt; ended.out.is_empty());
+        assert!(rt; ended.say.is_empty());
+        assert!(rt; ended.complain.is_empty());
+    }
     Ok(())
 }
 

@@ -1,12 +1,16 @@
 //! The whole: a worker, the mailbox, the deal and the collector.
+ghost use Rattle.std.specs.Prelude.{◌≤◌};
+
 use sarif_gather::{NoGate, Work, gather};
 use std::alloc::{AllocError, Global};
 use std::sync::Wait;
 use std::thread::Threads;
 
-const ITEMS: u32 = 1000;
+const RUNS: u32 = 5;
 
-/// One run, whose items are their numbers. No item allocates.
+const ITEMS: u32 = 200;
+
+/// Runs whose items are their numbers. No item allocates.
 #[derive(Clone, Copy)]
 struct Numbers;
 
@@ -17,9 +21,9 @@ impl Work for Numbers {
 
     type Tail = ();
 
-    ghost run_count = { λ w. 1 };
+    ghost run_count = { λ w. 5 };
 
-    ghost count = { λ w run. 1000 };
+    ghost count = { λ w run. 200 };
 
     ghost item = { λ w run seq. seq };
 
@@ -33,7 +37,7 @@ impl Work for Numbers {
     ghost few = { λ w. Prim.omega arith };
 
     fn runs(&self) -> u32 {
-        1
+        RUNS
     }
 
     fn start(&self, _alloc: Global, run: u32) -> Result<u32, AllocError> {
@@ -51,16 +55,20 @@ impl Work for Numbers {
     fn tail(&self, _head: u32) {}
 }
 
-/// How many items were gathered, and the last, or why none was.
+/// How many runs this many workers, 1 to 64, gathered, how many items the last of them has, and the last of these; or
+/// why nothing was gathered.
 pub fn gather_numbers<R: Threads + Wait + Sync>(
     rt: &R,
     alloc: Global,
-) -> Result<String, AllocError> {
-    match gather(rt, alloc, &Numbers, 1, 1, &NoGate) {
+    workers: u32,
+) -> Result<String, AllocError>
+    requires workers { (1 ≤ workers) × (workers ≤ 64) }
+{
+    match gather(rt, alloc, &Numbers, workers, 1, &NoGate) {
         Ok(mut lists) => match lists.pop() {
             Some((items, ())) => {
-                let (count, last) = (items.len(), items.last());
-                format!(in alloc; "{count} items, the last {last:?}")
+                let (runs, count, last) = (lists.runs(), items.len(), items.last());
+                format!(in alloc; "{runs} runs and one of {count} items, the last {last:?}")
             }
             None => String::from_str(alloc, "no run"),
         },

@@ -6,6 +6,7 @@ mod collecting;
 mod gathering;
 mod mailing;
 mod matching;
+mod merging;
 mod reading;
 mod suppressing;
 
@@ -43,7 +44,10 @@ fn answer_to<R: Threads + Wait + Sync>(
         "accept" => collecting::accept(alloc),
         "collect" => collecting::collect_arrivals(alloc),
         "settle" => mailing::settle(rt, alloc),
-        "gather" => gathering::gather_numbers(rt, alloc),
+        "gather" => gathering::gather_numbers(rt, alloc, 1),
+        "gather_by_four" => gathering::gather_numbers(rt, alloc, 4),
+        "merge_bytes" => merging::merged_bytes(rt, alloc, seed, given),
+        "merge_to" => merging::merged_to(rt, alloc, seed, given),
         _ => answer_of_values(alloc, seed, call, given),
     }
 }

@@ -4,6 +4,7 @@ use crate::merge::merging::{
     log_with, merge, one_log,
 };
 use sarif_log::Merged;
+use sarif_model::{Level, State};
 use std::alloc::{AllocError, Global};
 use std::process::Abort;
 use std::sync::Wait;
@@ -208,5 +209,37 @@ fn matched_results_of_a_baseline_are_left_out(rt: HostRuntime) -> Result<(), Fai
         r#""ruleId":"R2","suppressions":[]}"#
     );
     expect_log(&rt, &given, wanted, runs)?;
+    Ok(())
+}
+
+/// As many results A in one run.
+fn many_equal(alloc: Global, times: u32) -> Result<String, AllocError> {
+    let mut runs = String::from_str(alloc, "lint:")?;
+    for _ in 0..times {
+        runs.push_str(" A")?;
+    }
+    Ok(runs)
+}
+
+/// Each of 20,000 equal results has the one with its number in the baseline as its partner, and the one after them
+/// has none.
+#[test]
+fn many_equal_results_are_paired_in_order(rt: HostRuntime) -> Result<(), Fail> {
+    let current = many_equal(rt.alloc(), 20_001)?;
+    let baseline = many_equal(rt.alloc(), 20_000)?;
+    let given = beside(rt.alloc(), current.as_str(), baseline.as_str())?;
+    let merged = merge(&rt, &given)?;
+    assert_eq!(rt;
+        merged.counts.get(State::Unchanged, Level::Warning, false),
+        20_000
+    );
+    assert_eq!(rt; merged.counts.get(State::New, Level::Warning, false), 1);
+    let end = concat!(
+        r#"{"baselineState":"unchanged","level":"warning","message":{"text":"m"},"ruleId":"R1","#,
+        r#""suppressions":[]},"#,
+        r#"{"baselineState":"new","level":"warning","message":{"text":"m"},"ruleId":"R1","#,
+        r#""suppressions":[]}],"tool":{"driver":{"name":"lint"}}}],"version":"2.1.0"}"#
+    );
+    assert!(rt; merged.log.as_str().ends_with(end));
     Ok(())
 }

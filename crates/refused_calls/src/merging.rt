@@ -1,0 +1,111 @@
+//! Whole merges by four workers, of bytes and from readers into a writer.
+use sarif_counts::{Options, Policy};
+use sarif_gather::NoGate;
+use sarif_merge::{merge_bytes, merge_to};
+use sarif_streams::{Counted, Readers, SourceBytes};
+use std::alloc::{AllocError, Global};
+use std::hash::RandomState;
+use std::sync::Wait;
+use std::thread::Threads;
+
+/// A log, and a baseline and a suppression file if they are there. In the input there are bars between the three.
+#[derive(Clone, Copy)]
+struct Given<'a> {
+    log: &'a str,
+    baseline: &'a str,
+    suppressions: &'a str,
+}
+
+impl<'a> Given<'a> {
+    fn of(text: &'a str) -> Given<'a> {
+        let (log, rest) = text.split_once(" | ").unwrap_or((text, ""));
+        let (baseline, suppressions) = rest.split_once(" | ").unwrap_or((rest, ""));
+        Given {
+            log,
+            baseline,
+            suppressions,
+        }
+    }
+}
+
+fn options_by(seed: RandomState) -> Options {
+    Options {
+        policy: Policy::default(),
+        today: None,
+        workers: 4,
+        seed,
+    }
+}
+
+/// The merged log by `merge_bytes`, or its error.
+pub fn merged_bytes<R: Threads + Wait + Sync>(
+    rt: &R,
+    alloc: Global,
+    seed: RandomState,
+    text: &str,
+) -> Result<String, AllocError> {
+    let sources = sources_of(alloc, &Given::of(text))?;
+    match merge_bytes(rt, alloc, &sources, &options_by(seed), &NoGate) {
+        Ok(merged) => String::from_str(alloc, merged.log.as_str()),
+        Err(fault) => format!(in alloc; "{fault}"),
+    }
+}
+
+fn sources_of(alloc: Global, given: &Given) -> Result<SourceBytes, AllocError> {
+    let mut sources = SourceBytes {
+        logs: Vec::new(alloc),
+        baselines: Vec::new(alloc),
+        suppressions: None,
+    };
+    sources.logs.push(given.log.as_bytes().to_vec(alloc)?)?;
+    if !given.baseline.is_empty() {
+        sources
+            .baselines
+            .push(given.baseline.as_bytes().to_vec(alloc)?)?;
+    }
+    if !given.suppressions.is_empty() {
+        sources.suppressions = Some(given.suppressions.as_bytes().to_vec(alloc)?);
+    }
+    Ok(sources)
+}
+
+/// What `merge_to` wrote, or its error.
+pub fn merged_to<R: Threads + Wait + Sync>(
+    rt: &R,
+    alloc: Global,
+    seed: RandomState,
+    text: &str,
+) -> Result<String, AllocError> {
+    let mut readers = readers_of(alloc, Given::of(text))?;
+    let mut taken = Vec::new(alloc);
+    let mut out = Counted::new(&mut taken);
+    match merge_to(
+        rt,
+        alloc,
+        &mut readers,
+        &mut out,
+        &options_by(seed),
+        &NoGate,
+    ) {
+        Ok(_) => String::from_utf8_lossy(alloc, taken.as_slice()),
+        Err(fault) => format!(in alloc; "{fault}"),
+    }
+}
+
+fn readers_of<'a>(alloc: Global, given: Given<'a>) -> Result<Readers<&'a [u8]>, AllocError> {
+    let mut readers = Readers {
+        logs: Vec::new(alloc),
+        baselines: Vec::new(alloc),
+        suppressions: None,
+    };
+    readers.logs.push(Counted::new(given.log.as_bytes()))?;
+    if !given.baseline.is_empty() {
+        readers
+            .baselines
+            .push(Counted::new(given.baseline.as_bytes()))?;
+    }
+    if !given.suppressions.is_empty() {
+        readers.suppressions = Some(Counted::new(given.suppressions.as_bytes()));
+    }
+    Ok(readers)
+}
