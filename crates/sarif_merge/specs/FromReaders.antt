@@ -14,6 +14,7 @@ use Rattle.sarif_model.specs.FirstFault.{IsWanting}
 use Rattle.sarif_merge.specs.Given.{given_by}
 use Rattle.sarif_merge.specs.Merged.{IsMerged}
 use Rattle.sarif_merge.specs.MergedLog.{output_text}
+use Rattle.sarif_model.specs.Limits.{most_sources}
 
 -- reading ended at one of the sources, and the rejection says so
 abbrev pub IsStopped : {R : Type 0} → (R → Option (List ℕ)) → Readers R → Readers R → MergeFault
@@ -32,7 +33,7 @@ IsAtFault remaining old new today fault =
 
 -- neither logs nor baselines are too many
 abbrev pub AreFew : {R : Type 0} → Readers R → Type 0
-AreFew all = (length all.logs.items ≤ 1000) × (length all.baselines.items ≤ 1000)
+AreFew all = (length all.logs.items ≤ most_sources) × (length all.baselines.items ≤ most_sources)
 
 -- a rejection before anything is written: too many sources, otherwise what ended reading, otherwise the first
 -- error of what was read

@@ -29,9 +29,9 @@ use std::thread::Threads;
 /// Merges logs and baselines from readers, as [`merge_bytes`](crate::merge_bytes) does with bytes: reads all
 /// sources, the logs, the baselines and the suppression file, then merges what was read, and writes nothing. If
 /// findings are requested, the result has them too, and what `tell` computes from the counts and findings while
-/// the log's text is made. A rejection is `TooMany` for more than 1,000 logs or otherwise more than 1,000
-/// baselines; otherwise `ReadFailed` or `TooLong` at the first source that cannot be read to its end; otherwise
-/// the first error of what was read, as [`merge_bytes`](crate::merge_bytes) returns it. `OutOfMemory`, if memory
+/// the log's text is made. A rejection is `TooMany` for more than `MOST_SOURCES` logs, or otherwise for more than
+/// `MOST_SOURCES` baselines; otherwise `ReadFailed` or `TooLong` at the first source that cannot be read to its
+/// end; otherwise the first error of what was read, as [`merge_bytes`](crate::merge_bytes) returns it. `OutOfMemory`, if memory
 /// runs out, including in `tell`, and `NoWorker`, if a thread cannot be started, have no place.
 #[tactic(auto, using(sarif_streams::proofs::QuietReaders::same_failure, sarif_streams::proofs::QuietReaders::no_write))]
 pub fn merge_readers<

@@ -5,6 +5,7 @@ ghost use Rattle.serde_json.specs.View.{view};
 ghost use Rattle.sarif_model.specs.Run.{results_total};
 ghost use Rattle.sarif_model.specs.Refusal.{IfFault};
 ghost use Rattle.sarif_read.specs.Reading as said;
+ghost use Rattle.sarif_model.specs.Limits.{most_results, most_runs};
 
 use crate::filling::fill_each;
 use crate::indexing::index_log;
@@ -62,8 +63,8 @@ pub(crate) fn check_external(run: &Value) -> Result<(), Fault>
 #[tactic(auto, using(crate::proofs::LogText::read_steps), unfolding(crate::specs::Reading::log_of))]
 pub fn read_log(alloc: Global, bytes: &[u8]) -> Result<Log, Refusal<ReadFault>>
     ensures ok { IfOk result (λ log. said.log_of bytes.now ≡ Ok (map view log)) }
-    ensures few { IfOk result (λ log. results_total (map view log) ≤ 1000000) }
-    ensures few_runs { IfOk result (λ log. length log ≤ 10000) }
+    ensures few { IfOk result (λ log. results_total (map view log) ≤ most_results) }
+    ensures few_runs { IfOk result (λ log. length log ≤ most_runs) }
     ensures err { IfFault result (λ e. said.log_of bytes.now ≡ Err e) }
 {
     let mut scratch = Scratch::new(alloc);

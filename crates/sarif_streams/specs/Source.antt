@@ -1,17 +1,14 @@
 -- Reading a source whole.
 use Rattle.std.specs.Prelude.{ℕ, ◌<◌, ◌≤◌, List, length, Bool, true, false, Result, Ok, Err}
+use Rattle.sarif_model.specs.Limits.{most_bytes}
 use Rattle.sarif_streams.specs.declared.source.SourceFault.{SourceFault}
 use Rattle.sarif_streams.specs.declared.source.SourceFault.TheVariants.{ReadFailed, TooLong, OutOfMemory}
 
--- how many bytes a source may have
-abbrev pub source_limit : ℕ
-source_limit = 67108864
-
 abbrev pub IsWithinLimit : List ℕ → Type 0
-IsWithinLimit bytes = length bytes ≤ source_limit
+IsWithinLimit bytes = length bytes ≤ most_bytes
 
 abbrev pub IsPastLimit : List ℕ → Type 0
-IsPastLimit bytes = source_limit < length bytes
+IsPastLimit bytes = most_bytes < length bytes
 
 -- whether a read of the reader failed
 abbrev pub read_has_failed : {T : Type 0} → Result T SourceFault → Bool

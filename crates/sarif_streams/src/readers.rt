@@ -32,7 +32,7 @@ pub enum ReadersFault {
     /// A read of this source failed.
     #[error("{0}: ReadFailed")]
     ReadFailed(Source),
-    /// This source has more than 67,108,864 bytes.
+    /// This source has more than `MOST_BYTES` bytes.
     #[error("{0}: TooLong")]
     TooLong(Source),
     /// Memory ran out.

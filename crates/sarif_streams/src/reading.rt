@@ -7,6 +7,7 @@ ghost use Rattle.sarif_streams.specs.Failing.{failed_calls_in, NoneFalls, readin
 ghost use Rattle.sarif_streams.specs.OptionalReader.{failed_calls_if};
 ghost use Rattle.sarif_model.specs.SourceKind.{source_of};
 ghost use Rattle.sarif_streams.specs.WereRead.{contents_of, failures, HasStoppedAt, HasStoppedIf, IsReadIf, NoNumberFalls, WereRead};
+ghost use Rattle.sarif_model.specs.Limits.{most_sources};
 
 use crate::counted::Counted;
 use crate::readers::{Readers, ReadersFault, SourceBytes};
@@ -42,7 +43,7 @@ fn read_readers<R: Read>(
     kind: SourceKind,
     readers: &mut [Counted<R>],
 ) -> Result<Vec<Vec<u8>>, ReadersFault>
-    requires few { length readers.old ≤ 1000 }
+    requires few { length readers.old ≤ most_sources }
     requires faults { All (λ reader. failed_calls reader < 2 ^ 63) readers.old }
     ensures read { IfOk result (λ sources. AreRead R.remaining readers.old readers.new
         (map (λ v. v.items) sources.items)) }
@@ -84,22 +85,22 @@ fn read_optional<R: Read>(
 }
 
 /// Reads all sources to their ends, in this order: the logs, the baselines, the suppression file. The first source
-/// that cannot be read ends it: `ReadFailed` if a read failed, `TooLong` if it has more than 67,108,864 bytes,
+/// that cannot be read ends it: `ReadFailed` if a read failed, `TooLong` if it has more than `MOST_BYTES` bytes,
 /// each with the source; `OutOfMemory` if memory runs out. The sources before it were read, and the sources after
 /// it are untouched.
 pub fn read_sources<R: Read>(
     alloc: Global,
     readers: &mut Readers<R>,
 ) -> Result<SourceBytes, ReadersFault>
-    requires few_logs { length readers.old.logs.items ≤ 1000 }
-    requires few_baselines { length readers.old.baselines.items ≤ 1000 }
+    requires few_logs { length readers.old.logs.items ≤ most_sources }
+    requires few_baselines { length readers.old.baselines.items ≤ most_sources }
     requires logs { All (λ reader. failed_calls reader < 2 ^ 63) readers.old.logs.items }
     requires baselines { All (λ reader. failed_calls reader < 2 ^ 63) readers.old.baselines.items }
     requires suppressions { failed_calls_if readers.old.suppressions < 2 ^ 63 }
     ensures read { IfOk result
         (λ sources. WereRead R.remaining readers.old readers.new (contents_of sources)) }
-    ensures few_logs { IfOk result (λ sources. length sources.logs.items ≤ 1000) }
-    ensures few_baselines { IfOk result (λ sources. length sources.baselines.items ≤ 1000) }
+    ensures few_logs { IfOk result (λ sources. length sources.logs.items ≤ most_sources) }
+    ensures few_baselines { IfOk result (λ sources. length sources.baselines.items ≤ most_sources) }
     ensures stopped { IfErr result (HasStoppedAt R.remaining readers.old readers.new) }
     ensures read_failed { RisesIf (reading_has_failed result)
         (failures readers.old) (failures readers.new) }

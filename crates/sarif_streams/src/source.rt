@@ -5,12 +5,10 @@ ghost use Rattle.sarif_streams.specs.Counted.{inner_of, failed_calls, RisesIf};
 ghost use Rattle.sarif_streams.specs.Source.{IsWithinLimit, IsPastLimit, read_has_failed};
 
 use crate::counted::Counted;
+use sarif_model::MOST_BYTES;
 use std::alloc::{AllocError, Global};
 use std::io::Read;
 use thiserror::Error;
-
-/// How many bytes a source may have.
-const SOURCE_LIMIT: usize = 67_108_864;
 
 /// How many bytes one read requests.
 const BUFFER: usize = 65_536;
@@ -21,7 +19,7 @@ pub enum SourceFault {
     /// A read failed.
     #[error("ReadFailed")]
     ReadFailed = 1,
-    /// There are more than 67,108,864 bytes.
+    /// There are more than `MOST_BYTES` bytes.
     #[error("TooLong")]
     TooLong = 2,
     /// Memory ran out.
@@ -39,7 +37,7 @@ impl From<AllocError> for SourceFault {
     }
 }
 
-/// All bytes up to the read that returns none, at most 67,108,864. Returns `ReadFailed` at the first read that
+/// All bytes up to the read that returns none, at most `MOST_BYTES`. Returns `ReadFailed` at the first read that
 /// fails, for any reason; `TooLong` after one byte past the limit, even if the reader has no end; `OutOfMemory` if
 /// memory runs out. Bytes that were read stay read.
 pub fn read_source<R: Read>(alloc: Global, source: &mut Counted<R>) -> Result<Vec<u8>, SourceFault>
@@ -76,7 +74,7 @@ fn read_through<R: Read>(
 {
     let mut bytes = Vec::new(alloc);
     loop {
-        let room = (SOURCE_LIMIT + 1 - bytes.len()).min(buffer.len());
+        let room = (MOST_BYTES + 1 - bytes.len()).min(buffer.len());
         let taken = match source.read(&mut buffer[..room]) {
             Ok(taken) => taken,
             Err(_) => return Err(SourceFault::ReadFailed),
@@ -84,7 +82,7 @@ fn read_through<R: Read>(
         if taken == 0 {
             return Ok(bytes);
         }
-        if taken > SOURCE_LIMIT - bytes.len() {
+        if taken > MOST_BYTES - bytes.len() {
             return Err(SourceFault::TooLong);
         }
         bytes.extend_from_slice(&buffer[..taken])?;
