@@ -3,6 +3,7 @@ use Rattle.std.specs.Prelude.{◌≡◌, ℕ, ◌<◌, ◌≤◌, List, [], ◌�
 use Rattle.std.specs.Io.KnownBytes.{Appends}
 use Rattle.sarif_model.specs.declared.merge_fault.MergeFault.{MergeFault}
 use Rattle.sarif_streams.specs.declared.readers.Readers.{Readers}
+use Rattle.sarif_model.specs.declared.refusal.Refusal.{Refusal}
 use Rattle.sarif_streams.specs.declared.readers.ReadersFault.{ReadersFault}
 use Rattle.sarif_streams.specs.ReadersFault.{fault_of_readers}
 use Rattle.sarif_streams.specs.WereRead.{SourceContents, HasStoppedAt, WereRead}
@@ -20,7 +21,7 @@ use Rattle.sarif_model.specs.Limits.{most_sources}
 abbrev pub IsStopped : {R : Type 0} → (R → Option (List ℕ)) → Readers R → Readers R → MergeFault
     → Type 0
 IsStopped remaining old new fault =
-    (stopped : ReadersFault) × HasStoppedAt remaining old new stopped
+    (stopped : Refusal ReadersFault) × HasStoppedAt remaining old new stopped
     × (fault ≡ fault_of_readers stopped)
 
 -- all sources were read, and the merge of what was read is rejected: memory ran out, a thread could not be

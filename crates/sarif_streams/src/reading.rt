@@ -11,8 +11,8 @@ ghost use Rattle.sarif_model.specs.Limits.{most_sources};
 
 use crate::counted::Counted;
 use crate::readers::{Readers, ReadersFault, SourceBytes};
-use crate::source::{SourceFault, read_source};
-use sarif_model::{Source, SourceKind};
+use crate::source::read_source;
+use sarif_model::{Refusal, Source, SourceKind};
 use std::alloc::Global;
 use std::io::Read;
 
@@ -21,7 +21,7 @@ fn read_reader<R: Read>(
     alloc: Global,
     source: Source,
     reader: &mut Counted<R>,
-) -> Result<Vec<u8>, ReadersFault>
+) -> Result<Vec<u8>, Refusal<ReadersFault>>
     requires { failed_calls reader.old < 2 ^ 63 }
     ensures read { IfOk result (λ v. IsRead R.remaining reader.old reader.new v.items) }
     ensures stopped { IfErr result (HasStopped R.remaining source reader.old reader.new) }
@@ -30,9 +30,8 @@ fn read_reader<R: Read>(
 {
     match read_source(alloc, reader) {
         Ok(bytes) => Ok(bytes),
-        Err(SourceFault::ReadFailed) => Err(ReadersFault::ReadFailed(source)),
-        Err(SourceFault::TooLong) => Err(ReadersFault::TooLong(source)),
-        Err(SourceFault::OutOfMemory) => Err(ReadersFault::OutOfMemory),
+        Err(Refusal::Fault(fault)) => Err(Refusal::Fault(ReadersFault { source, fault })),
+        Err(Refusal::OutOfMemory) => Err(Refusal::OutOfMemory),
     }
 }
 
@@ -42,7 +41,7 @@ fn read_readers<R: Read>(
     alloc: Global,
     kind: SourceKind,
     readers: &mut [Counted<R>],
-) -> Result<Vec<Vec<u8>>, ReadersFault>
+) -> Result<Vec<Vec<u8>>, Refusal<ReadersFault>>
     requires few { length readers.old ≤ most_sources }
     requires faults { All (λ reader. failed_calls reader < 2 ^ 63) readers.old }
     ensures read { IfOk result (λ sources. AreRead R.remaining readers.old readers.new
@@ -66,7 +65,7 @@ fn read_readers<R: Read>(
 fn read_optional<R: Read>(
     alloc: Global,
     reader: &mut Option<Counted<R>>,
-) -> Result<Option<Vec<u8>>, ReadersFault>
+) -> Result<Option<Vec<u8>>, Refusal<ReadersFault>>
     requires { failed_calls_if reader.old < 2 ^ 63 }
     ensures read { IfOk result (λ bytes. IsReadIf R.remaining reader.old
         reader.new (option_map (λ v. v.items) bytes)) }
@@ -91,7 +90,7 @@ fn read_optional<R: Read>(
 pub fn read_sources<R: Read>(
     alloc: Global,
     readers: &mut Readers<R>,
-) -> Result<SourceBytes, ReadersFault>
+) -> Result<SourceBytes, Refusal<ReadersFault>>
     requires few_logs { length readers.old.logs.items ≤ most_sources }
     requires few_baselines { length readers.old.baselines.items ≤ most_sources }
     requires logs { All (λ reader. failed_calls reader < 2 ^ 63) readers.old.logs.items }
