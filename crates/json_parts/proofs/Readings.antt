@@ -11,7 +11,7 @@ use Rattle.json.specs.Tree.{depth, members_depth}
 use Rattle.json.proofs.Nesting.{value-depth}
 use Rattle.serde_json.specs.Data.{Num, Data, null, boolean, number, string, array, object, Items, Members, no_members, member, put}
 use Rattle.serde_json.specs.Find.{get, get_member, as_str}
-use Rattle.serde_json.specs.Read.{number_of, of_json, of_items, of_members}
+use Rattle.serde_json.specs.Read.{max_depth, number_of, of_json, of_items, of_members}
 use Rattle.serde_json.proofs.Views.{get_member-put, get_member-put_other}
 use Rattle.json_parts.specs.Indexed.{data_of, IsReadable}
 use Rattle.json_parts.specs.Walking.{depth_of, named_of, put_all}
@@ -41,19 +41,19 @@ and_then_some f (Some a) b e = (a, refl, e)
 
 -- ---- tokens and data
 
-data_is : (ts r : List Token) (j : Json) (d : Data) → value 127 ts ≡ Some (j, r) → of_json j ≡ Some d → data_of ts ≡ d
+data_is : (ts r : List Token) (j : Json) (d : Data) → value max_depth ts ≡ Some (j, r) → of_json j ≡ Some d → data_of ts ≡ d
 unfolding data_of
 data_is ts r j d is of = ap (λ o. unwrap_or (option_and_then (λ p. of_json p.0) o) null) is ∙ ap (λ o. unwrap_or o null) of
 
-depth_is : (ts r : List Token) (j : Json) → value 127 ts ≡ Some (j, r) → depth_of ts ≡ depth j
+depth_is : (ts r : List Token) (j : Json) → value max_depth ts ≡ Some (j, r) → depth_of ts ≡ depth j
 unfolding depth_of
 depth_is ts r j is = ap (λ o. unwrap_or (option_map (λ p. depth p.0) o) 0) is
 
-pub known : (ts : List Token) → IsReadable ts → (j : Json) × BeginsWith ts j × (depth j ≤ 127) × (of_json j ≡ Some (data_of ts)) × (depth_of ts ≡ depth j)
-known ts (j, r, d, is, of) = (j, (127, r, is), value-depth 127 ts r j is, of ∙ ap Some (sym (data_is ts r j d is of)), depth_is ts r j is)
+pub known : (ts : List Token) → IsReadable ts → (j : Json) × BeginsWith ts j × (depth j ≤ max_depth) × (of_json j ≡ Some (data_of ts)) × (depth_of ts ≡ depth j)
+known ts (j, r, d, is, of) = (j, (max_depth, r, is), value-depth max_depth ts r j is, of ∙ ap Some (sym (data_is ts r j d is of)), depth_is ts r j is)
 
-pub found : (ts : List Token) (j : Json) (d : Data) → BeginsWith ts j → depth j ≤ 127 → of_json j ≡ Some d → IsReadable ts × (data_of ts ≡ d) × (depth_of ts ≡ depth j)
-found ts j d (n, r, is) le of = let at = value_at n 127 ts r j is le in ((j, r, d, at, of), data_is ts r j d at of, depth_is ts r j at)
+pub found : (ts : List Token) (j : Json) (d : Data) → BeginsWith ts j → depth j ≤ max_depth → of_json j ≡ Some d → IsReadable ts × (data_of ts ≡ d) × (depth_of ts ≡ depth j)
+found ts j d (n, r, is) le of = let at = value_at n max_depth ts r j is le in ((j, r, d, at, of), data_is ts r j d at of, depth_is ts r j at)
 
 -- ---- the data of a value, by its kind
 

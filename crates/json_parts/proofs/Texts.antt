@@ -9,7 +9,7 @@ use Rattle.json.specs.Lex.{tokens}
 use Rattle.json.specs.Json.{Json, value, if_last, document}
 use Rattle.json.specs.Tree.{depth}
 use Rattle.json.proofs.Nesting.{value-depth}
-use Rattle.serde_json.specs.Read.{of_json, read}
+use Rattle.serde_json.specs.Read.{max_depth, of_json, read}
 use Rattle.json_parts.specs.Indexed.{json_of, data_of, IsReadable}
 use Rattle.json_parts.specs.Whole.{IsWhole}
 use Rattle.json_parts.proofs.Deeper.{value_at}
@@ -34,43 +34,43 @@ last None j e = not_found j e
 last (Some (i, [])) j e = ap (λ x. Some (x, [])) (Some_inj i j e)
 last (Some (i, t ∷ ts)) j e = not_found j e
 
-unread_from : (text : List ℕ) (o : Option (Json × List Token)) → value 127 (tokens text) ≡ o → ((j : Json) → value 127 (tokens text) ≡ Some (j, []) → of_json j ≡ None) → option_and_then of_json (whole o) ≡ None
+unread_from : (text : List ℕ) (o : Option (Json × List Token)) → value max_depth (tokens text) ≡ o → ((j : Json) → value max_depth (tokens text) ≡ Some (j, []) → of_json j ≡ None) → option_and_then of_json (whole o) ≡ None
 unread_from text None e h = refl
 unread_from text (Some (j, [])) e h = h j e
 unread_from text (Some (j, t ∷ ts)) e h = refl
 
 pub no_document : (text : List ℕ) → document text ≡ None → read text ≡ None
 no_document text none =
-    unread_from text (value 127 (tokens text)) refl
-    (λ j e. not_found j (sym none ∙ ap whole (value_at 127 128 (tokens text) [] j e (let le = value-depth 127 (tokens text) [] j e in omega (arith, le)))))
+    unread_from text (value max_depth (tokens text)) refl
+    (λ j e. not_found j (sym none ∙ ap whole (value_at max_depth 128 (tokens text) [] j e (let le = value-depth max_depth (tokens text) [] j e in omega (arith, le)))))
 
 absent : {A : Type 0} (o : Option A) → is_some o ≡ false → o ≡ None
 absent None e = refl
 absent (Some a) e = absurd (true≢false e)
 
-pub not_readable : (text : List ℕ) → ((j : Json) → IsWhole (tokens text) j → passes 127 j ≡ false) → read text ≡ None
+pub not_readable : (text : List ℕ) → ((j : Json) → IsWhole (tokens text) j → passes max_depth j ≡ false) → read text ≡ None
 not_readable text h =
-    unread_from text (value 127 (tokens text)) refl
+    unread_from text (value max_depth (tokens text)) refl
     (λ j e.
-    let le = value-depth 127 (tokens text) [] j e in
-    let near : nat_le (depth j) 127 ≡ true = grind (arith, le) in
-    absent (of_json j) (ap (λ b. b && is_some (of_json j)) (sym near) ∙ h j (127, e)))
+    let le = value-depth max_depth (tokens text) [] j e in
+    let near : nat_le (depth j) max_depth ≡ true = grind (arith, le) in
+    absent (of_json j) (ap (λ b. b && is_some (of_json j)) (sym near) ∙ h j (max_depth, e)))
 
 present : {A : Type 0} (o : Option A) → is_some o ≡ true → (a : A) × (o ≡ Some a)
 present None e = absurd (true≢false (sym e))
 present (Some a) e = (a, refl)
 
-readable_from : (text : List ℕ) (o : Option Json) → document text ≡ o → IsSome o → ((j : Json) → IsWhole (tokens text) j → passes 127 j ≡ true) → IsReadable (tokens text) × (read text ≡ Some (data_of (tokens text)))
+readable_from : (text : List ℕ) (o : Option Json) → document text ≡ o → IsSome o → ((j : Json) → IsWhole (tokens text) j → passes max_depth j ≡ true) → IsReadable (tokens text) × (read text ≡ Some (data_of (tokens text)))
 readable_from text None e some h = absurd (true≢false (sym some))
 readable_from text (Some j) e some h =
     let at : value 128 (tokens text) ≡ Some (j, []) = last (value 128 (tokens text)) j e in
-    let parts = and_parts (nat_le (depth j) 127) (is_some (of_json j)) (h j (128, at)) in
+    let parts = and_parts (nat_le (depth j) max_depth) (is_some (of_json j)) (h j (128, at)) in
     let d = present (of_json j) parts.1 in
     let near = parts.0 in
-    let le : depth j ≤ 127 = grind (arith, near) in
+    let le : depth j ≤ max_depth = grind (arith, near) in
     let r = found (tokens text) j d.0 (128, [], at) le d.1 in
-    let here = value_at 128 127 (tokens text) [] j at le in
+    let here = value_at 128 max_depth (tokens text) [] j at le in
     (r.0, ap (λ x. option_and_then of_json (whole x)) here ∙ d.1 ∙ ap Some (sym r.1))
 
-pub readable_text : (text : List ℕ) → IsSome (document text) → ((j : Json) → IsWhole (tokens text) j → passes 127 j ≡ true) → IsReadable (tokens text) × (read text ≡ Some (data_of (tokens text)))
+pub readable_text : (text : List ℕ) → IsSome (document text) → ((j : Json) → IsWhole (tokens text) j → passes max_depth j ≡ true) → IsReadable (tokens text) × (read text ≡ Some (data_of (tokens text)))
 readable_text text some h = readable_from text (document text) refl some h

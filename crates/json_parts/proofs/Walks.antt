@@ -9,7 +9,7 @@ use Rattle.json.specs.Find.{BeginsWith, InItems, InMembers, NextItem, Finds}
 use Rattle.json.specs.Tree.{depth, items_depth, members_depth}
 use Rattle.serde_json.specs.Data.{Data, Items, no_items, item, Members, no_members, member}
 use Rattle.serde_json.specs.Find.{get, as_null, as_array, as_object}
-use Rattle.serde_json.specs.Read.{of_json, of_items}
+use Rattle.serde_json.specs.Read.{max_depth, of_json, of_items}
 use Rattle.serde_json.specs.View.{items_of}
 use Rattle.json_parts.specs.Indexed.{data_of, IsReadable}
 use Rattle.json_parts.specs.Walking.{depth_of, named_of, ElementsAre, MembersAre, OpensArray, OpensObject, NextElement, NextMember}
@@ -70,11 +70,11 @@ Gets name d (Some ts) = IsReadable ts × (get name d ≡ Some (data_of ts))
 
 pub gets_at : (name : List ℕ) (ts : List Token) → IsReadable ts → (r : Option (List Token)) → ((j : Json) → BeginsWith ts j → Finds r (look.get name j)) → Gets name (data_of ts) r
 gets_at name ts read None h =
-    let k = known ts read in subst (λ o. Found 127 o None (get name (data_of ts))) (h k.0 k.1) (get_found name 127 k.0 (data_of ts) (kind k.0 (data_of ts) k.3) k.2)
+    let k = known ts read in subst (λ o. Found max_depth o None (get name (data_of ts))) (h k.0 k.1) (get_found name max_depth k.0 (data_of ts) (kind k.0 (data_of ts) k.3) k.2)
 gets_at name ts read (Some e) h =
     let k = known ts read in
     let o = h k.0 k.1 in
-    let f = subst (λ x. Found 127 x None (get name (data_of ts))) o.1 (get_found name 127 k.0 (data_of ts) (kind k.0 (data_of ts) k.3) k.2) in
+    let f = subst (λ x. Found max_depth x None (get name (data_of ts))) o.1 (get_found name max_depth k.0 (data_of ts) (kind k.0 (data_of ts) k.3) k.2) in
     let r = found e o.0 f.0 o.2 f.3 f.1 in
     (r.0, f.2 ∙ ap Some (sym r.1))
 

@@ -6,7 +6,7 @@ use Rattle.json.specs.Json.{Json, value}
 use Rattle.serde_json.specs.Data.{Data, null}
 use Rattle.serde_json.specs.Read.{of_json, max_depth, read}
 
--- the JSON value of UTF-8 bytes, nested at most 127 deep
+-- the JSON value of UTF-8 bytes, nested at most `max_depth` deep
 abbrev pub json_of : List ℕ → Option Data
 json_of bytes = if is_utf8 bytes then read bytes else None
 
@@ -14,7 +14,7 @@ json_of bytes = if is_utf8 bytes then read bytes else None
 unfoldable pub data_of : List Token → Data
 data_of ts = unwrap_or (option_and_then (λ p. of_json p.0) (value max_depth ts)) null
 
--- the tokens begin with a value that is read, nested at most 127 deep
+-- the tokens begin with a value that is read, nested at most `max_depth` deep
 abbrev pub IsReadable : List Token → Type 0
 IsReadable ts =
     (j : Json) × (rest : List Token) × (d : Data)

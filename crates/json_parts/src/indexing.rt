@@ -10,13 +10,14 @@ use json::{Invalid, Scratch};
 use std::alloc::Global;
 use std::marker::Model;
 
-/// The maximum depth of nested arrays and objects.
-const MAX_DEPTH: usize = 127;
+/// The maximum depth of nested arrays and objects. It is that of `serde_json`, whose definitions call it
+/// `max_depth`.
+pub const MAX_DEPTH: usize = 127;
 
 /// Why a string has no index.
 #[derive(Clone, Copy, Debug, PartialEq, Eq, Drop)]
 pub enum IndexFault {
-    /// It is not UTF-8 or not JSON, nests deeper than 127, or contains a number too large for a float.
+    /// It is not UTF-8 or not JSON, nests deeper than `MAX_DEPTH`, or contains a number too large for a float.
     NotJson,
     /// Memory ran out.
     OutOfMemory,
@@ -54,7 +55,7 @@ impl<'a> Model for Index<'a> {
 }
 
 /// Indexes a string; `scratch` keeps the strings with escapes. Returns `NotJson` if the bytes are not UTF-8 or not
-/// JSON, nest deeper than 127, or contain a number too large for a float; `OutOfMemory` if memory runs out.
+/// JSON, nest deeper than `MAX_DEPTH`, or contain a number too large for a float; `OutOfMemory` if memory runs out.
 pub fn index_text<'a>(
     alloc: Global,
     bytes: &'a [u8],

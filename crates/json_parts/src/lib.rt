@@ -16,7 +16,7 @@ mod together;
 mod walking;
 
 pub use around::{Around, text_around};
-pub use indexing::{Index, IndexFault, index_text};
+pub use indexing::{Index, IndexFault, MAX_DEPTH, index_text};
 pub use laws::{
     members_are_stripped, other_members_stay, stripping_before_or_after, the_member_goes,
 };

@@ -37,7 +37,7 @@ impl Counts {
 
     /// Counts one more result, which is the 4,294,967,295th at most.
     pub fn add(&mut self, state: State, level: Level, suppressed: bool)
-        requires { total_of self.old < 4294967295 }
+        requires { total_of self.old + 1 < 2 ^ 32 }
         ensures one { AddsOne self.old self.new state level suppressed }
         ensures total { total_of self.new ≡ total_of self.old + 1 }
     {
@@ -51,7 +51,7 @@ impl Counts {
 
     /// The counts of the results of both, which are 4,294,967,295 at most.
     pub fn plus(self, other: Counts) -> Counts
-        requires { total_of self + total_of other < 4294967296 }
+        requires { total_of self + total_of other < 2 ^ 32 }
         ensures both { AreOfBoth self other result }
         ensures total { total_of result ≡ total_of self + total_of other }
     {

@@ -1,5 +1,6 @@
 //! How a merge is done.
 ghost use Rattle.std.specs.Prelude.{◌≤◌};
+ghost use Rattle.sarif_model.specs.Limits.{most_workers};
 
 use crate::policy::Policy;
 use std::hash::RandomState;
@@ -12,12 +13,12 @@ pub struct Options {
     /// Today's date as YYYYMMDD, which decides whether suppressions have expired. Without it an entry with an
     /// expiry date is rejected.
     pub today: Option<u32>,
-    /// The number of worker threads, 1 to 64. They work in addition to the calling thread. For findings, counts
-    /// and reports the calling thread is one of them.
+    /// The number of worker threads, 1 to `MOST_WORKERS`. They work in addition to the calling thread. For findings,
+    /// counts and reports the calling thread is one of them.
     pub workers: u32,
     /// The seed of hash tables whose keys come from logs. No result depends on it. If the seed is secret, no log
     /// can make the tables slow.
     pub seed: RandomState,
     pub ghost some_workers: { 1 ≤ workers },
-    pub ghost few_workers: { workers ≤ 64 },
+    pub ghost few_workers: { workers ≤ most_workers },
 }

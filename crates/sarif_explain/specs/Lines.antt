@@ -6,6 +6,10 @@ use Rattle.sarif_findings.specs.Shown.{shown}
 abbrev pub line_of : List ℕ → List ℕ → List ℕ
 line_of name text = codes "  " ++ (name ++ (codes ": " ++ (shown (chars text) ++ codes "\n")))
 
+-- the most characters of a shown value
+abbrev pub most_of_a_value : ℕ
+most_of_a_value = 80
+
 -- at most that many characters, then `...` if there are more
 unfoldable pub shortened : ℕ → List ℕ → List ℕ
 shortened room [] = []

@@ -2,6 +2,7 @@
 use crate::advice::advice_on;
 use crate::lines::{push_line, push_number, shortened};
 use crate::misfit::Misfit;
+use crate::wanted::Wanted;
 use crate::whole::{misfit_of, wanted_by};
 use json_parts::without_mark;
 use sarif_model::{Cause, Fault, MergeFault};
@@ -31,15 +32,21 @@ fn push_found(alloc: Global, lines: &mut String, misfit: &Misfit<'_>) -> Result<
     }
 }
 
+/// Adds the sentence that says what is expected.
+fn push_sentence(alloc: Global, lines: &mut String, wanted: Wanted) -> Result<(), AllocError> {
+    let sentence = format!(in alloc; "{wanted}")?;
+    push_line(alloc, lines, "wanted", sentence.as_str())
+}
+
 /// Adds what is expected, with the member's name if the member is missing.
 fn push_wanted(alloc: Global, lines: &mut String, misfit: &Misfit<'_>) -> Result<(), AllocError> {
-    let sentence = misfit.wanted.sentence();
+    let wanted = misfit.wanted;
     match misfit.missing {
         Some(name) => {
-            let text = format!(in alloc; "the member {name}, {sentence}")?;
+            let text = format!(in alloc; "the member {name}, {wanted}")?;
             push_line(alloc, lines, "wanted", text.as_str())
         }
-        None => push_line(alloc, lines, "wanted", sentence),
+        None => push_sentence(alloc, lines, wanted),
     }
 }
 
@@ -64,7 +71,7 @@ fn push_stop(
         push_number(alloc, lines, "line", error.line())?;
         push_number(alloc, lines, "column", error.column())?;
     }
-    push_line(alloc, lines, "wanted", wanted_by(fault).sentence())
+    push_sentence(alloc, lines, wanted_by(fault))
 }
 
 /// Adds the position of the error, what was found there, and what is expected. Returns whether a member is missing.
@@ -75,7 +82,7 @@ fn push_spot(
     bytes: &[u8],
 ) -> Result<bool, AllocError> {
     let Cause::Of(wrong) = fault.cause else {
-        push_line(alloc, lines, "wanted", wanted_by(fault).sentence())?;
+        push_sentence(alloc, lines, wanted_by(fault))?;
         return Ok(false);
     };
     match Value::from_slice(alloc, without_mark(bytes)) {

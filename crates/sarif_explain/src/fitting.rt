@@ -1,13 +1,13 @@
 //! Which values are as expected.
 use crate::wanted::Wanted;
-use sarif_model::{Kind, Level, Status, read_guid};
+use sarif_model::{FIRST_DAY, Kind, LAST_DAY, Level, Status, read_guid};
 use serde_json::Value;
 
 /// Whether the number is a day yyyymmdd of the years 1000 to 9999, of a month 1 to 12 and a day 1 to 31.
-fn is_day(number: u64) -> bool {
+fn is_day(number: u32) -> bool {
     let month = number / 100 % 100;
     let day = number % 100;
-    matches!(number, 10_000_101..=99_991_231) && matches!(month, 1..=12) && matches!(day, 1..=31)
+    matches!(number, FIRST_DAY..=LAST_DAY) && matches!(month, 1..=12) && matches!(day, 1..=31)
 }
 
 /// Returns whether a string is one of the expected ones.
@@ -28,9 +28,9 @@ fn is_wanted_text(wanted: Wanted, text: &str) -> bool {
 /// Returns whether an integer is one of the expected ones.
 fn is_wanted_number(wanted: Wanted, number: i64) -> bool {
     match wanted {
-        Wanted::Index => matches!(number, -1..=4_294_967_295),
+        Wanted::Index => -1 <= number && number <= u32::MAX as i64,
         Wanted::FileVersion => matches!(number, 1 | 2 | 4),
-        Wanted::Day => match u64::try_from(number) {
+        Wanted::Day => match u32::try_from(number) {
             Ok(day) => is_day(day),
             Err(_) => false,
         },

@@ -1,4 +1,9 @@
 //! What is expected instead of the invalid value: the table of sentences.
+use json_parts::MAX_DEPTH;
+use sarif_model::{
+    FIRST_DAY, LAST_DAY, MOST_BYTES, MOST_ENTRIES, MOST_RESULTS, MOST_RUNS, MOST_SOURCES,
+};
+use std::fmt;
 
 /// What is expected of a value, or of a whole source.
 #[derive(Clone, Copy, Debug, PartialEq, Eq)]
@@ -51,10 +56,9 @@ pub(crate) enum Wanted {
 }
 
 impl Wanted {
-    /// The sentence that says what is expected.
-    pub(crate) fn sentence(self) -> &'static str {
+    /// The sentence that says what is expected; empty for the sentences that contain a limit, which `fmt` writes.
+    fn sentence(self) -> &'static str {
         match self {
-            Wanted::Json => "JSON in UTF-8, nested at most 127 deep",
             Wanted::Log => "an object with runs, an array or null",
             Wanted::Runs => "an array of runs, or null",
             Wanted::LogVersion => "the string 2.1.0",
@@ -80,7 +84,6 @@ impl Wanted {
                 "no baselineState, or one other than absent: a log may contain only current \
                  results"
             }
-            Wanted::Index => "an integer from -1 to 4294967295",
             Wanted::Extension => "the index of one of the extensions of the tool, or -1",
             Wanted::Rule => "the index of one of the rules of the component, or -1",
             Wanted::Invocation => "the index of one of the invocations of the run, or -1",
@@ -101,23 +104,44 @@ impl Wanted {
                  partialFingerprints, message, messageId, messageArguments, expires, status and \
                  justification"
             }
-            Wanted::Day => "a date as the integer YYYYMMDD, from 10000101 to 99991231",
             Wanted::Condition => {
                 "at least one of tool, ruleId, uri, uriPrefix, guid, fingerprints, \
                  partialFingerprints, message, messageId and messageArguments"
             }
             Wanted::Today => "today's date, since the entry has an expiry date",
-            Wanted::FewRuns => {
-                "at most 1000 logs and 1000 baselines, with at most 10000 runs and 1000000 \
-                 results in all"
-            }
-            Wanted::FewResults => "at most 1000000 results",
-            Wanted::FewEntries => "at most 10000 entries",
-            Wanted::FewBytes => "at most 67108864 bytes",
             Wanted::Readable => "a file that exists and can be read to its end",
             Wanted::Writable => "a file that can be written, and enough room on the disk",
             Wanted::Memory => "enough memory for the inputs and the outputs",
             Wanted::Threads => "as many threads as --workers requests",
+            Wanted::Json
+            | Wanted::Index
+            | Wanted::Day
+            | Wanted::FewRuns
+            | Wanted::FewResults
+            | Wanted::FewEntries
+            | Wanted::FewBytes => "",
+        }
+    }
+}
+
+impl fmt::Display for Wanted {
+    fn fmt<W: fmt::Write>(&self, f: &mut fmt::Formatter<W>) -> fmt::Result {
+        match *self {
+            Wanted::Json => write!(f, "JSON in UTF-8, nested at most {MAX_DEPTH} deep"),
+            Wanted::Index => write!(f, "an integer from -1 to {}", u32::MAX),
+            Wanted::Day => write!(
+                f,
+                "a date as the integer YYYYMMDD, from {FIRST_DAY} to {LAST_DAY}"
+            ),
+            Wanted::FewRuns => write!(
+                f,
+                "at most {MOST_SOURCES} logs and {MOST_SOURCES} baselines, with at most \
+                 {MOST_RUNS} runs and {MOST_RESULTS} results in all"
+            ),
+            Wanted::FewResults => write!(f, "at most {MOST_RESULTS} results"),
+            Wanted::FewEntries => write!(f, "at most {MOST_ENTRIES} entries"),
+            Wanted::FewBytes => write!(f, "at most {MOST_BYTES} bytes"),
+            wanted => f.write_str(wanted.sentence()),
         }
     }
 }

@@ -6,6 +6,7 @@ use Rattle.serde_json.specs.Data.{Data}
 use Rattle.sarif_findings.specs.Message.{index_from, takes_digit, filled, filled_from, piece_of}
 use Rattle.sarif_findings.specs.declared.shown_text.ShownText.{ShownText}
 use Rattle.sarif_findings.specs.ShownSoFar.{shown_with, Takes}
+use Rattle.sarif_findings.specs.Message.{least_of_nine_digits}
 
 -- ---- the number of an argument
 
@@ -22,7 +23,7 @@ digit_goes_on n k c cs other digit = rw (ne_eqb c 125 other, digit)
 pub other_stops : (n k c : ℕ) (cs : List ℕ) → (c ≡ 125 → ⊥) → takes_digit n k c ≡ false → index_from n k (c ∷ cs) ≡ None
 other_stops n k c cs other digit = rw (ne_eqb c 125 other, digit)
 
-pub number_small : (n c : ℕ) → n < 100000000 → c ≤ 57 → n * 10 + (c - 48) < 1000000000
+pub number_small : (n c : ℕ) → n < least_of_nine_digits → c ≤ 57 → n * 10 + (c - 48) < 1000000000
 number_small n c room digit = omega arith
 
 pub count_small : (n k : ℕ) → n < 1000000000 → k ≤ n + 1 → k ≤ 1000000000

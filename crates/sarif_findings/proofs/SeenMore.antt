@@ -4,6 +4,7 @@ use mathlib.Core.Bool.{and-false}
 use Rattle.std.proofs.lemmas.Bool.{and_parts, and_from, or_from, or_parts}
 use Rattle.sarif_findings.specs.Shown.{is_concealed, plain, parted_signs, kept, shown_chars}
 use Rattle.sarif_findings.specs.ShownLaws.{is_seen, are_seen, has_two_signs}
+use Rattle.sarif_findings.specs.Shown.{most_characters}
 
 -- ---- no character is concealed
 
@@ -39,7 +40,7 @@ kept_seen (suc room) (c ∷ cs) h =
     and_from (is_seen c) (are_seen (kept room cs)) parts.0 (kept_seen room cs parts.1)
 
 pub shown_seen : (cs : List ℕ) → are_seen (shown_chars cs) ≡ true
-shown_seen cs = kept_seen 1000 (parted_signs false (map plain cs)) (parted_seen false (map plain cs) (map_seen cs))
+shown_seen cs = kept_seen most_characters (parted_signs false (map plain cs)) (parted_seen false (map plain cs) (map_seen cs))
 
 -- ---- no two signs together
 
@@ -63,4 +64,4 @@ kept_apart after (suc room) (c ∷ cs) h =
     or_from (after && c == 35) (has_two_signs (c == 35) (kept room cs)) parts.0 (kept_apart (c == 35) room cs parts.1)
 
 pub shown_apart : (cs : List ℕ) → has_two_signs false (shown_chars cs) ≡ false
-shown_apart cs = kept_apart false 1000 (parted_signs false (map plain cs)) (parted_apart false (map plain cs))
+shown_apart cs = kept_apart false most_characters (parted_signs false (map plain cs)) (parted_apart false (map plain cs))

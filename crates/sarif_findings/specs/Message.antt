@@ -54,8 +54,12 @@ arguments_of result = arguments_in (get (codes "message") result)
 
 -- ---- placeholders
 
+-- a smaller number has at most eight digits
+abbrev pub least_of_nine_digits : ℕ
+least_of_nine_digits = 100000000
+
 abbrev pub takes_digit : ℕ → ℕ → ℕ → Bool
-takes_digit n count c = is_ascii_digit c && (nat_lt n 100000000 && (count == 0 || not (n == 0)))
+takes_digit n count c = is_ascii_digit c && (nat_lt n least_of_nine_digits && (count == 0 || not (n == 0)))
 
 -- the number before the next `}`, with its count of digits: at most nine digits, and no leading 0. n is the number
 -- that the first `count` digits represent

@@ -45,9 +45,13 @@ kept room [] = []
 kept zero (c ∷ cs) = 0x2026 ∷ []
 kept (suc room) (c ∷ cs) = c ∷ kept room cs
 
+-- the most characters of a shown string
+abbrev pub most_characters : ℕ
+most_characters = 1000
+
 -- the three in turn
 abbrev pub shown_chars : List ℕ → List ℕ
-shown_chars cs = kept 1000 (parted_signs false (map plain cs))
+shown_chars cs = kept most_characters (parted_signs false (map plain cs))
 
 -- the bytes of these characters as they are shown
 abbrev pub shown : List ℕ → List ℕ

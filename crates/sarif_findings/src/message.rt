@@ -105,15 +105,18 @@ fn arguments_of(found: &Value) -> &[Value]
     }
 }
 
+/// The least number of nine digits, which are the most digits of the number of an argument.
+const LEAST_OF_NINE_DIGITS: u32 = 100_000_000;
+
 /// Whether a character is one more digit of an argument's number.
 fn takes_digit(number: u32, count: u32, c: char) -> bool
     ensures said { result ≡ said.takes_digit number count c }
     ensures low { OnTrue result (48 ≤ c) }
     ensures high { OnTrue result (c ≤ 57) }
-    ensures room { OnTrue result (number < 100000000) }
+    ensures room { OnTrue result (number < said.least_of_nine_digits) }
     ensures first { OnTrue result (0 < count → 0 < number) }
 {
-    c.is_ascii_digit() && number < 100_000_000 && (count == 0 || number != 0)
+    c.is_ascii_digit() && number < LEAST_OF_NINE_DIGITS && (count == 0 || number != 0)
 }
 
 /// The number of an argument before the next `}`, and its count of digits.

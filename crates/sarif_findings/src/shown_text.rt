@@ -1,4 +1,4 @@
-//! What a report shows of a log's text: one line, no character that hides or steers, and at most 1,000.
+//! What a report shows of a log's text: one line, no character that hides or steers, and at most `MOST_CHARACTERS`.
 ghost use Rattle.std.specs.Prelude.{◌≡◌, ℕ, List, ◌∷◌, ◌++◌, [], OnOk, IfOk, true, false, chars, string_bytes};
 ghost use Rattle.std.specs.Prelude.{encode_utf8_all, if◌then◌else◌, Bool};
 ghost use Rattle.std.specs.List.{list_all};
@@ -205,7 +205,7 @@ impl ShownText {
     }
 }
 
-/// Returns a string as it is shown: one line of at most 1,000 characters, none of which hides or controls others,
+/// Returns a string as it is shown: one line of at most `MOST_CHARACTERS` characters, none of which hides or controls others,
 /// followed by `…` if there were more. Returns `AllocError` if memory for it runs out.
 pub fn shown(alloc: Global, text: &str) -> Result<String, AllocError>
     ensures { IfOk result (λ s. string_bytes s ≡ said.shown (chars text.now)) }

@@ -130,7 +130,7 @@ fn position_in(physical: &Value, name: &str) -> Option<u32>
         (get (codes "region") (view physical.now))) }
 {
     let number = number_in(physical.get("region")?, name)?;
-    if 1 <= number && number < 4_294_967_296 {
+    if 1 <= number && number <= u32::MAX as u64 {
         Some(number as u32)
     } else {
         None

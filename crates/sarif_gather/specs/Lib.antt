@@ -10,6 +10,7 @@ pub mod Held
 pub mod Honest
 pub mod Lawful
 pub mod Laws
+pub mod Limits
 pub mod Numbers
 pub mod Piece
 pub mod Pieces

@@ -5,6 +5,7 @@ ghost use Rattle.std.specs.Vec.{vec_capacity};
 ghost use Rattle.sarif_gather.specs.Held.{empty_run, closed_run, first_open};
 ghost use Rattle.sarif_gather.specs.Slot.{held_of, whole_of};
 ghost use Rattle.sarif_gather.specs.Collecting.{refusal_of, with_piece, IsReason};
+ghost use Rattle.sarif_gather.specs.Limits.{most_runs};
 
 use crate::lists::Lists;
 use crate::numbered::Numbered;
@@ -37,10 +38,10 @@ impl<T, C> Model for Collector<T, C> {
 }
 
 impl<T: Drop, C: Drop> Collector<T, C> {
-    /// Returns a collector of `runs` runs, at most 10,000, all of them open and without items. Returns
+    /// Returns a collector of `runs` runs, at most `most_runs`, all of them open and without items. Returns
     /// `AllocError` if memory for it runs out.
     pub fn new(alloc: Global, runs: u32) -> Result<Self, AllocError>
-        requires { runs ≤ 10000 }
+        requires { runs ≤ most_runs }
         ensures { IfOk result (λ c. c ≡ replicate runs empty_run) }
     {
         let mut slots = Vec::with_capacity(alloc, runs as usize)?;

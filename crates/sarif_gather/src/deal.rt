@@ -4,6 +4,7 @@ ghost use Rattle.std.specs.Prelude.{IfOk, IfSome, IfNone, IsNone};
 ghost use Rattle.sarif_gather.specs.Claims.{times, total, once_below};
 ghost use Rattle.sarif_gather.specs.Hands.{IsSeatOf, IsHandOf, AreNewHands, AreAllHands};
 ghost use Rattle.sarif_gather.specs.Hands.{drawn_by, runs_dealt, is_marked, joined};
+ghost use Rattle.sarif_gather.specs.Limits.{most_hands, most_runs};
 
 mod hand;
 mod rule;
@@ -17,11 +18,11 @@ pub use state::Deal;
 use std::alloc::{AllocError, Global};
 
 impl Deal {
-    /// Returns a deal of `runs` runs, at most 10,000, and all its hands, of which there are `hands`, 1 to 64.
+    /// Returns a deal of `runs` runs, at most `most_runs`, and all its hands: `hands` of them, 1 to `most_hands`.
     /// Returns `AllocError` if memory for them runs out.
     pub fn new(alloc: Global, runs: u32, hands: u32) -> Result<(Self, Vec<Hand>), AllocError>
-        requires runs { runs ≤ 10000 }
-        requires hands { (1 ≤ hands) × (hands ≤ 64) }
+        requires runs { runs ≤ most_runs }
+        requires hands { (1 ≤ hands) × (hands ≤ most_hands) }
         ensures { IfOk result (λ d. AreNewHands runs hands d.0 d.1.items) }
     {
         let mut all = Vec::with_capacity(alloc, hands as usize)?;

@@ -8,6 +8,7 @@ ghost use Rattle.sarif_gather.specs.Hands.{IsHandOf, drawn_by};
 ghost use Rattle.sarif_gather.specs.Served.{IsServed};
 ghost use Rattle.sarif_gather.specs.Gathered.{IsGathered};
 ghost use Rattle.sarif_gather.specs.Pieces.{lists_of};
+ghost use Rattle.sarif_gather.specs.Limits.{most_hands, most_room};
 
 mod crew;
 mod receiving;
@@ -229,8 +230,8 @@ fn parted<P: Drop>(
     Ok((posts, hands))
 }
 
-/// Makes all runs of a work in `workers` threads, 1 to 64, over a mailbox with room for `room` parcels, 1 to
-/// 4,096, and returns their items in order. `observer` sees each item. Returns `NoWorker` if a thread cannot be
+/// Makes all runs of a work in `workers` threads, 1 to `most_hands`, over a mailbox with room for `room` parcels,
+/// 1 to `most_room`, and returns their items in order. `observer` sees each item. Returns `NoWorker` if a thread cannot be
 /// started; `OutOfMemory` if memory runs out, including the memory of a worker for its items.
 pub fn gather<W: Work + Sync, G: Gate + Sync, R: Threads + Wait + Sync>(
     rt: &R,
@@ -240,8 +241,8 @@ pub fn gather<W: Work + Sync, G: Gate + Sync, R: Threads + Wait + Sync>(
     room: u32,
     observer: &G,
 ) -> Result<Lists<W::Item, W::Tail>, GatherFault>
-    requires workers { (1 ≤ workers) × (workers ≤ 64) }
-    requires room { (1 ≤ room) × (room ≤ 4096) }
+    requires workers { (1 ≤ workers) × (workers ≤ most_hands) }
+    requires room { (1 ≤ room) × (room ≤ most_room) }
     ensures { IfOk result (λ lists. lists ≡ lists_of (W.count work.now) (W.item work.now)
         (W.end work.now) (W.run_count work.now)) }
 {

@@ -1,6 +1,7 @@
 //! A bounded mailbox for many senders and one taker.
 ghost use Rattle.std.specs.Prelude.{◌≡◌, ◌≤◌, ◌<◌, [], ◌∷◌, ◌++◌, OnOk, IfOk, IfErr, MatchOption};
 ghost use Rattle.sarif_gather.specs.Ends.{IsPostOf, IsDeskOf, AreNew, number_of, sent_by, taken_by};
+ghost use Rattle.sarif_gather.specs.Limits.{most_hands, most_room};
 
 mod ends;
 mod rule;
@@ -35,15 +36,15 @@ pub struct Full<P> {
 }
 
 impl<P: Drop> Mailbox<P> {
-    /// Returns a mailbox that holds `room` parcels, 1 to 4,096, a post for each of `senders` senders, 1 to 64, in
-    /// order, and the receiver's desk. Returns `AllocError` if memory for them runs out.
+    /// Returns a mailbox that holds `room` parcels, 1 to `most_room`, a post for each of `senders` senders, 1 to
+    /// `most_hands`, in order, and the receiver's desk. Returns `AllocError` if memory for them runs out.
     pub fn new(
         alloc: Global,
         room: u32,
         senders: u32,
     ) -> Result<(Self, Vec<Post<P>>, Desk<P>), AllocError>
-        requires room { (1 ≤ room) × (room ≤ 4096) }
-        requires senders { (1 ≤ senders) × (senders ≤ 64) }
+        requires room { (1 ≤ room) × (room ≤ most_room) }
+        requires senders { (1 ≤ senders) × (senders ≤ most_hands) }
         ensures { IfOk result (λ m. AreNew room senders m.0 m.1.items m.2) }
     {
         let mut posts = Vec::with_capacity(alloc, senders as usize)?;

@@ -5,6 +5,7 @@ ghost use Rattle.sarif_gather.specs.declared.piece.Why.TheVariants.{OutOfMemory}
 ghost use Rattle.sarif_gather.specs.Arriving.{IsFirstFault};
 ghost use Rattle.sarif_gather.specs.Held.{empty_run};
 ghost use Rattle.sarif_gather.specs.Lawful.{IsLawful, assembled};
+ghost use Rattle.sarif_gather.specs.Limits.{most_runs};
 
 use crate::collector::Collector;
 use crate::lists::Lists;
@@ -29,7 +30,7 @@ pub fn collect<T: Drop, C: Drop>(
     runs: u32,
     arrivals: Vec<Piece<T, C>>,
 ) -> Result<Lists<T, C>, CollectFault>
-    requires runs { runs ≤ 10000 }
+    requires runs { runs ≤ most_runs }
     requires few { vec_len arrivals < 2 ^ 32 }
     ensures lawful { IfOk result (λ lists. IsLawful runs arrivals.items
         × (lists ≡ assembled runs arrivals.items)) }

@@ -1,5 +1,6 @@
 //! What workers do, and who observes them.
 ghost use Rattle.std.specs.Prelude.{◌≡◌, ◌≤◌, ◌<◌, ℕ, IfOk};
+ghost use Rattle.sarif_gather.specs.Limits.{most_runs};
 
 use std::alloc::{AllocError, Global};
 
@@ -58,8 +59,8 @@ pub trait Work {
         ensures { (run : ℕ) → run < run_count self.now → IsHeadOf self.now run head
             → result ≡ end self.now run };
 
-    // A work has at most 10,000 runs.
-    ghost few: { (w : Self) → run_count w ≤ 10000 };
+    // A work has at most `most_runs` runs.
+    ghost few: { (w : Self) → run_count w ≤ most_runs };
 }
 
 /// Observes a work while it is gathered. No result depends on it.

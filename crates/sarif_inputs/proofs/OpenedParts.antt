@@ -14,6 +14,7 @@ use Rattle.sarif_inputs.specs.Runs.{AreRunsOf}
 use Rattle.sarif_inputs.specs.SourceFaults.{source_faults}
 use Rattle.sarif_inputs.proofs.ReadFacts.{placed-append, front, back}
 use Rattle.sarif_inputs.proofs.SourceRuns.{total_append}
+use Rattle.sarif_model.specs.Limits.{most_results, most_runs, most_sources}
 
 module _ (ls bs : List (List ℕ)) (all : List OpenedRun) (n : ℕ) (are : map placed_of all ≡ placed (sources_of ls bs)) (count : n ≡ length (placed (numbered Log 0 ls))) where
   pub logs_within : n ≤ length all
@@ -27,15 +28,15 @@ module _ (ls bs : List (List ℕ)) (all : List OpenedRun) (n : ℕ) (are : map p
   pub runs_of_baselines : map placed_of (drop n all) ≡ placed (numbered Baseline 0 bs)
   runs_of_baselines = sym (drop-map placed_of n all) ∙ back (map placed_of all) n (numbered Log 0 ls) (numbered Baseline 0 bs) are count
 
-  few_in_parts : length all ≤ 10000 → length (take n all) + length (drop n all) ≤ 10000
+  few_in_parts : length all ≤ most_runs → length (take n all) + length (drop n all) ≤ most_runs
   few_in_parts few =
       let both = ap length (are ∙ placed-append (numbered Log 0 ls) (numbered Baseline 0 bs)) ∙ length-append (placed (numbered Log 0 ls)) (placed (numbered Baseline 0 bs)) in
       let logs = ap length runs_of_logs in
       let baselines = ap length runs_of_baselines in
       omega (arith, few, both, logs, baselines, length-map all placed_of, length-map (take n all) placed_of, length-map (drop n all) placed_of)
 
-  results_in_parts : results_total (run_values (map placed_of all)) ≤ 1000000
-      → results_total (run_values (map placed_of (take n all))) + results_total (run_values (map placed_of (drop n all))) ≤ 1000000
+  results_in_parts : results_total (run_values (map placed_of all)) ≤ most_results
+      → results_total (run_values (map placed_of (take n all))) + results_total (run_values (map placed_of (drop n all))) ≤ most_results
   results_in_parts few =
       let now = placed (numbered Log 0 ls) in
       let before = placed (numbered Baseline 0 bs) in
@@ -47,8 +48,8 @@ module _ (ls bs : List (List ℕ)) (all : List OpenedRun) (n : ℕ) (are : map p
 
   -- the two parts are the runs of logs and of baselines
   pub are_runs : (runs : Runs) → runs.current.items ≡ take n all → runs.baseline.items ≡ drop n all
-      → length all ≤ 10000 → results_total (run_values (map placed_of all)) ≤ 1000000
-      → length ls ≤ 1000 → length bs ≤ 1000 → source_faults 0 0 (sources_of ls bs) ≡ []
+      → length all ≤ most_runs → results_total (run_values (map placed_of all)) ≤ most_results
+      → length ls ≤ most_sources → length bs ≤ most_sources → source_faults 0 0 (sources_of ls bs) ≡ []
       → AreRunsOf ls bs runs
   are_runs runs first second few few_results few_ls few_bs none = record {
     current = ap (map placed_of) first ∙ runs_of_logs;

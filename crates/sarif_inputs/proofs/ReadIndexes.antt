@@ -23,12 +23,13 @@ use Rattle.sarif_model.specs.declared.merge_fault.Source.{Source}
 use Rattle.sarif_model.specs.FirstFault.{first, IsWanting}
 use Rattle.sarif_inputs.specs.SourceFaults.{reading_faults, fault_of_reading}
 use Rattle.sarif_inputs.specs.Parsed.{Parsed, IsParsedFrom}
+use Rattle.sarif_model.specs.Limits.{most_results, most_runs}
 
 pub read_of_index : (bytes : List ℕ) (found : List Token) (r : Parsed)
     → json_of (without_mark bytes) ≡ Some (data_of found)
     → IfOk r (λ runs. log_of_value (stripped (data_of found)) ≡ Ok (map run_of runs.items))
-    → IfOk r (λ runs. results_total (map run_of runs.items) ≤ 1000000)
-    → IfOk r (λ runs. length runs.items ≤ 10000)
+    → IfOk r (λ runs. results_total (map run_of runs.items) ≤ most_results)
+    → IfOk r (λ runs. length runs.items ≤ most_runs)
     → IfFault r (λ e. log_of_value (stripped (data_of found)) ≡ Err e)
     → IsParsedFrom bytes r
 read_of_index bytes found (Ok runs) is ok few few_runs err = record {

@@ -13,18 +13,19 @@ use Rattle.sarif_inputs.specs.Inputs.{Inputs, all_sources, all_runs}
 use Rattle.sarif_inputs.specs.SourceFaults.{source_faults}
 use Rattle.sarif_runs.specs.Judging.{faults_of_runs}
 use Rattle.sarif_model.specs.FirstFault.{first}
+use Rattle.sarif_model.specs.Limits.{most_sources}
 
--- more than 1,000 sources of a kind
+-- too many sources of a kind: the first past the limit
 abbrev pub number_faults : (ℕ → Source) → List (List ℕ) → List MergeFault
 number_faults name sources =
-    if nat_lt 1000 (length sources) then fault_at (Whole (name 1000)) (cause_of TooMany) ∷ [] else []
+    if nat_lt most_sources (length sources) then fault_at (Whole (name most_sources)) (cause_of TooMany) ∷ [] else []
 
--- more than 1,000 logs, or otherwise more than 1,000 baselines
+-- too many logs, or otherwise too many baselines
 abbrev pub IsTooMany : ℕ → ℕ → MergeFault → Type 0
 IsTooMany logs baselines fault =
-    ((1000 < logs) × (fault ≡ record { at = Whole (Log 1000); cause = cause_of TooMany }))
-    ⊎ ((logs ≤ 1000) × (1000 < baselines)
-    × (fault ≡ record { at = Whole (Baseline 1000); cause = cause_of TooMany }))
+    ((most_sources < logs) × (fault ≡ record { at = Whole (Log most_sources); cause = cause_of TooMany }))
+    ⊎ ((logs ≤ most_sources) × (most_sources < baselines)
+    × (fault ≡ record { at = Whole (Baseline most_sources); cause = cause_of TooMany }))
 
 -- the suppression file, if there is one; without it there are no entries
 abbrev pub file_or_none : Option (List ℕ) → Option ℕ → Result File FileFault

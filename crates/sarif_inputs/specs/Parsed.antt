@@ -14,6 +14,7 @@ use Rattle.sarif_read.specs.declared.indexed_run.IndexedRun.{IndexedRun}
 use Rattle.sarif_read.specs.declared.read_fault.ReadFault.{ReadFault}
 use Rattle.sarif_model.specs.declared.refusal.Refusal.{Refusal}
 use Rattle.sarif_model.specs.Refusal.{IfFault}
+use Rattle.sarif_model.specs.Limits.{most_results, most_runs}
 
 -- the runs of a log, or why it was not read
 abbrev pub Parsed : Type 0
@@ -22,8 +23,8 @@ Parsed = Result (Vec IndexedRun Global) (Refusal ReadFault)
 -- the log of these bytes, within the limits of one log, or its first error, or out of memory
 pub record IsParsedFrom (bytes : List ℕ) (parsed : Parsed) : Type 0 where
   pub ok : IfOk parsed (λ log. log_of bytes ≡ Ok (map run_of log.items))
-  pub few_runs : IfOk parsed (λ log. length log.items ≤ 10000)
-  pub few_results : IfOk parsed (λ log. results_total (map run_of log.items) ≤ 1000000)
+  pub few_runs : IfOk parsed (λ log. length log.items ≤ most_runs)
+  pub few_results : IfOk parsed (λ log. results_total (map run_of log.items) ≤ most_results)
   pub err : IfFault parsed (λ e. log_of bytes ≡ Err e)
 
 -- this was read from each of these sources

@@ -12,12 +12,13 @@ use Rattle.sarif_inputs.specs.Inputs.{Sourced, numbered, readable}
 use Rattle.sarif_runs.specs.Judging.{run_values}
 use Rattle.sarif_inputs.specs.ReadRun.{placed_read}
 use Rattle.sarif_inputs.specs.SourceFaults.{reading_faults, limit_faults}
+use Rattle.sarif_model.specs.Limits.{most_results, most_runs}
 
 -- the runs and their results are within the limits, and the results are counted
 abbrev pub IsCounted : Reading → Type 0
 IsCounted reading =
-    (length reading.runs.items ≤ 10000)
-    × (reading.results ≤ 1000000)
+    (length reading.runs.items ≤ most_runs)
+    × (reading.results ≤ most_results)
     × (reading.results ≡ results_total (run_values (map placed_read reading.runs.items)))
 
 -- the errors of a source with this content, after this many runs and results

@@ -8,15 +8,16 @@ use Rattle.sarif_runs.specs.Judging.{run_values}
 use Rattle.sarif_inputs.specs.Inputs.{numbered, placed}
 use Rattle.sarif_inputs.specs.ReadSoFar.{sources_of}
 use Rattle.sarif_inputs.specs.SourceFaults.{source_faults}
+use Rattle.sarif_model.specs.Limits.{most_results, most_runs, most_sources}
 
 -- these are the runs of logs and baselines without errors
 pub record AreRunsOf (logs baselines : List (List ℕ)) (runs : Runs) : Type 0 where
   pub current : map placed_of runs.current.items ≡ placed (numbered Log 0 logs)
   pub baseline : map placed_of runs.baseline.items ≡ placed (numbered Baseline 0 baselines)
-  pub few : length runs.current.items + length runs.baseline.items ≤ 10000
+  pub few : length runs.current.items + length runs.baseline.items ≤ most_runs
   pub few_results : results_total (run_values (map placed_of runs.current.items))
       + results_total (run_values (map placed_of runs.baseline.items))
-      ≤ 1000000
-  pub few_logs : length logs ≤ 1000
-  pub few_baselines : length baselines ≤ 1000
+      ≤ most_results
+  pub few_logs : length logs ≤ most_sources
+  pub few_baselines : length baselines ≤ most_sources
   pub faultless : source_faults 0 0 (sources_of logs baselines) ≡ []

@@ -11,6 +11,7 @@ use Rattle.sarif_model.specs.declared.fault.Fault.TheVariants.{TooMany}
 use Rattle.sarif_model.specs.declared.merge_fault.MergeFault.{MergeFault}
 use Rattle.sarif_model.specs.MergeFault.{cause_of, fault_at}
 use Rattle.sarif_inputs.specs.Inputs.{Sourced, runs_in}
+use Rattle.sarif_model.specs.Limits.{most_results, most_runs}
 
 -- the place of an error of reading: the run that it names, otherwise the whole source
 abbrev pub place_of_reading : Source → Option ℕ → At
@@ -24,9 +25,9 @@ abbrev pub reading_faults : Source → Result (List Data) ReadFault → List Mer
 reading_faults source (Ok runs) = []
 reading_faults source (Err fault) = fault_of_reading source fault ∷ []
 
--- more than 10,000 runs, or more than 1,000,000 results
+-- too many runs, or too many results
 abbrev pub is_past_limits : ℕ → ℕ → Bool
-is_past_limits runs results = nat_lt 10000 runs || nat_lt 1000000 results
+is_past_limits runs results = nat_lt most_runs runs || nat_lt most_results results
 
 abbrev pub limit_faults : Source → ℕ → ℕ → List MergeFault
 limit_faults source runs results =

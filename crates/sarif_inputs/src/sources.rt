@@ -18,22 +18,21 @@ ghost use Rattle.sarif_inputs.specs.ReadRun.{placed_read};
 ghost use Rattle.sarif_inputs.specs.ReadSoFar.{IsCounted, faults_with, sources_of};
 ghost use Rattle.sarif_inputs.specs.Runs.{AreRunsOf};
 ghost use Rattle.sarif_inputs.specs.SourceFaults.{fault_of_reading, reading_faults, limit_faults, source_faults};
+ghost use Rattle.sarif_model.specs.Limits.{most_results, most_runs, most_sources};
 
 use crate::opening::open_each;
 use crate::read_run::ReadRun;
 use crate::reading::{ReadLog, read_kinds};
 use json_parts::{Index, IndexFault};
 use sarif_model::{
-    At, Cause, Fault, MOST_RESULTS, MOST_RUNS, MergeFault, Refusal, Source, SourceKind,
+    At, Cause, Fault, MOST_RESULTS, MOST_RUNS, MOST_SOURCES, MergeFault, Refusal, Source,
+    SourceKind,
 };
 use sarif_read::{IndexedRun, ReadFault, read_runs_hold_no_fraction};
 use sarif_runs::OpenedRun;
 use std::alloc::{AllocError, Global};
 use std::hash::RandomState;
 use std::thread::Threads;
-
-/// How many sources of each kind a merge may have.
-const MOST_SOURCES: usize = 1_000;
 
 /// The runs of all sources of a merge, opened.
 #[derive(Drop)]
@@ -52,21 +51,21 @@ struct AllRuns<'t, 'a> {
     inputs: u32,
 }
 
-/// At most 1,000 logs and 1,000 baselines: otherwise returns `TooMany` at the first log past the limit, or else at
-/// the first baseline past it.
+/// At most `MOST_SOURCES` logs and as many baselines: otherwise returns `TooMany` at the first log past the limit,
+/// or else at the first baseline past it.
 pub fn check_numbers(logs: usize, baselines: usize) -> Result<(), MergeFault>
     ensures faults { (ls bs : List (List ℕ)) → length ls ≡ logs → length bs ≡ baselines
         → Answers (number_faults Source.Log ls ++ number_faults Source.Baseline bs) result }
     ensures too_many { IfErr result (IsTooMany logs baselines) }
-    ensures few_logs { OnOk result (logs ≤ 1000) }
-    ensures few_baselines { OnOk result (baselines ≤ 1000) }
+    ensures few_logs { OnOk result (logs ≤ most_sources) }
+    ensures few_baselines { OnOk result (baselines ≤ most_sources) }
     ensures quiet { IsQuiet result }
 {
     if logs > MOST_SOURCES {
-        return Err(too_many(Source::Log(1_000)));
+        return Err(too_many(Source::Log(MOST_SOURCES as u32)));
     }
     if baselines > MOST_SOURCES {
-        return Err(too_many(Source::Baseline(1_000)));
+        return Err(too_many(Source::Baseline(MOST_SOURCES as u32)));
     }
     Ok(())
 }
@@ -108,11 +107,11 @@ fn log_of_source<'t, 'a>(
     }
 }
 
-/// At most 10,000 runs and 1,000,000 results in the sources up to this one: otherwise returns `TooMany` at it.
+/// At most `MOST_RUNS` runs and `MOST_RESULTS` results in the sources up to this one: otherwise returns `TooMany` at it.
 fn check_limits(source: Source, runs: usize, results: u32) -> Result<(), MergeFault>
     ensures faults { Answers (limit_faults source runs results) result }
-    ensures few_runs { OnOk result (runs ≤ 10000) }
-    ensures few_results { OnOk result (results ≤ 1000000) }
+    ensures few_runs { OnOk result (runs ≤ most_runs) }
+    ensures few_results { OnOk result (results ≤ most_results) }
     ensures quiet { IsQuiet result }
 {
     if runs > MOST_RUNS || results as usize > MOST_RESULTS {
@@ -124,9 +123,9 @@ fn check_limits(source: Source, runs: usize, results: u32) -> Result<(), MergeFa
 
 /// How many results the runs have.
 fn count_results(runs: &[IndexedRun<'_, '_>]) -> u32
-    requires { results_total (map run_of runs.now) ≤ 1000000 }
+    requires { results_total (map run_of runs.now) ≤ most_results }
     ensures count { result ≡ results_total (map run_of runs.now) }
-    ensures few { result ≤ 1000000 }
+    ensures few { result ≤ most_results }
 {
     let mut results = 0;
     for run in runs {
@@ -141,7 +140,7 @@ fn place_runs<'t, 'a>(
     runs: Vec<IndexedRun<'t, 'a>>,
     all: &mut Vec<ReadRun<'t, 'a>>,
 ) -> Result<(), AllocError>
-    requires few { length runs.items ≤ 10000 }
+    requires few { length runs.items ≤ most_runs }
     requires whole { list_any has_float (map run_of runs.items) ≡ false }
     ensures { OnOk result (map placed_read all.new.items
         ≡ map placed_read all.old.items ++ placed_from source 0 (map run_of runs.entry.items)) }
@@ -203,7 +202,7 @@ impl<'t, 'a> Reading<'t, 'a> {
 
     /// Adds the runs that were read from the sources of a kind, in order.
     fn add_all(&mut self, kind: SourceKind, logs: Vec<ReadLog<'t, 'a>>) -> Result<(), MergeFault>
-        requires few { length logs.items ≤ 1000 }
+        requires few { length logs.items ≤ most_sources }
         requires counted { IsCounted self.old }
         requires parsed { (sources : List (List ℕ)) × AreParsedFrom sources logs.items }
         ensures runs { (sources : List (List ℕ)) → AreParsedFrom sources logs.entry.items
@@ -241,9 +240,9 @@ fn read_all<'t, 'a, R: Threads + Sync>(
         → IfOk result (λ runs. map placed_read runs.all.items ≡ placed (sources_of ls bs)) }
     ensures inputs { (ls bs : List (List ℕ)) → AreIndexesOf ls bs indexes.now logs
         → IfOk result (λ runs. runs.inputs ≡ length (placed (numbered Source.Log 0 ls))) }
-    ensures few { IfOk result (λ runs. length runs.all.items ≤ 10000) }
+    ensures few { IfOk result (λ runs. length runs.all.items ≤ most_runs) }
     ensures few_results { IfOk result
-        (λ runs. results_total (run_values (map placed_read runs.all.items)) ≤ 1000000) }
+        (λ runs. results_total (run_values (map placed_read runs.all.items)) ≤ most_results) }
     ensures faults { (ls bs : List (List ℕ)) → AreIndexesOf ls bs indexes.now logs
         → Answers (source_faults 0 0 (sources_of ls bs)) result }
     ensures quiet { IsQuiet result }
@@ -260,9 +259,9 @@ fn read_all<'t, 'a, R: Threads + Sync>(
 /// Opens the runs of the logs, which are the first `logs` of the indexes, and those of the baselines. At most
 /// `threads` threads, including this one, read the runs and make their heads. The tables of their rules and
 /// overrides hash with `seed`, on which no result depends. A rejection is the first error of the sources in order:
-/// `NotJson`, `NotLog` or `WrongVersion` of a source; `TooMany` at a source of more than 10,000 runs, or with
-/// which there are more than 10,000 runs or 1,000,000 results; `BadRun`, `ExternalProperties` or `TooMany` at a
-/// run. `OutOfMemory` has no place. An error of a run's head is not returned: it is kept with the run.
+/// `NotJson`, `NotLog` or `WrongVersion` of a source; `TooMany` at a source of more than `MOST_RUNS` runs, or with
+/// which there are more than `MOST_RUNS` runs or `MOST_RESULTS` results; `BadRun`, `ExternalProperties` or
+/// `TooMany` at a run. `OutOfMemory` has no place. An error of a run's head is not returned: it is kept with the run.
 pub fn open_sources<'t, 'a, R: Threads + Sync>(
     rt: &R,
     alloc: Global,

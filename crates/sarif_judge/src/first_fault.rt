@@ -5,6 +5,7 @@ ghost use Rattle.sarif_runs.specs.Judging.{first_bad, run_faults, faults_of_runs
 ghost use Rattle.sarif_runs.specs.Opened.{placed_of};
 ghost use Rattle.sarif_model.specs.MergeFault.{exit_status};
 ghost use Rattle.sarif_model.specs.FirstFault.{first};
+ghost use Rattle.sarif_model.specs.Limits.{most_results};
 
 use sarif_model::{At, Cause, MergeFault};
 use sarif_results::Outcome;
@@ -13,7 +14,7 @@ use sarif_runs::{Item, OpenedRun};
 /// The error of the first invalid result of a run.
 #[tactic(auto, using(sarif_model::proofs::QuietFaults::quiet_fault))]
 fn first_bad_result(run: &OpenedRun<'_, '_>, outcomes: &[Outcome]) -> Option<MergeFault>
-    requires { length outcomes.now ≤ 1000000 }
+    requires { length outcomes.now ≤ most_results }
     ensures first { result ≡ first (first_bad (At.Single run.now.source run.now.number) 0
         (map (λ o. o.item) outcomes.now)) }
     ensures quiet { IfSome result (λ fault. exit_status fault.cause ≡ 2) }
@@ -30,7 +31,7 @@ fn first_bad_result(run: &OpenedRun<'_, '_>, outcomes: &[Outcome]) -> Option<Mer
 /// The error of opening a run, otherwise that of its first invalid result.
 #[tactic(auto, using(sarif_model::proofs::QuietFaults::quiet_fault))]
 fn fault_of_run(run: &OpenedRun<'_, '_>, outcomes: &[Outcome]) -> Option<MergeFault>
-    requires few { length outcomes.now ≤ 1000000 }
+    requires few { length outcomes.now ≤ most_results }
     requires judged { map (λ o. o.item) outcomes.now ≡ items_of (placed_of run.now) }
     ensures first { result ≡ first (run_faults (placed_of run.now)) }
     ensures quiet { IfSome result (λ fault. exit_status fault.cause ≡ 2) }

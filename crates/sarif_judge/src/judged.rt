@@ -8,6 +8,7 @@ ghost use Rattle.sarif_model.specs.MergeFault.{IsQuiet};
 ghost use Rattle.sarif_model.specs.FirstFault.{Answers};
 ghost use Rattle.sarif_results.specs.Judged.{placed_in};
 ghost use Rattle.sarif_judge.specs.Wanting.{wanting_of};
+ghost use Rattle.sarif_model.specs.Limits.{most_results, most_runs, most_workers};
 
 use crate::first_fault::fault_of_runs;
 use crate::outcomes::judge;
@@ -42,9 +43,9 @@ pub fn judge_runs<'t, 'a, G: Gate + Sync, R: Threads + Wait + Sync>(
     workers: u32,
     observer: &G,
 ) -> Result<Judged<'t, 'a>, MergeFault>
-    requires workers { (1 ≤ workers) × (workers ≤ 64) }
-    requires few { length runs.items ≤ 10000 }
-    requires few_results { results_total (run_values (map placed_of runs.items)) ≤ 1000000 }
+    requires workers { (1 ≤ workers) × (workers ≤ most_workers) }
+    requires few { length runs.items ≤ most_runs }
+    requires few_results { results_total (run_values (map placed_of runs.items)) ≤ most_results }
     ensures runs { IfOk result (λ judged. placed_in judged ≡ map placed_of runs.entry.items) }
     ensures outcomes { IfOk result
         (λ judged. judged.outcomes.items ≡ all_outcomes file.now (placed_in judged)) }

@@ -1,9 +1,11 @@
 //! The work of judging: each run of it is a shard of the results.
-ghost use Rattle.std.specs.Prelude.{◌≡◌, ◌≤◌, ◌<◌, ◌*◌, IfOk, map, length};
+ghost use Rattle.std.specs.Prelude.{◌≡◌, ◌≤◌, ◌<◌, ◌+◌, ◌*◌, IfOk, map, length};
 ghost use Rattle.std.specs.List.{All};
 ghost use Rattle.sarif_runs.specs.Opened.{placed_of};
 ghost use Rattle.sarif_results.specs.OutcomesAt.{outcome_at};
 ghost use Rattle.sarif_runs.specs.Spots.{IsSpotOf};
+ghost use Rattle.sarif_model.specs.Limits.{most_results};
+ghost use Rattle.sarif_gather.specs.Limits.{most_runs};
 
 use crate::chunk::chunk_of;
 use crate::judged_result::judge_result;
@@ -23,8 +25,8 @@ pub(crate) struct Judging<'w, 't: 'w, 'a: 't> {
     pub(crate) size: usize,
     pub(crate) shards: u32,
     ghost within: { All (IsSpotOf (map placed_of runs.now)) spots.now },
-    ghost few: { shards ≤ 10000 },
-    ghost small: { size ≤ 1000001 },
+    ghost few: { shards ≤ most_runs },
+    ghost small: { size ≤ most_results + 1 },
 }
 
 /// Judges some results, in order.

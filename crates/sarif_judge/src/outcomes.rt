@@ -5,6 +5,7 @@ ghost use Rattle.sarif_model.specs.Run.{results_total};
 ghost use Rattle.sarif_runs.specs.Opened.{placed_of};
 ghost use Rattle.sarif_results.specs.Outcomes.{all_outcomes};
 ghost use Rattle.sarif_judge.specs.Flattened.{flattened, flattened_from, within_shards};
+ghost use Rattle.sarif_model.specs.Limits.{most_results, most_runs, most_workers};
 
 use crate::judging::Judging;
 use crate::shard::Shard;
@@ -55,8 +56,8 @@ fn flatten(alloc: Global, mut stack: Vec<Vec<Shard>>) -> Result<Vec<Outcome>, Al
     Ok(all)
 }
 
-/// Judges all results of these runs in `workers` threads, 1 to 64: the item and the draft of each, in the order of
-/// runs and results, regardless of which worker was first. `observer` observes the judging of shards. Returns
+/// Judges all results of these runs in `workers` threads, 1 to `MOST_WORKERS`: the item and the draft of each, in the
+/// order of runs and results, regardless of which worker was first. `observer` observes the judging of shards. Returns
 /// `OutOfMemory` if memory runs out, or `NoWorker` if a thread cannot be started.
 pub fn judge<G: Gate + Sync, R: Threads + Wait + Sync>(
     rt: &R,
@@ -66,9 +67,9 @@ pub fn judge<G: Gate + Sync, R: Threads + Wait + Sync>(
     workers: u32,
     observer: &G,
 ) -> Result<Vec<Outcome>, GatherFault>
-    requires workers { (1 ≤ workers) × (workers ≤ 64) }
-    requires few { length runs.now ≤ 10000 }
-    requires few_results { results_total (map (λ p. p.run) (map placed_of runs.now)) ≤ 1000000 }
+    requires workers { (1 ≤ workers) × (workers ≤ most_workers) }
+    requires few { length runs.now ≤ most_runs }
+    requires few_results { results_total (map (λ p. p.run) (map placed_of runs.now)) ≤ most_results }
     ensures { IfOk result (λ outcomes. outcomes.items
         ≡ all_outcomes file.now (map placed_of runs.now)) }
 {

@@ -14,6 +14,7 @@ use Rattle.sarif_log.specs.declared.preparing.Paired.{Paired}
 use Rattle.sarif_log.specs.Baselines.{baseline_drafts, AreBaselines}
 use Rattle.sarif_log.specs.Halves.{IsCurrent}
 use Rattle.sarif_log.specs.LogBy.{states_of, taken_of}
+use Rattle.sarif_model.specs.Limits.{most_results, most_runs}
 
 -- a record of each result of the logs, and of each that is there of the baselines
 pub record AreTogether (file : File) (current_runs baseline_runs : List Placed) (current : Half)
@@ -23,9 +24,9 @@ pub record AreTogether (file : File) (current_runs baseline_runs : List Placed) 
   pub current_are_runs : AllByRecursion IsRun (run_values current_runs)
   pub baseline_are_runs : AllByRecursion IsRun (run_values baseline_runs)
   pub current_records : length (records_of current_runs) ≡ results_total (run_values current_runs)
-  pub few_runs : length current_runs ≤ 10000
-  pub few_current : length (records_of current_runs) ≤ 1000000
-  pub few_baseline : length (records_of baseline_runs) ≤ 1000000
+  pub few_runs : length current_runs ≤ most_runs
+  pub few_current : length (records_of current_runs) ≤ most_results
+  pub few_baseline : length (records_of baseline_runs) ≤ most_results
 
 -- the state of each current result, which baseline results are taken, and the drafts of the others
 pub record IsPaired (current : Half) (baselines : Baselines) (paired : Paired) : Type 0 where

@@ -1,5 +1,5 @@
 //! Counting what is written.
-ghost use Rattle.std.specs.Prelude.{◌≡◌, ◌+◌, ◌≤◌, Bool, List, IfOk, length};
+ghost use Rattle.std.specs.Prelude.{◌≡◌, ◌+◌, ◌*◌, ◌≤◌, Bool, List, IfOk, length};
 ghost use Rattle.serde_json.specs.Data.{Data};
 ghost use Rattle.sarif_model.specs.declared.kinds.Level.{Level as Grade};
 ghost use Rattle.sarif_model.specs.declared.kinds.State.{State as Stand};
@@ -10,6 +10,7 @@ ghost use Rattle.sarif_results.specs.Drafts.{applied_of, drafts_by};
 ghost use Rattle.sarif_log.specs.Texts.{tallied};
 ghost use Rattle.sarif_log.specs.LogBy.{listing_of};
 ghost use Rattle.sarif_log.specs.Written.{AreCounted};
+ghost use Rattle.sarif_model.specs.Limits.{most_results};
 
 use crate::merged_text::Side;
 use crate::tally::{count_results, mark_entries};
@@ -27,7 +28,7 @@ const FEWEST_SHARED: usize = 16384;
 /// Counts the results of these drafts that have a state.
 fn count_in_turn(drafts: &[Draft], states: &[Option<State>]) -> Counts
     requires states { length states.now ≡ length drafts.now }
-    requires few { length drafts.now ≤ 2000000 }
+    requires few { length drafts.now ≤ 2 * most_results }
     ensures { AreCounted drafts.now states.now result }
 {
     let mut counts = Counts::new();
@@ -44,7 +45,7 @@ fn count_all<R: Threads + Sync>(
     threads: u32,
 ) -> Counts
     requires states { length states.now ≡ length drafts.now }
-    requires few { length drafts.now ≤ 2000000 }
+    requires few { length drafts.now ≤ 2 * most_results }
     requires threads { 1 ≤ threads }
     ensures { AreCounted drafts.now states.now result }
 {
@@ -58,13 +59,13 @@ fn count_all<R: Threads + Sync>(
     let (low_states, high_states) = states.split_at(middle);
     let front = move || -> Counts
         requires states { length low_states.now ≡ length low.now }
-        requires few { length low.now ≤ 2000000 }
+        requires few { length low.now ≤ 2 * most_results }
         requires threads { 1 ≤ few }
         ensures { AreCounted low.entry.now low_states.entry.now result }
     { count_all(rt, low, low_states, few) };
     let back = move || -> Counts
         requires states { length high_states.now ≡ length high.now }
-        requires few { length high.now ≤ 2000000 }
+        requires few { length high.now ≤ 2 * most_results }
         requires threads { 1 ≤ others }
         ensures { AreCounted high.entry.now high_states.entry.now result }
     { count_all(rt, high, high_states, others) };
@@ -82,7 +83,7 @@ pub(crate) fn count_sides<R: Threads + Sync>(
 ) -> Counts
     requires current { length current.now.states.items ≡ length current.now.drafts.items }
     requires baseline { length baseline.now.states.items ≡ length baseline.now.drafts.items }
-    requires few { length current.now.drafts.items + length baseline.now.drafts.items ≤ 2000000 }
+    requires few { length current.now.drafts.items + length baseline.now.drafts.items ≤ 2 * most_results }
     requires threads { 1 ≤ threads }
     ensures { (s : Stand) (l : Grade) (b : Bool) → count_at result s l b
         ≡ tallied current.now.drafts.items current.now.states.items s l b

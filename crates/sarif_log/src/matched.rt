@@ -4,6 +4,7 @@ ghost use Rattle.std.specs.List.{range_with_len};
 ghost use Rattle.sarif_match.specs.Partners.{is_taken};
 ghost use Rattle.sarif_match.specs.State.{state_of};
 ghost use Rattle.sarif_log.specs.LogBy.{partner_in, states_from, states_of, taken_of};
+ghost use Rattle.sarif_model.specs.Limits.{most_results};
 
 use sarif_match::{Matching, match_all_with, state};
 use sarif_model::{Record, State};
@@ -34,7 +35,7 @@ fn list_states(
     baseline: &[Record],
     matching: &Matching,
 ) -> Result<Vec<State>, AllocError>
-    requires { length current.now ≤ 1000000 }
+    requires { length current.now ≤ most_results }
     ensures { IfOk result
         (λ states. states.items ≡ states_from baseline.now matching.now 0 current.now) }
 {
@@ -76,8 +77,8 @@ pub(crate) fn match_records(
     current: &[Record],
     baseline: &[Record],
 ) -> Result<Matched, AllocError>
-    requires current { length current.now ≤ 1000000 }
-    requires baseline { length baseline.now ≤ 1000000 }
+    requires current { length current.now ≤ most_results }
+    requires baseline { length baseline.now ≤ most_results }
     ensures states { IfOk result
         (λ matched. matched.states.items ≡ map Some (states_of current.now baseline.now)) }
     ensures taken { IfOk result

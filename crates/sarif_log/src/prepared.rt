@@ -1,7 +1,8 @@
 //! What a merged log is made of.
-ghost use Rattle.std.specs.Prelude.{◌≤◌, ◌+◌, length};
+ghost use Rattle.std.specs.Prelude.{◌≤◌, ◌+◌, ◌*◌, length};
 ghost use Rattle.std.proofs.Props.{props};
 ghost use Rattle.sarif_log.specs.Side.{IsSide};
+ghost use Rattle.sarif_model.specs.Limits.{most_results};
 
 use crate::merged_text::Side;
 use sarif_findings::Finding;
@@ -29,5 +30,5 @@ pub struct Prepared {
     pub(crate) spent: Spent,
     ghost current_is: { IsSide current } by { Prim.hlevel props },
     ghost baseline_is: { IsSide baseline } by { Prim.hlevel props },
-    ghost few: { length current.drafts.items + length baseline.drafts.items ≤ 2000000 },
+    ghost few: { length current.drafts.items + length baseline.drafts.items ≤ 2 * most_results },
 }

@@ -15,6 +15,7 @@ ghost use Rattle.sarif_log.specs.Prepared.{IsPrepared};
 ghost use Rattle.sarif_results.specs.Judged.{placed_in, IsJudged};
 ghost use Rattle.sarif_log.specs.Together.{AreTogether, IsPaired};
 ghost use Rattle.sarif_log.specs.Told.{reporting_in, told_of};
+ghost use Rattle.sarif_model.specs.Limits.{most_runs};
 
 use crate::asked::Asked;
 use crate::baselines::{Baselines, gather_baselines};
@@ -111,7 +112,7 @@ fn current_side(
     states: Vec<Option<State>>,
     file: &Suppressions,
 ) -> Result<Current, AllocError>
-    requires few { length current.runs.items ≤ 10000 }
+    requires few { length current.runs.items ≤ most_runs }
     ensures parts { IfOk result (λ made. ArePartsOf own_count made.side.runs.items
         (run_values (map placed_of current.entry.runs.items))) }
     ensures whole { IfOk result (λ made. AllByRecursion IsWholeRun made.side.runs.items) }

@@ -6,6 +6,7 @@ ghost use Rattle.serde_json.specs.View.{view, members_view};
 ghost use Rattle.serde_json.specs.Written.{has_float};
 ghost use Rattle.sarif_results.specs.Drafts.{members_in};
 ghost use Rattle.sarif_log.specs.Texts.{IsWholeRun};
+ghost use Rattle.sarif_model.specs.Limits.{most_runs};
 
 use sarif_results::into_members;
 use serde_json::{Map, Value};
@@ -44,7 +45,7 @@ pub fn make_parts(alloc: Global, run: Value, results: Option<u32>) -> RunParts
 
 /// How many of these runs have no results.
 pub fn count_without(runs: &[RunParts]) -> u32
-    requires few { length runs.now ≤ 10000 }
+    requires few { length runs.now ≤ most_runs }
     ensures { result ≡ count_by (λ parts. not (is_some parts.results)) runs.now }
 {
     let mut count = 0;

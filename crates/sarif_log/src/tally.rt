@@ -1,5 +1,5 @@
 //! Counting the results that are written.
-ghost use Rattle.std.specs.Prelude.{◌≡◌, ◌+◌, ◌<◌, ◌≤◌, Bool, length};
+ghost use Rattle.std.specs.Prelude.{◌≡◌, ◌+◌, ◌<◌, ◌≤◌, ◌^◌, Bool, length};
 ghost use Rattle.sarif_model.specs.declared.kinds.Level.{Level as Grade};
 ghost use Rattle.sarif_model.specs.declared.kinds.State.{State as Stand};
 ghost use Rattle.sarif_counts.specs.Counts.{count_at, total_of};
@@ -14,7 +14,7 @@ use sarif_suppress::Marks;
 /// none, for each result. Does not allocate.
 pub fn count_results(counts: &mut Counts, drafts: &[Draft], states: &[Option<State>])
     requires count { length states.now ≡ length drafts.now }
-    requires few { total_of counts.old + length drafts.now < 4294967296 }
+    requires few { total_of counts.old + length drafts.now < 2 ^ 32 }
     ensures counted { (s : Stand) (l : Grade) (b : Bool) → count_at counts.new s l b
         ≡ count_at counts.old s l b + tallied drafts.now states.now s l b }
     ensures total { total_of counts.new ≤ total_of counts.old + length drafts.now }

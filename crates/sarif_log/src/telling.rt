@@ -8,6 +8,7 @@ ghost use Rattle.sarif_runs.specs.Opened.{placed_of};
 ghost use Rattle.sarif_runs.specs.Spots.{spots_from, IsSpotOf};
 ghost use Rattle.sarif_log.specs.Telling.{pair_at, placed_told, told_as, told_by, told_each};
 ghost use Rattle.sarif_log.specs.Told.{if_asked, reporting_in};
+ghost use Rattle.sarif_model.specs.Limits.{most_runs};
 
 use crate::asked::Asked;
 use crate::baselines::Baselines;
@@ -172,7 +173,7 @@ pub(crate) fn tell_current<R: Threads + Sync>(
     current: &Half<'_, '_>,
     states: &[Option<State>],
 ) -> Result<Vec<Finding>, AllocError>
-    requires runs { length current.now.runs.items ≤ 10000 }
+    requires runs { length current.now.runs.items ≤ most_runs }
     requires drafts { length current.now.drafts.items
         ≡ length (spots_from 0 (map placed_of current.now.runs.items)) }
     requires states { length states.now ≡ length current.now.drafts.items }

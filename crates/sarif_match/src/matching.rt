@@ -3,6 +3,7 @@ ghost use Rattle.std.specs.Prelude.{◌≡◌, ◌≤◌, List, Option, ℕ, Non
 ghost use Rattle.sarif_match.specs.Partners.{is_taken, after_tier, partners_of};
 ghost use Rattle.sarif_match.specs.Progress.{IsSound};
 ghost use Rattle.sarif_match.specs.Side.{IsIndexed};
+ghost use Rattle.sarif_model.specs.Limits.{most_results};
 
 use crate::pairing::pair_up;
 use crate::progress::Progress;
@@ -63,7 +64,7 @@ impl Matching {
 
 /// Matches each current result with at most one baseline result, as [`match_all`](crate::match_all) does, with
 /// tables that hash with `hasher`, for example a `RandomState` whose seed no log can know. The result does not
-/// depend on the hasher. Each list has at most 1,000,000 results. Without a baseline no table is made. Returns
+/// depend on the hasher. Each list has at most `MOST_RESULTS` results. Without a baseline no table is made. Returns
 /// `AllocError` if memory runs out.
 pub fn match_all_with<'a, S: BuildHasher + Copy>(
     alloc: Global,
@@ -71,8 +72,8 @@ pub fn match_all_with<'a, S: BuildHasher + Copy>(
     current: &'a [Record],
     baseline: &'a [Record],
 ) -> Result<Matching, AllocError>
-    requires current { length current.now ≤ 1000000 }
-    requires baseline { length baseline.now ≤ 1000000 }
+    requires current { length current.now ≤ most_results }
+    requires baseline { length baseline.now ≤ most_results }
     ensures { IfOk result (λ matching. matching ≡ partners_of current.now baseline.now) }
 {
     let mut progress = Progress::new(alloc, current.len(), baseline.len())?;

@@ -2,6 +2,7 @@
 //! standard hasher, and the key of a single result.
 ghost use Rattle.std.specs.Prelude.{◌≡◌, ◌≤◌, length, IfOk, IsOkAnd};
 ghost use Rattle.std.specs.Option.{option_map};
+ghost use Rattle.sarif_model.specs.Limits.{most_results};
 ghost use Rattle.sarif_match.specs.Key.{key_of};
 ghost use Rattle.sarif_match.specs.KeyParts.{parts_of};
 ghost use Rattle.sarif_match.specs.Partners.{partners_of};
@@ -16,15 +17,15 @@ use std::hash::{BuildHasherDefault, FoldHasher};
 
 /// Matches each current result with at most one baseline result, tier by tier. At each tier, unmatched results
 /// with equal keys match in order: the first with the first, the second with the second, and so on. Each list has
-/// at most 1,000,000 results. The tables use the seed of the standard hasher, which the author of a log may know:
+/// at most `MOST_RESULTS` results. The tables use the seed of the standard hasher, which the author of a log may know:
 /// see [`match_all_with`](crate::match_all_with). Returns `AllocError` if memory runs out.
 pub fn match_all<'a>(
     alloc: Global,
     current: &'a [Record],
     baseline: &'a [Record],
 ) -> Result<Matching, AllocError>
-    requires current { length current.now ≤ 1000000 }
-    requires baseline { length baseline.now ≤ 1000000 }
+    requires current { length current.now ≤ most_results }
+    requires baseline { length baseline.now ≤ most_results }
     ensures { IfOk result (λ matching. matching ≡ partners_of current.now baseline.now) }
 {
     let hasher = BuildHasherDefault::<FoldHasher>::new();

@@ -44,6 +44,7 @@ use Rattle.sarif_merge.specs.Merged.{IsMerged}
 use Rattle.sarif_merge.specs.MergedLog.{file_in}
 use Rattle.sarif_merge.specs.Prepared.{IsPreparedFor}
 use Rattle.sarif_merge.proofs.ReadObjects.{objects_in}
+use Rattle.sarif_model.specs.Limits.{most_results, most_runs, most_sources}
 
 -- ---- what is assembled
 
@@ -52,8 +53,8 @@ pub judged_logs : (file : File) (ls : List (List ℕ)) (judged : Judged)
     → placed_in judged ≡ placed (numbered Log 0 ls)
     → judged.outcomes.items ≡ all_outcomes file (placed_in judged)
     → faults_of_runs (placed_in judged) ≡ []
-    → length (placed_in judged) ≤ 10000
-    → results_total (run_values (placed_in judged)) ≤ 1000000
+    → length (placed_in judged) ≤ most_runs
+    → results_total (run_values (placed_in judged)) ≤ most_results
     → IsJudged file false judged
 judged_logs file ls judged same outcomes none few few_results = record {
   outcomes = outcomes;
@@ -69,8 +70,8 @@ pub judged_baselines : (file : File) (bs : List (List ℕ)) (judged : Judged)
     → placed_in judged ≡ placed (numbered Baseline 0 bs)
     → judged.outcomes.items ≡ all_outcomes file (placed_in judged)
     → faults_of_runs (placed_in judged) ≡ []
-    → length (placed_in judged) ≤ 10000
-    → results_total (run_values (placed_in judged)) ≤ 1000000
+    → length (placed_in judged) ≤ most_runs
+    → results_total (run_values (placed_in judged)) ≤ most_results
     → IsJudged file true judged
 judged_baselines file bs judged same outcomes none few few_results = record {
   outcomes = outcomes;
@@ -119,17 +120,17 @@ left_after_first xs ys none = faults_apart xs ys ∙ ap (λ faults. faults ++ fa
 -- ---- the errors of all inputs
 
 -- within the limits the number of sources is not an error
-few_sources : (ls : List (List ℕ)) → length ls ≤ 1000 → number_faults Log ls ≡ []
-few_sources ls few = let within : nat_lt 1000 (length ls) ≡ false = grind (arith, nat_tests) in rw within refl
+few_sources : (ls : List (List ℕ)) → length ls ≤ most_sources → number_faults Log ls ≡ []
+few_sources ls few = let within : nat_lt most_sources (length ls) ≡ false = grind (arith, nat_tests) in rw within refl
 
-few_baselines : (bs : List (List ℕ)) → length bs ≤ 1000 → number_faults Baseline bs ≡ []
-few_baselines bs few = let within : nat_lt 1000 (length bs) ≡ false = grind (arith, nat_tests) in rw within refl
+few_baselines : (bs : List (List ℕ)) → length bs ≤ most_sources → number_faults Baseline bs ≡ []
+few_baselines bs few = let within : nat_lt most_sources (length bs) ≡ false = grind (arith, nat_tests) in rw within refl
 
 first_of : (xs ys : List MergeFault) (fault : MergeFault) → first xs ≡ Some fault → first (xs ++ ys) ≡ Some fault
 first_of [] ys fault h = cc
 first_of (x ∷ xs) ys fault h = h
 
-module _ (ls bs : List (List ℕ)) (few_ls : length ls ≤ 1000) (few_bs : length bs ≤ 1000) (file : Option (List ℕ)) (today : Option ℕ) where
+module _ (ls bs : List (List ℕ)) (few_ls : length ls ≤ most_sources) (few_bs : length bs ≤ most_sources) (file : Option (List ℕ)) (today : Option ℕ) where
   within : number_faults Log ls ++ number_faults Baseline bs ≡ []
   within = ap (λ x. x ++ number_faults Baseline bs) (few_sources ls few_ls) ∙ few_baselines bs few_bs
 
@@ -162,7 +163,7 @@ module _ (ls bs : List (List ℕ)) (few_ls : length ls ≤ 1000) (few_bs : lengt
 -- ---- indexes
 
 -- the indexes of the sources as they are held
-pub are_indexes : (ls bs : List (Vec ℕ Global)) (indexes : List (Result (List Token) IndexFault)) (n : ℕ) → n ≡ length ls → length ls ≤ 1000 → length bs ≤ 1000
+pub are_indexes : (ls bs : List (Vec ℕ Global)) (indexes : List (Result (List Token) IndexFault)) (n : ℕ) → n ≡ length ls → length ls ≤ most_sources → length bs ≤ most_sources
     → AreIndexed (map without_mark (map (λ v. v.items) ls ++ map (λ v. v.items) bs)) indexes
     → AreIndexesOf (map (λ v. v.items) ls) (map (λ v. v.items) bs) indexes n
 are_indexes ls bs indexes n count few_ls few_bs indexed = record {

@@ -3,6 +3,7 @@ use Rattle.std.specs.Prelude.{◌≡◌, ℕ, ◌<◌, ◌≤◌, List, [], ◌�
 use Rattle.std.specs.Io.KnownBytes.{Appends}
 use Rattle.sarif_model.specs.declared.merge_fault.MergeFault.{MergeFault}
 use Rattle.sarif_streams.specs.declared.readers.Readers.{Readers}
+use Rattle.sarif_model.specs.declared.refusal.Refusal.{Refusal}
 use Rattle.sarif_streams.specs.declared.readers.ReadersFault.{ReadersFault}
 use Rattle.sarif_streams.specs.ReadersFault.{fault_of_readers}
 use Rattle.sarif_streams.specs.WereRead.{SourceContents, HasStoppedAt, WereRead}
@@ -14,12 +15,13 @@ use Rattle.sarif_model.specs.FirstFault.{IsWanting}
 use Rattle.sarif_merge.specs.Given.{given_by}
 use Rattle.sarif_merge.specs.Merged.{IsMerged}
 use Rattle.sarif_merge.specs.MergedLog.{output_text}
+use Rattle.sarif_model.specs.Limits.{most_sources}
 
 -- reading ended at one of the sources, and the rejection says so
 abbrev pub IsStopped : {R : Type 0} → (R → Option (List ℕ)) → Readers R → Readers R → MergeFault
     → Type 0
 IsStopped remaining old new fault =
-    (stopped : ReadersFault) × HasStoppedAt remaining old new stopped
+    (stopped : Refusal ReadersFault) × HasStoppedAt remaining old new stopped
     × (fault ≡ fault_of_readers stopped)
 
 -- all sources were read, and the merge of what was read is rejected: memory ran out, a thread could not be
@@ -32,7 +34,7 @@ IsAtFault remaining old new today fault =
 
 -- neither logs nor baselines are too many
 abbrev pub AreFew : {R : Type 0} → Readers R → Type 0
-AreFew all = (length all.logs.items ≤ 1000) × (length all.baselines.items ≤ 1000)
+AreFew all = (length all.logs.items ≤ most_sources) × (length all.baselines.items ≤ most_sources)
 
 -- a rejection before anything is written: too many sources, otherwise what ended reading, otherwise the first
 -- error of what was read

@@ -12,7 +12,7 @@ pub use merge_sources::{merge_readers, merge_to};
 pub use sarif_counts::{Counts, Options, Policy, States, Verdict, hits, summary, verdict};
 pub use sarif_gather::{Gate, NoGate};
 pub use sarif_log::{Asked, Merged};
-pub use sarif_model::{At, Cause, MergeFault, Source};
+pub use sarif_model::{At, Cause, MergeFault, Refusal, Source};
 pub use sarif_streams::{
     Counted, Failed, Readers, ReadersFault, SourceBytes, SourceFault, read_source,
     sources_are_read_in_one_way, write_out,

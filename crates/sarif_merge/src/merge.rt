@@ -13,6 +13,7 @@ ghost use Rattle.sarif_inputs.specs.Faults.{faults_of, first_fault};
 ghost use Rattle.sarif_merge.specs.Given.{inputs_of};
 ghost use Rattle.sarif_merge.specs.Merged.{HoldsFirst, IsMerged};
 ghost use Rattle.sarif_merge.specs.MergedLog.{output_text, runs_written, without_of, unused_in, written_inputs};
+ghost use Rattle.sarif_model.specs.Limits.{most_sources};
 
 use crate::preparing::{make_scratches, prepare_few};
 use json::Scratch;
@@ -62,7 +63,7 @@ fn assemble_beside<
     made
 }
 
-/// Merges at most 1,000 logs and 1,000 baselines. Returns the merge and what `tell` computed from it.
+/// Merges at most `MOST_SOURCES` logs and as many baselines. Returns the merge and what `tell` computed from it.
 pub(crate) fn merge_few<
     G: Gate + Sync,
     R: Threads + Wait + Sync,
@@ -76,8 +77,8 @@ pub(crate) fn merge_few<
     observer: &G,
     tell: Tell,
 ) -> Result<(Merged, B), MergeFault>
-    requires few_logs { length sources.now.logs.items ≤ 1000 }
-    requires few_baselines { length sources.now.baselines.items ≤ 1000 }
+    requires few_logs { length sources.now.logs.items ≤ most_sources }
+    requires few_baselines { length sources.now.baselines.items ≤ most_sources }
     requires tells { Tell.IsAlwaysCallable tell }
     ensures merged { IfOk result (λ made. IsMerged (inputs_of sources.now asked.now.options.now)
         asked.now.options.now.policy (reporting_in asked.now) made.0) }

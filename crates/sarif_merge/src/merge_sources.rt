@@ -1,5 +1,5 @@
 //! The merge from readers into a writer.
-ghost use Rattle.std.specs.Prelude.{◌≡◌, ◌<◌, ◌^◌, false, Ok, None, IfOk, IfErr};
+ghost use Rattle.std.specs.Prelude.{◌≡◌, ◌<◌, ◌≤◌, ◌^◌, false, Ok, None, IfOk, IfErr, length};
 ghost use Rattle.std.specs.List.{All};
 ghost use Rattle.std.specs.Io.KnownBytes.{Appends};
 ghost use Rattle.sarif_streams.specs.Counted.{inner_of, failed_calls, RisesIf};
@@ -7,8 +7,9 @@ ghost use Rattle.sarif_model.specs.MergeFault.{read_failed_in, write_failed_in};
 ghost use Rattle.sarif_streams.specs.OptionalReader.{failed_calls_if};
 ghost use Rattle.sarif_log.specs.Beside.{IsMadeBy};
 ghost use Rattle.sarif_log.specs.Told.{reporting_in};
-ghost use Rattle.sarif_merge.specs.FromReaders.{IsMergedFrom, IsPartlyWritten, IsRefused};
-ghost use Rattle.sarif_streams.specs.WereRead.{failures, NoNumberFalls};
+ghost use Rattle.sarif_merge.specs.FromReaders.{IsMergedFrom, IsPartlyWritten, IsRefused, IsStopped};
+ghost use Rattle.sarif_model.specs.Limits.{most_sources};
+ghost use Rattle.sarif_streams.specs.WereRead.{contents_of, failures, NoNumberFalls, WereRead};
 ghost use Rattle.sarif_model.specs.declared.merge_fault.At.TheVariants.{Whole};
 ghost use Rattle.sarif_model.specs.declared.merge_fault.Cause.TheVariants.{WriteFailed};
 ghost use Rattle.sarif_model.specs.declared.merge_fault.Source.TheVariants.{Output};
@@ -20,20 +21,45 @@ use sarif_gather::Gate;
 use sarif_inputs::check_numbers;
 use sarif_log::{Asked, Merged};
 use sarif_model::{At, Cause, MergeFault, Source};
-use sarif_streams::{Counted, Readers, read_sources, write_out};
+use sarif_streams::{Counted, Readers, SourceBytes, read_sources, rejection_of, write_out};
 use std::alloc::{AllocError, Global};
 use std::io::{Read, Write};
 use std::sync::Wait;
 use std::thread::Threads;
 
+/// Reads all sources. A rejection is `ReadFailed` or `TooLong` at the first source that cannot be read to its end, or
+/// `OutOfMemory` without a place.
+#[tactic(auto, using(sarif_streams::proofs::QuietReaders::same_failure, sarif_streams::proofs::QuietReaders::no_write))]
+fn read_all<R: Read>(alloc: Global, readers: &mut Readers<R>) -> Result<SourceBytes, MergeFault>
+    requires few_logs { length readers.old.logs.items ≤ most_sources }
+    requires few_baselines { length readers.old.baselines.items ≤ most_sources }
+    requires logs { All (λ reader. failed_calls reader < 2 ^ 63) readers.old.logs.items }
+    requires baselines { All (λ reader. failed_calls reader < 2 ^ 63) readers.old.baselines.items }
+    requires suppressions { failed_calls_if readers.old.suppressions < 2 ^ 63 }
+    ensures read { IfOk result
+        (λ sources. WereRead R.remaining readers.old readers.new (contents_of sources)) }
+    ensures few_logs { IfOk result (λ sources. length sources.logs.items ≤ most_sources) }
+    ensures few_baselines { IfOk result (λ sources. length sources.baselines.items ≤ most_sources) }
+    ensures stopped { IfErr result (IsStopped R.remaining readers.old readers.new) }
+    ensures read_failed { RisesIf (read_failed_in result)
+        (failures readers.old) (failures readers.new) }
+    ensures risen { NoNumberFalls readers.old readers.new }
+    ensures unwritten { write_failed_in result ≡ false }
+{
+    match read_sources(alloc, readers) {
+        Ok(sources) => Ok(sources),
+        Err(refusal) => Err(rejection_of(refusal)),
+    }
+}
+
 /// Merges logs and baselines from readers, as [`merge_bytes`](crate::merge_bytes) does with bytes: reads all
 /// sources, the logs, the baselines and the suppression file, then merges what was read, and writes nothing. If
 /// findings are requested, the result has them too, and what `tell` computes from the counts and findings while
-/// the log's text is made. A rejection is `TooMany` for more than 1,000 logs or otherwise more than 1,000
-/// baselines; otherwise `ReadFailed` or `TooLong` at the first source that cannot be read to its end; otherwise
-/// the first error of what was read, as [`merge_bytes`](crate::merge_bytes) returns it. `OutOfMemory`, if memory
-/// runs out, including in `tell`, and `NoWorker`, if a thread cannot be started, have no place.
-#[tactic(auto, using(sarif_streams::proofs::QuietReaders::same_failure, sarif_streams::proofs::QuietReaders::no_write))]
+/// the log's text is made. A rejection is `TooMany` for more than `MOST_SOURCES` logs, or otherwise for more than
+/// `MOST_SOURCES` baselines; otherwise `ReadFailed` or `TooLong` at the first source that cannot be read to its
+/// end; otherwise the first error of what was read, as [`merge_bytes`](crate::merge_bytes) returns it.
+/// `OutOfMemory`, if memory runs out, including in `tell`, and `NoWorker`, if a thread cannot be started, have no
+/// place.
 pub fn merge_readers<
     R: Read,
     G: Gate + Sync,
@@ -68,7 +94,7 @@ pub fn merge_readers<
     ensures unwritten { write_failed_in result ≡ false }
 {
     check_numbers(readers.logs.len(), readers.baselines.len())?;
-    let sources = read_sources(alloc, readers)?;
+    let sources = read_all(alloc, readers)?;
     let made = merge_few(rt, alloc, &sources, asked, observer, tell)?;
     Ok(made)
 }

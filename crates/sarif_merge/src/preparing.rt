@@ -10,6 +10,7 @@ ghost use Rattle.sarif_inputs.specs.Runs.{AreRunsOf};
 ghost use Rattle.sarif_model.specs.declared.merge_fault.Source.TheVariants as source;
 ghost use Rattle.sarif_merge.specs.Given.{given, inputs_of};
 ghost use Rattle.sarif_merge.specs.Prepared.{IsPreparationOf};
+ghost use Rattle.sarif_model.specs.Limits.{most_sources};
 
 use json::Scratch;
 use sarif_gather::Gate;
@@ -101,8 +102,8 @@ pub(crate) fn prepare_few<G: Gate + Sync, R: Threads + Wait + Sync>(
 ) -> Result<Prepared, MergeFault>
     requires scratches { length scratches.old
         ≡ length sources.now.logs.items + length sources.now.baselines.items }
-    requires few_logs { length sources.now.logs.items ≤ 1000 }
-    requires few_baselines { length sources.now.baselines.items ≤ 1000 }
+    requires few_logs { length sources.now.logs.items ≤ most_sources }
+    requires few_baselines { length sources.now.baselines.items ≤ most_sources }
     ensures preparation { IsPreparationOf (inputs_of sources.now asked.now.options.now)
         (reporting_in asked.now) result }
     ensures quiet { IsQuiet result }

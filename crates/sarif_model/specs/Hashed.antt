@@ -17,6 +17,10 @@ first_bits d =
 unfoldable pub digest_of : List ℕ → ℕ
 digest_of text = first_bits (sha256 text)
 
--- what a hasher is fed for a string: its bytes if there are at most 1,024, otherwise the digest
+-- the length in bytes of the longest string whose bytes are hashed each time
+abbrev pub longest_hashed : ℕ
+longest_hashed = 1024
+
+-- what a hasher is fed for a string: its bytes if it is not longer than that, otherwise the digest
 unfoldable pub fed_of : List ℕ → HashWrites
-fed_of text = if nat_le (length text) 1024 then fed.str text else fed.u64 (digest_of text)
+fed_of text = if nat_le (length text) longest_hashed then fed.str text else fed.u64 (digest_of text)

@@ -5,6 +5,7 @@ pub mod Guid
 pub mod Hashed
 pub mod Kind
 pub mod Level
+pub mod Limits
 pub mod Members
 pub mod MergeFault
 pub mod Refusal

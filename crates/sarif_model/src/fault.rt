@@ -5,7 +5,7 @@ use thiserror::Error;
 /// log may be absent or null where it isn't said that it must be there.
 #[derive(Clone, Copy, Debug, PartialEq, Eq, Error)]
 pub enum Fault {
-    /// The bytes are not UTF-8, not JSON, or nested more than 127 deep.
+    /// The bytes are not UTF-8, not JSON, or nested deeper than `MAX_DEPTH` of `json_parts`.
     #[error("NotJson")]
     NotJson = 1,
     /// The value is not an object, or `runs`, which is required, is neither an array nor null.
@@ -63,9 +63,9 @@ pub enum Fault {
     /// A result whose `baselineState` is already `absent`.
     #[error("AbsentInput")]
     AbsentInput = 15,
-    /// More than 1,000 logs or 1,000 baselines; a source of more than 10,000 runs, or with which
-    /// the sources up to it have more than 10,000 runs or 1,000,000 results; a run with which its
-    /// source has more than 1,000,000 results; or a suppression file of more than 10,000 entries.
+    /// More than `MOST_SOURCES` logs or baselines; a source of more than `MOST_RUNS` runs, or with which the sources
+    /// up to it have more than `MOST_RUNS` runs or `MOST_RESULTS` results; a run with which its source has more
+    /// than `MOST_RESULTS` results; or a suppression file of more than `MOST_ENTRIES` entries.
     #[error("TooMany")]
     TooMany = 16,
     /// The suppression file is not an object with an array `suppressions`.

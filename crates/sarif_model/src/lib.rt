@@ -20,7 +20,10 @@ pub use driver::driver_name;
 pub use fault::Fault;
 pub use guid::read_guid;
 pub use kinds::{Kind, Level, State, Status};
-pub use limits::{MOST_RESULTS, MOST_RUNS};
+pub use limits::{
+    FIRST_DAY, LAST_DAY, MOST_BYTES, MOST_ENTRIES, MOST_RESULTS, MOST_RUNS, MOST_SOURCES,
+    MOST_WORKERS,
+};
 pub use merge_fault::{At, Cause, MergeFault, Source};
 pub use message::Message;
 pub use place::Place;

@@ -41,7 +41,7 @@ pub enum Cause {
     /// What was read is wrong.
     #[error("{0}")]
     Of(Fault),
-    /// A source of more than 67,108,864 bytes.
+    /// A source of more than `MOST_BYTES` bytes.
     #[error("TooLong")]
     TooLong,
     /// A read of a source failed.

@@ -28,6 +28,7 @@ use Rattle.sarif_model.specs.Run.{results_of, results_array, result_at, elements
 use Rattle.sarif_read.specs.Bare.{bare, is_bare}
 use Rattle.sarif_read.specs.Listed.{value_at, nodes_of, listed_member}
 use Rattle.sarif_read.specs.Indexed.{with_member, run_of}
+use Rattle.sarif_model.specs.Limits.{most_results}
 
 same_name : (k l : List ℕ) → slice_cmp nat_cmp k l ≡ Equal → bytes_eq k l ≡ true
 same_name k l is = sym (is_eq-slice_cmp k l) ∙ ap is_eq is
@@ -121,7 +122,7 @@ pub has_array : (run : IndexedRun) → results_array (run_of run) ≡ option_and
 has_array run = ap (option_and_then as_array) (found_results run)
 
 -- a value that is the run has as few results
-pub few_whole : (run : IndexedRun) (d : Data) → d ≡ run_of run → length (results_of d) ≤ 1000000
+pub few_whole : (run : IndexedRun) (d : Data) → d ≡ run_of run → length (results_of d) ≤ most_results
 few_whole run d is =
     let same : length (results_of d) ≡ length (nodes_of run.results) = ap (λ e. length (results_of e)) is ∙ count_results run in
     rw same run.few

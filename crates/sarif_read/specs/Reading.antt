@@ -13,6 +13,7 @@ use Rattle.sarif_model.specs.Run.{results_of, is_text, runs_of}
 use Rattle.sarif_read.specs.Stripping.{stripped}
 use Rattle.json_parts.specs.Mark.{without_mark}
 use Rattle.sarif_model.specs.Driver.{driver_name}
+use Rattle.sarif_model.specs.Limits.{most_results, most_runs}
 
 abbrev pub unless_fault : Bool → Fault → Result ⊤ Fault
 unless_fault passes fault = if passes then Ok tt else Err fault
@@ -38,7 +39,7 @@ check_version log =
     WrongVersion
 
 abbrev pub check_count : Data → Result ⊤ Fault
-check_count log = unless_fault (not (nat_lt 10000 (length (runs_of log)))) TooMany
+check_count log = unless_fault (not (nat_lt most_runs (length (runs_of log)))) TooMany
 
 abbrev pub check_tool : Data → Result ⊤ Fault
 check_tool run = unless_fault (is_some (driver_name run)) BadRun
@@ -65,7 +66,7 @@ check_results run = objects_at BadRun (codes "results") run >>= λ _. Ok tt
 -- the results of this and of all earlier runs of the log
 abbrev pub count_results : ℕ → Data → Result ℕ Fault
 count_results before run =
-    if nat_lt 1000000 (before + length (results_of run)) then Err TooMany
+    if nat_lt most_results (before + length (results_of run)) then Err TooMany
     else Ok (before + length (results_of run))
 
 -- the number of results before a run, and the number with it

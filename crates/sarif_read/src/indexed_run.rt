@@ -3,6 +3,7 @@ ghost use Rattle.std.specs.Prelude.{◌≤◌, length, IsTrue};
 ghost use Rattle.serde_json.specs.View.{view};
 ghost use Rattle.sarif_read.specs.Bare.{is_bare};
 ghost use Rattle.sarif_read.specs.Listed.{nodes_of};
+ghost use Rattle.sarif_model.specs.Limits.{most_results};
 
 use crate::filling::{values_of, with_results};
 use crate::listed::Listed;
@@ -18,7 +19,7 @@ pub struct IndexedRun<'t, 'a> {
     bare: Value,
     results: Listed<'t, 'a>,
     ghost beside: { IsTrue (is_bare (view bare)) },
-    ghost few: { length (nodes_of results) ≤ 1000000 },
+    ghost few: { length (nodes_of results) ≤ most_results },
 }
 
 impl<'t, 'a> IndexedRun<'t, 'a> {
@@ -33,18 +34,18 @@ impl<'t, 'a> IndexedRun<'t, 'a> {
     /// A run of an object without results, and of its results.
     pub(crate) fn new(bare: Value, results: Listed<'t, 'a>) -> IndexedRun<'t, 'a>
         requires beside { IsTrue (is_bare (view bare)) }
-        requires few { length (nodes_of results) ≤ 1000000 }
+        requires few { length (nodes_of results) ≤ most_results }
         ensures bare { result.bare ≡ bare }
         ensures results { result.results ≡ results.entry }
     {
         IndexedRun { bare, results }
     }
 
-    /// How many results the run has, at most 1,000,000.
+    /// How many results the run has, at most `MOST_RESULTS`.
     #[tactic(auto, using(crate::proofs::RunOf::count_results))]
     pub fn len(&self) -> u32
         ensures count { result ≡ length (results_of (run_of self.now)) }
-        ensures few { result ≤ 1000000 }
+        ensures few { result ≤ most_results }
     {
         self.results.len() as u32
     }

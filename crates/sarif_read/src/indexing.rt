@@ -11,6 +11,7 @@ ghost use Rattle.sarif_read.specs.Listed.{value_at, nodes_of, listed_member, Are
 ghost use Rattle.sarif_read.specs.Indexed.{run_of};
 ghost use Rattle.sarif_read.specs.ReadRefusal.{refusal_at};
 ghost use Rattle.sarif_model.specs.Refusal.{IfFault};
+ghost use Rattle.sarif_model.specs.Limits.{most_results, most_runs};
 
 use crate::indexed_run::IndexedRun;
 use crate::listed::Listed;
@@ -53,12 +54,12 @@ fn index_run<'t, 'a>(
     before: usize,
     run: &Node<'t, 'a>,
 ) -> Result<IndexedRun<'t, 'a>, Refusal<Fault>>
-    requires few { before ≤ 1000000 }
+    requires few { before ≤ most_results }
     requires ordered { IsOrdered (data_of run.now) }
     ensures ok { IfOk result (λ made. run_of made ≡ value_at run.now) }
     ensures checked { OnOk result (said.check_run before (value_at run.now)
         ≡ Ok (before + length (results_of (value_at run.now)))) }
-    ensures few { OnOk result (before + length (results_of (value_at run.now)) ≤ 1000000) }
+    ensures few { OnOk result (before + length (results_of (value_at run.now)) ≤ most_results) }
     ensures err { IfFault result (λ fault. said.check_run before (value_at run.now) ≡ Err fault) }
 {
     let bare = run.to_value_without(alloc, "results")?;
@@ -84,16 +85,16 @@ fn refused_at(number: u32, refusal: Refusal<Fault>) -> Refusal<ReadFault>
     }
 }
 
-/// The runs, each of which has the form of a run, with at most 1,000,000 results in all.
+/// The runs, each of which has the form of a run, with at most `MOST_RESULTS` results in all.
 fn index_each<'t, 'a>(
     alloc: Global,
     nodes: &[Node<'t, 'a>],
 ) -> Result<Vec<IndexedRun<'t, 'a>>, Refusal<ReadFault>>
-    requires few { length nodes.now ≤ 10000 }
+    requires few { length nodes.now ≤ most_runs }
     requires ordered { AreOrdered nodes.now }
     ensures ok { IfOk result (λ runs. map run_of runs.items ≡ map value_at nodes.now) }
     ensures checked { OnOk result (said.check_each 0 0 (map value_at nodes.now) ≡ Ok tt) }
-    ensures few { IfOk result (λ runs. results_total (map run_of runs.items) ≤ 1000000) }
+    ensures few { IfOk result (λ runs. results_total (map run_of runs.items) ≤ most_results) }
     ensures err { IfFault result (λ e. said.check_each 0 0 (map value_at nodes.now) ≡ Err e) }
 {
     let mut runs = Vec::with_capacity(alloc, nodes.len())?;
@@ -154,7 +155,7 @@ fn checked_runs<'t, 'a>(
     ensures ok { IfOk result
         (λ nodes. map value_at nodes.items ≡ said2.runs_of (value_at log.now)) }
     ensures ordered { IfOk result (λ nodes. AreOrdered nodes.items) }
-    ensures few { IfOk result (λ nodes. length nodes.items ≤ 10000) }
+    ensures few { IfOk result (λ nodes. length nodes.items ≤ most_runs) }
     ensures checked { OnOk result (said.check_log (value_at log.now) ≡ Ok tt) }
     ensures err { IfFault result (λ fault. said.check_log (value_at log.now) ≡ Err fault) }
 {
@@ -179,8 +180,8 @@ pub fn index_log<'t, 'a>(
 ) -> Result<Vec<IndexedRun<'t, 'a>>, Refusal<ReadFault>>
     ensures ok { IfOk result
         (λ runs. said.log_of_value (value_at index.now) ≡ Ok (map run_of runs.items)) }
-    ensures few { IfOk result (λ runs. results_total (map run_of runs.items) ≤ 1000000) }
-    ensures few_runs { IfOk result (λ runs. length runs.items ≤ 10000) }
+    ensures few { IfOk result (λ runs. results_total (map run_of runs.items) ≤ most_results) }
+    ensures few_runs { IfOk result (λ runs. length runs.items ≤ most_runs) }
     ensures err { IfFault result (λ e. said.log_of_value (value_at index.now) ≡ Err e) }
 {
     let log = index.root();

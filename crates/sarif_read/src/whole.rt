@@ -2,6 +2,7 @@
 //! reads a log and its runs by their index.
 ghost use Rattle.std.specs.Prelude.{◌≡◌, ◌≤◌, Ok, Err, map, length, IfOk};
 ghost use Rattle.serde_json.specs.View.{view};
+ghost use Rattle.sarif_model.specs.Limits.{most_results, most_runs};
 ghost use Rattle.sarif_model.specs.Run.{results_total};
 ghost use Rattle.sarif_model.specs.Refusal.{IfFault};
 ghost use Rattle.sarif_read.specs.Indexed.{run_of};
@@ -42,8 +43,8 @@ fn fill_each(alloc: Global, runs: Vec<IndexedRun<'_, '_>>) -> Result<Vec<RawRun>
 #[tactic(auto, using(crate::proofs::LogText::read_steps), unfolding(crate::specs::Reading::log_of))]
 pub fn read_log(alloc: Global, bytes: &[u8]) -> Result<Log, Refusal<ReadFault>>
     ensures ok { IfOk result (λ log. said.log_of bytes.now ≡ Ok (map view log)) }
-    ensures few { IfOk result (λ log. results_total (map view log) ≤ 1000000) }
-    ensures few_runs { IfOk result (λ log. length log ≤ 10000) }
+    ensures few { IfOk result (λ log. results_total (map view log) ≤ most_results) }
+    ensures few_runs { IfOk result (λ log. length log ≤ most_runs) }
     ensures err { IfFault result (λ e. said.log_of bytes.now ≡ Err e) }
 {
     let mut scratch = Scratch::new(alloc);

@@ -27,6 +27,7 @@ use Rattle.sarif_findings.proofs.HighBytes.{high_apart, char_kept}
 use Rattle.sarif_reports.proofs.SeenTexts.{IsSeenText, shown_text, place_seen, escaped_chars}
 use Rattle.sarif_reports.proofs.TextApart.{seen_in_line, same_ends}
 use Rattle.sarif_findings.proofs.ToldFindings.{IsTold, all_told}
+use Rattle.sarif_reports.specs.MarkdownReport.{most_rows}
 
 -- this many lines end, each with eight bars, after this many earlier ones
 record Cells (count before : ℕ) (text : List ℕ) : Type 0 where
@@ -151,14 +152,14 @@ all_rows (f ∷ fs) h =
 
 -- the rows of the table
 table_rows : (reporting : Reporting) (log : Data)
-    → Cells (length (take 200 (reported_of reporting log))) 0 (flat_map result_row (take 200 (reported_of reporting log)))
+    → Cells (length (take most_rows (reported_of reporting log))) 0 (flat_map result_row (take most_rows (reported_of reporting log)))
 table_rows reporting log =
     let fs = reported_of reporting log in
-    all_rows (take 200 fs) (recursion_from_All IsTold (take 200 fs) (All-take IsTold 200 fs (All-from_recursion IsTold fs (all_told reporting log))))
+    all_rows (take most_rows fs) (recursion_from_All IsTold (take most_rows fs) (All-take IsTold most_rows fs (All-from_recursion IsTold fs (all_told reporting log))))
 
-pub rows_barred : (reporting : Reporting) (log : Data) → have_bars 8 0 (flat_map result_row (take 200 (reported_of reporting log))) ≡ true
+pub rows_barred : (reporting : Reporting) (log : Data) → have_bars 8 0 (flat_map result_row (take most_rows (reported_of reporting log))) ≡ true
 rows_barred reporting log = (table_rows reporting log).bars
 
 pub rows_end : (reporting : Reporting) (log : Data)
-    → count_by (λ b. b == 10) (flat_map result_row (take 200 (reported_of reporting log))) ≡ length (take 200 (reported_of reporting log))
+    → count_by (λ b. b == 10) (flat_map result_row (take most_rows (reported_of reporting log))) ≡ length (take most_rows (reported_of reporting log))
 rows_end reporting log = (table_rows reporting log).ends

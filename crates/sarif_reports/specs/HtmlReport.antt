@@ -1,4 +1,4 @@
--- The page: the verdict, the counts, and the first 10,000 reported results. Strings of a log are only in element
+-- The page: the verdict, the counts, and the first reported results. Strings of a log are only in element
 -- text and in `href`, escaped.
 use Rattle.std.specs.Prelude.{ℕ, ◌-◌, Bool, true, false, ◌==◌, List, [], ◌∷◌, ◌++◌, length, take, Option, Some, None, codes, bytes_eq, nat_lt, if◌then◌else◌}
 use Rattle.std.specs.Fmt.{decimal}
@@ -123,17 +123,21 @@ abbrev pub rows_below : Option (List ℕ) → List Finding → List ℕ
 rows_below above [] = []
 rows_below above (f ∷ fs) = result_row (is_same_file above f.path) f ++ rows_below f.path fs
 
+-- the most results in the table
+abbrev pub most_rows : ℕ
+most_rows = 10000
+
 -- how many results are left out
 unfoldable pub others_line : ℕ → List ℕ
 others_line count =
-    if nat_lt 10000 count
+    if nat_lt most_rows count
     then codes "<p>"
-    ++ (decimal (count - 10000) ++ codes " more results are in the merged log.</p>\n")
+    ++ (decimal (count - most_rows) ++ codes " more results are in the merged log.</p>\n")
     else []
 
 unfoldable pub table_of : List Finding → List ℕ
 table_of findings =
-    filters ++ (results_begin ++ (rows_below None (take 10000 findings)
+    filters ++ (results_begin ++ (rows_below None (take most_rows findings)
     ++ (table_end ++ others_line (length findings))))
 
 unfoldable pub results_table : List Finding → List ℕ

@@ -1,4 +1,4 @@
--- The report for job summaries and comments on a change: the verdict, the counts, and a table of the first 200.
+-- The report for job summaries and comments on a change: the verdict, the counts, and a table of the first results.
 use Rattle.std.specs.Prelude.{ℕ, ◌-◌, Bool, true, false, ◌==◌, List, [], ◌∷◌, ◌++◌, length, take, codes, flat_map, nat_lt, if◌then◌else◌}
 use Rattle.std.specs.Fmt.{decimal}
 use Rattle.sarif_model.specs.declared.kinds.Level.{Level}
@@ -58,18 +58,22 @@ tool_cells finding =
 abbrev pub result_row : Finding → List ℕ
 result_row finding = place_cells finding ++ (rule_cells finding ++ tool_cells finding)
 
+-- the most results in the table
+abbrev pub most_rows : ℕ
+most_rows = 200
+
 -- how many results are left out
 abbrev pub others_line : ℕ → List ℕ
 others_line count =
-    if nat_lt 200 count
-    then codes "\n" ++ (decimal (count - 200) ++ codes " more results are in the merged log.\n")
+    if nat_lt most_rows count
+    then codes "\n" ++ (decimal (count - most_rows) ++ codes " more results are in the merged log.\n")
     else []
 
 abbrev pub table_of : List Finding → List ℕ
 table_of findings =
     codes
     "\n| hit | level | place | rule | message | tool | state |\n|---|---|---|---|---|---|---|\n"
-    ++ (flat_map result_row (take 200 findings) ++ others_line (length findings))
+    ++ (flat_map result_row (take most_rows findings) ++ others_line (length findings))
 
 -- nothing where nothing is reported
 abbrev pub results_table : List Finding → List ℕ

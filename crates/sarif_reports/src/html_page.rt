@@ -252,7 +252,7 @@ fn push_rows(alloc: Global, text: &mut String, findings: &[Finding]) -> Result<(
 
 /// The first results, as many as the table holds.
 fn first_rows(findings: &[Finding]) -> &[Finding]
-    ensures { result.now ≡ take 10000 findings.now }
+    ensures { result.now ≡ take said.most_rows findings.now }
 {
     if findings.len() > MOST_ROWS {
         &findings[..MOST_ROWS]
@@ -303,7 +303,7 @@ fn push_results(alloc: Global, text: &mut String, findings: &[Finding]) -> Resul
     Ok(())
 }
 
-/// Returns the page: the verdict, the counts, and a table of the first 10,000 reported results. Returns
+/// Returns the page: the verdict, the counts, and a table of the first `MOST_ROWS` reported results. Returns
 /// `AllocError` if memory for it runs out.
 #[tactic(auto, unfolding(crate::specs::HtmlReport::html_of))]
 pub fn html_report(

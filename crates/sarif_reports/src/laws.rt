@@ -26,6 +26,7 @@ ghost use Rattle.sarif_findings.specs.Shown.{shown_chars};
 ghost use Rattle.sarif_findings.specs.ShownLaws.{are_seen, has_two_signs};
 ghost use Rattle.sarif_reports.specs.TextLaws.{IsTextOfLines};
 ghost use Rattle.sarif_reports.specs.TextReport.{text_lines_of};
+ghost use Rattle.sarif_reports.specs.MarkdownReport.{most_rows};
 
 /// No character of a shown string is a control character, a line separator, or a character that hides or controls
 /// others.
@@ -85,10 +86,10 @@ pub fn github_lines_begin_with_commands()
 /// cell.
 pub fn markdown_rows_have_their_cells()
     ensures bars { (reporting : Reporting) (log : Data) →
-        have_bars 8 0 (flat_map result_row (take 200 (reported_of reporting log))) ≡ true }
+        have_bars 8 0 (flat_map result_row (take most_rows (reported_of reporting log))) ≡ true }
     ensures lines { (reporting : Reporting) (log : Data) →
-        count_by (λ b. b == 10) (flat_map result_row (take 200 (reported_of reporting log)))
-        ≡ length (take 200 (reported_of reporting log)) }
+        count_by (λ b. b == 10) (flat_map result_row (take most_rows (reported_of reporting log)))
+        ≡ length (take most_rows (reported_of reporting log)) }
 {}
 
 /// Read as JSON, the report for GitLab is the array of its objects, for any strings: no log adds an object or a

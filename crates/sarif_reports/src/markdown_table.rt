@@ -164,7 +164,7 @@ fn push_rows(alloc: Global, text: &mut String, findings: &[Finding]) -> Result<(
 
 /// The first results, as many as the table holds.
 fn first_rows(findings: &[Finding]) -> &[Finding]
-    ensures { result.now ≡ take 200 findings.now }
+    ensures { result.now ≡ take said.most_rows findings.now }
 {
     if findings.len() > MOST_ROWS {
         &findings[..MOST_ROWS]

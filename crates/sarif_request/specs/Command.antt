@@ -1,5 +1,5 @@
 -- The arguments that the program understands, as their parser sees them.
-use Rattle.std.specs.Prelude.{◌≡◌, List, [], ◌∷◌, map, fold, true, Option, None, Some, option_map, pos, codes}
+use Rattle.std.specs.Prelude.{◌≡◌, ◌-◌, ◌^◌, List, [], ◌∷◌, map, fold, true, Option, None, Some, option_map, pos, codes}
 use Rattle.std.specs.Option.{option_map_or}
 use Rattle.std.specs.Borrow.{Bor}
 use Rattle.clap.specs.Words.{App, Rule, Text, new_app, new_rule, with_rule}
@@ -7,6 +7,7 @@ use Rattle.clap.specs.Simple.{on_top}
 use Rattle.clap.specs.declared.builder.action.ArgAction.TheVariants as action
 use Rattle.clap.specs.declared.builder.value_parser.ValueParser.{ValueParser}
 use Rattle.clap.specs.declared.builder.value_parser.ValueParser.TheVariants.{Signed, Names}
+use Rattle.sarif_model.specs.Limits.{first_day, last_day, most_workers}
 use Rattle.sarif_reports.specs.declared.report.Report.{Report}
 use Rattle.sarif_reports.specs.Report.{all_reports, report_name}
 use Rattle.sarif_request.specs.declared.option_rows.Kind.{Kind}
@@ -66,12 +67,12 @@ arguments =
     argument (codes "log") Logs
     ∷ argument (codes "baseline") Many
     ∷ argument (codes "suppress") Once
-    ∷ argument (codes "today") (Number (pos 10000101) (pos 99991231))
+    ∷ argument (codes "today") (Number (pos first_day) (pos last_day))
     ∷ with_default (codes "error") (argument (codes "fail-on") Level)
-    ∷ with_default (codes "0") (argument (codes "max") (Number (pos 0) (pos 4294967295)))
+    ∷ with_default (codes "0") (argument (codes "max") (Number (pos 0) (pos (2 ^ 32 - 1))))
     ∷ argument (codes "out") Needed
     ∷ argument (codes "root") Once
-    ∷ with_default (codes "4") (argument (codes "workers") (Number (pos 1) (pos 64)))
+    ∷ with_default (codes "4") (argument (codes "workers") (Number (pos 1) (pos most_workers)))
     ∷ argument (codes "explain") Flag
     ∷ argument (codes "help") Help
     ∷ argument (codes "version") Version

@@ -8,6 +8,7 @@ use Rattle.clap.specs.declared.error.kind.ErrorKind.{ErrorKind}
 use Rattle.clap.specs.declared.error.kind.ErrorKind.TheVariants as kind
 use Rattle.sarif_model.specs.declared.kinds.Level.{Level}
 use Rattle.sarif_model.specs.Level.{level_named}
+use Rattle.sarif_model.specs.Limits.{most_workers}
 use Rattle.sarif_counts.specs.Policy.{default_policy}
 use Rattle.sarif_reports.specs.declared.report.Report.{Report}
 use Rattle.sarif_reports.specs.Report.{all_reports, report_name}
@@ -57,7 +58,7 @@ IsReadOr default text n = (read : Option ℕ) × IsRead text read × (n ≡ unwr
 
 -- a number of workers
 abbrev pub in_range : ℕ → ℕ
-in_range n = max 1 (min n 64)
+in_range n = max 1 (min n most_workers)
 
 -- the minimum level of a hit
 abbrev pub fail_on_in : List Row → Level

@@ -2,6 +2,8 @@
 ghost use Rattle.std.specs.Prelude.{◌≡◌, map};
 ghost use Rattle.sarif_request.specs.Command.{argument_of, arguments};
 
+use sarif_model::{FIRST_DAY, LAST_DAY, MOST_WORKERS};
+
 /// Where the help shows an option.
 #[derive(Clone, Copy, Debug, PartialEq, Eq)]
 pub enum Group {
@@ -100,7 +102,7 @@ static ROWS: [OptionRow; 12] = [
         help: "Today's date, for example 20250131. Required if a suppression has an\n\
             expiry date; the program reads no clock",
         group: Group::Inputs,
-        kind: Kind::Number(10_000_101, 99_991_231),
+        kind: Kind::Number(FIRST_DAY as i64, LAST_DAY as i64),
         default: None,
     },
     OptionRow {
@@ -117,7 +119,7 @@ static ROWS: [OptionRow; 12] = [
         value: "NUMBER",
         help: "Allow up to NUMBER hits, from 0 to 4294967295",
         group: Group::Gate,
-        kind: Kind::Number(0, 4_294_967_295),
+        kind: Kind::Number(0, u32::MAX as i64),
         default: Some("0"),
     },
     OptionRow {
@@ -143,7 +145,7 @@ static ROWS: [OptionRow; 12] = [
         help: "Number of worker threads, 1 to 64, besides the main thread. The outputs do\n\
             not depend on it",
         group: Group::Other,
-        kind: Kind::Number(1, 64),
+        kind: Kind::Number(1, MOST_WORKERS as i64),
         default: Some("4"),
     },
     OptionRow {

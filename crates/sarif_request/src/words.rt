@@ -13,7 +13,7 @@ use crate::wanted::Wanted;
 use clap::ArgMatches;
 use clap::error::ErrorKind;
 use sarif_counts::{Options, Policy};
-use sarif_model::{Level, Text};
+use sarif_model::{Level, MOST_WORKERS, Text};
 use sarif_reports::Report;
 use std::alloc::{AllocError, AllocFailed, Global};
 use std::hash::RandomState;
@@ -106,7 +106,9 @@ fn request_of(
     let options = Options {
         policy: policy_of(matches),
         today: number_of(matches, "today"),
-        workers: number_of(matches, "workers").unwrap_or(1).clamp(1, 64),
+        workers: number_of(matches, "workers")
+            .unwrap_or(1)
+            .clamp(1, MOST_WORKERS),
         seed,
     };
     Ok(Request {

@@ -10,6 +10,7 @@ use Rattle.sarif_results.specs.Outcomes.{all_outcomes}
 use Rattle.sarif_runs.specs.Placed.{Placed}
 use Rattle.sarif_results.specs.Drafts.{IsRun}
 use Rattle.sarif_results.specs.declared.judged.Judged.{Judged}
+use Rattle.sarif_model.specs.Limits.{most_results, most_runs}
 
 abbrev pub placed_in : Judged → List Placed
 placed_in judged = map placed_of judged.runs.items
@@ -20,5 +21,5 @@ pub record IsJudged (file : File) (baseline : Bool) (judged : Judged) : Type 0 w
   pub faultless : faults_of_runs (placed_in judged) ≡ []
   pub sources : AllByRecursion (λ p. skips p.source ≡ baseline) (placed_in judged)
   pub objects : AllByRecursion IsRun (run_values (placed_in judged))
-  pub few_runs : length (placed_in judged) ≤ 10000
-  pub few_results : results_total (run_values (placed_in judged)) ≤ 1000000
+  pub few_runs : length (placed_in judged) ≤ most_runs
+  pub few_results : results_total (run_values (placed_in judged)) ≤ most_results

@@ -5,6 +5,7 @@ ghost use Rattle.serde_json.specs.Written.{has_float};
 ghost use Rattle.sarif_read.specs.Indexed.{run_of};
 ghost use Rattle.sarif_runs.specs.Head.{head_of};
 ghost use Rattle.sarif_runs.specs.Record.{tool_name};
+ghost use Rattle.sarif_model.specs.Limits.{most_results};
 
 use crate::head::RunHead;
 use crate::item::Item;
@@ -91,10 +92,10 @@ impl<'t, 'a> OpenedRun<'t, 'a> {
         }
     }
 
-    /// How many results the run has, at most 1,000,000.
+    /// How many results the run has, at most `MOST_RESULTS`.
     pub fn len(&self) -> u32
         ensures count { result ≡ length (results_of (placed_of self.now).run) }
-        ensures few { result ≤ 1000000 }
+        ensures few { result ≤ most_results }
     {
         self.run.len()
     }

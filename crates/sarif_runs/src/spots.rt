@@ -2,6 +2,7 @@
 ghost use Rattle.std.specs.Prelude.{◌≡◌, ◌≤◌, ◌++◌, IfOk, OnOk, map, length};
 ghost use Rattle.sarif_runs.specs.Opened.{placed_of};
 ghost use Rattle.sarif_runs.specs.Spots.{spots_from, spots_in};
+ghost use Rattle.sarif_model.specs.Limits.{most_runs};
 
 use crate::opened::OpenedRun;
 use std::alloc::{AllocError, Global};
@@ -27,7 +28,7 @@ fn push_spots(spots: &mut Vec<Spot>, run: u32, count: u32) -> Result<(), AllocEr
 
 /// The spots of the results of these runs, in order. Returns `AllocError` if memory for the list runs out.
 pub fn list_spots(alloc: Global, runs: &[OpenedRun<'_, '_>]) -> Result<Vec<Spot>, AllocError>
-    requires few { length runs.now ≤ 10000 }
+    requires few { length runs.now ≤ most_runs }
     ensures { IfOk result (λ spots. spots.items ≡ spots_from 0 (map placed_of runs.now)) }
 {
     let mut spots = Vec::new(alloc);

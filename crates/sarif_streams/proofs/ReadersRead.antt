@@ -5,6 +5,7 @@ use Rattle.std.proofs.lemmas.List.{get_or-drop, drop-drop, drop-set-lt, drop_mor
 use Rattle.sarif_streams.specs.declared.counted.Counted.{Counted}
 use Rattle.sarif_model.specs.declared.merge_fault.Source.{Source}
 use Rattle.sarif_streams.specs.declared.readers.ReadersFault.{ReadersFault}
+use Rattle.sarif_model.specs.declared.refusal.Refusal.{Refusal}
 use Rattle.sarif_streams.specs.AreRead.{IsRead, AreRead, HasStopped, StopsIn}
 use Rattle.sarif_streams.specs.Counted.{failed_calls, RisesIf}
 use Rattle.sarif_streams.specs.declared.readers.Readers.{Readers}
@@ -46,7 +47,7 @@ are_read_more remaining os ws bs i d w b in_os in_ws same all one =
     let given : IsRead remaining (get_or os i d) w b = subst (λ o. IsRead remaining o w b) (same_at ws os i d same) one in
     rw (take_more os i d in_os, take_more_set ws i w in_ws) (are_read_push remaining (take i os) (take i ws) bs (get_or os i d) w b all given)
 
-stops_after : {R : Type 0} (remaining : R → Option (List ℕ)) (name : ℕ → Source) (n : ℕ) (os ws : List (Counted R)) (bs : List (List ℕ)) (o w : Counted R) (rest : List (Counted R)) (fault : ReadersFault)
+stops_after : {R : Type 0} (remaining : R → Option (List ℕ)) (name : ℕ → Source) (n : ℕ) (os ws : List (Counted R)) (bs : List (List ℕ)) (o w : Counted R) (rest : List (Counted R)) (fault : Refusal ReadersFault)
     → AreRead remaining os ws bs → HasStopped remaining (name (n + length os)) o w fault
     → StopsIn remaining name n (os ++ o ∷ rest) (ws ++ w ∷ rest) fault
 stops_after remaining name n [] [] [] o w rest fault all one =
@@ -79,7 +80,7 @@ none_has_fallen [] = tt
 none_has_fallen (o ∷ os) = (omega arith, none_has_fallen os)
 
 -- reading ended at this one
-pub stops_at : {R : Type 0} (remaining : R → Option (List ℕ)) (name : ℕ → Source) (os ws : List (Counted R)) (bs : List (List ℕ)) (i : ℕ) (d w : Counted R) (fault : ReadersFault)
+pub stops_at : {R : Type 0} (remaining : R → Option (List ℕ)) (name : ℕ → Source) (os ws : List (Counted R)) (bs : List (List ℕ)) (i : ℕ) (d w : Counted R) (fault : Refusal ReadersFault)
     → i < length os → i < length ws → drop i ws ≡ drop i os
     → AreRead remaining (take i os) (take i ws) bs → HasStopped remaining (name i) (get_or ws i d) w fault
     → StopsIn remaining name 0 os (set ws i w) fault

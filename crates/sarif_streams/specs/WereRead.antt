@@ -6,6 +6,7 @@ use Rattle.sarif_model.specs.declared.merge_fault.Source.TheVariants.{Log, Basel
 use Rattle.sarif_streams.specs.declared.readers.Readers.{Readers}
 use Rattle.sarif_streams.specs.declared.readers.ReadersFault.{ReadersFault}
 use Rattle.sarif_streams.specs.declared.readers.SourceBytes.{SourceBytes}
+use Rattle.sarif_model.specs.declared.refusal.Refusal.{Refusal}
 use Rattle.sarif_streams.specs.AreRead.{IsRead, AreRead, HasStopped, StopsIn}
 use Rattle.sarif_streams.specs.Counted.{inner_of}
 use Rattle.sarif_streams.specs.Failing.{failed_calls_in, NoneFalls}
@@ -55,7 +56,7 @@ pub record WereRead {R : Type 0} (remaining : R → Option (List ℕ)) (old new 
 
 -- a reader that may be there ended reading
 abbrev pub HasStoppedIf : {R : Type 0} → (R → Option (List ℕ))
-    → Option (Counted R) → Option (Counted R) → ReadersFault → Type 0
+    → Option (Counted R) → Option (Counted R) → Refusal ReadersFault → Type 0
 HasStoppedIf remaining None new fault = ⊥
 HasStoppedIf remaining (Some old) None fault = ⊥
 HasStoppedIf remaining (Some old) (Some new) fault = HasStopped remaining Suppress old new fault
@@ -63,7 +64,7 @@ HasStoppedIf remaining (Some old) (Some new) fault = HasStopped remaining Suppre
 -- reading ended at one of the sources: logs, then baselines, then the suppression file; those before it were read, and
 -- those after it are as they were
 abbrev pub HasStoppedAt : {R : Type 0} → (R → Option (List ℕ))
-    → Readers R → Readers R → ReadersFault → Type 0
+    → Readers R → Readers R → Refusal ReadersFault → Type 0
 HasStoppedAt remaining old new fault =
     (StopsIn remaining Log 0 old.logs.items new.logs.items fault
     × (new.baselines ≡ old.baselines)

@@ -25,6 +25,7 @@ pub use laws::sources_are_read_in_one_way;
 pub use output::OutputFile;
 pub use place::Place;
 pub use readers::{Readers, ReadersFault, SourceBytes};
+pub use readers_fault::rejection_of;
 pub use reading::read_sources;
 pub use source::{SourceFault, read_source};
 pub use streams::STANDARD;

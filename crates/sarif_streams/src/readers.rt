@@ -1,8 +1,8 @@
 //! The readers of a merge, what they give, and why they are not all read.
 use crate::counted::Counted;
+use crate::source::SourceFault;
 use sarif_model::Source;
-use std::alloc::{AllocError, AllocFailed};
-use thiserror::Error;
+use std::fmt;
 
 /// The inputs of a merge: the logs, the baselines, and the suppression file, if there is one.
 #[derive(Debug, Drop)]
@@ -27,37 +27,20 @@ pub struct SourceBytes {
 }
 
 /// Why not all sources of a merge were read. A write cannot be the reason.
-#[derive(Clone, Copy, Debug, PartialEq, Eq, Error)]
-pub enum ReadersFault {
-    /// A read of this source failed.
-    #[error("{0}: ReadFailed")]
-    ReadFailed(Source),
-    /// This source has more than 67,108,864 bytes.
-    #[error("{0}: TooLong")]
-    TooLong(Source),
-    /// Memory ran out.
-    #[error("OutOfMemory")]
-    OutOfMemory,
+#[derive(Clone, Copy, Debug, PartialEq, Eq)]
+pub struct ReadersFault {
+    /// The source that was not read.
+    pub source: Source,
+    /// Why it was not read.
+    pub fault: SourceFault,
 }
 
-impl From<AllocError> for ReadersFault {
-    ghost use Rattle.std.specs.Prelude.{◌≡◌};
-    ghost use Rattle.sarif_streams.specs.declared.readers.ReadersFault.TheVariants.{OutOfMemory};
-
-    ghost from_gives = { λ _ fault. fault ≡ OutOfMemory };
-
-    fn from(_error: AllocError) -> ReadersFault {
-        ReadersFault::OutOfMemory
+impl fmt::Display for ReadersFault {
+    fn fmt<W: fmt::Write>(&self, f: &mut fmt::Formatter<W>) -> fmt::Result {
+        let source = self.source;
+        let fault = self.fault;
+        write!(f, "{source}: {fault}")
     }
 }
 
-impl<T: Drop> From<AllocFailed<T>> for ReadersFault {
-    ghost use Rattle.std.specs.Prelude.{◌≡◌};
-    ghost use Rattle.sarif_streams.specs.declared.readers.ReadersFault.TheVariants.{OutOfMemory};
-
-    ghost from_gives = { λ _ fault. fault ≡ OutOfMemory };
-
-    fn from(_error: AllocFailed<T>) -> ReadersFault {
-        ReadersFault::OutOfMemory
-    }
-}
+impl std::error::Error for ReadersFault {}

@@ -7,11 +7,12 @@ ghost use Rattle.sarif_streams.specs.Failing.{failed_calls_in, NoneFalls, readin
 ghost use Rattle.sarif_streams.specs.OptionalReader.{failed_calls_if};
 ghost use Rattle.sarif_model.specs.SourceKind.{source_of};
 ghost use Rattle.sarif_streams.specs.WereRead.{contents_of, failures, HasStoppedAt, HasStoppedIf, IsReadIf, NoNumberFalls, WereRead};
+ghost use Rattle.sarif_model.specs.Limits.{most_sources};
 
 use crate::counted::Counted;
 use crate::readers::{Readers, ReadersFault, SourceBytes};
-use crate::source::{SourceFault, read_source};
-use sarif_model::{Source, SourceKind};
+use crate::source::read_source;
+use sarif_model::{Refusal, Source, SourceKind};
 use std::alloc::Global;
 use std::io::Read;
 
@@ -20,7 +21,7 @@ fn read_reader<R: Read>(
     alloc: Global,
     source: Source,
     reader: &mut Counted<R>,
-) -> Result<Vec<u8>, ReadersFault>
+) -> Result<Vec<u8>, Refusal<ReadersFault>>
     requires { failed_calls reader.old < 2 ^ 63 }
     ensures read { IfOk result (λ v. IsRead R.remaining reader.old reader.new v.items) }
     ensures stopped { IfErr result (HasStopped R.remaining source reader.old reader.new) }
@@ -29,9 +30,8 @@ fn read_reader<R: Read>(
 {
     match read_source(alloc, reader) {
         Ok(bytes) => Ok(bytes),
-        Err(SourceFault::ReadFailed) => Err(ReadersFault::ReadFailed(source)),
-        Err(SourceFault::TooLong) => Err(ReadersFault::TooLong(source)),
-        Err(SourceFault::OutOfMemory) => Err(ReadersFault::OutOfMemory),
+        Err(Refusal::Fault(fault)) => Err(Refusal::Fault(ReadersFault { source, fault })),
+        Err(Refusal::OutOfMemory) => Err(Refusal::OutOfMemory),
     }
 }
 
@@ -41,8 +41,8 @@ fn read_readers<R: Read>(
     alloc: Global,
     kind: SourceKind,
     readers: &mut [Counted<R>],
-) -> Result<Vec<Vec<u8>>, ReadersFault>
-    requires few { length readers.old ≤ 1000 }
+) -> Result<Vec<Vec<u8>>, Refusal<ReadersFault>>
+    requires few { length readers.old ≤ most_sources }
     requires faults { All (λ reader. failed_calls reader < 2 ^ 63) readers.old }
     ensures read { IfOk result (λ sources. AreRead R.remaining readers.old readers.new
         (map (λ v. v.items) sources.items)) }
@@ -65,7 +65,7 @@ fn read_readers<R: Read>(
 fn read_optional<R: Read>(
     alloc: Global,
     reader: &mut Option<Counted<R>>,
-) -> Result<Option<Vec<u8>>, ReadersFault>
+) -> Result<Option<Vec<u8>>, Refusal<ReadersFault>>
     requires { failed_calls_if reader.old < 2 ^ 63 }
     ensures read { IfOk result (λ bytes. IsReadIf R.remaining reader.old
         reader.new (option_map (λ v. v.items) bytes)) }
@@ -84,22 +84,22 @@ fn read_optional<R: Read>(
 }
 
 /// Reads all sources to their ends, in this order: the logs, the baselines, the suppression file. The first source
-/// that cannot be read ends it: `ReadFailed` if a read failed, `TooLong` if it has more than 67,108,864 bytes,
+/// that cannot be read ends it: `ReadFailed` if a read failed, `TooLong` if it has more than `MOST_BYTES` bytes,
 /// each with the source; `OutOfMemory` if memory runs out. The sources before it were read, and the sources after
 /// it are untouched.
 pub fn read_sources<R: Read>(
     alloc: Global,
     readers: &mut Readers<R>,
-) -> Result<SourceBytes, ReadersFault>
-    requires few_logs { length readers.old.logs.items ≤ 1000 }
-    requires few_baselines { length readers.old.baselines.items ≤ 1000 }
+) -> Result<SourceBytes, Refusal<ReadersFault>>
+    requires few_logs { length readers.old.logs.items ≤ most_sources }
+    requires few_baselines { length readers.old.baselines.items ≤ most_sources }
     requires logs { All (λ reader. failed_calls reader < 2 ^ 63) readers.old.logs.items }
     requires baselines { All (λ reader. failed_calls reader < 2 ^ 63) readers.old.baselines.items }
     requires suppressions { failed_calls_if readers.old.suppressions < 2 ^ 63 }
     ensures read { IfOk result
         (λ sources. WereRead R.remaining readers.old readers.new (contents_of sources)) }
-    ensures few_logs { IfOk result (λ sources. length sources.logs.items ≤ 1000) }
-    ensures few_baselines { IfOk result (λ sources. length sources.baselines.items ≤ 1000) }
+    ensures few_logs { IfOk result (λ sources. length sources.logs.items ≤ most_sources) }
+    ensures few_baselines { IfOk result (λ sources. length sources.baselines.items ≤ most_sources) }
     ensures stopped { IfErr result (HasStoppedAt R.remaining readers.old readers.new) }
     ensures read_failed { RisesIf (reading_has_failed result)
         (failures readers.old) (failures readers.new) }

@@ -5,12 +5,10 @@ ghost use Rattle.sarif_streams.specs.Counted.{inner_of, failed_calls, RisesIf};
 ghost use Rattle.sarif_streams.specs.Source.{IsWithinLimit, IsPastLimit, read_has_failed};
 
 use crate::counted::Counted;
+use sarif_model::{MOST_BYTES, Refusal};
 use std::alloc::{AllocError, Global};
 use std::io::Read;
 use thiserror::Error;
-
-/// How many bytes a source may have.
-const SOURCE_LIMIT: usize = 67_108_864;
 
 /// How many bytes one read requests.
 const BUFFER: usize = 65_536;
@@ -21,34 +19,24 @@ pub enum SourceFault {
     /// A read failed.
     #[error("ReadFailed")]
     ReadFailed = 1,
-    /// There are more than 67,108,864 bytes.
+    /// There are more than `MOST_BYTES` bytes.
     #[error("TooLong")]
     TooLong = 2,
-    /// Memory ran out.
-    #[error("OutOfMemory")]
-    OutOfMemory = 3,
 }
 
-impl From<AllocError> for SourceFault {
-    ghost use Rattle.sarif_streams.specs.declared.source.SourceFault.TheVariants.{OutOfMemory};
-
-    ghost from_gives = { λ _ fault. fault ≡ OutOfMemory };
-
-    fn from(_error: AllocError) -> SourceFault {
-        SourceFault::OutOfMemory
-    }
-}
-
-/// All bytes up to the read that returns none, at most 67,108,864. Returns `ReadFailed` at the first read that
+/// All bytes up to the read that returns none, at most `MOST_BYTES`. Returns `ReadFailed` at the first read that
 /// fails, for any reason; `TooLong` after one byte past the limit, even if the reader has no end; `OutOfMemory` if
 /// memory runs out. Bytes that were read stay read.
-pub fn read_source<R: Read>(alloc: Global, source: &mut Counted<R>) -> Result<Vec<u8>, SourceFault>
+pub fn read_source<R: Read>(
+    alloc: Global,
+    source: &mut Counted<R>,
+) -> Result<Vec<u8>, Refusal<SourceFault>>
     requires { failed_calls source.old < 2 ^ 63 }
     ensures bytes { IfOk result (λ v. Consumes (R.remaining (inner_of source.old))
         (R.remaining (inner_of source.new)) v.items) }
     ensures end { OnOk result (IsAtEnd (R.remaining (inner_of source.new))) }
     ensures within { IfOk result (λ v. IsWithinLimit v.items) }
-    ensures too_long { result ≡ Err SourceFault.TooLong
+    ensures too_long { result ≡ Err (Refusal.Fault SourceFault.TooLong)
         → IfSome (R.remaining (inner_of source.old)) IsPastLimit }
     ensures counted { RisesIf (read_has_failed result)
         (failed_calls source.old) (failed_calls source.new) }
@@ -62,30 +50,30 @@ fn read_through<R: Read>(
     alloc: Global,
     source: &mut Counted<R>,
     buffer: &mut [u8],
-) -> Result<Vec<u8>, SourceFault>
+) -> Result<Vec<u8>, Refusal<SourceFault>>
     requires faults { failed_calls source.old < 2 ^ 63 }
     requires room { 0 < length buffer.old }
     ensures bytes { IfOk result (λ v. Consumes (R.remaining (inner_of source.old))
         (R.remaining (inner_of source.new)) v.items) }
     ensures end { OnOk result (IsAtEnd (R.remaining (inner_of source.new))) }
     ensures within { IfOk result (λ v. IsWithinLimit v.items) }
-    ensures too_long { result ≡ Err SourceFault.TooLong
+    ensures too_long { result ≡ Err (Refusal.Fault SourceFault.TooLong)
         → IfSome (R.remaining (inner_of source.old)) IsPastLimit }
     ensures counted { RisesIf (read_has_failed result)
         (failed_calls source.old) (failed_calls source.new) }
 {
     let mut bytes = Vec::new(alloc);
     loop {
-        let room = (SOURCE_LIMIT + 1 - bytes.len()).min(buffer.len());
+        let room = (MOST_BYTES + 1 - bytes.len()).min(buffer.len());
         let taken = match source.read(&mut buffer[..room]) {
             Ok(taken) => taken,
-            Err(_) => return Err(SourceFault::ReadFailed),
+            Err(_) => return Err(Refusal::Fault(SourceFault::ReadFailed)),
         };
         if taken == 0 {
             return Ok(bytes);
         }
-        if taken > SOURCE_LIMIT - bytes.len() {
-            return Err(SourceFault::TooLong);
+        if taken > MOST_BYTES - bytes.len() {
+            return Err(Refusal::Fault(SourceFault::TooLong));
         }
         bytes.extend_from_slice(&buffer[..taken])?;
     }

@@ -3,6 +3,7 @@ use Rattle.std.specs.Prelude.{ℕ, ⊤, Bool, true, false, ◌&&◌, ◌||◌, �
 use Rattle.serde_json.specs.Data.{Data, null, boolean, number, string, array, object, Members, no_members, member}
 use Rattle.serde_json.specs.Find.{as_str, as_object, as_number, as_u64}
 use Rattle.sarif_model.specs.Guid.{guid_of_text}
+use Rattle.sarif_model.specs.Limits.{first_day, last_day}
 use Rattle.sarif_model.specs.Members.{◌>>=◌, member_at, text_at, elements_at, read_each, or_wrong}
 use Rattle.sarif_model.specs.Status.{status_named}
 use Rattle.sarif_model.specs.declared.kinds.Status.{Status}
@@ -116,10 +117,10 @@ texts_at wrong name d = elements_at wrong name d >>= read_each (text_or wrong)
 abbrev pub is_within : ℕ → ℕ → ℕ → Bool
 is_within least greatest n = nat_le least n && nat_le n greatest
 
--- a day yyyymmdd from 10000101 to 99991231, of a month 1 to 12 and a day 1 to 31; the lengths of months don't count
+-- a day yyyymmdd from the first to the last, of a month 1 to 12 and a day 1 to 31; the lengths of months don't count
 abbrev pub is_day : ℕ → Bool
 is_day n =
-    is_within 10000101 99991231 n && (is_within 1 12 (n / 100 % 100) && is_within 1 31 (n % 100))
+    is_within first_day last_day n && (is_within 1 12 (n / 100 % 100) && is_within 1 31 (n % 100))
 
 abbrev pub day_or : FileFault → Option ℕ → Result (Option ℕ) FileFault
 day_or wrong None = Err wrong

@@ -12,6 +12,7 @@ use Rattle.sarif_suppress.specs.declared.version.Version.{Version}
 use Rattle.sarif_suppress.specs.declared.version.Version.TheVariants.{First, Second, Fourth}
 use Rattle.sarif_suppress.specs.FileFault.{whole}
 use Rattle.sarif_suppress.specs.Entries.{unless_fault, entry_of}
+use Rattle.sarif_model.specs.Limits.{most_entries}
 
 -- the entries of a suppression file in order, and the date for which it was read, if one is known
 pub record File : Type 0 where
@@ -38,9 +39,9 @@ abbrev pub check_version : Data → Result Version FileFault
 check_version d =
     version_or (option_and_then as_u64 (option_and_then as_number (get (codes "version") d)))
 
--- at most 10,000 entries
+-- not too many entries
 abbrev pub check_count : List Data → Result ⊤ FileFault
-check_count ds = unless_fault (nat_le (length ds) 10000) (whole TooMany)
+check_count ds = unless_fault (nat_le (length ds) most_entries) (whole TooMany)
 
 -- the entries from number n on, or the first error among them
 unfoldable pub entries_from : Version → Option ℕ → ℕ → List Data

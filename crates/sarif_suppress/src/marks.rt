@@ -5,6 +5,7 @@ ghost use Rattle.sarif_model.specs.declared.record.Record.{Record};
 ghost use Rattle.sarif_suppress.specs.File.{File};
 ghost use Rattle.sarif_suppress.specs.Marks.{marks_of, with_marks};
 ghost use Rattle.sarif_suppress.specs.Suppressing.{matching_numbers, unused_of};
+ghost use Rattle.sarif_model.specs.Limits.{most_entries};
 
 use crate::suppressions::Applied;
 use std::alloc::{AllocError, Global};
@@ -19,12 +20,13 @@ pub struct Marks {
 
 impl Model for Marks {
     ghost use Rattle.std.specs.Prelude.{◌≤◌, List, Bool, length};
+    ghost use Rattle.sarif_model.specs.Limits.{most_entries};
 
     ghost Value = { List Bool };
 
     ghost view = { λ m. m.marks.items };
 
-    ghost invariant = { λ m. length m.marks.items ≤ 10000 };
+    ghost invariant = { λ m. length m.marks.items ≤ most_entries };
 }
 
 /// Sets the marks of these numbers.
@@ -50,7 +52,7 @@ fn count_unset(marks: &[bool]) -> usize
 impl Marks {
     /// That many marks, none of them set.
     pub(crate) fn unset(alloc: Global, count: usize) -> Result<Marks, AllocError>
-        requires { count ≤ 10000 }
+        requires { count ≤ most_entries }
         ensures { IfOk result (λ marks. marks ≡ replicate count false) }
     {
         let marks = vec![in alloc; false; count]?;

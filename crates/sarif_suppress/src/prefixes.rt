@@ -6,6 +6,7 @@ ghost use Rattle.std.specs.List.{flat_map};
 ghost use Rattle.std.specs.Option.{option_map_or};
 ghost use Rattle.sarif_suppress.specs.Numbers.{numbers_from, numbers_at};
 ghost use Rattle.sarif_suppress.specs.Prefixes as said;
+ghost use Rattle.sarif_model.specs.Limits.{most_entries};
 
 use crate::entry::Entry;
 use crate::numbers::{add_number, numbers_for};
@@ -29,13 +30,13 @@ pub(crate) struct PrefixTable<S: BuildHasher + Copy> {
 }
 
 impl<S: BuildHasher + Copy> PrefixTable<S> {
-    /// The table of at most 10,000 entries.
+    /// The table of at most `MOST_ENTRIES` entries.
     pub(crate) fn new(
         alloc: Global,
         hasher: S,
         entries: &[Entry],
     ) -> Result<PrefixTable<S>, AllocError>
-        requires { length entries.now ≤ 10000 }
+        requires { length entries.now ≤ most_entries }
         ensures { IfOk result (said.IsPrefixTable entries.now) }
     {
         let base = (hasher.hash_one(0u64) % MODULUS) as u32;
@@ -155,7 +156,7 @@ fn numbers_by_hash<S: BuildHasher + Copy>(
     base: u32,
     entries: &[Entry],
 ) -> Result<IndexMap<u32, Vec<u32>, S>, AllocError>
-    requires { length entries.now ≤ 10000 }
+    requires { length entries.now ≤ most_entries }
     ensures { IfOk result (λ table. (q : ℕ)
         → numbers_at nat_eq table q ≡ numbers_from (said.asks_for_hash base q) 0 entries.now) }
 {

@@ -10,7 +10,7 @@ use crate::entry::Entry;
 use crate::fault::FileFault;
 use crate::version::Version;
 use sarif_model::members::{elements_at, member_at, text_at};
-use sarif_model::{Fault, Pairs, Refusal, Sequence, Status, Text, read_guid};
+use sarif_model::{FIRST_DAY, Fault, LAST_DAY, Pairs, Refusal, Sequence, Status, Text, read_guid};
 use serde_json::{Map, Value};
 use std::alloc::{AllocError, Global};
 
@@ -179,8 +179,8 @@ fn is_day(number: u64) -> bool
 {
     let month = number / 100 % 100;
     let day = number % 100;
-    10_000_101 <= number
-        && number <= 99_991_231
+    FIRST_DAY as u64 <= number
+        && number <= LAST_DAY as u64
         && 1 <= month
         && month <= 12
         && 1 <= day

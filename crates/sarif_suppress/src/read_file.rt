@@ -6,6 +6,7 @@ ghost use Rattle.json_parts.specs.Indexed.{json_of};
 ghost use Rattle.sarif_model.specs.Refusal.{IfFault};
 ghost use Rattle.sarif_suppress.specs.FileFault.{whole};
 ghost use Rattle.sarif_suppress.specs.File as said;
+ghost use Rattle.sarif_model.specs.Limits.{most_entries};
 
 use crate::entry::Entry;
 use crate::fault::FileFault;
@@ -13,13 +14,10 @@ use crate::read_entry::read_entry;
 use crate::suppressions::Suppressions;
 use crate::version::Version;
 use json_parts::without_mark;
-use sarif_model::{Fault, Refusal};
+use sarif_model::{Fault, MOST_ENTRIES, Refusal};
 use serde_json::Value;
 use std::alloc::Global;
 use std::hash::{BuildHasher, BuildHasherDefault, FoldHasher};
-
-/// The most entries of a file.
-const MOST_ENTRIES: usize = 10_000;
 
 /// Passes an object with an array `suppressions`, and gives its elements.
 #[tactic(auto, using(sarif_model::proofs::Elements::elements_items_view))]
@@ -44,10 +42,10 @@ fn check_version(file: &Value) -> Result<Version, FileFault>
     }
 }
 
-/// Passes a list of at most 10,000 entries.
+/// Passes a list of at most `MOST_ENTRIES` entries.
 fn check_count(entries: &[Value]) -> Result<(), FileFault>
     ensures passes { result ≡ said.check_count (map view entries.now) }
-    ensures few { OnOk result (length entries.now ≤ 10000) }
+    ensures few { OnOk result (length entries.now ≤ most_entries) }
 {
     if entries.len() <= MOST_ENTRIES {
         Ok(())
@@ -64,8 +62,8 @@ fn read_entries(
     today: Option<u32>,
     values: &[Value],
 ) -> Result<Vec<Entry>, Refusal<FileFault>>
-    requires { length values.now ≤ 10000 }
-    ensures few { IfOk result (λ entries. length entries.items ≤ 10000) }
+    requires { length values.now ≤ most_entries }
+    ensures few { IfOk result (λ entries. length entries.items ≤ most_entries) }
     ensures ok { IfOk result (λ entries. said.entries_from version today 0 (map view values.now)
         ≡ Ok entries.items) }
     ensures err { IfFault result

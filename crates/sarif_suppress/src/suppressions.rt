@@ -5,6 +5,7 @@ ghost use Rattle.sarif_model.specs.declared.record.Record.{Record};
 ghost use Rattle.sarif_suppress.specs.Marks.{marks_of};
 ghost use Rattle.sarif_suppress.specs.Written as said;
 ghost use Rattle.sarif_suppress.specs.Suppressing.{matching_numbers, is_suppressed, unused_of};
+ghost use Rattle.sarif_model.specs.Limits.{most_entries};
 
 use crate::entry::Entry;
 use crate::marks::Marks;
@@ -35,12 +36,13 @@ impl<S: BuildHasher + Copy> Model for Suppressions<S> {
     ghost use Rattle.sarif_suppress.specs.File.{File};
     ghost use Rattle.sarif_suppress.specs.Prefixes.{IsPrefixTable};
     ghost use Rattle.sarif_suppress.specs.Table.{IsTable};
+    ghost use Rattle.sarif_model.specs.Limits.{most_entries};
 
     ghost Value = { File };
 
     ghost view = { λ s. record { entries = s.entries.items; today = s.today } };
 
-    ghost invariant = { λ s. (length s.entries.items ≤ 10000)
+    ghost invariant = { λ s. (length s.entries.items ≤ most_entries)
         × IsTable s.entries.items s.table × IsPrefixTable s.entries.items s.prefixes };
 }
 
@@ -62,14 +64,14 @@ impl<S: BuildHasher + Copy> Suppressions<S> {
         Suppressions::new(alloc, hasher, Vec::new(alloc), today)
     }
 
-    /// At most 10,000 entries, with their tables.
+    /// At most `MOST_ENTRIES` entries, with their tables.
     pub(crate) fn new(
         alloc: Global,
         hasher: S,
         entries: Vec<Entry>,
         today: Option<u32>,
     ) -> Result<Suppressions<S>, AllocError>
-        requires { length entries.items ≤ 10000 }
+        requires { length entries.items ≤ most_entries }
         ensures { IfOk result (λ s. s ≡ record { entries = entries.items; today = today }) }
     {
         let table = Table::new(alloc, hasher, &entries)?;
@@ -83,10 +85,10 @@ impl<S: BuildHasher + Copy> Suppressions<S> {
         })
     }
 
-    /// How many entries the file has, at most 10,000.
+    /// How many entries the file has, at most `MOST_ENTRIES`.
     pub fn len(&self) -> u32
         ensures count { result ≡ length self.now.entries }
-        ensures few { result ≤ 10000 }
+        ensures few { result ≤ most_entries }
     {
         self.entries.len() as u32
     }

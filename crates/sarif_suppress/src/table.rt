@@ -9,6 +9,7 @@ ghost use Rattle.sarif_suppress.specs.Filing as said;
 ghost use Rattle.sarif_suppress.specs.Matching.{is_pair};
 ghost use Rattle.sarif_suppress.specs.Numbers.{numbers_from, numbers_at};
 ghost use Rattle.sarif_suppress.specs.Table.{ArePairTables, AreTextTables, IsTable};
+ghost use Rattle.sarif_model.specs.Limits.{most_entries};
 
 use crate::entry::Entry;
 use crate::filing::{PairCondition, TextCondition};
@@ -27,9 +28,9 @@ struct PairTables<S: BuildHasher + Copy> {
 }
 
 impl<S: BuildHasher + Copy> PairTables<S> {
-    /// The tables of at most 10,000 entries.
+    /// The tables of at most `MOST_ENTRIES` entries.
     fn new(alloc: Global, hasher: S, entries: &[Entry]) -> Result<PairTables<S>, AllocError>
-        requires { length entries.now ≤ 10000 }
+        requires { length entries.now ≤ most_entries }
         ensures { IfOk result (ArePairTables entries.now) }
     {
         let full = numbers_by_pair(alloc, hasher, entries, PairCondition::Full)?;
@@ -53,9 +54,9 @@ struct TextTables<S: BuildHasher + Copy> {
 }
 
 impl<S: BuildHasher + Copy> TextTables<S> {
-    /// The tables of at most 10,000 entries.
+    /// The tables of at most `MOST_ENTRIES` entries.
     fn new(alloc: Global, hasher: S, entries: &[Entry]) -> Result<TextTables<S>, AllocError>
-        requires { length entries.now ≤ 10000 }
+        requires { length entries.now ≤ most_entries }
         ensures { IfOk result (AreTextTables entries.now) }
     {
         let messages = numbers_by_text(alloc, hasher, entries, TextCondition::Message)?;
@@ -81,9 +82,9 @@ pub(crate) struct Table<S: BuildHasher + Copy> {
 }
 
 impl<S: BuildHasher + Copy> Table<S> {
-    /// The tables of at most 10,000 entries.
+    /// The tables of at most `MOST_ENTRIES` entries.
     pub(crate) fn new(alloc: Global, hasher: S, entries: &[Entry]) -> Result<Table<S>, AllocError>
-        requires { length entries.now ≤ 10000 }
+        requires { length entries.now ≤ most_entries }
         ensures { IfOk result (IsTable entries.now) }
     {
         let others = numbers_of_others(alloc, entries)?;
@@ -157,7 +158,7 @@ fn numbers_by_guid<S: BuildHasher + Copy>(
     hasher: S,
     entries: &[Entry],
 ) -> Result<IndexMap<u128, Vec<u32>, S>, AllocError>
-    requires { length entries.now ≤ 10000 }
+    requires { length entries.now ≤ most_entries }
     ensures { IfOk result (λ table. (q : ℕ)
         → numbers_at nat_eq table q ≡ numbers_from (said.asks_for_guid q) 0 entries.now) }
 {
@@ -177,7 +178,7 @@ fn numbers_by_pair<S: BuildHasher + Copy>(
     entries: &[Entry],
     which: PairCondition,
 ) -> Result<IndexMap<(Text, Text), Vec<u32>, S>, AllocError>
-    requires { length entries.now ≤ 10000 }
+    requires { length entries.now ≤ most_entries }
     ensures { IfOk result (λ table. (q : List ℕ × List ℕ)
         → numbers_at is_pair table q ≡ numbers_from (said.asks_for_pair which q) 0 entries.now) }
 {
@@ -198,7 +199,7 @@ fn numbers_by_text<S: BuildHasher + Copy>(
     entries: &[Entry],
     which: TextCondition,
 ) -> Result<IndexMap<Text, Vec<u32>, S>, AllocError>
-    requires { length entries.now ≤ 10000 }
+    requires { length entries.now ≤ most_entries }
     ensures { IfOk result (λ table. (q : List ℕ)
         → numbers_at bytes_eq table q ≡ numbers_from (said.asks_for_text which q) 0 entries.now) }
 {
@@ -213,7 +214,7 @@ fn numbers_by_text<S: BuildHasher + Copy>(
 
 /// The numbers of the entries that are filed nowhere, rising.
 fn numbers_of_others(alloc: Global, entries: &[Entry]) -> Result<Vec<u32>, AllocError>
-    requires { length entries.now ≤ 10000 }
+    requires { length entries.now ≤ most_entries }
     ensures { IfOk result (λ numbers. numbers.items
         ≡ numbers_from said.asks_for_none 0 entries.now) }
 {

@@ -1,6 +1,6 @@
 //! The places and causes of errors, their strings and their exit statuses.
-use sarif_model::{At, Cause, Fault, MergeFault, Source};
-use sarif_streams::ReadersFault;
+use sarif_model::{At, Cause, Fault, MergeFault, Refusal, Source};
+use sarif_streams::{ReadersFault, SourceFault, rejection_of};
 use std::alloc::AllocError;
 use std::test::Fail;
 
@@ -76,28 +76,34 @@ fn want_of_memory_is_nowhere(rt: HostRuntime) {
         cause: Cause::OutOfMemory,
     };
     assert_eq!(rt; MergeFault::from(AllocError), wanting);
-    assert_eq!(rt; MergeFault::from(ReadersFault::OutOfMemory), wanting);
+    assert_eq!(rt; rejection_of(Refusal::OutOfMemory), wanting);
 }
 
 #[test]
 fn sources_that_are_not_read(rt: HostRuntime) -> Result<(), Fail> {
-    for (fault, text, status) in [
+    for (refusal, text, status) in [
         (
-            ReadersFault::ReadFailed(Source::Suppress),
+            Refusal::Fault(ReadersFault {
+                source: Source::Suppress,
+                fault: SourceFault::ReadFailed,
+            }),
             "suppressions: ReadFailed",
             3,
         ),
         (
-            ReadersFault::TooLong(Source::Baseline(7)),
+            Refusal::Fault(ReadersFault {
+                source: Source::Baseline(7),
+                fault: SourceFault::TooLong,
+            }),
             "baseline 7: TooLong",
             2,
         ),
-        (ReadersFault::OutOfMemory, "OutOfMemory", 2),
+        (Refusal::OutOfMemory, "OutOfMemory", 2),
     ] {
-        assert_eq!(rt; format!(in rt.alloc(); "{fault}")?.as_str(), text);
-        let refusal = MergeFault::from(fault);
         assert_eq!(rt; format!(in rt.alloc(); "{refusal}")?.as_str(), text);
-        assert_eq!(rt; refusal.cause.status(), status);
+        let fault = rejection_of(refusal);
+        assert_eq!(rt; format!(in rt.alloc(); "{fault}")?.as_str(), text);
+        assert_eq!(rt; fault.cause.status(), status);
     }
     Ok(())
 }

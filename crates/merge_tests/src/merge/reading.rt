@@ -1,5 +1,6 @@
 //! Readers and writers that fail, and the limit of a source.
 use crate::merge::MERGED;
+use sarif_model::Refusal;
 use sarif_streams::{Counted, Failed, SourceFault, read_source, write_out};
 use std::io;
 use std::io::{Read, Write};
@@ -51,7 +52,7 @@ impl Write for Narrow {
 fn read_that_fails_after_ten_bytes(rt: HostRuntime) {
     let mut source = Counted::new(Failing { piece: 10, good: 1 });
     let read = read_source(rt.alloc(), &mut source);
-    assert!(rt; matches!(read, Err(SourceFault::ReadFailed)));
+    assert!(rt; matches!(read, Err(Refusal::Fault(SourceFault::ReadFailed))));
     assert_eq!(rt; source.faults(), 1);
     assert_eq!(rt; source.read(&mut [0; 4]), Err(Failed));
     assert_eq!(rt; source.faults(), 2);
@@ -72,14 +73,14 @@ fn whole_source_is_read(rt: HostRuntime) -> Result<(), Fail> {
 fn sources_end_at_the_limit(rt: HostRuntime) -> Result<(), Fail> {
     let mut endless = Counted::new(io::repeat(b'x'));
     let read = read_source(rt.alloc(), &mut endless);
-    assert!(rt; matches!(read, Err(SourceFault::TooLong)));
+    assert!(rt; matches!(read, Err(Refusal::Fault(SourceFault::TooLong))));
     assert_eq!(rt; endless.faults(), 0);
     let mut full = Counted::new(io::repeat(b'x').take(67_108_864));
     let bytes = read_source(rt.alloc(), &mut full)?;
     assert_eq!(rt; bytes.len(), 67_108_864);
     let mut past = Counted::new(io::repeat(b'x').take(67_108_865));
     let read = read_source(rt.alloc(), &mut past);
-    assert!(rt; matches!(read, Err(SourceFault::TooLong)));
+    assert!(rt; matches!(read, Err(Refusal::Fault(SourceFault::TooLong))));
     Ok(())
 }
 

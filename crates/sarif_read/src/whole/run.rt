@@ -3,7 +3,7 @@ use crate::absent::is_marked_absent;
 use serde_json::Value;
 use std::marker::Model;
 
-/// A run whose form `read_log` checked: its results are objects, at most 1,000,000 (SARIF 2.1.0,
+/// A run whose form `read_log` checked: its results are objects, at most `MOST_RESULTS` (SARIF 2.1.0,
 /// "run object"). Contracts see the run as its `Value`.
 #[derive(Drop)]
 pub struct RawRun {
@@ -17,6 +17,7 @@ impl Model for RawRun {
     ghost use Rattle.serde_json.specs.declared.value.Value.{Value as Json};
     ghost use Rattle.serde_json.specs.View.{view as seen};
     ghost use Rattle.sarif_model.specs.Run.{results_of};
+    ghost use Rattle.sarif_model.specs.Limits.{most_results};
 
     ghost Value = { Json };
 
@@ -24,7 +25,7 @@ impl Model for RawRun {
 
     ghost view = { λ r. r.run };
 
-    ghost invariant = { λ r. length (results_of (seen r.run)) ≤ 1000000 };
+    ghost invariant = { λ r. length (results_of (seen r.run)) ≤ most_results };
 }
 
 impl RawRun {
@@ -33,19 +34,19 @@ impl RawRun {
     ghost use Rattle.sarif_model.specs.Run.{results_of, results_array, result_at};
     ghost use Rattle.sarif_model.specs.Run.{is_absent_result};
 
-    /// A run with at most 1,000,000 results.
+    /// A run with at most `MOST_RESULTS` results.
     pub(crate) fn new(run: Value) -> RawRun
-        requires { length (results_of (seen run)) ≤ 1000000 }
+        requires { length (results_of (seen run)) ≤ most_results }
         ensures { result ≡ run }
     {
         RawRun { run }
     }
 
-    /// How many results the run has, at most 1,000,000.
+    /// How many results the run has, at most `MOST_RESULTS`.
     #[tactic(auto, using(sarif_model::proofs::Elements::elements_items_view, sarif_model::proofs::Elements::length_elements))]
     pub fn len(&self) -> u32
         ensures count { result ≡ length (results_of (seen self.now)) }
-        ensures few { result ≤ 1000000 }
+        ensures few { result ≤ most_results }
     {
         match self.run.get("results").and_then(Value::as_array) {
             Some(results) => results.len() as u32,

@@ -6,6 +6,7 @@ use Rattle.sarif_runs.specs.Judging.{run_values}
 use Rattle.sarif_inputs.specs.ReadRun.{placed_read}
 use Rattle.sarif_inputs.proofs.OpenedParts.{logs_within, are_runs}
 use Rattle.sarif_inputs.proofs.sources.open_sources.Goals as goal
+use Rattle.sarif_model.specs.Limits.{most_results, most_runs}
 
 pub split_off-requires : goal.split_off-requires
 split_off-requires g c =
@@ -23,7 +24,7 @@ returns-clause-runs g c = λ ls bs indexed.
     let read = c.in_ok-all.field-0.all.items in
     let opened = c.in_ok-current.current.items in
     let same = c.in_ok-current.ensures in
-    let few : length opened ≤ 10000 = omega (arith, found.few, ap length same, length-map opened placed_of, length-map read placed_read) in
-    let few_results = subst (λ ps. results_total (run_values ps) ≤ 1000000) (sym same) found.few_results in
+    let few : length opened ≤ most_runs = omega (arith, found.few, ap length same, length-map opened placed_of, length-map read placed_read) in
+    let few_results = subst (λ ps. results_total (run_values ps) ≤ most_results) (sym same) found.few_results in
     are_runs ls bs opened c.in_ok-all.field-0.inputs (same ∙ found.all ls bs indexed) (found.inputs ls bs indexed) _
     c.in_ok-baseline.ensures.items c.in_ok-baseline.ensures.tail few few_results indexed.few_logs indexed.few_baselines (found.faults ls bs indexed)

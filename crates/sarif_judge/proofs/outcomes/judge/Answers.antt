@@ -8,6 +8,7 @@ use Rattle.sarif_results.proofs.Places.{outcomes_at_spots}
 use Rattle.sarif_judge.proofs.Shards.{all_parts}
 use Rattle.sarif_runs.proofs.SpotsWithin.{spots_within}
 use Rattle.sarif_judge.proofs.outcomes.judge.Goals as goal
+use Rattle.sarif_model.specs.Limits.{most_results}
 
 pub invariant_of-work : goal.invariant_of-work
 invariant_of-work g c =
@@ -19,13 +20,12 @@ invariant_of-work g c =
     let size = n / parts + 1 in
     let same : c.len-2.result ≡ n = search rules in
     let long : n ≡ length c.in_ok-spots.spots.items = search rules in
-    let few : n ≤ 1000000 = omega (arith, long, ap length c.in_ok-spots.ensures, spots_count 0 ps, c.requires.few_results) in
+    let few : n ≤ most_results = omega (arith, long, ap length c.in_ok-spots.ensures, spots_count 0 ps, c.requires.few_results) in
     let w = c.requires.workers in
     let some : 0 < parts = omega (arith, w.0) in
-    let most : parts ≤ 1024 = omega (arith, w.1) in
     record {
       within = subst (All (IsSpotOf ps)) (sym are) (spots_within ps);
-      few = shard_count n parts size (c.len-2.result / size + 1) some most refl (ap (λ k. k / size + 1) same);
+      few = omega (arith, shard_count n parts size (c.len-2.result / size + 1) some refl (ap (λ k. k / size + 1) same), w.1);
       small = shard_size n parts size few refl;
     }
 

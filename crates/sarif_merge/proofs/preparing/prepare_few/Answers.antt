@@ -8,13 +8,14 @@ use Rattle.sarif_merge.specs.Given.{given}
 use Rattle.sarif_merge.specs.Prepared.{IsPreparedFor}
 use Rattle.sarif_merge.proofs.MergeAnswers.{are_indexes}
 use Rattle.sarif_merge.proofs.preparing.prepare_few.Goals as goal
+use Rattle.sarif_model.specs.Limits.{most_sources}
 
 pub open_sources-requires-clause-indexes : goal.open_sources-requires-clause-indexes
 open_sources-requires-clause-indexes g c κs within =
     let ls = c.as_slice-logs.result.now in
     let bs = c.as_slice-baselines.result.now in
-    let few_logs = subst (λ xs. length xs ≤ 1000) (sym c.as_slice-logs.ensures.value) c.requires.few_logs in
-    let few_baselines = subst (λ xs. length xs ≤ 1000) (sym c.as_slice-baselines.ensures.value) c.requires.few_baselines in
+    let few_logs = subst (λ xs. length xs ≤ most_sources) (sym c.as_slice-logs.ensures.value) c.requires.few_logs in
+    let few_baselines = subst (λ xs. length xs ≤ most_sources) (sym c.as_slice-baselines.ensures.value) c.requires.few_baselines in
     let given : (logs : List (List ℕ)) × (baselines : List (List ℕ)) × AreIndexesOf logs baselines c.deref.result.now (length ls) = (
       map (λ v. v.items) ls,
       map (λ v. v.items) bs,
@@ -32,8 +33,8 @@ returns-clause-preparation g c =
     let today = c.args.asked.now.options.now.today in
     let asked = reporting_in c.args.asked.now in
     let prepared = c.in_ok-prepared.prepared in
-    let few_logs = subst (λ xs. length xs ≤ 1000) (sym c.as_slice-logs.ensures.value) c.requires.few_logs in
-    let few_baselines = subst (λ xs. length xs ≤ 1000) (sym c.as_slice-baselines.ensures.value) c.requires.few_baselines in
+    let few_logs = subst (λ xs. length xs ≤ most_sources) (sym c.as_slice-logs.ensures.value) c.requires.few_logs in
+    let few_baselines = subst (λ xs. length xs ≤ most_sources) (sym c.as_slice-baselines.ensures.value) c.requires.few_baselines in
     let indexed = subst (λ found. AreIndexed (map without_mark (map (λ v. v.items) ls ++ map (λ v. v.items) bs)) found) (sym c.deref.ensures.value) c.in_ok-indexes.ensures in
     let are = are_indexes ls bs c.deref.result.now (length ls) refl few_logs few_baselines indexed in
     let read = c.in_ok-runs.ensures.runs (map (λ v. v.items) ls) (map (λ v. v.items) bs) are in

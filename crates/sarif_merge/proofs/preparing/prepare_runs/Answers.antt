@@ -10,6 +10,7 @@ use Rattle.sarif_model.specs.FirstFault.{first, IsWanting}
 use Rattle.sarif_inputs.specs.Inputs.{numbered, placed}
 use Rattle.sarif_merge.proofs.MergeAnswers.{judged_logs, judged_baselines, same_runs, refused_by_first, left_after_first}
 use Rattle.sarif_merge.proofs.preparing.prepare_runs.Goals as goal
+use Rattle.sarif_model.specs.Limits.{most_results, most_runs}
 
 pub prepare-requires-clause-current : goal.prepare-requires-clause-current
 prepare-requires-clause-current g c κs within =
@@ -17,12 +18,12 @@ prepare-requires-clause-current g c κs within =
     let read = given.2 in
     let judged = c.in_ok-now.now in
     let same = c.in_ok-now.ensures.runs in
-    let few : length (map placed_of c.args.runs.current.items) ≤ 10000 = omega (arith, read.few, length-map c.args.runs.current.items placed_of) in
-    let few_results : results_total (run_values (map placed_of c.args.runs.current.items)) ≤ 1000000 = omega (arith, read.few_results) in
+    let few : length (map placed_of c.args.runs.current.items) ≤ most_runs = omega (arith, read.few, length-map c.args.runs.current.items placed_of) in
+    let few_results : results_total (run_values (map placed_of c.args.runs.current.items)) ≤ most_results = omega (arith, read.few_results) in
     judged_logs c.args.file.now given.0 judged (same ∙ read.current) c.in_ok-now.ensures.outcomes
     (ap faults_of_runs same ∙ c.in_ok-now.ensures.faults)
-    (subst (λ ps. length ps ≤ 10000) (sym same) few)
-    (subst (λ ps. results_total (run_values ps) ≤ 1000000) (sym same) few_results)
+    (subst (λ ps. length ps ≤ most_runs) (sym same) few)
+    (subst (λ ps. results_total (run_values ps) ≤ most_results) (sym same) few_results)
 
 pub prepare-requires-clause-baseline : goal.prepare-requires-clause-baseline
 prepare-requires-clause-baseline g c κs within =
@@ -30,12 +31,12 @@ prepare-requires-clause-baseline g c κs within =
     let read = given.2 in
     let judged = c.in_ok-before.before in
     let same = c.in_ok-before.ensures.runs in
-    let few : length (map placed_of c.args.runs.baseline.items) ≤ 10000 = omega (arith, read.few, length-map c.args.runs.baseline.items placed_of) in
-    let few_results : results_total (run_values (map placed_of c.args.runs.baseline.items)) ≤ 1000000 = omega (arith, read.few_results) in
+    let few : length (map placed_of c.args.runs.baseline.items) ≤ most_runs = omega (arith, read.few, length-map c.args.runs.baseline.items placed_of) in
+    let few_results : results_total (run_values (map placed_of c.args.runs.baseline.items)) ≤ most_results = omega (arith, read.few_results) in
     judged_baselines c.args.file.now given.1 judged (same ∙ read.baseline) c.in_ok-before.ensures.outcomes
     (ap faults_of_runs same ∙ c.in_ok-before.ensures.faults)
-    (subst (λ ps. length ps ≤ 10000) (sym same) few)
-    (subst (λ ps. results_total (run_values ps) ≤ 1000000) (sym same) few_results)
+    (subst (λ ps. length ps ≤ most_runs) (sym same) few)
+    (subst (λ ps. results_total (run_values ps) ≤ most_results) (sym same) few_results)
 
 pub returns-clause-prepared : goal.returns-clause-prepared
 returns-clause-prepared g c = λ ls bs read.

@@ -4,11 +4,12 @@ use Rattle.sarif_model.specs.Run.{results_total}
 use Rattle.sarif_read.specs.Listed.{value_at, AreOrdered}
 use Rattle.sarif_read.specs.Indexed.{run_of}
 use Rattle.sarif_read.proofs.indexing.index_each.Given as goal
+use Rattle.sarif_model.specs.Limits.{most_results}
 
 abbrev pub invariant-loop-node : goal.invariant-loop-node
 invariant-loop-node l = record {
   number : l.number ≡ l.node-index;
-  few : l.before ≤ 1000000;
+  few : l.before ≤ most_results;
   sum : l.before ≡ results_total (map run_of l.runs.items);
   runs : map run_of l.runs.items ≡ map value_at (take l.node-index l.nodes);
   ordered : AreOrdered (drop l.node-index l.nodes);

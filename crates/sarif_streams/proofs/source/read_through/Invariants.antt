@@ -1,5 +1,6 @@
-use Rattle.std.proofs.Common.{◌≡◌, ◌-◌, length}
+use Rattle.std.proofs.Common.{◌≡◌, ◌+◌, ◌-◌, length}
 use Rattle.std.specs.Io.KnownBytes.{Consumes}
+use Rattle.sarif_model.specs.Limits.{most_bytes}
 use Rattle.sarif_streams.specs.Counted.{inner_of, failed_calls}
 use Rattle.sarif_streams.specs.Source.{IsWithinLimit}
 use Rattle.sarif_streams.proofs.source.read_through.Given as goal
@@ -12,4 +13,4 @@ invariant-loop-taken g l = record {
 }
 
 abbrev pub decreases-loop-taken : goal.decreases-loop-taken
-decreases-loop-taken g l = 67108865 - length l.bytes.items
+decreases-loop-taken g l = most_bytes + 1 - length l.bytes.items

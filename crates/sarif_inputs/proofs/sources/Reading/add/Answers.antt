@@ -7,12 +7,13 @@ use Rattle.sarif_model.specs.FirstFault.{first, IsWanting}
 use Rattle.sarif_inputs.specs.SourceFaults.{limit_faults}
 use Rattle.sarif_inputs.proofs.SourceRuns.{counted_more}
 use Rattle.sarif_inputs.proofs.sources.Reading.add.Goals as goal
+use Rattle.sarif_model.specs.Limits.{most_results, most_runs}
 
 pub count_results-requires : goal.count_results-requires
 count_results-requires c =
     let given = c.requires.parsed in
-    let few = IfOk-at_ok (λ log. results_total (map run_of log.items) ≤ 1000000) c.in_ok-log.ensures.same given.1.few_results in
-    subst (λ runs. results_total (map run_of runs) ≤ 1000000) (sym c.as_slice.ensures.value) few
+    let few = IfOk-at_ok (λ log. results_total (map run_of log.items) ≤ most_results) c.in_ok-log.ensures.same given.1.few_results in
+    subst (λ runs. results_total (map run_of runs) ≤ most_results) (sym c.as_slice.ensures.value) few
 
 pub returns-in_err-check_limits-clause-faults : goal.returns-in_err-check_limits-clause-faults
 returns-in_err-check_limits-clause-faults c = λ bytes parsed.
@@ -42,6 +43,6 @@ returns-clause-counted c =
     let old = c.args.self.now.runs.items in
     let log = c.in_ok-log.log.items in
     let more = counted_more old c.place_runs.new.all.items c.args.source (map run_of log) (search rules) in
-    let few : length old + length log ≤ 10000 = search rules in
+    let few : length old + length log ≤ most_runs = search rules in
     let results : c.count_results.result ≡ results_total (map run_of log) = search rules in
     (omega (arith, more.0, few, length-map log run_of), search rules, omega (arith, more.1, results, c.requires.counted.2))
