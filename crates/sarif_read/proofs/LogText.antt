@@ -1,5 +1,5 @@
 -- The JSON value of bytes, by the parser's two clauses: what it read, and why it rejected them.
-use Rattle.std.proofs.Common.{◌≡◌, ℕ, List, Some, None, if◌then◌else◌, refl, Err}
+use Rattle.std.proofs.Common.{◌≡◌, ℕ, List, Some, None, refl, Err}
 use Rattle.serde_json.specs.Data.{Data}
 use Rattle.sarif_model.specs.declared.fault.Fault.TheVariants.{NotJson}
 use Rattle.sarif_read.specs.Stripping.{stripped}

@@ -30,6 +30,7 @@ impl Model for RawRun {
 
 impl RawRun {
     ghost use Rattle.std.specs.Prelude.{◌≡◌, ◌<◌, ◌≤◌, length, is_some, map};
+    ghost use Rattle.sarif_model.specs.Limits.{most_results};
     ghost use Rattle.serde_json.specs.View.{view as seen};
     ghost use Rattle.sarif_model.specs.Run.{results_of, results_array, result_at};
     ghost use Rattle.sarif_model.specs.Run.{is_absent_result};
