@@ -8,7 +8,7 @@ ghost use Rattle.json_parts.specs.Stripping.{is_fractional as fractional};
 ghost use Rattle.json_parts.specs.Walking.{OpensArray, OpensObject};
 
 use crate::number::parse_number;
-use crate::tape::{Element, Items, Members};
+use crate::tape::{Contents, Element};
 use crate::walking::next_element;
 use serde_json::Number;
 use std::alloc::{AllocError, Global};
@@ -127,13 +127,13 @@ impl<'t, 'a> Node<'t, 'a> {
         self.element.as_bool()
     }
 
-    pub(crate) fn elements(&self) -> Option<Items<'t, 'a>>
+    pub(crate) fn elements(&self) -> Option<Contents<'t, 'a>>
         ensures { OpensArray self.now result }
     {
         self.element.items()
     }
 
-    pub(crate) fn members(&self) -> Option<Members<'t, 'a>>
+    pub(crate) fn members(&self) -> Option<Contents<'t, 'a>>
         ensures { OpensObject self.now result }
     {
         self.element.members()

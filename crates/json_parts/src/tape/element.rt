@@ -110,13 +110,13 @@ impl<'t, 'a> Element<'t, 'a> {
     }
 
     /// The items, where this is an array.
-    pub(crate) fn items(&self) -> Option<Items<'t, 'a>>
+    pub(crate) fn items(&self) -> Option<Contents<'t, 'a>>
         ensures { (j : Json) → BeginsWith self.now j
             → MatchOption result (as_array j ≡ None)
             (λ rest. (js : spec.Items) × (j ≡ array js) × InItems rest js) }
     {
         if let Node::Array(_) = self.node() {
-            Some(Items {
+            Some(Contents {
                 next: self.inside(),
             })
         } else {
@@ -125,13 +125,13 @@ impl<'t, 'a> Element<'t, 'a> {
     }
 
     /// The members, where this is an object.
-    pub(crate) fn members(&self) -> Option<Members<'t, 'a>>
+    pub(crate) fn members(&self) -> Option<Contents<'t, 'a>>
         ensures { (j : Json) → BeginsWith self.now j
             → MatchOption result (as_object j ≡ None)
             (λ rest. (ms : spec.Members) × (j ≡ object ms) × InMembers rest ms) }
     {
         if let Node::Object(_) = self.node() {
-            Some(Members {
+            Some(Contents {
                 next: self.inside(),
             })
         } else {
@@ -145,7 +145,7 @@ impl<'t, 'a> Element<'t, 'a> {
     {
         let mut members = self.members()?;
         let mut found = None;
-        while let Some((key, member)) = members.next() {
+        while let Some((key, member)) = members.next_member() {
             if key == name {
                 found = Some(member);
             }
@@ -194,13 +194,13 @@ impl<'t, 'a> Element<'t, 'a> {
     }
 }
 
-/// An iterator over the items of an array. Contracts see the tokens from the next item on.
+/// An iterator over the items of an array or the members of an object. Contracts see the tokens from the next one on.
 #[derive(Drop)]
-pub(crate) struct Items<'t, 'a> {
+pub(crate) struct Contents<'t, 'a> {
     next: Element<'t, 'a>,
 }
 
-impl<'t, 'a> Model for Items<'t, 'a> {
+impl<'t, 'a> Model for Contents<'t, 'a> {
     ghost use Rattle.std.specs.Prelude.{List};
     ghost use Rattle.json.specs.Token.{Token, tokens_code};
 
@@ -211,36 +211,17 @@ impl<'t, 'a> Model for Items<'t, 'a> {
     ghost view = { λ a. a.next };
 }
 
-impl<'t, 'a> Items<'t, 'a> {
-    /// The next item, if there is one.
-    pub(crate) fn next(&mut self) -> Option<Element<'t, 'a>>
+impl<'t, 'a> Contents<'t, 'a> {
+    /// The next item of an array, if there is one.
+    pub(crate) fn next_item(&mut self) -> Option<Element<'t, 'a>>
         ensures value { NextItem self.old result self.new }
         ensures shorter { OnSome result (length self.new < length self.old) }
     {
         self.next.take_item()
     }
-}
 
-/// An iterator over the members of an object. Contracts see the tokens from the next member on.
-#[derive(Drop)]
-pub(crate) struct Members<'t, 'a> {
-    next: Element<'t, 'a>,
-}
-
-impl<'t, 'a> Model for Members<'t, 'a> {
-    ghost use Rattle.std.specs.Prelude.{List};
-    ghost use Rattle.json.specs.Token.{Token, tokens_code};
-
-    ghost Value = { List Token };
-
-    ghost coded = { tokens_code };
-
-    ghost view = { λ a. a.next };
-}
-
-impl<'t, 'a> Members<'t, 'a> {
-    /// The next member with its name, if there is one.
-    pub(crate) fn next(&mut self) -> Option<(&'a str, Element<'t, 'a>)>
+    /// The next member of an object with its name, if there is one.
+    pub(crate) fn next_member(&mut self) -> Option<(&'a str, Element<'t, 'a>)>
         ensures value { NextMember self.old (option_map (λ m. (m.0.now, m.1)) result) self.new }
         ensures shorter { OnSome result (length self.new < length self.old) }
     {
