@@ -79,6 +79,15 @@ pub message_refl : (a : Message) → message_eq a a ≡ true
 message_refl a =
     and_from (option_eq bytes_eq a.text a.text) (option_eq bytes_eq a.id a.id && pointwise bytes_eq a.args a.args) (option_refl a.text) (and_from (option_eq bytes_eq a.id a.id) (pointwise bytes_eq a.args a.args) (option_refl a.id) (list_refl bytes_eq text_refl a.args))
 
+-- tool, rule and place, and one part more
+four_same : {M : Type 0} (eq : M → M → Bool) → ((m n : M) → eq m n ≡ true → m ≡ n) → (t t' r r' : List ℕ) (p p' : Place) (m m' : M)
+    → bytes_eq t t' && (bytes_eq r r' && (place_eq p p' && eq m m')) ≡ true → (t ≡ t') × (r ≡ r') × (p ≡ p') × (m ≡ m')
+four_same eq same t t' r r' p p' m m' e =
+    let both = and_parts (bytes_eq t t') (bytes_eq r r' && (place_eq p p' && eq m m')) e in
+    let rest = and_parts (bytes_eq r r') (place_eq p p' && eq m m') both.1 in
+    let last = and_parts (place_eq p p') (eq m m') rest.1 in
+    (same_text t t' both.0, same_text r r' rest.0, place_same p p' last.0, same m m' last.1)
+
 pub parts_same : (a b : KeyParts) → same_parts a b ≡ true → a ≡ b
 parts_same (guid_parts t g) (guid_parts t' g') e =
     let both = and_parts (bytes_eq t t') (g == g') e in
@@ -93,14 +102,8 @@ parts_same (fingerprint_parts t n v) (fingerprint_parts t' n' v') e =
     let value : v ≡ v' = same_text v v' rest.1 in
     λ i. fingerprint_parts (tool i) (name i) (value i)
 parts_same (partial_here_parts t r p m) (partial_here_parts t' r' p' m') e =
-    let both = and_parts (bytes_eq t t') (bytes_eq r r' && (place_eq p p' && pairs_eq m m')) e in
-    let rest = and_parts (bytes_eq r r') (place_eq p p' && pairs_eq m m') both.1 in
-    let last = and_parts (place_eq p p') (pairs_eq m m') rest.1 in
-    let tool : t ≡ t' = same_text t t' both.0 in
-    let rule_id : r ≡ r' = same_text r r' rest.0 in
-    let place : p ≡ p' = place_same p p' last.0 in
-    let partial : m ≡ m' = pairs_same m m' last.1 in
-    λ i. partial_here_parts (tool i) (rule_id i) (place i) (partial i)
+    let all = four_same pairs_eq pairs_same t t' r r' p p' m m' e in
+    λ i. partial_here_parts (all.0 i) (all.1 i) (all.2 i) (all.3 i)
 parts_same (partial_moved_parts t r m) (partial_moved_parts t' r' m') e =
     let both = and_parts (bytes_eq t t') (bytes_eq r r' && pairs_eq m m') e in
     let rest = and_parts (bytes_eq r r') (pairs_eq m m') both.1 in
@@ -109,14 +112,8 @@ parts_same (partial_moved_parts t r m) (partial_moved_parts t' r' m') e =
     let partial : m ≡ m' = pairs_same m m' rest.1 in
     λ i. partial_moved_parts (tool i) (rule_id i) (partial i)
 parts_same (place_parts t r p m) (place_parts t' r' p' m') e =
-    let both = and_parts (bytes_eq t t') (bytes_eq r r' && (place_eq p p' && message_eq m m')) e in
-    let rest = and_parts (bytes_eq r r') (place_eq p p' && message_eq m m') both.1 in
-    let last = and_parts (place_eq p p') (message_eq m m') rest.1 in
-    let tool : t ≡ t' = same_text t t' both.0 in
-    let rule_id : r ≡ r' = same_text r r' rest.0 in
-    let place : p ≡ p' = place_same p p' last.0 in
-    let message : m ≡ m' = message_same m m' last.1 in
-    λ i. place_parts (tool i) (rule_id i) (place i) (message i)
+    let all = four_same message_eq message_same t t' r r' p p' m m' e in
+    λ i. place_parts (all.0 i) (all.1 i) (all.2 i) (all.3 i)
 parts_same _ _ e = absurd (false≢true e)
 
 pub parts_refl : (a : KeyParts) → same_parts a a ≡ true
