@@ -1,15 +1,51 @@
--- The names of sources.
-use Rattle.std.specs.Prelude.{ℕ, List, map}
-use Rattle.sarif_streams.specs.Kept.{kept_in}
-use Rattle.sarif_streams.specs.Named.{input_name}
+-- What a request names: its sources and its outputs.
+use Rattle.std.specs.Prelude.{◌≡◌, ℕ, List, Bool, true, false, map, option_map, codes, bytes_eq}
+use Rattle.sarif_program.specs.declared.writers.Writers.{Writers}
+use Rattle.sarif_request.specs.declared.request.Request.{Request}
+use Rattle.sarif_request.specs.declared.wanted.Wanted.{Wanted}
+use Rattle.sarif_streams.specs.declared.counted.Counted.{Counted}
 use Rattle.sarif_streams.specs.declared.input.Input.{Input}
 use Rattle.sarif_streams.specs.declared.kept.Kept.{Kept}
-use Rattle.sarif_streams.specs.declared.counted.Counted.{Counted}
+use Rattle.sarif_streams.specs.declared.readers.Readers.{Readers}
+use Rattle.sarif_streams.specs.declared.target.Console.{Console}
+use Rattle.sarif_streams.specs.declared.target.Console.TheVariants.{Output, Error}
+use Rattle.sarif_streams.specs.declared.target.Target.{Target}
 use Rattle.sarif_streams.specs.Counted.{inner_of}
+use Rattle.sarif_streams.specs.Kept.{kept_in}
+use Rattle.sarif_streams.specs.Named.{Channel, Named, channel_named, input_channel, target_channel}
 
-abbrev pub name_of : {R F D I : Type 0} → Counted (Kept (Input R F D I)) → List ℕ
-name_of input = input_name (kept_in (inner_of input))
+-- what a source is read from
+abbrev pub source_channel : {R I F D : Type 0} → Counted (Kept (Input R I F D)) → Channel
+source_channel source = input_channel (kept_in (inner_of source))
 
--- in their order
-abbrev pub names_of : {R F D I : Type 0} → List (Counted (Kept (Input R F D I))) → List (List ℕ)
-names_of inputs = map name_of inputs
+-- what an output is written to
+abbrev pub output_channel : {R O F D : Type 0} → Counted (Kept (Target R O F D)) → Channel
+output_channel output = target_channel (kept_in (inner_of output))
+
+-- what a report is written to
+abbrev pub report_channel : {R O F D : Type 0}
+    → Wanted (Counted (Kept (Target R O F D))) → Wanted Channel
+report_channel output = record { report = output.report; to = output_channel output.to }
+
+-- what a request names for a report
+abbrev pub report_named : Wanted (List ℕ) → Wanted Channel
+report_named wanted = record { report = wanted.report; to = channel_named wanted.to }
+
+-- whether the summary goes to standard error
+abbrev pub is_error : {O E : Type 0} → Console O E → Bool
+is_error (Output output) = false
+is_error (Error error) = true
+
+-- each source and each output is what the request names, in the place where it names it; `-` is a standard stream as
+-- a log and as an output, and a file as a baseline and as the suppression file
+pub record AreNamed {R I F D O E : Type 0} (request : Request)
+    (readers : Readers (Kept (Input R I F D)))
+    (writers : Writers (Kept (Target R O F D)) (Console O E) (Kept (Target R O F D)))
+    : Type 0 where
+  pub logs : map source_channel readers.logs.items ≡ map channel_named request.logs.items
+  pub baselines : map source_channel readers.baselines.items ≡ map Named request.baselines.items
+  pub suppressions : option_map source_channel readers.suppressions
+      ≡ option_map Named request.suppress
+  pub out : output_channel writers.out ≡ channel_named request.out
+  pub reports : map report_channel writers.reports.items ≡ map report_named request.reports.items
+  pub say : is_error (inner_of writers.say) ≡ bytes_eq request.out (codes "-")

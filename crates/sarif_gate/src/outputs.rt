@@ -1,7 +1,9 @@
 //! The outputs that a request names.
-ghost use Rattle.std.specs.Prelude.{◌≡◌, IfOk};
-ghost use Rattle.sarif_streams.specs.Counted.{failed_calls};
-ghost use Rattle.sarif_program.specs.Reports.{report_failures, wanted_reports};
+ghost use Rattle.std.specs.Prelude.{◌≡◌, IfOk, map, codes, bytes_eq};
+ghost use Rattle.sarif_streams.specs.Counted.{failed_calls, inner_of};
+ghost use Rattle.sarif_streams.specs.Named.{channel_named};
+ghost use Rattle.sarif_program.specs.Reports.{report_failures};
+ghost use Rattle.sarif_gate.specs.Named.{is_error, output_channel, report_channel, report_named};
 
 use sarif_model::Text;
 use sarif_program::Writers;
@@ -20,34 +22,42 @@ pub type Outputs<'a> = Writers<Output<'a>, Console<Stdout, Stderr>, Output<'a>>;
 
 /// Returns the outputs that a request names, none of them opened. Returns `AllocError` if memory for their names
 /// runs out.
-pub fn outputs_of<'a>(rt: &'a HostRuntime, request: &Request) -> Result<Outputs<'a>, AllocError>
+pub fn outputs_of<'a>(rt: &'a HostRuntime, request: &'a Request) -> Result<Outputs<'a>, AllocError>
+    ensures out { IfOk result
+        (λ outputs. output_channel outputs.out ≡ channel_named «request».now.out) }
     // There is a writer for each report that is requested, in the same order, and for no other report.
-    ensures asked { IfOk result (λ outputs. wanted_reports outputs.reports.items
-        ≡ wanted_reports «request».now.reports.items) }
+    ensures reports { IfOk result (λ outputs. map report_channel outputs.reports.items
+        ≡ map report_named «request».now.reports.items) }
+    // If the merged log goes to standard output, the summary goes to standard error.
+    ensures say { IfOk result (λ outputs. is_error (inner_of outputs.say)
+        ≡ bytes_eq «request».now.out (codes "-")) }
     ensures fresh { IfOk result (λ outputs. (failed_calls outputs.out ≡ 0)
         × (report_failures outputs.reports.items ≡ 0) × (failed_calls outputs.say ≡ 0)) }
 {
     let out = output_of(rt, &request.out)?;
     let reports = reports_of(rt, request.reports.as_slice())?;
-    let say = if request.out.as_str() == STANDARD {
+    let say = Counted::new(console_of(rt, &request.out));
+    Ok(Writers { out, reports, say })
+}
+
+/// Returns where the summary goes if the merged log goes to `out`.
+fn console_of(rt: &HostRuntime, out: &Text) -> Console<Stdout, Stderr>
+    ensures { is_error result ≡ bytes_eq out.now (codes "-") }
+{
+    if out.as_str() == STANDARD {
         Console::Error(rt.stderr())
     } else {
         Console::Output(rt.stdout())
-    };
-    Ok(Writers {
-        out,
-        reports,
-        say: Counted::new(say),
-    })
+    }
 }
 
 /// Returns the outputs of these reports, in order.
 fn reports_of<'a>(
     rt: &'a HostRuntime,
-    names: &[Wanted<Text>],
+    names: &'a [Wanted<Text>],
 ) -> Result<Vec<Wanted<Counted<Output<'a>>>>, AllocError>
-    ensures asked { IfOk result
-        (λ outputs. wanted_reports outputs.items ≡ wanted_reports names.now) }
+    ensures names { IfOk result
+        (λ outputs. map report_channel outputs.items ≡ map report_named names.now) }
     ensures fresh { IfOk result (λ outputs. report_failures outputs.items ≡ 0) }
 {
     let mut outputs = Vec::new(rt.alloc());
@@ -60,8 +70,9 @@ fn reports_of<'a>(
 }
 
 /// The output of a name.
-fn output_of<'a>(rt: &'a HostRuntime, name: &Text) -> Result<Counted<Output<'a>>, AllocError>
-    ensures { IfOk result (λ output. failed_calls output ≡ 0) }
+fn output_of<'a>(rt: &'a HostRuntime, name: &'a Text) -> Result<Counted<Output<'a>>, AllocError>
+    ensures name { IfOk result (λ output. output_channel output ≡ channel_named name.now) }
+    ensures fresh { IfOk result (λ output. failed_calls output ≡ 0) }
 {
     let target = Target::of(rt, rt.stdout(), rt.alloc(), name.as_str(), number_of(rt))?;
     Ok(Counted::new(Kept::new(target, None)))

@@ -1,10 +1,10 @@
 //! The sources that a request names.
-ghost use Rattle.std.specs.Prelude.{◌≡◌, IfOk, option_map};
-ghost use Rattle.std.specs.List.{All};
+ghost use Rattle.std.specs.Prelude.{◌≡◌, IfOk, map, option_map};
 ghost use Rattle.sarif_streams.specs.Counted.{failed_calls};
+ghost use Rattle.sarif_streams.specs.Failing.{failed_calls_in};
+ghost use Rattle.sarif_streams.specs.Named.{Named, channel_named, input_channel};
 ghost use Rattle.sarif_streams.specs.OptionalReader.{failed_calls_if};
-ghost use Rattle.sarif_streams.specs.Named.{input_name};
-ghost use Rattle.sarif_gate.specs.Named.{name_of, names_of};
+ghost use Rattle.sarif_gate.specs.Named.{source_channel};
 
 use sarif_model::Text;
 use sarif_request::Request;
@@ -21,15 +21,15 @@ pub fn sources_of<'a>(
     rt: &'a HostRuntime,
     request: &'a Request,
 ) -> Result<Readers<Source<'a>>, AllocError>
-    // Each name is in the list that the request has it in.
-    ensures logs { IfOk result
-        (λ sources. names_of sources.logs.items ≡ «request».now.logs.items) }
-    ensures baselines { IfOk result
-        (λ sources. names_of sources.baselines.items ≡ «request».now.baselines.items) }
-    ensures suppressions { IfOk result
-        (λ sources. option_map name_of sources.suppressions ≡ «request».now.suppress) }
-    ensures fresh { IfOk result (λ sources. All (λ input. failed_calls input ≡ 0) sources.logs.items
-        × All (λ input. failed_calls input ≡ 0) sources.baselines.items
+    // Each name is in the list that the request has it in. Only a log can be standard input.
+    ensures logs { IfOk result (λ sources. map source_channel sources.logs.items
+        ≡ map channel_named «request».now.logs.items) }
+    ensures baselines { IfOk result (λ sources. map source_channel sources.baselines.items
+        ≡ map Named «request».now.baselines.items) }
+    ensures suppressions { IfOk result (λ sources. option_map source_channel sources.suppressions
+        ≡ option_map Named «request».now.suppress) }
+    ensures fresh { IfOk result (λ sources. (failed_calls_in sources.logs.items ≡ 0)
+        × (failed_calls_in sources.baselines.items ≡ 0)
         × (failed_calls_if sources.suppressions ≡ 0)) }
 {
     let logs = logs_of(rt, &request.logs, request.explain)?;
@@ -51,8 +51,9 @@ fn logs_of<'a>(
     names: &'a Vec<Text>,
     is_kept: bool,
 ) -> Result<Vec<Counted<Source<'a>>>, AllocError>
-    ensures names { IfOk result (λ v. names_of v.items ≡ names.now.items) }
-    ensures fresh { IfOk result (λ v. All (λ input. failed_calls input ≡ 0) v.items) }
+    ensures names { IfOk result
+        (λ v. map source_channel v.items ≡ map channel_named names.now.items) }
+    ensures fresh { IfOk result (λ v. failed_calls_in v.items ≡ 0) }
 {
     let mut logs = Vec::new(rt.alloc());
     for name in names {
@@ -68,8 +69,8 @@ fn baselines_of<'a>(
     names: &'a Vec<Text>,
     is_kept: bool,
 ) -> Result<Vec<Counted<Source<'a>>>, AllocError>
-    ensures names { IfOk result (λ v. names_of v.items ≡ names.now.items) }
-    ensures fresh { IfOk result (λ v. All (λ input. failed_calls input ≡ 0) v.items) }
+    ensures names { IfOk result (λ v. map source_channel v.items ≡ map Named names.now.items) }
+    ensures fresh { IfOk result (λ v. failed_calls_in v.items ≡ 0) }
 {
     let mut baselines = Vec::new(rt.alloc());
     for name in names {
@@ -80,7 +81,7 @@ fn baselines_of<'a>(
 
 /// The file of a name.
 fn file_of<'a>(rt: &'a HostRuntime, name: &'a str, is_kept: bool) -> Counted<Source<'a>>
-    ensures name { name_of result ≡ name.now }
+    ensures name { source_channel result ≡ Named name.now }
     ensures fresh { failed_calls result ≡ 0 }
 {
     counted(rt, Input::File(InputFile::new(rt, name)), is_kept)
@@ -92,7 +93,7 @@ fn counted<'a>(
     input: Input<'a, HostRuntime, Stdin>,
     is_kept: bool,
 ) -> Counted<Source<'a>>
-    ensures name { name_of result ≡ input_name input.entry }
+    ensures name { source_channel result ≡ input_channel input.entry }
     ensures fresh { failed_calls result ≡ 0 }
 {
     let bytes = if is_kept {

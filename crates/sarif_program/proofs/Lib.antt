@@ -1,4 +1,6 @@
+pub mod Composed
 pub mod Ended
 pub mod Made
 pub mod Quiet
+pub mod Rising
 pub mod Written

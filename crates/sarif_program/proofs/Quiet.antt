@@ -1,5 +1,5 @@
 -- A rejection that is neither a failed read nor a failed write has exit status 2.
-use Rattle.std.proofs.Common.{◌≡◌, ℕ, ◌+◌, Bool, true, false, nat_eq, arith, refl}
+use Rattle.std.proofs.Common.{◌≡◌, ◌<◌, ℕ, ◌+◌, Bool, true, false, nat_eq, arith, refl}
 use Rattle.sarif_model.specs.declared.merge_fault.Cause.{Cause}
 use Rattle.sarif_model.specs.declared.merge_fault.Cause.TheVariants.{ReadFailed, WriteFailed}
 use Rattle.sarif_streams.specs.Counted.{RisesIf}
@@ -22,3 +22,9 @@ pub refused_rise : (cause : Cause) (old new written : ℕ) → is_write_failed c
 refused_rise ReadFailed old new written quiet rise = omega (arith, rise)
 refused_rise WriteFailed old new written quiet rise = cc
 refused_rise _ old new written quiet rise = omega (arith, rise)
+
+-- no rejection has a status below 2
+pub low_status : (cause : Cause) (status : ℕ) → status ≡ exit_status cause → status < 2 → ⊥
+low_status ReadFailed status is low = omega (arith, is, low)
+low_status WriteFailed status is low = omega (arith, is, low)
+low_status _ status is low = omega (arith, is, low)

@@ -1,3 +1,6 @@
+pub mod Line
+pub mod Rejected
 pub mod Reports
+pub mod Run
 pub mod Status
 pub mod Writing

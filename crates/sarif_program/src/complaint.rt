@@ -1,15 +1,15 @@
 //! The line that says what stopped a run.
 ghost use Rattle.std.specs.Prelude.{◌≡◌, ◌<◌, ◌^◌, None, Some};
 ghost use Rattle.sarif_streams.specs.Counted.{failed_calls};
+ghost use Rattle.sarif_program.specs.Line.{IsTold};
 
-use sarif_model::MergeFault;
+use crate::cause_name::cause_name;
+use crate::line::line_of;
+use sarif_model::{At, MergeFault};
 use sarif_reports::Report;
 use sarif_streams::{Counted, write_out};
 use std::fmt;
-use std::io::{Cursor, Write};
-
-/// More bytes than any line has: two words, three numbers of ten digits and the longest cause.
-const LINE: usize = 160;
+use std::io::Write;
 
 /// What stopped a run.
 #[derive(Clone, Copy, Debug, PartialEq, Eq)]
@@ -21,10 +21,25 @@ pub enum Complaint {
 }
 
 impl fmt::Display for Complaint {
+    ghost use Rattle.std.specs.Prelude.{Some};
+    ghost use Rattle.sarif_program.specs.Line.{complaint_text};
+
+    ghost output = { λ complaint. Some (complaint_text complaint) };
+
     fn fmt<W: fmt::Write>(&self, f: &mut fmt::Formatter<W>) -> fmt::Result {
-        match self {
-            Complaint::Fault(fault) => write!(f, "{fault}"),
-            Complaint::Lost(report) => write!(f, "{} report: WriteFailed", report.name()),
+        match *self {
+            Complaint::Fault(fault) => {
+                let at = fault.at;
+                let name = cause_name(fault.cause);
+                match at {
+                    At::Nowhere => f.write_str(name),
+                    _ => write!(f, "{at}: {name}"),
+                }
+            }
+            Complaint::Lost(report) => {
+                let name = report.name();
+                write!(f, "{name} report: WriteFailed")
+            }
         }
     }
 }
@@ -52,18 +67,16 @@ impl<E> Complaints<E> {
 }
 
 impl<E: Write> Complaints<E> {
-    /// Writes `sarif_gate: ` and the message as one line, without allocating. If the line cannot be written,
-    /// nothing more can be reported.
+    /// Writes `sarif_gate: ` and the message as one line, without allocating. If the line cannot be written
+    /// completely, a prefix of it is written, and nothing more can be reported.
     pub fn complain(&mut self, complaint: Complaint)
         requires { failed_calls self.old.out < 2 ^ 63 }
         ensures last { self.new.last ≡ Some complaint }
+        ensures told { IsTold E.contents complaint self.old.out self.new.out }
     {
         self.last = Some(complaint);
-        let mut line = Cursor::new([0u8; LINE]);
-        if writeln!(line, "sarif_gate: {complaint}").is_ok() {
-            let length = LINE.min(line.position() as usize);
-            let text = line.into_inner();
-            let _ = write_out(&mut self.out, &text[..length]);
+        if let Some(line) = line_of(complaint) {
+            let _ = write_out(&mut self.out, line.as_str().as_bytes());
         }
     }
 }

@@ -4,9 +4,10 @@ ghost use Rattle.std.specs.List.{All};
 ghost use Rattle.std.specs.Io.KnownBytes.{Appends};
 ghost use Rattle.sarif_streams.specs.Counted.{inner_of, failed_calls, RisesIf};
 ghost use Rattle.sarif_model.specs.MergeFault.{exit_status};
+ghost use Rattle.sarif_program.specs.Line.{IsTold};
 ghost use Rattle.sarif_program.specs.Reports.{AreTaken};
 ghost use Rattle.sarif_program.specs.Status.{verdict_status};
-ghost use Rattle.sarif_program.specs.Writing.{writer_failures};
+ghost use Rattle.sarif_program.specs.Writing.{NoWriterFalls, writer_failures};
 ghost use Rattle.sarif_program.specs.declared.complaint.Complaint.TheVariants.{Fault};
 
 use crate::complaint::{Complaint, Complaints};
@@ -33,6 +34,7 @@ pub(crate) fn refuse<E: Write>(complaints: &mut Complaints<E>, fault: MergeFault
     requires { failed_calls complaints.old.out < 2 ^ 63 }
     ensures status { result ≡ exit_status fault.cause }
     ensures told { complaints.new.last ≡ Some (Fault fault) }
+    ensures line { IsTold E.contents (Fault fault) complaints.old.out complaints.new.out }
 {
     complaints.complain(Complaint::Fault(fault));
     fault.cause.status()
@@ -46,11 +48,11 @@ fn tell_lost<E: Write>(complaints: &mut Complaints<E>, lost: Lost) -> u8
 {
     match lost {
         Lost::Log => {
-            let fault = MergeFault {
+            let unwritten = MergeFault {
                 at: At::Whole(Source::Output),
                 cause: Cause::WriteFailed,
             };
-            complaints.complain(Complaint::Fault(fault));
+            complaints.complain(Complaint::Fault(unwritten));
         }
         Lost::Report(report) => complaints.complain(Complaint::Lost(report)),
         Lost::Summary => {}
@@ -81,6 +83,8 @@ pub(crate) fn accept<W: Write, S: Write, P: Write, E: Write>(
     ensures decided { result ≡ 2 → ⊥ }
     ensures failed { RisesIf (nat_eq result 3)
         (writer_failures writers.old) (writer_failures writers.new) }
+    ensures risen { NoWriterFalls writers.old writers.new }
+    ensures quiet { result < 2 → complaints.new ≡ complaints.old }
     ensures known { result ≤ 3 }
 {
     match put_all(writers, &merged.log, texts) {

@@ -2,8 +2,10 @@
 //! and the summary, and reports what stopped it.
 #![tactic(auto)]
 
+mod cause_name;
 mod complaint;
 mod ending;
+mod line;
 mod run;
 mod seed;
 mod telling;

@@ -1,21 +1,24 @@
 //! Serves a request, over readers and writers of any kind.
-ghost use Rattle.std.specs.Prelude.{◌≡◌, [], ◌<◌, ◌≤◌, ◌+◌, ◌^◌, false, nat_eq, IfOk, Ok};
+ghost use Rattle.std.specs.Prelude.{◌≡◌, [], ◌<◌, ◌≤◌, ◌+◌, ◌^◌, ◌↔◌, ◌⊎◌, false, nat_eq, IfOk, IfErr, Ok};
 ghost use Rattle.std.specs.List.{All, AllZip};
 ghost use Rattle.std.specs.Io.KnownBytes.{Appends};
 ghost use Rattle.sarif_log.specs.declared.merged.Merged.{Merged as Outcome};
 ghost use Rattle.sarif_log.specs.Beside.{IsMadeBy};
 ghost use Rattle.sarif_streams.specs.Counted.{inner_of, failed_calls, RisesIf};
 ghost use Rattle.sarif_model.specs.MergeFault.{read_failed_in, write_failed_in};
+ghost use Rattle.sarif_model.specs.declared.merge_fault.Cause.TheVariants.{OutOfMemory};
+ghost use Rattle.sarif_model.specs.declared.merge_fault.MergeFault.{MergeFault as Rejection};
 ghost use Rattle.sarif_counts.specs.Counts.{count_at};
 ghost use Rattle.sarif_inputs.specs.Faults.{faults_of};
 ghost use Rattle.sarif_streams.specs.OptionalReader.{failed_calls_if};
 ghost use Rattle.sarif_counts.specs.Summary.{summary_of};
-ghost use Rattle.sarif_merge.specs.FromReaders.{IsMergedFrom};
+ghost use Rattle.sarif_merge.specs.FromReaders.{IsMergedFrom, IsRefused};
 ghost use Rattle.sarif_merge.specs.Given.{given_by};
 ghost use Rattle.sarif_streams.specs.WereRead.{failures, AllTell, NoNumberFalls, SourceContents, WereRead};
+ghost use Rattle.sarif_program.specs.Rejected.{IsRejected};
 ghost use Rattle.sarif_program.specs.Reports.{IsWritten, report_for, report_with, reporting_for, texts_for};
 ghost use Rattle.sarif_program.specs.Status.{verdict_status};
-ghost use Rattle.sarif_program.specs.Writing.{writer_failures};
+ghost use Rattle.sarif_program.specs.Writing.{NoWriterFalls, ReaderRises, WriterRises, writer_failures};
 
 use crate::complaint::Complaints;
 use crate::ending::{accept, refuse};
@@ -74,6 +77,8 @@ fn merge_told<
         options.now.today options.now.policy made.now all.0) }
     ensures told { IfOk result (λ all. IsMadeBy Tell.FnOnce tell
         all.0.counts all.0.findings (Ok all.1)) }
+    ensures refused { IfErr result
+        (IsRefused R.remaining readers.old readers.new options.now.today) }
     ensures read_failed { RisesIf (read_failed_in result)
         (failures readers.old) (failures readers.new) }
     ensures risen { NoNumberFalls readers.old readers.new }
@@ -103,6 +108,8 @@ fn merge_for<R: Read, W, T: Threads + Wait + Sync>(
         ≡ summary_of (count_at all.0.counts) «request».now.options.policy) }
     ensures reports { IfOk result (λ all. all.1.reports.items
         ≡ texts_for writers.now (report_for «request».now all.0)) }
+    ensures refused { IfErr result (λ fault. (fault.cause ≡ OutOfMemory → ⊥) → IsRefused R.remaining
+        readers.old readers.new «request».now.options.today fault) }
     ensures read_failed { RisesIf (read_failed_in result)
         (failures readers.old) (failures readers.new) }
     ensures risen { NoNumberFalls readers.old readers.new }
@@ -149,7 +156,10 @@ pub fn run_request<R: Read, W: Write, S: Write, P: Write, E: Write, T: Threads +
         writers.old.reports.items writers.new.reports.items
         × Appends (S.contents (inner_of writers.old.say)) (S.contents (inner_of writers.new.say))
         (summary_of (count_at merged.counts) «request».now.options.policy) }
-    // 3 if and only if a read or a write of one of these failed.
+    // 3 if and only if the number of a reader, of `out`, of a report's writer or of `say` rose.
+    ensures exactly { (result ≡ 3)
+        ↔ (ReaderRises readers.old readers.new ⊎ WriterRises writers.old writers.new) }
+    // Then one call failed, and otherwise none.
     ensures failed { RisesIf (nat_eq result 3)
         (failures readers.old + writer_failures writers.old)
         (failures readers.new + writer_failures writers.new) }
@@ -157,9 +167,15 @@ pub fn run_request<R: Read, W: Write, S: Write, P: Write, E: Write, T: Threads +
     ensures untouched { result ≡ 2 → writers.new ≡ writers.old }
     // Nor does one that stopped at a read that failed.
     ensures unread { failures readers.new ≡ failures readers.old + 1 → writers.new ≡ writers.old }
+    // Then the reason is reported, and the line says it.
+    ensures rejected { (result ≡ 2) ⊎ (failures readers.new ≡ failures readers.old + 1)
+        → (fault : Rejection) × IsRejected R.remaining E.contents «request».now.options.today
+        readers.old readers.new complaints.old complaints.new result fault }
+    // An accepted merge reports nothing.
+    ensures quiet { result < 2 → complaints.new ≡ complaints.old }
     // None of these numbers fell.
     ensures risen { NoNumberFalls readers.old readers.new
-        × (writer_failures writers.old ≤ writer_failures writers.new) }
+        × NoWriterFalls writers.old writers.new }
     // If all sources were read and one of them has an error, it returns 2.
     ensures faulty { (contents : SourceContents) → AllTell R.remaining readers.old
         → WereRead R.remaining readers.old readers.new contents

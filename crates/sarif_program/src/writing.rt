@@ -3,8 +3,9 @@ ghost use Rattle.std.specs.Prelude.{◌≡◌, ◌<◌, ◌≤◌, ◌^◌, OnOk
 ghost use Rattle.std.specs.List.{All};
 ghost use Rattle.std.specs.Io.KnownBytes.{Appends};
 ghost use Rattle.sarif_streams.specs.Counted.{inner_of, failed_calls, RisesIf};
+ghost use Rattle.sarif_streams.specs.Failing.{NoneFalls};
 ghost use Rattle.sarif_program.specs.Reports.{AreTaken, report_failures};
-ghost use Rattle.sarif_program.specs.Writing.{writer_failures};
+ghost use Rattle.sarif_program.specs.Writing.{NoWriterFalls, writer_failures, writers_in};
 
 use crate::telling::Texts;
 use crate::writers::Writers;
@@ -57,12 +58,14 @@ fn put_report<P: Write>(writer: &mut Wanted<Counted<P>>, text: &Text) -> Result<
 }
 
 /// Writes the text of each report to its writer, in order, up to a report that is lost.
+#[tactic(auto, using(sarif_streams::proofs::ReadersRead::none_has_fallen))]
 fn put_reports<P: Write>(writers: &mut [Wanted<Counted<P>>], texts: &[Text]) -> Result<(), Report>
     requires room { All (λ wanted. failed_calls wanted.to < 2 ^ 63) writers.old }
     requires number { length texts.now ≡ length writers.old }
     ensures taken { OnOk result (AreTaken P.contents texts.now writers.old writers.new) }
     ensures counted { RisesIf (is_err result)
         (report_failures writers.old) (report_failures writers.new) }
+    ensures risen { NoneFalls (writers_in writers.old) (writers_in writers.new) }
 {
     for (number, writer) in writers.iter_mut().enumerate() {
         put_report(writer, &texts[number])?;
@@ -71,6 +74,7 @@ fn put_reports<P: Write>(writers: &mut [Wanted<Counted<P>>], texts: &[Text]) -> 
 }
 
 /// Writes the merged log, then the reports in their order, and then the summary, up to what is lost.
+#[tactic(auto, using(sarif_streams::proofs::ReadersRead::none_has_fallen))]
 pub(crate) fn put_all<W: Write, S: Write, P: Write>(
     writers: &mut Writers<W, S, P>,
     log: &Text,
@@ -88,6 +92,7 @@ pub(crate) fn put_all<W: Write, S: Write, P: Write>(
         (S.contents (inner_of writers.new.say)) texts.now.summary) }
     ensures counted { RisesIf (is_err result)
         (writer_failures writers.old) (writer_failures writers.new) }
+    ensures risen { NoWriterFalls writers.old writers.new }
 {
     if put_out(&mut writers.out, log.as_str().as_bytes()).is_err() {
         return Err(Lost::Log);

@@ -1,3 +1,4 @@
 pub mod Command
 pub mod Names
+pub mod Plain
 pub mod Words

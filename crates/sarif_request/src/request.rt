@@ -1,6 +1,6 @@
 //! The request of one run of the program.
-ghost use Rattle.std.specs.Prelude.{◌≡◌, [], ◌∷◌, IfOk, None, codes, false};
-ghost use Rattle.sarif_counts.specs.Policy.{default_policy};
+ghost use Rattle.std.specs.Prelude.{IfOk};
+ghost use Rattle.sarif_request.specs.Plain.{IsPlain};
 
 use crate::wanted::Wanted;
 use sarif_counts::{Options, Policy};
@@ -35,16 +35,7 @@ impl Request {
     /// Returns the request to merge one log from standard input to standard output, with one worker, the default
     /// policy and no report. Returns `AllocError` if memory for it runs out.
     pub fn of_standard_streams(alloc: Global, seed: RandomState) -> Result<Request, AllocError>
-        ensures logs { IfOk result (λ request. request.logs.items ≡ codes "-" ∷ []) }
-        ensures baselines { IfOk result (λ request. request.baselines.items ≡ []) }
-        ensures suppress { IfOk result (λ request. request.suppress ≡ None) }
-        ensures out { IfOk result (λ request. request.out ≡ codes "-") }
-        ensures reports { IfOk result (λ request. request.reports.items ≡ []) }
-        ensures root { IfOk result (λ request. request.root ≡ []) }
-        ensures explain { IfOk result (λ request. request.explain ≡ false) }
-        ensures workers { IfOk result (λ request. request.options.workers ≡ 1) }
-        ensures policy { IfOk result (λ request. request.options.policy ≡ default_policy) }
-        ensures today { IfOk result (λ request. request.options.today ≡ None) }
+        ensures { IfOk result IsPlain }
     {
         Ok(Request {
             logs: vec![in alloc; Text::copy_of(alloc, STANDARD)?]?,

@@ -3,7 +3,7 @@ ghost use Rattle.std.specs.Prelude.{◌≡◌, None};
 ghost use Rattle.std.specs.Io.{ReadsAtMost};
 ghost use Rattle.std.specs.Io.KnownBytes.{ReadConsumes};
 ghost use Rattle.sarif_streams.specs.Given.{InputGivesAs};
-ghost use Rattle.sarif_streams.specs.Named.{input_name};
+ghost use Rattle.sarif_streams.specs.Named.{channel_named, input_channel};
 
 use crate::files::InputFile;
 use crate::streams::STANDARD;
@@ -22,7 +22,7 @@ pub enum Input<'a, R: Files, I> {
 impl<'a, R: Files, I: Drop> Input<'a, R, I> {
     /// The log of a name: `-` is standard input. Nothing is opened yet.
     pub fn log(files: &'a R, standard: I, name: &'a str) -> Input<'a, R, I>
-        ensures { input_name result ≡ name.now }
+        ensures { input_channel result ≡ channel_named name.now }
     {
         if name == STANDARD {
             Input::Standard(standard)

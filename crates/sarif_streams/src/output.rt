@@ -6,7 +6,7 @@ ghost use Rattle.sarif_streams.specs.Taken.{TakesAs};
 ghost use Rattle.sarif_streams.specs.Writing.{file_of};
 ghost use Rattle.sarif_streams.specs.declared.output.Writing.TheVariants.{Unopened, Over};
 
-use crate::place::Place;
+use crate::place::{Found, Place};
 use std::fs::{self, OpenFile, OpenOptions, Permissions};
 use std::io::{self, ErrorKind, Write};
 use std::os::unix::fs::{OpenOptionsExt, PermissionsExt};
@@ -35,14 +35,14 @@ enum Writing<F> {
 #[derive(Drop)]
 pub struct OutputFile<'a, R, F> {
     files: &'a R,
-    place: Place,
+    place: Place<'a>,
     writing: Writing<F>,
 }
 
 impl<'a, R, F> OutputFile<'a, R, F> {
     /// An output to this place. Nothing is opened yet: this type does not know how to open an `R`.
-    pub fn new(files: &'a R, place: Place) -> OutputFile<'a, R, F>
-        ensures place { result.place ≡ place }
+    pub fn new(files: &'a R, place: Place<'a>) -> OutputFile<'a, R, F>
+        ensures place { result.place ≡ place.entry }
         ensures unopened { result.writing ≡ Unopened }
     {
         OutputFile {
@@ -162,12 +162,12 @@ impl<R: Files> Write for OutputFile<'_, R, R::File> {
 }
 
 /// Opens what is to take the text.
-fn start<R: Files>(files: &R, place: &Place) -> io::Result<Writing<R::File>>
+fn start<R: Files>(files: &R, place: &Place<'_>) -> io::Result<Writing<R::File>>
     ensures open { IfOk result (λ writing. IsSome (file_of writing)) }
 {
-    match place {
-        Place::System(name) => as_is(files, name.as_path()),
-        Place::Named { whole, new } => match fs::metadata(files, whole.as_path()) {
+    match &place.found {
+        Found::System(name) => as_is(files, name.as_path()),
+        Found::Named { whole, new } => match fs::metadata(files, whole.as_path()) {
             Ok(old) if !old.is_file() => as_is(files, whole.as_path()),
             Ok(old) => {
                 let _writable = OpenOptions::new().write(true).open(files, whole.as_path())?;
@@ -181,7 +181,7 @@ fn start<R: Files>(files: &R, place: &Place) -> io::Result<Writing<R::File>>
             }
             Err(error) => Err(error),
         },
-        Place::Lost(kind) => Err((*kind).into()),
+        Found::Lost(kind) => Err((*kind).into()),
     }
 }
 
@@ -208,7 +208,7 @@ fn new_file_like<R: Files>(files: &R, name: Path<'_>, mode: u32) -> io::Result<R
 }
 
 /// Syncs a new file and gives it its name, or removes it.
-fn finish<R: Files>(files: &R, place: &Place, file: &R::File) -> io::Result<()> {
+fn finish<R: Files>(files: &R, place: &Place<'_>, file: &R::File) -> io::Result<()> {
     match renamed(files, place, file) {
         Ok(()) => Ok(()),
         Err(error) => {
@@ -219,17 +219,17 @@ fn finish<R: Files>(files: &R, place: &Place, file: &R::File) -> io::Result<()> 
 }
 
 /// Syncs a new file and gives it its name.
-fn renamed<R: Files>(files: &R, place: &Place, file: &R::File) -> io::Result<()> {
+fn renamed<R: Files>(files: &R, place: &Place<'_>, file: &R::File) -> io::Result<()> {
     file.sync_all()?;
-    match place {
-        Place::Named { whole, new } => fs::rename(files, new.as_path(), whole.as_path()),
+    match &place.found {
+        Found::Named { whole, new } => fs::rename(files, new.as_path(), whole.as_path()),
         _ => Ok(()),
     }
 }
 
 /// Removes a new file. If that fails too, nothing more can be done.
-fn remove_new<R: Files>(files: &R, place: &Place) {
-    if let Place::Named { new, .. } = place {
+fn remove_new<R: Files>(files: &R, place: &Place<'_>) {
+    if let Found::Named { new, .. } = &place.found {
         let _ = fs::remove_file(files, new.as_path());
     }
 }

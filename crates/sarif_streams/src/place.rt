@@ -1,4 +1,6 @@
 //! The name of an output, and the name under which it is written until it is complete.
+ghost use Rattle.std.specs.Prelude.{◌≡◌, IfOk};
+
 use std::alloc::{AllocError, Global};
 use std::fs;
 use std::io::{self, ErrorKind};
@@ -8,9 +10,9 @@ use std::rt::Files;
 /// As many links are followed as the system follows.
 const LINKS: usize = 40;
 
-/// Where an output goes.
+/// What the links of a name lead to.
 #[derive(Drop)]
-pub enum Place {
+pub(crate) enum Found {
     /// A name of the system's own, which is written as it is.
     System(PathBuf),
     /// A name that is not a link, and the name of a new file in the same folder.
@@ -19,36 +21,58 @@ pub enum Place {
     Lost(ErrorKind),
 }
 
-impl Place {
+/// Where an output goes: the name that was requested, and what its links lead to.
+#[derive(Drop)]
+pub struct Place<'a> {
+    name: &'a str,
+    pub(crate) found: Found,
+}
+
+impl<'a> Place<'a> {
     /// Follows the links of `name`. The new file's name contains `number` and is in the folder of the link's
     /// target. This call only reads links; it opens and changes nothing. Returns `AllocError` if memory for the
-    /// names runs out. Links that cannot be followed to their end give the place `Lost`.
+    /// names runs out. If links cannot be followed to their end, no write to the place succeeds.
     pub fn of<R: Files>(
+        files: &R,
+        alloc: Global,
+        name: &'a str,
+        number: u64,
+    ) -> Result<Place<'a>, AllocError>
+        ensures { IfOk result (λ place. place.name.now ≡ name.now) }
+    {
+        let found = Found::of(files, alloc, name, number)?;
+        Ok(Place { name, found })
+    }
+}
+
+impl Found {
+    /// Follows the links of `name`.
+    fn of<R: Files>(
         files: &R,
         alloc: Global,
         name: &str,
         number: u64,
-    ) -> Result<Place, AllocError> {
+    ) -> Result<Found, AllocError> {
         let mut whole = PathBuf::from_str(alloc, name)?;
         for _ in 0..LINKS {
             if is_of_system(whole.as_path()) {
-                return Ok(Place::System(whole));
+                return Ok(Found::System(whole));
             }
             match link_at(files, alloc, whole.as_path()) {
                 Ok(Some(target)) => whole.set_file_name(target.as_path().as_str())?,
-                Ok(None) => return Place::beside(alloc, whole, number),
+                Ok(None) => return Found::beside(alloc, whole, number),
                 Err(error) if error.kind() == ErrorKind::OutOfMemory => return Err(AllocError),
-                Err(error) => return Ok(Place::Lost(error.kind())),
+                Err(error) => return Ok(Found::Lost(error.kind())),
             }
         }
-        Ok(Place::Lost(ErrorKind::FilesystemLoop))
+        Ok(Found::Lost(ErrorKind::FilesystemLoop))
     }
 
     /// A name that is not a link, with a name in the same folder.
-    fn beside(alloc: Global, whole: PathBuf, number: u64) -> Result<Place, AllocError> {
+    fn beside(alloc: Global, whole: PathBuf, number: u64) -> Result<Found, AllocError> {
         let name = format!(in alloc; ".sarif_gate-{number:016x}")?;
         let new = whole.as_path().with_file_name(alloc, name.as_str())?;
-        Ok(Place::Named { whole, new })
+        Ok(Found::Named { whole, new })
     }
 }
 

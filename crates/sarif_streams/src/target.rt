@@ -1,7 +1,8 @@
 //! Where an output goes: a file, or a standard stream.
-ghost use Rattle.std.specs.Prelude.{None};
+ghost use Rattle.std.specs.Prelude.{◌≡◌, None, IfOk};
 ghost use Rattle.std.specs.Io.{WritesAtMost};
 ghost use Rattle.std.specs.Io.KnownBytes.{Keeps, WriteAppends};
+ghost use Rattle.sarif_streams.specs.Named.{channel_named, target_channel};
 ghost use Rattle.sarif_streams.specs.Taken.{TargetTakesAs, console_held};
 
 use crate::output::OutputFile;
@@ -27,9 +28,11 @@ impl<'a, R: Files, O: Drop> Target<'a, R, O> {
         files: &'a R,
         standard: O,
         alloc: Global,
-        name: &str,
+        name: &'a str,
         number: u64,
-    ) -> Result<Target<'a, R, O>, AllocError> {
+    ) -> Result<Target<'a, R, O>, AllocError>
+        ensures { IfOk result (λ target. target_channel target ≡ channel_named name.now) }
+    {
         if name == STANDARD {
             return Ok(Target::Standard(standard));
         }

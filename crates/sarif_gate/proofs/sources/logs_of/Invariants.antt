@@ -1,9 +1,9 @@
-use Rattle.std.proofs.Common.{◌≡◌, take}
-use Rattle.std.specs.List.{All}
-use Rattle.sarif_streams.specs.Counted.{failed_calls}
-use Rattle.sarif_gate.specs.Named.{names_of}
+use Rattle.std.proofs.Common.{◌≡◌, map, take}
+use Rattle.sarif_streams.specs.Failing.{failed_calls_in}
+use Rattle.sarif_streams.specs.Named.{channel_named}
+use Rattle.sarif_gate.specs.Named.{source_channel}
 use Rattle.sarif_gate.proofs.sources.logs_of.Given as goal
 
 abbrev pub invariant-loop-name : goal.invariant-loop-name
 invariant-loop-name l =
-    All (λ input. failed_calls input ≡ 0) l.logs.items × (names_of l.logs.items ≡ take l.name-index l.names.items)
+    (failed_calls_in l.logs.items ≡ 0) × (map source_channel l.logs.items ≡ map channel_named (take l.name-index l.names.items))

@@ -1,5 +1,5 @@
-use Rattle.std.proofs.Common.{◌≡◌, Ok, arith, rules, subst}
-use Rattle.std.proofs.lemmas.Result.{IfOk-weaker}
+use Rattle.std.proofs.Common.{◌≡◌, Ok, arith, refl, rules, subst}
+use Rattle.std.proofs.lemmas.Result.{IfErr-weaker, IfOk-weaker, err_from_is_err_and}
 use Rattle.sarif_log.specs.Beside.{IsMadeBy}
 use Rattle.sarif_streams.proofs.ReadersRead.{none_has_fallen}
 use Rattle.sarif_program.specs.Reports.{report_for, report_with, texts_for}
@@ -19,3 +19,11 @@ returns-clause-reports g c =
     subst (λ findings. all.1.reports.items ≡ texts_for writers (report_with request all.0.counts findings)) {x = told.1.now} {y = all.0.findings} told.4
     (subst (λ counts. all.1.reports.items ≡ texts_for writers (report_with request counts told.1.now)) {x = told.0.now} {y = all.0.counts} told.3 (search rules)))
     c.merge_told.ensures.told
+
+pub returns-in_err-made-clause-refused : goal.returns-in_err-made-clause-refused
+returns-in_err-made-clause-refused g c =
+    let p = err_from_is_err_and c.from_residual.result c.from_residual.ensures.1 in
+    rw (p.1, p.2) (λ other. absurd (other refl))
+
+pub returns-clause-refused : goal.returns-clause-refused
+returns-clause-refused g c = IfErr-weaker c.merge_told.result _ _ (λ fault refused. λ other. refused) c.merge_told.ensures.refused

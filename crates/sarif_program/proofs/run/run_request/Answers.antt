@@ -1,4 +1,4 @@
-use Rattle.std.proofs.Common.{◌≡◌, ℕ, List, ap, arith, nat_eq, subst, sym, ◌∙◌, ◌+◌}
+use Rattle.std.proofs.Common.{◌≡◌, inl, inr, ℕ, List, ap, arith, nat_eq, subst, sym, ◌∙◌, ◌+◌}
 use Rattle.std.specs.Io.KnownBytes.{Appends}
 use Rattle.sarif_inputs.specs.Faults.{faults_of}
 use Rattle.sarif_merge.specs.Given.{given_by}
@@ -10,7 +10,8 @@ use Rattle.sarif_streams.specs.Counted.{inner_of, RisesIf}
 use Rattle.sarif_streams.specs.WereRead.{failures}
 use Rattle.sarif_program.specs.Reports.{report_for, reporting_for, texts_for}
 use Rattle.sarif_program.specs.Writing.{writer_failures}
-use Rattle.sarif_program.proofs.Quiet.{quiet_status, no_rise, refused_rise}
+use Rattle.sarif_program.proofs.Quiet.{low_status, quiet_status, no_rise, refused_rise}
+use Rattle.sarif_program.proofs.Rising.{exactly, no_writer_has_fallen}
 use Rattle.sarif_program.proofs.run.run_request.Goals as goal
 
 pub returns-in-Ok-clause-accepted : goal.returns-in-Ok-clause-accepted
@@ -30,6 +31,15 @@ returns-in-Ok-clause-accepted g c = λ low.
       subst (λ (text : List ℕ). Appends (g.S.Write.contents (inner_of old.say)) (g.S.Write.contents (inner_of new.say)) text)
           c.in-Ok.ensures.summary (c.accept.ensures.said low),
     )
+
+pub returns-in-Ok-clause-exactly : goal.returns-in-Ok-clause-exactly
+returns-in-Ok-clause-exactly g c =
+    let read = c.in-Ok.ensures.read_failed in
+    let before = failures c.args.readers.now in
+    let after = failures c.merge_for.new.readers in
+    let rise : RisesIf (nat_eq c.accept.result 3) (before + writer_failures c.args.writers.now) (after + writer_failures c.accept.new.writers) =
+    omega (arith, read, c.accept.ensures.failed) in
+    exactly c.accept.result c.args.readers.now c.merge_for.new.readers c.args.writers.now c.accept.new.writers rise c.in-Ok.ensures.risen c.accept.ensures.risen
 
 pub returns-in-Ok-clause-unread : goal.returns-in-Ok-clause-unread
 returns-in-Ok-clause-unread g c = λ failed. absurd (omega (arith, failed, c.in-Ok.ensures.read_failed))
@@ -54,3 +64,36 @@ returns-in-Err-clause-failed g c =
     let written = writer_failures c.args.writers.now in
     subst (λ status. RisesIf (nat_eq status 3) (before + written) (after + written)) (sym c.refuse.ensures.status)
     (refused_rise c.in-Err.fault.cause before after written c.in-Err.ensures.unwritten c.in-Err.ensures.read_failed)
+
+pub returns-in-Err-clause-exactly : goal.returns-in-Err-clause-exactly
+returns-in-Err-clause-exactly g c =
+    let before = failures c.args.readers.now in
+    let after = failures c.merge_for.new.readers in
+    let writers = c.args.writers.now in
+    let rise = refused_rise c.in-Err.fault.cause before after (writer_failures writers) c.in-Err.ensures.unwritten c.in-Err.ensures.read_failed in
+    exactly c.refuse.result c.args.readers.now c.merge_for.new.readers writers writers
+    (subst (λ status. RisesIf (nat_eq status 3) (before + writer_failures writers) (after + writer_failures writers)) (sym c.refuse.ensures.status) rise)
+    c.in-Err.ensures.risen (no_writer_has_fallen writers)
+
+pub returns-in-Ok-clause-rejected : goal.returns-in-Ok-clause-rejected
+returns-in-Ok-clause-rejected g c = λ which. elim which [
+  | inl two ↦ absurd (c.accept.ensures.decided two)
+  | inr more ↦ absurd (omega (arith, more, c.in-Ok.ensures.read_failed))
+]
+
+pub returns-in-Err-clause-rejected : goal.returns-in-Err-clause-rejected
+returns-in-Err-clause-rejected g c = λ which. (
+  c.in-Err.fault,
+  record {
+    refused = c.in-Err.ensures.refused;
+    exits = c.refuse.ensures.status;
+    last = c.refuse.ensures.told;
+    line = c.refuse.ensures.line;
+  },
+)
+
+pub returns-in-Err-clause-quiet : goal.returns-in-Err-clause-quiet
+returns-in-Err-clause-quiet g c = λ low. absurd (low_status c.in-Err.fault.cause c.refuse.result c.refuse.ensures.status low)
+
+pub returns-in-Err-clause-risen : goal.returns-in-Err-clause-risen
+returns-in-Err-clause-risen g c = (c.in-Err.ensures.risen, no_writer_has_fallen c.args.writers.now)

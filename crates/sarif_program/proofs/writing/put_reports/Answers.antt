@@ -1,8 +1,9 @@
-use Rattle.std.proofs.Common.{◌≡◌, ◌<◌, ◌^◌, ap, arith, get_or, rules}
+use Rattle.std.proofs.Common.{◌≡◌, ◌<◌, ◌^◌, ap, arith, false, true, get_or, rules}
 use Rattle.std.proofs.lemmas.Grind.{common_steps}
 use Rattle.std.proofs.lemmas.List.Elements.{All-get_or}
 use Rattle.sarif_streams.specs.Counted.{failed_calls}
-use Rattle.sarif_streams.proofs.ReadersRead.{same_at, same_after}
+use Rattle.sarif_streams.proofs.ReadersRead.{no_fall, same_at, same_after}
+use Rattle.sarif_program.proofs.Rising.{none_falls_to}
 use Rattle.sarif_program.proofs.Written.{taken_more}
 use Rattle.sarif_program.proofs.writing.put_reports.Goals as goal
 
@@ -13,6 +14,12 @@ put_report-requires g c =
     let given = c.args.writers.now in
     let few : failed_calls (get_or given i d).to < 2 ^ 63 = All-get_or (λ wanted. failed_calls wanted.to < 2 ^ 63) given i d (omega arith) c.requires.room in
     omega (arith, few, ap (λ wanted. failed_calls wanted.to) (same_at c.loop-number.writers given i d c.loop-number.invariant.left))
+
+pub returns-in_err-put_report-clause-risen : goal.returns-in_err-put_report-clause-risen
+returns-in_err-put_report-clause-risen g c =
+    let i = c.loop-number.number in
+    let d = c.index-writers-number.result in
+    none_falls_to c.args.writers.now c.loop-number.writers i d c.put_report.new.writer (omega arith) c.loop-number.invariant.risen (no_fall true _ _ c.in_err-put_report.ensures.counted)
 
 pub loop-number-preserved : goal.loop-number-preserved
 loop-number-preserved g c =
@@ -26,4 +33,5 @@ loop-number-preserved g c =
       taken = taken_more g.P.Write.contents c.args.texts.now given now i d writer c.index-texts-number.result
           (omega arith) (omega arith) c.loop-number.invariant.left c.loop-number.invariant.taken (search rules) c.in_ok-put_report.ensures.same c.in_ok-put_report.ensures.taken;
       quiet = grind (arith, common_steps, c.in_ok-put_report.ensures.counted, c.loop-number.invariant.quiet);
+      risen = none_falls_to given now i d writer (omega arith) c.loop-number.invariant.risen (no_fall false _ _ c.in_ok-put_report.ensures.counted);
     }

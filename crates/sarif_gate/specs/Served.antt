@@ -1,0 +1,70 @@
+-- What the program does for a request, and for arguments.
+use Rattle.std.specs.Prelude.{◌≡◌, ℕ, List, ◌⊎◌, None, Result, MatchResult}
+use Rattle.std.specs.declared.fs.File.{File}
+use Rattle.std.specs.declared.fs.dir.Names.{Names}
+use Rattle.std.specs.declared.rt.LibcRuntime.{LibcRuntime}
+use Rattle.std.specs.declared.rt.Stderr.{Stderr}
+use Rattle.std.specs.declared.rt.Stdin.{Stdin}
+use Rattle.std.specs.declared.rt.Stdout.{Stdout}
+use Rattle.sarif_model.specs.declared.merge_fault.Cause.TheVariants.{OutOfMemory}
+use Rattle.sarif_model.specs.MergeFault.{exit_status}
+use Rattle.sarif_program.specs.Run.{IsRun, Streams, Views}
+use Rattle.sarif_program.specs.Writing.{writer_failures}
+use Rattle.sarif_request.specs.declared.request.Request.{Request}
+use Rattle.sarif_request.specs.declared.words.WordsFault.{WordsFault}
+use Rattle.sarif_request.specs.Plain.{IsPlain}
+use Rattle.sarif_request.specs.Words.{Answers, words_status}
+use Rattle.sarif_streams.specs.declared.input.Input.{Input}
+use Rattle.sarif_streams.specs.declared.kept.Kept.{Kept}
+use Rattle.sarif_streams.specs.declared.target.Console.{Console}
+use Rattle.sarif_streams.specs.declared.target.Target.{Target}
+use Rattle.sarif_streams.specs.Taken.{console_held}
+use Rattle.sarif_streams.specs.WereRead.{failures}
+use Rattle.sarif_gate.specs.Named.{AreNamed}
+
+-- a source of the program, an output, and where the summary goes
+abbrev pub Source : Type 0
+Source = Kept (Input LibcRuntime Stdin File Names)
+
+abbrev pub Output : Type 0
+Output = Kept (Target LibcRuntime Stdout File Names)
+
+abbrev pub Say : Type 0
+Say = Console Stdout Stderr
+
+-- files and standard streams don't say which bytes they have left or hold
+abbrev pub views : Views Source Output Say Output
+views = record {
+  remaining = λ source. None;
+  log = λ output. None;
+  report = λ output. None;
+  summary = console_held (λ output. None) (λ error. None);
+}
+
+-- a run from the sources that the request names to the outputs that it names ended with this status; no call of these
+-- had failed before
+pub record IsRunOf (request : Request) (status : ℕ) : Type 0 where
+  pub old : Streams Source Output Say Output
+  pub new : Streams Source Output Say Output
+  pub named : AreNamed request old.readers old.writers
+  pub unread : failures old.readers ≡ 0
+  pub unwritten : writer_failures old.writers ≡ 0
+  pub run : IsRun views request old new status
+
+-- the status if memory runs out before there are sources and outputs
+abbrev pub unmade_status : ℕ
+unmade_status = exit_status OutOfMemory
+
+-- what the program does for a request
+abbrev pub IsServed : Request → ℕ → Type 0
+IsServed request status = IsRunOf request status ⊎ (status ≡ unmade_status)
+
+-- and for arguments: what they request; or, if they make no request, it reports why
+abbrev pub AreServed : List (List ℕ) → ℕ → Type 0
+AreServed words status = (asked : Result Request WordsFault) × Answers words asked
+    × MatchResult asked (λ request. IsServed request status) (λ fault. status ≡ words_status fault)
+
+-- and without arguments
+abbrev pub IsServedPlain : ℕ → Type 0
+IsServedPlain status = ((request : Request) × IsPlain request × IsRunOf request status)
+    ⊎ (status ≡ unmade_status)

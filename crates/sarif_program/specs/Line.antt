@@ -1,0 +1,71 @@
+-- The lines of error messages.
+use Rattle.std.specs.Prelude.{ℕ, Option, List, [], ◌∷◌, ◌++◌, take, codes}
+use Rattle.std.specs.Io.KnownBytes.{Appends}
+use Rattle.sarif_model.specs.declared.fault.Fault.{Fault}
+use Rattle.sarif_model.specs.declared.fault.Fault.TheVariants as fault
+use Rattle.sarif_model.specs.declared.merge_fault.At.{At}
+use Rattle.sarif_model.specs.declared.merge_fault.At.TheVariants.{Nowhere, Whole, Run, Single, Entry}
+use Rattle.sarif_model.specs.declared.merge_fault.Cause.{Cause}
+use Rattle.sarif_model.specs.declared.merge_fault.Cause.TheVariants as cause
+use Rattle.sarif_model.specs.FaultText.{at_text}
+use Rattle.sarif_reports.specs.Report.{report_name}
+use Rattle.sarif_streams.specs.declared.counted.Counted.{Counted}
+use Rattle.sarif_streams.specs.Counted.{inner_of}
+use Rattle.sarif_program.specs.declared.complaint.Complaint.{Complaint}
+use Rattle.sarif_program.specs.declared.complaint.Complaint.TheVariants as complaint
+
+-- the name of an error in what was read
+abbrev pub fault_name : Fault → List ℕ
+fault_name fault.NotJson = codes "NotJson"
+fault_name fault.NotLog = codes "NotLog"
+fault_name fault.WrongVersion = codes "WrongVersion"
+fault_name fault.BadRun = codes "BadRun"
+fault_name fault.ExternalProperties = codes "ExternalProperties"
+fault_name fault.BadRules = codes "BadRules"
+fault_name fault.BadIndex = codes "BadIndex"
+fault_name fault.BadLevel = codes "BadLevel"
+fault_name fault.BadKind = codes "BadKind"
+fault_name fault.BadGuid = codes "BadGuid"
+fault_name fault.BadFingerprint = codes "BadFingerprint"
+fault_name fault.BadLocation = codes "BadLocation"
+fault_name fault.BadSuppression = codes "BadSuppression"
+fault_name fault.BadMember = codes "BadMember"
+fault_name fault.AbsentInput = codes "AbsentInput"
+fault_name fault.TooMany = codes "TooMany"
+fault_name fault.NotList = codes "NotList"
+fault_name fault.BadEntry = codes "BadEntry"
+fault_name fault.EmptyMatch = codes "EmptyMatch"
+fault_name fault.NeedsToday = codes "NeedsToday"
+
+-- the name of a cause
+abbrev pub cause_name : Cause → List ℕ
+cause_name (cause.Of fault) = fault_name fault
+cause_name cause.TooLong = codes "TooLong"
+cause_name cause.ReadFailed = codes "ReadFailed"
+cause_name cause.WriteFailed = codes "WriteFailed"
+cause_name cause.OutOfMemory = codes "OutOfMemory"
+cause_name cause.NoWorker = codes "NoWorker"
+
+-- a name with its place, if it has one
+abbrev pub placed : At → List ℕ → List ℕ
+placed Nowhere name = name
+placed (Whole source) name = at_text (Whole source) ++ (codes ": " ++ name)
+placed (Run source run) name = at_text (Run source run) ++ (codes ": " ++ name)
+placed (Single source run result) name =
+    at_text (Single source run result) ++ (codes ": " ++ name)
+placed (Entry entry) name = at_text (Entry entry) ++ (codes ": " ++ name)
+
+-- what an error message says
+abbrev pub complaint_text : Complaint → List ℕ
+complaint_text (complaint.Fault fault) = placed fault.at (cause_name fault.cause)
+complaint_text (complaint.Lost report) = report_name report ++ codes " report: WriteFailed"
+
+-- its line
+abbrev pub complaint_line : Complaint → List ℕ
+complaint_line complaint = (codes "sarif_gate: " ++ complaint_text complaint) ++ 10 ∷ []
+
+-- a prefix of its line was written, and nothing else; all of it if the prefix is that long
+abbrev pub IsTold : {E : Type 0} → (E → Option (List ℕ)) → Complaint
+    → Counted E → Counted E → Type 0
+IsTold contents complaint old new = (n : ℕ) × Appends (contents (inner_of old))
+    (contents (inner_of new)) (take n (complaint_line complaint))

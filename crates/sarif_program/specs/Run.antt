@@ -1,0 +1,60 @@
+-- What one run of a request does: the contract of `run_request` as one fact, for what cites it.
+use Rattle.std.specs.Prelude.{◌≡◌, ◌<◌, ◌≤◌, ◌+◌, ◌⊎◌, ◌↔◌, ℕ, List, [], Option, nat_eq}
+use Rattle.std.specs.Io.KnownBytes.{Appends}
+use Rattle.std.specs.List.{AllZip}
+use Rattle.sarif_counts.specs.Counts.{count_at}
+use Rattle.sarif_counts.specs.Summary.{summary_of}
+use Rattle.sarif_inputs.specs.Faults.{faults_of}
+use Rattle.sarif_log.specs.declared.merged.Merged.{Merged}
+use Rattle.sarif_merge.specs.FromReaders.{IsMergedFrom}
+use Rattle.sarif_merge.specs.Given.{given_by}
+use Rattle.sarif_request.specs.declared.request.Request.{Request}
+use Rattle.sarif_streams.specs.declared.readers.Readers.{Readers}
+use Rattle.sarif_streams.specs.Counted.{inner_of, RisesIf}
+use Rattle.sarif_streams.specs.WereRead.{failures, AllTell, NoNumberFalls, SourceContents, WereRead}
+use Rattle.sarif_program.specs.declared.writers.Writers.{Writers}
+use Rattle.sarif_program.specs.Reports.{IsWritten, report_for, reporting_for}
+use Rattle.sarif_program.specs.Status.{verdict_status}
+use Rattle.sarif_program.specs.Writing.{NoWriterFalls, ReaderRises, WriterRises, writer_failures}
+
+-- what a reader has left, and what the writers of the log, of a report and of the summary hold, if they say so
+pub record Views (R W S P : Type 0) : Type 0 where
+  pub remaining : R → Option (List ℕ)
+  pub log : W → Option (List ℕ)
+  pub report : P → Option (List ℕ)
+  pub summary : S → Option (List ℕ)
+
+-- the sources and the outputs of a run
+pub record Streams (R W S P : Type 0) : Type 0 where
+  pub readers : Readers R
+  pub writers : Writers W S P
+
+-- the status is that of the verdict of this merge of what was read; the log, the reports and the summary were written
+pub record IsAccepted {R W S P : Type 0} (views : Views R W S P) (request : Request)
+    (old new : Streams R W S P) (status : ℕ) (merged : Merged) : Type 0 where
+  pub verdict : status ≡ verdict_status merged.verdict
+  pub from : IsMergedFrom views.remaining old.readers new.readers request.options.today
+      request.options.policy (reporting_for request old.writers.reports.items) merged
+  pub log : Appends (views.log (inner_of old.writers.out)) (views.log (inner_of new.writers.out))
+      merged.log
+  pub reports : AllZip (IsWritten views.report (report_for request merged))
+      old.writers.reports.items new.writers.reports.items
+  pub summary : Appends (views.summary (inner_of old.writers.say))
+      (views.summary (inner_of new.writers.say))
+      (summary_of (count_at merged.counts) request.options.policy)
+
+-- the status, and what was read and written
+pub record IsRun {R W S P : Type 0} (views : Views R W S P) (request : Request)
+    (old new : Streams R W S P) (status : ℕ) : Type 0 where
+  pub accepted : status < 2 → (merged : Merged) × IsAccepted views request old new status merged
+  pub exactly : (status ≡ 3)
+      ↔ (ReaderRises old.readers new.readers ⊎ WriterRises old.writers new.writers)
+  pub failed : RisesIf (nat_eq status 3) (failures old.readers + writer_failures old.writers)
+      (failures new.readers + writer_failures new.writers)
+  pub untouched : status ≡ 2 → new.writers ≡ old.writers
+  pub unread : failures new.readers ≡ failures old.readers + 1 → new.writers ≡ old.writers
+  pub risen : NoNumberFalls old.readers new.readers × NoWriterFalls old.writers new.writers
+  pub faulty : (contents : SourceContents) → AllTell views.remaining old.readers
+      → WereRead views.remaining old.readers new.readers contents
+      → (faults_of (given_by contents request.options.today) ≡ [] → ⊥) → status ≡ 2
+  pub known : status ≤ 3
