@@ -197,7 +197,7 @@ def names_words(answer):
 
 
 GROUPS = ["Inputs:", "Gate:", "Outputs:", "Other:"]
-HIT = "A hit is an active result that is new or updated and at or above the level of --fail-on."
+HIT = "A hit is an active result with a state of --states and a level at or above that of --fail-on."
 
 
 def is_readable(answer):

@@ -1,3 +1,4 @@
 pub mod Command
+pub mod Listing
 pub mod Names
 pub mod Words

@@ -17,9 +17,10 @@ pub const VERSION: &str = "1.0.0";
 const ABOUT: &str = "\
 Merge SARIF 2.1.0 logs, compare their results with baselines, and fail if there are too many hits.
 
-A hit is an active result that is new or updated and at or above the level of --fail-on. A result
-is new if it matches no baseline result, updated if it differs from the baseline result that it
-matches, and active unless it is suppressed.";
+A hit is an active result with a state of --states and a level at or above that of --fail-on.
+By default the states are new and updated. A result is new if it matches no baseline result, updated
+if it differs from the baseline result that it matches, and unchanged if it does not. A baseline
+result that no current result matches is absent. A result is active unless it is suppressed.";
 
 const AFTER: &str = "\
 Without arguments, the program reads one log from standard input, and writes the merged log to
