@@ -174,7 +174,13 @@ def clashes():
     base = {"a": ONE, "o": ONE_MERGED}
     other = ["--text", "./a.txt", "--out", "o", "a"]
     yield one("a name of its own", other, look=holds({**base, "a.txt": ["text"]}))
-    yield one("--out may replace a log", ["--out", "a", "a"], look=holds({"a": ONE_MERGED}))
+    yield wrong("--out and a log", ["--out", "a", "a"])
+    yield one(
+        "--out may replace a baseline",
+        ["--baseline", "b", "--out", "b", "a"],
+        files={"b": log()},
+        look=holds({"a": ONE, "b": ONE_MERGED}),
+    )
 
 
 def versions():

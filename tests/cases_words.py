@@ -206,7 +206,23 @@ def files():
         .replace(b'"unchanged":{"active":[0,0', b'"unchanged":{"active":[0,1')
         .replace(b'"baselineState":"new"', b'"baselineState":"unchanged"'),
     )
-    yield one("a log may be its own output", ["--out", "a", "a"], out_name="a", out=ONE_MERGED)
+    yield one(
+        "no log is its own output",
+        ["--out", "a", "a"],
+        out_name="a",
+        out=ONE,
+        status=2,
+        stdout=b"",
+        check=lambda answer: ["nothing stands on standard error"] * (not answer.stderr),
+    )
+    yield one(
+        "no later log is the output",
+        ["--out=a", "b", "a"],
+        files={"b": ONE},
+        out_name="a",
+        out=ONE,
+        status=2,
+    )
     yield one(
         "a summary that can't be written",
         ["--out", "o", "a"],

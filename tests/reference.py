@@ -629,7 +629,7 @@ class Request:
         if not self.logs or self.out is None:
             raise Usage(2)
         self.suppress, self.today = self.given.get("suppress"), self.given.get("today")
-        if self.suppress == self.out:
+        if self.suppress == self.out or self.out != "-" and self.out in self.logs:
             raise Usage(2)
         states = self.given.get("states", ("new", "updated"))
         self.policy = Policy(self.given.get("fail-on", "error"), self.given.get("max", 0), states)

@@ -27,8 +27,8 @@ Without arguments, the program reads one log from standard input, and writes the
 standard output and the summary to standard error.
 
 At most one output is standard output. With --out - the summary goes to standard error. No two
-outputs may have the same name. No output may have the name of the suppression file, and no report
-may have the name of a log or a baseline.
+outputs may have the same name. No output may have the name of the suppression file or of a log, and
+no report may have the name of a baseline.
 
 Exit status:
   0  the gate passes

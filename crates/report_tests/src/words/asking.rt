@@ -301,6 +301,10 @@ fn names_that_clash_are_usage(rt: HostRuntime) -> Result<(), Fail> {
             "a --out o --markdown - --html -",
             "--markdown and --html both write to standard output (-)",
         ),
+        ("a --out a", "--out would overwrite the log a"),
+        ("a b --out b", "--out would overwrite the log b"),
+        ("a b --out b --text a", "--out would overwrite the log b"),
+        ("a --out a --text a", "--out and --text both write to a"),
         ("a b --out o --text b", "--text would overwrite the log b"),
         (
             "a --out o --baseline b --html b",
@@ -331,8 +335,7 @@ fn names_that_clash_are_usage(rt: HostRuntime) -> Result<(), Fail> {
 #[test]
 fn names_that_may_stand_together_do(rt: HostRuntime) -> Result<(), Fail> {
     for line in [
-        // A log, or a baseline, is replaced by the merged log.
-        "a --out a",
+        // A baseline is replaced by the merged log.
         "a --baseline b --out b",
         // A log is named twice.
         "a a --out o",
