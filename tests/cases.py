@@ -132,7 +132,15 @@ NOTHING = {
 
 
 def gate(
-    verdict="pass", hits=0, fail_on="error", most=0, without=0, unused=0, suppressed=None, **active
+    verdict="pass",
+    hits=0,
+    fail_on="error",
+    most=0,
+    without=0,
+    unused=0,
+    suppressed=None,
+    states=("new", "updated"),
+    **active,
 ):
     """The gate object with these counts, in the order error, warning, note, none."""
     counts = json.loads(json.dumps(NOTHING))
@@ -145,7 +153,7 @@ def gate(
         "hits": hits,
         "max": most,
         "runsWithoutResults": without,
-        "states": ["new", "updated"],
+        "states": list(states),
         "unusedSuppressions": unused,
         "verdict": verdict,
     }

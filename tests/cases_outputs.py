@@ -174,7 +174,13 @@ def clashes():
     base = {"a": ONE, "o": ONE_MERGED}
     other = ["--text", "./a.txt", "--out", "o", "a"]
     yield one("a name of its own", other, look=holds({**base, "a.txt": ["text"]}))
-    yield one("--out may replace a log", ["--out", "a", "a"], look=holds({"a": ONE_MERGED}))
+    yield wrong("--out and a log", ["--out", "a", "a"])
+    yield one(
+        "--out may replace a baseline",
+        ["--baseline", "b", "--out", "b", "a"],
+        files={"b": log()},
+        look=holds({"a": ONE, "b": ONE_MERGED}),
+    )
 
 
 def versions():
@@ -197,7 +203,7 @@ def names_words(answer):
 
 
 GROUPS = ["Inputs:", "Gate:", "Outputs:", "Other:"]
-HIT = "A hit is an active result that is new or updated and at or above the level of --fail-on."
+HIT = "A hit is an active result with a state of --states and a level at or above that of --fail-on."
 
 
 def is_readable(answer):

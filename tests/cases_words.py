@@ -46,6 +46,7 @@ def gates():
         ["--fail-on=none", "--max=4294967295", *base],
         check=tells(least),
     )
+    yield from listed_states()
     for words in (
         ["a", "--out=o"],
         ["--out", "o", "--workers", "64", "a"],
@@ -53,6 +54,42 @@ def gates():
     ):
         yield one(f"the words {' '.join(words)}", words, out=ONE_MERGED, stdout=ONE_SUMMARY)
     yield one("a day is read", ["--today", "99991231", *base], out=ONE_MERGED)
+
+
+def listed_states():
+    """Which states make a result a hit."""
+    nothing, bad = log(run("lint")), log(run("lint", ruled(level="error")))
+    wanted = gate("fail", 1, states=["absent"], absent=[1, 0, 0, 0])
+    yield merging(
+        "words",
+        "absent results count where they are listed",
+        [nothing],
+        [bad],
+        more=["--states", "absent"],
+        status=1,
+        check=tells(wanted, ["absent"]),
+    )
+    order = ["absent", "new", "unchanged", "updated"]
+    wanted = gate("fail", 1, states=order, unchanged=[1, 0, 0, 0])
+    yield merging(
+        "words",
+        "all states, in another order than the gate object's",
+        [bad],
+        [bad],
+        more=["--states=updated,unchanged,new,absent"],
+        status=1,
+        check=tells(wanted, ["unchanged"]),
+    )
+    wanted = gate(states=["unchanged"], new=[1, 0, 0, 0])
+    yield merging(
+        "words",
+        "a new result is no hit where new isn't listed",
+        [bad],
+        more=["--states", "unchanged"],
+        check=tells(wanted, ["new"]),
+    )
+    words = ["--states", "new,updated", "--out", "o", "a"]
+    yield one("the default states by name", words, out=ONE_MERGED, stdout=ONE_SUMMARY)
 
 
 def usual(name, words, **wanted):
@@ -75,6 +112,14 @@ def usage():
         "--nothing",
         "--out p",
         "--suppress",
+        "--states=",
+        "--states new,new",
+        "--states new,",
+        "--states=,new",
+        "--states New",
+        "--states new;updated",
+        "--states all",
+        "--states new --states new",
     ]
     for words in wrong:
         yield usual(
@@ -161,7 +206,23 @@ def files():
         .replace(b'"unchanged":{"active":[0,0', b'"unchanged":{"active":[0,1')
         .replace(b'"baselineState":"new"', b'"baselineState":"unchanged"'),
     )
-    yield one("a log may be its own output", ["--out", "a", "a"], out_name="a", out=ONE_MERGED)
+    yield one(
+        "no log is its own output",
+        ["--out", "a", "a"],
+        out_name="a",
+        out=ONE,
+        status=2,
+        stdout=b"",
+        check=lambda answer: ["nothing stands on standard error"] * (not answer.stderr),
+    )
+    yield one(
+        "no later log is the output",
+        ["--out=a", "b", "a"],
+        files={"b": ONE},
+        out_name="a",
+        out=ONE,
+        status=2,
+    )
     yield one(
         "a summary that can't be written",
         ["--out", "o", "a"],

@@ -594,7 +594,7 @@ def check_number(logs, baselines):
 # ---- The command line
 
 USAGE = """Usage: sarif_gate [--baseline F]... [--suppress F] [--today N] [--workers N]
-    [--fail-on L] [--max N] --out F LOG...
+    [--fail-on L] [--states LIST] [--max N] --out F LOG...
 """
 
 
@@ -629,9 +629,10 @@ class Request:
         if not self.logs or self.out is None:
             raise Usage(2)
         self.suppress, self.today = self.given.get("suppress"), self.given.get("today")
-        if self.suppress == self.out:
+        if self.suppress == self.out or self.out != "-" and self.out in self.logs:
             raise Usage(2)
-        self.policy = Policy(self.given.get("fail-on", "error"), self.given.get("max", 0))
+        states = self.given.get("states", ("new", "updated"))
+        self.policy = Policy(self.given.get("fail-on", "error"), self.given.get("max", 0), states)
 
     def option(self, word, words):
         name, equals, value = word.removeprefix("--").partition("=")
@@ -640,7 +641,7 @@ class Request:
         value = value if equals else words.pop(0)
         if name == "baseline":
             self.baselines.append(value)
-        elif name in self.given or name not in ("suppress", "out", "fail-on", *RANGES):
+        elif name in self.given or name not in ("suppress", "out", "fail-on", "states", *RANGES):
             raise Usage(2)
         else:
             self.given[name] = self.checked(name, value)
@@ -648,12 +649,22 @@ class Request:
     def checked(self, name, value):
         if name == "fail-on" and value not in LEVELS:
             raise Usage(2)
+        if name == "states":
+            return listed(value)
         if name not in RANGES:
             return value
         least, most = RANGES[name]
         if not re.fullmatch("[0-9]+", value) or not least <= int(value) <= most:
             raise Usage(2)
         return int(value)
+
+
+def listed(text):
+    """The states of a list: each at most once, and at least one."""
+    names = text.split(",")
+    if not set(names) <= set(STATES) or len(set(names)) < len(names):
+        raise Usage(2)
+    return tuple(names)
 
 
 def read_source(place, source):

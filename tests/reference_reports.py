@@ -1,7 +1,8 @@
 #!/usr/bin/env python3
 """The reports of a merged log, in plain Python, for tests/reports.
 
-tests/reference_reports.py text|github|markdown|gitlab [--fail-on L] [--max N] [--root PREFIX] LOG
+tests/reference_reports.py text|github|markdown|gitlab [--fail-on L] [--max N] [--states LIST]
+    [--root PREFIX] LOG
 
 It follows the chapter on reports in docs/formats.md sentence by sentence. Its only inputs are the finished
 merged log and the policy. It shares no code with the program, so that a mistake in either shows as a difference.
@@ -381,9 +382,11 @@ def main(words):
     about.add_argument("log")
     about.add_argument("--fail-on", choices=LEVELS, default="error")
     about.add_argument("--max", type=int, default=0)
+    about.add_argument("--states", default="new,updated")
     about.add_argument("--root", default="")
     given = about.parse_args(words)
-    policy = Policy(fail_on=given.fail_on, max=given.max, root=given.root)
+    states = tuple(given.states.split(","))
+    policy = Policy(fail_on=given.fail_on, max=given.max, root=given.root, states=states)
     with open(given.log, "rb") as source:
         reports = Reports(json.load(source), policy)
     sys.stdout.buffer.write(getattr(reports, given.report)())

@@ -5,6 +5,7 @@ complete -c sarif_gate -l baseline -r -F -d 'SARIF log of known results, for exa
 complete -c sarif_gate -l suppress -r -F -d 'JSON file of accepted findings (suppressions), each with a reason and an optional expiry date'
 complete -c sarif_gate -l today -x -d 'Today\'s date, for example 20250131'
 complete -c sarif_gate -l fail-on -x -a 'error warning note none' -d 'Minimum level of a hit'
+complete -c sarif_gate -l states -x -d 'States of hits and reported results, joined by commas'
 complete -c sarif_gate -l max -x -d 'Allow up to NUMBER hits, from 0 to 4294967295'
 complete -c sarif_gate -l out -r -F -d 'Write the merged log to FILE'
 complete -c sarif_gate -l root -x -d 'Prefix to strip from paths in reports, for example file:///builds/app/'

@@ -1,5 +1,5 @@
--- How an error of the parser is reported, if its kind is possible for arguments, and how clashing names are
--- reported.
+-- How an error of the parser is reported, if its kind is possible for arguments, and how a list that names no states
+-- and clashing names are reported.
 use Rattle.std.proofs.Common.{◌≡◌, ◌∙◌, sym, refl, inl, inr, ◌⊎◌, List}
 use Rattle.std.specs.Borrow.{Bor}
 use Rattle.clap.specs.Words.{IsAmong, Row, Text, fault_of}
@@ -10,7 +10,7 @@ use Rattle.sarif_request.specs.declared.words.WordsFault.TheVariants.{Usage, Hel
 use Rattle.sarif_request.specs.declared.request.Request.{Request}
 use Rattle.sarif_request.specs.Command.{AreLevels, program}
 use Rattle.sarif_request.specs.Names.{names_of}
-use Rattle.sarif_request.specs.Words.{AsksFor, HaveClash, IsUsageOrOutOfMemory, Tells, IsAsked, IsFaultOf, names_in}
+use Rattle.sarif_request.specs.Words.{AsksFor, HaveClash, HaveNoStates, IsUsageOrOutOfMemory, Tells, IsAsked, IsFaultOf, names_in}
 
 -- OutOfMemory is neither the help nor the version
 neither : (k : ErrorKind) → k ≡ kind.OutOfMemory → IsAsked k → ⊥
@@ -25,10 +25,17 @@ told levels words k (Help text) names (inl e) tells = absurd (neither k e tells)
 told levels words k (Help text) names (inr among) tells = (levels, names, k, among, tells)
 told levels words k OutOfMemory names has tells = tt
 
+-- how a list that names no states is reported
+pub stateless : (levels : Bor (List (Bor Text))) (words : List Text) (fault : WordsFault) → AreLevels levels
+    → HaveNoStates (program levels) words → IsUsageOrOutOfMemory fault → IsFaultOf words fault
+stateless levels words (Usage text) names none told = (levels, names, inr (inl none))
+stateless levels words (Help text) names none told = absurd told
+stateless levels words OutOfMemory names none told = tt
+
 -- how clashing names are reported
 pub clashing : (levels : Bor (List (Bor Text))) (words : List Text) (fault : WordsFault) → AreLevels levels
     → HaveClash (program levels) words → IsUsageOrOutOfMemory fault → IsFaultOf words fault
-clashing levels words (Usage text) names clash told = (levels, names, inr clash)
+clashing levels words (Usage text) names clash told = (levels, names, inr (inr clash))
 clashing levels words (Help text) names clash told = absurd told
 clashing levels words OutOfMemory names clash told = tt
 

@@ -69,6 +69,7 @@ arguments =
     ∷ argument (codes "suppress") Once
     ∷ argument (codes "today") (Number (pos first_day) (pos last_day))
     ∷ with_default (codes "error") (argument (codes "fail-on") Level)
+    ∷ with_default (codes "new,updated") (argument (codes "states") Once)
     ∷ with_default (codes "0") (argument (codes "max") (Number (pos 0) (pos (2 ^ 32 - 1))))
     ∷ argument (codes "out") Needed
     ∷ argument (codes "root") Once

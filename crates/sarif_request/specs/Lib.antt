@@ -1,4 +1,5 @@
 pub mod Command
+pub mod Listing
 pub mod Names
 pub mod Plain
 pub mod Words

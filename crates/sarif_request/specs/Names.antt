@@ -4,7 +4,7 @@ use Rattle.std.specs.List.{list_any}
 use Rattle.std.specs.Option.{option_map_or}
 use Rattle.clap.specs.Words.{Text}
 use Rattle.sarif_request.specs.declared.clash.Clash.{Clash}
-use Rattle.sarif_request.specs.declared.clash.Clash.TheVariants.{Suppressions, Outputs, Inputs, StandardInput}
+use Rattle.sarif_request.specs.declared.clash.Clash.TheVariants.{Suppressions, Outputs, Log, Inputs, StandardInput}
 use Rattle.sarif_request.specs.declared.request.Request.{Request}
 use Rattle.sarif_request.specs.declared.wanted.Wanted.{Wanted}
 
@@ -50,6 +50,10 @@ abbrev pub have_one_name : List Text → Bool
 have_one_name [] = false
 have_one_name (name ∷ others) = is_among name others || have_one_name others
 
+-- the merged log has the name of a log; standard output has no name
+abbrev pub replaces_log : Names → Bool
+replaces_log names = not (bytes_eq names.out standard) && is_among names.out names.logs
+
 -- a report has the name of a log or of a baseline; standard output has no name
 abbrev pub replaces_input : Names → Text → Bool
 replaces_input names name = not (bytes_eq name standard)
@@ -67,6 +71,7 @@ abbrev pub clash_of : Names → Option Clash
 clash_of names =
     if replaces_suppressions names then Some Suppressions else (
     if have_one_name (outputs_of names) then Some Outputs else (
+    if replaces_log names then Some Log else (
     if replaces_inputs names then Some Inputs else (
     if reads_twice names then Some StandardInput else (
-    None))))
+    None)))))

@@ -9,6 +9,7 @@ use Rattle.clap.specs.declared.error.kind.ErrorKind.TheVariants as kind
 use Rattle.sarif_model.specs.declared.kinds.Level.{Level}
 use Rattle.sarif_model.specs.Level.{level_named}
 use Rattle.sarif_model.specs.Limits.{most_workers}
+use Rattle.sarif_counts.specs.declared.policy.States.{States}
 use Rattle.sarif_counts.specs.Policy.{default_policy}
 use Rattle.sarif_reports.specs.declared.report.Report.{Report}
 use Rattle.sarif_reports.specs.Report.{all_reports, report_name}
@@ -18,6 +19,7 @@ use Rattle.sarif_request.specs.declared.words.WordsFault.TheVariants.{Usage, Hel
 use Rattle.sarif_request.specs.declared.request.Request.{Request}
 use Rattle.sarif_request.specs.declared.wanted.Wanted.{Wanted}
 use Rattle.sarif_request.specs.Command.{AreLevels, program}
+use Rattle.sarif_request.specs.Listing.{states_listed}
 use Rattle.sarif_request.specs.Names.{Names, clash_of}
 
 -- the program's exit status
@@ -66,6 +68,11 @@ fail_on_in rows =
     unwrap_or (option_and_then level_named (first_of (codes "fail-on") rows))
     default_policy.fail_on
 
+-- the states of a hit, if the list of states names some
+abbrev pub states_in : List Row → Option States
+states_in rows =
+    option_map_or states_listed (first_of (codes "states") rows) (Some default_policy.states)
+
 -- a report is requested if its option has a value, which is the name of its file
 abbrev pub wanted_if : Report → Option Text → List (Wanted Text)
 wanted_if report None = []
@@ -93,7 +100,7 @@ pub record AsksFor (rows : List Row) (request : Request) : Type 0 where
   pub workers : (n : ℕ) × IsReadOr 1 (one_of (codes "workers") rows) n
       × (request.options.workers ≡ in_range n)
   pub fail_on : request.options.policy.fail_on ≡ fail_on_in rows
-  pub states : request.options.policy.states ≡ default_policy.states
+  pub states : states_in rows ≡ Some request.options.policy.states
   pub max : IsReadOr default_policy.max (one_of (codes "max") rows) request.options.policy.max
 
 -- the names in the arguments
@@ -111,6 +118,10 @@ abbrev pub HaveClash : App → List Text → Type 0
 HaveClash app words = (fault_of app words ≡ [])
     × (clash : Clash) × (clash_of (names_in (matches_of app words)) ≡ Some clash)
 
+-- the arguments are valid, but their list of states is none
+abbrev pub HaveNoStates : App → List Text → Type 0
+HaveNoStates app words = (fault_of app words ≡ []) × (states_in (matches_of app words) ≡ None)
+
 -- an error that says so, or that memory ran out
 abbrev pub IsUsageOrOutOfMemory : WordsFault → Type 0
 IsUsageOrOutOfMemory (Usage text) = ⊤
@@ -122,12 +133,13 @@ IsUsageOrOutOfMemory OutOfMemory = ⊤
 abbrev pub IsFaultOf : List Text → WordsFault → Type 0
 IsFaultOf words (Usage text) = (levels : Bor (List (Bor Text))) × AreLevels levels
     × (((k : ErrorKind) × IsAmong k (fault_of (program levels) words) × (¬ IsAsked k))
-    ⊎ HaveClash (program levels) words)
+    ⊎ (HaveNoStates (program levels) words ⊎ HaveClash (program levels) words))
 IsFaultOf words (Help text) = (levels : Bor (List (Bor Text))) × AreLevels levels
     × (k : ErrorKind) × IsAmong k (fault_of (program levels) words) × IsAsked k
 IsFaultOf words OutOfMemory = ⊤
 
--- a request is returned only if the arguments are valid and no names in them clash, and it is what they request
+-- a request is returned only if the arguments are valid, they list states and no names in them clash, and it is what
+-- they request
 abbrev pub Answers : List Text → Result Request WordsFault → Type 0
 Answers words (Ok request) = (levels : Bor (List (Bor Text))) × AreLevels levels
     × (fault_of (program levels) words ≡ []) × AsksFor (matches_of (program levels) words) request

@@ -15,6 +15,8 @@ pub enum Clash {
     Suppressions,
     /// Two outputs have the same name.
     Outputs,
+    /// The merged log would overwrite a log.
+    Log,
     /// A report would overwrite a log or a baseline.
     Inputs,
     /// Standard input is more than one of the logs.
@@ -37,6 +39,7 @@ impl Clash {
         match self {
             Clash::Suppressions => suppressions_told(alloc, request),
             Clash::Outputs => outputs_told(alloc, request),
+            Clash::Log => log_told(alloc, request),
             Clash::Inputs => inputs_told(alloc, request),
             Clash::StandardInput => {
                 String::from_str(alloc, "standard input (-) can be only one of the logs")
@@ -106,6 +109,12 @@ fn two_outputs_told(
     }
 }
 
+/// Names the log that the merged log would overwrite.
+fn log_told(alloc: Global, request: &Request) -> Result<String, AllocError> {
+    let name = request.out.as_str();
+    format!(in alloc; "--out would overwrite the log {name}")
+}
+
 /// Names the first report with the name of a log or of a baseline.
 fn inputs_told(alloc: Global, request: &Request) -> Result<String, AllocError> {
     for report in &request.reports {
@@ -130,6 +139,8 @@ pub fn clash_of(request: &Request) -> Option<Clash>
         Some(Clash::Suppressions)
     } else if share_a_name(request) {
         Some(Clash::Outputs)
+    } else if replaces_log(request) {
+        Some(Clash::Log)
     } else if replaces_inputs(request) {
         Some(Clash::Inputs)
     } else if reads_twice(request) {
@@ -182,6 +193,14 @@ fn have_one_name(reports: &[Wanted<Text>]) -> bool
         }
     }
     false
+}
+
+/// Whether the merged log has the name of a log.
+fn replaces_log(request: &Request) -> bool
+    ensures { result ≡ said.replaces_log (said.names_of request.now) }
+{
+    let is_log = request.logs.contains(&request.out);
+    request.out.as_str() != STANDARD && is_log
 }
 
 /// Whether a report has the name of a log or of a baseline.

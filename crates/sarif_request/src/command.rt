@@ -17,17 +17,18 @@ pub const VERSION: &str = "1.0.0";
 const ABOUT: &str = "\
 Merge SARIF 2.1.0 logs, compare their results with baselines, and fail if there are too many hits.
 
-A hit is an active result that is new or updated and at or above the level of --fail-on. A result
-is new if it matches no baseline result, updated if it differs from the baseline result that it
-matches, and active unless it is suppressed.";
+A hit is an active result with a state of --states and a level at or above that of --fail-on.
+By default the states are new and updated. A result is new if it matches no baseline result, updated
+if it differs from the baseline result that it matches, and unchanged if it does not. A baseline
+result that no current result matches is absent. A result is active unless it is suppressed.";
 
 const AFTER: &str = "\
 Without arguments, the program reads one log from standard input, and writes the merged log to
 standard output and the summary to standard error.
 
 At most one output is standard output. With --out - the summary goes to standard error. No two
-outputs may have the same name. No output may have the name of the suppression file, and no report
-may have the name of a log or a baseline.
+outputs may have the same name. No output may have the name of the suppression file or of a log, and
+no report may have the name of a baseline.
 
 Exit status:
   0  the gate passes

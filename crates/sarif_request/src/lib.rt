@@ -3,6 +3,7 @@
 
 mod clash;
 mod command;
+mod listing;
 mod option_rows;
 mod request;
 mod wanted;

@@ -69,7 +69,7 @@ pub struct OptionRow {
     pub default: Option<&'static str>,
 }
 
-static ROWS: [OptionRow; 12] = [
+static ROWS: [OptionRow; 13] = [
     OptionRow {
         id: "log",
         value: "LOG",
@@ -108,11 +108,19 @@ static ROWS: [OptionRow; 12] = [
     OptionRow {
         id: "fail-on",
         value: "LEVEL",
-        help: "Minimum level of a hit. Reports also show new and updated results that are\n\
-            below it",
+        help: "Minimum level of a hit. Reports also show the results below it",
         group: Group::Gate,
         kind: Kind::Level,
         default: Some("error"),
+    },
+    OptionRow {
+        id: "states",
+        value: "LIST",
+        help: "States of hits and reported results, joined by commas. They are new,\n\
+            updated, unchanged and absent",
+        group: Group::Gate,
+        kind: Kind::Once,
+        default: Some("new,updated"),
     },
     OptionRow {
         id: "max",

@@ -1,18 +1,19 @@
 //! Reading the arguments of the command line.
-ghost use Rattle.std.specs.Prelude.{◌≡◌, ◌↔◌, IfOk, IsTrue, [], map, unwrap_or, string_bytes, option_and_then, codes};
+ghost use Rattle.std.specs.Prelude.{◌≡◌, ◌↔◌, IfOk, IsTrue, [], Some, map, unwrap_or, string_bytes, option_and_then, codes};
 ghost use Rattle.clap.specs.Words.{kind_of, rows_of, found_of, first_of, one_of};
 ghost use Rattle.sarif_model.specs.Level.{level_named};
 ghost use Rattle.sarif_counts.specs.Policy.{default_policy};
 ghost use Rattle.sarif_request.specs.Words.{words_status, Tells, IsAsked, AsksFor, Answers, IsRead, IsReadOr, IsUsageOrOutOfMemory};
-ghost use Rattle.sarif_request.specs.Words.{fail_on_in, is_set, reports_in, values_of};
+ghost use Rattle.sarif_request.specs.Words.{fail_on_in, is_set, reports_in, states_in, values_of};
 
 use crate::clash::{Clash, clash_of};
 use crate::command::command;
+use crate::listing::states_of;
 use crate::request::Request;
 use crate::wanted::Wanted;
 use clap::ArgMatches;
 use clap::error::ErrorKind;
-use sarif_counts::{Options, Policy};
+use sarif_counts::{Options, Policy, States};
 use sarif_model::{Level, MOST_WORKERS, Text};
 use sarif_reports::Report;
 use std::alloc::{AllocError, AllocFailed, Global};
@@ -53,17 +54,20 @@ impl From<AllocError> for WordsFault {
 }
 
 /// Returns the request of the arguments after the program's name. The tables of the merge hash with `seed`.
-/// Returns `Usage` if the arguments are invalid or names in them clash; `Help` if they request the help or the
-/// version; `OutOfMemory` if memory runs out.
+/// Returns `Usage` if the arguments are invalid, their list of states is none or names in them clash; `Help` if they
+/// request the help or the version; `OutOfMemory` if memory runs out.
 pub fn read_words(alloc: Global, seed: RandomState, words: &[String]) -> Result<Request, WordsFault>
     ensures { Answers (map string_bytes words.now) result }
 {
     let command = command(alloc)?;
     match command.try_get_matches_from(words) {
         Ok(matches) => {
-            let request = request_of(alloc, seed, &matches)?;
+            let Some(states) = listed_states(alloc, &matches)? else {
+                return Err(usage_of(told_of(alloc, NO_STATES)));
+            };
+            let request = request_of(alloc, seed, &matches, states)?;
             if let Some(clash) = clash_of(&request) {
-                return Err(usage_of(alloc, clash, &request));
+                return Err(usage_of(told_clash(alloc, clash, &request)));
             }
             Ok(request)
         }
@@ -71,19 +75,28 @@ pub fn read_words(alloc: Global, seed: RandomState, words: &[String]) -> Result<
     }
 }
 
-/// Returns a clash of names as the parser reports a mistake.
-fn usage_of(alloc: Global, clash: Clash, request: &Request) -> WordsFault
+/// What is wrong with a list of states.
+const NO_STATES: &str = "invalid value for '--states <LIST>': expected new, updated, unchanged or \
+    absent, each at most once, joined by commas";
+
+/// Returns a message about the arguments as the parser reports a mistake.
+fn usage_of(told: Result<Text, AllocError>) -> WordsFault
     ensures { IsUsageOrOutOfMemory result }
 {
-    match told_of(alloc, clash, request) {
+    match told {
         Ok(text) => WordsFault::Usage(text),
         Err(_) => WordsFault::OutOfMemory,
     }
 }
 
 /// Returns the message about a clash of names.
-fn told_of(alloc: Global, clash: Clash, request: &Request) -> Result<Text, AllocError> {
+fn told_clash(alloc: Global, clash: Clash, request: &Request) -> Result<Text, AllocError> {
     let sentence = clash.sentence(alloc, request)?;
+    told_of(alloc, sentence.as_str())
+}
+
+/// Returns the message with this sentence.
+fn told_of(alloc: Global, sentence: &str) -> Result<Text, AllocError> {
     let text = format!(in alloc; "error: {sentence}\n\nFor more information, try '--help'.\n")?;
     Text::from_string(text)
 }
@@ -94,7 +107,9 @@ fn request_of(
     alloc: Global,
     seed: RandomState,
     matches: &ArgMatches<'_>,
+    states: States,
 ) -> Result<Request, AllocError>
+    requires listed { states_in (rows_of (found_of matches.now)) ≡ Some states }
     ensures { IfOk result (AsksFor (rows_of (found_of matches.now))) }
 {
     let logs = names_of(alloc, matches, "log")?;
@@ -104,7 +119,7 @@ fn request_of(
     let reports = reports_of(alloc, matches)?;
     let root = text_in(alloc, matches, "root")?;
     let options = Options {
-        policy: policy_of(matches),
+        policy: policy_of(matches, states),
         today: number_of(matches, "today"),
         workers: number_of(matches, "workers")
             .unwrap_or(1)
@@ -200,17 +215,28 @@ fn number_of(matches: &ArgMatches<'_>, id: &str) -> Option<u32>
 }
 
 /// When the gate fails.
-fn policy_of(matches: &ArgMatches<'_>) -> Policy
+fn policy_of(matches: &ArgMatches<'_>, states: States) -> Policy
     ensures fail_on { result.fail_on ≡ fail_on_in (rows_of (found_of matches.now)) }
-    ensures states { result.states ≡ default_policy.states }
+    ensures states { result.states ≡ states }
     ensures max { IsReadOr default_policy.max
         (one_of (codes "max") (rows_of (found_of matches.now))) result.max }
 {
     let policy = Policy::default();
     Policy {
         fail_on: fail_on_of(matches).unwrap_or(policy.fail_on),
-        states: policy.states,
+        states,
         max: number_of(matches, "max").unwrap_or(policy.max),
+    }
+}
+
+/// Returns the states of a hit, or `None` if the list of states is none.
+#[tactic(auto, using(crate::proofs::Rows::first_in_rows))]
+fn listed_states(alloc: Global, matches: &ArgMatches<'_>) -> Result<Option<States>, AllocError>
+    ensures { IfOk result (λ states. states ≡ states_in (rows_of (found_of matches.now))) }
+{
+    match matches.get_str("states") {
+        Some(list) => states_of(alloc, list),
+        None => Ok(Some(Policy::default().states)),
     }
 }
 

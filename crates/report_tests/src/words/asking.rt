@@ -150,6 +150,51 @@ fn check_least(rt: &impl Abort, options: &Options) -> Result<(), Fail> {
 }
 
 #[test]
+fn the_states_of_a_list_are_read(rt: HostRuntime) -> Result<(), Fail> {
+    for (list, listed) in [
+        ("new", [false, true, false, false]),
+        ("unchanged", [false, false, true, false]),
+        ("updated", [false, false, false, true]),
+        ("absent", [true, false, false, false]),
+        ("updated,new", [false, true, false, true]),
+        ("unchanged,absent,new", [true, true, true, false]),
+        ("new,updated,unchanged,absent", [true, true, true, true]),
+    ] {
+        let line = format!(in rt.alloc(); "a --out o --states {list}")?;
+        let request = accepted(&rt, line.as_str())?;
+        check_states(&rt, request.options.policy.states, listed)?;
+    }
+    Ok(())
+}
+
+/// Checks that these states are listed: absent, new, unchanged and updated.
+fn check_states(rt: &impl Abort, states: States, listed: [bool; 4]) -> Result<(), Fail> {
+    let [absent, fresh, unchanged, updated] = listed;
+    let wanted = States {
+        absent,
+        fresh,
+        unchanged,
+        updated,
+    };
+    assert_eq!(rt; states, wanted);
+    Ok(())
+}
+
+#[test]
+fn a_list_that_names_no_states_is_explained(rt: HostRuntime) -> Result<(), Fail> {
+    match read(&rt, "a --out o --states new,all")? {
+        Err(WordsFault::Usage(text)) => {
+            let told = "error: invalid value for '--states <LIST>': expected new, updated, \
+                unchanged or absent, each at most once, joined by commas\n\n\
+                For more information, try '--help'.\n";
+            assert_eq!(rt; text.as_str(), told);
+        }
+        _ => panic!(rt; "a list of no states"),
+    }
+    Ok(())
+}
+
+#[test]
 fn the_last_day_is_taken(rt: HostRuntime) -> Result<(), Fail> {
     let request = accepted(&rt, "a --out o --today 99991231 --fail-on warning")?;
     check_last_day(&rt, &request.options)
@@ -191,6 +236,16 @@ fn wrong_words_are_usage(rt: HostRuntime) -> Result<(), Fail> {
         "a --out o --explain --explain",
         "a --out o --explain=true",
         "a --out o --text",
+        "a --out o --states=",
+        "a --out o --states new,new",
+        "a --out o --states new,",
+        "a --out o --states=,new",
+        "a --out o --states new,,updated",
+        "a --out o --states New",
+        "a --out o --states new;updated",
+        "a --out o --states all",
+        "a --out o --states new --states new",
+        "a --out o --states",
     ] {
         match read(&rt, line)? {
             Err(fault) => {
@@ -246,6 +301,10 @@ fn names_that_clash_are_usage(rt: HostRuntime) -> Result<(), Fail> {
             "a --out o --markdown - --html -",
             "--markdown and --html both write to standard output (-)",
         ),
+        ("a --out a", "--out would overwrite the log a"),
+        ("a b --out b", "--out would overwrite the log b"),
+        ("a b --out b --text a", "--out would overwrite the log b"),
+        ("a --out a --text a", "--out and --text both write to a"),
         ("a b --out o --text b", "--text would overwrite the log b"),
         (
             "a --out o --baseline b --html b",
@@ -276,8 +335,7 @@ fn names_that_clash_are_usage(rt: HostRuntime) -> Result<(), Fail> {
 #[test]
 fn names_that_may_stand_together_do(rt: HostRuntime) -> Result<(), Fail> {
     for line in [
-        // A log, or a baseline, is replaced by the merged log.
-        "a --out a",
+        // A baseline is replaced by the merged log.
         "a --baseline b --out b",
         // A log is named twice.
         "a a --out o",
@@ -346,7 +404,7 @@ fn check_help(rt: &impl Abort, help: &str) -> Result<(), Fail> {
     for line in help.lines() {
         assert!(rt; line.len() <= 100, "{line}");
     }
-    assert!(rt; help.contains("A hit is an active result that is new or updated"));
+    assert!(rt; help.contains("A hit is an active result with a state of --states"));
     Ok(())
 }
 

@@ -1,4 +1,4 @@
-use Rattle.std.proofs.Common.{◌≡◌, ◌∙◌, [], ◌∷◌, ap, ap₂, arith, get_or, sym, take}
+use Rattle.std.proofs.Common.{◌∙◌, [], ◌∷◌, ap, ap₂, arith, get_or, sym, take}
 use Rattle.std.proofs.lemmas.List.{take_more}
 use Rattle.std.proofs.lemmas.List.Sums.{fold-append}
 use Rattle.clap.specs.Words.{App, app_of, with_rule}

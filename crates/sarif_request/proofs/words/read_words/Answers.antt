@@ -1,24 +1,33 @@
 use Rattle.std.proofs.Common.{◌≡◌, ◌∙◌, ap, sym, subst, rules, true, None, map, string_bytes}
-use Rattle.clap.specs.Words.{App, app_of, fault_of, is_simple_and_free, HasKind, kind_of}
+use Rattle.clap.specs.Words.{App, app_of, fault_of, found_of, is_simple_and_free, HasKind, kind_of, rows_of}
 use Rattle.sarif_request.specs.Command.{program}
 use Rattle.sarif_request.specs.Names.{clash_of, names_of}
-use Rattle.sarif_request.proofs.Asked.{asked}
+use Rattle.sarif_request.specs.Words.{states_in}
+use Rattle.sarif_request.proofs.Asked.{asked, matched}
 use Rattle.sarif_request.proofs.Rows.{program_is_free}
-use Rattle.sarif_request.proofs.Told.{told, clashing, same_names}
+use Rattle.sarif_request.proofs.Told.{told, clashing, same_names, stateless}
 use Rattle.sarif_request.proofs.words.read_words.Goals as goal
 
-pub returns-in-Some : goal.returns-in-Some
-returns-in-Some c =
+pub returns-in_default : goal.returns-in_default
+returns-in_default c =
+    let found = c.in_ok-command.ensures in
+    let words = map string_bytes c.args.words.now in
+    let are = matched found.0 (app_of c.in_ok-command.command) words (rows_of (found_of c.in-Ok.matches)) found.2 c.in-Ok.ensures.kinds (λ simple. (c.in-Ok.ensures.matches simple).0) in
+    let none : states_in (rows_of (found_of c.in-Ok.matches)) ≡ None = search rules in
+    stateless found.0 words c.usage_of.result found.1 (are.0, ap states_in (sym are.1) ∙ none) c.usage_of.ensures
+
+pub returns-in-Some-clash_of : goal.returns-in-Some-clash_of
+returns-in-Some-clash_of c =
     let found = c.in_ok-command.ensures in
     let request = c.in_ok-request-in-Ok.request in
     let is = asked found.0 (app_of c.in_ok-command.command) (map string_bytes c.args.words.now) _ request found.2
     c.in-Ok.ensures.kinds (λ simple. (c.in-Ok.ensures.matches simple).0) c.in_ok-request-in-Ok.ensures in
     let same = same_names _ request is.1 in
-    clashing found.0 (map string_bytes c.args.words.now) c.usage_of.result found.1
-    (is.0, c.in-Some.clash, ap clash_of (sym same) ∙ sym c.in-Some.ensures) c.usage_of.ensures
+    clashing found.0 (map string_bytes c.args.words.now) c.usage_of-in-Some-clash_of.result found.1
+    (is.0, c.in-Some-clash_of.clash, ap clash_of (sym same) ∙ sym c.in-Some-clash_of.ensures) c.usage_of-in-Some-clash_of.ensures
 
-pub returns-in_default : goal.returns-in_default
-returns-in_default c =
+pub returns-in_default-clash_of : goal.returns-in_default-clash_of
+returns-in_default-clash_of c =
     let found = c.in_ok-command.ensures in
     let request = c.in_ok-request-in-Ok.request in
     let is = asked found.0 (app_of c.in_ok-command.command) (map string_bytes c.args.words.now) _ request found.2
