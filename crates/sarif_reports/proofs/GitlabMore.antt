@@ -1,7 +1,8 @@
 -- The report for GitLab, put together from its parts.
 use Rattle.std.proofs.Common.{◌≡◌, ◌<◌, ◌≤◌, ◌==◌, ne_eqb, ℕ, Bool, true, false, List, [], ◌∷◌, ◌++◌, length, map, take, drop, Option, Some, None, codes, bytes_eq, refl, sym, ap, ap₂, cond, ◌∙◌, append_assoc, arith}
 use Rattle.std.specs.List.{count_by}
-use Rattle.std.proofs.Common.{◌+◌, get_or, if◌then◌else◌}
+use Rattle.std.proofs.Common.{◌+◌, get_or, if◌then◌else◌, Result, String, Global, string_bytes, subst}
+use Rattle.std.specs.Prelude.{Ok}
 use Rattle.std.proofs.lemmas.Bool.{and_parts, and_from}
 use Rattle.std.proofs.lemmas.Slice.Eq.{bytes_eq-Decides}
 use Rattle.std.proofs.lemmas.List.{append_cancel_left, drop_more, take_more, map-append, length-map}
@@ -12,7 +13,7 @@ use Rattle.std.specs.Cmp.{tied_then, unsigned_ties}
 use Rattle.std.specs.Cmp.Lexicographic.{slice_cmp, texts_ties}
 use Rattle.hex.specs.Hex.{encode_lower}
 use Rattle.sha2.specs.Sha256.{sha256}
-use Rattle.std.specs.List.{list_all}
+use Rattle.std.specs.List.{AllByRecursion, flat_map, list_all}
 use Rattle.std.specs.Prelude.{nat_lt, unwrap_or}
 use Rattle.std.proofs.lemmas.Bool.{le-ltb, false_from_ne_true, true≢false}
 use Rattle.std.proofs.lemmas.Bool.Decides.{nat_tests}
@@ -23,9 +24,12 @@ use Rattle.serde_json.specs.Data.{Data, item}
 use Rattle.serde_json.specs.View.{items_of}
 use Rattle.serde_json.specs.Written.{compact_text, items_text, comma_if}
 use Rattle.serde_json.proofs.OnLiterals.{serde_json_on_literals}
+use denote.Ref.{Bor}
+use denote.Param.Members.{Shared}
+use Rattle.sarif_gather.specs.Sharing.{AreJoined, GivesInParts, GivesPart, GivesParts}
 use Rattle.sarif_findings.specs.declared.finding.Finding.{Finding}
 use Rattle.sarif_reports.specs.declared.ranked.Ranked.{Ranked}
-use Rattle.sarif_reports.specs.GitlabObjects.{object_of, objects_after, joined_objects}
+use Rattle.sarif_reports.specs.GitlabObjects.{object_of, objects_after, joined_objects, before_part}
 use Rattle.sarif_reports.specs.GitlabReport.{quality_of, hashed_text, are_alike, same_path, path_or_null, rank_among, items_after, mark_of, gitlab_of}
 use Rattle.sarif_reports.specs.GitlabParts.{stands_in_string, quoted_text, identity_of, rank_text, rule_text, location_text, severity_text, number_in, number_of, key_cmp, counted}
 
@@ -202,25 +206,55 @@ joined_on : (xs ys : List Data) → joined_objects true xs ++ joined_objects tru
 joined_on [] ys = refl
 joined_on (x ∷ xs) ys = ap (λ t. 44 ∷ t) (append_assoc (compact_text x) (joined_objects true xs) (joined_objects true ys) ∙ ap (λ t. compact_text x ++ t) (joined_on xs ys))
 
-joined_apart : (xs ys : List Data) → 0 < length xs → 0 < length ys → joined_objects false xs ++ 44 ∷ joined_objects false ys ≡ joined_objects false (xs ++ ys)
-joined_apart [] ys some more = absurd (omega (arith, some))
-joined_apart (x ∷ xs) [] some more = absurd (omega (arith, more))
-joined_apart (x ∷ xs) (y ∷ ys) some more =
-    append_assoc (compact_text x) (joined_objects true xs) (joined_objects true (y ∷ ys)) ∙ ap (λ t. compact_text x ++ t) (joined_on xs (y ∷ ys))
+joined_first : (xs ys : List Data) → 0 < length xs → joined_objects false xs ++ joined_objects true ys ≡ joined_objects false (xs ++ ys)
+joined_first [] ys some = absurd (omega (arith, some))
+joined_first (x ∷ xs) ys some = append_assoc (compact_text x) (joined_objects true xs) (joined_objects true ys) ∙ ap (λ t. compact_text x ++ t) (joined_on xs ys)
 
--- the objects of two halves, after a string
-pub joined_halves : (begin first rest text : List ℕ) (low high xs : List Ranked) → low ++ high ≡ xs → 0 < length low → 0 < length high
-    → first ≡ begin ++ joined_objects false (map object_of low) → rest ≡ 44 ∷ joined_objects false (map object_of high) → text ≡ first ++ rest
-    → text ≡ begin ++ joined_objects false (map object_of xs)
-joined_halves begin first rest text low high xs whole some more front back both =
-    let ls = map object_of low in
-    let hs = map object_of high in
-    let are : ls ++ hs ≡ map object_of xs = sym (map-append object_of low high) ∙ ap (map object_of) whole in
-    let low_some : 0 < length ls = rw (length-map low object_of) some in
-    let high_some : 0 < length hs = rw (length-map high object_of) more in
-    both ∙ ap₂ (λ a b. a ++ b) front back
-    ∙ append_assoc begin (joined_objects false ls) (44 ∷ joined_objects false hs)
-    ∙ ap (λ t. begin ++ t) (joined_apart ls hs low_some high_some ∙ ap (joined_objects false) are)
+joined_later : (xs : List Data) → 0 < length xs → 44 ∷ joined_objects false xs ≡ joined_objects true xs
+joined_later [] some = absurd (omega (arith, some))
+joined_later (x ∷ xs) some = refl
+
+-- after the first result there is a comma
+comma_later : (begin : List ℕ) (start : ℕ) → 0 < start → before_part begin start ≡ 44 ∷ []
+comma_later begin start later = ap (λ b. if b then begin else (44 ∷ [])) (ne_eqb start 0 (λ e. omega (arith, later, e)))
+
+-- the objects of parts, the first of them after a string
+module _ {F E : Type 0} (g : Shared F (ℕ × (Bor (List Ranked) × Unit {0})) (Result (String Global) E)) (f : F) (begin : List ℕ)
+    (each : (start : ℕ) (p : Bor (List Ranked)) (s : String Global) → g.post f (start, (p, tt)) (Ok s) → string_bytes s ≡ before_part begin start ++ joined_objects false (map object_of p.now)) where
+  part_text : (start : ℕ) (p : List Ranked) (s : String Global) → GivesPart g f start p (Ok s) → string_bytes s ≡ before_part begin start ++ joined_objects false (map object_of p)
+  part_text start p s made = each start made.shown s made.call ∙ ap (λ q. before_part begin start ++ joined_objects false (map object_of q)) made.shows
+
+  later_parts : (start : ℕ) (ps : List (List Ranked)) (ss : List (String Global)) → 0 < start → AllByRecursion (λ p. 0 < length p) ps → GivesParts g f start ps (map Ok ss)
+      → flat_map string_bytes ss ≡ joined_objects true (map object_of (flat_map (λ p. p) ps))
+  later_parts start [] [] later some given = refl
+  later_parts start [] (s ∷ ss) later some given = absurd given
+  later_parts start (p ∷ ps) [] later some given = absurd given
+  later_parts start (p ∷ ps) (s ∷ ss) later some given =
+      let xs = map object_of p in
+      let rest = flat_map (λ q. q) ps in
+      ap₂ (λ a b. a ++ b)
+      (part_text start p s given.0 ∙ ap (λ t. t ++ joined_objects false xs) (comma_later begin start later) ∙ joined_later xs (rw (length-map p object_of) some.0))
+      (later_parts (start + length p) ps ss (omega (arith, later)) some.1 given.1)
+      ∙ joined_on xs (map object_of rest) ∙ ap (joined_objects true) (sym (map-append object_of p rest))
+
+  all_parts : (ps : List (List Ranked)) (ss : List (String Global)) → 0 < length (flat_map (λ p. p) ps) → AllByRecursion (λ p. 0 < length p) ps → GivesParts g f 0 ps (map Ok ss)
+      → flat_map string_bytes ss ≡ begin ++ joined_objects false (map object_of (flat_map (λ p. p) ps))
+  all_parts [] ss any some given = absurd (omega (arith, any))
+  all_parts (p ∷ ps) [] any some given = absurd given
+  all_parts (p ∷ ps) (s ∷ ss) any some given =
+      let xs = map object_of p in
+      let rest = flat_map (λ q. q) ps in
+      ap₂ (λ a b. a ++ b) (part_text 0 p s given.0) (later_parts (0 + length p) ps ss (omega (arith, some.0)) some.1 given.1)
+      ∙ append_assoc begin (joined_objects false xs) (joined_objects true (map object_of rest))
+      ∙ ap (λ t. begin ++ t) (joined_first xs (map object_of rest) (rw (length-map p object_of) some.0) ∙ ap (joined_objects false) (sym (map-append object_of p rest)))
+
+  pub joined_parts : (xs : List Ranked) (rs : List (Result (String Global) E)) (text : List ℕ) → 0 < length xs → GivesInParts g f xs rs → AreJoined string_bytes rs text
+      → text ≡ begin ++ joined_objects false (map object_of xs)
+  joined_parts xs rs text any made are =
+      let ps = made.parts in
+      sym are.2
+      ∙ all_parts ps are.0 (subst (λ ys. 0 < length ys) (sym made.whole) any) made.some (subst (GivesParts g f 0 ps) (sym are.1) made.given)
+      ∙ ap (λ ys. begin ++ joined_objects false (map object_of ys)) made.whole
 
 -- ---- a string in which nothing is escaped
 

@@ -1,5 +1,5 @@
 -- The objects of the report for GitLab. Internal: no public contract refers to this module.
-use Rattle.std.specs.Prelude.{ℕ, Bool, true, List, [], ◌∷◌, ◌++◌}
+use Rattle.std.specs.Prelude.{ℕ, Bool, true, List, [], ◌∷◌, ◌++◌, ◌==◌, codes, if◌then◌else◌}
 use Rattle.serde_json.specs.Data.{Data}
 use Rattle.serde_json.specs.Written.{comma_if, compact_text}
 use Rattle.sarif_findings.specs.declared.finding.Finding.{Finding}
@@ -20,3 +20,7 @@ objects_after earlier (f ∷ fs) =
 abbrev pub joined_objects : Bool → List Data → List ℕ
 joined_objects later [] = []
 joined_objects later (d ∷ ds) = comma_if later ++ (compact_text d ++ joined_objects true ds)
+
+-- what comes before the objects of the results from this place on
+abbrev pub before_part : List ℕ → ℕ → List ℕ
+before_part begin start = if start == 0 then begin else codes ","

@@ -1,21 +1,22 @@
 //! The objects of results in the report for GitLab, made in threads.
-ghost use Rattle.std.specs.Prelude.{◌≡◌, ◌≤◌, ◌<◌, ◌++◌, false, codes, length, map, string_bytes, IfOk, OnOk};
+ghost use Rattle.std.specs.Prelude.{◌≡◌, ◌++◌, false, map, string_bytes, IfOk, OnOk};
 ghost use Rattle.hex.specs.Hex.{encode_lower};
 ghost use Rattle.sha2.specs.Sha256.{sha256};
 ghost use Rattle.serde_json.specs.Written.{compact_text, comma_if};
 ghost use Rattle.sarif_reports.specs.GitlabReport as said;
-ghost use Rattle.sarif_reports.specs.GitlabObjects.{object_of, joined_objects};
+ghost use Rattle.sarif_gather.specs.Sharing.{AreJoined};
+ghost use Rattle.sarif_reports.specs.GitlabObjects.{object_of, joined_objects, before_part};
 ghost use Rattle.sarif_reports.specs.GitlabParts.{rank_text};
 
 use crate::quality::push_quality;
 use crate::ranked::Ranked;
+use sarif_gather::{Sharing, share_parts};
 use sha2::{Digest, Sha256};
 use std::alloc::{AllocError, Global};
-use std::thread;
 use std::thread::Threads;
 
 /// For fewer results it is not worth starting another thread.
-const FEWEST_SHARED: usize = 64;
+const LEAST_SHARED: usize = 32;
 
 /// The fingerprint of a result that comes after this many equal ones.
 fn fingerprint(alloc: Global, identity: &str, rank: u64) -> Result<String, AllocError>
@@ -75,18 +76,37 @@ fn objects_in_turn(alloc: Global, begin: &str, ranked: &[Ranked<'_>]) -> Result<
     Ok(text)
 }
 
-/// The first half of these results, and the others.
-fn halves<'s, 'f>(ranked: &'s [Ranked<'f>]) -> (&'s [Ranked<'f>], &'s [Ranked<'f>])
-    requires { 2 ≤ length ranked.now }
-    ensures whole { result.0.now ++ result.1.now ≡ ranked.now }
-    ensures low { 0 < length result.0.now }
-    ensures high { 0 < length result.1.now }
+/// What comes before the objects of the results from this place on.
+fn begin_at(begin: &str, start: usize) -> &str
+    ensures { result.now ≡ before_part begin.now start }
 {
-    ranked.split_at(ranked.len() / 2)
+    if start == 0 { begin } else { "," }
+}
+
+/// Adds a string to an earlier one, which may be empty.
+fn append(all: &mut String, text: String) -> Result<(), AllocError>
+    ensures { OnOk result (string_bytes all.new ≡ string_bytes all.old ++ string_bytes text) }
+{
+    if all.is_empty() {
+        *all = text;
+    } else {
+        all.push_str(text.as_str())?;
+    }
+    Ok(())
+}
+
+/// The concatenation of these strings.
+fn joined(alloc: Global, texts: Vec<Result<String, AllocError>>) -> Result<String, AllocError>
+    ensures { IfOk result (λ all. AreJoined string_bytes texts.items (string_bytes all)) }
+{
+    let mut all = String::new(alloc);
+    for text in texts {
+        append(&mut all, text?)?;
+    }
+    Ok(all)
 }
 
 /// The objects of these results after a string. At most `threads` threads make them, including this one.
-#[cycle(objects)]
 pub(crate) fn objects_of<R: Threads + Sync>(
     rt: &R,
     alloc: Global,
@@ -94,29 +114,22 @@ pub(crate) fn objects_of<R: Threads + Sync>(
     ranked: &[Ranked<'_>],
     threads: u32,
 ) -> Result<String, AllocError>
-    requires { 1 ≤ threads }
     ensures { IfOk result
         (λ s. string_bytes s ≡ begin.now ++ joined_objects false (map object_of ranked.now)) }
 {
-    if threads < 2 || ranked.len() < FEWEST_SHARED {
-        return objects_in_turn(alloc, begin, ranked);
+    if ranked.is_empty() {
+        return String::from_str(alloc, begin);
     }
-    let few = threads / 2;
-    let others = threads - few;
-    let (low, high) = halves(ranked);
-    let front = move || -> Result<String, AllocError>
-        requires { 1 ≤ few }
+    let sharing = Sharing {
+        rt,
+        alloc,
+        threads,
+        least: LEAST_SHARED,
+    };
+    let part = move |start: usize, some: &[Ranked<'_>]| -> Result<String, AllocError>
         ensures { IfOk result (λ s. string_bytes s
-            ≡ begin.entry.now ++ joined_objects false (map object_of low.entry.now)) }
-    { objects_of(rt, alloc, begin, low, few) };
-    let back = move || -> Result<String, AllocError>
-        requires { 1 ≤ others }
-        ensures { IfOk result (λ s. string_bytes s
-            ≡ codes "," ++ joined_objects false (map object_of high.entry.now)) }
-    { objects_of(rt, alloc, ",", high, others) };
-    let (first, second) = thread::join(rt, front, back);
-    let mut text = first?;
-    let rest = second?;
-    text.push_str(rest.as_str())?;
-    Ok(text)
+            ≡ before_part begin.entry.now start ++ joined_objects false (map object_of some.now)) }
+    { objects_in_turn(alloc, begin_at(begin, start), some) };
+    let texts = share_parts(&sharing, ranked, &part)?;
+    joined(alloc, texts)
 }
