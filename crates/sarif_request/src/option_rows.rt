@@ -108,7 +108,8 @@ static ROWS: [OptionRow; 13] = [
     OptionRow {
         id: "fail-on",
         value: "LEVEL",
-        help: "Minimum level of a hit. Reports also show the results below it",
+        help: "Minimum level of a hit. Reports also show the results that are\n\
+            below it",
         group: Group::Gate,
         kind: Kind::Level,
         default: Some("error"),
