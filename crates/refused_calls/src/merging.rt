@@ -1,4 +1,9 @@
 //! Whole merges by four workers, of bytes and from readers into a writer.
+ghost use Rattle.std.specs.Prelude.{◌<◌, ◌^◌};
+ghost use Rattle.std.specs.List.{All};
+ghost use Rattle.sarif_streams.specs.Counted.{failed_calls};
+ghost use Rattle.sarif_streams.specs.OptionalReader.{failed_calls_if};
+
 use sarif_counts::{Options, Policy};
 use sarif_gather::NoGate;
 use sarif_merge::{merge_bytes, merge_to};
@@ -69,43 +74,47 @@ fn sources_of(alloc: Global, given: &Given) -> Result<SourceBytes, AllocError> {
     Ok(sources)
 }
 
-/// What `merge_to` wrote, or its error.
+/// What `merge_to` wrote of a log with a baseline, or with a suppression file if there is no baseline; or its error.
 pub fn merged_to<R: Threads + Wait + Sync>(
     rt: &R,
     alloc: Global,
     seed: RandomState,
     text: &str,
 ) -> Result<String, AllocError> {
-    let mut readers = readers_of(alloc, Given::of(text))?;
-    let mut taken = Vec::new(alloc);
-    let mut out = Counted::new(&mut taken);
-    match merge_to(
-        rt,
-        alloc,
-        &mut readers,
-        &mut out,
-        &options_by(seed),
-        &NoGate,
-    ) {
-        Ok(_) => String::from_utf8_lossy(alloc, taken.as_slice()),
-        Err(fault) => format!(in alloc; "{fault}"),
+    let given = Given::of(text);
+    let log = given.log.as_bytes();
+    if given.baseline.is_empty() {
+        let mut readers = Readers {
+            logs: vec![in alloc; Counted::new(log)]?,
+            baselines: Vec::new(alloc),
+            suppressions: Some(Counted::new(given.suppressions.as_bytes())),
+        };
+        write_merged(rt, alloc, seed, &mut readers)
+    } else {
+        let mut readers = Readers {
+            logs: vec![in alloc; Counted::new(log)]?,
+            baselines: vec![in alloc; Counted::new(given.baseline.as_bytes())]?,
+            suppressions: None,
+        };
+        write_merged(rt, alloc, seed, &mut readers)
     }
 }
 
-fn readers_of<'a>(alloc: Global, given: Given<'a>) -> Result<Readers<&'a [u8]>, AllocError> {
-    let mut readers = Readers {
-        logs: Vec::new(alloc),
-        baselines: Vec::new(alloc),
-        suppressions: None,
-    };
-    readers.logs.push(Counted::new(given.log.as_bytes()))?;
-    if !given.baseline.is_empty() {
-        readers
-            .baselines
-            .push(Counted::new(given.baseline.as_bytes()))?;
+/// What `merge_to` wrote of what these readers return, or its error.
+fn write_merged<R: Threads + Wait + Sync>(
+    rt: &R,
+    alloc: Global,
+    seed: RandomState,
+    readers: &mut Readers<&[u8]>,
+) -> Result<String, AllocError>
+    requires logs { All (λ reader. failed_calls reader < 2 ^ 63) readers.old.logs.items }
+    requires baselines { All (λ reader. failed_calls reader < 2 ^ 63) readers.old.baselines.items }
+    requires suppressions { failed_calls_if readers.old.suppressions < 2 ^ 63 }
+{
+    let mut taken = Vec::new(alloc);
+    let mut out = Counted::new(&mut taken);
+    match merge_to(rt, alloc, readers, &mut out, &options_by(seed), &NoGate) {
+        Ok(_) => String::from_utf8_lossy(alloc, taken.as_slice()),
+        Err(fault) => format!(in alloc; "{fault}"),
     }
-    if !given.suppressions.is_empty() {
-        readers.suppressions = Some(Counted::new(given.suppressions.as_bytes()));
-    }
-    Ok(readers)
 }
