@@ -13,6 +13,9 @@ use std::hash::RandomState;
 use std::sync::Wait;
 use std::thread::Threads;
 
+/// More bytes than any merged log here has.
+const ROOM: usize = 4_000;
+
 /// A log, and a baseline and a suppression file if they are there. In the input there are bars between the three.
 #[derive(Clone, Copy)]
 struct Given<'a> {
@@ -111,7 +114,8 @@ fn write_merged<R: Threads + Wait + Sync>(
     requires baselines { All (λ reader. failed_calls reader < 2 ^ 63) readers.old.baselines.items }
     requires suppressions { failed_calls_if readers.old.suppressions < 2 ^ 63 }
 {
-    let mut taken = Vec::new(alloc);
+    // The writer has its memory before, since without it a write fails.
+    let mut taken = Vec::with_capacity(alloc, ROOM)?;
     let mut out = Counted::new(&mut taken);
     match merge_to(rt, alloc, readers, &mut out, &options_by(seed), &NoGate) {
         Ok(_) => String::from_utf8_lossy(alloc, taken.as_slice()),
