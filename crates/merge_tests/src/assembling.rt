@@ -1,7 +1,7 @@
 //! The log of nothing, worked by hand.
 ghost use Rattle.std.specs.Prelude.{◌≡◌, []};
 
-use sarif_counts::{Options, Policy, Verdict};
+use sarif_counts::{Checks, Options, Policy, Verdict};
 use sarif_log::{Asked, Merged, assemble, prepare};
 use sarif_model::{Level, State};
 use sarif_results::Judged;
@@ -58,6 +58,7 @@ fn merge_without_file<R: Threads + Sync>(
 fn without_runs_the_log_holds_its_gate(rt: HostRuntime) -> Result<(), Fail> {
     let options = Options {
         policy: Policy::default(),
+        checks: Checks::default(),
         today: None,
         workers: 1,
         seed: RandomState::new(&rt)?,

@@ -59,6 +59,9 @@ fn advice_on_fault(fault: Fault, at: At, is_missing: bool) -> &'static str {
         Fault::BadEntry => "fix the entry, or validate the file against its JSON Schema",
         Fault::EmptyMatch => "add a condition; without one, the entry would match every result",
         Fault::NeedsToday => "pass today's date as YYYYMMDD: --today \"$(date -u +%Y%m%d)\"",
+        Fault::NotSuccessful => {
+            "run the analysis again, or read the analyser's own output to see what failed"
+        }
     }
 }
 

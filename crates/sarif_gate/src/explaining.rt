@@ -68,6 +68,7 @@ impl Ended<'_, '_> {
             Source::Baseline(number) => self.request.baselines.get(number as usize),
             Source::Suppress => self.request.suppress.as_ref(),
             Source::Output => Some(&self.request.out),
+            Source::Known => None,
         }
     }
 
@@ -87,6 +88,7 @@ impl Ended<'_, '_> {
             }
             Source::Suppress => of_kept(alloc, fault, name, readers.suppressions.as_ref()),
             Source::Output => of_kept(alloc, fault, name, Some(&self.writers.out)),
+            Source::Known => of_source(alloc, fault, "", &[], None),
         }
     }
 

@@ -36,6 +36,7 @@ fault_name fault.NotList = codes "NotList"
 fault_name fault.BadEntry = codes "BadEntry"
 fault_name fault.EmptyMatch = codes "EmptyMatch"
 fault_name fault.NeedsToday = codes "NeedsToday"
+fault_name fault.NotSuccessful = codes "NotSuccessful"
 
 -- the name of a cause
 abbrev pub cause_name : Cause → List ℕ

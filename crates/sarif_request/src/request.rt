@@ -3,7 +3,7 @@ ghost use Rattle.std.specs.Prelude.{IfOk};
 ghost use Rattle.sarif_request.specs.Plain.{IsPlain};
 
 use crate::wanted::Wanted;
-use sarif_counts::{Options, Policy};
+use sarif_counts::{Checks, Options, Policy};
 use sarif_model::Text;
 use sarif_streams::STANDARD;
 use std::alloc::{AllocError, Global};
@@ -47,6 +47,7 @@ impl Request {
             explain: false,
             options: Options {
                 policy: Policy::default(),
+                checks: Checks::default(),
                 today: None,
                 workers: 1,
                 seed,

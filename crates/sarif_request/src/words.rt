@@ -13,7 +13,7 @@ use crate::request::Request;
 use crate::wanted::Wanted;
 use clap::ArgMatches;
 use clap::error::ErrorKind;
-use sarif_counts::{Options, Policy, States};
+use sarif_counts::{Checks, Options, Policy, States};
 use sarif_model::{Level, MOST_WORKERS, Text};
 use sarif_reports::Report;
 use std::alloc::{AllocError, AllocFailed, Global};
@@ -120,6 +120,7 @@ fn request_of(
     let root = text_in(alloc, matches, "root")?;
     let options = Options {
         policy: policy_of(matches, states),
+        checks: Checks::default(),
         today: number_of(matches, "today"),
         workers: number_of(matches, "workers")
             .unwrap_or(1)

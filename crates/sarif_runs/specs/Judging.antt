@@ -10,7 +10,7 @@ use Rattle.sarif_runs.specs.Record.{record_of}
 use Rattle.sarif_runs.specs.declared.item.Item.{Item}
 use Rattle.sarif_runs.specs.declared.item.Item.TheVariants.{Sound, Bad, Skipped}
 use Rattle.sarif_model.specs.declared.merge_fault.Source.{Source}
-use Rattle.sarif_model.specs.declared.merge_fault.Source.TheVariants.{Log, Baseline, Suppress, Output}
+use Rattle.sarif_model.specs.declared.merge_fault.Source.TheVariants.{Log, Baseline, Suppress, Output, Known}
 use Rattle.sarif_model.specs.declared.merge_fault.At.{At}
 use Rattle.sarif_model.specs.declared.merge_fault.At.TheVariants.{Run, Single}
 use Rattle.sarif_model.specs.declared.merge_fault.MergeFault.{MergeFault}
@@ -23,6 +23,7 @@ skips (Log k) = false
 skips (Baseline k) = true
 skips Suppress = false
 skips Output = false
+skips Known = false
 
 abbrev pub item_by : Result Record Fault → Item
 item_by (Ok r) = Sound r

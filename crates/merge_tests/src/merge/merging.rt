@@ -1,6 +1,6 @@
 //! Merging texts. A list of runs is written `lint: A M; b: `: each run is a tool and its results, each by its name
 //! or by its own JSON without spaces.
-use sarif_counts::{Options, Policy, Verdict};
+use sarif_counts::{Checks, Options, Policy, Verdict};
 use sarif_gather::{Gate, NoGate};
 use sarif_log::Merged;
 use sarif_merge::{merge_bytes, merge_to};
@@ -193,6 +193,7 @@ pub fn merge_watched<G: Gate + Sync, R: Abort + AllocGlobal + Threads + Wait + S
     assert!(rt; 1 <= workers && workers <= 64);
     let options = Options {
         policy: given.policy,
+        checks: Checks::default(),
         today: given.today,
         workers,
         seed: seed_of(given.bytes)?,
@@ -216,6 +217,7 @@ pub fn write_watched<G: Gate + Sync, R: Abort + AllocGlobal + Threads + Wait + S
     };
     let options = Options {
         policy: Policy::default(),
+        checks: Checks::default(),
         today: None,
         workers,
         seed: seed_of(ZEROS)?,

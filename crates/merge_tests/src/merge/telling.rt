@@ -1,6 +1,6 @@
 //! The findings of a merge.
 use crate::merge::merging::{ZEROS, seed_of};
-use sarif_counts::{Options, Policy, States};
+use sarif_counts::{Checks, Options, Policy, States};
 use sarif_findings::{Finding, Reporting};
 use sarif_gather::NoGate;
 use sarif_log::Asked;
@@ -71,6 +71,7 @@ fn told_of<'s, R: Abort + AllocGlobal + Threads + Wait + Sync>(
     };
     let options = Options {
         policy: strict(),
+        checks: Checks::default(),
         today: None,
         workers,
         seed: seed_of(ZEROS)?,
