@@ -1,0 +1,2 @@
+pub mod KnownResult
+pub mod Tokens
