@@ -8,8 +8,8 @@ use Rattle.serde_json.specs.Data.{Data, string as text_data, array, object}
 use Rattle.serde_json.specs.View.{items_of}
 use Rattle.serde_json.specs.Written.{outline, items_outline, members_outline}
 use Rattle.sarif_model.specs.declared.record.Record.{Record}
-use Rattle.sarif_known.specs.KnownResult.{Row, guid_text, members_from, object_from, text_members, texts_if_any, list_if_any, result_rows, known_result}
-use Rattle.sarif_known.specs.Tokens.{data_tokens, value_tokens, rows_then, pairs_tokens, each_tokens, first_tokens, last_tokens}
+use Rattle.sarif_known.specs.KnownResult.{Row, guid_text, kind_unless_fail, level_if_fail, locations_for, message_rows, one_location, suppression_for, unless_empty, uri_rows, members_from, object_from, text_members, texts_if_any, list_if_any, result_rows, known_result}
+use Rattle.sarif_known.specs.Tokens.{data_tokens, value_tokens, rows_then, pairs_tokens, each_tokens, first_tokens, last_tokens, opened, closed}
 
 -- what is added in turn is added together
 pub two : (o a b : List Token) (o1 o2 : List Token) → o1 ≡ o ++ a → o2 ≡ o1 ++ b → o2 ≡ o ++ (a ++ b)
@@ -74,4 +74,19 @@ pub result_tokens : (r : Record) (artifact : Option ℕ)
     → data_tokens (known_result r artifact) ≡ begin_object ∷ (first_tokens r artifact ++ (last_tokens r ++ end_object ∷ []))
 result_tokens r artifact =
     object_tokens (result_rows r artifact)
-    ∙ ap (λ ts. begin_object ∷ ts) (sym (regroup _ _ _ _ _ _ _ _ _ (end_object ∷ [])))
+    ∙ ap (λ ts. begin_object ∷ ts)
+    (sym (regroup (value_tokens (codes "correlationGuid") (option_map (λ n. text_data (guid_text n)) r.guid)) (value_tokens (codes "fingerprints") (texts_if_any r.full)) (value_tokens (codes "kind") (kind_unless_fail r.kind))
+    (value_tokens (codes "level") (level_if_fail r.kind r.level)) (value_tokens (codes "locations") (locations_for r.place artifact))
+    (value_tokens (codes "message") (Some (object_from (message_rows r.message)))) (value_tokens (codes "partialFingerprints") (texts_if_any r.partial)) (value_tokens (codes "ruleId") (unless_empty r.rule_id))
+    (value_tokens (codes "suppressions") (list_if_any (map suppression_for r.held))) (end_object ∷ [])))
+
+ending : (a b e f : List Token) → (((a ++ (b ++ e)) ++ e) ++ e) ++ f ≡ a ++ (b ++ (e ++ (e ++ (e ++ f))))
+ending a b e f = simp append_assoc
+
+-- the tokens of a place with a uri
+pub uri_tokens : (uri : List ℕ) (base : Option (List ℕ))
+    → value_tokens (codes "locations") (Some (one_location (members_from (uri_rows uri base))))
+    ≡ opened ++ (value_tokens (codes "uri") (Some (text_data uri)) ++ (value_tokens (codes "uriBaseId") (option_map text_data base) ++ closed))
+uri_tokens uri base =
+    ap (λ ts. opened ++ (((ts ++ end_object ∷ []) ++ end_object ∷ []) ++ end_array ∷ [])) (rows_are (uri_rows uri base))
+    ∙ ap (λ ts. opened ++ ts) (ending (value_tokens (codes "uri") (Some (text_data uri))) (value_tokens (codes "uriBaseId") (option_map text_data base)) (end_object ∷ []) (end_array ∷ []))

@@ -6,6 +6,7 @@ use Rattle.serde_json.specs.Data.{Data, string as text}
 use Rattle.serde_json.specs.Written.{outline}
 use Rattle.sarif_model.specs.declared.record.Record.{Record}
 use Rattle.sarif_known.specs.KnownResult.{Row, guid_text, kind_unless_fail, level_if_fail, list_if_any, locations_for}
+use Rattle.sarif_known.specs.KnownRun.{artifact_at, bases_alone, tool_named}
 use Rattle.sarif_known.specs.KnownResult.{message_rows, object_from, suppression_for, texts_if_any, unless_empty}
 
 abbrev pub data_tokens : Data → List Token
@@ -57,3 +58,23 @@ last_tokens r =
     ++ (value_tokens (codes "partialFingerprints") (texts_if_any r.partial)
     ++ (value_tokens (codes "ruleId") (unless_empty r.rule_id)
     ++ value_tokens (codes "suppressions") (list_if_any (map suppression_for r.held))))
+
+-- ---- parts of a run and of the log
+
+-- a run up to its first result
+abbrev pub run_opening : List Record → List Token
+run_opening rs =
+    begin_object ∷ (value_tokens (codes "artifacts") (list_if_any (map artifact_at (bases_alone rs)))
+    ++ key (codes "results") ∷ begin_array ∷ [])
+
+-- a run after its last result
+abbrev pub run_closing : List ℕ → List Token
+run_closing tool =
+    end_array ∷ (value_tokens (codes "tool") (Some (tool_named tool)) ++ end_object ∷ [])
+
+abbrev pub log_opening : List Token
+log_opening = begin_object ∷ key (codes "runs") ∷ begin_array ∷ []
+
+abbrev pub log_closing : List Token
+log_closing =
+    end_array ∷ (value_tokens (codes "version") (Some (text (codes "2.1.0"))) ++ end_object ∷ [])

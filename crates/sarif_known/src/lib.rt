@@ -2,6 +2,15 @@
 //! states look at.
 #![tactic(auto)]
 
+mod choosing;
+mod chosen;
+mod known_log;
 mod known_result;
+mod known_run;
 mod lines;
 mod members;
+mod order;
+
+pub use choosing::{Choice, Results, keep_run, know_run};
+pub use chosen::KnownRun;
+pub use known_log::known_text;
