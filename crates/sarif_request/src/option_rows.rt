@@ -69,7 +69,7 @@ pub struct OptionRow {
     pub default: Option<&'static str>,
 }
 
-static ROWS: [OptionRow; 13] = [
+static ROWS: [OptionRow; 15] = [
     OptionRow {
         id: "log",
         value: "LOG",
@@ -103,6 +103,24 @@ static ROWS: [OptionRow; 13] = [
             expiry date; the program reads no clock",
         group: Group::Inputs,
         kind: Kind::Number(FIRST_DAY as i64, LAST_DAY as i64),
+        default: None,
+    },
+    OptionRow {
+        id: "require-success",
+        value: "",
+        help: "Reject a log with a run that failed: an invocation of it was not successful,\n\
+            or it has no results. Baselines may have such runs",
+        group: Group::Inputs,
+        kind: Kind::Flag,
+        default: None,
+    },
+    OptionRow {
+        id: "allow-external-properties",
+        value: "",
+        help: "Accept runs that name external property files, unless these hold results,\n\
+            artifacts, invocations, the driver or extensions",
+        group: Group::Inputs,
+        kind: Kind::Flag,
         default: None,
     },
     OptionRow {

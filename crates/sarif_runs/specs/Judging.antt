@@ -47,12 +47,14 @@ abbrev pub fault_of : {X : Type 0} → Result X Fault → Option Fault
 fault_of (Ok x) = None
 fault_of (Err fault) = Some fault
 
--- the head of a run, or its first error; if its analysis must have been successful and failed, that is the last
--- error of opening it
+-- the head of a run whose analysis was successful; that it failed is the last error of opening it
+abbrev pub successful_head : Data → Result RunHead Fault
+successful_head run = head_of run >>= λ head. if failed run then Err NotSuccessful else Ok head
+
+-- the head of a run, or its first error; whether its analysis must have been successful
 abbrev pub opened_of : Bool → Data → Result RunHead Fault
 opened_of false run = head_of run
-opened_of true run =
-    head_of run >>= λ head. if failed run then Err NotSuccessful else Ok head
+opened_of true run = successful_head run
 
 -- the error of opening a run, if it has one
 abbrev pub opening_fault : Placed → Option Fault
