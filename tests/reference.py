@@ -11,6 +11,7 @@ import re
 import sys
 
 from reference_json import Fault, compact, read_json, stripped
+from reference_life import Known, PastLimit, Renewed, file_of, unused
 
 MOST_LOGS = 1_000
 MOST_RUNS = 10_000
@@ -471,6 +472,7 @@ class Merge:
             self.read(f"baseline {number}", source) for number, source in enumerate(baselines)
         ]
         self.entries = self.read_entries(suppress, today)
+        self.file = file_of(suppress)
         self.inputs = [run for log in logs for run in log]
         self.before = [run for log in baselines for run in log]
         self.current = self.findings(logs, "log", False)
@@ -527,7 +529,7 @@ class Merge:
         """Computes states and suppressions, and the baseline results that no result matches."""
         before = [finding.record for finding in self.baseline]
         found = partners([finding.record for finding in self.current], before)
-        used = set()
+        self.used = used = set()
         for finding, partner in zip(self.current, found):
             finding.state = "new"
             if partner is not None:
@@ -542,13 +544,17 @@ class Merge:
 
     def count(self):
         self.counts = {state: {"active": [0] * 4, "suppressed": [0] * 4} for state in STATES}
-        for finding in [*self.current, *self.absent]:
+        for finding in self.merged():
             side = "suppressed" if finding.is_suppressed() else "active"
             self.counts[finding.state][side][3 - LEVELS.index(finding.record.level)] += 1
         shown = 4 - LEVELS.index(self.policy.fail_on)
         self.hits = sum(sum(self.counts[it]["active"][:shown]) for it in self.policy.states)
         self.verdict = "fail" if self.hits > self.policy.max else "pass"
         self.without = sum(run.get("results") is None for run in self.inputs)
+
+    def merged(self):
+        """The results of the merged log, in its order."""
+        return [*self.current, *self.absent]
 
     def written(self, run, findings):
         kept = {name: it for name, it in run.items() if name not in ("baselineGuid", "results")}
@@ -594,7 +600,8 @@ def check_number(logs, baselines):
 # ---- The command line
 
 USAGE = """Usage: sarif_gate [--baseline F]... [--suppress F] [--today N] [--workers N]
-    [--fail-on L] [--states LIST] [--max N] --out F LOG...
+    [--fail-on L] [--states LIST] [--max N] [--suppress-out F] [--accept] [--prune]
+    [--reason TEXT] [--until N] [--unused F] [--known F] [--adopt] --out F LOG...
 """
 
 
@@ -607,6 +614,10 @@ class Usage(Exception):
 
 
 RANGES = {"today": (10000101, 99991231), "workers": (1, 64), "max": (0, 2**32 - 1)}
+VALUES = ("suppress", "out", "fail-on", "states", "suppress-out", "reason", "until", "unused", "known")
+FLAGS = ("accept", "prune", "adopt")
+# Only their names count here: reference_reports.py makes the reports.
+REPORTS = ("text", "github", "markdown", "gitlab", "html", "junit", "azure")
 
 
 class Request:
@@ -629,19 +640,24 @@ class Request:
         if not self.logs or self.out is None:
             raise Usage(2)
         self.suppress, self.today = self.given.get("suppress"), self.given.get("today")
-        if self.suppress == self.out or self.out != "-" and self.out in self.logs:
+        if not self.fits_together() or self.have_clash():
             raise Usage(2)
         states = self.given.get("states", ("new", "updated"))
         self.policy = Policy(self.given.get("fail-on", "error"), self.given.get("max", 0), states)
 
     def option(self, word, words):
         name, equals, value = word.removeprefix("--").partition("=")
-        if not word.startswith("--") or not equals and (not words or words[0].startswith("-")):
+        if not word.startswith("--") or name in self.given:
+            raise Usage(2)
+        if name in FLAGS and not equals:
+            self.given[name] = True
+            return
+        if not equals and (not words or words[0].startswith("-") and words[0] != "-"):
             raise Usage(2)
         value = value if equals else words.pop(0)
         if name == "baseline":
             self.baselines.append(value)
-        elif name in self.given or name not in ("suppress", "out", "fail-on", "states", *RANGES):
+        elif name not in (*VALUES, *RANGES, *REPORTS):
             raise Usage(2)
         else:
             self.given[name] = self.checked(name, value)
@@ -651,12 +667,55 @@ class Request:
             raise Usage(2)
         if name == "states":
             return listed(value)
+        if name == "until":
+            return day(value)
         if name not in RANGES:
             return value
         least, most = RANGES[name]
         if not re.fullmatch("[0-9]+", value) or not least <= int(value) <= most:
             raise Usage(2)
         return int(value)
+
+    def fits_together(self):
+        """Returns whether each option has those that it needs, and none that it rules out."""
+        has = self.given.__contains__
+        until = self.given.get("until")
+        return (
+            has("suppress-out") == (has("accept") or has("prune"))
+            and (has("suppress") or not has("prune") and not has("unused"))
+            and (has("accept") or not has("reason") and not has("until"))
+            and (until is None or self.today is not None and self.today <= until)
+            and not (has("known") and has("accept"))
+            and (has("known") or not has("adopt"))
+        )
+
+    def have_clash(self):
+        """Returns whether an output has the name of an input or of another output, where it may not."""
+        outputs = ("out", "suppress-out", "known", *REPORTS, "unused")
+        names = [it for it in outputs if it in self.given]
+        files = [self.given[it] for it in names]
+        if len(set(files)) < len(files):
+            return True
+        return any(self.replaces(name, self.given[name]) for name in names)
+
+    def replaces(self, name, file):
+        if file == self.suppress and name != "suppress-out":
+            return True
+        if file == "-":
+            return False
+        is_only = name == "known" and len(self.baselines) == 1
+        may_replace_baseline = name == "out" or is_only
+        return file in self.logs or file in self.baselines and not may_replace_baseline
+
+
+def day(text):
+    """A day yyyymmdd of a month 1 to 12 and a day 1 to 31."""
+    if not re.fullmatch("[0-9]{8}", text):
+        raise Usage(2)
+    number = int(text)
+    if number < 10000101 or not 1 <= number // 100 % 100 <= 12 or not 1 <= number % 100 <= 31:
+        raise Usage(2)
+    return number
 
 
 def listed(text):
@@ -677,7 +736,9 @@ def read_source(place, source):
     return read
 
 
-def read_file(place, name):
+def read_file(place, name, may_be_stream=False):
+    if may_be_stream and name == "-":
+        return read_source(place, sys.stdin.buffer)
     try:
         file = open(name, "rb")
     except OSError:
@@ -689,7 +750,7 @@ def read_file(place, name):
 def asked(request):
     """The merge of the files that the arguments name."""
     check_number(request.logs, request.baselines)
-    logs = [read_file(f"log {number}", name) for number, name in enumerate(request.logs)]
+    logs = [read_file(f"log {number}", name, True) for number, name in enumerate(request.logs)]
     baselines = [
         read_file(f"baseline {number}", name) for number, name in enumerate(request.baselines)
     ]
@@ -697,17 +758,17 @@ def asked(request):
     return Merge(logs, baselines, suppress, request.policy, request.today)
 
 
-def write_file(name, text):
+def write_file(name, text, place="output"):
     """Writes a file completely, or leaves the old file unchanged."""
     try:
-        name = followed(name)
+        name = "/dev/stdout" if name == "-" else followed(name)
         if is_as_is(name):
             with open(name, "wb") as file:
                 file.write(text.encode())
         else:
             replace_file(name, text.encode())
     except OSError:
-        raise Refused("output", "WriteFailed") from None
+        raise Refused(place, "WriteFailed") from None
 
 
 def is_as_is(name):
@@ -752,21 +813,54 @@ def says(stream, text):
         return False
 
 
+class Outputs:
+    """What a request writes besides the merged log and the summary."""
+
+    def __init__(self, request, merge):
+        given = request.given
+        how = {it: given[it] for it in ("accept", "prune", "reason", "until") if it in given}
+        self.files, self.lines = [], []
+        try:
+            if "suppress-out" in given:
+                self.add("new suppressions", given["suppress-out"], Renewed(merge, **how))
+            if "known" in given:
+                self.add("known log", given["known"], Known(merge, "adopt" in given))
+        except PastLimit as past:
+            raise Refused(past.place, past.cause) from None
+        if "unused" in given:
+            self.files.append(("unused report", given["unused"], unused(merge)))
+
+    def add(self, place, name, made):
+        self.files.append((place, name, made.text))
+        self.lines.append(made.line())
+
+
+def speaks_aside(request):
+    """Returns whether the summary goes to standard error, as a file that is read again is on standard output."""
+    return "-" in [request.given.get(it) for it in ("out", "suppress-out", "known")]
+
+
 def main(words):
-    out, say = (None, 1) if words else ("/dev/stdout", 2)
+    out, say, files, lines = "/dev/stdout", 2, [], []
     try:
         if words:
             merge = asked(request := Request(words))
-            out = request.out
+            out, say = request.out, 2 if speaks_aside(request) else 1
+            outputs = Outputs(request, merge)
+            files, lines = outputs.files, outputs.lines
         else:
             merge = Merge([read_source("log 0", sys.stdin.buffer)], [])
         write_file(out, merge.text())
+        for place, name, text in files:
+            write_file(name, text, place)
     except Usage as usage:
         says(2 if usage.status else 1, USAGE)
         return usage.status
     except Refused as refused:
         says(2, f"sarif_gate: {refused}\n")
         return refused.status
+    for line in lines:
+        says(2, line)
     return merge.status() if says(say, merge.summary()) else 3
 
 
