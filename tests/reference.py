@@ -11,7 +11,7 @@ import re
 import sys
 
 from reference_json import Fault, compact, read_json, stripped
-from reference_life import Known, PastLimit, Renewed, file_of, unused
+from reference_life import Known, PastLimit, Renewed, failed, file_of, unused
 
 MOST_LOGS = 1_000
 MOST_RUNS = 10_000
@@ -99,7 +99,7 @@ def guid(holder, name, cause):
 # ---- Reading a log
 
 
-def read_log(source):
+def read_log(source, allow_external=False):
     """The stripped runs of a log."""
     log = stripped(read_json(source))
     if not isinstance(log, dict) or not isinstance(log.get("runs", 0), (list, type(None))):
@@ -112,7 +112,7 @@ def read_log(source):
     total = 0
     for number, run in enumerate(runs):
         try:
-            check_form(run)
+            check_form(run, allow_external)
         except Fault as fault:
             raise Fault(fault.cause, run=number) from None
         total += len(run.get("results") or [])
@@ -121,13 +121,26 @@ def read_log(source):
     return runs
 
 
-def check_form(run):
+# What is read of a run, of what an external property file may hold.
+READ_PARTS = ("artifacts", "driver", "extensions", "invocations", "results")
+
+
+def may_be_named(files, allow_external):
+    """Returns whether a run may name these external property files."""
+    if files is None or files == {}:
+        return True
+    if not allow_external or not isinstance(files, dict):
+        return False
+    return all(files.get(part) is None or files[part] == [] for part in READ_PARTS)
+
+
+def check_form(run, allow_external):
     driver = run
     for name in ("tool", "driver"):
         driver = driver.get(name) if isinstance(driver, dict) else None
     if not isinstance(driver, dict) or not isinstance(driver.get("name"), str):
         raise Fault("BadRun")
-    if run.get("externalPropertyFileReferences") not in (None, {}):
+    if not may_be_named(run.get("externalPropertyFileReferences"), allow_external):
         raise Fault("ExternalProperties")
     objects(run, "results", "BadRun")
 
@@ -431,6 +444,13 @@ class Policy:
         self.fail_on, self.max, self.states = fail_on, most, states
 
 
+class Checks:
+    """What is required of runs beyond the form of a log."""
+
+    def __init__(self, require_success=False, allow_external=False):
+        self.require_success, self.allow_external = require_success, allow_external
+
+
 class Finding:
     """A result with its place in the inputs, and with what the merge adds."""
 
@@ -463,8 +483,8 @@ def same(one, other):
 class Merge:
     """A merge of sources, which are byte strings."""
 
-    def __init__(self, logs, baselines, suppress=None, policy=None, today=None):
-        self.policy = policy or Policy()
+    def __init__(self, logs, baselines, suppress=None, policy=None, today=None, checks=None):
+        self.policy, self.checks = policy or Policy(), checks or Checks()
         check_number(logs, baselines)
         self.runs, self.results = 0, 0
         logs = [self.read(f"log {number}", source) for number, source in enumerate(logs)]
@@ -482,7 +502,7 @@ class Merge:
 
     def read(self, name, source):
         try:
-            runs = read_log(source)
+            runs = read_log(source, self.checks.allow_external)
         except Fault as fault:
             raise Refused(
                 name if fault.run is None else f"{name}, run {fault.run}", fault.cause
@@ -500,20 +520,22 @@ class Merge:
             number = "" if fault.entry is None else f", entry {fault.entry}"
             raise Refused(f"suppressions{number}", fault.cause) from None
 
-    def findings(self, logs, name, may_skip):
+    def findings(self, logs, name, is_baseline):
         found = []
         for number, log in enumerate(logs):
             for count, run in enumerate(log):
-                found += self.of_run(f"{name} {number}, run {count}", run, may_skip)
+                found += self.of_run(f"{name} {number}, run {count}", run, is_baseline)
         return found
 
-    def of_run(self, place, run, may_skip):
+    def of_run(self, place, run, is_baseline):
         found = []
         try:
             head = Head(run)
+            if self.checks.require_success and not is_baseline and failed(run):
+                raise Fault("NotSuccessful")
             for number, value in enumerate(run.get("results") or []):
                 at = f"{place}, result {number}"
-                if not may_skip or value.get("baselineState") != "absent":
+                if not is_baseline or value.get("baselineState") != "absent":
                     found.append(Finding(run, value, self.record(at, head, value)))
         except Fault as fault:
             raise Refused(place, fault.cause) from None
@@ -601,7 +623,8 @@ def check_number(logs, baselines):
 
 USAGE = """Usage: sarif_gate [--baseline F]... [--suppress F] [--today N] [--workers N]
     [--fail-on L] [--states LIST] [--max N] [--suppress-out F] [--accept] [--prune]
-    [--reason TEXT] [--until N] [--unused F] [--known F] [--adopt] --out F LOG...
+    [--reason TEXT] [--until N] [--unused F] [--known F] [--adopt] [--require-success]
+    [--allow-external-properties] --out F LOG...
 """
 
 
@@ -615,7 +638,7 @@ class Usage(Exception):
 
 RANGES = {"today": (10000101, 99991231), "workers": (1, 64), "max": (0, 2**32 - 1)}
 VALUES = ("suppress", "out", "fail-on", "states", "suppress-out", "reason", "until", "unused", "known")
-FLAGS = ("accept", "prune", "adopt")
+FLAGS = ("accept", "prune", "adopt", "require-success", "allow-external-properties")
 # Only their names count here: reference_reports.py makes the reports.
 REPORTS = ("text", "github", "markdown", "gitlab", "html", "junit", "azure")
 
@@ -644,6 +667,7 @@ class Request:
             raise Usage(2)
         states = self.given.get("states", ("new", "updated"))
         self.policy = Policy(self.given.get("fail-on", "error"), self.given.get("max", 0), states)
+        self.checks = Checks("require-success" in self.given, "allow-external-properties" in self.given)
 
     def option(self, word, words):
         name, equals, value = word.removeprefix("--").partition("=")
@@ -755,7 +779,7 @@ def asked(request):
         read_file(f"baseline {number}", name) for number, name in enumerate(request.baselines)
     ]
     suppress = None if request.suppress is None else read_file("suppressions", request.suppress)
-    return Merge(logs, baselines, suppress, request.policy, request.today)
+    return Merge(logs, baselines, suppress, request.policy, request.today, request.checks)
 
 
 def write_file(name, text, place="output"):
