@@ -16,7 +16,7 @@ pub record IsPreparedFor (inputs : Inputs) (asked : Option Reporting) (prepared 
     : Type 0 where
   pub faultless : faults_of inputs ≡ []
   pub written : IsPrepared (file_in (file_or_none inputs.suppressions inputs.today))
-      (placed (numbered Log 0 inputs.logs)) (placed (numbered Baseline 0 inputs.baselines))
+      (placed (numbered inputs.checks Log 0 inputs.logs)) (placed (numbered inputs.checks Baseline 0 inputs.baselines))
       asked prepared
 
 -- that, or the first error of the inputs, or OutOfMemory or NoWorker
