@@ -21,6 +21,7 @@ use Rattle.sarif_model.specs.declared.kinds.Status.TheVariants.{Accepted, UnderR
 use Rattle.sarif_model.specs.declared.message.Message.{Message}
 use Rattle.sarif_model.specs.declared.place.Place.{Place}
 use Rattle.sarif_model.specs.declared.record.Record.{Record}
+use Rattle.sarif_runs.specs.declared.parts.Parts.{Parts}
 use Rattle.sarif_model.specs.Guid.{guid_of_text}
 use Rattle.sarif_runs.specs.Fingerprints.{pairs_among, pairs_of, pairs_at}
 use Rattle.sarif_model.specs.Members.{◌>>=◌, result_map, of_kind, or_wrong, unless_null, member_at, text_at, object_at, elements, first_of, if_object, are_objects, elements_of, elements_at, if_objects, objects_at, read_each, itself_if_object, if_there}
@@ -114,7 +115,7 @@ pairs_back : (ps : List (List ℕ × List ℕ)) → (of_kind BadFingerprint as_o
 pairs_back [] = refl
 pairs_back (p ∷ ps) = pairs_each (p ∷ ps)
 
-items_back : (ds : List Data) → elements (items_of ds) ≡ ds
+pub items_back : (ds : List Data) → elements (items_of ds) ≡ ds
 items_back [] = refl
 items_back (d ∷ ds) = ap (λ l. d ∷ l) (items_back ds)
 

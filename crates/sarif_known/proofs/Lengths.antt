@@ -1,5 +1,5 @@
 -- How long a text of tokens is at least.
-use Rattle.std.proofs.Common.{◌≡◌, ℕ, zero, suc, ◌+◌, ◌≤◌, ◌/◌, ◌%◌, nat_lt, Bool, true, false, cond, List, [], ◌∷◌, ◌++◌, length, fold, refl, sym, ap, ◌∙◌, subst, arith, append_assoc, append-nil, length-append}
+use Rattle.std.proofs.Common.{◌≡◌, ℕ, zero, suc, ◌+◌, ◌≤◌, ◌<◌, ◌/◌, ◌%◌, nat_lt, Bool, true, false, cond, List, [], ◌∷◌, ◌++◌, length, fold, refl, sym, ap, ◌∙◌, subst, arith, append_assoc, append-nil, length-append}
 use Rattle.std.specs.Char.{digit_char}
 use Rattle.json.specs.Token.{Token}
 use Rattle.json.specs.Print.{escape, escape_byte, escape_letter, quoted, token_text}
@@ -68,3 +68,9 @@ front_is_shorter ts us =
     let split : length (pretty (ts ++ us)) ≡ length (pretty ts) + length (pretty_from (fold step (nothing, 0) ts) us) =
         ap length (pretty_from-append (nothing, 0) ts us) ∙ length-append (pretty ts) (pretty_from (fold step (nothing, 0) ts) us) in
     omega (arith, split)
+
+-- what is too long as a front is too long
+pub longer : (n : ℕ) (front rest whole : List Token) → front ++ rest ≡ whole → n < length (pretty front) → n < length (pretty whole)
+longer n front rest whole is long =
+    let front_is = front_is_shorter front rest in
+    subst (λ ts. n < length (pretty ts)) is (omega (arith, front_is, long))

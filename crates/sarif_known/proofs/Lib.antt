@@ -1,8 +1,10 @@
 pub mod GuidFits
 pub mod KnownParts
 pub mod Lengths
+pub mod Lost
 pub mod Newline
 pub mod RecordBack
 pub mod Rising
 pub mod Rows
+pub mod RunsAdded
 pub mod TokensOf

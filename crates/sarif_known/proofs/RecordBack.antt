@@ -74,5 +74,5 @@ number_for n r = option_map (λ _. n) (base_alone r)
 pub record_back : (bases : List (List ℕ)) (n : ℕ) (r : Record) → IsReadable r → HasArtifact bases n (base_alone r)
     → record_by (known_head bases) r.tool (known_parts r (number_for n r)) ≡ Ok r
 unfolding record_by
-pub record_back bases n r readable there =
+record_back bases n r readable there =
     rw (no_descriptor (id_read r.rule_id), place_back bases n r.place.uri r.place.base there, level_back r.kind r.level readable.level, id_back r.rule_id) refl

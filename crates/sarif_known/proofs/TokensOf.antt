@@ -9,7 +9,10 @@ use Rattle.serde_json.specs.View.{items_of}
 use Rattle.serde_json.specs.Written.{outline, items_outline, members_outline}
 use Rattle.sarif_model.specs.declared.record.Record.{Record}
 use Rattle.sarif_known.specs.KnownResult.{Row, guid_text, kind_unless_fail, level_if_fail, locations_for, message_rows, one_location, suppression_for, unless_empty, uri_rows, members_from, object_from, text_members, texts_if_any, list_if_any, result_rows, known_result}
-use Rattle.sarif_known.specs.Tokens.{data_tokens, value_tokens, rows_then, pairs_tokens, each_tokens, first_tokens, last_tokens, opened, closed}
+use Rattle.sarif_known.specs.Chosen.{Chosen}
+use Rattle.sarif_known.specs.KnownLog.{known_log}
+use Rattle.sarif_known.specs.KnownRun.{artifact_at, base_alone, bases_alone, known_run, next_number, results_from, run_rows, tool_named}
+use Rattle.sarif_known.specs.Tokens.{data_tokens, value_tokens, rows_then, pairs_tokens, each_tokens, first_tokens, last_tokens, opened, closed, run_opening, run_closing, log_opening, log_closing}
 
 -- what is added in turn is added together
 pub two : (o a b : List Token) (o1 o2 : List Token) → o1 ≡ o ++ a → o2 ≡ o1 ++ b → o2 ≡ o ++ (a ++ b)
@@ -90,3 +93,37 @@ pub uri_tokens : (uri : List ℕ) (base : Option (List ℕ))
 uri_tokens uri base =
     ap (λ ts. opened ++ (((ts ++ end_object ∷ []) ++ end_object ∷ []) ++ end_array ∷ [])) (rows_are (uri_rows uri base))
     ∙ ap (λ ts. opened ++ ts) (ending (value_tokens (codes "uri") (Some (text_data uri))) (value_tokens (codes "uriBaseId") (option_map text_data base)) (end_object ∷ []) (end_array ∷ []))
+
+-- ---- runs
+
+-- one result more
+pub step_results : (o p w : List Token) (n : ℕ) (r : Record) (rs : List Record) (artifact : Option ℕ) → artifact ≡ option_map (λ _. n) (base_alone r) → p ≡ o ++ data_tokens (known_result r artifact)
+    → o ++ each_tokens (results_from n (r ∷ rs)) ≡ w → p ++ each_tokens (results_from (next_number n (base_alone r)) rs) ≡ w
+step_results o p w n r rs artifact which added so_far =
+    let rest : List Token = each_tokens (results_from (next_number n (base_alone r)) rs) in
+    ap (λ l. l ++ rest) added
+    ∙ append_assoc o (data_tokens (known_result r artifact)) rest
+    ∙ ap (λ a. o ++ (data_tokens (known_result r a) ++ rest)) which
+    ∙ so_far
+
+-- the tokens of a run are those of its opening, its results and its closing
+pub run_tokens : (run : Chosen)
+    → data_tokens (known_run run) ≡ run_opening run.records ++ (each_tokens (results_from 0 run.records) ++ run_closing run.tool)
+run_tokens run =
+    let artifacts : List Token = value_tokens (codes "artifacts") (list_if_any (map artifact_at (bases_alone run.records))) in
+    let tool : List Token = value_tokens (codes "tool") (Some (tool_named run.tool)) in
+    let results : List Token = each_tokens (results_from 0 run.records) in
+    object_tokens (run_rows run)
+    ∙ ap (λ ts. begin_object ∷ (artifacts ++ (key (codes "results") ∷ (ts ++ (tool ++ end_object ∷ []))))) (array_tokens (results_from 0 run.records))
+    ∙ grouped artifacts results (end_array ∷ []) (tool ++ end_object ∷ [])
+  where
+    grouped : (a r e t : List Token) → begin_object ∷ (a ++ (key (codes "results") ∷ ((begin_array ∷ (r ++ e)) ++ t))) ≡ (begin_object ∷ (a ++ key (codes "results") ∷ begin_array ∷ [])) ++ (r ++ (e ++ t))
+    grouped a r e t = simp append_assoc
+
+-- the same of the log
+pub log_tokens : (runs : List Chosen) → data_tokens (known_log runs) ≡ log_opening ++ (each_tokens (map known_run runs) ++ log_closing)
+log_tokens runs =
+    let each : List Token = each_tokens (map known_run runs) in
+    let version : List Token = value_tokens (codes "version") (Some (text_data (codes "2.1.0"))) in
+    ap (λ ts. begin_object ∷ (key (codes "runs") ∷ (ts ++ (version ++ end_object ∷ [])))) (array_tokens (map known_run runs))
+    ∙ ap (λ ts. begin_object ∷ (key (codes "runs") ∷ (begin_array ∷ ts))) (append_assoc each (end_array ∷ []) (version ++ end_object ∷ []))

@@ -88,8 +88,9 @@ fn list_unmatched<'a>(
     taken: &[bool],
 ) -> Result<Vec<&'a Record>, AllocError>
     requires { length taken.now ≡ length records.now }
-    ensures { IfOk result
+    ensures unmatched { IfOk result
         (λ list. map (λ r. r.now) list.items ≡ unmatched_of records.now taken.now) }
+    ensures few { IfOk result (λ list. length list.items ≤ length records.now) }
 {
     let mut list = Vec::new(alloc);
     for (at, found) in records.iter().enumerate() {

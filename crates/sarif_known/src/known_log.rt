@@ -26,7 +26,9 @@ fn push_runs(out: &mut Lines, runs: &[KnownRun<'_>]) -> Result<(), MergeFault>
         (IsLost (pretty (out.old ++ each_tokens (map known_run (all_chosen runs.now))))) }
 {
     for run in runs {
-        push_run(out, run)?;
+        if let Err(fault) = push_run(out, run) {
+            return Err(fault);
+        }
     }
     Ok(())
 }
@@ -59,7 +61,9 @@ fn log_text(alloc: Global, runs: &[KnownRun<'_>]) -> Result<String, MergeFault>
 {
     let mut out = Lines::new(alloc);
     open_log(&mut out)?;
-    push_runs(&mut out, runs)?;
+    if let Err(fault) = push_runs(&mut out, runs) {
+        return Err(fault);
+    }
     close_log(&mut out)?;
     let text = out.into_text()?;
     Ok(text)

@@ -193,7 +193,9 @@ pub(crate) fn push_run(out: &mut Lines, run: &KnownRun<'_>) -> Result<(), MergeF
         (IsLost (pretty (out.old ++ data_tokens (known_run (chosen_of run.now))))) }
 {
     open_run(out, &run.records)?;
-    push_results(out, &run.records)?;
+    if let Err(fault) = push_results(out, &run.records) {
+        return Err(fault);
+    }
     close_run(out, run.tool)?;
     Ok(())
 }

@@ -54,7 +54,7 @@ pub(crate) fn order_runs<'a>(
     baseline: Vec<KnownRun<'a>>,
 ) -> Result<Vec<KnownRun<'a>>, AllocError>
     ensures { IfOk result (λ runs. all_chosen runs.items
-        ≡ known_runs (all_chosen current.items) (all_chosen baseline.items)) }
+        ≡ known_runs (all_chosen current.entry.items) (all_chosen baseline.entry.items)) }
 {
     let mut groups = IndexMap::with_hasher(alloc, seed);
     add_tools(alloc, &mut groups, &baseline)?;
