@@ -159,7 +159,7 @@ module _ (r : Record) (artifact : Option ℕ) where
   at_message : (q : List ℕ) → get_member q (members_from (message_rows r.message)) ≡ found q (message_rows r.message)
   at_message q = get_row q (message_rows r.message) refl
 
-  present_is : check_present (known_result r artifact) ≡ Ok tt
+  pub present_is : check_present (known_result r artifact) ≡ Ok tt
   present_is = rw (at (codes "baselineState")) refl
 
   kind_is : own_kind (known_result r artifact) ≡ Ok r.kind

@@ -1,10 +1,13 @@
 pub mod GuidFits
 pub mod KnownParts
+pub mod KnownPlain
 pub mod Lengths
 pub mod Lost
 pub mod Newline
+pub mod Plain
 pub mod RecordBack
 pub mod Rising
 pub mod Rows
+pub mod RunBack
 pub mod RunsAdded
 pub mod TokensOf

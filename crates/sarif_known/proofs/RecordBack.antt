@@ -54,7 +54,7 @@ id_back [] = refl
 id_back (b ∷ bs) = refl
 
 -- the artifact of a base alone is there
-abbrev HasArtifact : List (List ℕ) → ℕ → Option (List ℕ) → Type 0
+abbrev pub HasArtifact : List (List ℕ) → ℕ → Option (List ℕ) → Type 0
 HasArtifact bases n o = IfSome o (λ base. slice_get (map base_place bases) n ≡ Some (base_place base))
 
 place_back : (bases : List (List ℕ)) (n : ℕ) (uri base : Option (List ℕ)) → HasArtifact bases n (base_without uri base)
@@ -68,7 +68,7 @@ no_descriptor : (o : Option (List ℕ)) → descriptor_of ([] ∷ []) (record { 
 no_descriptor None = refl
 no_descriptor (Some id) = refl
 
-abbrev number_for : ℕ → Record → Option ℕ
+abbrev pub number_for : ℕ → Record → Option ℕ
 number_for n r = option_map (λ _. n) (base_alone r)
 
 pub record_back : (bases : List (List ℕ)) (n : ℕ) (r : Record) → IsReadable r → HasArtifact bases n (base_alone r)
