@@ -142,6 +142,10 @@ record_from v head tool seq d parts r opened named here read by =
     ∙ ap (λ t. record_by head t parts) named
     ∙ by
 
+pub count_is : (n : ℕ) (rs : List Record) → length (results_from n rs) ≡ length rs
+count_is n [] = refl
+count_is n (r ∷ rs) = ap suc (count_is (next_number n (base_alone r)) rs)
+
 module _ (run : Chosen) (p : Placed) (is_run : p.run ≡ known_run run) where
   one_item : (seq n : ℕ) (r : Record) → result_at p.run seq ≡ known_result r (number_for n r) → IsOfTool run.tool r → HasArtifact (bases_alone run.records) n (base_alone r) → n < 2 ^ 32 → item_of p seq ≡ Sound r
   one_item seq n r here of_tool there small =
@@ -168,10 +172,6 @@ module _ (run : Chosen) (p : Placed) (is_run : p.run ≡ known_run run) where
           (results ∙ sym (append_assoc before (d ∷ []) (results_from (next_number (length earlier) (base_alone r)) rs)) ∙ ap (λ n. (before ++ d ∷ []) ++ results_from n rs) (sym more.2))
           (bases ∙ sym more.1) all.1 (rw more.2 (next_small (length earlier) (base_alone r) (length rs) few)) in
       (λ i. first i ∷ map (item_of p) (range_with_len (next i) (length rs))) ∙ ap (λ l. Sound r ∷ l) rest
-
-  count_is : (n : ℕ) (rs : List Record) → length (results_from n rs) ≡ length rs
-  count_is n [] = refl
-  count_is n (r ∷ rs) = ap suc (count_is (next_number n (base_alone r)) rs)
 
   -- its items are its records
   pub items_are : AllByRecursion (IsOfTool run.tool) run.records → length run.records ≤ most_results → all_items p ≡ map Sound run.records

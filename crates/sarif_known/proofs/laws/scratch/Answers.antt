@@ -6,6 +6,7 @@ use Rattle.sarif_known.proofs.Rising.{rises}
 use Rattle.sarif_known.proofs.Plain.{plain_read, plain_stripped}
 use Rattle.sarif_known.proofs.KnownPlain.{log_plain}
 use Rattle.sarif_known.proofs.RunBack.{known_again}
+use Rattle.sarif_known.proofs.LogBack.{log_back, text_read}
 use Rattle.sarif_known.proofs.laws.scratch.Goals as goal
 
 pub returns : goal.returns
