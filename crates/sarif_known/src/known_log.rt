@@ -1,12 +1,16 @@
 //! The known log as a text.
-ghost use Rattle.std.specs.Prelude.{◌≡◌, ◌≤◌, ◌++◌, length, map, IfOk, IfErr, OnOk, string_bytes};
+ghost use Rattle.std.specs.Prelude.{◌≡◌, ◌≤◌, Some, ◌++◌, length, map, IfOk, IfErr, OnOk, string_bytes};
 ghost use Rattle.json.specs.Layout.{pretty};
+ghost use Rattle.json.specs.Lex.{tokens};
+ghost use Rattle.json_parts.specs.Indexed.{json_of};
+ghost use Rattle.json_parts.specs.Mark.{without_mark};
 ghost use Rattle.sarif_model.specs.Limits.{most_bytes};
 ghost use Rattle.sarif_known.specs.Chosen.{all_chosen};
 ghost use Rattle.sarif_known.specs.KnownLog.{known_text as text_of, pretty_text, known_log, IsLost};
 ghost use Rattle.sarif_known.specs.KnownRun.{known_run};
+ghost use Rattle.sarif_known.specs.Laws.{CanBeRead};
 ghost use Rattle.sarif_known.specs.Order.{known_runs};
-ghost use Rattle.sarif_known.specs.Tokens.{each_tokens, log_closing, log_opening};
+ghost use Rattle.sarif_known.specs.Tokens.{data_tokens, each_tokens, log_closing, log_opening};
 
 use crate::chosen::KnownRun;
 use crate::known_run::{push_run, too_long};
@@ -57,6 +61,8 @@ fn close_log(out: &mut Lines) -> Result<(), AllocError>
 fn log_text(alloc: Global, runs: &[KnownRun<'_>]) -> Result<String, MergeFault>
     ensures text { IfOk result
         (λ text. string_bytes text ≡ pretty_text (known_log (all_chosen runs.now))) }
+    ensures tokens { IfOk result
+        (λ text. tokens (string_bytes text) ≡ data_tokens (known_log (all_chosen runs.now))) }
     ensures lost { IfErr result (IsLost (pretty_text (known_log (all_chosen runs.now)))) }
 {
     let mut out = Lines::new(alloc);
@@ -72,7 +78,8 @@ fn log_text(alloc: Global, runs: &[KnownRun<'_>]) -> Result<String, MergeFault>
 /// Returns the text of the known log with those of these runs that have results: the tools in the order of their
 /// first runs among those of the baselines and then of the inputs; of a tool its input runs, and then its baseline
 /// runs. The table of tools hashes with `seed`, on which no byte depends. Returns `TooLong` if the text has more
-/// than `MOST_BYTES` bytes, so that it could not be read again, and OutOfMemory if memory runs out.
+/// than `MOST_BYTES` bytes, so that it could not be read again, and OutOfMemory if memory runs out. If the records
+/// are those of results that were read, the text is read as the known log.
 pub fn known_text(
     alloc: Global,
     seed: RandomState,
@@ -81,6 +88,10 @@ pub fn known_text(
 ) -> Result<String, MergeFault>
     ensures text { IfOk result (λ text. string_bytes text
         ≡ text_of (known_runs (all_chosen current.entry.items) (all_chosen baseline.entry.items))) }
+    ensures reads { IfOk result (λ text.
+        CanBeRead (known_runs (all_chosen current.entry.items) (all_chosen baseline.entry.items))
+        → json_of (without_mark (string_bytes text)) ≡ Some (known_log
+        (known_runs (all_chosen current.entry.items) (all_chosen baseline.entry.items)))) }
     ensures short { IfOk result (λ text. length (string_bytes text) ≤ most_bytes) }
     ensures lost { IfErr result (IsLost
         (text_of (known_runs (all_chosen current.entry.items) (all_chosen baseline.entry.items)))) }

@@ -15,4 +15,4 @@ mod order;
 pub use choosing::{Choice, Results, keep_run, know_run};
 pub use chosen::KnownRun;
 pub use known_log::known_text;
-pub use laws::scratch;
+pub use laws::what_is_known_is_read_again;

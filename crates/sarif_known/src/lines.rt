@@ -1,6 +1,7 @@
 //! The text of JSON, a token at a time, with a line for each item and member.
 ghost use Rattle.std.specs.Prelude.{◌≡◌, ◌≤◌, ◌<◌, ◌++◌, ◌∷◌, [], length, true, IfOk, OnOk, string_bytes};
 ghost use Rattle.json.specs.Layout.{pretty};
+ghost use Rattle.json.specs.Lex.{tokens};
 ghost use Rattle.json.specs.Print.{token_text, IsPrintable};
 ghost use Rattle.json.specs.Reads.{token_of};
 ghost use Rattle.sarif_model.specs.Limits.{most_bytes};
@@ -77,7 +78,8 @@ impl Lines {
 
     /// The text.
     pub(crate) fn into_text(self) -> Result<String, AllocError>
-        ensures { IfOk result (λ text. string_bytes text ≡ pretty self) }
+        ensures text { IfOk result (λ text. string_bytes text ≡ pretty self) }
+        ensures tokens { IfOk result (λ text. tokens (string_bytes text) ≡ self) }
     {
         match String::from_utf8(self.out.into_inner()) {
             Ok(text) => Ok(text),

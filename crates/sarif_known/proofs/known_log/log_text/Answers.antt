@@ -11,5 +11,10 @@ returns-in-Err-clause-lost c =
 
 pub returns-clause-text : goal.returns-clause-text
 returns-clause-text c =
-    c.in_ok-text.ensures
+    c.in_ok-text.ensures.text
     ∙ ap pretty (log_made c.open_log.new.out c.push_runs.new.out c.close_log.new.out (all_chosen c.args.runs.now) (c.in_ok-open_log.ensures ∙ ap (λ ts. ts ++ log_opening) c.new-out.ensures) c.in_default.ensures.added c.in_ok-close_log.ensures)
+
+pub returns-clause-tokens : goal.returns-clause-tokens
+returns-clause-tokens c =
+    c.in_ok-text.ensures.tokens
+    ∙ log_made c.open_log.new.out c.push_runs.new.out c.close_log.new.out (all_chosen c.args.runs.now) (c.in_ok-open_log.ensures ∙ ap (λ ts. ts ++ log_opening) c.new-out.ensures) c.in_default.ensures.added c.in_ok-close_log.ensures
