@@ -52,7 +52,12 @@ fn all_of<'a>(alloc: Global, runs: &'a [ReadRun]) -> Result<Vec<KnownRun<'a>>, F
 fn known(alloc: Global, seed: RandomState, log: &str, baseline: &str) -> Result<String, Fail> {
     let current = read_runs(alloc, seed, log)?;
     let before = read_runs(alloc, seed, baseline)?;
-    let text = known_text(alloc, seed, all_of(alloc, &current)?, all_of(alloc, &before)?)?;
+    let text = known_text(
+        alloc,
+        seed,
+        all_of(alloc, &current)?,
+        all_of(alloc, &before)?,
+    )?;
     Ok(text)
 }
 
