@@ -1,8 +1,8 @@
 //! The log of nothing, worked by hand.
 ghost use Rattle.std.specs.Prelude.{◌≡◌, []};
 
-use sarif_counts::{Checks, Options, Policy, Verdict};
-use sarif_log::{Asked, Life, Merged, assemble, prepare};
+use sarif_counts::{Checks, Life, Options, Policy, Verdict};
+use sarif_log::{Asked, Merged, assemble, prepare};
 use sarif_model::{Level, State};
 use sarif_results::Judged;
 use sarif_suppress::Suppressions;

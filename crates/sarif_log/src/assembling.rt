@@ -8,11 +8,10 @@ ghost use Rattle.sarif_log.specs.Assembled.{IsMergedBy};
 ghost use Rattle.sarif_log.specs.Prepared.{IsPrepared};
 
 use crate::facts::Facts;
-use crate::life::Life;
 use crate::merged::Merged;
 use crate::prepared::Prepared;
 use crate::written::write_log;
-use sarif_counts::Options;
+use sarif_counts::{Life, Options};
 use std::alloc::{AllocError, Global};
 use std::thread::Threads;
 

@@ -1,6 +1,5 @@
 //! What outputs besides the log are made of.
-use crate::life::Life;
-use sarif_counts::Counts;
+use sarif_counts::{Counts, Life};
 use sarif_findings::Finding;
 
 /// What is known of a merge before the text of its log is made: what its other outputs are made of.

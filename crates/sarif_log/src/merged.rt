@@ -1,6 +1,5 @@
 //! What a merge gives.
-use crate::life::Life;
-use sarif_counts::{Counts, Verdict};
+use sarif_counts::{Counts, Life, Verdict};
 use sarif_findings::Finding;
 use sarif_model::Text;
 

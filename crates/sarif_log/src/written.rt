@@ -11,11 +11,10 @@ ghost use Rattle.sarif_log.specs.Written.{AreWritten};
 
 use crate::counting::count_sides;
 use crate::facts::Facts;
-use crate::life::Life;
 use crate::merged::Merged;
 use crate::merged_text::{Side, log_text};
 use crate::prepared::Prepared;
-use sarif_counts::{Options, gate_value, verdict};
+use sarif_counts::{Life, Options, gate_value, verdict};
 use sarif_model::Text;
 use serde_json::Value;
 use std::alloc::{AllocError, Global};

@@ -4,7 +4,7 @@ use Rattle.sarif_counts.specs.declared.policy.Policy.{Policy}
 use Rattle.sarif_counts.specs.declared.upkeep.Upkeep.{Upkeep}
 use Rattle.sarif_model.specs.declared.merge_fault.MergeFault.{MergeFault}
 use Rattle.sarif_log.specs.declared.asked.Asked.{Asked}
-use Rattle.sarif_log.specs.declared.life.Life.{Life}
+use Rattle.sarif_counts.specs.declared.life.Life.{Life}
 use Rattle.sarif_model.specs.FirstFault.{IsWanting}
 use Rattle.sarif_inputs.specs.Faults.{faults_of, first_fault}
 use Rattle.sarif_inputs.specs.Inputs.{Inputs}

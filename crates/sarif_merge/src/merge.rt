@@ -18,10 +18,10 @@ ghost use Rattle.sarif_model.specs.Limits.{most_sources};
 
 use crate::preparing::{make_scratches, prepare_few};
 use json::Scratch;
-use sarif_counts::Options;
+use sarif_counts::{Life, Options};
 use sarif_gather::Gate;
 use sarif_inputs::check_numbers;
-use sarif_log::{Asked, Facts, Life, Merged, Prepared, assemble};
+use sarif_log::{Asked, Facts, Merged, Prepared, assemble};
 use sarif_model::MergeFault;
 use sarif_streams::SourceBytes;
 use std::alloc::{AllocError, Global};

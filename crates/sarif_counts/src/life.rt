@@ -1,4 +1,6 @@
 //! What a merge gives for later merges, besides its log.
+ghost use Rattle.std.specs.Prelude.{◌≡◌, None};
+
 use sarif_model::Text;
 
 /// A new suppression file.
