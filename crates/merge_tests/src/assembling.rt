@@ -1,7 +1,7 @@
 //! The log of nothing, worked by hand.
 ghost use Rattle.std.specs.Prelude.{◌≡◌, []};
 
-use sarif_counts::{Checks, Options, Policy, Verdict};
+use sarif_counts::{Checks, Life, Options, Policy, Verdict};
 use sarif_log::{Asked, Merged, assemble, prepare};
 use sarif_model::{Level, State};
 use sarif_results::Judged;
@@ -39,9 +39,10 @@ fn merge_nothing<R: Threads + Sync>(
     let asked = Asked {
         options,
         reporting: None,
+        upkeep: None,
     };
     let prepared = prepare(rt, alloc, no_runs(alloc), no_runs(alloc), file, &asked)?;
-    let (merged, ()) = assemble(rt, alloc, prepared, options, |_, _| Ok(()))?;
+    let (merged, ()) = assemble(rt, alloc, prepared, options, Life::none(), |_| Ok(()))?;
     Ok(merged)
 }
 

@@ -5,6 +5,7 @@ mod asked;
 mod assembling;
 mod baselines;
 mod counting;
+mod facts;
 mod halves;
 mod laws;
 mod left;
@@ -26,6 +27,7 @@ mod written;
 
 pub use asked::Asked;
 pub use assembling::assemble;
+pub use facts::Facts;
 pub use laws::suppressed_results_are_counted_as_suppressed;
 pub use leftover::Leftover;
 pub use leftovers::{draft_leftovers, list_leftovers};

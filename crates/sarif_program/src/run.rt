@@ -24,10 +24,10 @@ use crate::complaint::Complaints;
 use crate::ending::{accept, refuse};
 use crate::telling::{Texts, texts_of};
 use crate::writers::Writers;
-use sarif_counts::{Counts, Options};
-use sarif_findings::{Finding, Reporting};
+use sarif_counts::Options;
+use sarif_findings::Reporting;
 use sarif_gather::NoGate;
-use sarif_log::{Asked, Merged};
+use sarif_log::{Asked, Facts, Merged};
 use sarif_merge::merge_readers;
 use sarif_model::{MergeFault, Text};
 use sarif_request::{Request, Wanted};
@@ -54,13 +54,14 @@ fn reporting_of<W>(
     Ok(Some(Reporting { policy, root }))
 }
 
+#[tactic(auto, using(sarif_merge::proofs::Alone::merged_alone, sarif_merge::proofs::Alone::refused_alone))]
 /// Merges what the readers return, with findings if they are requested, and returns what `tell` computes.
 fn merge_told<
     'o,
     R: Read,
     T: Threads + Wait + Sync,
     B: Drop,
-    Tell: FnOnce(&Counts, &Vec<Finding>) -> Result<B, AllocError>,
+    Tell: FnOnce(&Facts<'_>) -> Result<B, AllocError>,
 >(
     rt: &T,
     alloc: Global,
@@ -75,8 +76,7 @@ fn merge_told<
     requires tells { Tell.IsAlwaysCallable tell }
     ensures merged { IfOk result (λ all. IsMergedFrom R.remaining readers.old readers.new
         options.now.today options.now.policy made.now all.0) }
-    ensures told { IfOk result (λ all. IsMadeBy Tell.FnOnce tell
-        all.0.counts all.0.findings (Ok all.1)) }
+    ensures told { IfOk result (λ all. IsMadeBy Tell.FnOnce tell all.0 (Ok all.1)) }
     ensures refused { IfErr result
         (IsRefused R.remaining readers.old readers.new options.now.today) }
     ensures read_failed { RisesIf (read_failed_in result)
@@ -85,7 +85,11 @@ fn merge_told<
     ensures unwritten { write_failed_in result ≡ false }
 {
     let reporting = made.as_ref();
-    let asked = Asked { options, reporting };
+    let asked = Asked {
+        options,
+        reporting,
+        upkeep: None,
+    };
     merge_readers(rt, alloc, readers, &asked, &NoGate, tell)
 }
 
@@ -116,12 +120,12 @@ fn merge_for<R: Read, W, T: Threads + Wait + Sync>(
     ensures unwritten { write_failed_in result ≡ false }
 {
     let made = reporting_of(alloc, request, writers)?;
-    let tell = move |counts: &Counts, findings: &Vec<Finding>| -> Result<Texts, AllocError>
+    let tell = move |facts: &Facts<'_>| -> Result<Texts, AllocError>
         ensures summary { IfOk result (λ texts. texts.summary
-            ≡ summary_of (count_at counts.now) «request».entry.now.options.policy) }
+            ≡ summary_of (count_at facts.now.counts.now) «request».entry.now.options.policy) }
         ensures reports { IfOk result (λ texts. texts.reports.items ≡ texts_for writers.entry.now
-            (report_with «request».entry.now counts.now findings.now)) }
-    { texts_of(rt, alloc, counts, findings, request, writers) };
+            (report_with «request».entry.now facts.now.counts.now facts.now.findings.now)) }
+    { texts_of(rt, alloc, facts.counts, facts.findings, request, writers) };
     merge_told(rt, alloc, &request.options, &made, readers, tell)
 }
 

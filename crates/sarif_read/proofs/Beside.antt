@@ -1,12 +1,15 @@
 -- The other members are unchanged if a member is left out.
 use Rattle.std.proofs.Common.{◌≡◌, ℕ, List, true, false, refl, true≢false, sym, ap, ◌∙◌, codes, bytes_eq, is_some, unwrap_or, option_map, option_and_then}
 use Rattle.std.proofs.lemmas.Slice.Eq.{bytes_eq-Decides}
+use Rattle.std.specs.List.{list_any}
 use Rattle.serde_json.specs.Data.{Data}
-use Rattle.serde_json.specs.Find.{get, as_str}
+use Rattle.serde_json.specs.Find.{get, as_str, as_array}
 use Rattle.json_parts.proofs.Stripped.{get-without_other}
 use Rattle.sarif_read.specs.Bare.{without_member, bare}
 use Rattle.sarif_model.specs.Members.{unless_null, member_at}
 use Rattle.sarif_model.specs.Driver.{driver_name}
+use Rattle.sarif_model.specs.Run.{elements_or_none}
+use Rattle.sarif_read.specs.Failed.{is_unsuccessful, invocations_in}
 use Rattle.sarif_read.specs.Reading.{check_tool, check_external, unless_fault, is_empty_object}
 use Rattle.sarif_model.specs.declared.fault.Fault.TheVariants.{BadRun, ExternalProperties}
 
@@ -32,3 +35,7 @@ pub bare_check_external : (run : Data) → check_external (bare run) ≡ check_e
 bare_check_external run =
     ap (λ files. unless_fault (unwrap_or (option_map is_empty_object files) true) ExternalProperties)
     (bare_member (codes "externalPropertyFileReferences") run refl)
+
+pub bare_unsuccessful : (run : Data) → list_any is_unsuccessful (invocations_in (bare run)) ≡ list_any is_unsuccessful (invocations_in run)
+bare_unsuccessful run =
+    ap (λ found. list_any is_unsuccessful (elements_or_none (option_and_then as_array found))) (bare_get (codes "invocations") run refl)

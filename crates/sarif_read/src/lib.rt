@@ -12,6 +12,7 @@ mod nodes;
 mod picking;
 mod read_fault;
 mod reading;
+mod success;
 mod whole;
 
 pub use absent::is_marked_absent;

@@ -53,6 +53,7 @@ impl<'t, 'a> OpenedRun<'t, 'a> {
     ghost use Rattle.sarif_runs.specs.Judging.{opening_fault};
     ghost use Rattle.sarif_runs.specs.Opened.{placed_of};
     ghost use Rattle.sarif_read.specs.Bare.{bare};
+    ghost use Rattle.sarif_read.specs.Failed.{failed};
     ghost use Rattle.sarif_read.specs.Picked.{picked};
     ghost use Rattle.sarif_model.specs.Run.{result_at, results_array, results_of};
 
@@ -105,6 +106,15 @@ impl<'t, 'a> OpenedRun<'t, 'a> {
         ensures { result ≡ is_some (results_array (placed_of self.now).run) }
     {
         self.run.has_results()
+    }
+
+    /// Whether the analysis of the run failed: an invocation has an `executionSuccessful` that is false, or the run
+    /// has no results (SARIF 2.1.0, invocation object, "executionSuccessful property"; run object, "results
+    /// property").
+    pub fn has_failed(&self) -> bool
+        ensures { result ≡ failed (placed_of self.now).run }
+    {
+        self.run.has_failed()
     }
 
     /// The run without its results.
