@@ -1,13 +1,15 @@
 //! The worked examples of the reports.
 use sarif_counts::{Counts, Policy};
 use sarif_findings::{Finding, Reporting, reported, shown};
-use sarif_model::{Level, State, Text};
+use sarif_model::{Level, Sequence, State, Text};
 use sarif_reports::{
     Report, Told, github_report, gitlab_report, html_report, markdown_report, report_text,
     text_report,
 };
 use serde_json::Value;
 use std::alloc::{AllocError, AllocGlobal, Global};
+use std::hash::RandomState;
+use std::random::RandomSource;
 use std::test::Fail;
 
 const LOG: &str = r#"{"properties":{},"runs":[{"results":[
@@ -86,12 +88,31 @@ const SAME_IDS: &str = r#"{"runs":[{"results":[
 
 fn findings_in<R: AllocGlobal>(rt: &R, text: &str) -> Result<Vec<Finding>, Fail> {
     let alloc = rt.alloc();
+    let mut roots = Sequence::new(alloc);
+    roots.push(Text::copy_of(alloc, "file:///b/")?)?;
     let reporting = Reporting {
         policy: Policy::default(),
-        root: Text::copy_of(alloc, "file:///b/")?,
+        roots,
     };
     let log = Value::from_str(alloc, text)?;
     Ok(reported(alloc, &reporting, &log)?)
+}
+
+/// What reports of these findings are made from, where all runs have results and all entries are used.
+fn told_of<'a, R: RandomSource>(
+    rt: &R,
+    counts: &'a Counts,
+    policy: &'a Policy,
+    findings: &'a [Finding],
+) -> Result<Told<'a>, Fail> {
+    Ok(Told {
+        counts,
+        policy,
+        findings,
+        without: 0,
+        unused: 0,
+        seed: RandomState::new(rt)?,
+    })
 }
 
 fn findings_of<R: AllocGlobal>(rt: &R) -> Result<Vec<Finding>, Fail> {
@@ -195,11 +216,7 @@ fn a_report_is_picked_by_its_name(rt: HostRuntime) -> Result<(), Fail> {
     let findings = findings_of(&rt)?;
     let counts = Counts::new();
     let policy = Policy::default();
-    let told = Told {
-        counts: &counts,
-        policy: &policy,
-        findings: findings.as_slice(),
-    };
+    let told = told_of(&rt, &counts, &policy, findings.as_slice())?;
     for (report, word, piece) in [
         (Report::Text, "text", TEXT),
         (Report::Github, "github", GITHUB),
@@ -245,7 +262,8 @@ fn the_markdown_report_has_the_verdict_the_counts_and_a_table(rt: HostRuntime) -
     counts.add(State::Unchanged, Level::Error, false);
     counts.add(State::New, Level::Note, false);
     let policy = Policy::default();
-    let text = markdown_report(alloc, &counts, &policy, findings.as_slice())?;
+    let told = told_of(&rt, &counts, &policy, findings.as_slice())?;
+    let text = markdown_report(alloc, &told)?;
     assert_eq!(rt; text.as_str(), MARKDOWN);
     Ok(())
 }
@@ -280,7 +298,9 @@ fn the_page_escapes_what_a_log_says(rt: HostRuntime) -> Result<(), Fail> {
     let mut counts = Counts::new();
     counts.add(State::New, Level::Error, false);
     counts.add(State::Updated, Level::Note, false);
-    let page = html_report(alloc, &counts, &Policy::default(), findings.as_slice())?;
+    let policy = Policy::default();
+    let told = told_of(&rt, &counts, &policy, findings.as_slice())?;
+    let page = html_report(alloc, &told)?;
     for piece in HOSTILE_ROWS {
         assert!(rt; page.contains(piece));
     }
@@ -293,7 +313,10 @@ fn the_page_escapes_what_a_log_says(rt: HostRuntime) -> Result<(), Fail> {
 #[test]
 fn a_page_without_results_has_no_table_of_them(rt: HostRuntime) -> Result<(), Fail> {
     let alloc = rt.alloc();
-    let page = html_report(alloc, &Counts::new(), &Policy::default(), &[])?;
+    let counts = Counts::new();
+    let policy = Policy::default();
+    let told = told_of(&rt, &counts, &policy, &[])?;
+    let page = html_report(alloc, &told)?;
     assert!(rt; page.starts_with("<!DOCTYPE html>"));
     assert!(rt; page.contains("Gate: pass"));
     assert!(rt; page.contains("0 hits, 0 allowed"));
@@ -326,9 +349,14 @@ fn two_hundred_results_stand_in_the_markdown_table(rt: HostRuntime) -> Result<()
     let alloc = rt.alloc();
     let policy = Policy::default();
     let others = "\n\n1 more results are in the merged log.\n";
-    let all = markdown_report(alloc, &Counts::new(), &policy, many(alloc, 200)?.as_slice())?;
+    let counts = Counts::new();
+    let findings = many(alloc, 200)?;
+    let told = told_of(&rt, &counts, &policy, findings.as_slice())?;
+    let all = markdown_report(alloc, &told)?;
     assert!(rt; !all.contains("more results"));
-    let more = markdown_report(alloc, &Counts::new(), &policy, many(alloc, 201)?.as_slice())?;
+    let findings = many(alloc, 201)?;
+    let told = told_of(&rt, &counts, &policy, findings.as_slice())?;
+    let more = markdown_report(alloc, &told)?;
     assert!(rt; more.ends_with(others));
     assert_eq!(rt; more.len(), all.len() + others.len() - 1);
     Ok(())
@@ -339,19 +367,14 @@ fn ten_thousand_results_stand_in_the_page(rt: HostRuntime) -> Result<(), Fail> {
     let alloc = rt.alloc();
     let policy = Policy::default();
     let others = "<p>1 more results are in the merged log.</p>\n";
-    let all = html_report(
-        alloc,
-        &Counts::new(),
-        &policy,
-        many(alloc, 10_000)?.as_slice(),
-    )?;
+    let counts = Counts::new();
+    let findings = many(alloc, 10_000)?;
+    let told = told_of(&rt, &counts, &policy, findings.as_slice())?;
+    let all = html_report(alloc, &told)?;
     assert!(rt; !all.contains("more results"));
-    let more = html_report(
-        alloc,
-        &Counts::new(),
-        &policy,
-        many(alloc, 10_001)?.as_slice(),
-    )?;
+    let findings = many(alloc, 10_001)?;
+    let told = told_of(&rt, &counts, &policy, findings.as_slice())?;
+    let more = html_report(alloc, &told)?;
     assert!(rt; more.contains(others));
     assert_eq!(rt; more.len(), all.len() + others.len());
     Ok(())
@@ -388,12 +411,10 @@ fn no_log_writes_a_line_a_command_or_a_cell(rt: HostRuntime) -> Result<(), Fail>
         github_report(alloc, findings.as_slice())?.as_str(),
         FORGING_GITHUB
     );
-    let markdown = markdown_report(
-        alloc,
-        &Counts::new(),
-        &Policy::default(),
-        findings.as_slice(),
-    )?;
+    let counts = Counts::new();
+    let policy = Policy::default();
+    let told = told_of(&rt, &counts, &policy, findings.as_slice())?;
+    let markdown = markdown_report(alloc, &told)?;
     assert!(rt; markdown.contains(FORGING_ROW));
     Ok(())
 }

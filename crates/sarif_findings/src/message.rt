@@ -151,7 +151,7 @@ fn argument_at<'a>(args: &'a [Value], number: u32) -> Option<&'a str>
 }
 
 /// Returns whether the string starts with this character.
-fn begins_with(rest: &str, c: char) -> bool
+pub(crate) fn begins_with(rest: &str, c: char) -> bool
     ensures { result ≡ said.first_is c (chars rest.now) }
 {
     match rest.chars().next() {

@@ -57,7 +57,7 @@ location_same a b (Some location) same =
 
 path_same : (reporting : Reporting) (a b x : Data) → AreAlike a b → path_in reporting a x ≡ path_in reporting b x
 path_same reporting a b x same =
-    ap (option_and_then (shown_path reporting.root)) (location_same a b (option_and_then (get (codes "artifactLocation")) (physical_location x)) same)
+    ap (option_and_then (shown_path reporting.roots)) (location_same a b (option_and_then (get (codes "artifactLocation")) (physical_location x)) same)
 
 -- ---- the message
 

@@ -10,6 +10,7 @@ use Rattle.sarif_counts.specs.Counts.{count_at}
 use Rattle.sarif_findings.specs.declared.finding.Finding.{Finding}
 use Rattle.sarif_reports.specs.declared.report.Report.{Report}
 use Rattle.sarif_findings.specs.declared.reporting.Reporting.{Reporting}
+use Rattle.sarif_reports.specs.Facts.{Facts}
 use Rattle.sarif_reports.specs.Report.{report_of}
 use Rattle.sarif_streams.specs.declared.counted.Counted.{Counted}
 use Rattle.sarif_streams.specs.Counted.{failed_calls, inner_of}
@@ -18,17 +19,27 @@ use Rattle.sarif_request.specs.declared.wanted.Wanted.{Wanted}
 
 -- what the reports of a request are made by
 abbrev pub reporting_of : Request → Reporting
-reporting_of request = record { policy = request.options.policy; root = request.root }
+reporting_of request = record { policy = request.options.policy; roots = request.root ∷ [] }
 
 -- the findings of a merge whose reports have these writers: none if there is no writer
 abbrev pub reporting_for : {W : Type 0} → Request → List (Wanted W) → Option Reporting
 reporting_for request [] = None
 reporting_for request (writer ∷ others) = Some (reporting_of request)
 
+-- what its reports are made from
+abbrev pub facts_with : Request → Counts → List Finding → Facts
+facts_with request counts findings = record {
+  count = count_at counts;
+  policy = request.options.policy;
+  findings = findings;
+  without = 0;
+  unused = 0;
+}
+
 -- the text of a report of a merged log with these counts and these findings
 abbrev pub report_with : Request → Counts → Vec Finding Global → Report → List ℕ
 report_with request counts findings one =
-    report_of one (count_at counts) request.options.policy findings.items
+    report_of one (facts_with request counts findings.items)
 
 -- the text of a report of a merged log
 abbrev pub report_for : Request → Merged → Report → List ℕ

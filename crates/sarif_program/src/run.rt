@@ -29,7 +29,7 @@ use sarif_findings::Reporting;
 use sarif_gather::NoGate;
 use sarif_log::{Asked, Facts, Merged};
 use sarif_merge::merge_readers;
-use sarif_model::{MergeFault, Text};
+use sarif_model::{MergeFault, Sequence};
 use sarif_request::{Request, Wanted};
 use sarif_streams::{Readers, sources_are_read_in_one_way};
 use std::alloc::{AllocError, Global};
@@ -50,8 +50,9 @@ fn reporting_of<W>(
         return Ok(None);
     }
     let policy = request.options.policy;
-    let root = Text::copy_of(alloc, request.root.as_str())?;
-    Ok(Some(Reporting { policy, root }))
+    let mut roots = Sequence::new(alloc);
+    roots.push(request.root.clone()?)?;
+    Ok(Some(Reporting { policy, roots }))
 }
 
 #[tactic(auto, using(sarif_merge::proofs::Alone::merged_alone, sarif_merge::proofs::Alone::refused_alone))]

@@ -2,6 +2,7 @@
 ghost use Rattle.std.specs.Prelude.{◌≡◌, ◌≤◌, IfOk, map};
 ghost use Rattle.sarif_counts.specs.Counts.{count_at};
 ghost use Rattle.sarif_counts.specs.Summary.{summary_of};
+ghost use Rattle.sarif_reports.specs.Facts.{facts_of};
 ghost use Rattle.sarif_reports.specs.Report.{report_of};
 ghost use Rattle.sarif_program.specs.Reports.{report_with, wanted_reports, texts_for};
 
@@ -30,8 +31,7 @@ fn text_of<T: Threads + Sync>(
     threads: u32,
 ) -> Result<Text, AllocError>
     requires { 1 ≤ threads }
-    ensures { IfOk result (λ text. text ≡ report_of report
-        (count_at told.now.counts.now) told.now.policy.now told.now.findings.now) }
+    ensures { IfOk result (λ text. text ≡ report_of report (facts_of told.now)) }
 {
     Text::from_string(report_text(rt, alloc, report, told, threads)?)
 }
@@ -46,14 +46,12 @@ fn texts_told<T: Threads + Sync>(
     threads: u32,
 ) -> Result<Vec<Text>, AllocError>
     requires { 1 ≤ threads }
-    ensures { IfOk result (λ texts. texts.items ≡ map (λ one. report_of one
-        (count_at told.now.counts.now) told.now.policy.now told.now.findings.now) reports.items) }
+    ensures { IfOk result (λ texts. texts.items
+        ≡ map (λ one. report_of one (facts_of told.now)) reports.items) }
 {
     let tell = move |report: Report| -> Result<Text, AllocError>
         requires { 1 ≤ threads }
-        ensures { IfOk result (λ text. text ≡ report_of report
-            (count_at told.entry.now.counts.now) told.entry.now.policy.now
-            told.entry.now.findings.now) }
+        ensures { IfOk result (λ text. text ≡ report_of report (facts_of told.entry.now)) }
     { text_of(rt, alloc, told, report, threads) };
     let made = thread::map_vec(rt, reports, &tell)?;
     all_made(alloc, made)
@@ -97,6 +95,9 @@ fn reports_of<W, T: Threads + Sync>(
         counts,
         policy: &request.options.policy,
         findings: findings.as_slice(),
+        without: 0,
+        unused: 0,
+        seed: request.options.seed,
     };
     let reports = wanted_reports(alloc, writers)?;
     texts_told(rt, alloc, &told, reports, request.options.workers)

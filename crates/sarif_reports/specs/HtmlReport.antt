@@ -7,7 +7,6 @@ use Rattle.sarif_model.specs.declared.kinds.State.{State}
 use Rattle.sarif_model.specs.declared.kinds.State.TheVariants.{New, Unchanged, Updated, Absent}
 use Rattle.sarif_model.specs.Level.{level_name}
 use Rattle.sarif_model.specs.State.{state_name}
-use Rattle.sarif_counts.specs.declared.policy.Policy.{Policy}
 use Rattle.sarif_counts.specs.declared.policy.Verdict.{Verdict}
 use Rattle.sarif_counts.specs.Policy.{Count, hits_of, verdict_of, verdict_name}
 use Rattle.sarif_reports.specs.CountRow.{numbers_of}
@@ -16,6 +15,7 @@ use Rattle.sarif_findings.specs.declared.finding.Finding.{Finding}
 use Rattle.sarif_reports.specs.declared.escaping.Escaping.TheVariants.{Page}
 use Rattle.sarif_findings.specs.Finding.{spot_text}
 use Rattle.sarif_reports.specs.Escaped.{escaped}
+use Rattle.sarif_reports.specs.Facts.{Facts}
 use Rattle.sarif_reports.specs.HtmlFixed.{page_begin, title_end, body_begin, counts_begin, filters, results_begin, table_end, nothing_reported, page_end}
 use Rattle.sarif_reports.specs.HtmlStyle.{style}
 
@@ -143,8 +143,8 @@ table_of findings =
 unfoldable pub results_table : List Finding → List ℕ
 results_table findings = if length findings == 0 then nothing_reported else table_of findings
 
-unfoldable pub html_of : Count → Policy → List Finding → List ℕ
-html_of count policy findings =
-    page_head (verdict_of count policy)
-    ++ (heading (verdict_of count policy) (hits_of count policy) policy.max
-    ++ (counts_table count ++ (results_table findings ++ page_end)))
+unfoldable pub html_of : Facts → List ℕ
+html_of facts =
+    page_head (verdict_of facts.count facts.policy)
+    ++ (heading (verdict_of facts.count facts.policy) (hits_of facts.count facts.policy) facts.policy.max
+    ++ (counts_table facts.count ++ (results_table facts.findings ++ page_end)))

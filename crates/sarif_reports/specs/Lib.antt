@@ -2,6 +2,7 @@ pub mod CountRow
 pub mod Escaped
 pub mod EscapedBytes
 pub mod EscapedLaws
+pub mod Facts
 pub mod GithubLaws
 pub mod GithubReport
 pub mod GitlabObjects
@@ -11,8 +12,10 @@ pub mod HtmlFixed
 pub mod HtmlLaws
 pub mod HtmlReport
 pub mod HtmlStyle
+pub mod Listed
 pub mod MarkdownLaws
 pub mod MarkdownReport
 pub mod Report
+pub mod Sentences
 pub mod TextLaws
 pub mod TextReport

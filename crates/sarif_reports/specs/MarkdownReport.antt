@@ -6,7 +6,6 @@ use Rattle.sarif_model.specs.declared.kinds.State.{State}
 use Rattle.sarif_model.specs.declared.kinds.State.TheVariants.{New, Unchanged, Updated, Absent}
 use Rattle.sarif_model.specs.Level.{level_name}
 use Rattle.sarif_model.specs.State.{state_name}
-use Rattle.sarif_counts.specs.declared.policy.Policy.{Policy}
 use Rattle.sarif_counts.specs.declared.policy.Verdict.{Verdict}
 use Rattle.sarif_counts.specs.Policy.{Count, hits_of, verdict_of, verdict_name}
 use Rattle.sarif_reports.specs.CountRow.{row_of, numbers_of}
@@ -14,6 +13,7 @@ use Rattle.sarif_findings.specs.declared.finding.Finding.{Finding}
 use Rattle.sarif_reports.specs.declared.escaping.Escaping.TheVariants.{Markdown}
 use Rattle.sarif_findings.specs.Finding.{spot_text}
 use Rattle.sarif_reports.specs.Escaped.{escaped}
+use Rattle.sarif_reports.specs.Facts.{Facts}
 
 -- a string as code, without markup; an empty string gives nothing
 abbrev pub code_of : List ℕ → List ℕ
@@ -79,7 +79,7 @@ table_of findings =
 abbrev pub results_table : List Finding → List ℕ
 results_table findings = if length findings == 0 then [] else table_of findings
 
-abbrev pub markdown_of : Count → Policy → List Finding → List ℕ
-markdown_of count policy findings =
-    heading (verdict_of count policy) (hits_of count policy) policy.max
-    ++ (counts_table count ++ results_table findings)
+abbrev pub markdown_of : Facts → List ℕ
+markdown_of facts =
+    heading (verdict_of facts.count facts.policy) (hits_of facts.count facts.policy) facts.policy.max
+    ++ (counts_table facts.count ++ results_table facts.findings)

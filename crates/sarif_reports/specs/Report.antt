@@ -1,10 +1,8 @@
 -- The reports: their order, their names and their contents.
 use Rattle.std.specs.Prelude.{ℕ, List, [], ◌∷◌, codes}
-use Rattle.sarif_counts.specs.Policy.{Count}
-use Rattle.sarif_counts.specs.declared.policy.Policy.{Policy}
-use Rattle.sarif_findings.specs.declared.finding.Finding.{Finding}
 use Rattle.sarif_reports.specs.declared.report.Report.{Report}
 use Rattle.sarif_reports.specs.declared.report.Report.TheVariants as report
+use Rattle.sarif_reports.specs.Facts.{Facts}
 use Rattle.sarif_reports.specs.TextReport.{text_lines_of}
 use Rattle.sarif_reports.specs.GithubReport.{github_of}
 use Rattle.sarif_reports.specs.MarkdownReport.{markdown_of}
@@ -24,9 +22,9 @@ report_name report.Gitlab = codes "gitlab"
 report_name report.Html = codes "html"
 
 -- the content of each
-abbrev pub report_of : Report → Count → Policy → List Finding → List ℕ
-report_of report.Text count policy findings = text_lines_of findings
-report_of report.Github count policy findings = github_of findings
-report_of report.Markdown count policy findings = markdown_of count policy findings
-report_of report.Gitlab count policy findings = gitlab_of findings
-report_of report.Html count policy findings = html_of count policy findings
+abbrev pub report_of : Report → Facts → List ℕ
+report_of report.Text facts = text_lines_of facts.findings
+report_of report.Github facts = github_of facts.findings
+report_of report.Markdown facts = markdown_of facts
+report_of report.Gitlab facts = gitlab_of facts.findings
+report_of report.Html facts = html_of facts

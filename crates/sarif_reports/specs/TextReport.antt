@@ -16,13 +16,17 @@ level_and_message finding =
 
 abbrev pub tool_and_state : Finding → List ℕ
 tool_and_state finding =
-    codes " (" ++ (finding.tool ++ (codes ", " ++ (state_name finding.state ++ codes ")\n")))
+    codes " (" ++ (finding.tool ++ (codes ", " ++ (state_name finding.state ++ codes ")")))
 
 -- PLACE: LEVEL: MESSAGE [RULE] (TOOL, STATE)
-abbrev pub text_line : Finding → List ℕ
-text_line finding =
+abbrev pub result_line : Finding → List ℕ
+result_line finding =
     spot_text finding ++ (level_and_message finding
     ++ (bracketed finding.rule ++ tool_and_state finding))
+
+-- the same, with the end of the line
+abbrev pub text_line : Finding → List ℕ
+text_line finding = result_line finding ++ codes "\n"
 
 abbrev pub text_lines_of : List Finding → List ℕ
 text_lines_of findings = flat_map text_line findings

@@ -1,6 +1,7 @@
 //! The page of a merge.
 ghost use Rattle.std.specs.Prelude.{◌≡◌, ◌++◌, IfOk, OnOk, option_map, None, take, string_bytes};
 ghost use Rattle.sarif_counts.specs.Counts.{count_at};
+ghost use Rattle.sarif_reports.specs.Facts.{facts_of};
 ghost use Rattle.sarif_reports.specs.HtmlReport as said;
 
 use crate::count_row::row_numbers;
@@ -10,7 +11,8 @@ use crate::html_fixed::{
     style, table_end, title_end,
 };
 use crate::place::push_place;
-use sarif_counts::{Counts, Policy, Verdict, hits, verdict};
+use crate::told::Told;
+use sarif_counts::{Counts, Verdict, hits, verdict};
 use sarif_findings::Finding;
 use sarif_model::{State, Text};
 use std::alloc::{AllocError, Global};
@@ -306,15 +308,15 @@ fn push_results(alloc: Global, text: &mut String, findings: &[Finding]) -> Resul
 /// Returns the page: the verdict, the counts, and a table of the first `MOST_ROWS` reported results. Returns
 /// `AllocError` if memory for it runs out.
 #[tactic(auto, unfolding(crate::specs::HtmlReport::html_of))]
-pub fn html_report(
-    alloc: Global,
-    counts: &Counts,
-    policy: &Policy,
-    findings: &[Finding],
-) -> Result<String, AllocError>
-    ensures { IfOk result (λ s. string_bytes s
-        ≡ said.html_of (count_at counts.now) policy.now findings.now) }
+pub fn html_report(alloc: Global, told: &Told<'_>) -> Result<String, AllocError>
+    ensures { IfOk result (λ s. string_bytes s ≡ said.html_of (facts_of told.now)) }
 {
+    let Told {
+        counts,
+        policy,
+        findings,
+        ..
+    } = *told;
     let verdict = verdict(counts, policy);
     let heading = heading(alloc, verdict, hits(counts, policy), policy.max)?;
     let mut text = String::new(alloc);

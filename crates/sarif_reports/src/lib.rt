@@ -9,6 +9,7 @@ mod html_fixed;
 mod html_page;
 mod identities;
 mod laws;
+mod listed;
 mod markdown_table;
 mod objects;
 mod place;
@@ -17,7 +18,9 @@ mod quoted;
 mod ranked;
 mod ranking;
 mod report;
+mod sentences;
 mod text_lines;
+mod told;
 
 pub use github_lines::github_report;
 pub use gitlab_array::gitlab_report;
@@ -29,5 +32,6 @@ pub use laws::{
     shown_texts_are_seen, text_reports_have_a_line_a_result,
 };
 pub use markdown_table::markdown_report;
-pub use report::{Report, Told, report_text};
+pub use report::{Report, report_text};
 pub use text_lines::text_report;
+pub use told::Told;

@@ -3,12 +3,14 @@ ghost use Rattle.std.specs.Prelude.{◌≡◌, ◌++◌, IfOk, OnOk, flat_map, t
 ghost use Rattle.sarif_counts.specs.Counts.{count_at};
 ghost use Rattle.sarif_findings.specs.Finding.{spot_text};
 ghost use Rattle.sarif_reports.specs.CountRow.{row_begin, row_end};
+ghost use Rattle.sarif_reports.specs.Facts.{facts_of};
 ghost use Rattle.sarif_reports.specs.MarkdownReport as said;
 
 use crate::count_row::row_numbers;
 use crate::escaping::Escaping;
 use crate::place::push_place;
-use sarif_counts::{Counts, Policy, Verdict, hits, verdict};
+use crate::told::Told;
+use sarif_counts::{Counts, Verdict, hits, verdict};
 use sarif_findings::Finding;
 use sarif_model::State;
 use std::alloc::{AllocError, Global};
@@ -210,15 +212,15 @@ fn push_results(alloc: Global, text: &mut String, findings: &[Finding]) -> Resul
 
 /// Returns the report for job summaries and comments on a change: the verdict, the counts, and a table of the
 /// first 200 reported results. Returns `AllocError` if memory for it runs out.
-pub fn markdown_report(
-    alloc: Global,
-    counts: &Counts,
-    policy: &Policy,
-    findings: &[Finding],
-) -> Result<String, AllocError>
-    ensures { IfOk result (λ s. string_bytes s
-        ≡ said.markdown_of (count_at counts.now) policy.now findings.now) }
+pub fn markdown_report(alloc: Global, told: &Told<'_>) -> Result<String, AllocError>
+    ensures { IfOk result (λ s. string_bytes s ≡ said.markdown_of (facts_of told.now)) }
 {
+    let Told {
+        counts,
+        policy,
+        findings,
+        ..
+    } = *told;
     let mut text = heading(
         alloc,
         verdict(counts, policy),

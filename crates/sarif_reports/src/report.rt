@@ -1,10 +1,9 @@
 //! The reports as rows: a variant for each report, with its name, its help and its content.
 ghost use Rattle.std.specs.Prelude.{◌≡◌, ◌≤◌, IfOk, string_bytes};
-ghost use Rattle.sarif_counts.specs.Counts.{count_at};
+ghost use Rattle.sarif_reports.specs.Facts.{facts_of};
 ghost use Rattle.sarif_reports.specs.Report.{report_name, report_of};
 
-use sarif_counts::{Counts, Policy};
-use sarif_findings::Finding;
+use crate::told::Told;
 use std::alloc::{AllocError, Global};
 use std::thread::Threads;
 
@@ -60,17 +59,6 @@ impl Report {
     }
 }
 
-/// The input of reports: the counts and the policy of the gate, and the findings.
-#[derive(Clone, Copy, Drop)]
-pub struct Told<'a> {
-    /// How many results the merged log has, by baseline state, level and suppression.
-    pub counts: &'a Counts,
-    /// The policy of the gate, which decides the hits and the verdict.
-    pub policy: &'a Policy,
-    /// The findings, in the order of the merged log.
-    pub findings: &'a [Finding],
-}
-
 /// Returns the text of a report. At most `threads` threads make it, including this one. Returns `AllocError` if
 /// memory runs out.
 pub fn report_text<R: Threads + Sync>(
@@ -81,19 +69,13 @@ pub fn report_text<R: Threads + Sync>(
     threads: u32,
 ) -> Result<String, AllocError>
     requires { 1 ≤ threads }
-    ensures { IfOk result (λ s. string_bytes s ≡ report_of report
-        (count_at told.now.counts.now) told.now.policy.now told.now.findings.now) }
+    ensures { IfOk result (λ s. string_bytes s ≡ report_of report (facts_of told.now)) }
 {
-    let Told {
-        counts,
-        policy,
-        findings,
-    } = *told;
     match report {
-        Report::Text => crate::text_report(alloc, findings),
-        Report::Github => crate::github_report(alloc, findings),
-        Report::Markdown => crate::markdown_report(alloc, counts, policy, findings),
-        Report::Gitlab => crate::gitlab_report(rt, alloc, findings, threads),
-        Report::Html => crate::html_report(alloc, counts, policy, findings),
+        Report::Text => crate::text_report(alloc, told.findings),
+        Report::Github => crate::github_report(alloc, told.findings),
+        Report::Markdown => crate::markdown_report(alloc, told),
+        Report::Gitlab => crate::gitlab_report(rt, alloc, told.findings, threads),
+        Report::Html => crate::html_report(alloc, told),
     }
 }

@@ -31,7 +31,7 @@ fn push_said(text: &mut String, finding: &Finding) -> Result<(), AllocError>
     Ok(())
 }
 
-/// Adds the tool and the state, and ends the line.
+/// Adds the tool and the state.
 fn push_source(text: &mut String, finding: &Finding) -> Result<(), AllocError>
     ensures { OnOk result
         (string_bytes text.new ≡ string_bytes text.old ++ said.tool_and_state finding.now) }
@@ -40,7 +40,23 @@ fn push_source(text: &mut String, finding: &Finding) -> Result<(), AllocError>
     text.push_str(finding.tool.as_str())?;
     text.push_str(", ")?;
     text.push_str(finding.state.name())?;
-    text.push_str(")\n")?;
+    text.push_str(")")?;
+    Ok(())
+}
+
+/// Adds the line of a result, without its end.
+pub(crate) fn push_result_line(
+    alloc: Global,
+    text: &mut String,
+    finding: &Finding,
+) -> Result<(), AllocError>
+    ensures { OnOk result
+        (string_bytes text.new ≡ string_bytes text.old ++ said.result_line finding.now) }
+{
+    push_place(alloc, text, finding)?;
+    push_said(text, finding)?;
+    push_bracketed(text, finding.rule.as_str())?;
+    push_source(text, finding)?;
     Ok(())
 }
 
@@ -49,10 +65,8 @@ fn push_line(alloc: Global, text: &mut String, finding: &Finding) -> Result<(), 
     ensures { OnOk result
         (string_bytes text.new ≡ string_bytes text.old ++ said.text_line finding.now) }
 {
-    push_place(alloc, text, finding)?;
-    push_said(text, finding)?;
-    push_bracketed(text, finding.rule.as_str())?;
-    push_source(text, finding)?;
+    push_result_line(alloc, text, finding)?;
+    text.push_str("\n")?;
     Ok(())
 }
 
