@@ -111,6 +111,7 @@ fn told_of<'a, R: RandomSource>(
         findings,
         without: 0,
         unused: 0,
+        life: None,
         seed: RandomState::new(rt)?,
     })
 }

@@ -92,7 +92,7 @@ impl Ended<'_, '_> {
         }
     }
 
-    /// Returns the explanation of a report that was not written.
+    /// Returns the explanation of another output that was not written.
     fn lost(&self, alloc: Global, report: Report) -> Result<String, AllocError> {
         let fault = MergeFault {
             at: At::Whole(Source::Output),
@@ -104,7 +104,7 @@ impl Ended<'_, '_> {
     }
 }
 
-/// Returns the destination of this report, if it is among these.
+/// Returns the destination of this output, if it is among these.
 fn destination_of<T>(report: Report, reports: &[Wanted<T>]) -> Option<&T> {
     let wanted = reports.iter().find(|wanted| wanted.report == report)?;
     Some(&wanted.to)

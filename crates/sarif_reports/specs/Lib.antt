@@ -12,6 +12,7 @@ pub mod HtmlFixed
 pub mod HtmlLaws
 pub mod HtmlReport
 pub mod HtmlStyle
+pub mod LaterOutputs
 pub mod Listed
 pub mod MarkdownLaws
 pub mod MarkdownReport

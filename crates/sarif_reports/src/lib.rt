@@ -9,6 +9,7 @@ mod html_fixed;
 mod html_page;
 mod identities;
 mod laws;
+mod later_outputs;
 mod listed;
 mod markdown_table;
 mod objects;
