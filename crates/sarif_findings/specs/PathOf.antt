@@ -4,7 +4,7 @@ use Rattle.std.specs.List.{starts_with}
 use Rattle.std.specs.Char.{is_ascii_hexdigit}
 use Rattle.std.specs.Str.{is_utf8}
 use Rattle.percent_encoding.specs.Percent.{percent_decode}
-use Rattle.sarif_findings.specs.Message.{first_is}
+use Rattle.sarif_findings.specs.Placeholders.{first_is}
 
 -- whether the string starts with two hexadecimal digits
 abbrev pub begins_with_digits : List ℕ → Bool

@@ -8,7 +8,7 @@ ghost use Rattle.percent_encoding.specs.Percent.{percent_decode as decoded_bytes
 ghost use Rattle.sarif_findings.specs.PathOf as said;
 ghost use Rattle.sarif_findings.specs.ShownSoFar.{Takes};
 
-use crate::message::begins_with;
+use crate::first_char::begins_with;
 use crate::shown_text::ShownText;
 use percent_encoding::{DecodeError, percent_decode};
 use sarif_model::Text;

@@ -12,7 +12,8 @@ use Rattle.sarif_model.specs.Run.{elements_or_none}
 use Rattle.sarif_read.proofs.PickedMembers.{picked_get}
 use Rattle.sarif_findings.specs.declared.reporting.Reporting.{Reporting}
 use Rattle.sarif_findings.specs.Lookup.{text_in, number_in, own_rule_id, index_of_rule, rule_index, component_by, component_of, driver_of, rule_by, rule_in, descriptor_of, descriptor_id, rule_id, elements_in, location_uri, physical_location, position_in, position_number}
-use Rattle.sarif_findings.specs.Message.{string_named, strings_of, own_string, shared_string, looked_up, text_by, message_of, filled, arguments_in, arguments_of}
+use Rattle.sarif_findings.specs.Message.{string_named, strings_of, own_string, shared_string, looked_up, text_by, message_of, arguments_in, arguments_of}
+use Rattle.sarif_findings.specs.Placeholders.{filled}
 use Rattle.sarif_findings.specs.Reported.{help_in, link_of, path_in, shown_path, finding_of}
 use Rattle.sarif_log.proofs.RunsAlike.{run_same, AreAlike}
 

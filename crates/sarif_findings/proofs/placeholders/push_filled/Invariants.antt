@@ -1,7 +1,7 @@
 use Rattle.std.proofs.Common.{◌≡◌, ℕ, List, ◌++◌, map, IsUtf8, chars}
 use Rattle.std.specs.Str.Iter.{chars_rest}
 use Rattle.serde_json.specs.View.{view}
-use Rattle.sarif_findings.specs.Message.{filled_from}
+use Rattle.sarif_findings.specs.Placeholders.{filled_from}
 use Rattle.sarif_findings.specs.ShownSoFar.{shown_with}
 use Rattle.sarif_findings.proofs.message.push_filled.Given as goal
 

@@ -1,7 +1,7 @@
 use Rattle.std.proofs.Common.{◌∙◌, map, arith, subst, List, ℕ, chars}
 use Rattle.std.proofs.lemmas.Str.{IsUtf8-past_char}
 use Rattle.serde_json.specs.View.{view}
-use Rattle.sarif_findings.specs.Message.{piece_of}
+use Rattle.sarif_findings.specs.Placeholders.{piece_of}
 use Rattle.sarif_findings.specs.ShownSoFar.{Writes}
 use Rattle.sarif_findings.proofs.MessageMore.{skip_step, piece_step, filled_empty}
 use Rattle.sarif_findings.proofs.message.push_filled.Goals as goal

@@ -1,6 +1,6 @@
 use Rattle.std.proofs.Common.{◌≡◌, ◌<◌, ◌≤◌, ◌+◌, IsUtf8, chars}
 use Rattle.std.specs.Str.Iter.{chars_rest}
-use Rattle.sarif_findings.specs.Message.{index_from}
+use Rattle.sarif_findings.specs.Placeholders.{index_from}
 use Rattle.sarif_findings.proofs.message.index_in.Given as goal
 
 abbrev pub invariant-loop-c : goal.invariant-loop-c
