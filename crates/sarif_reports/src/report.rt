@@ -63,8 +63,8 @@ impl Report {
     pub fn help(self) -> &'static str {
         match self {
             Report::Suppressions =>
-                "Write a new suppression file, made with --accept, --prune or both. It may\n\
-                replace the file of --suppress",
+                "Write a new suppression file, made with --accept, --prune or both. It\n\
+                may replace the file of --suppress",
             Report::Known =>
                 "Write a log of what is known, as the baseline of later merges. It may\n\
                 replace the only --baseline",
