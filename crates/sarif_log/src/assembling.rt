@@ -11,7 +11,7 @@ use crate::facts::Facts;
 use crate::merged::Merged;
 use crate::prepared::Prepared;
 use crate::written::write_log;
-use sarif_counts::{Life, Options};
+use sarif_counts::Options;
 use std::alloc::{AllocError, Global};
 use std::thread::Threads;
 
@@ -24,15 +24,14 @@ pub fn assemble<R: Threads + Sync, B: Drop, Tell: FnOnce(&Facts<'_>) -> Result<B
     alloc: Global,
     prepared: Prepared,
     options: &Options,
-    life: Life,
     tell: Tell,
 ) -> Result<(Merged, B), AllocError>
     requires tells { Tell.IsAlwaysCallable tell }
     ensures merged { IfOk result (λ made. (file : File) (current_runs baseline_runs : List Placed)
         (asked : Option Reporting) → IsPrepared file current_runs baseline_runs asked prepared
         → IsMergedBy file current_runs baseline_runs options.now.policy asked made.0) }
-    ensures life { IfOk result (λ made. made.0.life ≡ life) }
+    ensures life { IfOk result (λ made. made.0.life ≡ prepared.life) }
     ensures told { IfOk result (λ made. IsMadeBy Tell.FnOnce tell made.0 (Ok made.1)) }
 {
-    write_log(rt, alloc, prepared, options, life, tell)
+    write_log(rt, alloc, prepared, options, tell)
 }

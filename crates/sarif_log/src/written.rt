@@ -14,7 +14,7 @@ use crate::facts::Facts;
 use crate::merged::Merged;
 use crate::merged_text::{Side, log_text};
 use crate::prepared::Prepared;
-use sarif_counts::{Life, Options, gate_value, verdict};
+use sarif_counts::{Options, gate_value, verdict};
 use sarif_model::Text;
 use serde_json::Value;
 use std::alloc::{AllocError, Global};
@@ -61,7 +61,6 @@ pub(crate) fn write_log<
     alloc: Global,
     prepared: Prepared,
     options: &Options,
-    life: Life,
     tell: Tell,
 ) -> Result<(Merged, B), AllocError>
     requires tells { Tell.IsAlwaysCallable tell }
@@ -69,7 +68,7 @@ pub(crate) fn write_log<
         → AreWritten prepared.current prepared.baseline runs
         → IsLogOf runs options.now.policy prepared.without prepared.unused made.0) }
     ensures findings { IfOk result (λ made. made.0.findings.items ≡ prepared.findings.items) }
-    ensures life { IfOk result (λ made. made.0.life ≡ life) }
+    ensures life { IfOk result (λ made. made.0.life ≡ prepared.life) }
     ensures told { IfOk result (λ made. IsMadeBy Tell.FnOnce tell made.0 (Ok made.1)) }
 {
     let Prepared {
@@ -78,6 +77,7 @@ pub(crate) fn write_log<
         without,
         unused,
         findings,
+        life,
         spent,
     } = prepared;
     let counts = count_sides(rt, &current, &baseline, options.workers);

@@ -11,14 +11,15 @@ ghost use Rattle.sarif_log.specs.Told.{reporting_in};
 ghost use Rattle.sarif_model.specs.FirstFault.{IsWanting};
 ghost use Rattle.sarif_inputs.specs.Faults.{faults_of, first_fault};
 ghost use Rattle.sarif_merge.specs.Given.{inputs_of};
-ghost use Rattle.sarif_merge.specs.Life.{upkeep_in, IsLifeOf, IsRefusal};
+ghost use Rattle.sarif_log.specs.Kept.{upkeep_in};
+ghost use Rattle.sarif_merge.specs.Life.{IsLifeOf, IsRefusal};
 ghost use Rattle.sarif_merge.specs.Merged.{HoldsFirst, IsMerged};
 ghost use Rattle.sarif_merge.specs.MergedLog.{output_text, runs_written, without_of, unused_in, written_inputs};
 ghost use Rattle.sarif_model.specs.Limits.{most_sources};
 
 use crate::preparing::{make_scratches, prepare_few};
 use json::Scratch;
-use sarif_counts::{Life, Options};
+use sarif_counts::Options;
 use sarif_gather::Gate;
 use sarif_inputs::check_numbers;
 use sarif_log::{Asked, Facts, Merged, Prepared, assemble};
@@ -29,40 +30,31 @@ use std::sync::Wait;
 use std::thread;
 use std::thread::Threads;
 
-/// What a merge is assembled from.
-#[derive(Drop)]
-pub(crate) struct Ready {
-    pub(crate) prepared: Prepared,
-    /// What is for later merges.
-    pub(crate) life: Life,
-}
-
-/// The merged log of what is ready, and what `tell` returns for it, made while the scratches are released.
+/// The merged log of what was prepared, and what `tell` returns for it, made while the scratches are released.
 fn assemble_beside<R: Threads + Sync, B: Drop, Tell: FnOnce(&Facts<'_>) -> Result<B, AllocError>>(
     rt: &R,
     alloc: Global,
-    ready: Ready,
+    prepared: Prepared,
     options: &Options,
     scratches: Vec<Scratch>,
     tell: Tell,
 ) -> Result<(Merged, B), AllocError>
     requires tells { Tell.IsAlwaysCallable tell }
     ensures merged { IfOk result (λ made. (file : File) (current_runs baseline_runs : List Placed)
-        (asked : Option Reporting) → IsPrepared file current_runs baseline_runs asked ready.prepared
+        (asked : Option Reporting) → IsPrepared file current_runs baseline_runs asked prepared
         → IsMergedBy file current_runs baseline_runs options.now.policy asked made.0) }
-    ensures life { IfOk result (λ made. made.0.life ≡ ready.life) }
+    ensures life { IfOk result (λ made. made.0.life ≡ prepared.life) }
     ensures told { IfOk result (λ made. IsMadeBy Tell.FnOnce tell made.0 (Ok made.1)) }
 {
-    let Ready { prepared, life } = ready;
     let write = move || -> Result<(Merged, B), AllocError>
         requires { Tell.IsAlwaysCallable tell }
         ensures merged { IfOk result (λ made. (file : File)
             (current_runs baseline_runs : List Placed) (asked : Option Reporting)
             → IsPrepared file current_runs baseline_runs asked prepared
             → IsMergedBy file current_runs baseline_runs options.entry.now.policy asked made.0) }
-        ensures life { IfOk result (λ made. made.0.life ≡ life) }
+        ensures life { IfOk result (λ made. made.0.life ≡ prepared.life) }
         ensures told { IfOk result (λ made. IsMadeBy Tell.FnOnce tell made.0 (Ok made.1)) }
-    { assemble(rt, alloc, prepared, options, life, tell) };
+    { assemble(rt, alloc, prepared, options, tell) };
     let let_go = move || drop(scratches);
     let (_, made) = thread::join(rt, let_go, write);
     made
@@ -97,11 +89,7 @@ pub(crate) fn merge_few<
     let count = sources.logs.len() + sources.baselines.len();
     let mut scratches = make_scratches(alloc, count)?;
     let prepared = prepare_few(rt, alloc, sources, &mut scratches, asked, observer)?;
-    let ready = Ready {
-        prepared,
-        life: Life::none(),
-    };
-    let made = assemble_beside(rt, alloc, ready, asked.options, scratches, tell)?;
+    let made = assemble_beside(rt, alloc, prepared, asked.options, scratches, tell)?;
     Ok(made)
 }
 

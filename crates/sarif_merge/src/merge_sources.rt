@@ -8,7 +8,7 @@ ghost use Rattle.sarif_streams.specs.OptionalReader.{failed_calls_if};
 ghost use Rattle.sarif_log.specs.Beside.{IsMadeBy};
 ghost use Rattle.sarif_log.specs.Told.{reporting_in};
 ghost use Rattle.sarif_merge.specs.FromReaders.{IsMergedFrom, IsMergedWith, IsPartlyWritten, IsRefused, IsRefusedWith, IsStopped};
-ghost use Rattle.sarif_merge.specs.Life.{upkeep_in};
+ghost use Rattle.sarif_log.specs.Kept.{upkeep_in};
 ghost use Rattle.sarif_model.specs.Limits.{most_sources};
 ghost use Rattle.sarif_streams.specs.WereRead.{contents_of, failures, NoNumberFalls, WereRead};
 ghost use Rattle.sarif_model.specs.declared.merge_fault.At.TheVariants.{Whole};

@@ -18,7 +18,7 @@ use Rattle.sarif_suppress.specs.File.{File}
 use Rattle.sarif_accept.specs.Adding.{accepted_among, added_for, is_hit, may_hit, stays, Counts, How}
 use Rattle.sarif_accept.specs.Entry.{entry_for}
 use Rattle.sarif_accept.specs.Keeping.{is_kept}
-use Rattle.sarif_accept.specs.NewFile.{file_object, file_text, new_file}
+use Rattle.sarif_accept.specs.NewFile.{entries_after, file_object, file_text, new_file}
 use Rattle.sarif_known.specs.Selected.{unmatched_of}
 use Rattle.sarif_upkeep.specs.Heard.{heard}
 use Rattle.sarif_upkeep.specs.Merge.{Merge}
@@ -42,11 +42,20 @@ abbrev pub added_in : Merge → Renewal → List Record
 added_in m renewal =
     added_for (how_of m renewal) (may_hit m.policy) m.file m.records m.states
 
+-- the entries that accept them
+abbrev pub values_added : Merge → Renewal → List Data
+values_added m renewal =
+    map (λ r. entry_for r renewal.reason renewal.until) (added_in m renewal)
+
+-- how many entries the new suppression file has
+abbrev pub entries_count : Merge → Renewal → ℕ
+entries_count m renewal =
+    length (entries_after (file_object m.bytes) (kept_in m renewal) (values_added m renewal))
+
 -- the new suppression file, as a value: the entries that are kept, and then those that accept results
 abbrev pub rules_after : Merge → Renewal → Data
 rules_after m renewal =
-    new_file (file_object m.bytes) (kept_in m renewal)
-    (map (λ r. entry_for r renewal.reason renewal.until) (added_in m renewal))
+    new_file (file_object m.bytes) (kept_in m renewal) (values_added m renewal)
 
 -- ---- its numbers
 
@@ -70,11 +79,6 @@ abbrev pub stay_in : Merge → ℕ
 stay_in m =
     staying_among (may_hit m.policy) m.file m.records m.states
     + absent_hits (may_hit m.policy) m.file (unmatched_of m.known m.taken)
-
--- how many entries the new file has
-abbrev pub entries_count : Merge → Renewal → ℕ
-entries_count m renewal =
-    count_by (λ kept. kept) (kept_in m renewal) + length (added_in m renewal)
 
 -- the new file, as it is given
 abbrev pub renewed : Merge → Renewal → NewFile

@@ -1,0 +1,135 @@
+//! The new suppression file.
+ghost use Rattle.std.specs.Prelude.{◌≡◌, ◌≤◌, ◌⊎◌, Bool, Some, not, count_by, length, map, option_map, string_bytes, IfOk, IfErr};
+ghost use Rattle.sarif_model.specs.declared.merge_fault.At.TheVariants.{Whole};
+ghost use Rattle.sarif_model.specs.declared.merge_fault.MergeFault.{MergeFault as Rejection};
+ghost use Rattle.sarif_model.specs.declared.merge_fault.Source.TheVariants.{Suppress};
+ghost use Rattle.sarif_model.specs.FirstFault.{first};
+ghost use Rattle.sarif_model.specs.MergeFault.{fault_at, out_of_memory};
+ghost use Rattle.sarif_upkeep.specs.IsMatched.{IsMatched};
+ghost use Rattle.sarif_upkeep.specs.Merge.{Merge};
+ghost use Rattle.sarif_upkeep.specs.Renewed as said;
+
+use crate::accepting::accepted_among;
+use crate::matched::Matched;
+use crate::staying::{absent_hits, staying_among};
+use crate::tools::{heard_in, used_by};
+use sarif_accept::{each_once, kept_entries, new_file};
+use sarif_counts::{NewFile, Renewal};
+use sarif_model::{At, Cause, MergeFault, Record, Refusal, Source, Text};
+use std::alloc::{AllocError, Global};
+use std::hash::RandomState;
+
+/// The rejection for a new suppression file that cannot be made.
+fn rejection_of(refusal: Refusal<Cause>) -> MergeFault {
+    match refusal {
+        Refusal::Fault(cause) => MergeFault::found(At::Whole(Source::Suppress), cause),
+        Refusal::OutOfMemory => MergeFault::from(AllocError),
+    }
+}
+
+/// Which entries of the suppression file are kept.
+fn kept_in(
+    alloc: Global,
+    seed: RandomState,
+    matched: &Matched<'_, '_, '_>,
+    renewal: &Renewal,
+) -> Result<Vec<bool>, AllocError>
+    ensures { (m : Merge) → IsMatched m matched.now
+        → IfOk result (λ kept. kept.items ≡ said.kept_in m renewal.now) }
+{
+    let heard = heard_in(alloc, seed, matched.current.runs)?;
+    let marks = used_by(alloc, matched.file, matched.current.drafts)?;
+    kept_entries(alloc, matched.file, &marks, &heard, renewal.prune)
+}
+
+/// The hits that are accepted, if hits are to be accepted.
+fn accepted_if<'m>(
+    alloc: Global,
+    matched: &Matched<'m, '_, '_>,
+    accept: bool,
+) -> Result<Vec<&'m Record>, AllocError>
+    ensures { (m : Merge) → IsMatched m matched.now → IfOk result (λ accepted.
+        map (λ r. r.now) accepted.items ≡ (if accept then said.accepted_in m else [])) }
+{
+    if accept {
+        accepted_among(alloc, matched.policy, &matched.current)
+    } else {
+        Ok(Vec::new(alloc))
+    }
+}
+
+/// How many hits stay, if hits are to be accepted.
+fn staying_if(matched: &Matched<'_, '_, '_>, accept: bool) -> u32
+    requires { (m : Merge) × IsMatched m matched.now }
+    ensures { (m : Merge) → IsMatched m matched.now → result ≡ count_if accept (said.stay_in m) }
+{
+    if !accept {
+        return 0;
+    }
+    let current = staying_among(matched.policy, &matched.current);
+    let absent = absent_hits(matched.policy, &matched.before);
+    (current + absent) as u32
+}
+
+/// The results for which entries are added, of those that are accepted.
+fn added_of<'m>(
+    alloc: Global,
+    seed: RandomState,
+    accepted: &[&'m Record],
+) -> Result<Vec<&'m Record>, MergeFault> {
+    match each_once(alloc, seed, accepted) {
+        Ok(added) => Ok(added),
+        Err(refusal) => Err(rejection_of(refusal)),
+    }
+}
+
+/// The text of the new suppression file with these entries.
+fn text_of(
+    alloc: Global,
+    bytes: Option<&[u8]>,
+    kept: &[bool],
+    added: &[&Record],
+    renewal: &Renewal,
+) -> Result<Text, MergeFault> {
+    match new_file(alloc, bytes, kept, added, renewal) {
+        Ok(text) => Ok(Text::from_string(text)?),
+        Err(refusal) => Err(rejection_of(refusal)),
+    }
+}
+
+/// How many of these are true.
+fn count_kept(kept: &[bool]) -> usize
+    ensures count { result ≡ count_by (λ one. one) kept.now }
+    ensures few { result ≤ length kept.now }
+{
+    kept.iter().filter(|one| **one).count()
+}
+
+/// The new suppression file of a merge. It is rejected if it has more entries or bytes than a suppression file may have.
+pub(crate) fn renew(
+    alloc: Global,
+    seed: RandomState,
+    matched: &Matched<'_, '_, '_>,
+    renewal: &Renewal,
+) -> Result<NewFile, MergeFault>
+    requires { (m : Merge) × IsMatched m matched.now }
+    ensures made { (m : Merge) → IsMatched m matched.now
+        → IfOk result (λ file. file ≡ said.renewed m renewal.now) }
+    ensures sound { (m : Merge) → IsMatched m matched.now
+        → IfOk result (λ _. said.renewal_faults m renewal.now ≡ []) }
+    ensures refused { (m : Merge) → IsMatched m matched.now → IfErr result (λ fault.
+        (fault ≡ out_of_memory) ⊎ (first (said.renewal_faults m renewal.now) ≡ Some fault)) }
+{
+    let kept = kept_in(alloc, seed, matched, renewal)?;
+    let accepted = accepted_if(alloc, matched, renewal.accept)?;
+    let added = added_of(alloc, seed, &accepted)?;
+    let text = text_of(alloc, matched.bytes, &kept, &added, renewal)?;
+    let left = count_kept(&kept);
+    Ok(NewFile {
+        text,
+        accepted: accepted.len() as u32,
+        stay: staying_if(matched, renewal.accept),
+        pruned: (kept.len() - left) as u32,
+        entries: (left + added.len()) as u32,
+    })
+}
