@@ -5,6 +5,14 @@
 #[cfg(test)]
 mod explanations;
 #[cfg(test)]
+mod listing;
+#[cfg(test)]
+mod messages;
+#[cfg(test)]
+mod paths;
+#[cfg(test)]
 mod reports;
+#[cfg(test)]
+mod samples;
 #[cfg(test)]
 mod words;

@@ -1,15 +1,12 @@
 //! The worked examples of the reports.
+use crate::samples::{findings_with, told_of};
 use sarif_counts::{Counts, Policy};
-use sarif_findings::{Finding, Reporting, reported, shown};
-use sarif_model::{Level, Sequence, State, Text};
+use sarif_findings::{Finding, shown};
+use sarif_model::{Level, State, Text};
 use sarif_reports::{
-    Report, Told, github_report, gitlab_report, html_report, markdown_report, report_text,
-    text_report,
+    Report, github_report, gitlab_report, html_report, markdown_report, report_text, text_report,
 };
-use serde_json::Value;
 use std::alloc::{AllocError, AllocGlobal, Global};
-use std::hash::RandomState;
-use std::random::RandomSource;
 use std::test::Fail;
 
 const LOG: &str = r#"{"properties":{},"runs":[{"results":[
@@ -21,19 +18,19 @@ const LOG: &str = r#"{"properties":{},"runs":[{"results":[
 ],"tool":{"driver":{"name":"Bandit","rules":[{"id":"B703","messageStrings":{"default":{"text":"Use of {0} in {{x}} {1} {01} {2}"}}}]}}}],"version":"2.1.0"}"#;
 
 const TEXT: &str = "\
-django/forms/forms.py:12:5: warning: Potential XSS on mark_safe function. [B703] (Bandit, new)
 a b.c: error: Use of a%b in {x} 1 {01} {2} [B703] (Bandit, updated)
+django/forms/forms.py:12:5: warning: Potential XSS on mark_safe function. [B703] (Bandit, new)
 -: note: x ::error::y # #[z] {0} (Bandit, new)
 ";
 
 const GITHUB: &str = "\
-::warning file=django/forms/forms.py,line=12,col=5,title=B703 (Bandit)::Potential XSS on mark_safe function.
 ::error file=a b.c,title=B703 (Bandit)::Use of a%25b in {x} 1 {01} {2}
+::warning file=django/forms/forms.py,line=12,col=5,title=B703 (Bandit)::Potential XSS on mark_safe function.
 ::notice title=Bandit::x ::error::y # #[z] {0}
 ";
 
 const MARKDOWN: &str = "\
-## Gate: fail, 1 hits, 0 allowed
+## Gate: fail, 1 hit, 0 allowed
 
 | | error | warning | note | none | suppressed |
 |---|--:|--:|--:|--:|--:|
@@ -44,8 +41,8 @@ const MARKDOWN: &str = "\
 
 | hit | level | place | rule | message | tool | state |
 |---|---|---|---|---|---|---|
-|  | warning | <code>django/forms/forms&#46;py&#58;12&#58;5</code> | <code>B703</code> | <code>Potential XSS on mark&#95;safe function&#46;</code> | <code>Bandit</code> | new |
 | yes | error | <code>a b&#46;c</code> | <code>B703</code> | <code>Use of a&#37;b in &#123;x&#125; 1 &#123;01&#125; &#123;2&#125;</code> | <code>Bandit</code> | updated |
+|  | warning | <code>django/forms/forms&#46;py&#58;12&#58;5</code> | <code>B703</code> | <code>Potential XSS on mark&#95;safe function&#46;</code> | <code>Bandit</code> | new |
 |  | note | <code>-</code> |  | <code>x &#58;&#58;error&#58;&#58;y &#35; &#35;&#91;z&#93; &#123;0&#125;</code> | <code>Bandit</code> | new |
 ";
 
@@ -87,33 +84,7 @@ const SAME_IDS: &str = r#"{"runs":[{"results":[
 ],"tool":{"driver":{"name":"T","rules":[{"id":"R","helpUri":"https://e.org/first","messageStrings":{"default":{"text":"first"}}},{"id":"R","helpUri":"https://e.org/second","messageStrings":{"default":{"text":"second"}}}]},"extensions":[{"name":"E","rules":[{"id":"Q"}]},{"name":"F","rules":[{"id":"R","helpUri":"https://e.org/third","messageStrings":{"default":{"text":"third"}}},{"id":"R"}]}]}}]}"#;
 
 fn findings_in<R: AllocGlobal>(rt: &R, text: &str) -> Result<Vec<Finding>, Fail> {
-    let alloc = rt.alloc();
-    let mut roots = Sequence::new(alloc);
-    roots.push(Text::copy_of(alloc, "file:///b/")?)?;
-    let reporting = Reporting {
-        policy: Policy::default(),
-        roots,
-    };
-    let log = Value::from_str(alloc, text)?;
-    Ok(reported(alloc, &reporting, &log)?)
-}
-
-/// What reports of these findings are made from, where all runs have results and all entries are used.
-fn told_of<'a, R: RandomSource>(
-    rt: &R,
-    counts: &'a Counts,
-    policy: &'a Policy,
-    findings: &'a [Finding],
-) -> Result<Told<'a>, Fail> {
-    Ok(Told {
-        counts,
-        policy,
-        findings,
-        without: 0,
-        unused: 0,
-        life: None,
-        seed: RandomState::new(rt)?,
-    })
+    findings_with(rt, &["file:///b/"], text)
 }
 
 fn findings_of<R: AllocGlobal>(rt: &R) -> Result<Vec<Finding>, Fail> {
@@ -349,12 +320,12 @@ fn many(alloc: Global, count: u32) -> Result<Vec<Finding>, Fail> {
 fn two_hundred_results_stand_in_the_markdown_table(rt: HostRuntime) -> Result<(), Fail> {
     let alloc = rt.alloc();
     let policy = Policy::default();
-    let others = "\n\n1 more results are in the merged log.\n";
+    let others = "\n\n1 more result is in the merged log.\n";
     let counts = Counts::new();
     let findings = many(alloc, 200)?;
     let told = told_of(&rt, &counts, &policy, findings.as_slice())?;
     let all = markdown_report(alloc, &told)?;
-    assert!(rt; !all.contains("more results"));
+    assert!(rt; !all.contains("more result"));
     let findings = many(alloc, 201)?;
     let told = told_of(&rt, &counts, &policy, findings.as_slice())?;
     let more = markdown_report(alloc, &told)?;
@@ -372,7 +343,7 @@ fn ten_thousand_results_stand_in_the_page(rt: HostRuntime) -> Result<(), Fail> {
     let findings = many(alloc, 10_000)?;
     let told = told_of(&rt, &counts, &policy, findings.as_slice())?;
     let all = html_report(alloc, &told)?;
-    assert!(rt; !all.contains("more results"));
+    assert!(rt; !all.contains("more result"));
     let findings = many(alloc, 10_001)?;
     let told = told_of(&rt, &counts, &policy, findings.as_slice())?;
     let more = html_report(alloc, &told)?;
