@@ -1,11 +1,12 @@
 //! Reading the arguments of the command line.
-ghost use Rattle.std.specs.Prelude.{◌≡◌, ◌↔◌, IfOk, IsTrue, [], Some, map, unwrap_or, string_bytes, option_and_then, codes};
+ghost use Rattle.std.specs.Prelude.{◌≡◌, ◌↔◌, ◌++◌, IfOk, IsTrue, OnOk, [], Some, map, unwrap_or, string_bytes, option_and_then, codes};
 ghost use Rattle.clap.specs.Words.{kind_of, rows_of, found_of, first_of, one_of};
 ghost use Rattle.sarif_model.specs.Level.{level_named};
 ghost use Rattle.sarif_counts.specs.Policy.{default_policy};
 ghost use Rattle.sarif_request.specs.Words.{words_status, Tells, IsAsked, AsksFor, Answers, IsRead, IsReadOr, IsUsageOrOutOfMemory};
 ghost use Rattle.sarif_request.specs.Words.{fail_on_in, is_set, reports_in, states_in, values_of};
-ghost use Rattle.sarif_request.specs.Words.{AreGiven, IsRenewal, is_given, known_in};
+ghost use Rattle.sarif_reports.specs.Report.{report_name};
+ghost use Rattle.sarif_request.specs.Words.{AreGiven, IsRenewal, is_given, known_in, wanted_if};
 
 use crate::clash::{Clash, clash_of};
 use crate::command::command;
@@ -261,11 +262,25 @@ fn reports_of(alloc: Global, matches: &ArgMatches<'_>) -> Result<Vec<Wanted<Text
 {
     let mut reports = Vec::new(alloc);
     for &report in Report::ALL {
-        if let Some(to) = name_of(alloc, matches, report.name())? {
-            reports.push(Wanted { report, to })?;
-        }
+        push_wanted(alloc, matches, report, &mut reports)?;
     }
     Ok(reports)
+}
+
+/// Adds this output to the others if it is requested.
+fn push_wanted(
+    alloc: Global,
+    matches: &ArgMatches<'_>,
+    report: Report,
+    reports: &mut Vec<Wanted<Text>>,
+) -> Result<(), AllocError>
+    ensures { OnOk result (reports.new.items ≡ reports.old.items
+        ++ wanted_if report (first_of (report_name report) (rows_of (found_of matches.now)))) }
+{
+    if let Some(to) = name_of(alloc, matches, report.name())? {
+        reports.push(Wanted { report, to })?;
+    }
+    Ok(())
 }
 
 /// Returns whether an option with a value is given.
