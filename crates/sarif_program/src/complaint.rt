@@ -73,11 +73,9 @@ impl<E> Complaints<E> {
         ensures explained { result.is_explained ≡ true }
         ensures last { result.last ≡ None }
     {
-        Complaints {
-            out: Counted::new(out),
-            is_explained: true,
-            last: None,
-        }
+        let mut complaints = Complaints::new(out);
+        complaints.is_explained = true;
+        complaints
     }
 }
 

@@ -72,6 +72,9 @@ pub struct OptionRow {
     pub default: Option<&'static str>,
 }
 
+/// A date as YYYYMMDD, of which only the range is checked here.
+const DATE: Kind = Kind::Number(FIRST_DAY as i64, LAST_DAY as i64);
+
 static ROWS: [OptionRow; 18] = [
     OptionRow {
         id: "log",
@@ -105,7 +108,7 @@ static ROWS: [OptionRow; 18] = [
         help: "Today's date, for example 20250131. Required if a suppression has an\n\
             expiry date; the program reads no clock",
         group: Group::Inputs,
-        kind: Kind::Number(FIRST_DAY as i64, LAST_DAY as i64),
+        kind: DATE,
         default: None,
     },
     OptionRow {
@@ -184,7 +187,7 @@ static ROWS: [OptionRow; 18] = [
         help: "Expiry date of the entries that --accept adds, for example 20270101.\n\
             Needs --today, which must not be after it",
         group: Group::Upkeep,
-        kind: Kind::Number(FIRST_DAY as i64, LAST_DAY as i64),
+        kind: DATE,
         default: None,
     },
     OptionRow {

@@ -125,10 +125,11 @@ fn request_of(
     let reports = reports_of(alloc, matches)?;
     let roots = names_of(alloc, matches, "root")?;
     let upkeep = upkeep_of(alloc, matches)?;
+    let today = number_of(matches, "today");
     let options = Options {
         policy: policy_of(matches, states),
         checks: Checks::default(),
-        today: number_of(matches, "today"),
+        today,
         workers: number_of(matches, "workers")
             .unwrap_or(1)
             .clamp(1, MOST_WORKERS),
