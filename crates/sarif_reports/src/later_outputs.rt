@@ -9,7 +9,7 @@ use std::alloc::{AllocError, Global};
 /// Returns the text of the new suppression file, or an empty text if there is none.
 pub(crate) fn suppressions_text(alloc: Global, life: Option<&Life>) -> Result<String, AllocError>
     ensures { IfOk result (λ s. string_bytes s
-        ≡ said.suppressions_text (option_map (λ all. all.now) life)) }
+        ≡ said.suppressions_text (option_map (λ all. all.now) life.entry)) }
 {
     match life {
         Some(Life {
@@ -23,7 +23,7 @@ pub(crate) fn suppressions_text(alloc: Global, life: Option<&Life>) -> Result<St
 /// Returns the text of the known log, or an empty text if there is none.
 pub(crate) fn known_text(alloc: Global, life: Option<&Life>) -> Result<String, AllocError>
     ensures { IfOk result
-        (λ s. string_bytes s ≡ said.known_text (option_map (λ all. all.now) life)) }
+        (λ s. string_bytes s ≡ said.known_text (option_map (λ all. all.now) life.entry)) }
 {
     match life {
         Some(Life {
@@ -36,7 +36,7 @@ pub(crate) fn known_text(alloc: Global, life: Option<&Life>) -> Result<String, A
 /// Returns the list of unused entries, or an empty text if there is none.
 pub(crate) fn unused_text(alloc: Global, life: Option<&Life>) -> Result<String, AllocError>
     ensures { IfOk result
-        (λ s. string_bytes s ≡ said.unused_text (option_map (λ all. all.now) life)) }
+        (λ s. string_bytes s ≡ said.unused_text (option_map (λ all. all.now) life.entry)) }
 {
     match life {
         Some(Life {
