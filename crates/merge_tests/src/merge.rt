@@ -4,6 +4,7 @@
 mod baselines;
 mod counting;
 mod faults;
+mod keeping;
 mod merging;
 mod one_log;
 mod reading;

@@ -20,6 +20,7 @@ fn result_named(name: &str) -> Option<&'static str> {
     match name {
         "M" => Some(r#"{"message":{"text":"m"}}"#),
         "A" => Some(r#"{"message":{"text":"m"},"ruleId":"R1"}"#),
+        "E" => Some(r#"{"level":"error","message":{"text":"m"},"ruleId":"R1"}"#),
         "A_NEW" => Some(concat!(
             r#"{"baselineState":"new","level":"warning","message":{"text":"m"},"#,
             r#""ruleId":"R1","suppressions":[]}"#
