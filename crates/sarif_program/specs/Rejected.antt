@@ -16,7 +16,7 @@ pub record IsRejected {R E : Type 0} (remaining : R → Option (List ℕ)) (writ
     (request : Request) (readers after : Readers R) (complaints told : Complaints E) (status : ℕ)
     (fault : MergeFault) : Type 0 where
   pub refused : (fault.cause ≡ OutOfMemory → ⊥) → IsRefusedWith remaining readers after
-      request.options.today request.options.policy (Some request.upkeep) fault
+      request.options.today request.options.checks request.options.policy (Some request.upkeep) fault
   pub exits : status ≡ exit_status fault.cause
   pub last : told.last ≡ Some (Fault fault)
   pub line : IsTold written (Fault fault) complaints.out told.out

@@ -85,11 +85,13 @@ fn merge_told<
     requires suppressions { failed_calls_if readers.old.suppressions < 2 ^ 63 }
     requires tells { Tell.IsAlwaysCallable tell }
     ensures merged { IfOk result (λ all. IsMergedWith R.remaining readers.old readers.new
-        «request».now.options.today «request».now.options.policy made.now
+        «request».now.options.today «request».now.options.checks
+        «request».now.options.policy made.now
         (Some «request».now.upkeep) all.0) }
     ensures told { IfOk result (λ all. IsMadeBy Tell.FnOnce tell all.0 (Ok all.1)) }
     ensures refused { IfErr result (IsRefusedWith R.remaining readers.old readers.new
-        «request».now.options.today «request».now.options.policy
+        «request».now.options.today «request».now.options.checks
+        «request».now.options.policy
         (Some «request».now.upkeep)) }
     ensures read_failed { RisesIf (read_failed_in result)
         (failures readers.old) (failures readers.new) }
@@ -118,7 +120,8 @@ fn merge_for<R: Read, W, T: Threads + Wait + Sync>(
     requires baselines { All (λ reader. failed_calls reader < 2 ^ 63) readers.old.baselines.items }
     requires suppressions { failed_calls_if readers.old.suppressions < 2 ^ 63 }
     ensures merged { IfOk result (λ all. IsMergedWith R.remaining readers.old readers.new
-        «request».now.options.today «request».now.options.policy
+        «request».now.options.today «request».now.options.checks
+        «request».now.options.policy
         (reporting_for «request».now writers.now) (Some «request».now.upkeep) all.0) }
     ensures summary { IfOk result (λ all. all.1.summary
         ≡ summary_of (count_at all.0.counts) «request».now.options.policy) }
@@ -127,7 +130,7 @@ fn merge_for<R: Read, W, T: Threads + Wait + Sync>(
         ≡ texts_for writers.now (report_for «request».now all.0)) }
     ensures refused { IfErr result (λ fault. (fault.cause ≡ OutOfMemory → ⊥)
         → IsRefusedWith R.remaining readers.old readers.new «request».now.options.today
-        «request».now.options.policy (Some «request».now.upkeep) fault) }
+        «request».now.options.checks «request».now.options.policy (Some «request».now.upkeep) fault) }
     ensures read_failed { RisesIf (read_failed_in result)
         (failures readers.old) (failures readers.new) }
     ensures risen { NoNumberFalls readers.old readers.new }
@@ -168,7 +171,8 @@ pub fn run_request<R: Read, W: Write, S: Write, P: Write, E: Write, T: Threads +
     // it is for, `complaints` the lines on it, and `say` its summary; 0 with the verdict pass, and 1 with fail.
     ensures accepted { result < 2 → (merged : Outcome) × (result ≡ verdict_status merged.verdict)
         × IsMergedWith R.remaining readers.old readers.new
-        «request».now.options.today «request».now.options.policy
+        «request».now.options.today «request».now.options.checks
+        «request».now.options.policy
         (reporting_for «request».now writers.old.reports.items) (Some «request».now.upkeep) merged
         × Appends (W.contents (inner_of writers.old.out))
         (W.contents (inner_of writers.new.out)) merged.log
@@ -202,7 +206,8 @@ pub fn run_request<R: Read, W: Write, S: Write, P: Write, E: Write, T: Threads +
     // If all sources were read and one of them has an error, it returns 2.
     ensures faulty { (contents : SourceContents) → AllTell R.remaining readers.old
         → WereRead R.remaining readers.old readers.new contents
-        → (faults_of (given_by contents «request».now.options.today) ≡ [] → ⊥) → result ≡ 2 }
+        → (faults_of (given_by contents «request».now.options.today
+        «request».now.options.checks) ≡ [] → ⊥) → result ≡ 2 }
     ensures known { result ≤ 3 }
 {
     sources_are_read_in_one_way::<R>();

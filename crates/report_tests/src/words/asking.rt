@@ -1,7 +1,7 @@
 //! Which arguments ask for what.
 
 use crate::words::seed;
-use sarif_counts::{Options, States};
+use sarif_counts::{Checks, Options, States};
 use sarif_model::{Level, Text};
 use sarif_reports::Report;
 use sarif_request::{Request, WordsFault, read_words};
@@ -139,6 +139,33 @@ fn is_named(found: &Option<Text>, name: &str) -> bool {
 }
 
 #[test]
+fn what_is_required_of_runs_is_read(rt: HostRuntime) -> Result<(), Fail> {
+    for (line, require_success, allow_external) in [
+        ("a --out o", false, false),
+        ("a --out o --require-success", true, false),
+        ("--allow-external-properties a --out o", false, true),
+        (
+            "a --allow-external-properties --out o --require-success",
+            true,
+            true,
+        ),
+    ] {
+        let request = accepted(&rt, line)?;
+        let wanted = Checks {
+            require_success,
+            allow_external,
+        };
+        check_checks(&rt, request.options.checks, wanted)?;
+    }
+    Ok(())
+}
+
+fn check_checks(rt: &impl Abort, checks: Checks, wanted: Checks) -> Result<(), Fail> {
+    assert_eq!(rt; checks, wanted);
+    Ok(())
+}
+
+#[test]
 fn the_least_of_each_range_is_taken(rt: HostRuntime) -> Result<(), Fail> {
     let line = "a --out o --today 10000101 --workers 1 --max 0 --fail-on none";
     let request = accepted(&rt, line)?;
@@ -236,6 +263,8 @@ fn wrong_words_are_usage(rt: HostRuntime) -> Result<(), Fail> {
         "a --out o --gitlab g --gitlab h",
         "a --out o --html h --html i",
         "a --out o --explain --explain",
+        "a --out o --require-success --require-success",
+        "a --out o --allow-external-properties=true",
         "a --out o --explain=true",
         "a --out o --text",
         "a --out o --states=",
