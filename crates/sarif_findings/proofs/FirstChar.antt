@@ -1,5 +1,5 @@
 -- The first character of a string that is read.
-use Rattle.std.proofs.Common.{◌≡◌, ℕ, Bool, List, ◌∷◌, ◌++◌, chars, encode_utf8, IsUtf8, sym, ap, ◌∙◌}
+use Rattle.std.proofs.Common.{◌≡◌, ℕ, List, ◌∷◌, ◌++◌, chars, encode_utf8, IsUtf8, sym, ap, ◌∙◌}
 use Rattle.std.proofs.lemmas.Str.{chars_past_char}
 
 -- what is said of the string, by its first character and the others

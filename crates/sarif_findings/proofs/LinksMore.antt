@@ -1,5 +1,5 @@
 -- Links, character by character.
-use Rattle.std.proofs.Common.{◌≡◌, ◌==◌, ℕ, Bool, true, false, List, [], ◌∷◌, length, chars, if◌then◌else◌, refl, ap, sym, ◌∙◌, ne_eqb}
+use Rattle.std.proofs.Common.{◌≡◌, ℕ, Bool, true, false, List, [], ◌∷◌, length, chars, if◌then◌else◌, refl, ap, sym, ◌∙◌, ne_eqb}
 use Rattle.std.specs.Char.{is_ascii_digit}
 use Rattle.std.proofs.StrCases.{chars_of_empty}
 use Rattle.serde_json.specs.Data.{Data}

@@ -1,4 +1,4 @@
-use Rattle.std.proofs.Common.{◌≡◌, ℕ, List, Bool, true, false, sym, ap, ◌∙◌, chars, map, refl}
+use Rattle.std.proofs.Common.{true, false, sym, ap, ◌∙◌, chars, map}
 use Rattle.std.specs.Str.Iter.{chars_rest}
 use Rattle.std.proofs.lemmas.Str.{IsUtf8-past_char}
 use Rattle.serde_json.specs.View.{view}

@@ -1,4 +1,4 @@
-use Rattle.std.proofs.Common.{◌∙◌, ◌++◌, List, ℕ, ap}
+use Rattle.std.proofs.Common.{◌∙◌, ◌++◌, ap}
 use Rattle.sarif_findings.specs.ShownSoFar.{shown_with}
 use Rattle.sarif_findings.specs.Unlinked.{left}
 use Rattle.sarif_findings.proofs.placeholders.push_unlinked.Goals as goal

@@ -1,4 +1,4 @@
-use Rattle.std.proofs.Common.{◌≡◌, ◌∷◌, List, ℕ, sym, ap, ◌∙◌, chars, map, encode_utf8, length, length-append, arith}
+use Rattle.std.proofs.Common.{◌∷◌, List, ℕ, sym, ap, ◌∙◌, chars, map, encode_utf8, length, length-append, arith}
 use Rattle.std.specs.Str.Iter.{chars_rest}
 use Rattle.std.proofs.lemmas.Str.{IsUtf8-past_char}
 use Rattle.serde_json.specs.View.{view}
