@@ -1,13 +1,13 @@
 -- The links of a message to places of its log (SARIF 2.1.0, "Messages with embedded links"): `[TEXT](N)` is read as
 -- its text. Strings are lists of characters here.
-use Rattle.std.specs.Prelude.{ℕ, ◌+◌, Bool, true, false, not, ◌&&◌, ◌||◌, ◌==◌, List, [], ◌∷◌, drop, length, Option, Some, None, if◌then◌else◌}
+use Rattle.std.specs.Prelude.{ℕ, ◌+◌, Bool, true, false, not, ◌&&◌, ◌||◌, ◌==◌, List, [], ◌∷◌, length, slice_get, Option, Some, None, if◌then◌else◌}
 use Rattle.std.specs.Char.{is_ascii_digit}
 use Rattle.std.specs.List.{list_all}
 use Rattle.std.specs.Option.{option_map_or}
 use Rattle.serde_json.specs.Data.{Data}
 use Rattle.sarif_findings.specs.declared.links.Part.{Part}
 use Rattle.sarif_findings.specs.declared.links.Part.TheVariants.{Outside, OutsidePair, LinkText, TextPair, Target}
-use Rattle.sarif_findings.specs.Placeholders.{argument_at, first_is, index_from}
+use Rattle.sarif_findings.specs.Placeholders.{argument_at, index_from}
 
 -- ---- pairs
 
@@ -33,21 +33,29 @@ is_number text = not (length text == 0) && list_all is_ascii_digit text
 abbrev pub is_number_argument : List Data → ℕ → Bool
 is_number_argument args n = option_map_or is_number (argument_at args n) false
 
+-- whether the character with that index is a `)`
+abbrev pub closes_at : List ℕ → ℕ → Bool
+closes_at cs n = option_map_or (λ c. c == 41) (slice_get cs n) false
+
 -- the number of an argument that is a number, and then `})`
 abbrev pub names_number : List Data → Option (ℕ × ℕ) → List ℕ → Bool
 names_number args None cs = false
 names_number args (Some index) cs =
-    is_number_argument args index.0 && first_is 41 (drop (index.1 + 1) cs)
+    is_number_argument args index.0 && closes_at cs (index.1 + 1)
 
 -- a placeholder of such an argument, and `)`
 abbrev pub ends_placeholder : List Data → List ℕ → Bool
 ends_placeholder args [] = false
 ends_placeholder args (c ∷ cs) = c == 123 && names_number args (index_from 0 0 cs) cs
 
+-- `N)`
+abbrev pub ends_target : List Data → List ℕ → Bool
+ends_target args cs = ends_number false cs || ends_placeholder args cs
+
 -- `(N)`
 abbrev pub begins_target : List Data → List ℕ → Bool
 begins_target args [] = false
-begins_target args (c ∷ cs) = c == 40 && (ends_number false cs || ends_placeholder args cs)
+begins_target args (c ∷ cs) = c == 40 && ends_target args cs
 
 -- ---- links
 
@@ -64,6 +72,11 @@ ends_link args false (c ∷ cs) =
 abbrev pub begins_link : List Data → ℕ → List ℕ → Bool
 begins_link args c cs = c == 91 && ends_link args false cs
 
+-- the part that follows a character in the text of a link
+abbrev pub part_in_text : ℕ → List ℕ → Part
+part_in_text c cs =
+    if begins_pair c cs then TextPair else (if c == 93 then Target else LinkText)
+
 -- the part of a message that follows a character: outside of links, in the text of a link, in its target, or the
 -- second character of a pair
 abbrev pub part_after : List Data → Part → ℕ → List ℕ → Part
@@ -71,8 +84,7 @@ part_after args Outside c cs =
     if begins_pair c cs then OutsidePair else (
     if begins_link args c cs then LinkText else Outside)
 part_after args OutsidePair c cs = Outside
-part_after args LinkText c cs =
-    if begins_pair c cs then TextPair else (if c == 93 then Target else LinkText)
+part_after args LinkText c cs = part_in_text c cs
 part_after args TextPair c cs = LinkText
 part_after args Target c cs = if c == 41 then Outside else Target
 

@@ -34,19 +34,23 @@ without_root (root ∷ roots) path = unwrap_or (after_root root path) (without_r
 
 -- ---- characters
 
--- whether the string begins with `./`: the place that it is relative to (RFC 3986, "Path")
-abbrev pub begins_here : List ℕ → Bool
-begins_here [] = false
-begins_here (c ∷ cs) = c == 46 && first_is 47 cs
+-- whether this is the `.` of a `./`: the folder that a path is relative to
+abbrev pub begins_here : ℕ → List ℕ → Bool
+begins_here c cs = c == 46 && first_is 47 cs
 
--- after a `./`, the string without the slashes and the further `./` that it begins with
+-- whether a character that follows a `./` is removed with it: a slash, or the `.` of one more `./`
+abbrev pub is_removed : ℕ → List ℕ → Bool
+is_removed c cs = c == 47 || begins_here c cs
+
+-- after a `./`, the string from the first character on that is not removed
 abbrev pub after_here : List ℕ → List ℕ
 after_here [] = []
-after_here (c ∷ cs) = if c == 47 || begins_here (c ∷ cs) then after_here cs else c ∷ cs
+after_here (c ∷ cs) = if is_removed c cs then after_here cs else c ∷ cs
 
 -- as long as a path begins with `./`, this is removed with all slashes that follow it
 abbrev pub without_here : List ℕ → List ℕ
-without_here cs = if begins_here cs then after_here cs else cs
+without_here [] = []
+without_here (c ∷ cs) = if begins_here c cs then after_here cs else c ∷ cs
 
 -- the characters of a URI that is read as a path
 abbrev pub path_chars : List (List ℕ) → List ℕ → List ℕ

@@ -1,10 +1,9 @@
 //! Where links of a message begin and end, and what follows their text.
-ghost use Rattle.std.specs.Prelude.{◌≡◌, map, chars, drop, List};
-ghost use Rattle.serde_json.specs.Data.{Data};
+ghost use Rattle.std.specs.Prelude.{◌≡◌, map, chars, false};
 ghost use Rattle.std.specs.List.{list_all};
 ghost use Rattle.serde_json.specs.View.{view};
 ghost use Rattle.sarif_findings.specs.Links as said;
-ghost use Rattle.sarif_findings.specs.Placeholders.{argument_at, first_is, index_from};
+ghost use Rattle.sarif_findings.specs.Placeholders.{index_from};
 ghost use Rattle.std.specs.Char.{is_ascii_digit};
 
 use crate::arguments::{argument_at, index_in};
@@ -79,13 +78,16 @@ fn is_number_argument(args: &[Value], index: u32) -> bool
 
 /// Returns whether the character with that index is a `)`.
 fn closes_at(text: &str, index: u32) -> bool
-    ensures { result ≡ first_is 41 (drop index (chars text.now)) }
+    ensures { result ≡ said.closes_at (chars text.now) index }
 {
-    text.chars().nth(index as usize) == Some(')')
+    match text.chars().nth(index as usize) {
+        Some(c) => c == ')',
+        None => false,
+    }
 }
 
-/// Returns whether these are the placeholder of a number, without its `{`, and a `)`.
-fn ends_placeholder(args: &[Value], text: &str) -> bool
+/// Returns whether these are the number of an argument that is a number, and `})`.
+fn names_number(args: &[Value], text: &str) -> bool
     ensures { result
         ≡ said.names_number (map view args.now) (index_from 0 0 (chars text.now)) (chars text.now) }
 {
@@ -95,19 +97,33 @@ fn ends_placeholder(args: &[Value], text: &str) -> bool
     }
 }
 
+/// Returns whether these are a placeholder of an argument that is a number, and `)`.
+fn ends_placeholder(args: &[Value], text: &str) -> bool
+    ensures { result ≡ said.ends_placeholder (map view args.now) (chars text.now) }
+{
+    let mut rest = text.chars();
+    match rest.next() {
+        Some(c) => c == '{' && names_number(args, rest.as_str()),
+        None => false,
+    }
+}
+
+/// Returns whether these are the number of a target, and `)`.
+fn ends_target(args: &[Value], text: &str) -> bool
+    ensures { result ≡ said.ends_target (map view args.now) (chars text.now) }
+{
+    ends_number(text) || ends_placeholder(args, text)
+}
+
 /// Returns whether the target of a link follows: `(N)`.
 fn begins_target(args: &[Value], text: &str) -> bool
     ensures { result ≡ said.begins_target (map view args.now) (chars text.now) }
 {
     let mut rest = text.chars();
-    if rest.next() != Some('(') {
-        return false;
+    match rest.next() {
+        Some(c) => c == '(' && ends_target(args, rest.as_str()),
+        None => false,
     }
-    let number = rest.as_str();
-    if ends_number(number) {
-        return true;
-    }
-    rest.next() == Some('{') && ends_placeholder(args, rest.as_str())
 }
 
 /// Returns whether the first bracket that is not in a pair is a `]` with a target after it.
@@ -152,7 +168,7 @@ fn part_outside(args: &[Value], c: char, rest: &str) -> Part
 
 /// The part that follows a character in the text of a link.
 fn part_in_text(c: char, rest: &str) -> Part
-    ensures { (args : List Data) → result ≡ said.part_after args Part.LinkText c (chars rest.now) }
+    ensures { result ≡ said.part_in_text c (chars rest.now) }
 {
     if begins_pair(c, rest) {
         Part::TextPair

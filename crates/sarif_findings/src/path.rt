@@ -80,15 +80,18 @@ fn without_root<'a>(roots: &[Text], path: &'a str) -> &'a str
     path
 }
 
-/// Returns whether the string begins with `./`.
-fn begins_here(path: &str) -> bool
-    ensures { result ≡ said.begins_here (chars path.now) }
+/// Returns whether this is the `.` of a `./`.
+fn begins_here(c: char, rest: &str) -> bool
+    ensures { result ≡ said.begins_here c (chars rest.now) }
 {
-    let mut rest = path.chars();
-    match rest.next() {
-        Some(c) => c == '.' && begins_with(rest.as_str(), '/'),
-        None => false,
-    }
+    c == '.' && begins_with(rest, '/')
+}
+
+/// Returns whether a character that follows a `./` is removed with it: a slash, or the `.` of one more `./`.
+fn is_removed(c: char, rest: &str) -> bool
+    ensures { result ≡ said.is_removed c (chars rest.now) }
+{
+    c == '/' || begins_here(c, rest)
 }
 
 /// What follows a `./`, without the slashes and the further `./` that it begins with.
@@ -98,7 +101,7 @@ fn after_here(path: &str) -> &str
     let mut left = path;
     let mut rest = path.chars();
     while let Some(c) = rest.next() {
-        if c != '/' && !begins_here(left) {
+        if !is_removed(c, rest.as_str()) {
             return left;
         }
         left = rest.as_str();
@@ -110,10 +113,16 @@ fn after_here(path: &str) -> &str
 fn without_here(path: &str) -> &str
     ensures { chars result.now ≡ said.without_here (chars path.now) }
 {
-    if begins_here(path) {
-        after_here(path)
-    } else {
-        path
+    let mut rest = path.chars();
+    match rest.next() {
+        Some(c) => {
+            if begins_here(c, rest.as_str()) {
+                after_here(rest.as_str())
+            } else {
+                path
+            }
+        }
+        None => path,
     }
 }
 

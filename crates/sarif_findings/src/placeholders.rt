@@ -24,11 +24,11 @@ fn starts_left(rest: &Unlinked<'_>, c: char) -> bool
 }
 
 /// The number of an argument before the next `}` of the characters that are left, and its count of digits.
-fn index_left(rest: &Unlinked<'_>) -> Option<(u32, u32)>
+fn index_left(from: &Unlinked<'_>) -> Option<(u32, u32)>
     ensures few { IfSome result (λ p. p.1 ≤ 1000000000) }
-    ensures said { result ≡ said.index_from 0 0 (left rest.now) }
+    ensures said { result ≡ said.index_from 0 0 (left from.now) }
 {
-    let mut rest = *rest;
+    let mut rest = *from;
     let mut number: u32 = 0;
     let mut count: u32 = 0;
     while let Some(c) = rest.next() {

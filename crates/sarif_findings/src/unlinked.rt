@@ -26,19 +26,21 @@ impl<'a> Unlinked<'a> {
         }
     }
 
-    /// The next character. With arguments of a message of any length, it reads on to the next character that stays.
+    /// Reads on to the next character that stays, and returns it. After `None` nothing is known of what is left.
     pub(crate) fn next(&mut self) -> Option<char>
         ensures is { MatchOption result (left self.old ≡ []) (λ c. left self.old ≡ c ∷ left self.new) }
         ensures shorter { IfSome result (λ c. length self.new.rest.now < length self.old.rest.now) }
     {
+        let mut part = self.part;
         let mut rest = self.rest.chars();
         while let Some(c) = rest.next() {
-            let part = self.part;
-            self.rest = rest.as_str();
-            self.part = part_after(self.args, part, c, self.rest);
-            if stays_between(part, self.part) {
+            let next = part_after(self.args, part, c, rest.as_str());
+            if stays_between(part, next) {
+                self.rest = rest.as_str();
+                self.part = next;
                 return Some(c);
             }
+            part = next;
         }
         None
     }

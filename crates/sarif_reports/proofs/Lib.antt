@@ -8,3 +8,4 @@ pub mod RowsApart
 pub mod SeenTexts
 pub mod TagsCounted
 pub mod TextApart
+pub mod ListedMore

@@ -1,7 +1,7 @@
 //! Laws of reports. Each law is the contract of a function that does nothing. A log may be hostile, so the laws
 //! cover any strings.
 ghost use Rattle.std.specs.Prelude.{◌≡◌, ◌<◌, ◌==◌, ◌^◌, ℕ, List, true, false, [], Some, None, bytes_eq};
-ghost use Rattle.std.specs.Prelude.{flat_map, length, take};
+ghost use Rattle.std.specs.Prelude.{flat_map, length};
 ghost use Rattle.std.specs.List.{IsDistinct, count_by, sum_by};
 ghost use Rattle.json.specs.Json.{document};
 ghost use Rattle.serde_json.specs.Data.{Data, array};
@@ -20,13 +20,12 @@ ghost use Rattle.sarif_findings.specs.declared.reporting.Reporting.{Reporting};
 ghost use Rattle.sarif_reports.specs.HtmlLaws.{row_tags, tags_in};
 ghost use Rattle.sarif_reports.specs.HtmlReport.{rows_below};
 ghost use Rattle.sarif_reports.specs.MarkdownLaws.{have_bars};
-ghost use Rattle.sarif_reports.specs.MarkdownReport.{result_row};
+ghost use Rattle.sarif_reports.specs.MarkdownReport.{in_table, result_row};
 ghost use Rattle.sarif_findings.specs.Reported.{reported_of};
 ghost use Rattle.sarif_findings.specs.Shown.{shown_chars};
 ghost use Rattle.sarif_findings.specs.ShownLaws.{are_seen, has_two_signs};
 ghost use Rattle.sarif_reports.specs.TextLaws.{IsTextOfLines};
 ghost use Rattle.sarif_reports.specs.TextReport.{text_lines_of};
-ghost use Rattle.sarif_reports.specs.MarkdownReport.{most_rows};
 
 /// No character of a shown string is a control character, a line separator, or a character that hides or controls
 /// others.
@@ -86,10 +85,10 @@ pub fn github_lines_begin_with_commands()
 /// cell.
 pub fn markdown_rows_have_their_cells()
     ensures bars { (reporting : Reporting) (log : Data) →
-        have_bars 8 0 (flat_map result_row (take most_rows (reported_of reporting log))) ≡ true }
+        have_bars 8 0 (flat_map result_row (in_table (reported_of reporting log))) ≡ true }
     ensures lines { (reporting : Reporting) (log : Data) →
-        count_by (λ b. b == 10) (flat_map result_row (take most_rows (reported_of reporting log)))
-        ≡ length (take most_rows (reported_of reporting log)) }
+        count_by (λ b. b == 10) (flat_map result_row (in_table (reported_of reporting log)))
+        ≡ length (in_table (reported_of reporting log)) }
 {}
 
 /// Read as JSON, the report for GitLab is the array of its objects, for any strings: no log adds an object or a

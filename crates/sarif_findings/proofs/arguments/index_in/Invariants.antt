@@ -1,7 +1,7 @@
 use Rattle.std.proofs.Common.{◌≡◌, ◌<◌, ◌≤◌, ◌+◌, IsUtf8, chars}
 use Rattle.std.specs.Str.Iter.{chars_rest}
 use Rattle.sarif_findings.specs.Placeholders.{index_from}
-use Rattle.sarif_findings.proofs.message.index_in.Given as goal
+use Rattle.sarif_findings.proofs.arguments.index_in.Given as goal
 
 abbrev pub invariant-loop-c : goal.invariant-loop-c
 invariant-loop-c l = record {
