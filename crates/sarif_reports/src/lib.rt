@@ -1,12 +1,18 @@
 //! Reports over findings: lines of text, commands for GitHub Actions, Markdown, GitLab, a page.
 #![tactic(auto)]
 
+mod by_file;
 mod count_row;
 mod escaping;
 mod github_lines;
 mod gitlab_array;
+mod html_counts;
+mod html_filters;
 mod html_fixed;
 mod html_page;
+mod html_rows;
+mod html_tables;
+mod html_words;
 mod identities;
 mod laws;
 mod listed;

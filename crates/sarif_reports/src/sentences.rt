@@ -6,7 +6,12 @@ use sarif_counts::Verdict;
 use std::alloc::{AllocError, Global};
 
 /// A number and what it counts: `one` for 1, otherwise `more`.
-fn counted(alloc: Global, number: usize, one: &str, more: &str) -> Result<String, AllocError>
+pub(crate) fn counted(
+    alloc: Global,
+    number: usize,
+    one: &str,
+    more: &str,
+) -> Result<String, AllocError>
     ensures { IfOk result (λ s. string_bytes s ≡ said.counted number one.now more.now) }
 {
     let noun = if number == 1 { one } else { more };
@@ -14,17 +19,17 @@ fn counted(alloc: Global, number: usize, one: &str, more: &str) -> Result<String
 }
 
 /// A number of hits.
-pub(crate) fn hits_text(alloc: Global, hits: u32) -> Result<String, AllocError>
+pub(crate) fn hits_text(alloc: Global, hits: usize) -> Result<String, AllocError>
     ensures { IfOk result (λ s. string_bytes s ≡ said.hits_text hits) }
 {
-    counted(alloc, hits as usize, " hit", " hits")
+    counted(alloc, hits, " hit", " hits")
 }
 
 /// What follows the verdict: the hits and how many of them are allowed.
 pub(crate) fn gate_end(alloc: Global, hits: u32, max: u32) -> Result<String, AllocError>
     ensures { IfOk result (λ s. string_bytes s ≡ said.gate_end hits max) }
 {
-    let hits = hits_text(alloc, hits)?;
+    let hits = hits_text(alloc, hits as usize)?;
     format!(in alloc; ", {hits}, {max} allowed")
 }
 
