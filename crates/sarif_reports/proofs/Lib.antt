@@ -1,6 +1,7 @@
 pub mod ArrayRead
 pub mod EscapedApart
 pub mod EscapedMore
+pub mod FilesMore
 pub mod GithubApart
 pub mod GitlabMore
 pub mod HashedApart

@@ -1,6 +1,6 @@
 -- Findings by file, as the contracts of the functions that group them see it. Internal: no contract of the program
 -- refers to this module.
-use Rattle.std.specs.Prelude.{◌≡◌, ℕ, Bool, List, [], ◌∷◌, ◌++◌, Option, Some, None, bytes_eq, map, take, flat_map, if◌then◌else◌}
+use Rattle.std.specs.Prelude.{◌≡◌, ℕ, Bool, List, [], ◌∷◌, ◌++◌, Option, Some, None, bytes_eq, map, take, flat_map, unwrap_or, if◌then◌else◌}
 use Rattle.std.specs.Borrow.{Bor}
 use Rattle.std.specs.HashMap.{HashMap, get_by}
 use Rattle.std.specs.List.{filter, list_any}
@@ -37,6 +37,15 @@ abbrev pub IsGrouped : ℕ → List Finding → Grouped → Type 0
 IsGrouped most findings grouped =
     (map (λ file. file.now) grouped.files.items ≡ take most (files_of findings))
     × ((file : List ℕ) → group_at grouped.groups file ≡ group_of most findings file)
+
+-- the findings of a file's group
+abbrev pub rows_at : {S : Type 0} → HashMap (Bor (List ℕ)) (Vec (Bor Finding) Global) S → List ℕ
+    → List Finding
+rows_at groups file = unwrap_or (group_at groups file) []
+
+-- the findings of all groups, file by file
+abbrev pub all_rows : Grouped → List Finding
+all_rows grouped = flat_map (rows_at grouped.groups) (map (λ file. file.now) grouped.files.items)
 
 abbrev pub tables_in : Rows → Tables
 tables_in rows = record {

@@ -1,6 +1,6 @@
 -- The page: the verdict, the counts, and the first reported results. Strings of a log are only in element
 -- text and in `href`, escaped.
-use Rattle.std.specs.Prelude.{ℕ, ◌+◌, ◌-◌, Bool, true, false, ◌&&◌, ◌||◌, ◌==◌, List, [], ◌∷◌, ◌++◌, length, Option, Some, None, codes, bytes_eq, flat_map, nat_lt, if◌then◌else◌}
+use Rattle.std.specs.Prelude.{ℕ, ◌+◌, ◌-◌, Bool, true, false, ◌&&◌, ◌||◌, ◌==◌, List, [], ◌∷◌, ◌++◌, length, Option, Some, None, codes, bytes_eq, flat_map, map, nat_lt, if◌then◌else◌}
 use Rattle.std.specs.List.{list_any}
 use Rattle.std.specs.Fmt.{decimal}
 use Rattle.sarif_model.specs.declared.kinds.Level.{Level}
@@ -104,21 +104,19 @@ minds without unused =
 
 -- ---- the filters
 
-abbrev pub level_if : List Finding → Level → List (List ℕ)
-level_if rows level =
-    if list_any (λ f. same_level level f.level) rows then level_name level ∷ [] else []
+abbrev pub level_if : List Finding → Level → List Level
+level_if rows level = if list_any (λ f. same_level level f.level) rows then level ∷ [] else []
 
-abbrev pub state_if : List Finding → State → List (List ℕ)
-state_if rows state =
-    if list_any (λ f. same_state state f.state) rows then state_name state ∷ [] else []
+abbrev pub state_if : List Finding → State → List State
+state_if rows state = if list_any (λ f. same_state state f.state) rows then state ∷ [] else []
 
 -- the levels of these rows
-abbrev pub levels_in : List Finding → List (List ℕ)
+abbrev pub levels_in : List Finding → List Level
 levels_in rows =
     level_if rows Error ++ (level_if rows Warning ++ (level_if rows Note ++ level_if rows NoLevel))
 
 -- the states of these rows
-abbrev pub states_in : List Finding → List (List ℕ)
+abbrev pub states_in : List Finding → List State
 states_in rows =
     state_if rows New ++ (state_if rows Unchanged ++ (state_if rows Updated ++ state_if rows Absent))
 
@@ -127,17 +125,19 @@ box name =
     codes "<label><input type=\"checkbox\" id=\"" ++ (name
     ++ (codes "\" checked>" ++ (name ++ codes "</label>")))
 
+abbrev pub group_of : List ℕ → List ℕ → List ℕ
+group_of legend inner =
+    codes "<fieldset><legend>" ++ (legend ++ (codes "</legend>" ++ (inner ++ codes "</fieldset>\n")))
+
 -- a box for each name, if there are two or more
 unfoldable pub boxes : List ℕ → List (List ℕ) → List ℕ
-boxes legend names =
-    if nat_lt (length names) 2 then []
-    else codes "<fieldset><legend>" ++ (legend ++ (codes "</legend>"
-    ++ (flat_map box names ++ codes "</fieldset>\n")))
+boxes legend names = if nat_lt (length names) 2 then [] else group_of legend (flat_map box names)
 
-unfoldable pub filters_by : List (List ℕ) → List (List ℕ) → List ℕ
+unfoldable pub filters_by : List Level → List State → List ℕ
 filters_by levels states =
     if nat_lt (length levels) 2 && nat_lt (length states) 2 then []
-    else filters_begin ++ (boxes (codes "Level") levels ++ (boxes (codes "State") states ++ filters_end))
+    else filters_begin ++ (boxes (codes "Level") (map level_name levels)
+    ++ (boxes (codes "State") (map state_name states) ++ filters_end))
 
 unfoldable pub filters_of : List Finding → List ℕ
 filters_of rows = filters_by (levels_in rows) (states_in rows)

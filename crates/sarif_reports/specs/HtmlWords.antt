@@ -15,25 +15,25 @@ use Rattle.sarif_reports.specs.Sentences.{counted, hits_text}
 
 -- ---- what a hit is
 
-abbrev pub name_if : States → State → List (List ℕ)
-name_if states state = if is_listed states state then state_name state ∷ [] else []
+abbrev pub listed_if : States → State → List State
+listed_if states state = if is_listed states state then state ∷ [] else []
 
--- the names of the states that count
-abbrev pub names_of : States → List (List ℕ)
-names_of states =
-    name_if states New ++ (name_if states Unchanged
-    ++ (name_if states Updated ++ name_if states Absent))
+-- the states that count
+abbrev pub listed_states : States → List State
+listed_states states =
+    listed_if states New ++ (listed_if states Unchanged
+    ++ (listed_if states Updated ++ listed_if states Absent))
 
--- what is between a name and the names after it
-abbrev pub joint : List (List ℕ) → List ℕ
+-- what is between a state and the states after it
+abbrev pub joint : List State → List ℕ
 joint [] = []
-joint (name ∷ []) = codes " or "
-joint (name ∷ (next ∷ names)) = codes ", "
+joint (state ∷ []) = codes " or "
+joint (state ∷ (next ∷ states)) = codes ", "
 
 -- as `new, updated or absent`
-abbrev pub joined : List (List ℕ) → List ℕ
+abbrev pub joined : List State → List ℕ
 joined [] = []
-joined (name ∷ names) = name ++ (joint names ++ joined names)
+joined (state ∷ states) = state_name state ++ (joint states ++ joined states)
 
 -- the levels that count, from this one on
 abbrev pub levels_from : Level → List ℕ
@@ -42,15 +42,15 @@ levels_from Note = codes "level note, warning or error"
 levels_from Warning = codes "level warning or error"
 levels_from Error = codes "level error"
 
-abbrev pub hit_is : List (List ℕ) → Level → List ℕ
+abbrev pub hit_is : List State → Level → List ℕ
 hit_is [] least = codes "No state counts, so no result is a hit."
-hit_is (name ∷ names) least =
-    codes "A hit is a result that is " ++ (joined (name ∷ names)
+hit_is (state ∷ states) least =
+    codes "A hit is a result that is " ++ (joined (state ∷ states)
     ++ (codes ", of " ++ (levels_from least ++ codes ", and not suppressed.")))
 
 -- what a hit is under this policy
 unfoldable pub reason : Policy → List ℕ
-reason policy = hit_is (names_of policy.states) policy.fail_on
+reason policy = hit_is (listed_states policy.states) policy.fail_on
 
 -- ---- the headings of the tables
 

@@ -129,6 +129,41 @@ fn push_first<'f>(
     Ok(())
 }
 
+/// Adds the findings of a file, up to `most` rows.
+fn push_group<'f>(
+    rows: &mut Vec<&'f Finding>,
+    groups: &Groups<'f>,
+    file: &str,
+    most: usize,
+) -> Result<(), AllocError>
+    requires { vec_len rows.old ≤ most }
+    ensures rows { OnOk result (said.findings_in rows.new.items
+        ≡ take most (said.findings_in rows.old.items ++ said.rows_at groups.now file.now)) }
+    ensures room { OnOk result (vec_len rows.new ≤ most) }
+{
+    let Some(group) = groups.get(file) else {
+        return Ok(());
+    };
+    push_first(rows, group, most)?;
+    Ok(())
+}
+
+/// The first findings of these groups, file by file, `most` of them or fewer.
+fn rows_in<'f>(
+    alloc: Global,
+    grouped: &Grouped<'f>,
+    most: usize,
+) -> Result<Vec<&'f Finding>, AllocError>
+    ensures { IfOk result
+        (λ rows. said.findings_in rows.items ≡ take most (said.all_rows grouped.now)) }
+{
+    let mut rows = Vec::new(alloc);
+    for file in &grouped.files {
+        push_group(&mut rows, &grouped.groups, file, most)?;
+    }
+    Ok(rows)
+}
+
 /// Returns the first of these findings by file, at most `most` of them. Returns `AllocError` if memory for them runs
 /// out.
 pub(crate) fn by_file<'f>(
@@ -141,11 +176,6 @@ pub(crate) fn by_file<'f>(
         ≡ take most (by_file (said.findings_in findings.now))) }
 {
     let grouped = Grouped::of(alloc, seed, findings, most)?;
-    let mut rows = Vec::new(alloc);
-    for file in &grouped.files {
-        if let Some(group) = grouped.groups.get(*file) {
-            push_first(&mut rows, group, most)?;
-        }
-    }
+    let rows = rows_in(alloc, &grouped, most)?;
     Ok(rows)
 }

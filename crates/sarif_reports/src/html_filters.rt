@@ -1,6 +1,8 @@
 //! The boxes of a page, which choose the rows that are displayed.
-ghost use Rattle.std.specs.Prelude.{◌≡◌, ◌++◌, IfOk, OnOk, flat_map, map, string_bytes};
+ghost use Rattle.std.specs.Prelude.{◌≡◌, ◌++◌, IfOk, OnOk, codes, flat_map, map, string_bytes};
 ghost use Rattle.std.specs.List.{list_any};
+ghost use Rattle.sarif_model.specs.Level.{level_name};
+ghost use Rattle.sarif_model.specs.State.{state_name};
 ghost use Rattle.sarif_counts.specs.Counts.{same_state as state_is};
 ghost use Rattle.sarif_counts.specs.Tally.{same_level as level_is};
 ghost use Rattle.sarif_reports.specs.ByFile.{findings_in, tables_in};
@@ -58,60 +60,60 @@ fn has_state(findings: &[&Finding], state: State) -> bool
     false
 }
 
-/// Adds the name of the level, if a row has it.
+/// Adds the level, if a row has it.
 fn push_level(
-    names: &mut Vec<&'static str>,
+    levels: &mut Vec<Level>,
     rows: &Rows<'_>,
     level: Level,
 ) -> Result<(), AllocError>
-    ensures { OnOk result (map (λ name. name.now) names.new.items
-        ≡ map (λ name. name.now) names.old.items ++ said.level_if ((tables_in rows.now).hits ++ (tables_in rows.now).others) level) }
+    ensures { OnOk result (levels.new.items ≡ levels.old.items
+        ++ said.level_if ((tables_in rows.now).hits ++ (tables_in rows.now).others) level) }
 {
     if has_level(&rows.hits, level) || has_level(&rows.others, level) {
-        names.push(level.name())?;
+        levels.push(level)?;
     }
     Ok(())
 }
 
-/// Adds the name of the state, if a row has it.
+/// Adds the state, if a row has it.
 fn push_state(
-    names: &mut Vec<&'static str>,
+    states: &mut Vec<State>,
     rows: &Rows<'_>,
     state: State,
 ) -> Result<(), AllocError>
-    ensures { OnOk result (map (λ name. name.now) names.new.items
-        ≡ map (λ name. name.now) names.old.items ++ said.state_if ((tables_in rows.now).hits ++ (tables_in rows.now).others) state) }
+    ensures { OnOk result (states.new.items ≡ states.old.items
+        ++ said.state_if ((tables_in rows.now).hits ++ (tables_in rows.now).others) state) }
 {
     if has_state(&rows.hits, state) || has_state(&rows.others, state) {
-        names.push(state.name())?;
+        states.push(state)?;
     }
     Ok(())
 }
 
 /// The levels of the rows.
-fn levels_in(alloc: Global, rows: &Rows<'_>) -> Result<Vec<&'static str>, AllocError>
-    ensures { IfOk result
-        (λ names. map (λ name. name.now) names.items ≡ said.levels_in ((tables_in rows.now).hits ++ (tables_in rows.now).others)) }
+fn levels_in(alloc: Global, rows: &Rows<'_>) -> Result<Vec<Level>, AllocError>
+    ensures { IfOk result (λ levels. levels.items
+        ≡ said.levels_in ((tables_in rows.now).hits ++ (tables_in rows.now).others)) }
 {
-    let mut names = Vec::new(alloc);
-    push_level(&mut names, rows, Level::Error)?;
-    push_level(&mut names, rows, Level::Warning)?;
-    push_level(&mut names, rows, Level::Note)?;
-    push_level(&mut names, rows, Level::NoLevel)?;
-    Ok(names)
+    let mut levels = Vec::new(alloc);
+    push_level(&mut levels, rows, Level::Error)?;
+    push_level(&mut levels, rows, Level::Warning)?;
+    push_level(&mut levels, rows, Level::Note)?;
+    push_level(&mut levels, rows, Level::NoLevel)?;
+    Ok(levels)
 }
 
 /// The states of the rows.
-fn states_in(alloc: Global, rows: &Rows<'_>) -> Result<Vec<&'static str>, AllocError>
-    ensures { IfOk result
-        (λ names. map (λ name. name.now) names.items ≡ said.states_in ((tables_in rows.now).hits ++ (tables_in rows.now).others)) }
+fn states_in(alloc: Global, rows: &Rows<'_>) -> Result<Vec<State>, AllocError>
+    ensures { IfOk result (λ states. states.items
+        ≡ said.states_in ((tables_in rows.now).hits ++ (tables_in rows.now).others)) }
 {
-    let mut names = Vec::new(alloc);
-    push_state(&mut names, rows, State::New)?;
-    push_state(&mut names, rows, State::Unchanged)?;
-    push_state(&mut names, rows, State::Updated)?;
-    push_state(&mut names, rows, State::Absent)?;
-    Ok(names)
+    let mut states = Vec::new(alloc);
+    push_state(&mut states, rows, State::New)?;
+    push_state(&mut states, rows, State::Unchanged)?;
+    push_state(&mut states, rows, State::Updated)?;
+    push_state(&mut states, rows, State::Absent)?;
+    Ok(states)
 }
 
 /// A box with this name.
@@ -121,38 +123,70 @@ fn box_named(alloc: Global, name: &str) -> Result<String, AllocError>
     format!(in alloc; "<label><input type=\"checkbox\" id=\"{name}\" checked>{name}</label>")
 }
 
-/// Boxes with these names.
-fn boxes_named(alloc: Global, names: &[&'static str]) -> Result<String, AllocError>
+/// A box for each of these levels.
+fn level_boxes(alloc: Global, levels: &[Level]) -> Result<String, AllocError>
     ensures { IfOk result
-        (λ s. string_bytes s ≡ flat_map said.box (map (λ name. name.now) names.now)) }
+        (λ s. string_bytes s ≡ flat_map said.box (map level_name levels.now)) }
 {
     let mut text = String::new(alloc);
-    for name in names {
-        text.push_str(box_named(alloc, name)?.as_str())?;
+    for level in levels {
+        let named = box_named(alloc, level.name())?;
+        text.push_str(named.as_str())?;
     }
     Ok(text)
 }
 
-/// Adds a box for each name, if there are two or more.
-#[tactic(auto, unfolding(crate::specs::HtmlReport::boxes))]
-fn push_boxes(
-    alloc: Global,
-    text: &mut String,
-    legend: &str,
-    names: &[&'static str],
-) -> Result<(), AllocError>
-    ensures { OnOk result (string_bytes text.new
-        ≡ string_bytes text.old ++ said.boxes legend.now (map (λ name. name.now) names.now)) }
+/// A box for each of these states.
+fn state_boxes(alloc: Global, states: &[State]) -> Result<String, AllocError>
+    ensures { IfOk result
+        (λ s. string_bytes s ≡ flat_map said.box (map state_name states.now)) }
 {
-    if names.len() < 2 {
-        return Ok(());
+    let mut text = String::new(alloc);
+    for state in states {
+        let named = box_named(alloc, state.name())?;
+        text.push_str(named.as_str())?;
     }
-    let boxes = boxes_named(alloc, names)?;
+    Ok(text)
+}
+
+/// Adds the boxes of a group.
+fn push_group(text: &mut String, legend: &str, boxes: &str) -> Result<(), AllocError>
+    ensures { OnOk result
+        (string_bytes text.new ≡ string_bytes text.old ++ said.group_of legend.now boxes.now) }
+{
     text.push_str("<fieldset><legend>")?;
     text.push_str(legend)?;
     text.push_str("</legend>")?;
-    text.push_str(boxes.as_str())?;
+    text.push_str(boxes)?;
     text.push_str("</fieldset>\n")?;
+    Ok(())
+}
+
+/// Adds a box for each level, if there are two or more.
+#[tactic(auto, unfolding(crate::specs::HtmlReport::boxes))]
+fn push_levels(alloc: Global, text: &mut String, levels: &[Level]) -> Result<(), AllocError>
+    ensures { OnOk result (string_bytes text.new
+        ≡ string_bytes text.old ++ said.boxes (codes "Level") (map level_name levels.now)) }
+{
+    if levels.len() < 2 {
+        return Ok(());
+    }
+    let boxes = level_boxes(alloc, levels)?;
+    push_group(text, "Level", boxes.as_str())?;
+    Ok(())
+}
+
+/// Adds a box for each state, if there are two or more.
+#[tactic(auto, unfolding(crate::specs::HtmlReport::boxes))]
+fn push_states(alloc: Global, text: &mut String, states: &[State]) -> Result<(), AllocError>
+    ensures { OnOk result (string_bytes text.new
+        ≡ string_bytes text.old ++ said.boxes (codes "State") (map state_name states.now)) }
+{
+    if states.len() < 2 {
+        return Ok(());
+    }
+    let boxes = state_boxes(alloc, states)?;
+    push_group(text, "State", boxes.as_str())?;
     Ok(())
 }
 
@@ -161,18 +195,18 @@ fn push_boxes(
 fn push_both(
     alloc: Global,
     text: &mut String,
-    levels: &[&'static str],
-    states: &[&'static str],
+    levels: &[Level],
+    states: &[State],
 ) -> Result<(), AllocError>
-    ensures { OnOk result (string_bytes text.new ≡ string_bytes text.old
-        ++ said.filters_by (map (λ name. name.now) levels.now) (map (λ name. name.now) states.now)) }
+    ensures { OnOk result (string_bytes text.new
+        ≡ string_bytes text.old ++ said.filters_by levels.now states.now) }
 {
     if levels.len() < 2 && states.len() < 2 {
         return Ok(());
     }
     text.push_str(filters_begin())?;
-    push_boxes(alloc, text, "Level", levels)?;
-    push_boxes(alloc, text, "State", states)?;
+    push_levels(alloc, text, levels)?;
+    push_states(alloc, text, states)?;
     text.push_str(filters_end())?;
     Ok(())
 }
@@ -184,8 +218,8 @@ pub(crate) fn push_filters(
     text: &mut String,
     rows: &Rows<'_>,
 ) -> Result<(), AllocError>
-    ensures { OnOk result
-        (string_bytes text.new ≡ string_bytes text.old ++ said.filters_of ((tables_in rows.now).hits ++ (tables_in rows.now).others)) }
+    ensures { OnOk result (string_bytes text.new ≡ string_bytes text.old
+        ++ said.filters_of ((tables_in rows.now).hits ++ (tables_in rows.now).others)) }
 {
     let levels = levels_in(alloc, rows)?;
     let states = states_in(alloc, rows)?;

@@ -1,5 +1,5 @@
 //! The sentences and the headings of a page.
-ghost use Rattle.std.specs.Prelude.{◌≡◌, ◌++◌, IfOk, OnOk, map, drop, string_bytes};
+ghost use Rattle.std.specs.Prelude.{◌≡◌, ◌++◌, IfOk, OnOk, string_bytes};
 ghost use Rattle.sarif_reports.specs.HtmlWords as said;
 
 use crate::sentences::{counted, hits_text};
@@ -7,54 +7,51 @@ use sarif_counts::{Policy, States, Verdict};
 use sarif_model::{Level, State};
 use std::alloc::{AllocError, Global};
 
-/// Adds the name of a state, if it counts.
-fn push_name(
-    names: &mut Vec<&'static str>,
+/// Adds a state, if it counts.
+fn push_listed(
+    listed: &mut Vec<State>,
     states: States,
     state: State,
 ) -> Result<(), AllocError>
-    ensures { OnOk result (map (λ name. name.now) names.new.items
-        ≡ map (λ name. name.now) names.old.items ++ said.name_if states state) }
+    ensures { OnOk result (listed.new.items ≡ listed.old.items ++ said.listed_if states state) }
 {
     if states.lists(state) {
-        names.push(state.name())?;
+        listed.push(state)?;
     }
     Ok(())
 }
 
-/// The names of the states that count.
-fn names_of(alloc: Global, states: States) -> Result<Vec<&'static str>, AllocError>
-    ensures { IfOk result
-        (λ names. map (λ name. name.now) names.items ≡ said.names_of states) }
+/// The states that count.
+fn listed_states(alloc: Global, states: States) -> Result<Vec<State>, AllocError>
+    ensures { IfOk result (λ listed. listed.items ≡ said.listed_states states) }
 {
-    let mut names = Vec::new(alloc);
-    push_name(&mut names, states, State::New)?;
-    push_name(&mut names, states, State::Unchanged)?;
-    push_name(&mut names, states, State::Updated)?;
-    push_name(&mut names, states, State::Absent)?;
-    Ok(names)
+    let mut listed = Vec::new(alloc);
+    push_listed(&mut listed, states, State::New)?;
+    push_listed(&mut listed, states, State::Unchanged)?;
+    push_listed(&mut listed, states, State::Updated)?;
+    push_listed(&mut listed, states, State::Absent)?;
+    Ok(listed)
 }
 
-/// What is between a name and these names after it.
-fn joint(names: &[&'static str]) -> &'static str
-    ensures { result.now ≡ said.joint (map (λ name. name.now) names.now) }
+/// What is between a state and these states after it.
+fn joint(states: &[State]) -> &'static str
+    ensures { result.now ≡ said.joint states.now }
 {
-    match names.len() {
-        0 => "",
-        1 => " or ",
+    match states {
+        [] => "",
+        [_] => " or ",
         _ => ", ",
     }
 }
 
-/// The names as one phrase, for example `new, updated or absent`.
-fn joined(alloc: Global, names: &[&'static str]) -> Result<String, AllocError>
-    ensures { IfOk result
-        (λ s. string_bytes s ≡ said.joined (map (λ name. name.now) names.now)) }
+/// The names of these states as one phrase, for example `new, updated or absent`.
+fn joined(alloc: Global, states: &[State]) -> Result<String, AllocError>
+    ensures { IfOk result (λ s. string_bytes s ≡ said.joined states.now) }
 {
     let mut text = String::new(alloc);
-    for (number, name) in names.iter().enumerate() {
-        text.push_str(name)?;
-        text.push_str(joint(&names[number + 1..]))?;
+    for (number, state) in states.iter().enumerate() {
+        text.push_str(state.name())?;
+        text.push_str(joint(&states[number + 1..]))?;
     }
     Ok(text)
 }
@@ -76,11 +73,11 @@ fn levels_from(least: Level) -> &'static str
 pub(crate) fn reason(alloc: Global, policy: &Policy) -> Result<String, AllocError>
     ensures { IfOk result (λ s. string_bytes s ≡ said.reason policy.now) }
 {
-    let names = names_of(alloc, policy.states)?;
-    if names.is_empty() {
+    let listed = listed_states(alloc, policy.states)?;
+    if listed.is_empty() {
         return String::from_str(alloc, "No state counts, so no result is a hit.");
     }
-    let states = joined(alloc, &names)?;
+    let states = joined(alloc, &listed)?;
     let levels = levels_from(policy.fail_on);
     format!(in alloc; "A hit is a result that is {states}, of {levels}, and not suppressed.")
 }
