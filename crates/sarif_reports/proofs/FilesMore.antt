@@ -21,8 +21,8 @@ use Rattle.sarif_reports.specs.HtmlRows.{file_of, is_in, files_of, by_file}
 same_text : (a b : List ℕ) → bytes_eq a b ≡ true → a ≡ b
 same_text a b = (bytes_eq-Decides a b).0
 
-self_text : (a : List ℕ) → bytes_eq a a ≡ true
-self_text a = (bytes_eq-Decides a a).1 refl
+pub text_self : (a : List ℕ) → bytes_eq a a ≡ true
+text_self a = (bytes_eq-Decides a a).1 refl
 
 -- the test of equality in either order
 pub texts_swap : (a b : List ℕ) → bytes_eq a b ≡ bytes_eq b a
@@ -31,13 +31,13 @@ texts_swap a b = by (bytes_eq a b) (bytes_eq b a) refl refl
     by : (p q : Bool) → bytes_eq a b ≡ p → bytes_eq b a ≡ q → p ≡ q
     by true true e h = refl
     by false false e h = refl
-    by true false e h = sym (self_text a) ∙ ap (λ t. bytes_eq t a) (same_text a b e) ∙ h
-    by false true e h = sym e ∙ ap (λ t. bytes_eq t b) (sym (same_text b a h)) ∙ self_text b
+    by true false e h = sym (text_self a) ∙ ap (λ t. bytes_eq t a) (same_text a b e) ∙ h
+    by false true e h = sym e ∙ ap (λ t. bytes_eq t b) (sym (same_text b a h)) ∙ text_self b
 
 -- ---- the files of findings
 
 -- another file leaves the others
-others_stay : (file q : List ℕ) (files : List (List ℕ))
+pub others_stay : (file q : List ℕ) (files : List (List ℕ))
     → has_file (filter (λ own. not (bytes_eq own file)) files) q ≡ (not (bytes_eq q file) && has_file files q)
 others_stay file q files =
     any-filter_same (λ own. bytes_eq q own) (λ own. not (bytes_eq own file)) (not (bytes_eq q file))
@@ -222,7 +222,7 @@ module _ (fs : List Finding) where
   here : (before after : List (List ℕ)) (file : List ℕ) → has_file (before ++ (file ∷ after)) file ≡ true
   here before after file =
       list_any-append (λ own. bytes_eq file own) before (file ∷ after)
-      ∙ ap (λ b. has_file before file || (b || has_file after file)) (self_text file) ∙ last (has_file before file)
+      ∙ ap (λ b. has_file before file || (b || has_file after file)) (text_self file) ∙ last (has_file before file)
     where
       last : (b : Bool) → (b || true) ≡ true
       last true = refl

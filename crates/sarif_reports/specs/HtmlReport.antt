@@ -96,11 +96,15 @@ counts_table count policy =
 unfoldable pub mind : List ℕ → List ℕ
 mind sentence = codes "<p class=\"mind\">" ++ (sentence ++ codes "</p>\n")
 
+abbrev pub runs_line : ℕ → List ℕ
+runs_line without = if without == 0 then [] else mind (runs_text without)
+
+abbrev pub entries_line : ℕ → List ℕ
+entries_line unused = if unused == 0 then [] else mind (entries_text unused)
+
 -- what was not looked at
 unfoldable pub minds : ℕ → ℕ → List ℕ
-minds without unused =
-    (if without == 0 then [] else mind (runs_text without))
-    ++ (if unused == 0 then [] else mind (entries_text unused))
+minds without unused = runs_line without ++ entries_line unused
 
 -- ---- the filters
 
@@ -166,7 +170,7 @@ row_front again f =
 -- the line and the column, if there are any
 abbrev pub marked : List ℕ → List ℕ
 marked [] = []
-marked (b ∷ bs) = codes "<b>" ++ ((b ∷ bs) ++ codes "</b>")
+marked (b ∷ bs) = codes "<b>" ++ (escaped Page (b ∷ bs) ++ codes "</b>")
 
 -- a path, which may be broken after each slash, and the position in it
 abbrev pub spot_in : List ℕ → List ℕ → List ℕ
@@ -247,7 +251,7 @@ more_line more hits = if more == 0 then [] else mind (more_text more hits)
 
 unfoldable pub rest_line : Tables → List ℕ
 rest_line tables =
-    if tables.all_hits + tables.all_others == 0 then nothing_reported
+    if tables.all_hits == 0 && tables.all_others == 0 then nothing_reported
     else more_line
     ((tables.all_hits - length tables.hits) + (tables.all_others - length tables.others))
     (tables.all_hits - length tables.hits)

@@ -73,6 +73,16 @@ fn level_cells(
     format!(in alloc; "{error}{warning}{note}{none}")
 }
 
+/// The row of one state, with these numbers.
+fn row_of(alloc: Global, policy: &Policy, state: State, row: &Row) -> Result<String, AllocError>
+    ensures { IfOk result (λ s. string_bytes s ≡ said.row_of policy.now state row.now) }
+{
+    let name = state.name();
+    let cells = level_cells(alloc, policy, state, row)?;
+    let last = plain_cell(alloc, row.suppressed)?;
+    format!(in alloc; "<tr><th scope=\"row\" align=\"left\">{name}</th>{cells}{last}</tr>\n")
+}
+
 /// Adds the row of one state.
 #[tactic(auto, unfolding(crate::specs::HtmlReport::count_row))]
 fn push_count_row(
@@ -85,15 +95,8 @@ fn push_count_row(
     ensures { OnOk result (string_bytes text.new
         ≡ string_bytes text.old ++ said.count_row policy.now state (count_at counts.now state)) }
 {
-    let row = row_numbers(counts, state);
-    let cells = level_cells(alloc, policy, state, &row)?;
-    let last = plain_cell(alloc, row.suppressed)?;
-    text.push_str("<tr><th scope=\"row\" align=\"left\">")?;
-    text.push_str(state.name())?;
-    text.push_str("</th>")?;
-    text.push_str(cells.as_str())?;
-    text.push_str(last.as_str())?;
-    text.push_str("</tr>\n")?;
+    let row = row_of(alloc, policy, state, &row_numbers(counts, state))?;
+    text.push_str(row.as_str())?;
     Ok(())
 }
 

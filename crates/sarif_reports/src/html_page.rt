@@ -1,5 +1,5 @@
 //! The page of a merge.
-ghost use Rattle.std.specs.Prelude.{◌≡◌, ◌++◌, IfOk, OnOk, string_bytes};
+ghost use Rattle.std.specs.Prelude.{◌≡◌, ◌<◌, ◌+◌, ◌^◌, ◌++◌, IfOk, OnOk, string_bytes};
 ghost use Rattle.sarif_reports.specs.ByFile.{tables_in};
 ghost use Rattle.sarif_reports.specs.Facts.{facts_of};
 ghost use Rattle.sarif_reports.specs.HtmlReport as said;
@@ -99,15 +99,37 @@ fn push_links(alloc: Global, text: &mut String, rows: &Rows<'_>) -> Result<(), A
     Ok(())
 }
 
-/// Adds a sentence that the reader has to know.
+/// A sentence that the reader has to know.
 #[tactic(auto, unfolding(crate::specs::HtmlReport::mind))]
-fn push_mind(text: &mut String, sentence: &str) -> Result<(), AllocError>
-    ensures { OnOk result
-        (string_bytes text.new ≡ string_bytes text.old ++ said.mind sentence.now) }
+fn mind(alloc: Global, sentence: &str) -> Result<String, AllocError>
+    ensures { IfOk result (λ s. string_bytes s ≡ said.mind sentence.now) }
 {
-    text.push_str("<p class=\"mind\">")?;
-    text.push_str(sentence)?;
-    text.push_str("</p>\n")?;
+    format!(in alloc; "<p class=\"mind\">{sentence}</p>\n")
+}
+
+/// Adds how many input runs have no results, if there are any.
+fn push_runs(alloc: Global, text: &mut String, without: u32) -> Result<(), AllocError>
+    ensures { OnOk result
+        (string_bytes text.new ≡ string_bytes text.old ++ said.runs_line without) }
+{
+    if without != 0 {
+        let sentence = runs_text(alloc, without)?;
+        let line = mind(alloc, sentence.as_str())?;
+        text.push_str(line.as_str())?;
+    }
+    Ok(())
+}
+
+/// Adds how many suppression entries match nothing, if there are any.
+fn push_entries(alloc: Global, text: &mut String, unused: u32) -> Result<(), AllocError>
+    ensures { OnOk result
+        (string_bytes text.new ≡ string_bytes text.old ++ said.entries_line unused) }
+{
+    if unused != 0 {
+        let sentence = entries_text(alloc, unused)?;
+        let line = mind(alloc, sentence.as_str())?;
+        text.push_str(line.as_str())?;
+    }
     Ok(())
 }
 
@@ -122,12 +144,8 @@ fn push_minds(
     ensures { OnOk result
         (string_bytes text.new ≡ string_bytes text.old ++ said.minds without unused) }
 {
-    if without != 0 {
-        push_mind(text, runs_text(alloc, without)?.as_str())?;
-    }
-    if unused != 0 {
-        push_mind(text, entries_text(alloc, unused)?.as_str())?;
-    }
+    push_runs(alloc, text, without)?;
+    push_entries(alloc, text, unused)?;
     Ok(())
 }
 
@@ -138,7 +156,9 @@ fn push_more(alloc: Global, text: &mut String, more: usize, hits: usize) -> Resu
         (string_bytes text.new ≡ string_bytes text.old ++ said.more_line more hits) }
 {
     if more != 0 {
-        push_mind(text, more_text(alloc, more, hits)?.as_str())?;
+        let sentence = more_text(alloc, more, hits)?;
+        let line = mind(alloc, sentence.as_str())?;
+        text.push_str(line.as_str())?;
     }
     Ok(())
 }
@@ -146,16 +166,19 @@ fn push_more(alloc: Global, text: &mut String, more: usize, hits: usize) -> Resu
 /// Adds that nothing is reported, or how many results have no row.
 #[tactic(auto, unfolding(crate::specs::HtmlReport::rest_line))]
 fn push_rest(alloc: Global, text: &mut String, rows: &Rows<'_>) -> Result<(), AllocError>
+    requires { rows.now.all_hits + rows.now.all_others < 2 ^ 64 }
     ensures { OnOk result
         (string_bytes text.new ≡ string_bytes text.old ++ said.rest_line (tables_in rows.now)) }
 {
-    if rows.all_hits == 0 && rows.all_others == 0 {
+    let is_empty = rows.all_hits == 0 && rows.all_others == 0;
+    if is_empty {
         text.push_str(nothing_reported())?;
         return Ok(());
     }
     let hits = rows.all_hits.saturating_sub(rows.hits.len());
     let others = rows.all_others.saturating_sub(rows.others.len());
-    push_more(alloc, text, hits.saturating_add(others), hits)
+    push_more(alloc, text, hits + others, hits)?;
+    Ok(())
 }
 
 /// Adds the tables.
@@ -186,12 +209,14 @@ fn push_results(
     max: u32,
     rows: &Rows<'_>,
 ) -> Result<(), AllocError>
+    requires { rows.now.all_hits + rows.now.all_others < 2 ^ 64 }
     ensures { OnOk result (string_bytes text.new
         ≡ string_bytes text.old ++ said.results_of verdict max (tables_in rows.now)) }
 {
     push_filters(alloc, text, rows)?;
     push_sections(alloc, text, verdict, max, rows)?;
-    push_rest(alloc, text, rows)
+    push_rest(alloc, text, rows)?;
+    Ok(())
 }
 
 /// Returns the page: the verdict, the counts, and a row for each of the first 10,000 reported results, the hits

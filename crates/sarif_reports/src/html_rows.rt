@@ -1,6 +1,5 @@
 //! The rows of a page, and their tables.
 ghost use Rattle.std.specs.Prelude.{◌≡◌, ◌++◌, IfOk, OnOk, option_map, None, string_bytes};
-ghost use Rattle.std.specs.Fmt.{decimal};
 ghost use Rattle.sarif_findings.specs.Finding.{numbered};
 ghost use Rattle.sarif_reports.specs.ByFile.{findings_in};
 ghost use Rattle.sarif_reports.specs.HtmlReport as said;
@@ -60,13 +59,13 @@ fn position(alloc: Global, finding: &Finding) -> Result<String, AllocError>
 }
 
 /// Adds the line and the column, if there are any.
-fn push_marked(text: &mut String, position: &str) -> Result<(), AllocError>
+fn push_marked(alloc: Global, text: &mut String, position: &str) -> Result<(), AllocError>
     ensures { OnOk result
         (string_bytes text.new ≡ string_bytes text.old ++ said.marked position.now) }
 {
     if !position.is_empty() {
         text.push_str("<b>")?;
-        text.push_str(position)?;
+        Escaping::Page.push_str(alloc, text, position)?;
         text.push_str("</b>")?;
     }
     Ok(())
@@ -85,7 +84,7 @@ fn push_spot(
     let mut place = String::new(alloc);
     push_path(&mut place, path)?;
     Escaping::Place.push_str(alloc, text, place.as_str())?;
-    push_marked(text, position)?;
+    push_marked(alloc, text, position)?;
     Ok(())
 }
 
@@ -146,14 +145,20 @@ fn push_rule(alloc: Global, text: &mut String, finding: &Finding) -> Result<(), 
     Ok(())
 }
 
+/// The cell of the level, from the end of the place to the message.
+fn level_cell(alloc: Global, level: &str) -> Result<String, AllocError>
+    ensures { IfOk result (λ s. string_bytes s ≡ said.level_cell level.now) }
+{
+    format!(in alloc; "</code></th><td><span>{level}</span></td><td>")
+}
+
 /// Adds the level, the message and the rule of a row.
 #[tactic(auto, unfolding(crate::specs::HtmlReport::message_cells))]
 fn push_message_cells(alloc: Global, text: &mut String, finding: &Finding) -> Result<(), AllocError>
     ensures { OnOk result
         (string_bytes text.new ≡ string_bytes text.old ++ said.message_cells finding.now) }
 {
-    let level = finding.level.name();
-    let cell = format!(in alloc; "</code></th><td><span>{level}</span></td><td>")?;
+    let cell = level_cell(alloc, finding.level.name())?;
     text.push_str(cell.as_str())?;
     Escaping::Page.push_str(alloc, text, finding.message.as_str())?;
     text.push_str("</td><td>")?;

@@ -1,7 +1,7 @@
 //! Which results have a row on a page.
-ghost use Rattle.std.specs.Prelude.{◌≡◌, ◌-◌, IfOk, length, map, take};
+ghost use Rattle.std.specs.Prelude.{◌≡◌, ◌<◌, ◌+◌, ◌^◌, IfOk};
 ghost use Rattle.sarif_reports.specs.ByFile.{findings_in, tables_in};
-ghost use Rattle.sarif_reports.specs.HtmlRows.{by_file as by_file_of, most_rows, tables_of};
+ghost use Rattle.sarif_reports.specs.HtmlRows.{tables_of};
 ghost use Rattle.sarif_reports.specs.Listed.{hits_among as hits_in, others_among as others_in};
 
 use crate::by_file::by_file;
@@ -49,7 +49,8 @@ pub(crate) fn rows_of(
     seed: RandomState,
     findings: &[Finding],
 ) -> Result<Rows<'_>, AllocError>
-    ensures { IfOk result (λ rows. tables_in rows ≡ tables_of findings.now) }
+    ensures tables { IfOk result (λ rows. tables_in rows ≡ tables_of findings.now) }
+    ensures room { IfOk result (λ rows. rows.all_hits + rows.all_others < 2 ^ 64) }
 {
     let hits = hits_among(alloc, findings)?;
     let others = others_among(alloc, findings)?;

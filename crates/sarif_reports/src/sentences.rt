@@ -51,8 +51,8 @@ pub(crate) fn gate_text(
 fn more_of_both(alloc: Global, number: usize, hits: usize) -> Result<String, AllocError>
     ensures { IfOk result (λ s. string_bytes s ≡ said.more_of_both number hits) }
 {
-    let hits = counted(alloc, hits, " of them a hit.", " of them hits.")?;
-    format!(in alloc; "{number} more results are in the merged log, {hits}")
+    let of_them = counted(alloc, hits, " of them a hit.", " of them hits.")?;
+    format!(in alloc; "{number} more results are in the merged log, {of_them}")
 }
 
 /// How many results have no row, and how many of them are hits.

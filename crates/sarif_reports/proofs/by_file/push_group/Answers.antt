@@ -4,15 +4,6 @@ use Rattle.std.proofs.lemmas.List.{length-map, take_all}
 use Rattle.sarif_reports.specs.ByFile.{findings_in, group_in}
 use Rattle.sarif_reports.proofs.by_file.push_group.Goals as goal
 
-pub returns-in-None-clause-rows : goal.returns-in-None-clause-rows
-returns-in-None-clause-rows c =
-    let file = c.args.file.now in
-    let rows = c.args.rows.now.items in
-    let none : get_by (λ k. bytes_eq file k.now) c.args.groups.now ≡ None = search rules in
-    let small : length (findings_in rows) ≤ c.args.most = omega (arith, length-map rows (λ f. f.now)) in
-    sym (take_all c.args.most (findings_in rows) small)
-    ∙ ap (take c.args.most) (sym (append-nil (findings_in rows)) ∙ ap (λ o. findings_in rows ++ unwrap_or (group_in o) []) (sym none))
-
 pub returns-clause-rows : goal.returns-clause-rows
 returns-clause-rows c =
     let file = c.args.file.now in
