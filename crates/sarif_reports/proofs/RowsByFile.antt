@@ -65,7 +65,7 @@ rows_are_others fs =
 -- ---- each file's rows together
 
 -- files that differ from each other
-are_apart : List (List ℕ) → Bool
+abbrev are_apart : List (List ℕ) → Bool
 are_apart [] = true
 are_apart (file ∷ files) = not (has_file files file) && are_apart files
 
@@ -190,10 +190,10 @@ module _ (p : Finding → Bool) where
 
   numbers : (a b : Bool) (x c d e : ℕ) → (a ≡ true → b ≡ false) → c + d ≡ e
       → (cond a x 0 + c) + (cond (not (a || b)) x 0 + d) ≡ cond (not b) x 0 + e
-  numbers true true x c d e no h = absurd (true≢false (no refl))
-  numbers true false x c d e no h = omega (arith, h)
-  numbers false true x c d e no h = omega (arith, h)
-  numbers false false x c d e no h = omega (arith, h)
+  numbers true true x c d e apart sum = absurd (true≢false (apart refl))
+  numbers true false x c d e apart sum = omega (arith, sum)
+  numbers false true x c d e apart sum = omega (arith, sum)
+  numbers false false x c d e apart sum = omega (arith, sum)
 
   split : (file : List ℕ) (files : List (List ℕ)) → has_file files file ≡ false → (fs : List Finding)
       → count_by p (filter (is_in file) fs) + count_by p (filter (λ f. not (bytes_eq (file_of f) file || has_file files (file_of f))) fs)

@@ -47,12 +47,20 @@ pub(crate) fn gate_text(
     format!(in alloc; "Gate: {word}{end}")
 }
 
+/// How many results have no row, and what some of them are.
+fn more_with(alloc: Global, number: usize, of_them: &str) -> Result<String, AllocError>
+    ensures { IfOk result (λ s. string_bytes s ≡ said.more_with number of_them.now) }
+{
+    format!(in alloc; "{number} more results are in the merged log, {of_them}")
+}
+
 /// How many results have no row, where some of them are hits and some are not.
 fn more_of_both(alloc: Global, number: usize, hits: usize) -> Result<String, AllocError>
     ensures { IfOk result (λ s. string_bytes s ≡ said.more_of_both number hits) }
 {
     let of_them = counted(alloc, hits, " of them a hit.", " of them hits.")?;
-    format!(in alloc; "{number} more results are in the merged log, {of_them}")
+    let text = more_with(alloc, number, of_them.as_str())?;
+    Ok(text)
 }
 
 /// How many results have no row, and how many of them are hits.
