@@ -1,10 +1,13 @@
 pub mod ArrayRead
 pub mod EscapedApart
 pub mod EscapedMore
+pub mod FilesMore
 pub mod GithubApart
 pub mod GitlabMore
 pub mod HashedApart
+pub mod PlacesApart
 pub mod RowsApart
+pub mod RowsByFile
 pub mod SeenTexts
 pub mod TagsCounted
 pub mod TextApart

@@ -3,7 +3,7 @@ use Rattle.std.specs.Prelude.{ℕ, Bool, ◌||◌, List, ◌==◌, ◌++◌, cod
 use Rattle.std.specs.Fmt.{decimal}
 use Rattle.sarif_findings.specs.Shown.{is_between}
 use Rattle.sarif_reports.specs.declared.escaping.Escaping.{Escaping}
-use Rattle.sarif_reports.specs.declared.escaping.Escaping.TheVariants.{Message, Property, Markdown, Page}
+use Rattle.sarif_reports.specs.declared.escaping.Escaping.TheVariants.{Message, Property, Markdown, Page, Place}
 
 -- a character of a workflow command's message
 abbrev pub message_char : ℕ → List ℕ
@@ -35,11 +35,16 @@ page_char c =
     if c == 34 then codes "&quot;" else (
     if c == 39 then codes "&#39;" else encode_utf8 c))))
 
+-- a character of a path in a page: the path may be broken after a slash
+abbrev pub place_char : ℕ → List ℕ
+place_char c = if c == 47 then codes "/<wbr>" else page_char c
+
 abbrev pub escaped_char : Escaping → ℕ → List ℕ
 escaped_char Message c = message_char c
 escaped_char Property c = property_char c
 escaped_char Markdown c = markdown_char c
 escaped_char Page c = page_char c
+escaped_char Place c = place_char c
 
 -- a string, character by character
 unfoldable pub escaped : Escaping → List ℕ → List ℕ

@@ -1,3 +1,4 @@
+pub mod ByFile
 pub mod CountRow
 pub mod Escaped
 pub mod EscapedBytes
@@ -11,7 +12,9 @@ pub mod GitlabReport
 pub mod HtmlFixed
 pub mod HtmlLaws
 pub mod HtmlReport
+pub mod HtmlRows
 pub mod HtmlStyle
+pub mod HtmlWords
 pub mod LaterOutputs
 pub mod Listed
 pub mod MarkdownLaws

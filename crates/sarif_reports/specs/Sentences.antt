@@ -32,11 +32,13 @@ more_others n =
     counted n (codes " more result is in the merged log.")
     (codes " more results are in the merged log.")
 
+-- n results without a row, and what some of them are
+abbrev pub more_with : ℕ → List ℕ → List ℕ
+more_with n of_them = decimal n ++ (codes " more results are in the merged log, " ++ of_them)
+
 -- n results without a row, some of them hits
 abbrev pub more_of_both : ℕ → ℕ → List ℕ
-more_of_both n hits =
-    decimal n ++ (codes " more results are in the merged log, "
-    ++ counted hits (codes " of them a hit.") (codes " of them hits."))
+more_of_both n hits = more_with n (counted hits (codes " of them a hit.") (codes " of them hits."))
 
 -- how many results have no row, and how many of them are hits
 abbrev pub more_text : ℕ → ℕ → List ℕ

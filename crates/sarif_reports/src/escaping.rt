@@ -14,11 +14,13 @@ pub(crate) enum Escaping {
     Markdown,
     /// The text of an element of a page, or of an attribute.
     Page,
+    /// A path in a page, which may be broken after a slash.
+    Place,
 }
 
 impl Escaping {
     ghost use Rattle.sarif_reports.specs.Escaped.{escaped_char, escaped, message_char, property_char};
-    ghost use Rattle.sarif_reports.specs.Escaped.{markdown_char, is_mark, page_char};
+    ghost use Rattle.sarif_reports.specs.Escaped.{markdown_char, is_mark, page_char, place_char};
     ghost use Rattle.sarif_reports.specs.EscapedBytes.{escapes};
 
     fn push_message(text: &mut String, c: char) -> Result<(), AllocError>
@@ -76,6 +78,16 @@ impl Escaping {
         Ok(())
     }
 
+    fn push_place(text: &mut String, c: char) -> Result<(), AllocError>
+        ensures { OnOk result (string_bytes text.new ≡ string_bytes text.old ++ place_char c) }
+    {
+        match c {
+            '/' => text.push_str("/<wbr>")?,
+            _ => Escaping::push_page(text, c)?,
+        }
+        Ok(())
+    }
+
     fn push_char(self, alloc: Global, text: &mut String, c: char) -> Result<(), AllocError>
         ensures { OnOk result
             (string_bytes text.new ≡ string_bytes text.old ++ escaped_char self c) }
@@ -85,6 +97,7 @@ impl Escaping {
             Escaping::Property => Escaping::push_property(text, c)?,
             Escaping::Markdown => Escaping::push_markdown(alloc, text, c)?,
             Escaping::Page => Escaping::push_page(text, c)?,
+            Escaping::Place => Escaping::push_place(text, c)?,
         }
         Ok(())
     }
@@ -98,6 +111,7 @@ impl Escaping {
             Escaping::Property => matches!(byte, b'%' | b':' | b','),
             Escaping::Markdown => Escaping::is_mark(byte as char),
             Escaping::Page => matches!(byte, b'&' | b'<' | b'>' | b'"' | b'\''),
+            Escaping::Place => matches!(byte, b'/' | b'&' | b'<' | b'>' | b'"' | b'\''),
         }
     }
 

@@ -1,8 +1,9 @@
 //! Laws of reports. Each law is the contract of a function that does nothing. A log may be hostile, so the laws
 //! cover any strings.
-ghost use Rattle.std.specs.Prelude.{◌≡◌, ◌<◌, ◌==◌, ◌^◌, ℕ, List, true, false, [], Some, None, bytes_eq};
+ghost use Rattle.std.specs.Prelude.{◌≡◌, ◌<◌, ◌≤◌, ◌==◌, ◌^◌, ℕ, List, Bool, true, false, not, ◌&&◌};
+ghost use Rattle.std.specs.Prelude.{[], Some, None, bytes_eq};
 ghost use Rattle.std.specs.Prelude.{flat_map, length};
-ghost use Rattle.std.specs.List.{IsDistinct, count_by, sum_by};
+ghost use Rattle.std.specs.List.{IsDistinct, count_by, list_all, sum_by};
 ghost use Rattle.json.specs.Json.{document};
 ghost use Rattle.serde_json.specs.Data.{Data, array};
 ghost use Rattle.serde_json.specs.Written.{outline};
@@ -10,15 +11,16 @@ ghost use Rattle.sarif_model.specs.Run.{runs_of};
 ghost use Rattle.sarif_counts.specs.Policy.{hits_of};
 ghost use Rattle.sarif_counts.specs.CountOf.{count_of};
 ghost use Rattle.sarif_findings.specs.declared.finding.Finding.{Finding};
-ghost use Rattle.sarif_reports.specs.declared.escaping.Escaping.TheVariants.{Markdown, Page};
+ghost use Rattle.sarif_reports.specs.declared.escaping.Escaping.TheVariants.{Markdown, Page, Place};
 ghost use Rattle.sarif_reports.specs.Escaped.{escaped};
 ghost use Rattle.sarif_reports.specs.EscapedLaws.{has_no_mark, is_element_text};
 ghost use Rattle.sarif_reports.specs.GithubLaws.{are_commands};
 ghost use Rattle.sarif_reports.specs.GithubReport.{github_of};
 ghost use Rattle.sarif_reports.specs.GitlabReport.{gitlab_of, hashed_texts, items_after};
 ghost use Rattle.sarif_findings.specs.declared.reporting.Reporting.{Reporting};
-ghost use Rattle.sarif_reports.specs.HtmlLaws.{row_tags, tags_in};
+ghost use Rattle.sarif_reports.specs.HtmlLaws.{are_together, has_breaks, row_tags, tags_in};
 ghost use Rattle.sarif_reports.specs.HtmlReport.{rows_below};
+ghost use Rattle.sarif_reports.specs.HtmlRows as page;
 ghost use Rattle.sarif_reports.specs.MarkdownLaws.{have_bars};
 ghost use Rattle.sarif_reports.specs.MarkdownReport.{in_table, result_row};
 ghost use Rattle.sarif_findings.specs.Reported.{reported_of};
@@ -42,6 +44,11 @@ pub fn shown_signs_stand_apart()
 /// or an attribute.
 pub fn page_texts_hold_no_markup()
     ensures { (text : List ℕ) → is_element_text (escaped Page text) ≡ true }
+{}
+
+/// The same holds of a path in a page, except that `<wbr>` follows each of its slashes.
+pub fn page_places_have_only_breaks()
+    ensures { (text : List ℕ) → has_breaks [] (escaped Place text) ≡ true }
 {}
 
 /// Each mark of a string in Markdown is part of a `&#N;`: no string makes a cell, a link, emphasis or a tag.
@@ -97,6 +104,22 @@ pub fn gitlab_reports_read_back()
     ensures { (reporting : Reporting) (log : Data)
         → document (gitlab_of (reported_of reporting log))
         ≡ Some (outline (array (items_after [] (reported_of reporting log)))) }
+{}
+
+/// A page has at most 10,000 rows: hits in the first table, other results in the second, and in each table the rows
+/// of one file together. If no more results are reported, each of them has exactly one row.
+pub fn page_rows_are_by_file()
+    ensures most { (findings : List Finding) →
+        length (page.page_rows findings) ≤ page.most_rows }
+    ensures hits { (findings : List Finding) →
+        list_all (λ f. f.hit) (page.hit_rows findings) ≡ true }
+    ensures others { (findings : List Finding) →
+        list_all (λ f. not f.hit) (page.other_rows findings) ≡ true }
+    ensures together { (findings : List Finding) →
+        (are_together (page.hit_rows findings) && are_together (page.other_rows findings)) ≡ true }
+    ensures once { (findings : List Finding) (test : Finding → Bool) →
+        length findings ≤ page.most_rows
+        → count_by test (page.page_rows findings) ≡ count_by test findings }
 {}
 
 /// Each row of a page has only its own tags, for any strings of its result: no log adds a tag or a cell.

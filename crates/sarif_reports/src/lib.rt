@@ -1,12 +1,18 @@
 //! Reports over findings: lines of text, commands for GitHub Actions, Markdown, GitLab, a page.
 #![tactic(auto)]
 
+mod by_file;
 mod count_row;
 mod escaping;
 mod github_lines;
 mod gitlab_array;
+mod html_counts;
+mod html_filters;
 mod html_fixed;
 mod html_page;
+mod html_rows;
+mod html_tables;
+mod html_words;
 mod identities;
 mod laws;
 mod later_outputs;
@@ -28,7 +34,7 @@ pub use gitlab_array::gitlab_report;
 pub use html_page::html_report;
 pub use laws::{
     github_lines_begin_with_commands, gitlab_reports_read_back, hashed_texts_differ,
-    markdown_rows_have_their_cells, markdown_texts_hold_no_mark, page_rows_have_their_tags,
+    markdown_rows_have_their_cells, markdown_texts_hold_no_mark, page_places_have_only_breaks, page_rows_are_by_file, page_rows_have_their_tags,
     page_texts_hold_no_markup, reported_hits_are_counted, shown_signs_stand_apart,
     shown_texts_are_seen, text_reports_have_a_line_a_result,
 };

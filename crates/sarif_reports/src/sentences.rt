@@ -6,7 +6,12 @@ use sarif_counts::Verdict;
 use std::alloc::{AllocError, Global};
 
 /// A number and what it counts: `one` for 1, otherwise `more`.
-fn counted(alloc: Global, number: usize, one: &str, more: &str) -> Result<String, AllocError>
+pub(crate) fn counted(
+    alloc: Global,
+    number: usize,
+    one: &str,
+    more: &str,
+) -> Result<String, AllocError>
     ensures { IfOk result (λ s. string_bytes s ≡ said.counted number one.now more.now) }
 {
     let noun = if number == 1 { one } else { more };
@@ -14,17 +19,17 @@ fn counted(alloc: Global, number: usize, one: &str, more: &str) -> Result<String
 }
 
 /// A number of hits.
-pub(crate) fn hits_text(alloc: Global, hits: u32) -> Result<String, AllocError>
+pub(crate) fn hits_text(alloc: Global, hits: usize) -> Result<String, AllocError>
     ensures { IfOk result (λ s. string_bytes s ≡ said.hits_text hits) }
 {
-    counted(alloc, hits as usize, " hit", " hits")
+    counted(alloc, hits, " hit", " hits")
 }
 
 /// What follows the verdict: the hits and how many of them are allowed.
 pub(crate) fn gate_end(alloc: Global, hits: u32, max: u32) -> Result<String, AllocError>
     ensures { IfOk result (λ s. string_bytes s ≡ said.gate_end hits max) }
 {
-    let hits = hits_text(alloc, hits)?;
+    let hits = hits_text(alloc, hits as usize)?;
     format!(in alloc; ", {hits}, {max} allowed")
 }
 
@@ -42,12 +47,20 @@ pub(crate) fn gate_text(
     format!(in alloc; "Gate: {word}{end}")
 }
 
+/// How many results have no row, and what some of them are.
+fn more_with(alloc: Global, number: usize, of_them: &str) -> Result<String, AllocError>
+    ensures { IfOk result (λ s. string_bytes s ≡ said.more_with number of_them.now) }
+{
+    format!(in alloc; "{number} more results are in the merged log, {of_them}")
+}
+
 /// How many results have no row, where some of them are hits and some are not.
 fn more_of_both(alloc: Global, number: usize, hits: usize) -> Result<String, AllocError>
     ensures { IfOk result (λ s. string_bytes s ≡ said.more_of_both number hits) }
 {
-    let hits = counted(alloc, hits, " of them a hit.", " of them hits.")?;
-    format!(in alloc; "{number} more results are in the merged log, {hits}")
+    let of_them = counted(alloc, hits, " of them a hit.", " of them hits.")?;
+    let text = more_with(alloc, number, of_them.as_str())?;
+    Ok(text)
 }
 
 /// How many results have no row, and how many of them are hits.

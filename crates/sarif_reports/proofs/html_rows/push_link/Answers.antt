@@ -1,6 +1,6 @@
 use Rattle.std.proofs.Common.{append_assoc}
 use Rattle.sarif_reports.specs.HtmlReport.{linked_to}
-use Rattle.sarif_reports.proofs.html_page.push_link.Goals as goal
+use Rattle.sarif_reports.proofs.html_rows.push_link.Goals as goal
 
 pub returns : goal.returns
 unfolding linked_to
