@@ -15,4 +15,6 @@ mod reports;
 #[cfg(test)]
 mod samples;
 #[cfg(test)]
+mod services;
+#[cfg(test)]
 mod words;

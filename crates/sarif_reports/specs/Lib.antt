@@ -1,3 +1,5 @@
+pub mod AzureLaws
+pub mod AzureReport
 pub mod CountRow
 pub mod Escaped
 pub mod EscapedBytes
@@ -12,10 +14,13 @@ pub mod HtmlFixed
 pub mod HtmlLaws
 pub mod HtmlReport
 pub mod HtmlStyle
+pub mod JunitLaws
+pub mod JunitReport
 pub mod Listed
 pub mod MarkdownLaws
 pub mod MarkdownReport
 pub mod Report
 pub mod Sentences
+pub mod Suites
 pub mod TextLaws
 pub mod TextReport

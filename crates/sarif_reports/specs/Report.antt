@@ -8,10 +8,14 @@ use Rattle.sarif_reports.specs.GithubReport.{github_of}
 use Rattle.sarif_reports.specs.MarkdownReport.{markdown_of}
 use Rattle.sarif_reports.specs.GitlabReport.{gitlab_of}
 use Rattle.sarif_reports.specs.HtmlReport.{html_of}
+use Rattle.sarif_reports.specs.JunitReport.{junit_of}
+use Rattle.sarif_reports.specs.AzureReport.{azure_of}
 
 -- all reports, in the order in which they are written
 abbrev pub all_reports : List Report
-all_reports = report.Text ∷ report.Github ∷ report.Markdown ∷ report.Gitlab ∷ report.Html ∷ []
+all_reports =
+    report.Text ∷ report.Github ∷ report.Markdown ∷ report.Gitlab ∷ report.Html ∷ report.Junit
+    ∷ report.Azure ∷ []
 
 -- the name of each, which is also the name of its option
 abbrev pub report_name : Report → List ℕ
@@ -20,6 +24,8 @@ report_name report.Github = codes "github"
 report_name report.Markdown = codes "markdown"
 report_name report.Gitlab = codes "gitlab"
 report_name report.Html = codes "html"
+report_name report.Junit = codes "junit"
+report_name report.Azure = codes "azure"
 
 -- the content of each
 abbrev pub report_of : Report → Facts → List ℕ
@@ -28,3 +34,5 @@ report_of report.Github facts = github_of facts.findings
 report_of report.Markdown facts = markdown_of facts
 report_of report.Gitlab facts = gitlab_of facts.findings
 report_of report.Html facts = html_of facts
+report_of report.Junit facts = junit_of facts
+report_of report.Azure facts = azure_of facts.findings

@@ -20,6 +20,10 @@ pub enum Report {
     Gitlab,
     /// For people: a self-contained page.
     Html,
+    /// For build services: a document in JUnit XML.
+    Junit,
+    /// For Azure Pipelines: one logging command per result.
+    Azure,
 }
 
 impl Report {
@@ -30,6 +34,8 @@ impl Report {
         Report::Markdown,
         Report::Gitlab,
         Report::Html,
+        Report::Junit,
+        Report::Azure,
     ];
 
     /// Returns the name of this report, which is also the name of its option.
@@ -42,6 +48,8 @@ impl Report {
             Report::Markdown => "markdown",
             Report::Gitlab => "gitlab",
             Report::Html => "html",
+            Report::Junit => "junit",
+            Report::Azure => "azure",
         }
     }
 
@@ -55,6 +63,9 @@ impl Report {
                 "Write the verdict, the counts and a table, for job summaries and comments",
             Report::Gitlab => "Write a JSON report for GitLab's code quality widget",
             Report::Html => "Write an HTML page that needs no other file",
+            Report::Junit =>
+                "Write JUnit XML with a test case per reported result, for build services",
+            Report::Azure => "Write one logging command of Azure Pipelines per reported result",
         }
     }
 }
@@ -77,5 +88,7 @@ pub fn report_text<R: Threads + Sync>(
         Report::Markdown => crate::markdown_report(alloc, told),
         Report::Gitlab => crate::gitlab_report(rt, alloc, told.findings, threads),
         Report::Html => crate::html_report(alloc, told),
+        Report::Junit => crate::junit_report(alloc, told),
+        Report::Azure => crate::azure_report(alloc, told.findings),
     }
 }
