@@ -9,6 +9,8 @@ use Rattle.sarif_reports.specs.GithubReport.{github_of}
 use Rattle.sarif_reports.specs.MarkdownReport.{markdown_of}
 use Rattle.sarif_reports.specs.GitlabReport.{gitlab_of}
 use Rattle.sarif_reports.specs.HtmlReport.{html_of}
+use Rattle.sarif_reports.specs.JunitReport.{junit_of}
+use Rattle.sarif_reports.specs.AzureReport.{azure_of}
 
 -- all of them, in the order in which they are written
 abbrev pub all_reports : List Report
@@ -20,6 +22,8 @@ all_reports =
     ∷ report.Markdown
     ∷ report.Gitlab
     ∷ report.Html
+    ∷ report.Junit
+    ∷ report.Azure
     ∷ report.Unused
     ∷ []
 
@@ -32,6 +36,8 @@ report_name report.Github = codes "github"
 report_name report.Markdown = codes "markdown"
 report_name report.Gitlab = codes "gitlab"
 report_name report.Html = codes "html"
+report_name report.Junit = codes "junit"
+report_name report.Azure = codes "azure"
 report_name report.Unused = codes "unused"
 
 -- what error messages call each
@@ -62,4 +68,6 @@ report_of report.Github facts = github_of facts.findings
 report_of report.Markdown facts = markdown_of facts
 report_of report.Gitlab facts = gitlab_of facts.findings
 report_of report.Html facts = html_of facts
+report_of report.Junit facts = junit_of facts
+report_of report.Azure facts = azure_of facts.findings
 report_of report.Unused facts = unused_text facts.life

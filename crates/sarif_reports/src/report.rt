@@ -26,6 +26,10 @@ pub enum Report {
     Gitlab,
     /// For people: a self-contained page.
     Html,
+    /// For build services: a document in JUnit XML.
+    Junit,
+    /// For Azure Pipelines: one logging command per result.
+    Azure,
     /// For people: one line per entry of the suppression file that matches nothing.
     Unused,
 }
@@ -40,6 +44,8 @@ impl Report {
         Report::Markdown,
         Report::Gitlab,
         Report::Html,
+        Report::Junit,
+        Report::Azure,
         Report::Unused,
     ];
 
@@ -55,6 +61,8 @@ impl Report {
             Report::Markdown => "markdown",
             Report::Gitlab => "gitlab",
             Report::Html => "html",
+            Report::Junit => "junit",
+            Report::Azure => "azure",
             Report::Unused => "unused",
         }
     }
@@ -75,6 +83,9 @@ impl Report {
                 "Write the verdict, the counts and a table, for job summaries and comments",
             Report::Gitlab => "Write a JSON report for GitLab's code quality widget",
             Report::Html => "Write an HTML page that needs no other file",
+            Report::Junit =>
+                "Write JUnit XML with a test case per reported result, for build services",
+            Report::Azure => "Write one logging command of Azure Pipelines per reported result",
             Report::Unused =>
                 "Write one line per entry of the suppression file that matches no result.\n\
                 Needs --suppress",
@@ -135,6 +146,8 @@ pub fn report_text<R: Threads + Sync>(
         Report::Markdown => crate::markdown_report(alloc, told),
         Report::Gitlab => crate::gitlab_report(rt, alloc, told.findings, threads),
         Report::Html => crate::html_report(alloc, told),
+        Report::Junit => crate::junit_report(alloc, told),
+        Report::Azure => crate::azure_report(alloc, told.findings),
         Report::Unused => unused_text(alloc, told.life),
     }
 }

@@ -105,18 +105,20 @@ fn check_options(rt: &impl Abort, options: &Options) -> Result<(), Fail> {
 #[test]
 fn each_word_on_reports_is_read(rt: HostRuntime) -> Result<(), Fail> {
     let line = "a --html h --text t --github=g --markdown m --root file:///builds/app/ --gitlab - \
-        --root= --explain --out o";
+        --root= --explain --azure z --junit j --out o";
     let request = accepted(&rt, line)?;
     check_reports(&rt, &request)
 }
 
 /// Each report with the name of its file, in the order in which reports are written.
-const NAMED: [(Report, &str); 5] = [
+const NAMED: [(Report, &str); 7] = [
     (Report::Text, "t"),
     (Report::Github, "g"),
     (Report::Markdown, "m"),
     (Report::Gitlab, "-"),
     (Report::Html, "h"),
+    (Report::Junit, "j"),
+    (Report::Azure, "z"),
 ];
 
 fn check_reports(rt: &impl Abort, request: &Request) -> Result<(), Fail> {
