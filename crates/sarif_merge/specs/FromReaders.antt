@@ -9,11 +9,13 @@ use Rattle.sarif_streams.specs.ReadersFault.{fault_of_readers}
 use Rattle.sarif_streams.specs.WereRead.{SourceContents, HasStoppedAt, WereRead}
 use Rattle.sarif_counts.specs.declared.checks.Checks.{Checks}
 use Rattle.sarif_counts.specs.declared.policy.Policy.{Policy}
+use Rattle.sarif_counts.specs.declared.upkeep.Upkeep.{Upkeep}
 use Rattle.sarif_findings.specs.declared.reporting.Reporting.{Reporting}
 use Rattle.sarif_log.specs.declared.merged.Merged.{Merged}
 use Rattle.sarif_inputs.specs.Faults.{IsTooMany, faults_of, first_fault}
 use Rattle.sarif_model.specs.FirstFault.{IsWanting}
 use Rattle.sarif_merge.specs.Given.{given_by}
+use Rattle.sarif_merge.specs.Life.{IsLifeOf, IsTooLarge}
 use Rattle.sarif_merge.specs.Merged.{IsMerged}
 use Rattle.sarif_merge.specs.MergedLog.{output_text}
 use Rattle.sarif_model.specs.Limits.{most_sources}
@@ -51,6 +53,24 @@ abbrev pub IsMergedFrom : {R : Type 0} → (R → Option (List ℕ)) → Readers
 IsMergedFrom remaining old new today checks policy asked merged =
     (contents : SourceContents) × WereRead remaining old new contents
     × IsMerged (given_by contents today checks) policy asked merged
+
+-- the same, with what is for later merges
+abbrev pub IsMergedWith : {R : Type 0} → (R → Option (List ℕ)) → Readers R → Readers R
+    → Option ℕ → Checks → Policy → Option Reporting → Option Upkeep → Merged → Type 0
+IsMergedWith remaining old new today checks policy asked upkeep merged =
+    (contents : SourceContents) × WereRead remaining old new contents
+    × IsMerged (given_by contents today checks) policy asked merged
+    × IsLifeOf (given_by contents today checks) policy upkeep merged.life
+
+-- a rejection before anything is written, of a merge with what is for later merges: after the errors of the inputs
+-- comes what is too large to be read again
+abbrev pub IsRefusedWith : {R : Type 0} → (R → Option (List ℕ)) → Readers R → Readers R
+    → Option ℕ → Checks → Policy → Option Upkeep → MergeFault → Type 0
+IsRefusedWith remaining old new today checks policy upkeep fault =
+    IsRefused remaining old new today checks fault
+    ⊎ (AreFew old × ((contents : SourceContents) × WereRead remaining old new contents
+    × (faults_of (given_by contents today checks) ≡ [])
+    × IsTooLarge (given_by contents today checks) policy upkeep fault))
 
 -- all sources were read, they have no errors, and a proper prefix of the text was written
 abbrev pub IsPartlyWritten : {R : Type 0} → (R → Option (List ℕ)) → Readers R → Readers R

@@ -110,6 +110,13 @@ impl<'t, 'a> OpenedRun<'t, 'a> {
         }
     }
 
+    /// The name of the run's tool (SARIF 2.1.0, toolComponent object, "name property"); empty if it has none.
+    pub fn tool(&self) -> &Text
+        ensures { result.now ≡ tool_name (placed_of self.now).run }
+    {
+        &self.tool
+    }
+
     /// How many results the run has, at most `MOST_RESULTS`.
     pub fn len(&self) -> u32
         ensures count { result ≡ length (results_of (placed_of self.now).run) }
