@@ -1,6 +1,6 @@
 //! What is written of results into a known log, and in which order its runs stand.
-use sarif_known::{KnownRun, known_text};
-use sarif_model::{Record, Text};
+use sarif_known::{KnownRun, keep_run, known_text};
+use sarif_model::{MOST_RESULTS, Record, Text, driver_name};
 use sarif_read::read_log;
 use sarif_runs::{make_record, open_run};
 use std::alloc::Global;
@@ -24,7 +24,7 @@ fn read_runs(alloc: Global, seed: RandomState, log: &str) -> Result<Vec<ReadRun>
         for seq in 0..run.len() {
             records.push(make_record(alloc, &head, run, seq)?)?;
         }
-        let tool = match sarif_model::driver_name(run.value()) {
+        let tool = match driver_name(run.value()) {
             Some(name) => Text::copy_of(alloc, name)?,
             None => Text::copy_of(alloc, "")?,
         };
@@ -33,18 +33,14 @@ fn read_runs(alloc: Global, seed: RandomState, log: &str) -> Result<Vec<ReadRun>
     Ok(runs)
 }
 
-/// These runs with all their results, as far as a log has room for them.
+/// These runs with all their results.
 fn all_of<'a>(alloc: Global, runs: &'a [ReadRun]) -> Result<Vec<KnownRun<'a>>, Fail> {
     let mut all = Vec::new(alloc);
     for run in runs {
-        let mut records = Vec::new(alloc);
-        for found in run.records.iter().take(1000) {
-            records.push(found)?;
+        if run.records.len() <= MOST_RESULTS {
+            let taken = vec![in alloc; false; run.records.len()]?;
+            all.push(keep_run(alloc, &run.tool, &run.records, &taken, false)?)?;
         }
-        all.push(KnownRun {
-            tool: &run.tool,
-            records,
-        })?;
     }
     Ok(all)
 }
