@@ -4,8 +4,11 @@ pub mod EscapedMore
 pub mod GithubApart
 pub mod GitlabMore
 pub mod HashedApart
+pub mod LinksApart
+pub mod ListedMore
+pub mod PathsApart
 pub mod RowsApart
 pub mod SeenTexts
+pub mod TableRows
 pub mod TagsCounted
 pub mod TextApart
-pub mod ListedMore

@@ -6,7 +6,13 @@ use sarif_counts::Verdict;
 use std::alloc::{AllocError, Global};
 
 /// A number and what it counts: `one` for 1, otherwise `more`.
-fn counted(alloc: Global, number: usize, one: &str, more: &str) -> Result<String, AllocError>
+#[tactic(auto, unfolding(crate::specs::Sentences::counted))]
+pub(crate) fn counted(
+    alloc: Global,
+    number: usize,
+    one: &str,
+    more: &str,
+) -> Result<String, AllocError>
     ensures { IfOk result (λ s. string_bytes s ≡ said.counted number one.now more.now) }
 {
     let noun = if number == 1 { one } else { more };
@@ -14,17 +20,17 @@ fn counted(alloc: Global, number: usize, one: &str, more: &str) -> Result<String
 }
 
 /// A number of hits.
-pub(crate) fn hits_text(alloc: Global, hits: u32) -> Result<String, AllocError>
+pub(crate) fn hits_text(alloc: Global, hits: usize) -> Result<String, AllocError>
     ensures { IfOk result (λ s. string_bytes s ≡ said.hits_text hits) }
 {
-    counted(alloc, hits as usize, " hit", " hits")
+    counted(alloc, hits, " hit", " hits")
 }
 
 /// What follows the verdict: the hits and how many of them are allowed.
 pub(crate) fn gate_end(alloc: Global, hits: u32, max: u32) -> Result<String, AllocError>
     ensures { IfOk result (λ s. string_bytes s ≡ said.gate_end hits max) }
 {
-    let hits = hits_text(alloc, hits)?;
+    let hits = hits_text(alloc, hits as usize)?;
     format!(in alloc; ", {hits}, {max} allowed")
 }
 
@@ -42,12 +48,43 @@ pub(crate) fn gate_text(
     format!(in alloc; "Gate: {word}{end}")
 }
 
+/// How many results have no row, and what is said of them.
+fn more_with(alloc: Global, number: usize, hits: &str) -> Result<String, AllocError>
+    ensures { IfOk result (λ s. string_bytes s ≡ said.more_with number hits.now) }
+{
+    format!(in alloc; "{number} more results are in the merged log, {hits}")
+}
+
 /// How many results have no row, where some of them are hits and some are not.
 fn more_of_both(alloc: Global, number: usize, hits: usize) -> Result<String, AllocError>
     ensures { IfOk result (λ s. string_bytes s ≡ said.more_of_both number hits) }
 {
     let hits = counted(alloc, hits, " of them a hit.", " of them hits.")?;
-    format!(in alloc; "{number} more results are in the merged log, {hits}")
+    more_with(alloc, number, hits.as_str())
+}
+
+/// How many results have no row, where all of them are hits.
+fn more_hits(alloc: Global, number: usize) -> Result<String, AllocError>
+    ensures { IfOk result (λ s. string_bytes s ≡ said.more_hits number) }
+{
+    counted(
+        alloc,
+        number,
+        " more hit is in the merged log.",
+        " more hits are in the merged log.",
+    )
+}
+
+/// How many results have no row, where none of them is a hit.
+fn more_others(alloc: Global, number: usize) -> Result<String, AllocError>
+    ensures { IfOk result (λ s. string_bytes s ≡ said.more_others number) }
+{
+    counted(
+        alloc,
+        number,
+        " more result is in the merged log.",
+        " more results are in the merged log.",
+    )
 }
 
 /// How many results have no row, and how many of them are hits.
@@ -55,20 +92,10 @@ pub(crate) fn more_text(alloc: Global, number: usize, hits: usize) -> Result<Str
     ensures { IfOk result (λ s. string_bytes s ≡ said.more_text number hits) }
 {
     if hits == number {
-        return counted(
-            alloc,
-            number,
-            " more hit is in the merged log.",
-            " more hits are in the merged log.",
-        );
+        return more_hits(alloc, number);
     }
     if hits == 0 {
-        return counted(
-            alloc,
-            number,
-            " more result is in the merged log.",
-            " more results are in the merged log.",
-        );
+        return more_others(alloc, number);
     }
     more_of_both(alloc, number, hits)
 }
