@@ -5,7 +5,7 @@ use Rattle.sarif_counts.specs.declared.policy.Verdict.{Verdict}
 use Rattle.sarif_counts.specs.Policy.{verdict_name}
 
 -- a number and what it counts: in the singular for 1
-unfoldable pub counted : ℕ → List ℕ → List ℕ → List ℕ
+abbrev pub counted : ℕ → List ℕ → List ℕ → List ℕ
 counted n one more = decimal n ++ (if n == 1 then one else more)
 
 -- N hits
@@ -32,14 +32,13 @@ more_others n =
     counted n (codes " more result is in the merged log.")
     (codes " more results are in the merged log.")
 
--- n results without a row, of which this is said
+-- n results without a row, and what some of them are
 abbrev pub more_with : ℕ → List ℕ → List ℕ
-more_with n hits = decimal n ++ (codes " more results are in the merged log, " ++ hits)
+more_with n of_them = decimal n ++ (codes " more results are in the merged log, " ++ of_them)
 
--- the same, some of them hits
+-- n results without a row, some of them hits
 abbrev pub more_of_both : ℕ → ℕ → List ℕ
-more_of_both n hits =
-    more_with n (counted hits (codes " of them a hit.") (codes " of them hits."))
+more_of_both n hits = more_with n (counted hits (codes " of them a hit.") (codes " of them hits."))
 
 -- how many results have no row, and how many of them are hits
 abbrev pub more_text : ℕ → ℕ → List ℕ

@@ -6,7 +6,6 @@ use sarif_counts::Verdict;
 use std::alloc::{AllocError, Global};
 
 /// A number and what it counts: `one` for 1, otherwise `more`.
-#[tactic(auto, unfolding(crate::specs::Sentences::counted))]
 pub(crate) fn counted(
     alloc: Global,
     number: usize,
@@ -48,43 +47,20 @@ pub(crate) fn gate_text(
     format!(in alloc; "Gate: {word}{end}")
 }
 
-/// How many results have no row, and what is said of them.
-fn more_with(alloc: Global, number: usize, hits: &str) -> Result<String, AllocError>
-    ensures { IfOk result (λ s. string_bytes s ≡ said.more_with number hits.now) }
+/// How many results have no row, and what some of them are.
+fn more_with(alloc: Global, number: usize, of_them: &str) -> Result<String, AllocError>
+    ensures { IfOk result (λ s. string_bytes s ≡ said.more_with number of_them.now) }
 {
-    format!(in alloc; "{number} more results are in the merged log, {hits}")
+    format!(in alloc; "{number} more results are in the merged log, {of_them}")
 }
 
 /// How many results have no row, where some of them are hits and some are not.
 fn more_of_both(alloc: Global, number: usize, hits: usize) -> Result<String, AllocError>
     ensures { IfOk result (λ s. string_bytes s ≡ said.more_of_both number hits) }
 {
-    let hits = counted(alloc, hits, " of them a hit.", " of them hits.")?;
-    more_with(alloc, number, hits.as_str())
-}
-
-/// How many results have no row, where all of them are hits.
-fn more_hits(alloc: Global, number: usize) -> Result<String, AllocError>
-    ensures { IfOk result (λ s. string_bytes s ≡ said.more_hits number) }
-{
-    counted(
-        alloc,
-        number,
-        " more hit is in the merged log.",
-        " more hits are in the merged log.",
-    )
-}
-
-/// How many results have no row, where none of them is a hit.
-fn more_others(alloc: Global, number: usize) -> Result<String, AllocError>
-    ensures { IfOk result (λ s. string_bytes s ≡ said.more_others number) }
-{
-    counted(
-        alloc,
-        number,
-        " more result is in the merged log.",
-        " more results are in the merged log.",
-    )
+    let of_them = counted(alloc, hits, " of them a hit.", " of them hits.")?;
+    let text = more_with(alloc, number, of_them.as_str())?;
+    Ok(text)
 }
 
 /// How many results have no row, and how many of them are hits.
@@ -92,10 +68,20 @@ pub(crate) fn more_text(alloc: Global, number: usize, hits: usize) -> Result<Str
     ensures { IfOk result (λ s. string_bytes s ≡ said.more_text number hits) }
 {
     if hits == number {
-        return more_hits(alloc, number);
+        return counted(
+            alloc,
+            number,
+            " more hit is in the merged log.",
+            " more hits are in the merged log.",
+        );
     }
     if hits == 0 {
-        return more_others(alloc, number);
+        return counted(
+            alloc,
+            number,
+            " more result is in the merged log.",
+            " more results are in the merged log.",
+        );
     }
     more_of_both(alloc, number, hits)
 }
