@@ -153,7 +153,7 @@ line_text n f text told lines =
     (sym (regroup (command_of f.level) (file_property f.path) (number_property (codes "line=") f.line) (number_property (codes "col=") f.column) (codes "title=") (title f.rule f.tool) (codes "::") (escaped Message f.message) (codes "\n") text))
     (command_line (n + 1) f.level _ file)
 
-pub all_lines : (fs : List Finding) → AllByRecursion IsTold fs → Lines (length fs) (flat_map github_line fs)
+all_lines : (fs : List Finding) → AllByRecursion IsTold fs → Lines (length fs) (flat_map github_line fs)
 all_lines [] h = record { ends = refl; commands = refl }
 all_lines (f ∷ fs) h =
     let count : length fs + 1 ≡ length (f ∷ fs) = omega arith in

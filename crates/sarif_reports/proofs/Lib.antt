@@ -6,6 +6,7 @@ pub mod GitlabMore
 pub mod HashedApart
 pub mod LinksApart
 pub mod ListedMore
+pub mod MarkdownShort
 pub mod PathsApart
 pub mod RowsApart
 pub mod SeenTexts

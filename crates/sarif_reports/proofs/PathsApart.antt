@@ -11,7 +11,7 @@ use Rattle.sarif_model.specs.declared.kinds.State.{State}
 use Rattle.sarif_findings.specs.declared.finding.Finding.{Finding}
 use Rattle.sarif_findings.specs.declared.reporting.Reporting.{Reporting}
 use Rattle.sarif_findings.specs.Lookup.{elements_in, uri_of}
-use Rattle.sarif_findings.specs.PathOf.{after_here, begins_here, is_removed, path_chars, without_here}
+use Rattle.sarif_findings.specs.PathOf.{after_here, begins_here, decoded, is_removed, path_chars, without_here, without_root}
 use Rattle.sarif_findings.specs.Placeholders.{first_is}
 use Rattle.sarif_findings.specs.Reported.{finding_by, finding_if, finding_of, is_reported, level_in, none_if_empty, path_in, reported_in, reported_of, shown_path, state_in}
 use Rattle.sarif_findings.specs.Shown.{is_concealed, kept, parted_signs, plain, shown, shown_chars}
@@ -76,7 +76,7 @@ some_named (b ∷ bs) h = h
 
 path_named : (roots : List (List ℕ)) (o : Option (List ℕ)) → IfSome (option_and_then (shown_path roots) o) (λ path. starts_here (chars path) ≡ false)
 path_named roots None = tt
-path_named roots (Some uri) = some_named (shown (path_chars roots uri)) (text_named (path_chars roots uri) (without_named _))
+path_named roots (Some uri) = some_named (shown (path_chars roots uri)) (text_named (path_chars roots uri) (without_named (chars (without_root roots (decoded uri)))))
 
 finding_named : (reporting : Reporting) (run result : Data) (l : Level) (s : State) → IsNamed (finding_of reporting run result l s)
 unfolding finding_of

@@ -85,8 +85,20 @@ table_parts fs =
 pub results_parted : (fs : List Finding) → length (in_table fs) + length (left_out fs) ≡ length fs
 results_parted fs = sym (length-append (in_table fs) (left_out fs)) ∙ ap length (table_parts fs) ∙ length_listed fs
 
-abbrev hits_in : List Finding → ℕ
+abbrev pub hits_in : List Finding → ℕ
 hits_in fs = count_by (λ f. f.hit) fs
+
+cond_few : (b : Bool) → cond {A = ℕ} b 1 0 ≤ 1
+cond_few true = omega arith
+cond_few false = omega arith
+
+pub hits_few : (fs : List Finding) → hits_in fs ≤ length fs
+hits_few [] = omega arith
+hits_few (f ∷ fs) =
+    let first = sum_by-cons (λ g. cond g.hit 1 0) f fs in
+    let one = cond_few f.hit in
+    let rest = hits_few fs in
+    omega (arith, first, one, rest)
 
 kept_by : (b : Bool) (f : Finding) (hs os : List Finding) (n : ℕ) → f.hit ≡ b → hits_in hs + hits_in os ≡ n
     → hits_in (cond b (f ∷ hs) hs) + hits_in (cond (not b) (f ∷ os) os) ≡ cond b 1 0 + n

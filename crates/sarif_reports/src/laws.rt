@@ -14,6 +14,7 @@ ghost use Rattle.sarif_reports.specs.declared.escaping.Escaping.TheVariants.{Mar
 ghost use Rattle.sarif_reports.specs.Escaped.{escaped};
 ghost use Rattle.sarif_reports.specs.EscapedLaws.{has_no_mark, is_element_text};
 ghost use Rattle.sarif_reports.specs.GithubLaws.{are_commands};
+ghost use Rattle.sarif_reports.specs.Facts.{Facts};
 ghost use Rattle.sarif_reports.specs.FindingLaws.{IsNamed, has_target};
 ghost use Rattle.sarif_reports.specs.GithubReport.{github_line, github_of};
 ghost use Rattle.sarif_reports.specs.Listed.{hits_among, listed, others_among};
@@ -22,8 +23,8 @@ ghost use Rattle.sarif_reports.specs.GitlabReport.{gitlab_of, hashed_texts, item
 ghost use Rattle.sarif_findings.specs.declared.reporting.Reporting.{Reporting};
 ghost use Rattle.sarif_reports.specs.HtmlLaws.{row_tags, tags_in};
 ghost use Rattle.sarif_reports.specs.HtmlReport.{rows_below};
-ghost use Rattle.sarif_reports.specs.MarkdownLaws.{have_bars};
-ghost use Rattle.sarif_reports.specs.MarkdownReport.{in_table, left_out, result_row};
+ghost use Rattle.sarif_reports.specs.MarkdownLaws.{AreSmall, have_bars};
+ghost use Rattle.sarif_reports.specs.MarkdownReport.{in_table, left_out, markdown_of, result_row};
 ghost use Rattle.sarif_findings.specs.Reported.{reported_of};
 ghost use Rattle.sarif_findings.specs.Shown.{shown_chars};
 ghost use Rattle.sarif_findings.specs.ShownLaws.{are_seen, has_two_signs};
@@ -143,6 +144,11 @@ pub fn markdown_tables_count_all_results()
         → 0 < length (in_table (reported_of reporting log)) }
     ensures bytes { (findings : List Finding) →
         length (flat_map result_row (in_table findings)) ≤ 60000 }
+{}
+
+/// A report in Markdown has at most 61,000 bytes, if its numbers have 32 bits: fewer than a comment may have.
+pub fn markdown_reports_fit_into_comments()
+    ensures { (facts : Facts) → AreSmall facts → length (markdown_of facts) ≤ 61000 }
 {}
 
 /// Read as JSON, the report for GitLab is the array of its objects, for any strings: no log adds an object or a

@@ -27,11 +27,11 @@ pub use gitlab_array::gitlab_report;
 pub use html_page::html_report;
 pub use laws::{
     github_lines_begin_with_commands, gitlab_reports_read_back, hashed_texts_differ,
-    listed_results_begin_with_the_hits, markdown_rows_have_their_cells,
-    markdown_tables_count_all_results, markdown_texts_hold_no_mark, messages_without_targets_stay,
-    page_rows_have_their_tags, page_texts_hold_no_markup, paths_begin_with_names,
-    reported_hits_are_counted, shown_signs_stand_apart, shown_texts_are_seen,
-    text_reports_have_a_line_a_result,
+    listed_results_begin_with_the_hits, markdown_reports_fit_into_comments,
+    markdown_rows_have_their_cells, markdown_tables_count_all_results, markdown_texts_hold_no_mark,
+    messages_without_targets_stay, page_rows_have_their_tags, page_texts_hold_no_markup,
+    paths_begin_with_names, reported_hits_are_counted, shown_signs_stand_apart,
+    shown_texts_are_seen, text_reports_have_a_line_a_result,
 };
 pub use markdown_table::markdown_report;
 pub use report::{Report, report_text};

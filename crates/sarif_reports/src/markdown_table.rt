@@ -1,5 +1,5 @@
 //! The report for job summaries and comments on a change.
-ghost use Rattle.std.specs.Prelude.{◌≡◌, ◌≤◌, ◌++◌, IfOk, OnOk, flat_map, length, map, take, string_bytes};
+ghost use Rattle.std.specs.Prelude.{◌≡◌, ◌≤◌, ◌++◌, IfOk, OnOk, drop, flat_map, length, map, take, string_bytes};
 ghost use Rattle.std.specs.List.{count_by};
 ghost use Rattle.sarif_counts.specs.Counts.{count_at};
 ghost use Rattle.sarif_findings.specs.Finding.{spot_text};
@@ -257,6 +257,14 @@ fn others_line(alloc: Global, others: &[&Finding]) -> Result<String, AllocError>
     more_line(alloc, others.len(), hits_among(others))
 }
 
+/// The results after the first `count`.
+fn after<'a, 'f>(listed: &'a [&'f Finding], count: usize) -> &'a [&'f Finding]
+    requires { count ≤ length listed.now }
+    ensures { result.now ≡ drop count listed.now }
+{
+    &listed[count..]
+}
+
 /// Adds the table of results.
 fn push_table(alloc: Global, text: &mut String, findings: &[Finding]) -> Result<(), AllocError>
     ensures { OnOk result
@@ -266,7 +274,7 @@ fn push_table(alloc: Global, text: &mut String, findings: &[Finding]) -> Result<
     let listed = listed.as_slice();
     text.push_str(RESULTS_HEAD)?;
     let count = push_rows(alloc, text, listed)?;
-    let others = others_line(alloc, &listed[count..])?;
+    let others = others_line(alloc, after(listed, count))?;
     push_paragraph(text, others.as_str())?;
     Ok(())
 }
