@@ -18,7 +18,7 @@ use Rattle.sarif_reports.specs.MarkdownReport.{count_row, counts_table, heading,
 use Rattle.sarif_reports.specs.Sentences.{counted, entries_text, gate_end, gate_text, hits_text, more_hits, more_of_both, more_others, more_text, more_with, runs_text}
 use Rattle.sarif_reports.proofs.TableRows.{hits_few, results_parted, table_fits}
 
--- two strings, one after the other
+-- two strings in sequence
 two : (m n : ℕ) (a b : List ℕ) → length a ≤ m → length b ≤ n → length (a ++ b) ≤ m + n
 two m n a b first second = let whole = length-append a b in omega (arith, first, second, whole)
 
@@ -43,9 +43,16 @@ verdict_few Fail = omega arith
 
 heading_few : (v : Verdict) (hits max : ℕ) → hits < 2 ^ 32 → max < 2 ^ 32 → length (heading v hits max) ≤ 60
 heading_few v hits max h m =
-    let end = two 2 33 (codes ", ") _ (omega arith) (two 15 18 (hits_text hits) _ (counted_few 10 5 hits _ _ (ten hits h) (omega arith) (omega arith))
-    (two 2 16 (codes ", ") _ (omega arith) (two 10 6 (decimal max) _ (ten max m) (omega arith)))) in
-    two 3 57 (codes "## ") _ (omega arith) end
+    let allowed : length (codes ", " ++ (decimal max ++ codes " allowed")) ≤ 20 =
+    two 2 18 (codes ", ") (decimal max ++ codes " allowed") (omega arith) (two 10 8 (decimal max) (codes " allowed") (ten max m) (omega arith)) in
+    let end : length (gate_end hits max) ≤ 37 =
+    two 2 35 (codes ", ") (hits_text hits ++ (codes ", " ++ (decimal max ++ codes " allowed"))) (omega arith)
+    (two 15 20 (hits_text hits) (codes ", " ++ (decimal max ++ codes " allowed"))
+    (counted_few 10 5 hits (codes " hit") (codes " hits") (ten hits h) (omega arith) (omega arith)) allowed) in
+    let gate : length (gate_text v hits max) ≤ 47 =
+    two 6 41 (codes "Gate: ") (verdict_name v ++ gate_end hits max) (omega arith) (two 4 37 (verdict_name v) (gate_end hits max) (verdict_few v) end) in
+    let line : length (gate_text v hits max ++ codes "\n\n") ≤ 49 = two 47 2 (gate_text v hits max) (codes "\n\n") gate (omega arith) in
+    two 11 49 (codes "## ") (gate_text v hits max ++ codes "\n\n") (omega arith) line
 
 line_by : (b : Bool) (k : ℕ) (text : List ℕ) → length text ≤ k → length (if b then [] else text ++ codes "\n") ≤ k + 1
 line_by true k text h = omega arith
@@ -110,7 +117,9 @@ row_few s numbers small =
 
 counts_few : (count : Count) → ((s : State) (l : Level) (b : Bool) → count s l b < 2 ^ 32) → length (counts_table count) ≤ 440
 counts_few count small =
-    two 80 360 _ _ (omega arith) (two 90 270 (count_row New (count New)) _ (row_few New (count New) (small New))
+    two 80 360 (codes "| | error | warning | note | none | suppressed |\n|---|--:|--:|--:|--:|--:|\n")
+    (count_row New (count New) ++ (count_row Unchanged (count Unchanged) ++ (count_row Updated (count Updated) ++ count_row Absent (count Absent))))
+    (omega arith) (two 90 270 (count_row New (count New)) _ (row_few New (count New) (small New))
     (two 90 180 (count_row Unchanged (count Unchanged)) _ (row_few Unchanged (count Unchanged) (small Unchanged))
     (two 90 90 (count_row Updated (count Updated)) (count_row Absent (count Absent)) (row_few Updated (count Updated) (small Updated)) (row_few Absent (count Absent) (small Absent)))))
 
@@ -119,7 +128,9 @@ counts_few count small =
 table_few : (fs : List Finding) → length fs < 2 ^ 32 → length (table_of fs) ≤ 60200
 table_few fs small =
     let parts = results_parted fs in
-    two 100 60100 _ _ (omega arith) (two 60000 100 (flat_map result_row (in_table fs)) _ (table_fits fs)
+    two 100 60100 (codes "\n| hit | level | place | rule | message | tool | state |\n|---|---|---|---|---|---|---|\n")
+    (flat_map result_row (in_table fs) ++ paragraph (others_line (left_out fs)))
+    (omega arith) (two 60000 100 (flat_map result_row (in_table fs)) (paragraph (others_line (left_out fs))) (table_fits fs)
     (let more = paragraph_few 81 (others_line (left_out fs)) (others_few (left_out fs) (omega (arith, parts, small))) in omega (arith, more)))
 
 results_by : (b : Bool) (fs : List Finding) → length fs < 2 ^ 32 → length (if b then [] else table_of fs) ≤ 60200
@@ -129,9 +140,10 @@ results_by false fs small = table_few fs small
 pub report_few : (facts : Facts) → AreSmall facts → length (markdown_of facts) ≤ 61000
 report_few facts small =
     let whole =
-    two 60 60793 (heading (verdict_of facts.count facts.policy) (hits_of facts.count facts.policy) facts.policy.max) _
+    two 60 60773 (heading (verdict_of facts.count facts.policy) (hits_of facts.count facts.policy) facts.policy.max)
+    (counts_table facts.count ++ (paragraph (notes facts.without facts.unused) ++ results_table facts.findings))
     (heading_few (verdict_of facts.count facts.policy) (hits_of facts.count facts.policy) facts.policy.max small.hits small.max)
-    (two 440 60353 (counts_table facts.count) _ (counts_few facts.count small.counts)
+    (two 440 60333 (counts_table facts.count) (paragraph (notes facts.without facts.unused) ++ results_table facts.findings) (counts_few facts.count small.counts)
     (two 133 60200 (paragraph (notes facts.without facts.unused)) (results_table facts.findings)
     (paragraph_few 132 (notes facts.without facts.unused) (notes_few facts.without facts.unused small.without small.unused))
     (results_by (length facts.findings == 0) facts.findings small.findings))) in
