@@ -1,3 +1,6 @@
+pub mod ByFile
+pub mod AzureLaws
+pub mod AzureReport
 pub mod CountRow
 pub mod Escaped
 pub mod EscapedBytes
@@ -12,11 +15,17 @@ pub mod GitlabReport
 pub mod HtmlFixed
 pub mod HtmlLaws
 pub mod HtmlReport
+pub mod HtmlRows
 pub mod HtmlStyle
+pub mod HtmlWords
+pub mod LaterOutputs
+pub mod JunitLaws
+pub mod JunitReport
 pub mod Listed
 pub mod MarkdownLaws
 pub mod MarkdownReport
 pub mod Report
 pub mod Sentences
+pub mod Suites
 pub mod TextLaws
 pub mod TextReport
