@@ -33,9 +33,10 @@ pub use gitlab_array::gitlab_report;
 pub use html_page::html_report;
 pub use laws::{
     github_lines_begin_with_commands, gitlab_reports_read_back, hashed_texts_differ,
-    markdown_rows_have_their_cells, markdown_texts_hold_no_mark, page_places_have_only_breaks, page_rows_are_by_file, page_rows_have_their_tags,
-    page_texts_hold_no_markup, reported_hits_are_counted, shown_signs_stand_apart,
-    shown_texts_are_seen, text_reports_have_a_line_a_result,
+    markdown_rows_have_their_cells, markdown_texts_hold_no_mark, page_places_have_only_breaks,
+    page_rows_are_by_file, page_rows_have_their_tags, page_texts_hold_no_markup,
+    reported_hits_are_counted, shown_signs_stand_apart, shown_texts_are_seen,
+    text_reports_have_a_line_a_result,
 };
 pub use markdown_table::markdown_report;
 pub use report::{Report, report_text};
