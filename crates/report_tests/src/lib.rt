@@ -17,4 +17,6 @@ mod reports;
 #[cfg(test)]
 mod samples;
 #[cfg(test)]
+mod services;
+#[cfg(test)]
 mod words;

@@ -187,6 +187,12 @@ fn a_report_is_picked_by_its_name(rt: HostRuntime) -> Result<(), Fail> {
             "html",
             "<title>Gate: pass, 0 hits, 0 allowed</title>",
         ),
+        (
+            Report::Junit,
+            "junit",
+            "<testsuites name=\"sarif_gate\" tests=\"3\" failures=\"0\">\n",
+        ),
+        (Report::Azure, "azure", "##vso[task.logissue type=error;"),
     ] {
         assert_eq!(rt; report.name(), word);
         let text = report_text(&rt, alloc, report, &told, 2)?;

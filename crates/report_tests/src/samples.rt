@@ -53,6 +53,7 @@ pub(crate) fn told_of<'a, R: RandomSource>(
         findings,
         without: 0,
         unused: 0,
+        life: None,
         seed: RandomState::new(rt)?,
     })
 }

@@ -75,7 +75,7 @@ properties_more n (c ∷ cs) text seen rest =
     subst (Inner n) (sym (append_assoc (property_char c) (flat_map (escaped_char Property) cs) text))
     (property_more (c == 37) (c == 58) (c == 44) n c _ parts.0 (properties_more n cs text parts.1 rest))
 
-escaped_shown : (way : Escaping) (cs shows : List ℕ) → shows ≡ encode_utf8_all (shown_chars cs) → escaped way shows ≡ flat_map (escaped_char way) (shown_chars cs)
+pub escaped_shown : (way : Escaping) (cs shows : List ℕ) → shows ≡ encode_utf8_all (shown_chars cs) → escaped way shows ≡ flat_map (escaped_char way) (shown_chars cs)
 unfolding escaped
 escaped_shown way cs shows e = ap (λ t. flat_map (escaped_char way) (chars t)) e ∙ ap (flat_map (escaped_char way)) (chars_back (shown_chars cs))
 

@@ -1,4 +1,6 @@
 pub mod ArrayRead
+pub mod AzureApart
+pub mod CasesMore
 pub mod EscapedApart
 pub mod EscapedMore
 pub mod FilesMore
@@ -6,9 +8,14 @@ pub mod GithubApart
 pub mod GitlabMore
 pub mod HashedApart
 pub mod PlacesApart
+pub mod JunitApart
+pub mod JunitLaws
+pub mod ListedHits
+pub mod ListedMore
+pub mod NamesApart
 pub mod RowsApart
 pub mod RowsByFile
 pub mod SeenTexts
+pub mod SuitesMore
 pub mod TagsCounted
 pub mod TextApart
-pub mod ListedMore

@@ -1,5 +1,6 @@
 -- What reports are made from.
-use Rattle.std.specs.Prelude.{ℕ, List}
+use Rattle.std.specs.Prelude.{ℕ, List, Option, option_map}
+use Rattle.sarif_counts.specs.declared.life.Life.{Life}
 use Rattle.sarif_counts.specs.declared.policy.Policy.{Policy}
 use Rattle.sarif_counts.specs.Counts.{count_at}
 use Rattle.sarif_counts.specs.Policy.{Count}
@@ -18,6 +19,8 @@ pub record Facts : Type 0 where
   pub without : ℕ
   -- how many entries of the suppression file match no current result
   pub unused : ℕ
+  -- what is for later merges, if anything is
+  pub life : Option Life
 
 -- what a report is told
 abbrev pub facts_of : Told → Facts
@@ -27,4 +30,5 @@ facts_of told = record {
   findings = told.findings.now;
   without = told.without;
   unused = told.unused;
+  life = option_map (λ life. life.now) told.life;
 }

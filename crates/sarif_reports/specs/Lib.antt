@@ -1,4 +1,6 @@
 pub mod ByFile
+pub mod AzureLaws
+pub mod AzureReport
 pub mod CountRow
 pub mod Escaped
 pub mod EscapedBytes
@@ -15,10 +17,14 @@ pub mod HtmlReport
 pub mod HtmlRows
 pub mod HtmlStyle
 pub mod HtmlWords
+pub mod LaterOutputs
+pub mod JunitLaws
+pub mod JunitReport
 pub mod Listed
 pub mod MarkdownLaws
 pub mod MarkdownReport
 pub mod Report
 pub mod Sentences
+pub mod Suites
 pub mod TextLaws
 pub mod TextReport

@@ -1,17 +1,20 @@
 //! Laws of reports. Each law is the contract of a function that does nothing. A log may be hostile, so the laws
 //! cover any strings.
-ghost use Rattle.std.specs.Prelude.{◌≡◌, ◌<◌, ◌≤◌, ◌==◌, ◌^◌, ℕ, List, Bool, true, false, not, ◌&&◌};
+ghost use Rattle.std.specs.Prelude.{◌≡◌, ◌<◌, ◌≤◌, ◌==◌, ◌^◌, ◌+◌, ℕ, List, Bool, true, false, not, ◌&&◌};
 ghost use Rattle.std.specs.Prelude.{[], Some, None, bytes_eq};
-ghost use Rattle.std.specs.Prelude.{flat_map, length};
-ghost use Rattle.std.specs.List.{IsDistinct, count_by, list_all, sum_by};
+ghost use Rattle.std.specs.Prelude.{codes, flat_map, length, nat_lt};
+ghost use Rattle.std.specs.List.{AllByRecursion, IsDistinct, count_by, list_all, sum_by};
+ghost use Rattle.std.specs.Str.{IsUtf8};
 ghost use Rattle.json.specs.Json.{document};
 ghost use Rattle.serde_json.specs.Data.{Data, array};
 ghost use Rattle.serde_json.specs.Written.{outline};
 ghost use Rattle.sarif_model.specs.Run.{runs_of};
-ghost use Rattle.sarif_counts.specs.Policy.{hits_of};
+ghost use Rattle.sarif_counts.specs.Policy.{hits_of, verdict_of};
 ghost use Rattle.sarif_counts.specs.CountOf.{count_of};
 ghost use Rattle.sarif_findings.specs.declared.finding.Finding.{Finding};
-ghost use Rattle.sarif_reports.specs.declared.escaping.Escaping.TheVariants.{Markdown, Page, Place};
+ghost use Rattle.sarif_reports.specs.declared.escaping.Escaping.TheVariants.{IssueProperty, Markdown, Page, Place};
+ghost use Rattle.sarif_reports.specs.AzureLaws.{AreIssues, is_within_property, properties_of, properties_read};
+ghost use Rattle.sarif_reports.specs.AzureReport.{azure_line, azure_of};
 ghost use Rattle.sarif_reports.specs.Escaped.{escaped};
 ghost use Rattle.sarif_reports.specs.EscapedLaws.{has_no_mark, is_element_text};
 ghost use Rattle.sarif_reports.specs.GithubLaws.{are_commands};
@@ -21,6 +24,8 @@ ghost use Rattle.sarif_findings.specs.declared.reporting.Reporting.{Reporting};
 ghost use Rattle.sarif_reports.specs.HtmlLaws.{are_together, has_breaks, row_tags, tags_in};
 ghost use Rattle.sarif_reports.specs.HtmlReport.{rows_below};
 ghost use Rattle.sarif_reports.specs.HtmlRows as page;
+ghost use Rattle.sarif_reports.specs.JunitLaws.{IsXmlText, cases_of, document_of, fails, names_after, occurrences};
+ghost use Rattle.sarif_reports.specs.Listed.{listed};
 ghost use Rattle.sarif_reports.specs.MarkdownLaws.{have_bars};
 ghost use Rattle.sarif_reports.specs.MarkdownReport.{in_table, result_row};
 ghost use Rattle.sarif_findings.specs.Reported.{reported_of};
@@ -126,4 +131,51 @@ pub fn page_rows_are_by_file()
 pub fn page_rows_have_their_tags()
     ensures { (findings : List Finding) → tags_in (rows_below None findings)
         ≡ sum_by row_tags findings }
+{}
+
+/// The report for Azure Pipelines has one line per reported result. Each begins with the command
+/// `##vso[task.logissue type=`, has no other two adjacent `#` and no control character. A reader finds just the
+/// properties of its result: no log adds a command or a property, or ends one.
+pub fn azure_lines_are_commands()
+    ensures lines { (reporting : Reporting) (log : Data) →
+        AreIssues (length (reported_of reporting log))
+        (azure_of (reported_of reporting log)) }
+    ensures properties { (reporting : Reporting) (log : Data) →
+        AllByRecursion (λ f. properties_read (azure_line f) ≡ properties_of f)
+        (listed (reported_of reporting log)) }
+{}
+
+/// A string in a property of a logging command contains no `;` and no `]`, so it ends neither the property nor the
+/// command.
+pub fn azure_properties_hold_no_end()
+    ensures { (text : List ℕ) → list_all is_within_property (escaped IssueProperty text) ≡ true }
+{}
+
+/// The report in JUnit XML has one test case per reported result, and one if nothing is reported. The failed and
+/// the skipped ones are the hits. One fails exactly if the verdict is fail. So no log adds, hides or changes a test
+/// case.
+pub fn junit_cases_are_results()
+    ensures cases { (reporting : Reporting) (log : Data) → length (reported_of reporting log) < 2 ^ 64
+        → occurrences (codes "<testcase ") (document_of reporting log)
+        ≡ cases_of (length (reported_of reporting log)) }
+    ensures hits { (reporting : Reporting) (log : Data) → length (reported_of reporting log) < 2 ^ 64
+        → occurrences (codes "<failure ") (document_of reporting log)
+        + occurrences (codes "<skipped ") (document_of reporting log)
+        ≡ hits_of (count_of (runs_of log)) reporting.policy }
+    ensures verdict { (reporting : Reporting) (log : Data) → length (reported_of reporting log) < 2 ^ 64
+        → nat_lt 0 (occurrences (codes "<failure ") (document_of reporting log))
+        ≡ fails (verdict_of (count_of (runs_of log)) reporting.policy) }
+{}
+
+/// No two test cases of a suite have the same name, for any results.
+pub fn junit_names_differ()
+    ensures { (findings : List Finding) → length findings < 2 ^ 64
+        → IsDistinct bytes_eq (names_after [] findings) }
+{}
+
+/// Each character of the report in JUnit XML is one of those that XML 1.0 allows. A report that was written is UTF-8,
+/// as each `String` is.
+pub fn junit_characters_are_allowed()
+    ensures { (reporting : Reporting) (log : Data) → length (reported_of reporting log) < 2 ^ 64
+        → IsUtf8 (document_of reporting log) → IsXmlText (document_of reporting log) }
 {}

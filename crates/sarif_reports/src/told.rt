@@ -1,5 +1,5 @@
 //! The input of reports.
-use sarif_counts::{Counts, Policy};
+use sarif_counts::{Counts, Life, Policy};
 use sarif_findings::Finding;
 use std::hash::RandomState;
 
@@ -16,6 +16,8 @@ pub struct Told<'a> {
     pub without: u32,
     /// How many entries of the suppression file match no current result.
     pub unused: u32,
+    /// What is for later merges, if anything is.
+    pub life: Option<&'a Life>,
     /// The seed of hash tables whose keys come from logs. No report depends on it.
     pub seed: RandomState,
 }

@@ -52,7 +52,11 @@ fn strict() -> Policy {
 /// A merge with these options, with findings for this.
 fn asked_by<'o>(options: &'o Options, made: &'o Option<Reporting>) -> Asked<'o> {
     let reporting = made.as_ref();
-    Asked { options, reporting }
+    Asked {
+        options,
+        reporting,
+        upkeep: None,
+    }
 }
 
 /// The findings of a log with this baseline.
@@ -83,7 +87,7 @@ fn told_of<'s, R: Abort + AllocGlobal + Threads + Wait + Sync>(
         roots,
     });
     let asked = asked_by(&options, &reporting);
-    let (merged, ()) = merge_readers(rt, alloc, &mut readers, &asked, &NoGate, |_, _| Ok(()))?;
+    let (merged, ()) = merge_readers(rt, alloc, &mut readers, &asked, &NoGate, |_| Ok(()))?;
     Ok(merged.findings)
 }
 
