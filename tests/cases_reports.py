@@ -190,6 +190,15 @@ def many():
         yield Reporting("many", f"{count} results", logs=[hostile.many(count)], policy=policy)
 
 
+def scattered():
+    """Logs whose files take turns, with as many rows as a page has, and more."""
+    for count in (2, 11, 200, 10_000, 10_203):
+        for fail_on, most in (("error", 0), ("error", count), ("note", 1)):
+            name = f"{count} results of a few files in turn, from {fail_on}, {most} allowed"
+            policy = Policy(fail_on, most)
+            yield Reporting("many", name, logs=[hostile.scattered(count)], policy=policy)
+
+
 def drawn(seed, count):
     """This number of random logs."""
     for number in range(count):
@@ -205,6 +214,6 @@ def drawn(seed, count):
 
 
 def cases(seed=1, count=200):
-    for part in (examples, hostile_logs, many):
+    for part in (examples, hostile_logs, many, scattered):
         yield from part()
     yield from drawn(seed, count)

@@ -290,6 +290,19 @@ def many(count):
     return log(run("lint", *results))
 
 
+def scattered(count):
+    """A log with this number of results whose files take turns; each fifth is an error, and some have no place."""
+    levels = ("error", "note", "warning", "none", "note")
+    files = ("b/c.c", "a.c", "b/a.c", "/", "a/b/../c.c", "<wbr>/c.c", "\u200b/c.c")
+    results = [
+        named(f"m{it}", files[it * it % 7], level=levels[it % 5], ruleId=f"R{it % 3}")
+        for it in range(count)
+    ]
+    for it in results[7::11]:
+        del it["locations"]
+    return log(run("lint", *results[::2]), run("flint", *results[1::2]))
+
+
 # ---- Random logs
 
 
