@@ -1,9 +1,9 @@
 -- A message in which no target begins has no link.
-use Rattle.std.proofs.Common.{◌≡◌, ◌==◌, ◌&&◌, ◌||◌, ℕ, Bool, true, false, List, [], ◌∷◌, refl, ap, sym, ◌∙◌, if◌then◌else◌}
+use Rattle.std.proofs.Common.{◌≡◌, ◌==◌, ◌&&◌, ℕ, Bool, true, false, List, [], ◌∷◌, refl, ap, ◌∙◌, if◌then◌else◌}
 use mathlib.Core.Bool.{and-false}
 use Rattle.std.proofs.lemmas.Bool.{or_parts}
 use Rattle.serde_json.specs.Data.{Data}
-use Rattle.sarif_findings.specs.Links.{begins_link, begins_pair, begins_target, ends_link, ends_target, unlinked}
+use Rattle.sarif_findings.specs.Links.{begins_pair, begins_target, ends_link, ends_target, unlinked}
 use Rattle.sarif_findings.specs.Placeholders.{first_is}
 use Rattle.sarif_findings.proofs.LinksWhole.{NoneBegins, all_stay}
 use Rattle.sarif_reports.specs.FindingLaws.{has_target}

@@ -5,7 +5,6 @@ use Rattle.sarif_findings.specs.declared.finding.Finding.{Finding}
 use Rattle.sarif_findings.proofs.ToldFindings.{IsTold}
 use Rattle.sarif_reports.specs.Listed.{hits_among, others_among, listed}
 use Rattle.std.specs.Prelude.{take, drop, flat_map}
-use Rattle.std.specs.List.{count_by}
 use Rattle.std.proofs.Math.Seq.{take-append_seam, drop-append_seam}
 use Rattle.std.proofs.lemmas.Grind.{flat_map-append}
 use Rattle.std.proofs.lemmas.List.Sums.{length-filter}

@@ -1,7 +1,7 @@
 -- No path begins with `./`.
-use Rattle.std.proofs.Common.{◌≡◌, ◌==◌, ◌&&◌, ◌||◌, ◌++◌, ℕ, suc, Bool, true, false, List, [], ◌∷◌, map, chars, codes, Option, Some, None, IfSome, refl, ap, sym, ◌∙◌, if◌then◌else◌, arith}
+use Rattle.std.proofs.Common.{◌≡◌, ◌==◌, ◌&&◌, ◌++◌, ℕ, suc, Bool, true, false, List, [], ◌∷◌, map, chars, codes, Option, Some, None, IfSome, refl, ap, sym, ◌∙◌, if◌then◌else◌}
 use mathlib.Core.Bool.{and-false}
-use Rattle.std.specs.Prelude.{option_and_then, flat_map, encode_utf8_all}
+use Rattle.std.specs.Prelude.{option_and_then, flat_map}
 use Rattle.std.specs.List.{All, AllByRecursion, filter_map, cons_option}
 use Rattle.std.proofs.lemmas.Bool.{and_parts, and_from, false_from_ne_true, or_parts, true≢false}
 use Rattle.std.proofs.lemmas.List.Elements.{All-from_recursion}
@@ -13,7 +13,7 @@ use Rattle.sarif_findings.specs.declared.reporting.Reporting.{Reporting}
 use Rattle.sarif_findings.specs.Lookup.{elements_in, uri_of}
 use Rattle.sarif_findings.specs.PathOf.{after_here, begins_here, decoded, is_removed, path_chars, without_here, without_root}
 use Rattle.sarif_findings.specs.Placeholders.{first_is}
-use Rattle.sarif_findings.specs.Reported.{finding_by, finding_if, finding_of, is_reported, level_in, none_if_empty, path_in, reported_in, reported_of, shown_path, state_in}
+use Rattle.sarif_findings.specs.Reported.{finding_by, finding_if, finding_of, is_reported, level_in, none_if_empty, reported_in, reported_of, shown_path, state_in}
 use Rattle.sarif_findings.specs.Shown.{is_concealed, kept, parted_signs, plain, shown, shown_chars}
 use Rattle.sarif_findings.proofs.CharsBack.{chars_back}
 use Rattle.sarif_reports.specs.FindingLaws.{IsNamed, starts_here}

@@ -1,7 +1,6 @@
-use Rattle.std.proofs.Common.{rules, ◌≡◌, ◌++◌, ◌∷◌, [], ℕ, List, Bool, true, false, Option, Some, bytes_eq, map, ap, sym, ◌∙◌, length, take, ◌<◌, ◌≤◌, vec_len, arith, if◌then◌else◌}
+use Rattle.std.proofs.Common.{rules, ◌≡◌, ◌++◌, ◌∷◌, [], ℕ, List, true, false, Some, bytes_eq, map, ap, sym, ◌∙◌, length, take, ◌<◌, ◌≤◌, arith, if◌then◌else◌}
 use Rattle.std.specs.Option.{option_map, is_some}
 use Rattle.std.proofs.lemmas.List.{length-map, map-append}
-use Rattle.sarif_findings.specs.declared.finding.Finding.{Finding}
 use Rattle.sarif_reports.specs.ByFile.{group_at, group_of}
 use Rattle.sarif_reports.specs.HtmlRows.{file_of, files_of}
 use Rattle.sarif_reports.proofs.FilesMore.{found_files, full_files, full_group, new_files, new_group, grown, none_grown}
