@@ -35,8 +35,10 @@ fn advice_on_fault(fault: Fault, at: At, is_missing: bool) -> &'static str {
             "report it to the developers of the analyser, or fix the run before the merge"
         }
         Fault::ExternalProperties => {
-            "if you don't need what is in the other file, drop the reference: jq \
-             'del(.runs[].externalPropertyFileReferences)' LOG > NEW_LOG"
+            "if the other files hold no results, artifacts, invocations, driver or extensions, \
+             pass --allow-external-properties; otherwise drop the references, if you don't need \
+             what is in those files: jq 'del(.runs[].externalPropertyFileReferences)' LOG > \
+             NEW_LOG"
         }
         Fault::BadIndex
         | Fault::BadLevel

@@ -10,5 +10,5 @@ mod sources;
 mod suppression_file;
 
 pub use indexes::index_sources;
-pub use sources::{Runs, check_numbers, open_sources};
+pub use sources::{Opening, Runs, check_numbers, open_sources};
 pub use suppression_file::read_file;

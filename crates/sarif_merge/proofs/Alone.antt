@@ -1,6 +1,7 @@
 -- A merge of which nothing was requested for later merges.
 use Rattle.std.proofs.Common.{ℕ, List, Option, inl, inr}
 use Rattle.std.specs.Prelude.{None}
+use Rattle.sarif_counts.specs.declared.checks.Checks.{Checks}
 use Rattle.sarif_counts.specs.declared.policy.Policy.{Policy}
 use Rattle.sarif_counts.specs.declared.upkeep.Upkeep.{Upkeep}
 use Rattle.sarif_findings.specs.declared.reporting.Reporting.{Reporting}
@@ -10,11 +11,11 @@ use Rattle.sarif_streams.specs.declared.readers.Readers.{Readers}
 use Rattle.sarif_merge.specs.FromReaders.{IsMergedFrom, IsMergedWith, IsRefused, IsRefusedWith}
 
 -- the merge that was read is that of the log alone
-pub merged_alone : {R : Type 0} → (remaining : R → Option (List ℕ)) → (old new : Readers R) → (today : Option ℕ) → (policy : Policy) → (asked : Option Reporting) → (upkeep : Option Upkeep) → (merged : Merged)
-    → IsMergedWith remaining old new today policy asked upkeep merged → IsMergedFrom remaining old new today policy asked merged
-merged_alone remaining old new today policy asked upkeep merged with_life = (with_life.0, with_life.1, with_life.2)
+pub merged_alone : {R : Type 0} → (remaining : R → Option (List ℕ)) → (old new : Readers R) → (today : Option ℕ) → (checks : Checks) → (policy : Policy) → (asked : Option Reporting) → (upkeep : Option Upkeep) → (merged : Merged)
+    → IsMergedWith remaining old new today checks policy asked upkeep merged → IsMergedFrom remaining old new today checks policy asked merged
+merged_alone remaining old new today checks policy asked upkeep merged with_life = (with_life.0, with_life.1, with_life.2)
 
 -- and it is rejected for no other reason
-pub refused_alone : {R : Type 0} → (remaining : R → Option (List ℕ)) → (old new : Readers R) → (today : Option ℕ) → (policy : Policy) → (fault : MergeFault)
-    → IsRefusedWith remaining old new today policy None fault → IsRefused remaining old new today fault
-refused_alone remaining old new today policy fault refused = elim refused [ inl same ↦ same | inr large ↦ absurd large.4 ]
+pub refused_alone : {R : Type 0} → (remaining : R → Option (List ℕ)) → (old new : Readers R) → (today : Option ℕ) → (checks : Checks) → (policy : Policy) → (fault : MergeFault)
+    → IsRefusedWith remaining old new today checks policy None fault → IsRefused remaining old new today checks fault
+refused_alone remaining old new today checks policy fault refused = elim refused [ inl same ↦ same | inr large ↦ absurd large.4 ]

@@ -81,12 +81,13 @@ pub fn merge_readers<
     // Ok is returned only if all sources were read and have no errors; the result is the merge of these, with its
     // findings and with what is for later merges.
     ensures merged { IfOk result (λ made. IsMergedWith R.remaining readers.old readers.new
-        asked.now.options.now.today asked.now.options.now.policy (reporting_in asked.now)
-        (upkeep_in asked.now) made.0) }
+        asked.now.options.now.today asked.now.options.now.checks asked.now.options.now.policy
+        (reporting_in asked.now) (upkeep_in asked.now) made.0) }
     // And what was made of it.
     ensures told { IfOk result (λ made. IsMadeBy Tell.FnOnce tell made.0 (Ok made.1)) }
     ensures refused { IfErr result (IsRefusedWith R.remaining readers.old readers.new
-        asked.now.options.now.today asked.now.options.now.policy (upkeep_in asked.now)) }
+        asked.now.options.now.today asked.now.options.now.checks asked.now.options.now.policy
+        (upkeep_in asked.now)) }
     // A failed read is reported as such, and only one.
     ensures read_failed { RisesIf (read_failed_in result)
         (failures readers.old) (failures readers.new) }
@@ -117,19 +118,19 @@ pub fn merge_to<R: Read, W: Write, G: Gate + Sync, T: Threads + Wait + Sync>(
     requires writes { failed_calls out.old < 2 ^ 63 }
     // Ok is returned only if all sources were read and have no errors; the result is the merge of these.
     ensures merged { IfOk result
-        (IsMergedFrom R.remaining readers.old readers.new options.now.today
+        (IsMergedFrom R.remaining readers.old readers.new options.now.today options.now.checks
         options.now.policy None) }
     // The text was written, and nothing else.
     ensures written { IfOk result (λ merged. Appends (W.contents (inner_of out.old))
         (W.contents (inner_of out.new)) merged.log) }
     // A rejection before writing, and its cause.
     ensures refused { IfErr result (λ fault. (fault.cause ≡ WriteFailed → ⊥) → IsRefused R.remaining
-        readers.old readers.new options.now.today fault) }
+        readers.old readers.new options.now.today options.now.checks fault) }
     ensures untouched { IfErr result
         (λ fault. (fault.cause ≡ WriteFailed → ⊥) → out.new ≡ out.old) }
     // A rejection while writing.
     ensures part { IfErr result (λ fault. fault.cause ≡ WriteFailed → IsPartlyWritten R.remaining
-        readers.old readers.new options.now.today options.now.policy
+        readers.old readers.new options.now.today options.now.checks options.now.policy
         (W.contents (inner_of out.old)) (W.contents (inner_of out.new))) }
     ensures place { IfErr result (λ fault. fault.cause ≡ WriteFailed → fault.at ≡ Whole Output) }
     ensures read_failed { RisesIf (read_failed_in result)

@@ -14,7 +14,7 @@ ghost use Rattle.sarif_model.specs.Limits.{most_sources};
 
 use json::Scratch;
 use sarif_gather::Gate;
-use sarif_inputs::{Runs, index_sources, open_sources, read_file};
+use sarif_inputs::{Opening, Runs, index_sources, open_sources, read_file};
 use sarif_judge::judge_runs;
 use sarif_log::{Asked, FileRead, Prepared, prepare};
 use sarif_model::MergeFault;
@@ -33,16 +33,21 @@ fn prepare_runs<G: Gate + Sync, R: Threads + Wait + Sync>(
     observer: &G,
 ) -> Result<Prepared, MergeFault>
     requires read { (logs : List (List ℕ)) × (baselines : List (List ℕ))
-        × AreRunsOf logs baselines runs }
+        × AreRunsOf asked.now.options.now.checks logs baselines runs }
     requires file { IsFileOf (bytes_of rules.now) rules.now.file.now }
-    ensures prepared { (logs baselines : List (List ℕ)) → AreRunsOf logs baselines runs.entry
-        → IfOk result (IsPrepared rules.now.file.now (placed (numbered source.Log 0 logs))
-        (placed (numbered source.Baseline 0 baselines)) (reporting_in asked.now)) }
-    ensures faults { (logs baselines : List (List ℕ)) → AreRunsOf logs baselines runs.entry
-        → AnswersFor (placed (numbered source.Log 0 logs)
-        ++ placed (numbered source.Baseline 0 baselines))
+    ensures prepared { (logs baselines : List (List ℕ))
+        → AreRunsOf asked.now.options.now.checks logs baselines runs.entry
+        → IfOk result (IsPrepared rules.now.file.now
+        (placed (numbered asked.now.options.now.checks source.Log 0 logs))
+        (placed (numbered asked.now.options.now.checks source.Baseline 0 baselines))
+        (reporting_in asked.now)) }
+    ensures faults { (logs baselines : List (List ℕ))
+        → AreRunsOf asked.now.options.now.checks logs baselines runs.entry
+        → AnswersFor (placed (numbered asked.now.options.now.checks source.Log 0 logs)
+        ++ placed (numbered asked.now.options.now.checks source.Baseline 0 baselines))
         (merge_of rules.now.file.now (bytes_of rules.now) asked.now.options.now.policy
-        (placed (numbered source.Log 0 logs)) (placed (numbered source.Baseline 0 baselines)))
+        (placed (numbered asked.now.options.now.checks source.Log 0 logs))
+        (placed (numbered asked.now.options.now.checks source.Baseline 0 baselines)))
         (upkeep_in asked.now) result }
     ensures quiet { IsQuiet result }
 {
@@ -65,11 +70,12 @@ fn prepare_read<G: Gate + Sync, R: Threads + Wait + Sync>(
     observer: &G,
 ) -> Result<Prepared, MergeFault>
     requires read { (logs : List (List ℕ)) × (baselines : List (List ℕ))
-        × AreRunsOf logs baselines runs }
-    ensures preparation { (logs baselines : List (List ℕ)) → AreRunsOf logs baselines runs.entry
+        × AreRunsOf asked.now.options.now.checks logs baselines runs }
+    ensures preparation { (logs baselines : List (List ℕ))
+        → AreRunsOf asked.now.options.now.checks logs baselines runs.entry
         → IsPreparationOf (given logs baselines (option_map (λ b. b.now) suppressions.entry)
-        asked.now.options.now.today) asked.now.options.now.policy (reporting_in asked.now)
-        (upkeep_in asked.now) result }
+        asked.now.options.now.today asked.now.options.now.checks) asked.now.options.now.policy
+        (reporting_in asked.now) (upkeep_in asked.now) result }
     ensures quiet { IsQuiet result }
 {
     let file = read_file(alloc, asked.options.seed, suppressions, asked.options.today)?;
@@ -121,7 +127,11 @@ pub(crate) fn prepare_few<G: Gate + Sync, R: Threads + Wait + Sync>(
     let baselines = sources.baselines.as_slice();
     let threads = asked.options.workers + 1;
     let indexes = index_sources(rt, alloc, logs, baselines, scratches, threads)?;
-    let runs = open_sources(rt, alloc, asked.options.seed, &indexes, logs.len(), threads)?;
+    let opening = Opening {
+        checks: asked.options.checks,
+        seed: asked.options.seed,
+    };
+    let runs = open_sources(rt, alloc, opening, &indexes, logs.len(), threads)?;
     let file = slice_of(&sources.suppressions);
     let prepared = prepare_read(rt, alloc, runs, file, asked, observer)?;
     Ok(prepared)

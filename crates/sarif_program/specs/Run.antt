@@ -34,6 +34,7 @@ pub record IsAccepted {R W S P : Type 0} (views : Views R W S P) (request : Requ
     (old new : Streams R W S P) (status : ℕ) (merged : Merged) : Type 0 where
   pub verdict : status ≡ verdict_status merged.verdict
   pub from : IsMergedFrom views.remaining old.readers new.readers request.options.today
+      request.options.checks
       request.options.policy (reporting_for request old.writers.reports.items) merged
   pub log : Appends (views.log (inner_of old.writers.out)) (views.log (inner_of new.writers.out))
       merged.log
@@ -56,5 +57,5 @@ pub record IsRun {R W S P : Type 0} (views : Views R W S P) (request : Request)
   pub risen : NoNumberFalls old.readers new.readers × NoWriterFalls old.writers new.writers
   pub faulty : (contents : SourceContents) → AllTell views.remaining old.readers
       → WereRead views.remaining old.readers new.readers contents
-      → (faults_of (given_by contents request.options.today) ≡ [] → ⊥) → status ≡ 2
+      → (faults_of (given_by contents request.options.today request.options.checks) ≡ [] → ⊥) → status ≡ 2
   pub known : status ≤ 3

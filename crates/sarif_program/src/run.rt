@@ -75,10 +75,11 @@ fn merge_told<
     requires suppressions { failed_calls_if readers.old.suppressions < 2 ^ 63 }
     requires tells { Tell.IsAlwaysCallable tell }
     ensures merged { IfOk result (λ all. IsMergedFrom R.remaining readers.old readers.new
-        options.now.today options.now.policy made.now all.0) }
+        options.now.today options.now.checks options.now.policy made.now all.0) }
     ensures told { IfOk result (λ all. IsMadeBy Tell.FnOnce tell all.0 (Ok all.1)) }
     ensures refused { IfErr result
-        (IsRefused R.remaining readers.old readers.new options.now.today) }
+        (IsRefused R.remaining readers.old readers.new options.now.today
+        options.now.checks) }
     ensures read_failed { RisesIf (read_failed_in result)
         (failures readers.old) (failures readers.new) }
     ensures risen { NoNumberFalls readers.old readers.new }
@@ -106,14 +107,16 @@ fn merge_for<R: Read, W, T: Threads + Wait + Sync>(
     requires baselines { All (λ reader. failed_calls reader < 2 ^ 63) readers.old.baselines.items }
     requires suppressions { failed_calls_if readers.old.suppressions < 2 ^ 63 }
     ensures merged { IfOk result (λ all. IsMergedFrom R.remaining readers.old readers.new
-        «request».now.options.today «request».now.options.policy
+        «request».now.options.today «request».now.options.checks
+        «request».now.options.policy
         (reporting_for «request».now writers.now) all.0) }
     ensures summary { IfOk result (λ all. all.1.summary
         ≡ summary_of (count_at all.0.counts) «request».now.options.policy) }
     ensures reports { IfOk result (λ all. all.1.reports.items
         ≡ texts_for writers.now (report_for «request».now all.0)) }
     ensures refused { IfErr result (λ fault. (fault.cause ≡ OutOfMemory → ⊥) → IsRefused R.remaining
-        readers.old readers.new «request».now.options.today fault) }
+        readers.old readers.new «request».now.options.today
+        «request».now.options.checks fault) }
     ensures read_failed { RisesIf (read_failed_in result)
         (failures readers.old) (failures readers.new) }
     ensures risen { NoNumberFalls readers.old readers.new }
@@ -152,7 +155,8 @@ pub fn run_request<R: Read, W: Write, S: Write, P: Write, E: Write, T: Threads +
     // of this log, and `say` received its summary; 0 with the verdict pass, and 1 with fail.
     ensures accepted { result < 2 → (merged : Outcome) × (result ≡ verdict_status merged.verdict)
         × IsMergedFrom R.remaining readers.old readers.new
-        «request».now.options.today «request».now.options.policy
+        «request».now.options.today «request».now.options.checks
+        «request».now.options.policy
         (reporting_for «request».now writers.old.reports.items) merged
         × Appends (W.contents (inner_of writers.old.out))
         (W.contents (inner_of writers.new.out)) merged.log
@@ -174,6 +178,7 @@ pub fn run_request<R: Read, W: Write, S: Write, P: Write, E: Write, T: Threads +
     // Then the reason is reported, and the line says it.
     ensures rejected { (result ≡ 2) ⊎ (failures readers.new ≡ failures readers.old + 1)
         → (fault : Rejection) × IsRejected R.remaining E.contents «request».now.options.today
+        «request».now.options.checks
         readers.old readers.new complaints.old complaints.new result fault }
     // An accepted merge reports nothing.
     ensures quiet { result < 2 → complaints.new ≡ complaints.old }
@@ -183,7 +188,8 @@ pub fn run_request<R: Read, W: Write, S: Write, P: Write, E: Write, T: Threads +
     // If all sources were read and one of them has an error, it returns 2.
     ensures faulty { (contents : SourceContents) → AllTell R.remaining readers.old
         → WereRead R.remaining readers.old readers.new contents
-        → (faults_of (given_by contents «request».now.options.today) ≡ [] → ⊥) → result ≡ 2 }
+        → (faults_of (given_by contents «request».now.options.today
+        «request».now.options.checks) ≡ [] → ⊥) → result ≡ 2 }
     ensures known { result ≤ 3 }
 {
     sources_are_read_in_one_way::<R>();

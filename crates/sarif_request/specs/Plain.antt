@@ -15,3 +15,5 @@ pub record IsPlain (request : Request) : Type 0 where
   pub workers : request.options.workers ≡ 1
   pub policy : request.options.policy ≡ default_policy
   pub today : request.options.today ≡ None
+  pub require_success : request.options.checks.require_success ≡ false
+  pub allow_external : request.options.checks.allow_external ≡ false

@@ -97,6 +97,10 @@ pub record AsksFor (rows : List Row) (request : Request) : Type 0 where
   pub root : request.root ≡ unwrap_or (first_of (codes "root") rows) []
   pub explain : request.explain ≡ is_set (codes "explain") rows
   pub today : IsRead (one_of (codes "today") rows) request.options.today
+  pub require_success : request.options.checks.require_success
+      ≡ is_set (codes "require-success") rows
+  pub allow_external : request.options.checks.allow_external
+      ≡ is_set (codes "allow-external-properties") rows
   pub workers : (n : ℕ) × IsReadOr 1 (one_of (codes "workers") rows) n
       × (request.options.workers ≡ in_range n)
   pub fail_on : request.options.policy.fail_on ≡ fail_on_in rows

@@ -59,7 +59,7 @@ pub struct OptionRow {
     pub id: &'static str,
     /// What the help calls the value.
     pub value: &'static str,
-    /// The help text of the option, in lines of at most 74 columns.
+    /// The help text of the option, in lines of at most 74 columns, and of at most 65 in the group of inputs.
     pub help: &'static str,
     /// Where the help shows the option.
     pub group: Group,
@@ -69,11 +69,12 @@ pub struct OptionRow {
     pub default: Option<&'static str>,
 }
 
-static ROWS: [OptionRow; 13] = [
+static ROWS: [OptionRow; 15] = [
     OptionRow {
         id: "log",
         value: "LOG",
-        help: "SARIF logs to merge, in this order; - is standard input, at most once",
+        help: "SARIF logs to merge, in this order; - is standard input, at most\n\
+            once",
         group: Group::Inputs,
         kind: Kind::Logs,
         default: None,
@@ -81,8 +82,8 @@ static ROWS: [OptionRow; 13] = [
     OptionRow {
         id: "baseline",
         value: "FILE",
-        help: "SARIF log of known results, for example an earlier merged log; all other\n\
-            results are new. May be repeated",
+        help: "SARIF log of known results, for example an earlier merged log;\n\
+            all other results are new. May be repeated",
         group: Group::Inputs,
         kind: Kind::Many,
         default: None,
@@ -90,8 +91,8 @@ static ROWS: [OptionRow; 13] = [
     OptionRow {
         id: "suppress",
         value: "FILE",
-        help: "JSON file of accepted findings (suppressions), each with a reason and an\n\
-            optional expiry date",
+        help: "JSON file of accepted findings (suppressions), each with a reason\n\
+            and an optional expiry date",
         group: Group::Inputs,
         kind: Kind::Once,
         default: None,
@@ -99,10 +100,28 @@ static ROWS: [OptionRow; 13] = [
     OptionRow {
         id: "today",
         value: "YYYYMMDD",
-        help: "Today's date, for example 20250131. Required if a suppression has an\n\
-            expiry date; the program reads no clock",
+        help: "Today's date, for example 20250131. Required if a suppression has\n\
+            an expiry date; the program reads no clock",
         group: Group::Inputs,
         kind: Kind::Number(FIRST_DAY as i64, LAST_DAY as i64),
+        default: None,
+    },
+    OptionRow {
+        id: "require-success",
+        value: "",
+        help: "Reject a log if the analysis of a run failed: an invocation was\n\
+            not successful, or the run has no results",
+        group: Group::Inputs,
+        kind: Kind::Flag,
+        default: None,
+    },
+    OptionRow {
+        id: "allow-external-properties",
+        value: "",
+        help: "Allow runs to name external property files, except for results,\n\
+            artifacts, invocations, driver and extensions",
+        group: Group::Inputs,
+        kind: Kind::Flag,
         default: None,
     },
     OptionRow {

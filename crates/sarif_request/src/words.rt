@@ -120,7 +120,7 @@ fn request_of(
     let root = text_in(alloc, matches, "root")?;
     let options = Options {
         policy: policy_of(matches, states),
-        checks: Checks::default(),
+        checks: checks_of(matches),
         today: number_of(matches, "today"),
         workers: number_of(matches, "workers")
             .unwrap_or(1)
@@ -213,6 +213,19 @@ fn number_of(matches: &ArgMatches<'_>, id: &str) -> Option<u32>
     ensures { IsRead (one_of id.now (rows_of (found_of matches.now))) result }
 {
     matches.get_one::<u32>(id)
+}
+
+/// What is required of runs.
+fn checks_of(matches: &ArgMatches<'_>) -> Checks
+    ensures require_success { result.require_success
+        ≡ is_set (codes "require-success") (rows_of (found_of matches.now)) }
+    ensures allow_external { result.allow_external
+        ≡ is_set (codes "allow-external-properties") (rows_of (found_of matches.now)) }
+{
+    Checks {
+        require_success: is_set(matches, "require-success"),
+        allow_external: is_set(matches, "allow-external-properties"),
+    }
 }
 
 /// When the gate fails.

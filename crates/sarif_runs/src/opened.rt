@@ -25,6 +25,8 @@ pub struct OpenedRun<'t, 'a> {
     pub source: Source,
     /// Its number in its source, from 0.
     pub number: u32,
+    /// Whether its analysis must have been successful.
+    pub must_succeed: bool,
     pub(crate) run: IndexedRun<'t, 'a>,
     pub(crate) tool: Text,
     pub(crate) head: Result<RunHead, Fault>,
@@ -58,37 +60,52 @@ impl<'t, 'a> OpenedRun<'t, 'a> {
     ghost use Rattle.sarif_model.specs.Run.{result_at, results_array, results_of};
 
     /// Opens run `number` of a source, which holds no number with a fraction. The tables of its head hash with
-    /// `seed`, on which no result depends. Returns `AllocError` if memory runs out. An error of the run is not
-    /// returned; it is kept with the run (see `fault`).
+    /// `seed`, on which no result depends. With `must_succeed` it is an error of the run that its analysis failed.
+    /// Returns `AllocError` if memory runs out. An error of the run is not returned; it is kept with the run (see
+    /// `fault`).
     #[tactic(auto, using(crate::proofs::Beside::bare_head, crate::proofs::Beside::bare_tool_name))]
     pub fn open(
         alloc: Global,
         seed: RandomState,
         source: Source,
         number: u32,
+        must_succeed: bool,
         run: IndexedRun<'t, 'a>,
     ) -> Result<OpenedRun<'t, 'a>, AllocError>
         requires whole { has_float (run_of run) ≡ false }
         ensures placed { IfOk result (λ opened. placed_of opened
-            ≡ record { source = source; number = number; run = run_of run.entry }) }
+            ≡ record {
+              source = source;
+              number = number;
+              must_succeed = must_succeed;
+              run = run_of run.entry;
+            }) }
     {
         let tool = copy_tool_name(alloc, run.bare())?;
         let head = open_head(alloc, seed, run.bare())?;
         Ok(OpenedRun {
             source,
             number,
+            must_succeed,
             run,
             tool,
             head,
         })
     }
 
-    /// Why the run cannot be opened: the first error of [`open_value`](sarif_runs::open_value), or `None`.
+    /// Why the run cannot be opened: the first error of [`open_value`](sarif_runs::open_value), otherwise
+    /// `NotSuccessful` if its analysis failed and must not have, otherwise `None`.
     pub fn fault(&self) -> Option<Fault>
         ensures { result ≡ opening_fault (placed_of self.now) }
     {
         match &self.head {
-            Ok(_) => None,
+            Ok(_) => {
+                if self.must_succeed && self.has_failed() {
+                    Some(Fault::NotSuccessful)
+                } else {
+                    None
+                }
+            }
             Err(fault) => Some(*fault),
         }
     }

@@ -40,7 +40,7 @@ fn results_are_made_one_at_a_time(rt: HostRuntime) -> Result<(), Fail> {
     let alloc = rt.alloc();
     let mut scratch = Scratch::new(alloc);
     let index = index_text(alloc, LOG.as_bytes(), &mut scratch)?;
-    let runs = index_log(alloc, &index)?;
+    let runs = index_log(alloc, &index, false)?;
     let texts = texts_of(alloc, &runs)?;
     assert_eq!(rt;
         texts.as_str(),
@@ -62,7 +62,7 @@ fn a_run_is_kept_without_its_results(rt: HostRuntime) -> Result<(), Fail> {
     let alloc = rt.alloc();
     let mut scratch = Scratch::new(alloc);
     let index = index_text(alloc, LOG.as_bytes(), &mut scratch)?;
-    for run in index_log(alloc, &index)? {
+    for run in index_log(alloc, &index, false)? {
         assert!(rt; is_bare(run));
     }
     Ok(())
@@ -71,7 +71,7 @@ fn a_run_is_kept_without_its_results(rt: HostRuntime) -> Result<(), Fail> {
 #[test]
 fn a_log_is_read_with_all_its_results(rt: HostRuntime) -> Result<(), Fail> {
     let alloc = rt.alloc();
-    let log = read_log(alloc, LOG.as_bytes())?;
+    let log = read_log(alloc, LOG.as_bytes(), false)?;
     let mut texts = String::new(alloc);
     for run in log.runs() {
         texts.push_str(run.value().to_string(alloc)?.as_str())?;

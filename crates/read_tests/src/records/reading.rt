@@ -5,7 +5,7 @@ use std::test::Fail;
 
 /// The runs of a log as JSON, each with a newline.
 fn read_runs(alloc: Global, log: &str) -> Result<String, Fail> {
-    let log = read_log(alloc, log.as_bytes())?;
+    let log = read_log(alloc, log.as_bytes(), false)?;
     let mut runs = String::new(alloc);
     for run in log.runs() {
         runs.push_str(run.value().to_string(alloc)?.as_str())?;
