@@ -19,7 +19,6 @@ use Rattle.sarif_accept.specs.Adding.{accepted_among, added_for, is_hit, may_hit
 use Rattle.sarif_accept.specs.Entry.{entry_for}
 use Rattle.sarif_accept.specs.Keeping.{is_kept}
 use Rattle.sarif_accept.specs.NewFile.{entries_after, file_object, file_text, new_file}
-use Rattle.sarif_known.specs.Selected.{unmatched_of}
 use Rattle.sarif_upkeep.specs.Heard.{heard}
 use Rattle.sarif_upkeep.specs.Merge.{Merge}
 
@@ -71,14 +70,18 @@ staying_among counts file (r ∷ rs) (state ∷ states) =
 abbrev pub no_entries : File → File
 no_entries file = record { entries = []; today = file.today }
 
--- how many absent results are hits; an entry suppresses none of them
-abbrev pub absent_hits : Counts → File → List Record → ℕ
-absent_hits counts file rs = count_by (λ r. is_hit counts (no_entries file) r Absent) rs
+-- how many results of baselines that no current result matches are hits; an entry suppresses none of them
+abbrev pub absent_hits : Counts → File → List Record → List Bool → ℕ
+absent_hits counts file [] taken = 0
+absent_hits counts file (r ∷ rs) [] = 0
+absent_hits counts file (r ∷ rs) (taken ∷ more) =
+    count_if (not taken && is_hit counts (no_entries file) r Absent) 1
+    + absent_hits counts file rs more
 
 abbrev pub stay_in : Merge → ℕ
 stay_in m =
     staying_among (may_hit m.policy) m.file m.records m.states
-    + absent_hits (may_hit m.policy) m.file (unmatched_of m.known m.taken)
+    + absent_hits (may_hit m.policy) m.file m.known m.taken
 
 -- the new file, as it is given
 abbrev pub renewed : Merge → Renewal → NewFile
@@ -93,9 +96,11 @@ renewed m renewal = record {
 -- ---- its errors: one that could not be read again
 
 -- more entries, or otherwise more bytes, than a suppression file may have
-abbrev pub renewal_faults : Merge → Renewal → List MergeFault
-renewal_faults m renewal =
-    if nat_lt most_entries (entries_count m renewal)
-    then fault_at (Whole Suppress) (cause_of TooMany) ∷ []
-    else (if nat_lt most_bytes (length (file_text (rules_after m renewal)))
+abbrev pub text_faults : ℕ → Data → List MergeFault
+text_faults entries value =
+    if nat_lt most_entries entries then fault_at (Whole Suppress) (cause_of TooMany) ∷ []
+    else (if nat_lt most_bytes (length (file_text value))
     then fault_at (Whole Suppress) TooLong ∷ [] else [])
+
+abbrev pub renewal_faults : Merge → Renewal → List MergeFault
+renewal_faults m renewal = text_faults (entries_count m renewal) (rules_after m renewal)

@@ -1,10 +1,9 @@
 //! The hits that are accepted.
-ghost use Rattle.std.specs.Prelude.{◌≡◌, ◌&&◌, not, length, map, IfOk};
+ghost use Rattle.std.specs.Prelude.{◌≡◌, ◌≤◌, ◌+◌, ◌++◌, ◌∷◌, [], ◌&&◌, false, not, if◌then◌else◌, length, map, IfOk, OnOk};
 ghost use Rattle.sarif_suppress.specs.File.{File};
 ghost use Rattle.sarif_results.specs.Drafts.{applied_of};
 ghost use Rattle.sarif_accept.specs.Adding.{accepted_among, is_hit, may_hit, stays};
 
-use crate::matched::Current;
 use sarif_counts::Policy;
 use sarif_model::{Record, State};
 use sarif_results::Draft;
@@ -26,27 +25,51 @@ pub(crate) fn has_suppressions(record: &Record, draft: &Draft) -> bool
     !record.held.as_slice().is_empty() || !draft.applied.entries.as_slice().is_empty()
 }
 
+/// Adds a result that is accepted: a hit without suppressions.
+fn push_accepted<'m>(
+    accepted: &mut Vec<&'m Record>,
+    policy: Policy,
+    record: &'m Record,
+    draft: &Draft,
+    state: State,
+) -> Result<(), AllocError>
+    ensures few { OnOk result (length accepted.new.items ≤ length accepted.old.items + 1) }
+    ensures pushed { OnOk result ((file : File) → draft.now.applied ≡ applied_of file «record».now
+        → map (λ r. r.now) accepted.new.items
+        ≡ (if is_hit (may_hit policy) file «record».now state && not (stays file «record».now)
+        then map (λ r. r.now) accepted.old.items ++ «record».now ∷ []
+        else map (λ r. r.now) accepted.old.items)) }
+{
+    if is_hit(policy, record, draft, state) && !has_suppressions(record, draft) {
+        accepted.push(record)?;
+    }
+    Ok(())
+}
+
 /// The hits among these results that are accepted: those without suppressions, in order.
 pub(crate) fn accepted_among<'m>(
     alloc: Global,
     policy: Policy,
-    current: &Current<'m, '_, '_>,
+    records: &'m [Record],
+    drafts: &[Draft],
+    states: &[State],
 ) -> Result<Vec<&'m Record>, AllocError>
-    requires drafts { length current.now.drafts.now ≡ length current.now.records.now }
-    requires states { length current.now.states.now ≡ length current.now.records.now }
-    ensures { (file : File)
-        → map (λ draft. draft.applied) current.now.drafts.now ≡ map (applied_of file) current.now.records.now
+    requires drafts { length drafts.now ≡ length records.now }
+    requires states { length states.now ≡ length records.now }
+    ensures accepted { (file : File) → map (λ draft. draft.applied) drafts.now ≡ map (applied_of file) records.now
         → IfOk result (λ accepted. map (λ r. r.now) accepted.items
-        ≡ accepted_among (may_hit policy) file current.now.records.now current.now.states.now) }
+        ≡ accepted_among (may_hit policy) file records.now states.now) }
+    ensures few { IfOk result (λ accepted. length accepted.items ≤ length records.now) }
 {
     let mut accepted = Vec::new(alloc);
-    for (number, record) in current.records.iter().enumerate() {
-        let draft = &current.drafts[number];
-        if is_hit(policy, record, draft, current.states[number])
-            && !has_suppressions(record, draft)
-        {
-            accepted.push(record)?;
-        }
+    for (number, record) in records.iter().enumerate() {
+        push_accepted(
+            &mut accepted,
+            policy,
+            record,
+            &drafts[number],
+            states[number],
+        )?;
     }
     Ok(accepted)
 }

@@ -1,5 +1,5 @@
 //! The known log.
-ghost use Rattle.std.specs.Prelude.{◌≡◌, ◌≤◌, ◌⊎◌, drop, length, map, take, IfOk, IfErr};
+ghost use Rattle.std.specs.Prelude.{◌≡◌, ◌≤◌, ◌⊎◌, [], drop, length, map, take, IfOk, IfErr};
 ghost use Rattle.sarif_model.specs.FirstFault.{first};
 ghost use Rattle.sarif_model.specs.MergeFault.{out_of_memory};
 ghost use Rattle.sarif_model.specs.Limits.{most_results};
@@ -34,16 +34,19 @@ fn adopts(knowing: Knowing) -> bool
 }
 
 /// The first results, and the others.
-fn split_results<'a>(results: Results<'a>, count: usize) -> (Results<'a>, Results<'a>)
+fn split_results<'a, 's>(
+    results: Results<'a, 's>,
+    count: usize,
+) -> (Results<'a, 's>, Results<'a, 's>)
     requires few { count ≤ length results.records.now }
     requires states { length results.states.now ≡ length results.records.now }
     requires drafts { length results.drafts.now ≡ length results.records.now }
-    ensures records { result.0.records.now ≡ take count results.records.now }
-    ensures states { result.0.states.now ≡ take count results.states.now }
-    ensures drafts { result.0.drafts.now ≡ take count results.drafts.now }
-    ensures other_records { result.1.records.now ≡ drop count results.records.now }
-    ensures other_states { result.1.states.now ≡ drop count results.states.now }
-    ensures other_drafts { result.1.drafts.now ≡ drop count results.drafts.now }
+    ensures records { result.0.records.now ≡ take count results.entry.records.now }
+    ensures states { result.0.states.now ≡ take count results.entry.states.now }
+    ensures drafts { result.0.drafts.now ≡ take count results.entry.drafts.now }
+    ensures other_records { result.1.records.now ≡ drop count results.entry.records.now }
+    ensures other_states { result.1.states.now ≡ drop count results.entry.states.now }
+    ensures other_drafts { result.1.drafts.now ≡ drop count results.entry.drafts.now }
 {
     let (records, other_records) = results.records.split_at(count);
     let (states, other_states) = results.states.split_at(count);
@@ -66,8 +69,9 @@ fn known_now<'m>(
     alloc: Global,
     choice: &Choice<'_>,
     runs: &'m [OpenedRun<'_, '_>],
-    results: Results<'m>,
+    results: Results<'m, '_>,
 ) -> Result<Vec<KnownRun<'m>>, AllocError>
+    requires few { length results.records.now ≤ most_results }
     requires records { length results.records.now ≡ results_total (run_values (map placed_of runs.now)) }
     requires states { length results.states.now ≡ length results.records.now }
     requires drafts { map (λ draft. draft.applied) results.drafts.now
@@ -94,6 +98,7 @@ fn known_before<'m>(
 ) -> Result<Vec<KnownRun<'m>>, AllocError>
     requires counts { before.now.counts.now
         ≡ present_counts (run_values (map placed_of before.now.runs.now)) }
+    requires few { length before.now.records.now ≤ most_results }
     requires records { length before.now.records.now
         ≡ present_total (run_values (map placed_of before.now.runs.now)) }
     requires taken { length before.now.taken.now ≡ length before.now.records.now }
