@@ -6,6 +6,7 @@ mod entry;
 mod fault;
 mod filing;
 mod key;
+mod lasting;
 mod laws;
 mod marks;
 mod numbers;
