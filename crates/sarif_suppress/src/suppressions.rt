@@ -94,6 +94,20 @@ impl<S: BuildHasher + Copy> Suppressions<S> {
         self.entries.len() as u32
     }
 
+    /// The entries, in file order.
+    pub fn entries(&self) -> &[Entry]
+        ensures { result.now ≡ self.now.entries }
+    {
+        &self.entries
+    }
+
+    /// The date for which the file was read, if one is known.
+    pub fn today(&self) -> Option<u32>
+        ensures { result ≡ self.now.today }
+    {
+        self.today
+    }
+
     /// Whether the file has no entries.
     pub fn is_empty(&self) -> bool
         ensures { result ≡ (length self.now.entries == 0) }

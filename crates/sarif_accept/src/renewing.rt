@@ -1,0 +1,78 @@
+//! The new suppression file.
+ghost use Rattle.std.specs.Prelude.{◌≡◌, ◌⊎◌, ◌≤◌, ◌<◌, ◌++◌, List, Bool, Some, map, length, option_map, string_bytes, IfOk, OnOk};
+ghost use Rattle.serde_json.specs.View.{view, members_view};
+ghost use Rattle.json_parts.specs.Indexed.{json_of, data_of};
+ghost use Rattle.json_parts.specs.Mark.{without_mark as unmarked};
+ghost use Rattle.sarif_model.specs.Limits.{most_entries, most_bytes};
+ghost use Rattle.sarif_model.specs.Refusal.{IfFault};
+ghost use Rattle.sarif_model.specs.declared.fault.Fault.TheVariants.{TooMany};
+ghost use Rattle.sarif_model.specs.declared.merge_fault.Cause.TheVariants.{Of, TooLong};
+ghost use Rattle.sarif_accept.specs.Entry as made;
+ghost use Rattle.sarif_accept.specs.NewFile as said;
+
+use crate::entry::entry_for;
+use crate::old_file::{Old, read_old};
+use crate::printing::file_text;
+use sarif_counts::Renewal;
+use sarif_model::{Cause, Fault, MOST_BYTES, MOST_ENTRIES, Record, Refusal};
+use serde_json::{Map, Value, put};
+use std::alloc::{AllocError, Global};
+
+/// Adds the entries that accept these results to the end.
+fn add_entries(
+    alloc: Global,
+    entries: &mut Vec<Value>,
+    added: &[&Record],
+    renewal: &Renewal,
+) -> Result<(), AllocError>
+    ensures { OnOk result (map view entries.new.items ≡ map view entries.old.items
+        ++ map (λ r. made.entry_for r.now renewal.now.reason renewal.now.until) added.now) }
+{
+    for record in added {
+        entries.push(entry_for(alloc, record, renewal)?)?;
+    }
+    Ok(())
+}
+
+/// The object of these entries and of the other members of a file, of version 4.
+fn file_with(
+    alloc: Global,
+    entries: Vec<Value>,
+    others: Map<String, Value>,
+) -> Result<Value, AllocError>
+    ensures { IfOk result (λ v. view v
+        ≡ said.file_with (map view entries.items) (members_view others.entries)) }
+{
+    let mut members = others;
+    put(&mut members, alloc, "version", Value::from(4u32))?;
+    put(&mut members, alloc, "suppressions", Value::Array(entries))?;
+    Ok(Value::Object(members))
+}
+
+/// Returns the text of the new suppression file: of the entries of the file `bytes` those that `kept` marks, in order, then
+/// the entries that accept the results `added`, version 4, and the file's other members without numbers that have a
+/// fraction. Without a file there are no entries and no other members. Returns `TooMany` if it had more than
+/// `MOST_ENTRIES` entries, `TooLong` if its text had more than `MOST_BYTES` bytes, so that it could not be read again, and
+/// `OutOfMemory` if memory runs out.
+pub fn new_file(
+    alloc: Global,
+    bytes: Option<&[u8]>,
+    kept: &[bool],
+    added: &[&Record],
+    renewal: &Renewal,
+) -> Result<String, Refusal<Cause>> {
+    let Old {
+        mut entries,
+        others,
+    } = read_old(alloc, bytes, kept)?;
+    add_entries(alloc, &mut entries, added, renewal)?;
+    if entries.len() > MOST_ENTRIES {
+        return Err(Refusal::Fault(Cause::Of(Fault::TooMany)));
+    }
+    let file = file_with(alloc, entries, others)?;
+    let text = file_text(alloc, &file)?;
+    if text.len() > MOST_BYTES {
+        return Err(Refusal::Fault(Cause::TooLong));
+    }
+    Ok(text)
+}
