@@ -9,6 +9,7 @@ mod merging;
 mod one_log;
 mod reading;
 mod refusing;
+mod requiring;
 mod seeds;
 mod suppressing;
 mod telling;

@@ -4,6 +4,20 @@ use sarif_model::{At, Cause, Fault, MergeFault, Source};
 /// What to do about an input past a limit.
 const SPLIT: &str = "split the analysis, or drop what you don't need";
 
+/// Returns what to do about an output for later merges that would be too large for them: the known log or the new
+/// suppression file.
+pub(crate) fn advice_on_output(at: At) -> &'static str {
+    match at {
+        At::Whole(Source::Known) => {
+            "merge fewer logs in one call, and write a known log for each of these merges"
+        }
+        _ => {
+            "accept fewer hits in one call, pass --prune, or write an entry by hand that matches \
+             many of them"
+        }
+    }
+}
+
 /// Returns what to do about a log or a suppression file of the wrong version. If `is_missing` is set, it has no
 /// `version`.
 fn advice_on_version(at: At, is_missing: bool) -> &'static str {

@@ -64,7 +64,7 @@ counted_more checks old new source ds same =
     let long : length (map placed_read new) ≡ length (map placed_read old) + length ds =
     ap length same ∙ length-append (map placed_read old) (placed_from checks source 0 ds) ∙ ap (λ n. length (map placed_read old) + n) (length_placed checks source 0 ds) in (
       omega (arith, long, length-map new placed_read, length-map old placed_read),
-      ap (λ ps. results_total (run_values ps)) same ∙ total_more (map placed_read old) source ds,
+      ap (λ ps. results_total (run_values ps)) same ∙ total_more checks (map placed_read old) source ds,
     )
 
 -- if no run of some runs holds a number with a fraction, one of them holds none

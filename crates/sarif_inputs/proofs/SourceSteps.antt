@@ -54,7 +54,7 @@ total_on s rest =
     ∙ total_append (run_values here) (run_values (placed rest))
     ∙ ap (λ ds. results_total ds + results_total (run_values (placed rest))) (data_placed s.checks s.source 0 (runs_in s))
 
-faults_append : (runs results : ℕ) (ls bs : List Sourced)
+pub faults_append : (runs results : ℕ) (ls bs : List Sourced)
     → source_faults runs results (ls ++ bs) ≡ source_faults runs results ls ++ source_faults (runs + length (placed ls)) (results + results_total (run_values (placed ls))) bs
 faults_append runs results [] bs = rw (add-zero runs, add-zero results) refl
 faults_append runs results (s ∷ ls) bs =

@@ -74,8 +74,8 @@ fn prepare_read<G: Gate + Sync, R: Threads + Wait + Sync>(
     ensures preparation { (logs baselines : List (List ℕ))
         → AreRunsOf asked.now.options.now.checks logs baselines runs.entry
         → IsPreparationOf (given logs baselines (option_map (λ b. b.now) suppressions.entry)
-        asked.now.options.now.today asked.now.options.now.checks) asked.now.options.now.policy
-        (reporting_in asked.now) (upkeep_in asked.now) result }
+        asked.now.options.now.today asked.now.options.now.checks)
+        asked.now.options.now.policy (reporting_in asked.now) (upkeep_in asked.now) result }
     ensures quiet { IsQuiet result }
 {
     let file = read_file(alloc, asked.options.seed, suppressions, asked.options.today)?;

@@ -11,8 +11,10 @@ pub enum Group {
     Inputs,
     /// What decides between pass and fail.
     Gate,
-    /// What is written.
+    /// What is written for people and services.
     Outputs,
+    /// What is written for later runs.
+    Upkeep,
     /// Everything else.
     Other,
 }
@@ -24,6 +26,7 @@ impl Group {
             Group::Inputs => "Inputs",
             Group::Gate => "Gate",
             Group::Outputs => "Outputs",
+            Group::Upkeep => "Upkeep",
             Group::Other => "Other",
         }
     }
@@ -69,7 +72,10 @@ pub struct OptionRow {
     pub default: Option<&'static str>,
 }
 
-static ROWS: [OptionRow; 15] = [
+/// A date as YYYYMMDD, of which only the range is checked here.
+const DATE: Kind = Kind::Number(FIRST_DAY as i64, LAST_DAY as i64);
+
+static ROWS: [OptionRow; 20] = [
     OptionRow {
         id: "log",
         value: "LOG",
@@ -103,7 +109,7 @@ static ROWS: [OptionRow; 15] = [
         help: "Today's date, for example 20250131. Required if a suppression has\n\
             an expiry date; the program reads no clock",
         group: Group::Inputs,
-        kind: Kind::Number(FIRST_DAY as i64, LAST_DAY as i64),
+        kind: DATE,
         default: None,
     },
     OptionRow {
@@ -162,9 +168,54 @@ static ROWS: [OptionRow; 15] = [
     OptionRow {
         id: "root",
         value: "PREFIX",
-        help: "Prefix to strip from paths in reports, for example file:///builds/app/",
+        help: "Prefix to strip from paths in reports, for example file:///builds/app/. Of\n\
+            the prefixes that fit, the first is stripped. May be repeated",
         group: Group::Outputs,
+        kind: Kind::Many,
+        default: None,
+    },
+    OptionRow {
+        id: "accept",
+        value: "",
+        help: "Add an entry to the new suppression file for each hit, so that the next\n\
+            merge accepts it. Needs --suppress-out",
+        group: Group::Upkeep,
+        kind: Kind::Flag,
+        default: None,
+    },
+    OptionRow {
+        id: "prune",
+        value: "",
+        help: "Leave out of the new suppression file what expired, and what matches no\n\
+            result of a tool that ran. Needs --suppress and --suppress-out",
+        group: Group::Upkeep,
+        kind: Kind::Flag,
+        default: None,
+    },
+    OptionRow {
+        id: "reason",
+        value: "TEXT",
+        help: "Justification of the entries that --accept adds",
+        group: Group::Upkeep,
         kind: Kind::Once,
+        default: None,
+    },
+    OptionRow {
+        id: "until",
+        value: "YYYYMMDD",
+        help: "Expiry date of the entries that --accept adds, for example 20270101.\n\
+            Needs --today, which must not be after it",
+        group: Group::Upkeep,
+        kind: DATE,
+        default: None,
+    },
+    OptionRow {
+        id: "adopt",
+        value: "",
+        help: "Let new hits and new suppressed results into the known log too. Needs\n\
+            --known",
+        group: Group::Upkeep,
+        kind: Kind::Flag,
         default: None,
     },
     OptionRow {

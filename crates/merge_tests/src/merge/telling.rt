@@ -5,7 +5,7 @@ use sarif_findings::{Finding, Reporting};
 use sarif_gather::NoGate;
 use sarif_log::Asked;
 use sarif_merge::merge_readers;
-use sarif_model::{Level, MergeFault, Text};
+use sarif_model::{Level, MergeFault, Sequence, Text};
 use sarif_reports::text_report;
 use sarif_streams::{Counted, Readers};
 use std::alloc::{AllocError, AllocGlobal, Global};
@@ -80,9 +80,11 @@ fn told_of<'s, R: Abort + AllocGlobal + Threads + Wait + Sync>(
         workers,
         seed: seed_of(ZEROS)?,
     };
+    let mut roots = Sequence::new(alloc);
+    roots.push(Text::copy_of(alloc, "file:///b/")?)?;
     let reporting = Some(Reporting {
         policy: strict(),
-        root: Text::copy_of(alloc, "file:///b/")?,
+        roots,
     });
     let asked = asked_by(&options, &reporting);
     let (merged, ()) = merge_readers(rt, alloc, &mut readers, &asked, &NoGate, |_| Ok(()))?;

@@ -52,6 +52,30 @@ fn results_are_made_one_at_a_time(rt: HostRuntime) -> Result<(), Fail> {
     Ok(())
 }
 
+/// Three runs that failed: by the word of an invocation, without results, and with results that are left out. And one
+/// whose invocations say nothing of it.
+const FAILED: &str = r#"{"version":"2.1.0","runs":[
+    {"tool":{"driver":{"name":"a"}},"results":[],
+        "invocations":[{"executionSuccessful":true},{"executionSuccessful":false}]},
+    {"tool":{"driver":{"name":"b"}}},
+    {"tool":{"driver":{"name":"c"}},"results":[1.5]},
+    {"tool":{"driver":{"name":"d"}},"results":[],"invocations":[{},{"executionSuccessful":null}]}
+    ]}"#;
+
+#[test]
+fn a_run_failed_by_its_own_word_or_without_results(rt: HostRuntime) -> Result<(), Fail> {
+    let alloc = rt.alloc();
+    let mut scratch = Scratch::new(alloc);
+    let index = index_text(alloc, FAILED.as_bytes(), &mut scratch)?;
+    let runs = index_log(alloc, &index, false)?;
+    let wanted = [true, true, true, false];
+    assert_eq!(rt; runs.len(), wanted.len());
+    for (run, failed) in runs.iter().zip(wanted.iter()) {
+        assert_eq!(rt; run.has_failed(), *failed);
+    }
+    Ok(())
+}
+
 /// Returns whether the run without its results has none.
 fn is_bare(run: IndexedRun<'_, '_>) -> bool {
     run.into_bare().get("results").is_none()

@@ -26,6 +26,7 @@ loop-run-preserved c =
           ap (map placed_read) c.in_ok-push.ensures.items
           ∙ map-append placed_read c.loop-run.all.items (found ∷ [])
           ∙ ap (λ p. map placed_read c.loop-run.all.items ++ p ∷ []) c.new-read.ensures.placed
+          ∙ ap (λ b. map placed_read c.loop-run.all.items ++ record { source = source; number = c.loop-run.number; must_succeed = b; run = run_of run } ∷ []) c.must_succeed.ensures
           ∙ ap (λ ps. ps ++ one c.loop-run.number) c.loop-run.invariant.placed
           ∙ append_assoc before (placed_from c.args.checks source 0 (map run_of vs)) (one c.loop-run.number)
           ∙ ap (λ n. before ++ (placed_from c.args.checks source 0 (map run_of vs) ++ one n)) c.loop-run.invariant.number
