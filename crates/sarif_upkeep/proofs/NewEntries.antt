@@ -24,7 +24,7 @@ use Rattle.sarif_accept.specs.Keeping.{chosen, is_kept}
 use Rattle.sarif_accept.specs.NewFile.{entries_after, entries_in, file_object, listed, new_file, stripped_in}
 use Rattle.sarif_upkeep.specs.Heard.{heard}
 use Rattle.sarif_upkeep.specs.IsMatched.{IsFileOf}
-use Rattle.sarif_upkeep.specs.Making.{entries_of, file_of as made_of, object_in, values_of}
+use Rattle.sarif_upkeep.specs.Making.{entries_of, file_of as made_of}
 use Rattle.sarif_upkeep.specs.Merge.{Merge}
 use Rattle.sarif_upkeep.specs.Renewed.{accepted_in, added_in, entries_count, kept_in, renewal_faults, rules_after, text_faults, values_added}
 
@@ -80,10 +80,6 @@ chosen_long marks ds same = chosen_some marks ds same ∙ length-filter (λ mark
 
 -- ---- the entries that are added
 
-values_are : (added : List (Bor Record)) (renewal : Renewal) → values_of added renewal ≡ map (λ r. entry_for r renewal.reason renewal.until) (map (λ r. r.now) added)
-values_are [] renewal = refl
-values_are (r ∷ rs) renewal = ap (λ l. entry_for r.now renewal.reason renewal.until ∷ l) (values_are rs renewal)
-
 long_if : (accept : Bool) (rs : List Record) → length (if accept then rs else []) ≡ count_if accept (length rs)
 long_if true rs = refl
 long_if false rs = refl
@@ -99,19 +95,19 @@ module _ (m : Merge) (renewal : Renewal) (bytes : Option (Bor (List ℕ))) (kept
   pub added_are : map (λ r. r.now) added ≡ added_in m renewal
   added_are = added_is ∙ ap (once_each []) accepted_is ∙ once_if renewal.accept (accepted_in m)
 
-  made_values : values_of added renewal ≡ values_added m renewal
-  made_values = values_are added renewal ∙ ap (map (λ r. entry_for r renewal.reason renewal.until)) added_are
+  made_values : map (λ r. entry_for r renewal.reason renewal.until) (map (λ r. r.now) added) ≡ values_added m renewal
+  made_values = ap (map (λ r. entry_for r renewal.reason renewal.until)) added_are
 
   pub file_is : made_of bytes kept added renewal ≡ rules_after m renewal
   file_is =
-      ap (λ b. new_file (file_object b) kept (values_of added renewal)) bytes_are
-      ∙ ap (λ k. new_file (file_object m.bytes) k (values_of added renewal)) kept_is
+      ap (λ b. new_file (file_object b) kept (map (λ r. entry_for r renewal.reason renewal.until) (map (λ r. r.now) added))) bytes_are
+      ∙ ap (λ k. new_file (file_object m.bytes) k (map (λ r. entry_for r renewal.reason renewal.until) (map (λ r. r.now) added))) kept_is
       ∙ ap (new_file (file_object m.bytes) (kept_in m renewal)) made_values
 
   pub entries_are : entries_of bytes kept added renewal ≡ entries_count m renewal
   entries_are =
-      ap (λ b. length (entries_after (file_object b) kept (values_of added renewal))) bytes_are
-      ∙ ap (λ k. length (entries_after (file_object m.bytes) k (values_of added renewal))) kept_is
+      ap (λ b. length (entries_after (file_object b) kept (map (λ r. entry_for r renewal.reason renewal.until) (map (λ r. r.now) added)))) bytes_are
+      ∙ ap (λ k. length (entries_after (file_object m.bytes) k (map (λ r. entry_for r renewal.reason renewal.until) (map (λ r. r.now) added)))) kept_is
       ∙ ap (λ vs. length (entries_after (file_object m.bytes) (kept_in m renewal) vs)) made_values
 
   pub faults_are : text_faults (entries_of bytes kept added renewal) (made_of bytes kept added renewal) ≡ renewal_faults m renewal
