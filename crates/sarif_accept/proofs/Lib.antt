@@ -8,10 +8,14 @@ pub mod FileText
 pub mod Flags
 pub mod GivenFile
 pub mod GuidFits
+pub mod HeardMore
 pub mod Kept
+pub mod Lines
 pub mod Newline
 pub mod NoFraction
+pub mod AskedOnce
 pub mod Puts
+pub mod RenewedFile
 pub mod Rows
 pub mod SameConditions
 pub mod Shallow

@@ -16,6 +16,10 @@ abbrev pub is_dropped : Heard → Option ℕ → Entry → Bool → Bool
 is_dropped heard today e used =
     is_expired today e || (not used && heard e.conditions.tool)
 
+-- a value, if it is marked
+abbrev pub if_marked : Bool → Data → List Data
+if_marked mark d = if mark then d ∷ [] else []
+
 -- the line of an entry that is not marked, if it has a value
 abbrev pub line_at : List Bool → ℕ → Bool → Option Data → List ℕ
 line_at marks n expired None = []
