@@ -94,3 +94,18 @@ entries_given (Some bytes) today file is =
     let s1 = both (value_or (json_of (without_mark bytes))) _ file is in
     let found : json_of (without_mark bytes) ≡ Some s1.value = value_given (without_mark bytes) s1.value s1.first in
     rw found (read_of_value s1.value today file (json_ordered (without_mark bytes) s1.value found) s1.second)
+
+-- the date for which a file was read
+value_today : (d : Data) (today : Option ℕ) (file : File) → file_of_value today d ≡ Ok file → file.today ≡ today
+unfolding file_of_value
+value_today d today file is =
+    let s1 = both (check_list d) _ file is in
+    let s2 = both (check_version d) _ file s1.second in
+    let s3 = both (check_count s1.value) _ file s2.second in
+    let s4 = both (entries_from s2.value today 0 s1.value) _ file s3.second in
+    ap (λ f. f.today) (sym (the_file (record { entries = s4.value; today = today }) file s4.second))
+
+pub today_given : (given : Option (List ℕ)) (today : Option ℕ) (file : File) → file_given given today ≡ Ok file → file.today ≡ today
+unfolding file_of
+today_given None today file is = ap (λ f. f.today) (sym (the_file (record { entries = []; today = today }) file is))
+today_given (Some bytes) today file is = let s1 = both (value_or (json_of (without_mark bytes))) _ file is in value_today s1.value today file s1.second

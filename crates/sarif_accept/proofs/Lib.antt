@@ -11,6 +11,7 @@ pub mod GuidFits
 pub mod HeardMore
 pub mod Kept
 pub mod Lines
+pub mod NewFileRead
 pub mod Newline
 pub mod NoFraction
 pub mod AskedOnce
@@ -19,4 +20,5 @@ pub mod RenewedFile
 pub mod Rows
 pub mod SameConditions
 pub mod Shallow
+pub mod Staying
 pub mod Taken

@@ -22,6 +22,6 @@ pub(crate) fn print_file(alloc: Global, file: &Value) -> Result<String, AllocErr
     ensures reads { IfOk result (λ s. json_of (without_mark (string_bytes s)) ≡ Some (view file.now)) }
 {
     let mut text = file.to_string_pretty(alloc)?;
-    text.push('\n')?;
+    text.push_str("\n")?;
     Ok(text)
 }
