@@ -108,7 +108,7 @@ fn marks_for(
     Ok(marks)
 }
 
-/// The new file where these are the current results, all of them accepted unless pruning is asked for.
+/// The new file where these are the current results, all of them accepted unless the case prunes.
 fn renewed(
     rt: &(impl Abort + AllocGlobal),
     case: Case,

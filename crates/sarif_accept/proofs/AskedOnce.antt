@@ -1,20 +1,16 @@
 -- What the entries of results ask for, each once.
-use Rattle.std.proofs.Common.{◌≡◌, ℕ, ◌+◌, ◌<◌, ◌≤◌, Bool, true, false, cond, ◌||◌, List, [], ◌∷◌, ◌++◌, length, Option, Some, None, Bor, option_map, map, drop, slice_index_or, bytes_eq, refl, sym, ap, ◌∙◌, arith, append_assoc, length-append, if◌then◌else◌}
-use mathlib.Core.Bool.{or-false}
-use Rattle.std.specs.Prelude.{nat_eq}
-use Rattle.std.specs.Cmp.Lexicographic.{pointwise}
+use Rattle.std.proofs.Common.{◌≡◌, ℕ, ◌+◌, ◌<◌, Bool, true, false, cond, ◌||◌, List, [], ◌∷◌, ◌++◌, length, Option, Some, None, Bor, option_map, map, drop, slice_index_or, bytes_eq, refl, sym, ap, ◌∙◌}
 use Rattle.std.specs.List.{list_any}
 use Rattle.std.specs.Option.{option_eq}
 use Rattle.std.proofs.lemmas.List.Folds.{list_any-append}
-use Rattle.indexmap.specs.IndexSet.{IndexSet, contains, Updates}
+use Rattle.indexmap.specs.IndexSet.{IndexSet, Updates}
 use Rattle.sarif_model.specs.Limits.{most_entries}
 use Rattle.sarif_model.specs.declared.record.Record.{Record}
 use Rattle.sarif_accept.specs.declared.asked.Asked.{Asked}
-use Rattle.sarif_accept.specs.Adding.{same_conditions, is_said, once_each}
-use Rattle.sarif_accept.specs.Asked.{conditions_in, same_asked, HasAsked, IsSameList}
+use Rattle.sarif_accept.specs.Adding.{same_conditions, once_each}
+use Rattle.sarif_accept.specs.Asked.{conditions_in, same_asked, HasAsked}
 use Rattle.sarif_accept.specs.Entry.{conditions_for}
 use Rattle.sarif_accept.proofs.Flags.{left_of}
-use Rattle.sarif_accept.proofs.SameConditions.{same_conditions-Decides}
 
 same_text : (a b : Option (Bor (List ℕ))) → option_eq (λ x y. bytes_eq x.now y.now) a b ≡ option_eq bytes_eq (option_map (λ t. t.now) a) (option_map (λ t. t.now) b)
 same_text None None = refl

@@ -1,15 +1,14 @@
 -- The new file is read as it was meant.
-use Rattle.std.proofs.Common.{◌≡◌, ℕ, ◌+◌, ◌≤◌, Bool, true, false, List, [], ◌∷◌, ◌++◌, length, map, Option, Some, None, codes, refl, sym, ap, ◌∙◌, arith, true≢false, bytes_eq}
-use Rattle.std.specs.Prelude.{Result, Ok, Err, filter, nat_le}
+use Rattle.std.proofs.Common.{◌≡◌, ℕ, ◌≤◌, true, List, [], ◌∷◌, ◌++◌, length, map, Option, Some, codes, refl, sym, ◌∙◌, arith, true≢false}
+use Rattle.std.specs.Prelude.{Ok, nat_le}
 use Rattle.std.specs.List.{AllByRecursion}
 use Rattle.std.proofs.lemmas.Bool.Decides.{nat_tests}
 use Rattle.std.proofs.lemmas.Slice.Eq.{bytes_eq-Decides}
-use Rattle.serde_json.specs.Data.{Data, number, unsigned, array, object, Members, put}
+use Rattle.serde_json.specs.Data.{Data, number, unsigned, array, Members, put}
 use Rattle.serde_json.specs.Find.{get_member}
 use Rattle.serde_json.specs.View.{items_of}
 use Rattle.serde_json.proofs.Views.{get_member-put, get_member-put_other}
 use Rattle.sarif_model.specs.Limits.{most_entries}
-use Rattle.sarif_model.specs.Members.{◌>>=◌, elements}
 use Rattle.sarif_model.specs.declared.kinds.State.{State}
 use Rattle.sarif_model.specs.declared.record.Record.{Record}
 use Rattle.json_parts.specs.Indexed.{json_of}

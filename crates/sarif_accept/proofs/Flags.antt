@@ -2,9 +2,7 @@
 use Rattle.std.proofs.Common.{◌≡◌, ℕ, zero, suc, ◌+◌, ◌<◌, ◌≤◌, Bool, true, false, not, ◌&&◌, List, [], ◌∷◌, ◌++◌, map, length, drop, slice_index_or, Option, Some, None, option_map, refl, sym, ap, ◌∙◌, arith, length-append, if◌then◌else◌}
 use Rattle.std.specs.Prelude.{slice_get}
 use Rattle.std.specs.List.{list_any}
-use Rattle.std.proofs.Math.Seq.{get_or-append_seam}
 use Rattle.std.proofs.lemmas.List.{append_assoc, append-nil, drop_more, at_drop_all, drop-drop}
-use Rattle.std.proofs.lemmas.Option.{slice_get-get_or}
 use Rattle.json.specs.Token.{Token}
 use Rattle.json_parts.specs.Indexed.{data_of, json_of}
 use Rattle.json_parts.specs.Mark.{without_mark}

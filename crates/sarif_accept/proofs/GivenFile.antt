@@ -1,6 +1,6 @@
 -- The entries of a file that is read, as its new file has them.
-use Rattle.std.proofs.Common.{◌≡◌, ℕ, List, [], ◌∷◌, map, Option, Some, None, codes, refl, sym, ap, ◌∙◌}
-use Rattle.std.specs.Prelude.{Result, Ok, Err, option_and_then, unwrap_or, if◌then◌else◌, Bool, true, false}
+use Rattle.std.proofs.Common.{◌≡◌, ℕ, List, [], map, Option, Some, None, codes, refl, sym, ap, ◌∙◌}
+use Rattle.std.specs.Prelude.{Result, Ok, option_and_then, if◌then◌else◌, Bool, true, false}
 use Rattle.std.specs.Str.{is_utf8}
 use Rattle.std.specs.List.{AllByRecursion}
 use Rattle.serde_json.specs.Data.{Data, null, boolean, number, string, array, object, Items, no_items, item, no_members}
@@ -14,7 +14,7 @@ use Rattle.json_parts.specs.Ordered.{IsOrdered, AreItemsOrdered}
 use Rattle.json_parts.proofs.Order.{read_ordered}
 use Rattle.json_parts.proofs.Readings.{and_then_some}
 use Rattle.json_parts.proofs.Stripped.{get-IsOrdered}
-use Rattle.sarif_model.specs.Members.{◌>>=◌, elements}
+use Rattle.sarif_model.specs.Members.{elements}
 use Rattle.sarif_suppress.specs.declared.entry.Entry.{Entry}
 use Rattle.sarif_suppress.specs.declared.fault.FileFault.{FileFault}
 use Rattle.sarif_suppress.specs.declared.version.Version.{Version}
@@ -22,7 +22,7 @@ use Rattle.sarif_suppress.specs.declared.version.Version.TheVariants.{First}
 use Rattle.sarif_suppress.specs.File.{File, entries_from, file_of, file_of_value, value_or, check_list, list_or, check_version, check_count}
 use Rattle.sarif_accept.specs.NewFile.{file_object, entries_in, entry_in, listed}
 use Rattle.sarif_accept.specs.Given.{file_given}
-use Rattle.sarif_accept.proofs.EntryWhole.{Both, both, entries_whole}
+use Rattle.sarif_accept.proofs.EntryWhole.{both, entries_whole}
 
 -- a value that is read is ordered
 json_ordered : (bytes : List ℕ) (d : Data) → json_of bytes ≡ Some d → IsOrdered d

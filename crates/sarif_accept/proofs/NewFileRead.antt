@@ -1,6 +1,6 @@
 -- The new file of one that was read is read as it was meant.
-use Rattle.std.proofs.Common.{◌≡◌, ℕ, ◌≤◌, List, length, map, Option, Some, refl, sym, ap, ◌∙◌}
-use Rattle.std.specs.Prelude.{Result, Ok, Err}
+use Rattle.std.proofs.Common.{◌≡◌, ℕ, ◌≤◌, List, length, map, Option, Some, sym, ap, ◌∙◌}
+use Rattle.std.specs.Prelude.{Ok}
 use Rattle.std.specs.List.{AllByRecursion}
 use Rattle.json_parts.specs.Indexed.{json_of}
 use Rattle.json_parts.specs.Mark.{without_mark}

@@ -1,11 +1,11 @@
 -- How deep a new suppression file nests: at most as deep as a value that is read.
-use Rattle.std.proofs.Common.{◌≡◌, ℕ, suc, ◌≤◌, Bool, true, false, List, [], ◌∷◌, ◌++◌, map, Option, Some, None, option_map, Ordering, Less, Equal, Greater, nat_cmp, bytes_eq, codes, refl, sym, ap, ◌∙◌, arith, if◌then◌else◌}
+use Rattle.std.proofs.Common.{ℕ, suc, ◌≤◌, Bool, true, false, List, [], ◌∷◌, ◌++◌, map, Option, Some, None, option_map, Ordering, Less, Equal, Greater, nat_cmp, bytes_eq, codes, arith, if◌then◌else◌}
 use Rattle.std.specs.Prelude.{option_and_then, ⊤}
 use Rattle.std.specs.Cmp.Lexicographic.{slice_cmp}
 use Rattle.std.specs.List.{AllByRecursion}
 use Rattle.std.specs.Ordering.{match_ordering}
 use Rattle.serde_json.specs.Data.{Data, null, boolean, number, unsigned, string, array, object, Items, no_items, item, Members, no_members, member, put, depth, items_depth, members_depth}
-use Rattle.serde_json.specs.Find.{get, get_member, as_array, as_object}
+use Rattle.serde_json.specs.Find.{get, get_member, as_array}
 use Rattle.serde_json.specs.Read.{max_depth}
 use Rattle.serde_json.specs.View.{items_of}
 use Rattle.json_parts.specs.Stripping.{is_fractional, stripped, stripped_items, stripped_members}

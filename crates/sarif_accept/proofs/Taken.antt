@@ -1,5 +1,5 @@
 -- What a new file takes from the old one.
-use Rattle.std.proofs.Common.{◌≡◌, ℕ, Bool, List, [], ◌∷◌, map, refl, sym, ap, ◌∙◌, codes}
+use Rattle.std.proofs.Common.{◌≡◌, Bool, List, [], ◌∷◌, map, refl, ap, ◌∙◌, codes}
 use Rattle.std.specs.Prelude.{option_and_then}
 use Rattle.json.specs.Token.{Token}
 use Rattle.serde_json.specs.Data.{Data}

@@ -23,8 +23,8 @@ ghost use Rattle.sarif_accept.specs.NewFile.{file_with};
 ghost use Rattle.sarif_accept.specs.Renewed.{renewed_entries, renewed_file};
 ghost use Rattle.sarif_accept.specs.Until.{HasGuid, IsDated, IsUntil};
 
-/// The entry that accepts a result is read in a file of version 4: on every date, and without an expiry date also where
-/// no date is known. On every date up to its expiry date it matches the result.
+/// The entry that accepts a result is read in a file of version 4: on every date, and without an expiry date even if no
+/// date is known. On every date up to its expiry date it matches the result.
 #[tactic(auto, using(crate::proofs::EntryRead::entry_is, crate::proofs::EntryMatches::matches_is))]
 pub fn an_entry_accepts_its_result()
     ensures read { (r : Record) (reason : Option (List ℕ)) (today until : Option ℕ) (n : ℕ)

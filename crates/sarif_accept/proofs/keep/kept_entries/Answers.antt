@@ -1,4 +1,3 @@
-use Rattle.std.proofs.Common.{◌≡◌}
 use Rattle.sarif_accept.specs.Heard.{heard_of}
 use Rattle.sarif_accept.proofs.Flags.{flags_of_marks}
 use Rattle.sarif_accept.proofs.keep.kept_entries.Goals as goal

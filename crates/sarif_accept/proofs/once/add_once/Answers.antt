@@ -1,6 +1,5 @@
 use Rattle.std.proofs.Common.{◌≡◌, ap, ◌∙◌, map, [], ◌∷◌, ◌++◌}
 use Rattle.std.proofs.lemmas.List.{map-append}
-use Rattle.sarif_accept.specs.Asked.{HasAsked}
 use Rattle.sarif_accept.proofs.AskedOnce.{one_more}
 use Rattle.sarif_accept.proofs.once.add_once.Goals as goal
 

@@ -1,4 +1,4 @@
-use Rattle.std.proofs.Common.{◌≡◌, ap, sym, ◌∙◌, Some, string_bytes}
+use Rattle.std.proofs.Common.{ap, sym, ◌∙◌, Some, string_bytes}
 use Rattle.std.proofs.lemmas.Str.{IsUtf8-string_bytes}
 use Rattle.json_parts.specs.Indexed.{json_of}
 use Rattle.json_parts.specs.Mark.{without_mark}

@@ -1,4 +1,4 @@
-use Rattle.std.proofs.Common.{◌≡◌, map, option_map}
+use Rattle.std.proofs.Common.{map, option_map}
 use Rattle.sarif_accept.proofs.RenewedFile.{is_shallow, is_whole}
 use Rattle.sarif_accept.proofs.renewing.new_file.Goals as goal
 

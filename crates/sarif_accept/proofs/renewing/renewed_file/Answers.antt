@@ -1,4 +1,4 @@
-use Rattle.std.proofs.Common.{rules, ◌≡◌, ◌≤◌, map, length, option_map, ap₂, sym, ◌∙◌, arith}
+use Rattle.std.proofs.Common.{rules, ◌≡◌, ◌≤◌, map, length, option_map, ap₂, ◌∙◌}
 use Rattle.serde_json.specs.View.{view, members_view}
 use Rattle.sarif_model.specs.Limits.{most_entries}
 use Rattle.sarif_accept.specs.Keeping.{chosen}

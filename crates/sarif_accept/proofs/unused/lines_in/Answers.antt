@@ -1,4 +1,3 @@
-use Rattle.std.proofs.Common.{◌≡◌}
 use Rattle.json_parts.specs.Indexed.{data_of}
 use Rattle.sarif_accept.specs.NewFile.{entries_in}
 use Rattle.sarif_accept.proofs.Flags.{lines_of_marks}
