@@ -1,4 +1,5 @@
 use Rattle.std.proofs.Common.{length, sym, ap, ◌∙◌, subst, arith}
+use Rattle.std.proofs.lemmas.Result.{err_from_is_err_and}
 use Rattle.std.specs.List.{flat_map}
 use Rattle.sarif_model.specs.Run.{results_of}
 use Rattle.sarif_runs.specs.Judging.{records_of, run_values}
@@ -62,3 +63,8 @@ returns-clause-prepared g c = λ now before h.
 
 pub returns-clause-kept : goal.returns-clause-kept
 returns-clause-kept g c = λ now before h. c.in_ok-paired.ensures.kept now before h
+
+pub returns-in_err-paired-clause-unkept : goal.returns-in_err-paired-clause-unkept
+returns-in_err-paired-clause-unkept g c = λ now before h.
+    let p = err_from_is_err_and c.from_residual.result c.from_residual.ensures.1 in
+    rw (p.1, p.2) (c.in_err-paired.ensures.unkept now before h)
