@@ -1,3 +1,4 @@
+pub mod Grouped
 pub mod GuidFits
 pub mod KnownParts
 pub mod KnownPlain
@@ -6,10 +7,12 @@ pub mod LogBack
 pub mod Lost
 pub mod Newline
 pub mod Plain
+pub mod Readable
 pub mod RecordBack
 pub mod Rising
 pub mod Rows
 pub mod RunBack
 pub mod RunsAdded
+pub mod SamePartners
 pub mod Shallow
 pub mod TokensOf

@@ -39,33 +39,23 @@ mutual
         | false ↦ (below_stripped k ms are.0, stripped_ordered d are.1, members_ordered ms are.2)
       ]
 
-pub texts_put : List (List ℕ × List ℕ) → Members
-texts_put [] = no_members
-texts_put (p ∷ ps) = put p.0 (string p.1) (texts_put ps)
-
-put_first : (k : List ℕ) (d : Data) (ps : List (List ℕ × List ℕ)) → IsBelow k (text_members ps) → put k d (text_members ps) ≡ member k d (text_members ps)
-put_first k d [] below = refl
-put_first k d (p ∷ ps) below = rw below.0 refl
-
 ok_same : (a b : List (List ℕ × List ℕ)) → ◌≡◌ {A = Result (List (List ℕ × List ℕ)) Fault} (Ok a) (Ok b) → a ≡ b
 ok_same a b e = cc
 
 -- what is read of members that rise, rises
 pub record Rises (ps : List (List ℕ × List ℕ)) (ms : Members) : Type 0 where
   pub below : (k : List ℕ) → IsBelow k ms → IsBelow k (text_members ps)
-  pub same : texts_put ps ≡ text_members ps
+  pub ordered : AreMembersOrdered (text_members ps)
 
 rises_with : (name : List ℕ) (d : Data) (ms : Members) (o : Option (List ℕ)) (more : List (List ℕ × List ℕ)) → IsBelow name ms → Rises more ms → Rises (with_pair name o more) (member name d ms)
-unfolding texts_put
-rises_with name d ms None more first rest = record { below = λ k b. rest.below k b.1; same = rest.same }
+rises_with name d ms None more first rest = record { below = λ k b. rest.below k b.1; ordered = rest.ordered }
 rises_with name d ms (Some text) more first rest = record {
   below = λ k b. (b.0, rest.below k b.1);
-  same = ap (put name (string text)) rest.same ∙ put_first name (string text) more (rest.below name first);
+  ordered = (rest.below name first, tt, rest.ordered);
 }
 
 pub rises : (ms : Members) (ps : List (List ℕ × List ℕ)) → AreMembersOrdered ms → pairs_among ms ≡ Ok ps → Rises ps ms
-unfolding texts_put
-rises no_members ps are read = let none : [] ≡ ps = ok_same [] ps read in rw (← none) (record { below = λ k b. tt; same = refl })
+rises no_members ps are read = let none : [] ≡ ps = ok_same [] ps read in rw (← none) (record { below = λ k b. tt; ordered = tt })
 rises (member name d ms) ps are read =
     elim (text_or_null d) as (λ r. (r >>= λ value. result_map (with_pair name value) (pairs_among ms)) ≡ Ok ps → Rises ps (member name d ms)) [
       | Ok value ↦ λ rest.

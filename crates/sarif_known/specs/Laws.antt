@@ -37,3 +37,22 @@ pub record CanBeRead (runs : List Chosen) : Type 0 where
 pub record AreKnownAgain (runs : List Chosen) (placed : List Placed) : Type 0 where
   pub faultless : faults_of_runs placed ≡ []
   pub records : records_of placed ≡ flat_map (λ run. run.records) runs
+
+-- the record without the statuses of its own suppressions
+abbrev pub without_own : Record → Record
+without_own r = record {
+  tool = r.tool;
+  rule_id = r.rule_id;
+  kind = r.kind;
+  level = r.level;
+  message = r.message;
+  place = r.place;
+  guid = r.guid;
+  full = r.full;
+  partial = r.partial;
+  held = [];
+}
+
+-- the records are the same but for those statuses
+abbrev pub AreAlike : List Record → List Record → Type 0
+AreAlike bs others = map without_own bs ≡ map without_own others

@@ -1,4 +1,5 @@
 pub mod Chosen
+pub mod Groups
 pub mod KnownLog
 pub mod KnownResult
 pub mod KnownRun

@@ -14,7 +14,7 @@ once_each before (x ∷ xs) =
 -- the runs of that tool that have results
 abbrev pub runs_of_tool : List Chosen → List ℕ → List Chosen
 runs_of_tool runs tool =
-    filter (λ run. bytes_eq tool run.tool && not (is_empty run.records)) runs
+    filter (λ run. bytes_eq run.tool tool && not (is_empty run.records)) runs
 
 -- the tools in the order of their first runs
 abbrev pub tools_of : List Chosen → List (List ℕ)

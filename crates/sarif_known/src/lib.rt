@@ -15,4 +15,7 @@ mod order;
 pub use choosing::{Choice, Results, keep_run, know_run};
 pub use chosen::KnownRun;
 pub use known_log::known_text;
-pub use laws::what_is_known_is_read_again;
+pub use laws::{
+    own_suppressions_of_a_baseline_change_no_match, what_is_known_is_read_again,
+    what_is_read_can_be_known,
+};
