@@ -8,6 +8,7 @@ use std::hash::RandomState;
 use std::test::Fail;
 
 /// A run that was read, and the records of all its results.
+#[derive(Drop)]
 struct ReadRun {
     tool: Text,
     records: Vec<Record>,
@@ -52,7 +53,12 @@ fn all_of<'a>(alloc: Global, runs: &'a [ReadRun]) -> Result<Vec<KnownRun<'a>>, F
 fn known(alloc: Global, seed: RandomState, log: &str, baseline: &str) -> Result<String, Fail> {
     let current = read_runs(alloc, seed, log)?;
     let before = read_runs(alloc, seed, baseline)?;
-    let text = known_text(alloc, seed, all_of(alloc, &current)?, all_of(alloc, &before)?)?;
+    let text = known_text(
+        alloc,
+        seed,
+        all_of(alloc, &current)?,
+        all_of(alloc, &before)?,
+    )?;
     Ok(text)
 }
 
@@ -67,10 +73,14 @@ const WRITTEN: &str = r#"{"version":"2.1.0","runs":[]}|{"runs":[],"version":"2.1
 {"version":"2.1.0","runs":[{"artifacts":[{},{"location":{"uriBaseId":"S"}}],"results":[{"message":{"text":"m"},"locations":[{"physicalLocation":{"artifactLocation":{"index":1}}}]},{"message":{"text":"m"},"locations":[{"physicalLocation":{"artifactLocation":{"index":0}}}]},{"message":{"text":"m"},"locations":[{"physicalLocation":{"artifactLocation":{"index":1}}}]}],"tool":{"driver":{"name":"lint"}}}]}|{"runs":[{"artifacts":[{"location":{"uriBaseId":"S"}},{"location":{"uriBaseId":"S"}}],"results":[{"level":"warning","locations":[{"physicalLocation":{"artifactLocation":{"index":0}}}],"message":{"text":"m"}},{"level":"warning","message":{"text":"m"}},{"level":"warning","locations":[{"physicalLocation":{"artifactLocation":{"index":1}}}],"message":{"text":"m"}}],"tool":{"driver":{"name":"lint"}}}],"version":"2.1.0"}"#;
 
 /// The first line whose log makes another text.
-fn wrong_line(alloc: Global, rows: &'static str) -> Result<Option<&'static str>, Fail> {
+fn wrong_line(
+    alloc: Global,
+    seed: RandomState,
+    rows: &'static str,
+) -> Result<Option<&'static str>, Fail> {
     for row in rows.lines() {
         if let Some((log, wanted)) = row.split_once('|') {
-            let text = known(alloc, RandomState::new(), log, NONE)?;
+            let text = known(alloc, seed, log, NONE)?;
             let value = serde_json::Value::from_str(alloc, wanted)?;
             let mut pretty = value.to_string_pretty(alloc)?;
             pretty.push('\n')?;
@@ -84,7 +94,7 @@ fn wrong_line(alloc: Global, rows: &'static str) -> Result<Option<&'static str>,
 
 #[test]
 fn of_a_result_is_written_what_matching_and_states_look_at(rt: HostRuntime) -> Result<(), Fail> {
-    let wrong = wrong_line(rt.alloc(), WRITTEN)?;
+    let wrong = wrong_line(rt.alloc(), RandomState::new(&rt)?, WRITTEN)?;
     assert_eq!(rt; wrong, None);
     Ok(())
 }
@@ -113,7 +123,7 @@ const BOTH: &str = r#"{"version":"2.1.0","runs":[
 
 #[test]
 fn runs_stand_tool_by_tool(rt: HostRuntime) -> Result<(), Fail> {
-    let text = known(rt.alloc(), RandomState::new(), CURRENT, BASELINE)?;
+    let text = known(rt.alloc(), RandomState::new(&rt)?, CURRENT, BASELINE)?;
     let wanted = serde_json::Value::from_str(rt.alloc(), BOTH)?;
     let mut pretty = wanted.to_string_pretty(rt.alloc())?;
     pretty.push('\n')?;
@@ -123,8 +133,8 @@ fn runs_stand_tool_by_tool(rt: HostRuntime) -> Result<(), Fail> {
 
 #[test]
 fn a_known_log_is_its_own_known_log(rt: HostRuntime) -> Result<(), Fail> {
-    let once = known(rt.alloc(), RandomState::new(), CURRENT, BASELINE)?;
-    let twice = known(rt.alloc(), RandomState::new(), NONE, once.as_str())?;
+    let once = known(rt.alloc(), RandomState::new(&rt)?, CURRENT, BASELINE)?;
+    let twice = known(rt.alloc(), RandomState::new(&rt)?, NONE, once.as_str())?;
     assert_eq!(rt; once.as_str(), twice.as_str());
     Ok(())
 }

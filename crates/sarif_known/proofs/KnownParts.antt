@@ -1,34 +1,32 @@
 -- The members of a known result are read as they were written.
-use Rattle.std.proofs.Common.{◌≡◌, ℕ, ◌<◌, ◌^◌, Bool, true, false, ◌&&◌, List, [], ◌∷◌, map, length, All, Option, Some, None, option_map, codes, refl, sym, ap, ◌∙◌, inl, arith}
-use Rattle.std.specs.Prelude.{Result, Ok, Err, option_and_then, unwrap_or, IfSome, nat_lt}
+use Rattle.std.proofs.Common.{◌≡◌, ℕ, ◌<◌, ◌^◌, true, List, [], ◌∷◌, map, All, Option, Some, None, option_map, codes, refl, sym, ap, ◌∙◌, inl, arith}
+use Rattle.std.specs.Prelude.{Ok, option_and_then, unwrap_or, IfSome, nat_lt}
 use Rattle.std.specs.Int.{w128, to_be_bytes, from_be_bytes}
 use Rattle.std.proofs.lemmas.Bool.Decides.{nat_tests}
 use Rattle.std.proofs.lemmas.List.Elements.{All-from_recursion}
 use Rattle.uuid.specs.Text.{lower}
 use Rattle.uuid.proofs.RoundTrips.{parses_hyphenated}
 use Rattle.uuid.proofs.OrderLemmas.{from_be_bytes-to_be_bytes_16}
-use Rattle.serde_json.specs.Data.{Data, string, array, object}
+use Rattle.serde_json.specs.Data.{Data, string}
 use Rattle.serde_json.specs.Find.{get_member, as_str, as_object, as_array}
 use Rattle.serde_json.specs.View.{items_of}
-use Rattle.sarif_model.specs.declared.fault.Fault.{Fault}
-use Rattle.sarif_model.specs.declared.fault.Fault.TheVariants.{BadKind, BadLevel, BadGuid, BadFingerprint, BadSuppression, BadMember, BadLocation}
+use Rattle.sarif_model.specs.declared.fault.Fault.TheVariants.{BadKind, BadLevel, BadGuid, BadFingerprint, BadSuppression, BadMember}
 use Rattle.sarif_model.specs.declared.kinds.Kind.{Kind}
 use Rattle.sarif_model.specs.declared.kinds.Kind.TheVariants.{Pass, Undecided, Informational, NotApplicable, Review, Fail}
 use Rattle.sarif_model.specs.declared.kinds.Level.{Level}
 use Rattle.sarif_model.specs.declared.kinds.Level.TheVariants.{NoLevel, Note, Warning, Error}
 use Rattle.sarif_model.specs.declared.kinds.Status.{Status}
 use Rattle.sarif_model.specs.declared.kinds.Status.TheVariants.{Accepted, UnderReview, Rejected}
-use Rattle.sarif_model.specs.declared.message.Message.{Message}
 use Rattle.sarif_model.specs.declared.place.Place.{Place}
 use Rattle.sarif_model.specs.declared.record.Record.{Record}
 use Rattle.sarif_runs.specs.declared.parts.Parts.{Parts}
 use Rattle.sarif_model.specs.Guid.{guid_of_text}
-use Rattle.sarif_runs.specs.Fingerprints.{pairs_among, pairs_of, pairs_at}
-use Rattle.sarif_model.specs.Members.{◌>>=◌, result_map, of_kind, or_wrong, unless_null, member_at, text_at, object_at, elements, first_of, if_object, are_objects, elements_of, elements_at, if_objects, objects_at, read_each, itself_if_object, if_there}
+use Rattle.sarif_runs.specs.Fingerprints.{pairs_among, pairs_of}
+use Rattle.sarif_model.specs.Members.{◌>>=◌, result_map, of_kind, or_wrong, unless_null, elements, are_objects, elements_of, if_objects, read_each}
 use Rattle.sarif_model.specs.Suppression.{status_of}
-use Rattle.sarif_runs.specs.OwnMembers.{check_present, as_kind, own_kind, as_level, own_level, as_guid, own_guid, own_fingerprints, own_statuses, text_of, texts_within, own_message, own_rule_id, own_message_and_rule, own_indexes, own_location, parts_of, index_within}
+use Rattle.sarif_runs.specs.OwnMembers.{check_present, as_kind, own_kind, as_level, own_level, as_guid, own_guid, own_fingerprints, own_statuses, text_of, own_message, own_rule_id, own_message_and_rule, own_indexes, own_location, parts_of}
 use Rattle.std.specs.Option.{option_or}
-use Rattle.sarif_known.specs.KnownResult.{Row, one_location, members_from, message_rows, guid_text, text_members, texts_if_any, list_if_any, kind_unless_fail, level_if_fail, locations_for, suppression_for, unless_empty, result_rows, known_result}
+use Rattle.sarif_known.specs.KnownResult.{members_from, message_rows, guid_text, text_members, texts_if_any, list_if_any, kind_unless_fail, level_if_fail, suppression_for, unless_empty, result_rows, known_result}
 use Rattle.sarif_known.proofs.Rows.{found, get_row, text_back}
 
 abbrev pub level_read : Kind → Level → Option Level
@@ -73,7 +71,6 @@ known_parts r artifact = record {
   partial = r.partial;
   held = r.held;
 }
-
 
 kind_back : (kind : Kind) → result_map (λ k. unwrap_or k Fail) (of_kind BadKind as_kind (option_and_then unless_null (kind_unless_fail kind))) ≡ Ok kind
 kind_back Pass = refl

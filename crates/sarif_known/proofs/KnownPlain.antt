@@ -1,9 +1,9 @@
 -- The known log holds strings and small numbers alone, and the names of its objects rise.
-use Rattle.std.proofs.Common.{◌≡◌, ℕ, suc, ◌+◌, ◌^◌, ◌<◌, ◌≤◌, ◌&&◌, Bool, true, false, List, [], ◌∷◌, ◌++◌, map, length, Option, Some, None, option_map, codes, refl, sym, ap, ◌∙◌, arith, Less, Equal, Greater, Ordering, nat_cmp, true≢false}
+use Rattle.std.proofs.Common.{◌≡◌, ℕ, suc, ◌+◌, ◌^◌, ◌<◌, ◌≤◌, ◌&&◌, Bool, true, false, List, [], ◌∷◌, map, length, Option, Some, None, option_map, codes, refl, sym, arith, Less, Equal, Greater, Ordering, nat_cmp, true≢false}
 use Rattle.std.specs.Prelude.{⊤, IfSome}
 use Rattle.std.specs.List.{AllByRecursion}
 use Rattle.std.specs.Cmp.Lexicographic.{slice_cmp}
-use Rattle.serde_json.specs.Data.{Data, number, unsigned, string, array, object, Items, no_items, item, Members, no_members, member}
+use Rattle.serde_json.specs.Data.{Data, number, unsigned, string, Members, no_members, member}
 use Rattle.serde_json.specs.View.{items_of}
 use Rattle.json_parts.specs.Ordered.{IsBelow, AreMembersOrdered}
 use Rattle.sarif_model.specs.declared.kinds.Kind.{Kind}
@@ -11,13 +11,12 @@ use Rattle.sarif_model.specs.declared.kinds.Kind.TheVariants.{Pass, Undecided, I
 use Rattle.sarif_model.specs.declared.kinds.Level.{Level}
 use Rattle.sarif_model.specs.declared.kinds.Status.{Status}
 use Rattle.sarif_model.specs.declared.message.Message.{Message}
-use Rattle.sarif_model.specs.declared.place.Place.{Place}
 use Rattle.sarif_model.specs.declared.record.Record.{Record}
-use Rattle.sarif_model.specs.Limits.{most_results, most_runs}
+use Rattle.sarif_model.specs.Limits.{most_results}
 use Rattle.sarif_known.specs.Chosen.{Chosen, results_among}
 use Rattle.sarif_known.specs.KnownLog.{known_log}
-use Rattle.sarif_known.specs.KnownResult.{Row, guid_text, kind_unless_fail, known_result, level_if_fail, list_if_any, locations_for, members_from, message_rows, object_from, one_location, result_rows, suppression_for, text_members, texts_if_any, unless_empty, uri_rows, with_value}
-use Rattle.sarif_known.specs.KnownRun.{artifact_at, base_alone, bases_alone, known_run, next_number, results_from, run_rows, tool_named}
+use Rattle.sarif_known.specs.KnownResult.{Row, guid_text, kind_unless_fail, known_result, level_if_fail, list_if_any, locations_for, members_from, message_rows, object_from, one_location, result_rows, suppression_for, text_members, texts_if_any, unless_empty, uri_rows}
+use Rattle.sarif_known.specs.KnownRun.{artifact_at, base_alone, bases_alone, known_run, next_number, results_from, run_rows}
 use Rattle.sarif_known.specs.Laws.{IsOfTool, IsReadable}
 use Rattle.sarif_known.proofs.Plain.{IsPlain, AreItemsPlain, AreMembersPlain}
 
@@ -134,9 +133,22 @@ place_plain (Some uri) base None small = location_plain (members_from (uri_rows 
 
 result_plain : (r : Record) (artifact : Option ℕ) → IsReadable r → IfSome artifact (λ n. n < 2 ^ 32) → IsPlain (known_result r artifact)
 result_plain r artifact readable small =
-    rows_plain (result_rows r artifact) refl
-    (text_if_plain guid_text r.guid, (texts_if_plain r.full readable.full, (kind_plain r.kind, (level_plain r.kind r.level, (place_plain r.place.uri r.place.base artifact small,
-    (message_plain r.message, (texts_if_plain r.partial readable.partial, (id_plain r.rule_id, (list_if_plain (map suppression_for r.held) (each_plain suppression_for suppression_plain r.held), tt)))))))))
+    rows_plain (result_rows r artifact) refl (
+      text_if_plain guid_text r.guid,
+      (
+        texts_if_plain r.full readable.full,
+        (
+          kind_plain r.kind,
+          (
+            level_plain r.kind r.level,
+            (
+              place_plain r.place.uri r.place.base artifact small,
+              (message_plain r.message, (texts_if_plain r.partial readable.partial, (id_plain r.rule_id, (list_if_plain (map suppression_for r.held) (each_plain suppression_for suppression_plain r.held), tt)))),
+            ),
+          ),
+        ),
+      ),
+    )
 
 -- ---- runs and the log
 
@@ -150,18 +162,20 @@ next_small n (Some base) left few = omega (arith, few)
 
 results_plain : (tool : List ℕ) (n : ℕ) (rs : List Record) → AllByRecursion (IsOfTool tool) rs → n + length rs ≤ most_results → AllByRecursion IsPlain (results_from n rs)
 results_plain tool n [] all few = tt
-results_plain tool n (r ∷ rs) all few =
-    (result_plain r (option_map (λ _. n) (base_alone r)) all.0.readable (number_small n (base_alone r) (omega (arith, few))),
-    results_plain tool (next_number n (base_alone r)) rs all.1 (next_small n (base_alone r) (length rs) few))
+results_plain tool n (r ∷ rs) all few = (
+  result_plain r (option_map (λ _. n) (base_alone r)) all.0.readable (number_small n (base_alone r) (omega (arith, few))),
+  results_plain tool (next_number n (base_alone r)) rs all.1 (next_small n (base_alone r) (length rs) few),
+)
 
 artifact_plain : (base : List ℕ) → IsPlain (artifact_at base)
 artifact_plain base = (tt, (tt, tt, tt), tt)
 
 run_plain : (run : Chosen) → AllByRecursion (IsOfTool run.tool) run.records → length run.records ≤ most_results → IsPlain (known_run run)
 run_plain run all few =
-    rows_plain (run_rows run) refl
-    (list_if_plain (map artifact_at (bases_alone run.records)) (each_plain artifact_at artifact_plain (bases_alone run.records)),
-    (list_plain (results_from 0 run.records) (results_plain run.tool 0 run.records all (omega (arith, few))), ((tt, (tt, tt, tt), tt), tt)))
+    rows_plain (run_rows run) refl (
+      list_if_plain (map artifact_at (bases_alone run.records)) (each_plain artifact_at artifact_plain (bases_alone run.records)),
+      (list_plain (results_from 0 run.records) (results_plain run.tool 0 run.records all (omega (arith, few))), ((tt, (tt, tt, tt), tt), tt)),
+    )
 
 runs_plain : (runs : List Chosen) → AllByRecursion (λ run. AllByRecursion (IsOfTool run.tool) run.records) runs → results_among runs ≤ most_results → AllByRecursion IsPlain (map known_run runs)
 runs_plain [] all few = tt

@@ -1,5 +1,5 @@
 -- How long a text of tokens is at least.
-use Rattle.std.proofs.Common.{◌≡◌, ℕ, zero, suc, ◌+◌, ◌≤◌, ◌<◌, ◌/◌, ◌%◌, nat_lt, Bool, true, false, cond, List, [], ◌∷◌, ◌++◌, length, fold, refl, sym, ap, ◌∙◌, subst, arith, append_assoc, append-nil, length-append}
+use Rattle.std.proofs.Common.{◌≡◌, ℕ, ◌+◌, ◌≤◌, ◌<◌, ◌/◌, ◌%◌, nat_lt, Bool, true, false, cond, List, [], ◌∷◌, ◌++◌, length, fold, refl, sym, ap, ◌∙◌, subst, arith, append_assoc, append-nil, length-append}
 use Rattle.std.specs.Char.{digit_char}
 use Rattle.json.specs.Token.{Token}
 use Rattle.json.specs.Print.{escape, escape_byte, escape_letter, quoted, token_text}
@@ -58,7 +58,7 @@ one_piece s t = subst (λ l. length (token_text t) ≤ length l) (sym (append-ni
 pub grows : (ts : List Token) (t : Token) (n m : ℕ) → n ≤ length (pretty ts) → m ≤ length (token_text t) → n + m ≤ length (pretty (ts ++ t ∷ []))
 grows ts t n m so more =
     let split : length (pretty (ts ++ t ∷ [])) ≡ length (pretty ts) + length (pretty_from (fold step (nothing, 0) ts) (t ∷ [])) =
-        ap length (pretty_from-append (nothing, 0) ts (t ∷ [])) ∙ length-append (pretty ts) (pretty_from (fold step (nothing, 0) ts) (t ∷ [])) in
+    ap length (pretty_from-append (nothing, 0) ts (t ∷ [])) ∙ length-append (pretty ts) (pretty_from (fold step (nothing, 0) ts) (t ∷ [])) in
     let last = one_piece (fold step (nothing, 0) ts) t in
     omega (arith, split, last, so, more)
 
@@ -66,7 +66,7 @@ grows ts t n m so more =
 pub front_is_shorter : (ts us : List Token) → length (pretty ts) ≤ length (pretty (ts ++ us))
 front_is_shorter ts us =
     let split : length (pretty (ts ++ us)) ≡ length (pretty ts) + length (pretty_from (fold step (nothing, 0) ts) us) =
-        ap length (pretty_from-append (nothing, 0) ts us) ∙ length-append (pretty ts) (pretty_from (fold step (nothing, 0) ts) us) in
+    ap length (pretty_from-append (nothing, 0) ts us) ∙ length-append (pretty ts) (pretty_from (fold step (nothing, 0) ts) us) in
     omega (arith, split)
 
 -- what is too long as a front is too long

@@ -1,30 +1,21 @@
 -- The text of the known log is read as the known log, and its runs are read without an error.
-use Rattle.std.proofs.Common.{◌≡◌, ℕ, suc, ◌+◌, ◌<◌, ◌≤◌, Bool, true, false, not, List, [], ◌∷◌, ◌++◌, map, length, Option, Some, None, codes, refl, sym, ap, ◌∙◌, arith}
-use Rattle.std.specs.Prelude.{Result, Ok, Err, ⊤, nat_lt, option_and_then, if◌then◌else◌}
-use Rattle.std.specs.List.{AllByRecursion}
-use Rattle.std.specs.Str.{is_utf8, IsUtf8}
+use Rattle.std.proofs.Common.{◌≡◌, ℕ, suc, ◌+◌, ◌≤◌, Bool, true, false, List, [], ◌∷◌, ◌++◌, map, length, Some, codes, refl, sym, ap, ◌∙◌, arith}
+use Rattle.std.specs.Prelude.{Ok, nat_lt}
+use Rattle.std.specs.Str.{IsUtf8}
 use Rattle.std.proofs.lemmas.Bool.Decides.{nat_tests}
 use Rattle.std.proofs.lemmas.Str.{is_utf8-from_IsUtf8}
-use Rattle.json.specs.Layout.{pretty, pretty_from}
+use Rattle.json.specs.Layout.{pretty_from}
 use Rattle.json.specs.Lex.{tokens}
-use Rattle.serde_json.specs.Data.{Data, array, object}
-use Rattle.serde_json.specs.Find.{get}
-use Rattle.serde_json.specs.View.{items_of}
-use Rattle.serde_json.specs.Read.{read}
 use Rattle.json_parts.specs.Indexed.{json_of}
 use Rattle.json_parts.specs.Mark.{without_mark}
-use Rattle.json_parts.specs.Stripping.{stripped}
-use Rattle.sarif_model.specs.declared.fault.Fault.{Fault}
-use Rattle.sarif_model.specs.declared.fault.Fault.TheVariants.{BadRun, TooMany}
+use Rattle.sarif_model.specs.declared.fault.Fault.TheVariants.{BadRun}
 use Rattle.sarif_model.specs.Limits.{most_results, most_runs}
-use Rattle.sarif_model.specs.Members.{◌>>=◌, are_objects, elements, objects_at}
+use Rattle.sarif_model.specs.Members.{◌>>=◌, are_objects, objects_at}
 use Rattle.sarif_model.specs.Run.{results_of, runs_of}
-use Rattle.sarif_read.specs.declared.read_fault.ReadFault.{ReadFault}
-use Rattle.sarif_read.specs.Reading.{at_run, check_count, check_each, check_external, check_log, check_results, check_run, check_tool, count_results, log_of, log_of_value}
+use Rattle.sarif_read.specs.Reading.{check_each, check_external, check_log, check_results, check_run, check_tool, count_results, log_of, log_of_value}
 use Rattle.sarif_known.specs.Chosen.{Chosen, results_among}
-use Rattle.sarif_known.specs.KnownLog.{known_log, known_text, pretty_text}
-use Rattle.sarif_known.specs.KnownResult.{known_result}
-use Rattle.sarif_known.specs.KnownRun.{base_alone, known_run, next_number, results_from, run_rows}
+use Rattle.sarif_known.specs.KnownLog.{known_log, pretty_text}
+use Rattle.sarif_known.specs.KnownRun.{base_alone, known_run, next_number, results_from}
 use Rattle.sarif_known.specs.Laws.{CanBeRead}
 use Rattle.sarif_known.specs.Tokens.{data_tokens}
 use Rattle.sarif_known.proofs.KnownParts.{items_back}

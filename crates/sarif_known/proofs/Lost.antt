@@ -1,5 +1,5 @@
 -- A text that is lost since its front is too long.
-use Rattle.std.proofs.Common.{◌≡◌, ◌⊎◌, ℕ, List, ◌++◌, length, inl, inr, ◌<◌}
+use Rattle.std.proofs.Common.{◌≡◌, List, ◌++◌, length, inl, inr, ◌<◌}
 use Rattle.json.specs.Layout.{pretty}
 use Rattle.json.specs.Token.{Token}
 use Rattle.sarif_model.specs.declared.merge_fault.MergeFault.{MergeFault}

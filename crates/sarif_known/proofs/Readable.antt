@@ -1,6 +1,6 @@
 -- The records of results that were read can be read again.
-use Rattle.std.proofs.Common.{◌≡◌, ℕ, zero, suc, ◌+◌, ◌<◌, ◌^◌, Bool, true, false, List, [], ◌∷◌, Option, Some, None, codes, refl, sym, ap, ◌∙◌, subst}
-use Rattle.std.specs.Prelude.{Result, Ok, Err, IfSome, option_and_then, slice_index_or, if◌then◌else◌, ⊤}
+use Rattle.std.proofs.Common.{◌≡◌, ℕ, zero, suc, ◌<◌, ◌^◌, Bool, true, false, List, [], Option, Some, None, codes, refl, sym, ap, ◌∙◌, subst}
+use Rattle.std.specs.Prelude.{Result, Ok, Err, IfSome, option_and_then, slice_index_or, if◌then◌else◌}
 use Rattle.std.specs.Str.{is_utf8}
 use Rattle.json.specs.Json as json
 use Rattle.serde_json.specs.Data.{Data, null, boolean, number, string, array, object, Items, no_items, item, Members}
@@ -15,26 +15,24 @@ use Rattle.json_parts.proofs.Order.{read_ordered}
 use Rattle.json_parts.proofs.Stripped.{get-IsOrdered}
 use Rattle.sarif_model.specs.declared.fault.Fault.{Fault}
 use Rattle.sarif_model.specs.declared.fault.Fault.TheVariants.{BadFingerprint, BadGuid, NotJson}
-use Rattle.sarif_model.specs.declared.kinds.Kind.{Kind}
 use Rattle.sarif_model.specs.declared.kinds.Level.{Level}
 use Rattle.sarif_model.specs.declared.kinds.Level.TheVariants.{NoLevel}
 use Rattle.sarif_model.specs.declared.record.Record.{Record}
 use Rattle.sarif_model.specs.Guid.{guid_of_text}
-use Rattle.sarif_model.specs.Members.{◌>>=◌, elements, member_at, of_kind, or_wrong, result_map, unless_null}
-use Rattle.sarif_model.specs.Run.{elements_or_none, result_at, results_of, runs_of}
-use Rattle.sarif_read.specs.declared.read_fault.ReadFault.{ReadFault}
+use Rattle.sarif_model.specs.Members.{◌>>=◌, elements, member_at, of_kind, or_wrong, unless_null}
+use Rattle.sarif_model.specs.Run.{elements_or_none, result_at, runs_of}
 use Rattle.sarif_read.specs.Reading.{at_whole, check_each, check_log, log_of, log_of_value, ok_or}
 use Rattle.sarif_runs.specs.declared.head.RunHead.{RunHead}
 use Rattle.sarif_runs.specs.declared.parts.Parts.{Parts}
 use Rattle.sarif_runs.specs.Descriptor.{descriptor_of, reference_of}
-use Rattle.sarif_runs.specs.Fingerprints.{pairs_among, pairs_at, pairs_of}
+use Rattle.sarif_runs.specs.Fingerprints.{pairs_at, pairs_of}
 use Rattle.sarif_runs.specs.Head.{head_of}
 use Rattle.sarif_runs.specs.Level.{first_level, is_fail, level_of, overriding_level_at}
 use Rattle.sarif_runs.specs.OwnMembers.{as_guid, check_present, own_fingerprints, own_guid, own_indexes, own_kind, own_level, own_location, own_message_and_rule, own_statuses, parts_of}
 use Rattle.sarif_runs.specs.Place.{place_of}
 use Rattle.sarif_runs.specs.Record.{record_by, record_in, record_of, tool_name}
 use Rattle.sarif_known.specs.KnownResult.{text_members}
-use Rattle.sarif_known.specs.Laws.{IsOfTool, IsReadable}
+use Rattle.sarif_known.specs.Laws.{IsOfTool}
 use Rattle.sarif_known.proofs.GuidFits.{guid_fits}
 use Rattle.sarif_known.proofs.Rising.{rises, stripped_ordered}
 

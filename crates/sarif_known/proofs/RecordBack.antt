@@ -1,35 +1,20 @@
 -- The record of a known result is the record that it was written from.
-use Rattle.std.proofs.Common.{◌≡◌, ℕ, zero, suc, ◌+◌, ◌<◌, ◌≤◌, ◌^◌, Bool, true, false, List, [], ◌∷◌, ◌++◌, map, length, Option, Some, None, option_map, codes, refl, sym, ap, ◌∙◌, subst, arith}
-use Rattle.std.specs.Prelude.{Result, Ok, Err, option_and_then, IfSome, slice_get, slice_index_or}
-use Rattle.std.specs.List.{AllByRecursion, range_with_len}
-use Rattle.serde_json.specs.Data.{Data, null, string, array, object}
-use Rattle.serde_json.specs.Find.{get, get_member, as_array}
-use Rattle.serde_json.specs.View.{items_of}
-use Rattle.sarif_model.specs.declared.fault.Fault.{Fault}
-use Rattle.sarif_model.specs.declared.fault.Fault.TheVariants.{BadLocation, BadMember, BadIndex}
+use Rattle.std.proofs.Common.{◌≡◌, ℕ, false, List, [], ◌∷◌, map, Option, Some, None, option_map, refl, sym}
+use Rattle.std.specs.Prelude.{Ok, IfSome, slice_get}
 use Rattle.sarif_model.specs.declared.kinds.Kind.{Kind}
 use Rattle.sarif_model.specs.declared.kinds.Kind.TheVariants.{Pass, Undecided, Informational, NotApplicable, Review, Fail}
 use Rattle.sarif_model.specs.declared.kinds.Level.{Level}
 use Rattle.sarif_model.specs.declared.kinds.Level.TheVariants.{NoLevel}
 use Rattle.sarif_model.specs.declared.place.Place.{Place}
 use Rattle.sarif_model.specs.declared.record.Record.{Record}
-use Rattle.sarif_model.specs.Members.{◌>>=◌, elements, elements_of, of_kind, unless_null, are_objects, if_objects, read_each}
-use Rattle.sarif_model.specs.Run.{results_of, result_at}
 use Rattle.sarif_runs.specs.declared.head.RunHead.{RunHead}
-use Rattle.sarif_runs.specs.Descriptor.{descriptor_of, reference_of}
-use Rattle.sarif_runs.specs.Head.{head_of}
+use Rattle.sarif_runs.specs.Descriptor.{descriptor_of}
 use Rattle.sarif_runs.specs.Level.{is_fail, first_level}
-use Rattle.sarif_runs.specs.Overrides.{invocations_of}
-use Rattle.sarif_runs.specs.OwnMembers.{parts_of}
-use Rattle.sarif_runs.specs.Place.{artifact_of, artifacts_of, place_by}
-use Rattle.sarif_runs.specs.Record.{record_by, record_in, record_of, rule_id_of, tool_name}
-use Rattle.sarif_runs.specs.Rules.{components_of, rules_of}
-use Rattle.sarif_known.specs.Chosen.{Chosen}
-use Rattle.sarif_known.specs.KnownResult.{known_result, list_if_any, members_from}
-use Rattle.sarif_known.specs.KnownRun.{base_alone, base_without, next_number, results_from, with_some, bases_alone, artifact_at, tool_named, run_rows, known_run}
-use Rattle.sarif_known.specs.Laws.{IsReadable, IsOfTool}
-use Rattle.sarif_known.proofs.KnownParts.{level_read, id_read, uri_read, base_read, known_parts, parts_is, items_back}
-use Rattle.sarif_known.proofs.Rows.{found, get_row}
+use Rattle.sarif_runs.specs.Place.{place_by}
+use Rattle.sarif_runs.specs.Record.{record_by, rule_id_of}
+use Rattle.sarif_known.specs.KnownRun.{base_alone, base_without}
+use Rattle.sarif_known.specs.Laws.{IsReadable}
+use Rattle.sarif_known.proofs.KnownParts.{level_read, id_read, uri_read, base_read, known_parts}
 
 -- a place without a uri
 abbrev pub base_place : List ℕ → Place

@@ -1,8 +1,7 @@
 -- Names that rise: pairs that were read of an object make that object again.
-use Rattle.std.proofs.Common.{◌≡◌, ℕ, true, false, Bool, List, [], ◌∷◌, Option, Some, None, Ordering, Less, refl, sym, ap, ap₂, ◌∙◌, nat_cmp, if◌then◌else◌}
-use Rattle.std.specs.Prelude.{Result, Ok, Err, ⊤}
-use Rattle.std.specs.Cmp.Lexicographic.{slice_cmp}
-use Rattle.serde_json.specs.Data.{Data, null, boolean, number, string, array, object, Items, no_items, item, Members, no_members, member, put}
+use Rattle.std.proofs.Common.{◌≡◌, ℕ, true, false, List, [], Option, Some, None, refl, if◌then◌else◌}
+use Rattle.std.specs.Prelude.{Result, Ok, Err}
+use Rattle.serde_json.specs.Data.{Data, null, boolean, number, string, array, object, Items, no_items, item, Members, no_members, member}
 use Rattle.json_parts.specs.Ordered.{IsBelow, IsOrdered, AreItemsOrdered, AreMembersOrdered}
 use Rattle.sarif_model.specs.declared.fault.Fault.{Fault}
 use Rattle.json_parts.specs.Stripping.{is_fractional, stripped, stripped_items, stripped_members}

@@ -1,15 +1,14 @@
 -- What is found under a name among rows.
-use Rattle.std.proofs.Common.{◌≡◌, ℕ, Bool, true, false, ◌&&◌, not, List, [], ◌∷◌, Option, Some, None, option_map, bytes_eq, codes, refl, sym, ap, ◌∙◌, Ordering, Less, Equal, Greater, is_eq, nat_cmp, true≢false, if◌then◌else◌}
-use Rattle.std.specs.List.{list_all}
+use Rattle.std.proofs.Common.{◌≡◌, ℕ, Bool, true, false, ◌&&◌, not, List, [], ◌∷◌, Option, Some, None, option_map, bytes_eq, refl, sym, ap, ◌∙◌, Ordering, Less, Equal, Greater, is_eq, nat_cmp, true≢false, if◌then◌else◌}
 use Rattle.std.specs.Cmp.Lexicographic.{slice_cmp}
 use Rattle.std.specs.Ordering.{match_ordering}
 use Rattle.std.proofs.lemmas.Map.Text.{is_eq-slice_cmp}
 use Rattle.std.proofs.lemmas.Slice.Eq.{bytes_eq-Decides}
-use Rattle.std.specs.Prelude.{Result, Ok, option_and_then}
-use Rattle.serde_json.specs.Data.{Data, Members, no_members, member, string}
+use Rattle.std.specs.Prelude.{Ok, option_and_then}
+use Rattle.serde_json.specs.Data.{Data, Members, member, string}
 use Rattle.serde_json.specs.Find.{get_member, as_str}
 use Rattle.sarif_model.specs.Members.{of_kind, unless_null}
-use Rattle.sarif_known.specs.KnownResult.{Row, with_value, members_from}
+use Rattle.sarif_known.specs.KnownResult.{Row, members_from}
 
 -- the value of the first row of that name
 abbrev pub found : List ℕ → List Row → Option Data
@@ -71,4 +70,3 @@ get_row q ((k, Some d) ∷ rows) e =
 pub text_back : {E : Type 0} (wrong : E) (o : Option (List ℕ)) → of_kind wrong as_str (option_and_then unless_null (option_map string o)) ≡ Ok o
 text_back wrong None = refl
 text_back wrong (Some text) = refl
-

@@ -1,24 +1,23 @@
 -- A known run is opened without an error, and its results have the records that they were written from.
-use Rattle.std.proofs.Common.{◌≡◌, ℕ, zero, suc, ◌+◌, ◌<◌, ◌≤◌, ◌^◌, Bool, true, false, ◌&&◌, List, [], ◌∷◌, ◌++◌, map, length, Option, Some, None, option_map, codes, refl, sym, ap, ◌∙◌, subst, arith, append_assoc, length-append}
-use Rattle.std.specs.Prelude.{Result, Ok, Err, option_and_then, IfSome, slice_get, slice_index_or, unwrap_or, if◌then◌else◌}
-use Rattle.std.specs.List.{AllByRecursion, range_with_len, flat_map}
-use Rattle.serde_json.specs.Data.{Data, null, string, array, object}
-use Rattle.serde_json.specs.Find.{get, get_member, as_array}
+use Rattle.std.proofs.Common.{◌≡◌, ℕ, suc, ◌+◌, ◌<◌, ◌≤◌, ◌^◌, Bool, true, false, ◌&&◌, List, [], ◌∷◌, ◌++◌, map, length, Option, Some, None, option_map, codes, refl, sym, ap, ◌∙◌, arith, append_assoc, length-append}
+use Rattle.std.specs.Prelude.{Result, Ok, Err, option_and_then, IfSome, slice_get, slice_index_or, if◌then◌else◌}
+use Rattle.std.specs.List.{AllByRecursion, range_with_len}
+use Rattle.serde_json.specs.Data.{Data, null}
+use Rattle.serde_json.specs.Find.{get, as_array}
 use Rattle.serde_json.specs.View.{items_of}
 use Rattle.sarif_model.specs.declared.fault.Fault.{Fault}
 use Rattle.sarif_model.specs.declared.fault.Fault.TheVariants.{BadLocation, BadMember, BadIndex}
 use Rattle.sarif_model.specs.declared.record.Record.{Record}
-use Rattle.sarif_model.specs.Members.{◌>>=◌, result_map, elements, elements_of, of_kind, unless_null, are_objects, if_objects, read_each}
+use Rattle.sarif_model.specs.Members.{◌>>=◌, elements_of, of_kind, unless_null, are_objects, if_objects, read_each}
 use Rattle.sarif_model.specs.Run.{is_absent_result, results_array, results_of, result_at}
 use Rattle.sarif_model.specs.Driver.{driver_name}
 use Rattle.sarif_model.specs.Limits.{most_results}
 use Rattle.sarif_read.specs.Failed.{failed}
-use Rattle.sarif_runs.specs.declared.item.Item.{Item}
-use Rattle.sarif_runs.specs.declared.item.Item.TheVariants.{Sound, Bad, Skipped}
+use Rattle.sarif_runs.specs.declared.item.Item.TheVariants.{Sound, Skipped}
 use Rattle.sarif_runs.specs.declared.head.RunHead.{RunHead}
 use Rattle.sarif_runs.specs.declared.parts.Parts.{Parts}
 use Rattle.sarif_runs.specs.Head.{head_of}
-use Rattle.sarif_runs.specs.Judging.{faults_of_runs, first_bad, item_by, item_of, items_of as all_items, opened_of, records_in, records_of, run_faults, run_values, skips}
+use Rattle.sarif_runs.specs.Judging.{first_bad, item_by, item_of, items_of as all_items, opened_of, records_in, run_faults, run_values, skips}
 use Rattle.sarif_runs.specs.Overrides.{invocations_of}
 use Rattle.sarif_runs.specs.OwnMembers.{parts_of}
 use Rattle.sarif_runs.specs.Place.{artifact_of, artifacts_of}
@@ -27,8 +26,8 @@ use Rattle.sarif_runs.specs.Record.{record_by, record_in, record_of, tool_name}
 use Rattle.sarif_runs.specs.Rules.{components_of, rules_of}
 use Rattle.sarif_known.specs.Chosen.{Chosen, results_among}
 use Rattle.sarif_known.specs.KnownResult.{known_result, list_if_any}
-use Rattle.sarif_known.specs.KnownRun.{base_alone, next_number, results_from, with_some, bases_alone, artifact_at, tool_named, run_rows, known_run}
-use Rattle.sarif_known.specs.Laws.{IsReadable, IsOfTool, AreKnownAgain}
+use Rattle.sarif_known.specs.KnownRun.{base_alone, next_number, results_from, with_some, bases_alone, artifact_at, run_rows, known_run}
+use Rattle.sarif_known.specs.Laws.{IsOfTool, AreKnownAgain}
 use Rattle.sarif_known.proofs.KnownParts.{items_back, known_parts, parts_is, present_is}
 use Rattle.sarif_known.proofs.RecordBack.{HasArtifact, base_place, known_head, number_for, record_back}
 use Rattle.sarif_known.proofs.Rows.{found, get_row}
@@ -166,11 +165,11 @@ module _ (run : Chosen) (p : Placed) (is_run : p.run ≡ known_run run) where
       let here : result_at p.run (length before) ≡ d = ap (λ ds. slice_index_or ds (length before) null) results ∙ behind_or before d _ in
       let more = more_bases earlier (base_alone r) (bases_alone rs) in
       let first : item_of p (length before) ≡ Sound r =
-          one_item (length before) (length earlier) r here all.0 (there_is earlier (base_alone r) (bases_alone rs) (bases_alone run.records) bases) (omega (arith, few)) in
+      one_item (length before) (length earlier) r here all.0 (there_is earlier (base_alone r) (bases_alone rs) (bases_alone run.records) bases) (omega (arith, few)) in
       let next : length before + 1 ≡ length (before ++ d ∷ []) = sym (length-append before (d ∷ [])) in
       let rest = items_from (before ++ d ∷ []) more.0 rs
-          (results ∙ sym (append_assoc before (d ∷ []) (results_from (next_number (length earlier) (base_alone r)) rs)) ∙ ap (λ n. (before ++ d ∷ []) ++ results_from n rs) (sym more.2))
-          (bases ∙ sym more.1) all.1 (rw more.2 (next_small (length earlier) (base_alone r) (length rs) few)) in
+      (results ∙ sym (append_assoc before (d ∷ []) (results_from (next_number (length earlier) (base_alone r)) rs)) ∙ ap (λ n. (before ++ d ∷ []) ++ results_from n rs) (sym more.2))
+      (bases ∙ sym more.1) all.1 (rw more.2 (next_small (length earlier) (base_alone r) (length rs) few)) in
       (λ i. first i ∷ map (item_of p) (range_with_len (next i) (length rs))) ∙ ap (λ l. Sound r ∷ l) rest
 
   -- its items are its records

@@ -1,5 +1,5 @@
 -- Runs and the log, from their parts.
-use Rattle.std.proofs.Common.{◌≡◌, ℕ, List, [], ◌∷◌, ◌++◌, map, refl, sym, ap, ◌∙◌, append_assoc}
+use Rattle.std.proofs.Common.{◌≡◌, List, [], ◌∷◌, ◌++◌, map, sym, ap, ◌∙◌, append_assoc}
 use Rattle.json.specs.Layout.{pretty}
 use Rattle.json.specs.Token.{Token}
 use Rattle.sarif_model.specs.declared.merge_fault.MergeFault.{MergeFault}

@@ -1,15 +1,15 @@
 -- Matching and states don't look at a result's own suppressions.
-use Rattle.std.proofs.Common.{◌≡◌, ℕ, zero, suc, Bool, List, [], ◌∷◌, ◌++◌, map, fold, length, Option, Some, None, option_map, refl, sym, ap, ap₂, ◌∙◌}
+use Rattle.std.proofs.Common.{◌≡◌, ℕ, zero, suc, List, [], ◌∷◌, ◌++◌, map, fold, length, Option, Some, None, option_map, refl, sym, ap, ap₂, ◌∙◌}
 use Rattle.std.specs.Prelude.{option_and_then, slice_get}
 use Rattle.sarif_model.specs.declared.record.Record.{Record}
 use Rattle.sarif_match.specs.declared.tier.Tier.{Tier}
 use Rattle.sarif_match.specs.declared.tier.Tier.TheVariants.{Guid, Fingerprint, PartialHere, PartialMoved, Place}
 use Rattle.sarif_match.specs.Key.{key_of}
-use Rattle.sarif_match.specs.KeyParts.{KeyParts, same_parts}
+use Rattle.sarif_match.specs.KeyParts.{same_parts}
 use Rattle.sarif_match.specs.Pairing.{pairs_from}
 use Rattle.sarif_match.specs.Partners.{after_tier, free, keyed_from, left, partners_of, put_all, with_key}
 use Rattle.sarif_match.specs.State.{state_of}
-use Rattle.sarif_match.specs.Tiers.{names_of, tiers_of, rising_names, with_names}
+use Rattle.sarif_match.specs.Tiers.{names_of, tiers_of, with_names}
 use Rattle.sarif_known.specs.Laws.{without_own}
 
 same_key : (tier : Tier) (r : Record) → key_of (without_own r) tier ≡ key_of r tier

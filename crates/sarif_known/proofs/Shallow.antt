@@ -1,7 +1,7 @@
 -- The known log nests at most nine deep.
-use Rattle.std.proofs.Common.{◌≡◌, ℕ, suc, ◌+◌, ◌<◌, ◌≤◌, max, Bool, true, false, List, [], ◌∷◌, ◌++◌, map, length, Option, Some, None, option_map, codes, refl, sym, ap, ◌∙◌, arith}
+use Rattle.std.proofs.Common.{ℕ, suc, ◌≤◌, List, [], ◌∷◌, map, Option, Some, None, option_map, codes, arith}
 use Rattle.std.specs.Prelude.{⊤, IfSome}
-use Rattle.serde_json.specs.Data.{Data, number, unsigned, string, array, object, Items, no_items, item, Members, no_members, member, depth, items_depth, members_depth}
+use Rattle.serde_json.specs.Data.{Data, number, unsigned, string, array, Members, no_members, member, depth, items_depth, members_depth}
 use Rattle.serde_json.specs.Read.{max_depth}
 use Rattle.serde_json.specs.View.{items_of}
 use Rattle.sarif_model.specs.declared.kinds.Kind.{Kind}
@@ -89,7 +89,7 @@ wider m n (Some d) less is = omega (arith, less, is)
 message_within : (m : Message) → depth (object_from (message_rows m)) ≤ 4
 message_within m =
     let inner : members_depth (members_from (message_rows m)) ≤ 1 =
-        rows_within 1 (message_rows m) (list_if_within 0 (map string m.args) (each_within 0 string (λ _. omega arith) m.args), (text_within 1 (λ t. t) m.id, (text_within 1 (λ t. t) m.text, tt))) in
+    rows_within 1 (message_rows m) (list_if_within 0 (map string m.args) (each_within 0 string (λ _. omega arith) m.args), (text_within 1 (λ t. t) m.id, (text_within 1 (λ t. t) m.text, tt))) in
     omega (arith, inner)
 
 location_within : (ms : Members) → members_depth ms ≤ 0 → depth (one_location ms) ≤ 5
@@ -106,10 +106,31 @@ suppressions_within r = list_if_within 1 (map suppression_for r.held) (each_with
 result_within : (r : Record) (artifact : Option ℕ) → depth (known_result r artifact) ≤ 6
 result_within r artifact =
     let inner : members_depth (members_from (result_rows r artifact)) ≤ 5 =
-        rows_within 5 (result_rows r artifact)
-        (text_within 5 guid_text r.guid, (wider 4 5 _ (omega arith) (texts_if_within r.full), (wider 4 5 _ (omega arith) (kind_within r.kind), (wider 4 5 _ (omega arith) (level_within r.kind r.level),
-        (place_within r.place.uri r.place.base artifact, (wide (message_within r.message), (wider 4 5 _ (omega arith) (texts_if_within r.partial), (wider 4 5 _ (omega arith) (id_within r.rule_id),
-        (wider 2 5 _ (omega arith) (suppressions_within r), tt))))))))) in
+    rows_within 5 (result_rows r artifact) (
+      text_within 5 guid_text r.guid,
+      (
+        wider 4 5 _ (omega arith) (texts_if_within r.full),
+        (
+          wider 4 5 _ (omega arith) (kind_within r.kind),
+          (
+            wider 4 5 _ (omega arith) (level_within r.kind r.level),
+            (
+              place_within r.place.uri r.place.base artifact,
+              (
+                wide (message_within r.message),
+                (
+                  wider 4 5 _ (omega arith) (texts_if_within r.partial),
+                  (
+                    wider 4 5 _ (omega arith) (id_within r.rule_id),
+                    (wider 2 5 _ (omega arith) (suppressions_within r), tt),
+                  ),
+                ),
+              ),
+            ),
+          ),
+        ),
+      ),
+    ) in
     omega (arith, inner)
   where
     wide : {n : ℕ} → n ≤ 4 → n ≤ 5
@@ -125,7 +146,7 @@ run_within run =
     let all : depth (array (items_of (results_from 0 run.records))) ≤ 7 = omega (arith, results) in
     let tool : depth (tool_named run.tool) ≤ 7 = omega arith in
     let inner : members_depth (members_from (run_rows run)) ≤ 7 =
-        rows_within 7 (run_rows run) (wider 3 7 _ (omega arith) (list_if_within 2 (map artifact_at (bases_alone run.records)) (each_within 2 artifact_at (λ _. omega arith) (bases_alone run.records))), (all, (tool, tt))) in
+    rows_within 7 (run_rows run) (wider 3 7 _ (omega arith) (list_if_within 2 (map artifact_at (bases_alone run.records)) (each_within 2 artifact_at (λ _. omega arith) (bases_alone run.records))), (all, (tool, tt))) in
     omega (arith, inner)
 
 pub log_within : (runs : List Chosen) → depth (known_log runs) ≤ max_depth

@@ -2,7 +2,6 @@
 use Rattle.std.specs.Prelude.{ℕ, ◌+◌, List, [], ◌∷◌, map, Option, Some, None, option_map, codes}
 use Rattle.serde_json.specs.Data.{Data, string, array, object, no_members, member}
 use Rattle.serde_json.specs.View.{items_of}
-use Rattle.sarif_model.specs.declared.place.Place.{Place}
 use Rattle.sarif_model.specs.declared.record.Record.{Record}
 use Rattle.sarif_known.specs.Chosen.{Chosen}
 use Rattle.sarif_known.specs.KnownResult.{Row, known_result, list_if_any, object_from}

@@ -1,17 +1,15 @@
 -- What is said of records that can become known, and of a known log that is read again.
-use Rattle.std.specs.Prelude.{◌≡◌, ◌≤◌, ◌<◌, ◌^◌, ℕ, Bool, false, List, [], map, length, IfSome, Ok, ⊤}
+use Rattle.std.specs.Prelude.{◌≡◌, ◌≤◌, ◌<◌, ◌^◌, ℕ, false, List, [], map, length, IfSome}
 use Rattle.std.specs.List.{AllByRecursion, flat_map}
-use Rattle.serde_json.specs.Data.{Data}
 use Rattle.json_parts.specs.Ordered.{AreMembersOrdered}
 use Rattle.sarif_model.specs.declared.kinds.Level.TheVariants.{NoLevel}
 use Rattle.sarif_model.specs.declared.record.Record.{Record}
 use Rattle.sarif_model.specs.Limits.{most_results, most_runs}
-use Rattle.sarif_runs.specs.Judging.{faults_of_runs, records_of, run_values}
+use Rattle.sarif_runs.specs.Judging.{faults_of_runs, records_of}
 use Rattle.sarif_runs.specs.Level.{is_fail}
 use Rattle.sarif_runs.specs.Placed.{Placed}
 use Rattle.sarif_known.specs.Chosen.{Chosen, results_among}
 use Rattle.sarif_known.specs.KnownResult.{text_members}
-use Rattle.sarif_known.specs.KnownRun.{known_run}
 
 -- what is so of each record that was read: its GUID has 128 bits; it has a level only where its kind is fail; the names
 -- of its fingerprints strictly rise

@@ -1,5 +1,5 @@
 -- The runs of the known log, tool by tool.
-use Rattle.std.specs.Prelude.{ℕ, Bool, not, if◌then◌else◌, ◌&&◌, List, [], ◌∷◌, ◌++◌, map, filter, bytes_eq}
+use Rattle.std.specs.Prelude.{ℕ, not, if◌then◌else◌, ◌&&◌, List, [], ◌∷◌, ◌++◌, map, filter, bytes_eq}
 use Rattle.std.specs.List.{flat_map, list_any}
 use Rattle.sarif_suppress.specs.Matching.{is_empty}
 use Rattle.sarif_known.specs.Chosen.{Chosen}

@@ -90,11 +90,7 @@ fn push_artifact(out: &mut Lines, artifact: u32) -> Result<(), AllocError>
 }
 
 /// Adds the location, if the place has a uri or the number of an artifact (SARIF 2.1.0, "locations property").
-fn push_location(
-    out: &mut Lines,
-    place: &Place,
-    artifact: Option<u32>,
-) -> Result<(), AllocError>
+fn push_location(out: &mut Lines, place: &Place, artifact: Option<u32>) -> Result<(), AllocError>
     ensures { OnOk result (out.new ≡ out.old
         ++ value_tokens (codes "locations") (locations_for place.now artifact)) }
 {

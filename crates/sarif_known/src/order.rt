@@ -75,7 +75,10 @@ fn add_runs<'a>(
 }
 
 /// The runs of these groups, one after another.
-fn flatten<'a>(alloc: Global, groups: Vec<Vec<KnownRun<'a>>>) -> Result<Vec<KnownRun<'a>>, AllocError>
+fn flatten<'a>(
+    alloc: Global,
+    groups: Vec<Vec<KnownRun<'a>>>,
+) -> Result<Vec<KnownRun<'a>>, AllocError>
     ensures { IfOk result
         (λ runs. all_chosen runs.items ≡ flat_map (λ g. g) (groups_of groups.entry.items)) }
 {

@@ -56,5 +56,5 @@ module _ (picked lasts : Entry → Bool) where
   lasting_verdict held entries =
       let some : list_any (passes_at lasts entries) (numbers_from picked 0 entries) ≡ not (is_empty (theirs entries)) = any_numbers lasts picked entries 0 entries (whole_is_part entries) ∙ some_last entries in
       let all : list_all (passes_at (λ e. not (lasts e) || is_accepted e.status) entries) (numbers_from picked 0 entries) ≡ list_all is_accepted (theirs entries) =
-          all_numbers (λ e. not (lasts e) || is_accepted e.status) picked entries 0 entries (whole_is_part entries) ∙ all_last entries in
+      all_numbers (λ e. not (lasts e) || is_accepted e.status) picked entries 0 entries (whole_is_part entries) ∙ all_last entries in
       rw (some, all, either, is_empty-append, list_all-append) refl

@@ -8,10 +8,10 @@ ghost use Rattle.sarif_suppress.specs.Suppressing.{lasting, matching_numbers, is
 ghost use Rattle.sarif_model.specs.Limits.{most_entries};
 
 use crate::entry::Entry;
+use crate::lasting::do_suppress_for_good;
 use crate::marks::Marks;
 use crate::object::{object_of, with_objects};
 use crate::prefixes::PrefixTable;
-use crate::lasting::do_suppress_for_good;
 use crate::select::{count_unused, do_suppress, select};
 use crate::table::Table;
 use sarif_model::{Record, Sequence};

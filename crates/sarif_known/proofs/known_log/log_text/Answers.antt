@@ -1,4 +1,4 @@
-use Rattle.std.proofs.Common.{◌≡◌, ◌∙◌, ◌++◌, ap}
+use Rattle.std.proofs.Common.{◌∙◌, ◌++◌, ap}
 use Rattle.json.specs.Layout.{pretty}
 use Rattle.sarif_known.specs.Chosen.{all_chosen}
 use Rattle.sarif_known.specs.Tokens.{log_opening}

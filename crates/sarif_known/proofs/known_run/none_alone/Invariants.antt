@@ -1,6 +1,5 @@
-use Rattle.std.proofs.Common.{◌≡◌, ◌++◌, ◌==◌, ◌≤◌, length, drop, map}
-use Rattle.sarif_known.specs.KnownRun.{artifact_at, bases_alone, results_from}
-use Rattle.sarif_known.specs.Tokens.{each_tokens}
+use Rattle.std.proofs.Common.{◌≡◌, ◌==◌, length, drop, map}
+use Rattle.sarif_known.specs.KnownRun.{bases_alone}
 use Rattle.sarif_known.proofs.known_run.none_alone.Given as goal
 
 abbrev pub invariant-loop-found : goal.invariant-loop-found

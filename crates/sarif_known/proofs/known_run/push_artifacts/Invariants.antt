@@ -1,5 +1,5 @@
-use Rattle.std.proofs.Common.{◌≡◌, ◌++◌, ◌==◌, ◌≤◌, length, drop, map}
-use Rattle.sarif_known.specs.KnownRun.{artifact_at, bases_alone, results_from}
+use Rattle.std.proofs.Common.{◌≡◌, ◌++◌, drop, map}
+use Rattle.sarif_known.specs.KnownRun.{artifact_at, bases_alone}
 use Rattle.sarif_known.specs.Tokens.{each_tokens}
 use Rattle.sarif_known.proofs.known_run.push_artifacts.Given as goal
 

@@ -1,4 +1,4 @@
-use Rattle.std.proofs.Common.{◌≡◌, map, ap}
+use Rattle.std.proofs.Common.{map, ap}
 use Rattle.sarif_known.specs.Chosen.{chosen_of}
 use Rattle.sarif_known.proofs.RunsAdded.{run_added, run_lost}
 use Rattle.sarif_known.proofs.known_run.push_run.Goals as goal

@@ -1,4 +1,4 @@
-use Rattle.std.proofs.Common.{◌≡◌, ◌++◌, drop, map}
+use Rattle.std.proofs.Common.{◌≡◌, ◌++◌, drop}
 use Rattle.sarif_known.specs.Tokens.{pairs_tokens}
 use Rattle.sarif_known.proofs.members.push_pairs.Given as goal
 

@@ -1,8 +1,6 @@
-use Rattle.std.proofs.Common.{◌≡◌, ◌==◌, ◌∙◌, ◌++◌, ◌∷◌, [], false, length, map, ap, sym, codes}
+use Rattle.std.proofs.Common.{◌≡◌, ◌==◌, ◌∙◌, ◌++◌, ◌∷◌, [], false, length, ap, sym}
 use Rattle.json.specs.Token.{key, begin_object, end_object}
-use Rattle.serde_json.specs.Data.{string}
-use Rattle.sarif_known.specs.KnownResult.{suppression_for}
-use Rattle.sarif_known.specs.Tokens.{each_tokens, pairs_tokens}
+use Rattle.sarif_known.specs.Tokens.{pairs_tokens}
 use Rattle.sarif_known.proofs.TokensOf.{four, texts_tokens}
 use Rattle.sarif_known.proofs.members.push_texts_if.Goals as goal
 

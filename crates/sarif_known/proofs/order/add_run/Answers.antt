@@ -1,4 +1,4 @@
-use Rattle.std.proofs.Common.{◌∙◌, sym, length, map, ap}
+use Rattle.std.proofs.Common.{◌∙◌, sym}
 use Rattle.sarif_known.specs.Chosen.{chosen_of}
 use Rattle.sarif_known.specs.Groups.{groups_of}
 use Rattle.sarif_known.proofs.Grouped.{no_group, set_group, groups_count}

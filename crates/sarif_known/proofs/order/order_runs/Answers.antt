@@ -1,7 +1,7 @@
-use Rattle.std.proofs.Common.{◌≡◌, ◌∙◌, ◌++◌, ap, sym, List, [], ℕ, map, length}
+use Rattle.std.proofs.Common.{◌≡◌, ◌∙◌, ◌++◌, sym}
 use Rattle.sarif_known.specs.Chosen.{all_chosen}
-use Rattle.sarif_known.specs.Groups.{groups_of, side_by_side, texts_of, AreApart}
-use Rattle.sarif_known.specs.Order.{once_each, runs_of_tool, tools_of}
+use Rattle.sarif_known.specs.Groups.{groups_of, texts_of}
+use Rattle.sarif_known.specs.Order.{tools_of}
 use Rattle.sarif_known.proofs.Grouped.{all_grouped, order_tools, texts_count, tools_apart}
 use Rattle.sarif_known.proofs.order.order_runs.Goals as goal
 

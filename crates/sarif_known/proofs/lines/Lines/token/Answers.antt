@@ -1,5 +1,5 @@
 -- The text has grown by the token at least.
-use Rattle.std.proofs.Common.{◌≡◌, ◌≤◌, ◌+◌, ◌++◌, ◌∷◌, [], length, List, sym, subst, arith}
+use Rattle.std.proofs.Common.{◌≤◌, ◌++◌, ◌∷◌, [], length, List, sym, subst, arith}
 use Rattle.json.specs.Layout.{pretty}
 use Rattle.json.specs.Reads.{token_of}
 use Rattle.json.specs.Token.{Token}
