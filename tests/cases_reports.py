@@ -1,4 +1,4 @@
-"""Cases of the five reports: each report of a merged log, compared with the reference."""
+"""Cases of the reports: each report of a merged log, compared with the reference."""
 
 import json
 import random
@@ -7,17 +7,19 @@ from functools import cached_property
 
 import hostile_logs as hostile
 import reference
+from azure_reader import azure_faults
 from cases import *
 from page_reader import page_faults
 from reference_reports import Policy, Reports
+from xml_reader import xml_faults
 
-KINDS = ("text", "github", "markdown", "gitlab", "html")
+KINDS = ("text", "github", "markdown", "gitlab", "html", "junit", "azure")
 ROOT_FOLDER = "file:///src/"
 
 
 @dataclass
 class Reporting(Case):
-    """A merge that writes all five reports."""
+    """A merge that writes all reports."""
 
     policy: Policy = field(default_factory=Policy)
     logs: list = field(default_factory=list)
@@ -73,7 +75,9 @@ class Reporting(Case):
         return super().faults(answer)
 
 
-ENDINGS = dict(zip(KINDS, ("txt", "github.txt", "md", "gitlab.json", "html")))
+NAMES = ("txt", "github.txt", "md", "gitlab.json", "html", "junit.xml", "azure.txt")
+ENDINGS = dict(zip(KINDS, NAMES))
+READERS = {"junit": xml_faults, "azure": azure_faults}
 
 
 def kept_name(name, kind):
@@ -93,7 +97,8 @@ def report_faults(file, kind, reports):
     if kind == "html":
         return page_faults(found, reports)
     wanted = getattr(reports, kind)()
-    return [difference(wanted, found)] * (found != wanted)
+    faults = [difference(wanted, found)] * (found != wanted)
+    return faults + (READERS[kind](found, reports) if kind in READERS else [])
 
 
 # ---- Examples
@@ -157,6 +162,7 @@ def hostile_logs():
         ("each line and column", hostile.numbered()),
         ("each way to a message", hostile.spoken()),
         ("results that look alike", hostile.alike()),
+        ("names that are equal", hostile.called()),
         ("each level and kind", hostile.levelled()),
     )
     for name, given in parts:

@@ -17,6 +17,8 @@ COMMANDS = [
     "::stop-commands::x",
     "##[error]owned",
     "##vso[task.setvariable variable=a]b",
+    "]##vso[task.setvariable variable=a]b",
+    "x;code=R;]y",
     "#",
     "##",
     "###",
@@ -51,11 +53,14 @@ MARKUP = [
     "https://example.org www.example.org",
 ]
 DIRECTIONS = ["\u202eabc\u202c", "a\u2066b\u2069c", "\u200f\u061ca", "\ufeffa\u200b\u00ad"]
-ESCAPES = ["%", "%%", "100%", "%0A%0D%25%3A%2C", "a%2", "%zz", "file=a,line=1", ":,", "a:b,c%"]
+ESCAPES = ["%AZP25", "%3B%5D", "%AZP253B"]
+ESCAPES += ["%", "%%", "100%", "%0A%0D%25%3A%2C", "a%2", "%zz", "file=a,line=1", ":,", "a:b,c%"]
 BRACES = ["{", "}", "{{", "}}", "{{0}}", "{{{0}}}", "{0}", "{1}", "{00}", "{01}", "{ 0}", "{0"]
 BRACES += ["0}", "{-1}", "{9}}", "{{9}", "}{0}{", "{0}{1}{2}", "{4294967296}", "{\u0660}", "{}"]
 BRACES += ["{18446744073709551616}", "{0}}", "{{{9}}}"]
 EDGES = ["", " ", ":", " :a", "./:a", "-", "\\", "\u00e9", "\U0001f600", "e\u0301", "\uffff", "/"]
+XML = ["a (2)", "a (2) (2)", "a)", "\ufffe\uffff\x00", "\ufffd\U0010ffff\ue000", "<![CDATA[", "&#0;"]
+XML += ["<?xml version='1.1'?>", "</testcase></testsuite>", '"/><failure message="', "&amp;lt;"]
 LONG = [
     "a" * 999,
     "a" * 1_000,
@@ -73,7 +78,7 @@ LONG = [
 ]
 ENDS = ["[" + "".join(map(chr, sorted({max(0, a - 1), a, b, b + 1}))) + "]" for a, b in HIDDEN]
 TEXTS = LINES + COMMANDS + TERMINAL + TAGS + MARKUP + DIRECTIONS
-TEXTS += ESCAPES + BRACES + EDGES + LONG + ENDS
+TEXTS += ESCAPES + BRACES + EDGES + XML + LONG + ENDS
 URIS = [
     "a.c",
     "a%20b.c",
@@ -219,6 +224,14 @@ def alike():
     messages = [{"text": text} for text in texts]
     results += [{"message": it, "ruleId": rule} for it in messages for rule in ("", "R", "R")]
     return log(run("lint", *results), run("lint", *results[:5]), run("flint", *results[:5]))
+
+
+def called():
+    """A log whose results have equal names, and names that look like numbered ones."""
+    paths = ["a", "a", "a: b", "a: b (2)", "a (2)", "a (2)", "f(x)", "f(x) (1)", "", ""]
+    rules = ["", "b", "b (2)", "R (2)", "R", "(1)", ")"]
+    results = [named("m", path, ruleId=rule) for rule in rules for path in paths * 2]
+    return log(run("lint", *results), run("flint", *results[:9]), run("lint)", *results[:9]))
 
 
 def levelled():

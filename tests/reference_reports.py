@@ -1,7 +1,7 @@
 #!/usr/bin/env python3
 """The reports of a merged log, in plain Python, for tests/reports.
 
-tests/reference_reports.py text|github|markdown|gitlab [--fail-on L] [--max N] [--states LIST]
+tests/reference_reports.py text|github|markdown|gitlab|junit|azure [--fail-on L] [--max N] [--states LIST]
     [--root PREFIX] LOG
 
 It follows the chapter on reports in docs/formats.md sentence by sentence. Its only inputs are the finished
@@ -281,6 +281,10 @@ class Reports:
             counted[it.state][column] += 1
         return counted
 
+    def listed(self):
+        """The reported results in the order of reports: the hits first."""
+        return sorted(self.results, key=lambda it: not it.is_hit)
+
     def text(self):
         return "".join(text_line(it) for it in self.results).encode()
 
@@ -308,6 +312,32 @@ class Reports:
             found.append(quality(it, [*four, before.get(four, 0)]))
             before[four] = before.get(four, 0) + 1
         return compact(found).encode()
+
+    def junit(self):
+        return junit_text(self.suites()).encode()
+
+    def suites(self):
+        """The suites of the JUnit report, each with its test cases."""
+        tools, found = {}, []
+        for it in self.listed():
+            tools.setdefault(it.tool, []).append(it)
+        for tool, results in tools.items():
+            names = unique_names([f"{it.place()}{': ' * bool(it.rule)}{it.rule}" for it in results])
+            cases = [self.case(name, it) for name, it in zip(names, results)]
+            found.append(Suite(tool, cases))
+        return found or [Suite("sarif_gate", [TestCase("gate", "sarif_gate")])]
+
+    def case(self, name, it):
+        """A result as a test case: a hit fails, or is skipped where the gate passes."""
+        case = TestCase(name, it.tool if it.path is None else it.path, it.path, it.line)
+        if it.is_hit and self.verdict() == "fail":
+            case.failure = (it.level, it.message, text_line(it).removesuffix("\n"))
+        elif it.is_hit:
+            case.skipped = it.message
+        return case
+
+    def azure(self):
+        return "".join(azure_line(it) for it in self.listed()).encode()
 
     def rows(self):
         """The rows of the page, each with the text of its cells and its link or None."""
@@ -374,11 +404,110 @@ def quality(it, identity):
     }
 
 
+# ---- JUnit XML
+
+
+@dataclass
+class TestCase:
+    """A test case. A failure has the level, the message and the text."""
+
+    name: str
+    of_class: str
+    file: Optional[str] = None
+    line: Optional[int] = None
+    failure: Optional[tuple] = None
+    skipped: Optional[str] = None
+
+
+@dataclass
+class Suite:
+    """The test cases of a tool."""
+
+    name: str
+    cases: list
+
+    def failures(self):
+        return sum(it.failure is not None for it in self.cases)
+
+    def skipped(self):
+        return sum(it.skipped is not None for it in self.cases)
+
+
+def unique_names(names):
+    """The names with numbers, so that no two are equal."""
+    counted, found = {}, []
+    for name in names:
+        counted[name] = counted.get(name, 0) + 1
+        is_numbered = counted[name] > 1 or name.endswith(")")
+        found.append(f"{name} ({counted[name]})" if is_numbered else name)
+    return found
+
+
+ENTITIES = {"&": "&amp;", "<": "&lt;", ">": "&gt;", '"': "&quot;", "'": "&#39;"}
+
+
+def in_xml(text):
+    return "".join(ENTITIES.get(it, it) for it in str(text))
+
+
+def tag(element, **attributes):
+    """The beginning of an element. Attributes that are None are left out."""
+    given = {"classname" if key == "of_class" else key: it for key, it in attributes.items()}
+    return f"<{element}" + "".join(
+        f' {key}="{in_xml(it)}"' for key, it in given.items() if it is not None
+    )
+
+
+def junit_text(suites):
+    tests = sum(len(suite.cases) for suite in suites)
+    failures = sum(suite.failures() for suite in suites)
+    lines = ['<?xml version="1.0" encoding="UTF-8"?>']
+    lines.append(tag("testsuites", name="sarif_gate", tests=tests, failures=failures) + ">")
+    for suite in suites:
+        counts = {"tests": len(suite.cases), "failures": suite.failures()}
+        lines.append(tag("testsuite", name=suite.name, **counts, skipped=suite.skipped()) + ">")
+        lines += [case_line(case) for case in suite.cases]
+        lines.append("</testsuite>")
+    return "".join(f"{line}\n" for line in [*lines, "</testsuites>"])
+
+
+def case_line(case):
+    begin = tag("testcase", name=case.name, of_class=case.of_class, file=case.file, line=case.line)
+    if case.failure is not None:
+        level, message, text = case.failure
+        inner = tag("failure", type=level, message=message) + f">{in_xml(text)}</failure>"
+    elif case.skipped is not None:
+        inner = tag("skipped", message=case.skipped) + "/>"
+    else:
+        return f"{begin}/>"
+    return f"{begin}>{inner}</testcase>"
+
+
+# ---- Azure Pipelines
+
+
+def azure_line(it):
+    kind = "error" if it.level == "error" else "warning"
+    given = {"type": kind, "sourcepath": it.path, "linenumber": it.line}
+    given |= {"columnnumber": it.column, "code": it.rule or None}
+    pairs = [f"{name}={of_azure(value)};" for name, value in given.items() if value is not None]
+    message = f"{it.message} ({it.tool}, {it.level}, {it.state})".replace("%", "%AZP25")
+    return f"##vso[task.logissue {''.join(pairs)}]{message}\n"
+
+
+def of_azure(value):
+    """A value as a property of a logging command."""
+    return str(value).replace("%", "%AZP25").replace(";", "%3B").replace("]", "%5D")
+
+
+CHOICES = ("text", "github", "markdown", "gitlab", "junit", "azure")
+
+
 def main(words):
     about = argparse.ArgumentParser(
         description=__doc__, formatter_class=argparse.RawTextHelpFormatter
     )
-    about.add_argument("report", choices=("text", "github", "markdown", "gitlab"))
+    about.add_argument("report", choices=CHOICES)
     about.add_argument("log")
     about.add_argument("--fail-on", choices=LEVELS, default="error")
     about.add_argument("--max", type=int, default=0)

@@ -44,15 +44,9 @@ fn a_log_that_a_reader_gives(rt: HostRuntime) -> Result<(), Fail> {
     let asked = Asked {
         options: &options,
         reporting: None,
+        upkeep: None,
     };
-    let (merged, ()) = merge_readers(
-        &rt,
-        rt.alloc(),
-        &mut readers,
-        &asked,
-        &NoGate,
-        |_, _| Ok(()),
-    )?;
+    let (merged, ()) = merge_readers(&rt, rt.alloc(), &mut readers, &asked, &NoGate, |_| Ok(()))?;
     assert_eq!(rt; merged.log.as_str(), MERGED);
     assert_eq!(rt; merged.verdict, Verdict::Pass);
     Ok(())

@@ -12,26 +12,28 @@ pub returns-in_err-file-clause-preparation : goal.returns-in_err-file-clause-pre
 returns-in_err-file-clause-preparation g c = λ ls bs read.
     let file = option_map (λ b. b.now) c.args.suppressions in
     let today = c.args.asked.now.options.now.today in
+    let checks = c.args.asked.now.options.now.checks in
     let fault = c.in_err-file.field-0.0 in
     let p = err_from_is_err_and c.from_residual.result c.from_residual.ensures.1 in
     let is : c.from_residual.result ≡ Err fault = rw (p.1, p.2) refl in
-    subst (λ r. IsPreparationOf (given ls bs file today) (reporting_in c.args.asked.now) r) (sym is)
-    (elim c.in_err-file.ensures.faults [ inl wants ↦ inl wants | inr found ↦ inr (file_first ls bs read.few_logs read.few_baselines file today read.faultless fault found) ])
+    subst (λ r. IsPreparationOf (given ls bs file today checks) (reporting_in c.args.asked.now) r) (sym is)
+    (elim c.in_err-file.ensures.faults [ inl wants ↦ inl wants | inr found ↦ inr (file_first ls bs read.few_logs read.few_baselines file today checks read.faultless fault found) ])
 
 pub returns-in_err-prepared-clause-preparation : goal.returns-in_err-prepared-clause-preparation
 returns-in_err-prepared-clause-preparation g c = λ ls bs read.
     let file = option_map (λ b. b.now) c.args.suppressions in
     let today = c.args.asked.now.options.now.today in
+    let checks = c.args.asked.now.options.now.checks in
     let fault = c.in_err-prepared.field-0.0 in
     let p = err_from_is_err_and c.from_residual-in_err-prepared.result c.from_residual-in_err-prepared.ensures.1 in
     let is : c.from_residual-in_err-prepared.result ≡ Err fault = rw (p.1, p.2) refl in
-    let same = faults_are ls bs read.few_logs read.few_baselines file today read.faultless c.in_ok-file.ensures.faults in
-    subst (λ r. IsPreparationOf (given ls bs file today) (reporting_in c.args.asked.now) r) (sym is)
+    let same = faults_are ls bs read.few_logs read.few_baselines file today checks read.faultless c.in_ok-file.ensures.faults in
+    subst (λ r. IsPreparationOf (given ls bs file today checks) (reporting_in c.args.asked.now) r) (sym is)
     (elim (c.in_err-prepared.ensures.faults ls bs read) [ inl wants ↦ inl wants | inr found ↦ inr (ap first same ∙ found) ])
 
 pub returns-clause-preparation : goal.returns-clause-preparation
 returns-clause-preparation g c = λ ls bs read.
-    prepared_is ls bs read.few_logs read.few_baselines (option_map (λ b. b.now) c.args.suppressions) c.args.asked.now.options.now.today read.faultless c.in_ok-file.file (reporting_in c.args.asked.now) c.in_ok-prepared.prepared
+    prepared_is ls bs read.few_logs read.few_baselines (option_map (λ b. b.now) c.args.suppressions) c.args.asked.now.options.now.today c.args.asked.now.options.now.checks read.faultless c.in_ok-file.file (reporting_in c.args.asked.now) c.in_ok-prepared.prepared
     c.in_ok-file.ensures.read (c.in_ok-prepared.ensures.prepared ls bs read) (c.in_ok-prepared.ensures.faults ls bs read)
 
 pub returns-in_err-prepared-clause-quiet : goal.returns-in_err-prepared-clause-quiet

@@ -24,7 +24,7 @@ returns-in-Ok-clause-accepted g c = λ low.
       merged,
       c.accept.ensures.status low,
       subst (λ (writers : List (Wanted (Counted g.row.P.Denot))). IsMergedFrom g.R.Read.remaining c.args.readers.now c.merge_for.new.readers
-          request.options.today request.options.policy (reporting_for request writers) merged) same c.in-Ok.ensures.merged,
+          request.options.today request.options.checks request.options.policy (reporting_for request writers) merged) same c.in-Ok.ensures.merged,
       c.accept.ensures.written low,
       c.accept.ensures.reported low (report_for request merged)
           (subst (λ (writers : List (Wanted (Counted g.row.P.Denot))). c.in-Ok.texts.reports.items ≡ texts_for writers (report_for request merged)) same c.in-Ok.ensures.reports),
@@ -48,7 +48,7 @@ pub returns-in-Ok-clause-faulty : goal.returns-in-Ok-clause-faulty
 returns-in-Ok-clause-faulty g c = λ contents tell read faulty.
     let from = c.in-Ok.ensures.merged in
     let same = c.sources_are_read_in_one_way.ensures _ _ contents from.0 tell read from.1 in
-    absurd (faulty (ap (λ x. faults_of (given_by x c.args.request.now.options.today)) same ∙ from.2.faultless))
+    absurd (faulty (ap (λ x. faults_of (given_by x c.args.request.now.options.today c.args.request.now.options.checks)) same ∙ from.2.faultless))
 
 pub returns-in-Err-clause-faulty : goal.returns-in-Err-clause-faulty
 returns-in-Err-clause-faulty g c = λ contents tell read faulty.

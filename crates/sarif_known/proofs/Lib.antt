@@ -1,0 +1,15 @@
+pub mod GuidFits
+pub mod KnownParts
+pub mod KnownPlain
+pub mod Lengths
+pub mod LogBack
+pub mod Lost
+pub mod Newline
+pub mod Plain
+pub mod RecordBack
+pub mod Rising
+pub mod Rows
+pub mod RunBack
+pub mod RunsAdded
+pub mod Shallow
+pub mod TokensOf

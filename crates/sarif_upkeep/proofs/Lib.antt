@@ -1,0 +1,4 @@
+pub mod NewEntries
+pub mod Stays
+pub mod Taken
+pub mod Walked
