@@ -1,16 +1,14 @@
 //! The new suppression file.
-ghost use Rattle.std.specs.Prelude.{◌≡◌, ◌≤◌, ◌<◌, ◌++◌, Some, None, map, length, option_map, string_bytes, IfOk, OnOk};
+ghost use Rattle.std.specs.Prelude.{◌≡◌, ◌≤◌, ◌<◌, ◌⊎◌, ◌++◌, Some, map, length, option_map, string_bytes, IfOk, OnOk};
 ghost use Rattle.serde_json.specs.View.{view, members_view};
 ghost use Rattle.json_parts.specs.Indexed.{json_of};
 ghost use Rattle.json_parts.specs.Mark.{without_mark as unmarked};
-ghost use Rattle.sarif_model.specs.Limits.{most_entries};
+ghost use Rattle.sarif_model.specs.Limits.{most_bytes, most_entries};
 ghost use Rattle.sarif_model.specs.Refusal.{IfFault};
 ghost use Rattle.sarif_model.specs.declared.fault.Fault.TheVariants.{TooMany};
-ghost use Rattle.sarif_model.specs.declared.merge_fault.Cause.TheVariants.{Of};
+ghost use Rattle.sarif_model.specs.declared.merge_fault.Cause.TheVariants.{Of, TooLong};
 ghost use Rattle.sarif_accept.specs.Entry as made;
-ghost use Rattle.sarif_accept.specs.NewFile as parts;
-ghost use Rattle.sarif_accept.specs.NewFile.{file_text};
-ghost use Rattle.sarif_accept.specs.Renewed as said;
+ghost use Rattle.sarif_accept.specs.NewFile as said;
 
 use crate::entry::entry_for;
 use crate::old_file::{Old, read_old};
@@ -43,7 +41,7 @@ fn file_with(
     others: Map<String, Value>,
 ) -> Result<Value, AllocError>
     ensures { IfOk result (λ v. view v
-        ≡ parts.file_with (map view entries.items) (members_view others.entries)) }
+        ≡ said.file_with (map view entries.items) (members_view others.entries)) }
 {
     let mut members = others;
     put(&mut members, alloc, "version", Value::from(4u32))?;
@@ -60,14 +58,18 @@ fn renewed_file(
     added: &[&Record],
     renewal: &Renewal,
 ) -> Result<Value, Refusal<Cause>>
-    ensures value { IfOk result (λ v. view v ≡ said.renewed_file
-        (option_map (λ b. b.now) bytes.entry) kept.now (map (λ r. r.now) added.now) renewal.now) }
-    ensures few { IfOk result (λ v. length (said.renewed_entries
-        (option_map (λ b. b.now) bytes.entry) kept.now (map (λ r. r.now) added.now) renewal.now)
-        ≤ most_entries) }
-    ensures err { IfFault result (λ cause. (cause ≡ Of TooMany)
-        × (most_entries < length (said.renewed_entries (option_map (λ b. b.now) bytes.entry)
-        kept.now (map (λ r. r.now) added.now) renewal.now))) }
+    ensures value { let entries =
+        map (λ r. made.entry_for r.now renewal.now.reason renewal.now.until) added.now in
+        IfOk result (λ v. view v ≡ said.new_file
+        (said.file_object (option_map (λ b. b.now) bytes.entry)) kept.now entries) }
+    ensures few { let entries =
+        map (λ r. made.entry_for r.now renewal.now.reason renewal.now.until) added.now in
+        IfOk result (λ v. length (said.entries_after
+        (said.file_object (option_map (λ b. b.now) bytes.entry)) kept.now entries) ≤ most_entries) }
+    ensures err { let entries =
+        map (λ r. made.entry_for r.now renewal.now.reason renewal.now.until) added.now in
+        IfFault result (λ cause. (cause ≡ Of TooMany) × (most_entries < length (said.entries_after
+        (said.file_object (option_map (λ b. b.now) bytes.entry)) kept.now entries))) }
 {
     let Old {
         mut entries,
@@ -85,7 +87,6 @@ fn renewed_file(
 /// fraction. Without a file there are no entries and no other members. Returns `TooMany` if it had more than
 /// `MOST_ENTRIES` entries, `TooLong` if its text had more than `MOST_BYTES` bytes, so that it could not be read again, and
 /// `OutOfMemory` if memory runs out.
-#[tactic(auto, using(crate::proofs::RenewedFile::is_too_many, crate::proofs::RenewedFile::is_too_long, crate::proofs::RenewedFile::is_accepted))]
 pub fn new_file(
     alloc: Global,
     bytes: Option<&[u8]>,
@@ -93,14 +94,27 @@ pub fn new_file(
     added: &[&Record],
     renewal: &Renewal,
 ) -> Result<String, Refusal<Cause>>
-    ensures text { IfOk result (λ s. string_bytes s ≡ file_text (said.renewed_file
-        (option_map (λ b. b.now) bytes.entry) kept.now (map (λ r. r.now) added.now) renewal.now)) }
-    ensures reads { IfOk result (λ s. json_of (unmarked (string_bytes s)) ≡ Some (said.renewed_file
-        (option_map (λ b. b.now) bytes.entry) kept.now (map (λ r. r.now) added.now) renewal.now)) }
-    ensures ok { IfOk result (λ s. said.renewal_cause (option_map (λ b. b.now) bytes.entry)
-        kept.now (map (λ r. r.now) added.now) renewal.now ≡ None) }
-    ensures err { IfFault result (λ cause. said.renewal_cause (option_map (λ b. b.now) bytes.entry)
-        kept.now (map (λ r. r.now) added.now) renewal.now ≡ Some cause) }
+    ensures text { let entries =
+        map (λ r. made.entry_for r.now renewal.now.reason renewal.now.until) added.now in
+        IfOk result (λ t. string_bytes t ≡ said.file_text (said.new_file
+        (said.file_object (option_map (λ b. b.now) bytes.entry)) kept.now entries)) }
+    ensures reads { let entries =
+        map (λ r. made.entry_for r.now renewal.now.reason renewal.now.until) added.now in
+        IfOk result (λ t. json_of (unmarked (string_bytes t)) ≡ Some (said.new_file
+        (said.file_object (option_map (λ b. b.now) bytes.entry)) kept.now entries)) }
+    ensures fits { let entries =
+        map (λ r. made.entry_for r.now renewal.now.reason renewal.now.until) added.now in
+        IfOk result (λ t. (length (said.entries_after
+        (said.file_object (option_map (λ b. b.now) bytes.entry)) kept.now entries) ≤ most_entries)
+        × (length (string_bytes t) ≤ most_bytes)) }
+    ensures err { let entries =
+        map (λ r. made.entry_for r.now renewal.now.reason renewal.now.until) added.now in
+        IfFault result (λ cause. ((cause ≡ Of TooMany) × (most_entries < length (said.entries_after
+        (said.file_object (option_map (λ b. b.now) bytes.entry)) kept.now entries)))
+        ⊎ ((cause ≡ TooLong) × (length (said.entries_after
+        (said.file_object (option_map (λ b. b.now) bytes.entry)) kept.now entries) ≤ most_entries)
+        × (most_bytes < length (said.file_text (said.new_file
+        (said.file_object (option_map (λ b. b.now) bytes.entry)) kept.now entries))))) }
 {
     let file = renewed_file(alloc, bytes, kept, added, renewal)?;
     let text = print_file(alloc, &file)?;
