@@ -108,7 +108,7 @@ pub returns-in-Ok-clause-silent : goal.returns-in-Ok-clause-silent
 returns-in-Ok-clause-silent g c = λ low unrenewed unknown.
     let is = c.in-Ok.ensures.merged.3.is in
     let none = no_lines c.in-Ok.merged.life (ap (λ (life : Life). life.suppressions) is ∙ ap (option_map _) unrenewed)
-        (ap (λ (life : Life). life.known) is ∙ ap (option_map _) unknown) in
+    (ap (λ (life : Life). life.known) is ∙ ap (option_map _) unknown) in
     (c.accept.ensures.noted low).none (c.in-Ok.ensures.lines ∙ none)
 
 pub returns-in-Err-clause-quiet : goal.returns-in-Err-clause-quiet
