@@ -373,6 +373,23 @@ def told_nothing(count):
     yield from told_message(count, ("{0}" * 33_000, "{1}" * 33_000), "")
 
 
+def told_brackets(count):
+    """A message of brackets, compared with one of letters."""
+    for text in ("[" * count, "a" * count):
+        yield Input([log(run([message(text)]))], are_reported=True)
+
+
+def told_links(count):
+    """A message of links without text, compared with one of letters."""
+    for text in ("[](1)", "aaaaa"):
+        yield Input([log(run([message(text * count)]))], are_reported=True)
+
+
+def told_open_links(count):
+    """A long message of a rule that begins with `[`, compared with one that does not."""
+    yield from told_message(count, ("[" + LONG, "a" + LONG))
+
+
 # ---- JSON
 
 
@@ -478,6 +495,9 @@ SHAPES = {
     "told_path": (told_path, 20_000),
     "told_message": (told_message, 20_000),
     "told_nothing": (told_nothing, 2_000),
+    "told_brackets": (told_brackets, 1_000_000),
+    "told_links": (told_links, 200_000),
+    "told_open_links": (told_open_links, 2_000),
     "fractions": (fractions, 100_000),
     "fractions_in_lists": (fractions_in_lists, 200_000),
     "reversed_members": (reversed_members, 100_000),

@@ -2,24 +2,31 @@
 mod entries;
 mod files;
 mod lines;
+mod pruning;
 
-use sarif_accept::{Heard, ToolRun, each_once, entry_for, kept_entries, new_file, unused_lines};
+use sarif_accept::{Heard, ToolRun, each_once, kept_entries, new_file, unused_lines};
 use sarif_counts::Renewal;
 use sarif_model::{
     Cause, Kind, Level, Message, Pairs, Place, Record, Refusal, Sequence, Text, copy_if_there,
 };
 use sarif_suppress::{Marks, Suppressions, read_rules};
+use serde_json::Value;
 use std::alloc::{AllocError, Global};
 use std::hash::{BuildHasherDefault, FoldHasher};
 use std::process::Abort;
 use std::test::Fail;
 
-/// A suppression file by the standard hasher.
-type Plain = Suppressions<BuildHasherDefault<FoldHasher>>;
-
 /// The standard hasher.
-fn hasher() -> BuildHasherDefault<FoldHasher> {
-    BuildHasherDefault::<FoldHasher>::new()
+type Plain = BuildHasherDefault<FoldHasher>;
+
+/// A suppression file, and how it is renewed.
+#[derive(Clone, Copy)]
+struct Case<'a> {
+    file: &'a str,
+    today: Option<u32>,
+    /// The input runs: their tools, and whether each failed.
+    runs: &'a [(&'a str, bool)],
+    prune: bool,
 }
 
 /// A result of the tool `lint` with that rule id and the message `m`, without a place and without suppressions.
@@ -73,4 +80,69 @@ fn renewal_with(
         reason: copy_if_there(alloc, reason)?,
         until,
     })
+}
+
+/// Which tools were heard in these runs.
+fn heard_in(alloc: Global, runs: &[(&str, bool)]) -> Result<Heard<Plain>, AllocError> {
+    let mut all = Vec::new(alloc);
+    for (tool, failed) in runs {
+        let tool = Text::copy_of(alloc, tool)?;
+        all.push(ToolRun {
+            tool,
+            failed: *failed,
+        })?;
+    }
+    Heard::new(alloc, Plain::new(), all)
+}
+
+/// The marks of the entries that match one of the results.
+fn marks_for(
+    alloc: Global,
+    rules: &Suppressions<Plain>,
+    findings: &[&Record],
+) -> Result<Marks, AllocError> {
+    let mut marks = rules.marks(alloc)?;
+    for finding in findings {
+        marks.set(&rules.apply(alloc, finding)?);
+    }
+    Ok(marks)
+}
+
+/// The new file where these are the current results, all of them accepted unless the case prunes.
+fn renewed(
+    rt: &(impl Abort + AllocGlobal),
+    case: Case,
+    findings: &[&Record],
+) -> Result<Result<String, Refusal<Cause>>, Fail> {
+    let alloc = rt.alloc();
+    let bytes = case.file.as_bytes();
+    let rules = read_rules(alloc, bytes, case.today)?;
+    let heard = heard_in(alloc, case.runs)?;
+    let marks = marks_for(alloc, &rules, findings)?;
+    let kept = kept_entries(alloc, &rules, &marks, &heard, case.prune)?;
+    let renewal = renewal_with(alloc, case.prune, None, None)?;
+    let accepted = if case.prune { &[] } else { findings };
+    let added = each_once(alloc, Plain::new(), accepted)?;
+    let text = new_file(alloc, Some(bytes), &kept, &added, &renewal);
+    drop(rules);
+    Ok(text)
+}
+
+/// The pretty text of this JSON, and a line feed.
+fn printed(alloc: Global, json: &str) -> Result<String, serde_json::Error> {
+    let mut text = Value::from_str(alloc, json)?.to_string_pretty(alloc)?;
+    text.push('\n')?;
+    Ok(text)
+}
+
+/// Asserts the new file.
+fn expect_file(
+    rt: &(impl Abort + AllocGlobal),
+    case: Case,
+    findings: &[&Record],
+    wanted: &str,
+) -> Result<(), Fail> {
+    let text = renewed(rt, case, findings)??;
+    assert_eq!(rt; text.as_str(), printed(rt.alloc(), wanted)?.as_str());
+    Ok(())
 }

@@ -246,7 +246,11 @@ fn a_lost_line_changes_no_status(rt: HostRuntime) -> Result<(), Fail> {
         assert_eq!(rt; ended.status, 1);
         assert_eq!(rt; ended.later.as_slice(), ACCEPTED.as_bytes());
         assert_eq!(rt; ended.complain.len(), room);
-        assert!(rt; ACCEPTED_LINE.as_bytes().starts_with(ended.complain.as_slice()));
+        assert!(rt;
+            ACCEPTED_LINE
+                .as_bytes()
+                .starts_with(ended.complain.as_slice())
+        );
         assert!(rt; ended.say.ends_with(b"\ngate: fail, hits 3, max 0\n"));
     }
     Ok(())

@@ -194,15 +194,20 @@ fn hits_that_are_allowed_are_headed_so(rt: HostRuntime) -> Result<(), Fail> {
     let page = page_of(&rt, &policy, findings.as_slice())?;
     let page = page.as_str();
     assert!(rt; page.contains("<title>Gate: pass, 2 hits, 3 allowed</title>"));
-    assert!(rt; page.contains("<h1 class=\"pass\">Gate: pass<span>, 2 hits, 3 allowed</span></h1>"));
+    assert!(rt;
+        page.contains("<h1 class=\"pass\">Gate: pass<span>, 2 hits, 3 allowed</span></h1>")
+    );
     assert!(rt; page.contains("<h2 id=\"hits\">2 hits, within the 3 allowed</h2>"));
-    assert!(rt; page.contains("<td class=\"on\"><b>1</b></td><td class=\"on\"><b>1</b></td><td>0</td>"));
+    assert!(rt;
+        page.contains("<td class=\"on\"><b>1</b></td><td class=\"on\"><b>1</b></td><td>0</td>")
+    );
     assert!(rt; page.contains("<td class=\"on\">0</td>"));
     assert!(rt; !page.contains("<nav"));
     Ok(())
 }
 
-const LEVEL_BOXES: &str = "<div class=\"filters\" hidden>\n<fieldset><legend>Level</legend><label><input type=\"checkbox\" id=\"error\" checked>error</label><label><input type=\"checkbox\" id=\"note\" checked>note</label></fieldset>\n</div>\n";
+const LEVEL_BOXES: &str =
+    "<div class=\"filters\" hidden>\n<fieldset><legend>Level</legend><label><input type=\"checkbox\" id=\"error\" checked>error</label><label><input type=\"checkbox\" id=\"note\" checked>note</label></fieldset>\n</div>\n";
 
 #[test]
 fn only_levels_and_states_of_rows_have_boxes(rt: HostRuntime) -> Result<(), Fail> {

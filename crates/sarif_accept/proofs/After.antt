@@ -1,27 +1,22 @@
 -- What a longer file makes of results.
-use Rattle.std.proofs.Common.{◌≡◌, ℕ, ◌+◌, ◌<◌, zero, suc, Bool, true, false, ◌&&◌, ◌||◌, not, List, [], ◌∷◌, ◌++◌, length, map, get_or, Option, Some, None, bytes_eq, codes, refl, sym, ap, ◌∙◌, arith, if◌then◌else◌, true≢false, append_assoc, append-nil}
-use Rattle.std.specs.Prelude.{filter, nat_eq, count_by}
+use Rattle.std.proofs.Common.{◌≡◌, ℕ, ◌<◌, zero, suc, Bool, true, false, ◌&&◌, ◌||◌, not, List, [], ◌∷◌, ◌++◌, length, map, get_or, Option, refl, sym, ap, ◌∙◌, arith, if◌then◌else◌, true≢false, append_assoc, append-nil}
+use Rattle.std.specs.Prelude.{filter}
 use Rattle.std.specs.List.{list_any, list_all}
-use Rattle.std.proofs.lemmas.Bool.{and_from}
-use Rattle.std.proofs.lemmas.List.Sums.{length-filter}
-use Rattle.std.proofs.lemmas.Bool.Decides.{nat_tests}
 use Rattle.std.proofs.lemmas.List.{map-append}
 use Rattle.std.proofs.lemmas.List.Elements.{filter-append}
 use Rattle.std.proofs.lemmas.List.Folds.{list_all-append, list_any-append, list_any_at}
-use Rattle.std.proofs.lemmas.Slice.Eq.{bytes_eq-Decides}
 use Rattle.serde_json.specs.Data.{Data}
 use Rattle.sarif_model.specs.declared.kinds.State.{State}
 use Rattle.sarif_model.specs.declared.kinds.Status.{Status}
 use Rattle.sarif_model.specs.declared.record.Record.{Record}
-use Rattle.sarif_suppress.specs.declared.conditions.Conditions.{Conditions}
 use Rattle.sarif_suppress.specs.declared.entry.Entry.{Entry}
 use Rattle.sarif_suppress.specs.File.{File}
-use Rattle.sarif_suppress.specs.Matching.{is_empty, matches, is_pair, is_expired, hold}
+use Rattle.sarif_suppress.specs.Matching.{is_empty, matches, is_expired, hold}
 use Rattle.sarif_suppress.specs.Suppressing.{matching, is_accepted, statuses_suppress, statuses_of, is_suppressed, is_unused}
 use Rattle.sarif_suppress.specs.Written.{is_object_of, object_of, with_object, with_objects, suppressions_of}
 use Rattle.sarif_accept.specs.Entry.{conditions_for}
 use Rattle.sarif_accept.specs.Keeping.{Heard, is_kept}
-use Rattle.sarif_accept.specs.Adding.{How, Counts, is_hit, stays, same_conditions, is_said, once_each, entry_read, accepted_among, added_for, file_after}
+use Rattle.sarif_accept.specs.Adding.{How, Counts, is_hit, stays, is_said, once_each, entry_read, accepted_among, added_for, file_after}
 use Rattle.sarif_accept.specs.Until.{IsUntil}
 use Rattle.sarif_accept.proofs.Rows.{and_both}
 use Rattle.sarif_accept.proofs.EntryMatches.{matches_is}

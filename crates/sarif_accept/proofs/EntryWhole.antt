@@ -1,13 +1,13 @@
 -- Stripping changes nothing of an entry that is read.
-use Rattle.std.proofs.Common.{◌≡◌, ℕ, Bool, true, false, ◌&&◌, ◌||◌, List, [], ◌∷◌, map, Option, Some, None, bytes_eq, codes, refl, sym, ap, ap₂, ◌∙◌, true≢false, Ordering, Less, Equal, Greater, is_eq, nat_cmp, if◌then◌else◌}
-use Rattle.std.specs.Prelude.{⊤, ◌+◌, Result, Ok, Err, option_and_then, is_some}
+use Rattle.std.proofs.Common.{◌≡◌, ℕ, Bool, true, false, ◌||◌, List, [], ◌∷◌, map, Option, Some, None, bytes_eq, codes, refl, sym, ap, ap₂, ◌∙◌, true≢false, Ordering, Less, Equal, Greater, is_eq, nat_cmp, if◌then◌else◌}
+use Rattle.std.specs.Prelude.{◌+◌, Result, Ok, Err, option_and_then}
 use Rattle.std.specs.List.{AllByRecursion}
 use Rattle.std.specs.Cmp.Lexicographic.{slice_cmp}
 use Rattle.std.specs.Ordering.{match_ordering}
 use Rattle.std.proofs.lemmas.Map.Text.{is_eq-slice_cmp}
 use Rattle.std.proofs.lemmas.Slice.Eq.{bytes_eq-Decides}
 use Rattle.serde_json.specs.Data.{Data, null, boolean, number, unsigned, negative, float, string, array, object, Items, no_items, item, Members, no_members, member}
-use Rattle.serde_json.specs.Find.{get, get_member, as_str, as_array, as_object, as_number, as_u64}
+use Rattle.serde_json.specs.Find.{get, get_member, as_str, as_array}
 use Rattle.json_parts.specs.Ordered.{IsOrdered, AreMembersOrdered}
 use Rattle.json_parts.specs.Stripping.{is_fractional, stripped, stripped_items, stripped_members}
 use Rattle.json_parts.proofs.SameMembers.{same_members}
@@ -19,13 +19,13 @@ use Rattle.sarif_suppress.specs.declared.conditions.Conditions.{Conditions}
 use Rattle.sarif_suppress.specs.declared.entry.Entry.{Entry}
 use Rattle.sarif_suppress.specs.declared.fault.FileFault.{FileFault}
 use Rattle.sarif_suppress.specs.declared.version.Version.{Version}
-use Rattle.sarif_suppress.specs.declared.version.Version.TheVariants.{First, Second, Fourth}
-use Rattle.sarif_suppress.specs.Entries.{is_first_member, is_second_member, has_member, are_members_of, check_members, check_object, unless_fault, conditions_of, members_of, entry_of, guid_at, pairs_at, pairs_of_member, pairs_or, are_texts, pairs_of, texts_at, text_or, day_at, day_of_member, day_or, status_at}
+use Rattle.sarif_suppress.specs.declared.version.Version.TheVariants.{Fourth}
+use Rattle.sarif_suppress.specs.Entries.{is_first_member, is_second_member, has_member, are_members_of, check_members, unless_fault, conditions_of, members_of, entry_of, guid_at, pairs_at, pairs_of_member, are_texts, pairs_of, texts_at, text_or, day_at, day_of_member, status_at}
 use Rattle.sarif_suppress.specs.File.{entries_from}
 use Rattle.sarif_suppress.specs.FileFault.{in_entry}
 use Rattle.sarif_accept.specs.NewFile.{entry_in}
 use Rattle.sarif_accept.proofs.Rows.{and_both}
-use Rattle.sarif_accept.proofs.Kept.{all_known, Parts, parts}
+use Rattle.sarif_accept.proofs.Kept.{all_known, parts}
 
 -- where two steps went well, both did
 pub record Both {A B : Type 0} (a : Result A FileFault) (f : A → Result B FileFault) (y : B) : Type 0 where

@@ -1,15 +1,14 @@
 -- The new file is read as it was meant.
-use Rattle.std.proofs.Common.{◌≡◌, ℕ, ◌+◌, ◌≤◌, Bool, true, false, List, [], ◌∷◌, ◌++◌, length, map, Option, Some, None, codes, refl, sym, ap, ◌∙◌, arith, true≢false, bytes_eq}
-use Rattle.std.specs.Prelude.{Result, Ok, Err, filter, nat_le}
+use Rattle.std.proofs.Common.{◌≡◌, ℕ, ◌≤◌, true, List, [], ◌∷◌, ◌++◌, length, map, Option, Some, codes, refl, sym, ◌∙◌, arith, true≢false}
+use Rattle.std.specs.Prelude.{Ok, nat_le}
 use Rattle.std.specs.List.{AllByRecursion}
 use Rattle.std.proofs.lemmas.Bool.Decides.{nat_tests}
 use Rattle.std.proofs.lemmas.Slice.Eq.{bytes_eq-Decides}
-use Rattle.serde_json.specs.Data.{Data, number, unsigned, array, object, Members, put}
+use Rattle.serde_json.specs.Data.{Data, number, unsigned, array, Members, put}
 use Rattle.serde_json.specs.Find.{get_member}
 use Rattle.serde_json.specs.View.{items_of}
 use Rattle.serde_json.proofs.Views.{get_member-put, get_member-put_other}
 use Rattle.sarif_model.specs.Limits.{most_entries}
-use Rattle.sarif_model.specs.Members.{◌>>=◌, elements}
 use Rattle.sarif_model.specs.declared.kinds.State.{State}
 use Rattle.sarif_model.specs.declared.record.Record.{Record}
 use Rattle.json_parts.specs.Indexed.{json_of}
@@ -20,7 +19,7 @@ use Rattle.sarif_suppress.specs.declared.version.Version.TheVariants.{Fourth}
 use Rattle.sarif_suppress.specs.File.{File, entries_from, file_of, file_of_value}
 use Rattle.sarif_accept.specs.Entry.{entry_for}
 use Rattle.sarif_accept.specs.Keeping.{chosen, is_kept}
-use Rattle.sarif_accept.specs.Adding.{How, Counts, file_after, added_for}
+use Rattle.sarif_accept.specs.Adding.{How, Counts, entry_read, file_after, added_for}
 use Rattle.sarif_accept.specs.NewFile.{file_with}
 use Rattle.sarif_accept.specs.Until.{HasGuid, IsDated}
 use Rattle.sarif_accept.proofs.EntryRead.{items_back}
@@ -52,3 +51,9 @@ file_read how counts file rs states version values ms text read fits until few i
     rw is (value_read file.today (chosen (map (is_kept how.renewal.prune how.heard file rs) file.entries) values ++ map (λ r. entry_for r how.renewal.reason how.renewal.until) (added_for how counts file rs states)) ms (file_after how counts file rs states).entries few
     (read_behind file.today 0 _ _ _ _ (kept_read version file.today (is_kept how.renewal.prune how.heard file rs) 0 0 values file.entries read)
     (λ m. made_read (added_for how counts file rs states) how.renewal.reason file.today how.renewal.until m fits until)))
+
+-- a file of the entry that accepts a result alone
+pub alone_read : (r : Record) (reason : Option (List ℕ)) (today until : Option ℕ) (ms : Members) → HasGuid r → IsDated today until
+    → file_of_value today (file_with (entry_for r reason until ∷ []) ms) ≡ Ok (record { entries = entry_read r reason until ∷ []; today = today })
+alone_read r reason today until ms fits dated =
+    value_read today (entry_for r reason until ∷ []) ms (entry_read r reason until ∷ []) (omega arith) (made_read (r ∷ []) reason today until 0 (fits, tt) dated)

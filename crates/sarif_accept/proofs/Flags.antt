@@ -2,9 +2,7 @@
 use Rattle.std.proofs.Common.{◌≡◌, ℕ, zero, suc, ◌+◌, ◌<◌, ◌≤◌, Bool, true, false, not, ◌&&◌, List, [], ◌∷◌, ◌++◌, map, length, drop, slice_index_or, Option, Some, None, option_map, refl, sym, ap, ◌∙◌, arith, length-append, if◌then◌else◌}
 use Rattle.std.specs.Prelude.{slice_get}
 use Rattle.std.specs.List.{list_any}
-use Rattle.std.proofs.Math.Seq.{get_or-append_seam}
 use Rattle.std.proofs.lemmas.List.{append_assoc, append-nil, drop_more, at_drop_all, drop-drop}
-use Rattle.std.proofs.lemmas.Option.{slice_get-get_or}
 use Rattle.json.specs.Token.{Token}
 use Rattle.json_parts.specs.Indexed.{data_of, json_of}
 use Rattle.json_parts.specs.Mark.{without_mark}
@@ -14,7 +12,7 @@ use Rattle.sarif_suppress.specs.declared.entry.Entry.{Entry}
 use Rattle.sarif_suppress.specs.File.{File}
 use Rattle.sarif_suppress.specs.Marks.{marks_of}
 use Rattle.sarif_suppress.specs.Matching.{matches, is_expired}
-use Rattle.sarif_accept.specs.Flags.{mark_at, is_dropped, flags_by, line_at, lines_by}
+use Rattle.sarif_accept.specs.Flags.{mark_at, if_marked, is_dropped, flags_by, line_at, lines_by}
 use Rattle.sarif_accept.specs.Keeping.{Heard, is_kept, chosen}
 use Rattle.sarif_accept.specs.NewFile.{entry_in, entries_in, file_object}
 use Rattle.sarif_accept.specs.Unused.{line_of, lines_from, unused_text}
@@ -132,18 +130,17 @@ marked_or_not (mark ∷ marks) (suc n) d ds =
     let more : suc n + 1 ≡ suc (n + 1) = omega arith in
     rw more (marked_or_not marks n d ds)
 
-pub chosen_takes : (marks : List Bool) (nodes : List (List Token)) (front : List Data) (n : ℕ) (node : List Token) (d : Data) → n < length nodes → node ≡ slice_index_or nodes n node
-    → mark_at marks n ≡ true → d ≡ node_value node
-    → (front ++ d ∷ []) ++ chosen (drop (n + 1) marks) (map node_value (drop (n + 1) nodes)) ≡ front ++ chosen (drop n marks) (map node_value (drop n nodes))
-chosen_takes marks nodes front n node d within is mark value =
-    rw (left_of nodes n node within is, marked_or_not marks n (node_value node) (map node_value (drop (n + 1) nodes)), mark, value)
-    (append_assoc front (node_value node ∷ []) (chosen (drop (n + 1) marks) (map node_value (drop (n + 1) nodes))))
-
-pub chosen_skips : (marks : List Bool) (nodes : List (List Token)) (front : List Data) (n : ℕ) (node : List Token) → n < length nodes → node ≡ slice_index_or nodes n node
-    → mark_at marks n ≡ false
-    → front ++ chosen (drop (n + 1) marks) (map node_value (drop (n + 1) nodes)) ≡ front ++ chosen (drop n marks) (map node_value (drop n nodes))
-chosen_skips marks nodes front n node within is mark =
-    rw (left_of nodes n node within is, marked_or_not marks n (node_value node) (map node_value (drop (n + 1) nodes)), mark) refl
+pub chosen_goes_on : (marks : List Bool) (nodes : List (List Token)) (front added : List Data) (n : ℕ) (node : List Token) → n < length nodes → node ≡ slice_index_or nodes n node
+    → added ≡ if_marked (mark_at marks n) (node_value node)
+    → (front ++ added) ++ chosen (drop (n + 1) marks) (map node_value (drop (n + 1) nodes)) ≡ front ++ chosen (drop n marks) (map node_value (drop n nodes))
+chosen_goes_on marks nodes front added n node within is value =
+    append_assoc front added (chosen (drop (n + 1) marks) (map node_value (drop (n + 1) nodes)))
+    ∙ ap (λ l. front ++ l) (rw (left_of nodes n node within is, marked_or_not marks n (node_value node) (map node_value (drop (n + 1) nodes)), value)
+    (either (mark_at marks n) (node_value node) (chosen (drop (n + 1) marks) (map node_value (drop (n + 1) nodes)))))
+  where
+    either : (b : Bool) (d : Data) (ds : List Data) → if_marked b d ++ ds ≡ (if b then d ∷ ds else ds)
+    either true d ds = refl
+    either false d ds = refl
 
 none_chosen : (marks : List Bool) → chosen {A = Data} marks [] ≡ []
 none_chosen [] = refl

@@ -1,6 +1,6 @@
 -- The entries of a file that is read, as its new file has them.
-use Rattle.std.proofs.Common.{◌≡◌, ℕ, List, [], ◌∷◌, map, Option, Some, None, codes, refl, sym, ap, ◌∙◌}
-use Rattle.std.specs.Prelude.{Result, Ok, Err, option_and_then, unwrap_or, if◌then◌else◌, Bool, true, false}
+use Rattle.std.proofs.Common.{◌≡◌, ℕ, List, [], map, Option, Some, None, codes, refl, sym, ap, ◌∙◌}
+use Rattle.std.specs.Prelude.{Result, Ok, option_and_then, if◌then◌else◌, Bool, true, false}
 use Rattle.std.specs.Str.{is_utf8}
 use Rattle.std.specs.List.{AllByRecursion}
 use Rattle.serde_json.specs.Data.{Data, null, boolean, number, string, array, object, Items, no_items, item, no_members}
@@ -14,7 +14,7 @@ use Rattle.json_parts.specs.Ordered.{IsOrdered, AreItemsOrdered}
 use Rattle.json_parts.proofs.Order.{read_ordered}
 use Rattle.json_parts.proofs.Readings.{and_then_some}
 use Rattle.json_parts.proofs.Stripped.{get-IsOrdered}
-use Rattle.sarif_model.specs.Members.{◌>>=◌, elements}
+use Rattle.sarif_model.specs.Members.{elements}
 use Rattle.sarif_suppress.specs.declared.entry.Entry.{Entry}
 use Rattle.sarif_suppress.specs.declared.fault.FileFault.{FileFault}
 use Rattle.sarif_suppress.specs.declared.version.Version.{Version}
@@ -22,7 +22,7 @@ use Rattle.sarif_suppress.specs.declared.version.Version.TheVariants.{First}
 use Rattle.sarif_suppress.specs.File.{File, entries_from, file_of, file_of_value, value_or, check_list, list_or, check_version, check_count}
 use Rattle.sarif_accept.specs.NewFile.{file_object, entries_in, entry_in, listed}
 use Rattle.sarif_accept.specs.Given.{file_given}
-use Rattle.sarif_accept.proofs.EntryWhole.{Both, both, entries_whole}
+use Rattle.sarif_accept.proofs.EntryWhole.{both, entries_whole}
 
 -- a value that is read is ordered
 json_ordered : (bytes : List ℕ) (d : Data) → json_of bytes ≡ Some d → IsOrdered d
@@ -94,3 +94,18 @@ entries_given (Some bytes) today file is =
     let s1 = both (value_or (json_of (without_mark bytes))) _ file is in
     let found : json_of (without_mark bytes) ≡ Some s1.value = value_given (without_mark bytes) s1.value s1.first in
     rw found (read_of_value s1.value today file (json_ordered (without_mark bytes) s1.value found) s1.second)
+
+-- the date for which a file was read
+value_today : (d : Data) (today : Option ℕ) (file : File) → file_of_value today d ≡ Ok file → file.today ≡ today
+unfolding file_of_value
+value_today d today file is =
+    let s1 = both (check_list d) _ file is in
+    let s2 = both (check_version d) _ file s1.second in
+    let s3 = both (check_count s1.value) _ file s2.second in
+    let s4 = both (entries_from s2.value today 0 s1.value) _ file s3.second in
+    ap (λ f. f.today) (sym (the_file (record { entries = s4.value; today = today }) file s4.second))
+
+pub today_given : (given : Option (List ℕ)) (today : Option ℕ) (file : File) → file_given given today ≡ Ok file → file.today ≡ today
+unfolding file_of
+today_given None today file is = ap (λ f. f.today) (sym (the_file (record { entries = []; today = today }) file is))
+today_given (Some bytes) today file is = let s1 = both (value_or (json_of (without_mark bytes))) _ file is in value_today s1.value today file s1.second

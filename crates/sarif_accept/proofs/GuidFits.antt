@@ -1,10 +1,10 @@
 -- A GUID that is read has 128 bits.
-use Rattle.std.proofs.Common.{◌≡◌, ℕ, zero, suc, ◌==◌, ◌+◌, ◌-◌, ◌*◌, ◌<◌, ◌≤◌, ◌^◌, Bool, true, false, ◌&&◌, ◌||◌, List, [], ◌∷◌, length, Option, Some, None, option_map, refl, sym, ap, ◌∙◌, arith, if◌then◌else◌, cond, get_or, take, drop, true≢false}
-use Rattle.std.specs.Prelude.{option_and_then, IfSome, nat_le, slice_index}
+use Rattle.std.proofs.Common.{◌≡◌, ℕ, zero, suc, ◌==◌, ◌+◌, ◌*◌, ◌<◌, ◌^◌, Bool, true, false, ◌&&◌, List, [], ◌∷◌, length, Option, Some, None, option_map, refl, arith, if◌then◌else◌, take, drop}
+use Rattle.std.specs.Prelude.{IfSome, slice_index}
 use Rattle.std.specs.Int.{w128, from_be_bytes}
 use Rattle.std.specs.List.{list_all}
 use Rattle.std.proofs.lemmas.Bool.Decides.{nat_tests}
-use Rattle.uuid.specs.Text.{parsed, parsed_simple, parsed_hyphenated, parsed_braced, parsed_urn, byte_of_digits, value_of, is_hex_digit, by_index, digits_of, has_hyphens, has_urn_prefix, open_brace, close_brace}
+use Rattle.uuid.specs.Text.{parsed, parsed_simple, parsed_hyphenated, parsed_braced, parsed_urn, byte_of_digits, value_of, is_hex_digit, by_index, digits_of, has_urn_prefix, open_brace, close_brace}
 use Rattle.sarif_model.specs.Guid.{guid_of_text}
 use Rattle.sarif_accept.proofs.Rows.{and_both}
 

@@ -1,8 +1,8 @@
 -- Entries of a file of an earlier version are the same in version 4.
-use Rattle.std.proofs.Common.{◌≡◌, ℕ, ◌+◌, Bool, true, false, ◌&&◌, ◌||◌, not, List, [], ◌∷◌, ◌++◌, length, map, Option, Some, None, bytes_eq, codes, refl, sym, ap, ◌∙◌, arith, if◌then◌else◌, true≢false}
+use Rattle.std.proofs.Common.{◌≡◌, ℕ, ◌+◌, Bool, true, false, ◌&&◌, ◌||◌, not, List, [], ◌∷◌, ◌++◌, map, Option, Some, None, codes, refl, sym, ◌∙◌, if◌then◌else◌, true≢false}
 use Rattle.std.specs.Prelude.{⊤, Result, Ok, Err, filter, option_and_then}
 use Rattle.std.proofs.lemmas.Bool.{and_from}
-use Rattle.serde_json.specs.Data.{Data, null, boolean, number, string, array, object, Items, Members, no_members, member}
+use Rattle.serde_json.specs.Data.{Data, Items, Members, no_members, member}
 use Rattle.serde_json.specs.Find.{as_object, as_str, as_number, as_u64, as_array}
 use Rattle.std.specs.Prelude.{is_some, is_none}
 use Rattle.std.specs.List.{AllByRecursion}
@@ -16,7 +16,7 @@ use Rattle.sarif_suppress.specs.declared.entry.Entry.{Entry}
 use Rattle.sarif_suppress.specs.declared.fault.FileFault.{FileFault}
 use Rattle.sarif_suppress.specs.declared.version.Version.{Version}
 use Rattle.sarif_suppress.specs.declared.version.Version.TheVariants.{First, Second, Fourth}
-use Rattle.sarif_suppress.specs.Entries.{unless_fault, check_object, check_members, has_member, is_first_member, is_second_member, are_members_of, conditions_of, members_of, entry_of, guid_at, guid_or, text_if, text_or, texts_at, pairs_at, pairs_of_member, pairs_or, are_texts, pairs_of, day_at, day_of_member, day_or, is_day, status_at, status_or, status_of_name, check_condition, check_today}
+use Rattle.sarif_suppress.specs.Entries.{unless_fault, check_object, check_members, has_member, is_first_member, is_second_member, are_members_of, conditions_of, members_of, entry_of, guid_at, guid_or, text_if, text_or, texts_at, pairs_at, pairs_of_member, pairs_or, are_texts, pairs_of, day_at, day_of_member, day_or, is_day, status_at, status_or, status_of_name}
 use Rattle.sarif_suppress.specs.File.{entries_from}
 use Rattle.sarif_suppress.specs.FileFault.{in_entry}
 use Rattle.sarif_suppress.specs.Matching.{is_any}

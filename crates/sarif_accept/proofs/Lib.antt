@@ -8,11 +8,17 @@ pub mod FileText
 pub mod Flags
 pub mod GivenFile
 pub mod GuidFits
+pub mod HeardMore
 pub mod Kept
+pub mod Lines
+pub mod NewFileRead
 pub mod Newline
 pub mod NoFraction
+pub mod AskedOnce
 pub mod Puts
+pub mod RenewedFile
 pub mod Rows
 pub mod SameConditions
 pub mod Shallow
+pub mod Staying
 pub mod Taken

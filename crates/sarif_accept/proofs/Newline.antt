@@ -1,6 +1,6 @@
 -- A line feed after a JSON text makes no difference.
-use Rattle.std.proofs.Common.{◌≡◌, ℕ, ◌+◌, ◌-◌, ◌*◌, ◌≤◌, ◌==◌, Bool, true, false, cond, ◌&&◌, ◌||◌, List, [], ◌∷◌, ◌++◌, length, take, drop, Option, Some, None, option_map, refl, sym, ap, ap₂, ◌∙◌, arith, length-append}
-use Rattle.std.specs.Prelude.{nat_lt, nat_eq, option_and_then, codes}
+use Rattle.std.proofs.Common.{◌≡◌, ℕ, ◌+◌, ◌-◌, ◌*◌, ◌==◌, Bool, true, false, cond, ◌&&◌, ◌||◌, List, [], ◌∷◌, ◌++◌, length, take, drop, Option, Some, None, option_map, refl, sym, ap, ap₂, ◌∙◌, arith, length-append}
+use Rattle.std.specs.Prelude.{nat_lt, nat_eq, option_and_then}
 use Rattle.std.specs.List.{prefix_len, starts_with}
 use Rattle.std.specs.Char.{digit_value, is_digit, is_ascii_digit, encode_utf8}
 use Rattle.std.proofs.lemmas.List.{take-append-le, drop-append-le}
@@ -8,8 +8,8 @@ use Rattle.std.proofs.lemmas.List.Sums.{prefix_len-le-length}
 use Rattle.json.specs.Ascii as ascii
 use Rattle.json.specs.Text.{Within, plain, after_backslash, after_u, after_high, content, prepend, short_escape, code_unit, is_high_surrogate, is_low_surrogate, surrogate_pair}
 use Rattle.json.specs.Token.{Token, number, boolean, null, bad}
-use Rattle.json.specs.Word.{head, ends_word, after_digits, after_minus, after_sign, after_whole, after_fraction, after_exponent, after_number, number_before, literal, word}
-use Rattle.json.specs.Lex.{Lexeme, Mode, between, in_word, in_string, in_escape, Class, quote, backslash, operator, space, other, class, lex_byte, operator_lexeme, string_token, token, lex, tokens, punctuate, fresh}
+use Rattle.json.specs.Word.{ends_word, after_digits, after_minus, after_sign, after_whole, after_fraction, after_exponent, after_number, number_before, literal, word}
+use Rattle.json.specs.Lex.{Mode, between, in_word, in_string, in_escape, Class, quote, backslash, operator, space, other, class, lex_byte, operator_lexeme, string_token, token, lex, punctuate, fresh}
 use Rattle.serde_json.specs.Data.{Data}
 use Rattle.serde_json.specs.Read.{of_json, max_depth, read}
 use Rattle.json.specs.Json as json

@@ -1,5 +1,5 @@
 -- A new suppression file holds no number with a fraction.
-use Rattle.std.proofs.Common.{◌≡◌, ℕ, Bool, true, false, ◌||◌, List, [], ◌∷◌, ◌++◌, map, Option, Some, None, option_map, Ordering, Less, Equal, Greater, nat_cmp, codes, if◌then◌else◌, refl, ap, ◌∙◌}
+use Rattle.std.proofs.Common.{◌≡◌, ℕ, Bool, true, false, List, [], ◌∷◌, ◌++◌, map, Option, Some, None, option_map, Ordering, Less, Equal, Greater, nat_cmp, codes, refl}
 use Rattle.std.specs.Prelude.{option_and_then}
 use Rattle.std.specs.Cmp.Lexicographic.{slice_cmp}
 use Rattle.std.specs.List.{AllByRecursion}
@@ -98,16 +98,27 @@ value_whole : (name : List ℕ) (o : Option Data) (ms : Members) → found_float
 value_whole name None ms one rest = rest
 value_whole name (Some d) ms one rest = put_whole name d ms one rest
 
+also : {A B : Type 0} → A → B → A × B
+also a b = (a, b)
+
 from_rows : (rows : List Row) → AllByRecursion (λ row. found_float row.1 ≡ false) rows → members_have_float (members_from rows) ≡ false
 from_rows [] all = refl
 from_rows (row ∷ rows) all = value_whole row.0 row.1 (members_from rows) all.0 (from_rows rows all.1)
 
 rows_whole : (c : Conditions) (reason : Option (List ℕ)) (until : Option ℕ) → members_have_float (members_from (entry_rows c reason until)) ≡ false
 rows_whole c reason until =
-    let message = (of_text (λ t. t) c.message, (of_text (λ t. t) c.message_id, (of_list c.message_args, tt))) in
-    let prints = (of_text guid_text c.guid, (of_pairs c.full, (of_pairs c.partial, message))) in
-    let place = (of_text (λ t. t) c.tool, (of_text (λ t. t) c.rule_id, (of_text (λ t. t) c.uri, prints))) in
-    from_rows (entry_rows c reason until) (of_day until, (of_text (λ t. t) reason, place))
+    from_rows (entry_rows c reason until)
+    (also (of_day until)
+    (also (of_text (λ t. t) reason)
+    (also (of_text (λ t. t) c.tool)
+    (also (of_text (λ t. t) c.rule_id)
+    (also (of_text (λ t. t) c.uri)
+    (also (of_text guid_text c.guid)
+    (also (of_pairs c.full)
+    (also (of_pairs c.partial)
+    (also (of_text (λ t. t) c.message)
+    (also (of_text (λ t. t) c.message_id)
+    (also (of_list c.message_args) tt)))))))))))
 
 made_whole : (rs : List Record) (reason : Option (List ℕ)) (until : Option ℕ) → AreWhole (map (λ r. entry_for r reason until) rs)
 made_whole [] reason until = refl

@@ -1,5 +1,5 @@
 -- Members that are set if there is something to set.
-use Rattle.std.proofs.Common.{◌≡◌, ℕ, List, [], ◌∷◌, length, map, Some, None, refl, sym, ap, ◌∙◌, arith}
+use Rattle.std.proofs.Common.{◌≡◌, ℕ, List, [], ◌∷◌, length, map, Some, refl, sym, ap, ◌∙◌, arith}
 use Rattle.serde_json.specs.Data.{Data, string, array, object, Members, put}
 use Rattle.serde_json.specs.View.{items_of}
 use Rattle.sarif_accept.specs.Entry.{with_value, texts_put, texts_if_any, list_if_any}

@@ -1,10 +1,9 @@
 -- What is found under a name among rows.
-use Rattle.std.proofs.Common.{◌≡◌, ℕ, Bool, true, false, ◌&&◌, not, List, [], ◌∷◌, Option, Some, None, option_map, bytes_eq, codes, refl, sym, ap, ◌∙◌, Ordering, Less, Equal, Greater, is_eq, nat_cmp, true≢false, if◌then◌else◌}
-use Rattle.std.specs.Prelude.{Result, Ok, option_and_then}
+use Rattle.std.proofs.Common.{◌≡◌, ℕ, Bool, true, false, ◌&&◌, not, List, [], ◌∷◌, Option, Some, None, option_map, bytes_eq, refl, sym, ap, ◌∙◌, Ordering, Less, Equal, Greater, nat_cmp, true≢false, if◌then◌else◌}
+use Rattle.std.specs.Prelude.{Ok, option_and_then}
 use Rattle.std.specs.Cmp.Lexicographic.{slice_cmp}
 use Rattle.std.specs.Ordering.{match_ordering}
 use Rattle.std.proofs.lemmas.Bool.{and_from}
-use Rattle.std.proofs.lemmas.Map.Text.{is_eq-slice_cmp}
 use Rattle.std.proofs.lemmas.Slice.Eq.{bytes_eq-Decides}
 use Rattle.serde_json.specs.Data.{Data, Members, no_members, member, string, put}
 use Rattle.serde_json.specs.Find.{get_member, as_str}
@@ -12,7 +11,7 @@ use Rattle.serde_json.proofs.Views.{get_member-put, get_member-put_other}
 use Rattle.sarif_model.specs.Members.{of_kind, unless_null}
 use Rattle.sarif_suppress.specs.declared.version.Version.{Version}
 use Rattle.sarif_suppress.specs.Entries.{has_member, are_members_of}
-use Rattle.sarif_accept.specs.Entry.{Row, with_value, members_from}
+use Rattle.sarif_accept.specs.Entry.{Row, members_from}
 
 -- the value of the first row with that name
 abbrev pub found : List ℕ → List Row → Option Data

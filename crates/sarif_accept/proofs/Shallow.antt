@@ -1,11 +1,11 @@
 -- How deep a new suppression file nests: at most as deep as a value that is read.
-use Rattle.std.proofs.Common.{◌≡◌, ℕ, suc, ◌≤◌, Bool, true, false, List, [], ◌∷◌, ◌++◌, map, Option, Some, None, option_map, Ordering, Less, Equal, Greater, nat_cmp, bytes_eq, codes, refl, sym, ap, ◌∙◌, arith, if◌then◌else◌}
+use Rattle.std.proofs.Common.{ℕ, suc, ◌≤◌, Bool, true, false, List, [], ◌∷◌, ◌++◌, map, Option, Some, None, option_map, Ordering, Less, Equal, Greater, nat_cmp, bytes_eq, codes, arith, if◌then◌else◌}
 use Rattle.std.specs.Prelude.{option_and_then, ⊤}
 use Rattle.std.specs.Cmp.Lexicographic.{slice_cmp}
 use Rattle.std.specs.List.{AllByRecursion}
 use Rattle.std.specs.Ordering.{match_ordering}
 use Rattle.serde_json.specs.Data.{Data, null, boolean, number, unsigned, string, array, object, Items, no_items, item, Members, no_members, member, put, depth, items_depth, members_depth}
-use Rattle.serde_json.specs.Find.{get, get_member, as_array, as_object}
+use Rattle.serde_json.specs.Find.{get, get_member, as_array}
 use Rattle.serde_json.specs.Read.{max_depth}
 use Rattle.serde_json.specs.View.{items_of}
 use Rattle.json_parts.specs.Stripping.{is_fractional, stripped, stripped_items, stripped_members}
@@ -169,16 +169,27 @@ value_within : (name : List ℕ) (o : Option Data) (ms : Members) → FoundWithi
 value_within name None ms one rest = rest
 value_within name (Some d) ms one rest = put_depth name d ms 1 one rest
 
+also : {A B : Type 0} → A → B → A × B
+also a b = (a, b)
+
 from_rows : (rows : List Row) → AllByRecursion (λ row. FoundWithin 1 row.1) rows → members_depth (members_from rows) ≤ 1
 from_rows [] all = omega arith
 from_rows (row ∷ rows) all = value_within row.0 row.1 (members_from rows) all.0 (from_rows rows all.1)
 
 rows_within : (c : Conditions) (reason : Option (List ℕ)) (until : Option ℕ) → members_depth (members_from (entry_rows c reason until)) ≤ 1
 rows_within c reason until =
-    let message = (text_within (λ t. t) c.message, (text_within (λ t. t) c.message_id, (list_within c.message_args, tt))) in
-    let prints = (text_within guid_text c.guid, (pairs_within c.full, (pairs_within c.partial, message))) in
-    let place = (text_within (λ t. t) c.tool, (text_within (λ t. t) c.rule_id, (text_within (λ t. t) c.uri, prints))) in
-    from_rows (entry_rows c reason until) (day_within until, (text_within (λ t. t) reason, place))
+    from_rows (entry_rows c reason until)
+    (also (day_within until)
+    (also (text_within (λ t. t) reason)
+    (also (text_within (λ t. t) c.tool)
+    (also (text_within (λ t. t) c.rule_id)
+    (also (text_within (λ t. t) c.uri)
+    (also (text_within guid_text c.guid)
+    (also (pairs_within c.full)
+    (also (pairs_within c.partial)
+    (also (text_within (λ t. t) c.message)
+    (also (text_within (λ t. t) c.message_id)
+    (also (list_within c.message_args) tt)))))))))))
 
 made_within : (rs : List Record) (reason : Option (List ℕ)) (until : Option ℕ) (n : ℕ) → 2 ≤ n → AreWithin n (map (λ r. entry_for r reason until) rs)
 made_within [] reason until n room = omega arith

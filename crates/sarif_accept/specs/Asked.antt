@@ -1,6 +1,6 @@
 -- What an entry asks for, as it refers to a record, and which records ask for it. Internal: no public contract refers
 -- to this module.
-use Rattle.std.specs.Prelude.{◌≡◌, ℕ, Bool, List, [], ◌∷◌, Option, Some, None, map, option_map, codes}
+use Rattle.std.specs.Prelude.{◌≡◌, ℕ, Bool, List, [], ◌∷◌, ◌++◌, Option, Some, None, map, option_map, codes}
 use Rattle.std.specs.List.{list_any}
 use Rattle.indexmap.specs.IndexSet.{IndexSet, contains}
 use Rattle.serde_json.specs.Data.{string, Members}
@@ -9,7 +9,7 @@ use Rattle.sarif_suppress.specs.declared.conditions.Conditions.{Conditions}
 use Rattle.sarif_accept.specs.contracts.asked.AskedPartialEq.TheImpl as derived
 use Rattle.sarif_accept.specs.declared.asked.Asked.{Asked}
 use Rattle.sarif_accept.specs.Entry.{conditions_for, members_from, texts_if_any, list_if_any}
-use Rattle.sarif_accept.specs.Adding.{same_conditions}
+use Rattle.sarif_accept.specs.Adding.{same_conditions, once_each}
 
 -- the conditions that it refers to
 abbrev pub conditions_in : Asked → Conditions
@@ -76,3 +76,7 @@ abbrev pub HasAsked : {S : Type 0} → IndexSet Asked S → List Record → Type
 HasAsked set records =
     (q : Asked) → contains same_asked set q
     ≡ list_any (λ r. same_conditions (conditions_for r) (conditions_in q)) records
+
+-- the results so far, each once, and then those of the rest: the same by either beginning
+abbrev pub IsSameList : List Record → List Record → List Record → List Record → Type 0
+IsSameList new rest old more = new ++ once_each new rest ≡ old ++ once_each old more

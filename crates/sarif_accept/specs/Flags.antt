@@ -1,6 +1,6 @@
 -- Which entries stay and which lines the unused ones have, by the marks of those that are used. Internal: no public
 -- contract refers to this module.
-use Rattle.std.specs.Prelude.{ℕ, ◌+◌, Bool, true, false, not, ◌&&◌, ◌||◌, List, [], ◌∷◌, ◌++◌, Option, Some, None, slice_get, if◌then◌else◌}
+use Rattle.std.specs.Prelude.{ℕ, ◌+◌, Bool, false, not, ◌&&◌, ◌||◌, List, [], ◌∷◌, ◌++◌, Option, Some, None, slice_get, if◌then◌else◌}
 use Rattle.std.specs.Option.{option_map_or}
 use Rattle.serde_json.specs.Data.{Data}
 use Rattle.sarif_suppress.specs.declared.entry.Entry.{Entry}
@@ -15,6 +15,10 @@ mark_at marks n = option_map_or (λ mark. mark) (slice_get marks n) false
 abbrev pub is_dropped : Heard → Option ℕ → Entry → Bool → Bool
 is_dropped heard today e used =
     is_expired today e || (not used && heard e.conditions.tool)
+
+-- a value, if it is marked
+abbrev pub if_marked : Bool → Data → List Data
+if_marked mark d = if mark then d ∷ [] else []
 
 -- the line of an entry that is not marked, if it has a value
 abbrev pub line_at : List Bool → ℕ → Bool → Option Data → List ℕ

@@ -5,7 +5,7 @@ use Rattle.sarif_suppress.specs.Matching.{is_empty}
 use Rattle.sarif_accept.specs.declared.heard.ToolRun.{ToolRun}
 
 abbrev pub is_of : List ℕ → ToolRun → Bool
-is_of tool run = bytes_eq tool run.tool
+is_of tool run = bytes_eq run.tool tool
 
 abbrev pub is_failed_of : List ℕ → ToolRun → Bool
 is_failed_of tool run = is_of tool run && run.failed

@@ -13,11 +13,14 @@ use Rattle.sarif_suppress.specs.Suppressing.{is_unused}
 abbrev pub reason_of : Bool → List ℕ
 reason_of expired = if expired then codes "expired" else codes "unmatched"
 
+-- what comes before the text of entry n
+abbrev pub head_of : ℕ → Bool → List ℕ
+head_of n expired =
+    codes "entry " ++ (decimal n ++ (codes ": " ++ (reason_of expired ++ codes ": ")))
+
 -- the line of entry n: why it is unused, and its text as it is shown
 abbrev pub line_of : ℕ → Bool → Data → List ℕ
-line_of n expired d =
-    codes "entry " ++ (decimal n ++ (codes ": " ++ (reason_of expired
-    ++ (codes ": " ++ (shown (chars (compact_text d)) ++ 10 ∷ [])))))
+line_of n expired d = head_of n expired ++ (shown (chars (compact_text d)) ++ 10 ∷ [])
 
 -- the lines of the unused ones of these entries, of which the first has number n; they were read of these values
 abbrev pub lines_from : File → List Record → ℕ → List Entry → List Data → List ℕ

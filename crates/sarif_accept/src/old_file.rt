@@ -1,11 +1,10 @@
 //! What a new suppression file takes from the old one.
-ghost use Rattle.std.specs.Prelude.{◌≡◌, List, Some, map, codes, option_map, option_and_then, unwrap_or, IfOk};
-ghost use Rattle.json.specs.Layout.{pretty};
+ghost use Rattle.std.specs.Prelude.{◌≡◌, ◌++◌, None, map, codes, option_map, option_and_then, unwrap_or, IfOk, OnOk};
 ghost use Rattle.serde_json.specs.Data.{no_members};
 ghost use Rattle.serde_json.specs.Find.{get, as_array, as_object};
 ghost use Rattle.serde_json.specs.View.{view, members_view};
 ghost use Rattle.json_parts.specs.Indexed.{data_of};
-ghost use Rattle.json_parts.specs.Ordered.{IsOrdered};
+ghost use Rattle.sarif_accept.specs.Flags.{if_marked};
 ghost use Rattle.sarif_accept.specs.Keeping.{chosen};
 ghost use Rattle.sarif_accept.specs.NewFile as said;
 
@@ -60,8 +59,24 @@ pub(crate) fn entry_value(alloc: Global, entry: &Node<'_, '_>) -> Result<Value, 
     Ok(Value::Object(into_members(alloc, value)))
 }
 
+/// Adds the value of an entry, if it is marked.
+fn push_marked(
+    alloc: Global,
+    values: &mut Vec<Value>,
+    marked: bool,
+    entry: &Node<'_, '_>,
+) -> Result<(), AllocError>
+    ensures { OnOk result (map view values.new.items
+        ≡ map view values.old.items ++ if_marked marked (said.entry_in (data_of entry.now))) }
+{
+    if marked {
+        values.push(entry_value(alloc, entry)?)?;
+    }
+    Ok(())
+}
+
 /// The values of the marked entries.
-#[tactic(auto, using(crate::proofs::Flags::chosen_takes, crate::proofs::Flags::chosen_skips, crate::proofs::Flags::chosen_end))]
+#[tactic(auto, using(crate::proofs::Flags::chosen_goes_on, crate::proofs::Flags::chosen_end))]
 fn kept_values(
     alloc: Global,
     entries: &[Node<'_, '_>],
@@ -72,9 +87,7 @@ fn kept_values(
 {
     let mut values = Vec::new(alloc);
     for (number, entry) in entries.iter().enumerate() {
-        if is_marked(kept, number) {
-            values.push(entry_value(alloc, entry)?)?;
-        }
+        push_marked(alloc, &mut values, is_marked(kept, number), entry)?;
     }
     Ok(values)
 }

@@ -14,7 +14,7 @@ use std::alloc::{AllocError, Global};
 /// The text of an object without fractions that nests at most `MAX_DEPTH` deep, each value on its line, and a line feed.
 /// It is read as this object.
 #[tactic(auto, using(crate::proofs::FileText::text_is, crate::proofs::FileText::text_reads))]
-pub(crate) fn file_text(alloc: Global, file: &Value) -> Result<String, AllocError>
+pub(crate) fn print_file(alloc: Global, file: &Value) -> Result<String, AllocError>
     requires shallow { depth (view file.now) ≤ max_depth }
     requires object { (ms : Members) × (view file.now ≡ object ms) }
     requires whole { has_float (view file.now) ≡ false }
@@ -22,6 +22,6 @@ pub(crate) fn file_text(alloc: Global, file: &Value) -> Result<String, AllocErro
     ensures reads { IfOk result (λ s. json_of (without_mark (string_bytes s)) ≡ Some (view file.now)) }
 {
     let mut text = file.to_string_pretty(alloc)?;
-    text.push('\n')?;
+    text.push_str("\n")?;
     Ok(text)
 }

@@ -1,9 +1,9 @@
 //! The new suppression file.
-ghost use Rattle.std.specs.Prelude.{◌≡◌, ◌⊎◌, ◌≤◌, ◌<◌, ◌++◌, List, Bool, Some, map, length, option_map, string_bytes, IfOk, OnOk};
+ghost use Rattle.std.specs.Prelude.{◌≡◌, ◌≤◌, ◌<◌, ◌⊎◌, ◌++◌, Some, map, length, option_map, string_bytes, IfOk, OnOk};
 ghost use Rattle.serde_json.specs.View.{view, members_view};
-ghost use Rattle.json_parts.specs.Indexed.{json_of, data_of};
+ghost use Rattle.json_parts.specs.Indexed.{json_of};
 ghost use Rattle.json_parts.specs.Mark.{without_mark as unmarked};
-ghost use Rattle.sarif_model.specs.Limits.{most_entries, most_bytes};
+ghost use Rattle.sarif_model.specs.Limits.{most_bytes, most_entries};
 ghost use Rattle.sarif_model.specs.Refusal.{IfFault};
 ghost use Rattle.sarif_model.specs.declared.fault.Fault.TheVariants.{TooMany};
 ghost use Rattle.sarif_model.specs.declared.merge_fault.Cause.TheVariants.{Of, TooLong};
@@ -12,7 +12,7 @@ ghost use Rattle.sarif_accept.specs.NewFile as said;
 
 use crate::entry::entry_for;
 use crate::old_file::{Old, read_old};
-use crate::printing::file_text;
+use crate::printing::print_file;
 use sarif_counts::Renewal;
 use sarif_model::{Cause, Fault, MOST_BYTES, MOST_ENTRIES, Record, Refusal};
 use serde_json::{Map, Value, put};
@@ -49,6 +49,39 @@ fn file_with(
     Ok(Value::Object(members))
 }
 
+/// The new file: the entries of the old one that are marked, those that accept results, and its other members. Returns
+/// `TooMany` if it had more than `MOST_ENTRIES` entries.
+fn renewed_file(
+    alloc: Global,
+    bytes: Option<&[u8]>,
+    kept: &[bool],
+    added: &[&Record],
+    renewal: &Renewal,
+) -> Result<Value, Refusal<Cause>>
+    ensures value { let entries =
+        map (λ r. made.entry_for r.now renewal.now.reason renewal.now.until) added.now in
+        IfOk result (λ v. view v ≡ said.new_file
+        (said.file_object (option_map (λ b. b.now) bytes.entry)) kept.now entries) }
+    ensures few { let entries =
+        map (λ r. made.entry_for r.now renewal.now.reason renewal.now.until) added.now in
+        IfOk result (λ v. length (said.entries_after
+        (said.file_object (option_map (λ b. b.now) bytes.entry)) kept.now entries) ≤ most_entries) }
+    ensures err { let entries =
+        map (λ r. made.entry_for r.now renewal.now.reason renewal.now.until) added.now in
+        IfFault result (λ cause. (cause ≡ Of TooMany) × (most_entries < length (said.entries_after
+        (said.file_object (option_map (λ b. b.now) bytes.entry)) kept.now entries))) }
+{
+    let Old {
+        mut entries,
+        others,
+    } = read_old(alloc, bytes, kept)?;
+    add_entries(alloc, &mut entries, added, renewal)?;
+    if entries.len() > MOST_ENTRIES {
+        return Err(Refusal::Fault(Cause::Of(Fault::TooMany)));
+    }
+    Ok(file_with(alloc, entries, others)?)
+}
+
 /// Returns the text of the new suppression file: of the entries of the file `bytes` those that `kept` marks, in order, then
 /// the entries that accept the results `added`, version 4, and the file's other members without numbers that have a
 /// fraction. Without a file there are no entries and no other members. Returns `TooMany` if it had more than
@@ -60,17 +93,31 @@ pub fn new_file(
     kept: &[bool],
     added: &[&Record],
     renewal: &Renewal,
-) -> Result<String, Refusal<Cause>> {
-    let Old {
-        mut entries,
-        others,
-    } = read_old(alloc, bytes, kept)?;
-    add_entries(alloc, &mut entries, added, renewal)?;
-    if entries.len() > MOST_ENTRIES {
-        return Err(Refusal::Fault(Cause::Of(Fault::TooMany)));
-    }
-    let file = file_with(alloc, entries, others)?;
-    let text = file_text(alloc, &file)?;
+) -> Result<String, Refusal<Cause>>
+    ensures text { let entries =
+        map (λ r. made.entry_for r.now renewal.now.reason renewal.now.until) added.now in
+        IfOk result (λ t. string_bytes t ≡ said.file_text (said.new_file
+        (said.file_object (option_map (λ b. b.now) bytes.entry)) kept.now entries)) }
+    ensures reads { let entries =
+        map (λ r. made.entry_for r.now renewal.now.reason renewal.now.until) added.now in
+        IfOk result (λ t. json_of (unmarked (string_bytes t)) ≡ Some (said.new_file
+        (said.file_object (option_map (λ b. b.now) bytes.entry)) kept.now entries)) }
+    ensures fits { let entries =
+        map (λ r. made.entry_for r.now renewal.now.reason renewal.now.until) added.now in
+        IfOk result (λ t. (length (said.entries_after
+        (said.file_object (option_map (λ b. b.now) bytes.entry)) kept.now entries) ≤ most_entries)
+        × (length (string_bytes t) ≤ most_bytes)) }
+    ensures err { let entries =
+        map (λ r. made.entry_for r.now renewal.now.reason renewal.now.until) added.now in
+        IfFault result (λ cause. ((cause ≡ Of TooMany) × (most_entries < length (said.entries_after
+        (said.file_object (option_map (λ b. b.now) bytes.entry)) kept.now entries)))
+        ⊎ ((cause ≡ TooLong) × (length (said.entries_after
+        (said.file_object (option_map (λ b. b.now) bytes.entry)) kept.now entries) ≤ most_entries)
+        × (most_bytes < length (said.file_text (said.new_file
+        (said.file_object (option_map (λ b. b.now) bytes.entry)) kept.now entries))))) }
+{
+    let file = renewed_file(alloc, bytes, kept, added, renewal)?;
+    let text = print_file(alloc, &file)?;
     if text.len() > MOST_BYTES {
         return Err(Refusal::Fault(Cause::TooLong));
     }

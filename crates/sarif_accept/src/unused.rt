@@ -1,6 +1,8 @@
 //! The list of the unused entries of a suppression file.
-ghost use Rattle.std.specs.Prelude.{◌≡◌, ◌++◌, List, Some, map, option_map, slice_get, string_bytes, IfOk, OnOk};
+ghost use Rattle.std.specs.Prelude.{◌≡◌, ◌++◌, List, chars, Some, map, option_map, slice_get, string_bytes, IfOk, OnOk};
+ghost use Rattle.serde_json.specs.Written.{compact_text};
 ghost use Rattle.json_parts.specs.Indexed.{data_of};
+ghost use Rattle.sarif_findings.specs.Shown.{shown as shown_text};
 ghost use Rattle.sarif_model.specs.declared.record.Record.{Record};
 ghost use Rattle.sarif_suppress.specs.Marks.{marks_of};
 ghost use Rattle.sarif_accept.specs.Flags.{line_at, lines_by};
@@ -23,8 +25,37 @@ fn reason_of(expired: bool) -> &'static str
     if expired { "expired" } else { "unmatched" }
 }
 
-/// Adds the line of the entry with that number.
+/// Adds what comes before the text of the entry with that number.
+#[tactic(auto, using(crate::proofs::Lines::head_joined))]
+fn push_head(
+    alloc: Global,
+    text: &mut String,
+    number: usize,
+    expired: bool,
+) -> Result<(), AllocError>
+    ensures { OnOk result (string_bytes text.new
+        ≡ string_bytes text.old ++ said.head_of number expired) }
+{
+    text.push_str("entry ")?;
+    text.push_str(number.to_string(alloc)?.as_str())?;
+    text.push_str(": ")?;
+    text.push_str(reason_of(expired))?;
+    text.push_str(": ")?;
+    Ok(())
+}
+
+/// The text of an entry, as it is shown.
 #[tactic(auto, using(crate::proofs::NoFraction::in_whole))]
+fn shown_entry(alloc: Global, entry: &Node<'_, '_>) -> Result<String, AllocError>
+    ensures { IfOk result (λ s. string_bytes s
+        ≡ shown_text (chars (compact_text (entry_in (data_of entry.now))))) }
+{
+    let text = entry_value(alloc, entry)?.to_string(alloc)?;
+    shown(alloc, text.as_str())
+}
+
+/// Adds the line of the entry with that number.
+#[tactic(auto, using(crate::proofs::Lines::line_joined))]
 fn push_line(
     alloc: Global,
     text: &mut String,
@@ -35,13 +66,8 @@ fn push_line(
     ensures { OnOk result (string_bytes text.new ≡ string_bytes text.old
         ++ said.line_of number expired (entry_in (data_of entry.now))) }
 {
-    let value = entry_value(alloc, entry)?.to_string(alloc)?;
-    let value = shown(alloc, value.as_str())?;
-    text.push_str("entry ")?;
-    text.push_str(number.to_string(alloc)?.as_str())?;
-    text.push_str(": ")?;
-    text.push_str(reason_of(expired))?;
-    text.push_str(": ")?;
+    let value = shown_entry(alloc, entry)?;
+    push_head(alloc, text, number, expired)?;
     text.push_str(value.as_str())?;
     text.push('\n')?;
     Ok(())
@@ -88,10 +114,31 @@ fn lines_of(
     Ok(text)
 }
 
+/// The lines of the unused entries of the file, which was read of the value at this node.
+fn lines_in<S: BuildHasher + Copy>(
+    alloc: Global,
+    node: &Node<'_, '_>,
+    file: &Suppressions<S>,
+    marks: &Marks,
+) -> Result<String, AllocError>
+    ensures { (rs : List Record) → marks.now ≡ marks_of file.now rs
+        → IfOk result (λ text. string_bytes text
+        ≡ said.unused_text file.now rs (entries_in (data_of node.now))) }
+{
+    let nodes = entry_nodes(alloc, node)?;
+    lines_of(
+        alloc,
+        file.entries(),
+        marks.as_slice(),
+        file.today(),
+        &nodes,
+    )
+}
+
 /// Returns a line for each unused entry of the file, in order: its number from 0, whether it expired or matched nothing,
 /// and its text, made safe to show. `marks` are those of the entries that match a current result, and `bytes` those of
 /// which the file was read. Returns `AllocError` if memory for the text runs out.
-#[tactic(auto, using(crate::proofs::Flags::lines_of_marks, crate::proofs::Flags::no_file))]
+#[tactic(auto, using(crate::proofs::Flags::no_file))]
 pub fn unused_lines<S: BuildHasher + Copy>(
     alloc: Global,
     bytes: &[u8],
@@ -104,16 +151,7 @@ pub fn unused_lines<S: BuildHasher + Copy>(
 {
     let mut scratch = Scratch::new(alloc);
     match index_text(alloc, without_mark(bytes), &mut scratch) {
-        Ok(index) => {
-            let nodes = entry_nodes(alloc, &index.root())?;
-            lines_of(
-                alloc,
-                file.entries(),
-                marks.as_slice(),
-                file.today(),
-                &nodes,
-            )
-        }
+        Ok(index) => lines_in(alloc, &index.root(), file, marks),
         Err(IndexFault::NotJson) => Ok(String::new(alloc)),
         Err(IndexFault::OutOfMemory) => Err(AllocError),
     }

@@ -141,11 +141,7 @@ fn source_of(fault: &MergeFault) -> Option<Source> {
 }
 
 /// Returns the explanation of an output with this name that would be too large for later merges.
-fn of_output(
-    alloc: Global,
-    fault: &MergeFault,
-    name: Option<&Text>,
-) -> Result<String, AllocError> {
+fn of_output(alloc: Global, fault: &MergeFault, name: Option<&Text>) -> Result<String, AllocError> {
     output_explanation(alloc, fault, name_or_none(name))
 }
 

@@ -1,6 +1,6 @@
 //! What is for later merges.
-ghost use Rattle.std.specs.Prelude.{◌≡◌, List, Some, map, IfOk, IfErr};
-ghost use Rattle.sarif_model.specs.declared.kinds.State.{State as Stand};
+ghost use Rattle.std.specs.Prelude.{◌≡◌, List, Some, map, unwrap_or, IfOk, IfErr};
+ghost use Rattle.sarif_model.specs.declared.kinds.State.TheVariants.{New};
 ghost use Rattle.sarif_runs.specs.Placed.{Placed};
 ghost use Rattle.sarif_upkeep.specs.IsMatched.{IsFileOf};
 ghost use Rattle.sarif_log.specs.Kept.{bytes_of, merge_of, upkeep_in, IsKept, IsUnkept};
@@ -24,16 +24,13 @@ pub(crate) struct Sides<'s, 't: 's, 'a: 't> {
     pub(crate) paired: &'s Paired,
 }
 
-/// The states that are there.
+/// The state of each current result; each has one.
 fn list_there(alloc: Global, states: &[Option<State>]) -> Result<Vec<State>, AllocError>
-    ensures { (all : List Stand) → states.now ≡ map Some all
-        → IfOk result (λ there. there.items ≡ all) }
+    ensures { IfOk result (λ there. there.items ≡ map (λ state. unwrap_or state New) states.now) }
 {
     let mut there = Vec::with_capacity(alloc, states.len())?;
     for state in states {
-        if let Some(state) = state {
-            there.push(*state)?;
-        }
+        there.push(state.unwrap_or(State::New))?;
     }
     Ok(there)
 }
@@ -50,14 +47,16 @@ fn keep(
     requires together { (current_runs : List Placed) × (baseline_runs : List Placed)
         × AreTogether rules.now.file.now current_runs baseline_runs sides.now.current.now sides.now.baselines.now }
     requires paired { IsPaired sides.now.current.now sides.now.baselines.now sides.now.paired.now }
-    ensures kept { IfOk result (λ life. (current_runs baseline_runs : List Placed)
-        → AreTogether rules.now.file.now current_runs baseline_runs sides.now.current.now sides.now.baselines.now
-        → IsKept (merge_of rules.now.file.now (bytes_of rules.now) asked.now.options.now.policy
-        current_runs baseline_runs) (Some upkeep.now) life) }
-    ensures unkept { IfErr result (λ fault. (current_runs baseline_runs : List Placed)
-        → AreTogether rules.now.file.now current_runs baseline_runs sides.now.current.now sides.now.baselines.now
-        → IsUnkept (merge_of rules.now.file.now (bytes_of rules.now) asked.now.options.now.policy
-        current_runs baseline_runs) (Some upkeep.now) fault) }
+    ensures kept { (current_runs baseline_runs : List Placed)
+        → AreTogether rules.now.file.now current_runs baseline_runs sides.now.current.now
+        sides.now.baselines.now
+        → IfOk result (IsKept (merge_of rules.now.file.now (bytes_of rules.now)
+        asked.now.options.now.policy current_runs baseline_runs) (Some upkeep.now)) }
+    ensures unkept { (current_runs baseline_runs : List Placed)
+        → AreTogether rules.now.file.now current_runs baseline_runs sides.now.current.now
+        sides.now.baselines.now
+        → IfErr result (IsUnkept (merge_of rules.now.file.now (bytes_of rules.now)
+        asked.now.options.now.policy current_runs baseline_runs) (Some upkeep.now)) }
 {
     let states = list_there(alloc, &sides.paired.states)?;
     let matched = Matched {
@@ -77,7 +76,8 @@ fn keep(
             taken: &sides.paired.taken,
         },
     };
-    life_of(alloc, asked.options.seed, &matched, upkeep)
+    let life = life_of(alloc, asked.options.seed, &matched, upkeep)?;
+    Ok(life)
 }
 
 /// What a merge gives for later merges: what is requested, and nothing else.
@@ -91,14 +91,16 @@ pub(crate) fn keep_if_asked(
     requires together { (current_runs : List Placed) × (baseline_runs : List Placed)
         × AreTogether rules.now.file.now current_runs baseline_runs sides.now.current.now sides.now.baselines.now }
     requires paired { IsPaired sides.now.current.now sides.now.baselines.now sides.now.paired.now }
-    ensures kept { IfOk result (λ life. (current_runs baseline_runs : List Placed)
-        → AreTogether rules.now.file.now current_runs baseline_runs sides.now.current.now sides.now.baselines.now
-        → IsKept (merge_of rules.now.file.now (bytes_of rules.now) asked.now.options.now.policy
-        current_runs baseline_runs) (upkeep_in asked.now) life) }
-    ensures unkept { IfErr result (λ fault. (current_runs baseline_runs : List Placed)
-        → AreTogether rules.now.file.now current_runs baseline_runs sides.now.current.now sides.now.baselines.now
-        → IsUnkept (merge_of rules.now.file.now (bytes_of rules.now) asked.now.options.now.policy
-        current_runs baseline_runs) (upkeep_in asked.now) fault) }
+    ensures kept { (current_runs baseline_runs : List Placed)
+        → AreTogether rules.now.file.now current_runs baseline_runs sides.now.current.now
+        sides.now.baselines.now
+        → IfOk result (IsKept (merge_of rules.now.file.now (bytes_of rules.now)
+        asked.now.options.now.policy current_runs baseline_runs) (upkeep_in asked.now)) }
+    ensures unkept { (current_runs baseline_runs : List Placed)
+        → AreTogether rules.now.file.now current_runs baseline_runs sides.now.current.now
+        sides.now.baselines.now
+        → IfErr result (IsUnkept (merge_of rules.now.file.now (bytes_of rules.now)
+        asked.now.options.now.policy current_runs baseline_runs) (upkeep_in asked.now)) }
 {
     match asked.upkeep {
         Some(upkeep) => keep(alloc, sides, rules, asked, upkeep),

@@ -176,14 +176,14 @@ fn tell_sides<R: Threads + Sync>(
         → AreTogether file current_runs baseline_runs current.now baselines.now
         → told.findings.items
         ≡ told_of (reporting_in asked.now) (runs_by file current_runs baseline_runs)) }
-    ensures kept { IfOk result (λ told. (current_runs baseline_runs : List Placed)
+    ensures kept { (current_runs baseline_runs : List Placed)
         → AreTogether rules.now.file.now current_runs baseline_runs current.now baselines.now
-        → IsKept (merge_of rules.now.file.now (bytes_of rules.now) asked.now.options.now.policy
-        current_runs baseline_runs) (upkeep_in asked.now) told.life) }
-    ensures unkept { IfErr result (λ fault. (current_runs baseline_runs : List Placed)
+        → IfOk result (λ told. IsKept (merge_of rules.now.file.now (bytes_of rules.now)
+        asked.now.options.now.policy current_runs baseline_runs) (upkeep_in asked.now) told.life) }
+    ensures unkept { (current_runs baseline_runs : List Placed)
         → AreTogether rules.now.file.now current_runs baseline_runs current.now baselines.now
-        → IsUnkept (merge_of rules.now.file.now (bytes_of rules.now) asked.now.options.now.policy
-        current_runs baseline_runs) (upkeep_in asked.now) fault) }
+        → IfErr result (IsUnkept (merge_of rules.now.file.now (bytes_of rules.now)
+        asked.now.options.now.policy current_runs baseline_runs) (upkeep_in asked.now)) }
 {
     let paired = pair_results(rt, alloc, current, baselines, asked.options)?;
     let findings = tell_results(rt, alloc, asked, current, baselines, &paired)?;
@@ -216,14 +216,15 @@ fn prepare_sides<R: Threads + Sync>(
     ensures prepared { IfOk result (λ prepared. (current_runs baseline_runs : List Placed)
         → AreTogether rules.now.file.now current_runs baseline_runs current.entry baselines.entry
         → IsPrepared rules.now.file.now current_runs baseline_runs (reporting_in asked.now) prepared) }
-    ensures kept { IfOk result (λ prepared. (current_runs baseline_runs : List Placed)
+    ensures kept { (current_runs baseline_runs : List Placed)
         → AreTogether rules.now.file.now current_runs baseline_runs current.entry baselines.entry
-        → IsKept (merge_of rules.now.file.now (bytes_of rules.now) asked.now.options.now.policy
-        current_runs baseline_runs) (upkeep_in asked.now) prepared.life) }
-    ensures unkept { IfErr result (λ fault. (current_runs baseline_runs : List Placed)
+        → IfOk result (λ prepared. IsKept (merge_of rules.now.file.now (bytes_of rules.now)
+        asked.now.options.now.policy current_runs baseline_runs) (upkeep_in asked.now)
+        prepared.life) }
+    ensures unkept { (current_runs baseline_runs : List Placed)
         → AreTogether rules.now.file.now current_runs baseline_runs current.entry baselines.entry
-        → IsUnkept (merge_of rules.now.file.now (bytes_of rules.now) asked.now.options.now.policy
-        current_runs baseline_runs) (upkeep_in asked.now) fault) }
+        → IfErr result (IsUnkept (merge_of rules.now.file.now (bytes_of rules.now)
+        asked.now.options.now.policy current_runs baseline_runs) (upkeep_in asked.now)) }
 {
     let Told {
         paired,

@@ -92,7 +92,7 @@ pub(crate) fn write_log<
     };
     let say = move || -> Result<B, AllocError>
         requires { Tell.IsAlwaysCallable tell }
-        ensures { IsToldBy Tell.FnOnce tell facts result }
+        ensures { IsToldBy Tell.FnOnce tell facts.entry result }
     {
         drop(spent);
         tell(&facts)

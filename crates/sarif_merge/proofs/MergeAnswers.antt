@@ -40,6 +40,10 @@ use Rattle.sarif_inputs.specs.ReadSoFar.{sources_of}
 use Rattle.sarif_inputs.specs.SourceFaults.{source_faults}
 use Rattle.sarif_inputs.proofs.ReadFacts.{log_sides, baseline_sides, nothing_before}
 use Rattle.sarif_model.proofs.SourceAnswers.{still_first}
+use Rattle.sarif_counts.specs.declared.life.Life.{Life}
+use Rattle.sarif_counts.specs.declared.upkeep.Upkeep.{Upkeep}
+use Rattle.sarif_upkeep.specs.Life.{life_faults}
+use Rattle.sarif_log.specs.Kept.{merge_of, IsKept}
 use Rattle.sarif_merge.specs.Given.{given}
 use Rattle.sarif_merge.specs.Merged.{IsMerged}
 use Rattle.sarif_merge.specs.MergedLog.{file_in}
@@ -88,11 +92,24 @@ pub same_runs : (file : File) (now before xs ys : List Placed) (asked : Option R
 same_runs file now before xs ys asked prepared h e f =
     subst (λ k. IsPrepared file xs k asked prepared) f (subst (λ k. IsPrepared file k before asked prepared) e h)
 
+-- what is for later merges, of the same runs
+pub same_kept : (file : File) (bytes : Option (List ℕ)) (policy : Policy) (now before xs ys : List Placed) (upkeep : Option Upkeep) (life : Life)
+    → IsKept (merge_of file bytes policy now before) upkeep life → now ≡ xs → before ≡ ys → IsKept (merge_of file bytes policy xs ys) upkeep life
+same_kept file bytes policy now before xs ys upkeep life h e f =
+    subst (λ k. IsKept (merge_of file bytes policy xs k) upkeep life) f (subst (λ k. IsKept (merge_of file bytes policy k before) upkeep life) e h)
+
+pub same_large : (file : File) (bytes : Option (List ℕ)) (policy : Policy) (now before xs ys : List Placed) (upkeep : Option Upkeep) (fault : MergeFault)
+    → first (life_faults (merge_of file bytes policy now before) upkeep) ≡ Some fault → now ≡ xs → before ≡ ys
+    → first (life_faults (merge_of file bytes policy xs ys) upkeep) ≡ Some fault
+same_large file bytes policy now before xs ys upkeep fault h e f =
+    subst (λ k. first (life_faults (merge_of file bytes policy xs k) upkeep) ≡ Some fault) f
+    (subst (λ k. first (life_faults (merge_of file bytes policy k before) upkeep) ≡ Some fault) e h)
+
 -- what is assembled of what was prepared for these inputs
-pub assembled_is : (inputs : Inputs) (policy : Policy) (asked : Option Reporting) (prepared : Prepared) (merged : Merged) → IsPreparedFor inputs asked prepared
+pub assembled_is : (inputs : Inputs) (policy : Policy) (asked : Option Reporting) (upkeep : Option Upkeep) (prepared : Prepared) (merged : Merged) → IsPreparedFor inputs policy asked upkeep prepared
     → ((file : File) (now before : List Placed) (told : Option Reporting) → IsPrepared file now before told prepared → IsMergedBy file now before policy told merged)
     → IsMerged inputs policy asked merged
-assembled_is inputs policy asked prepared merged ready assembled =
+assembled_is inputs policy asked upkeep prepared merged ready assembled =
     let entries = file_in (file_or_none inputs.suppressions inputs.today) in
     let logs = placed (numbered inputs.checks Log 0 inputs.logs) in
     let baselines = placed (numbered inputs.checks Baseline 0 inputs.baselines) in
@@ -150,15 +167,17 @@ module _ (ls bs : List (List ℕ)) (few_ls : length ls ≤ most_sources) (few_bs
         nothing_before (number_faults Log ls) (number_faults Baseline bs) (source_faults 0 0 (sources_of checks ls bs)) (file_faults (file_or_none file today)) (faults_of_runs (placed (numbered checks Log 0 ls) ++ placed (numbered checks Baseline 0 bs)))
         within sources sound
 
-    pub prepared_is : (entries : File) (asked : Option Reporting) (prepared : Prepared) → file_or_none file today ≡ Ok entries
+    pub prepared_is : (entries : File) (policy : Policy) (asked : Option Reporting) (upkeep : Option Upkeep) (prepared : Prepared) → file_or_none file today ≡ Ok entries
         → IsPrepared entries (placed (numbered checks Log 0 ls)) (placed (numbered checks Baseline 0 bs)) asked prepared
         → faults_of_runs (placed (numbered checks Log 0 ls) ++ placed (numbered checks Baseline 0 bs)) ≡ []
-        → IsPreparedFor (given ls bs file today checks) asked prepared
-    prepared_is entries asked prepared is h none =
+        → IsKept (merge_of entries file policy (placed (numbered checks Log 0 ls)) (placed (numbered checks Baseline 0 bs))) upkeep prepared.life
+        → IsPreparedFor (given ls bs file today checks) policy asked upkeep prepared
+    prepared_is entries policy asked upkeep prepared is h none kept =
         let logs = placed (numbered checks Log 0 ls) in
         let baselines = placed (numbered checks Baseline 0 bs) in record {
           faultless = faults_are (ap file_faults is) ∙ none;
           written = subst (λ f. IsPrepared f logs baselines asked prepared) (sym (ap file_in is)) h;
+          kept = subst (λ f. IsKept (merge_of f file policy logs baselines) upkeep prepared.life) (sym (ap file_in is)) kept;
         }
 
 -- ---- indexes

@@ -106,6 +106,7 @@ pub(crate) fn tell_nothing(_facts: &Facts<'_>) -> Result<(), AllocError> {
 /// logs and the baselines, of the suppression file, of the logs' runs and results, and of the baselines' runs and
 /// results. Its cause is any except `TooLong`, `ReadFailed` and `WriteFailed`. `OutOfMemory`, if memory runs out,
 /// and `NoWorker`, if a thread cannot be started, have no place, and may be returned instead of any of these.
+#[tactic(auto, using(crate::proofs::Alone::refusal_alone))]
 pub fn merge_bytes<G: Gate + Sync, R: Threads + Wait + Sync>(
     rt: &R,
     alloc: Global,

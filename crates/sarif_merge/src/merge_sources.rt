@@ -60,6 +60,7 @@ fn read_all<R: Read>(alloc: Global, readers: &mut Readers<R>) -> Result<SourceBy
 /// end; otherwise the first error of what was read, as [`merge_bytes`](crate::merge_bytes) returns it.
 /// `OutOfMemory`, if memory runs out, including in `tell`, and `NoWorker`, if a thread cannot be started, have no
 /// place.
+#[tactic(auto, using(crate::proofs::Alone::refused_first))]
 pub fn merge_readers<
     R: Read,
     G: Gate + Sync,

@@ -35,8 +35,7 @@ pub record IsAccepted {R W S P : Type 0} (views : Views R W S P) (request : Requ
     (old new : Streams R W S P) (status : ℕ) (merged : Merged) : Type 0 where
   pub verdict : status ≡ verdict_status merged.verdict
   pub from : IsMergedWith views.remaining old.readers new.readers request.options.today
-      request.options.checks request.options.policy
-      (reporting_for request old.writers.reports.items)
+      request.options.checks request.options.policy (reporting_for request old.writers.reports.items)
       (Some request.upkeep) merged
   pub log : Appends (views.log (inner_of old.writers.out)) (views.log (inner_of new.writers.out))
       merged.log

@@ -27,7 +27,8 @@ fn file_line(alloc: Global, file: &NewFile) -> Result<String, AllocError>
     let (accepted, stay) = (file.accepted, file.stay);
     let (pruned, entries) = (file.pruned, file.entries);
     format!(in alloc;
-        "sarif_gate: {accepted} accepted, {stay} stay, {pruned} pruned, {entries} entries\n")
+        "sarif_gate: {accepted} accepted, {stay} stay, {pruned} pruned, {entries} entries\n"
+    )
 }
 
 /// Returns the line on a known log.

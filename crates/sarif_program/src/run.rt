@@ -1,6 +1,6 @@
 //! Serves a request, over readers and writers of any kind.
 ghost use Rattle.std.specs.Prelude.{◌≡◌, [], ◌<◌, ◌≤◌, ◌+◌, ◌^◌, ◌↔◌, ◌⊎◌, false, nat_eq, IfOk, IfErr, None, Ok, Some};
-ghost use Rattle.std.specs.List.{All, AllZip};
+ghost use Rattle.std.specs.List.{All, AllZip, list_any};
 ghost use Rattle.std.specs.Io.KnownBytes.{Appends};
 ghost use Rattle.sarif_log.specs.declared.merged.Merged.{Merged as Outcome};
 ghost use Rattle.sarif_log.specs.Beside.{IsMadeBy};
@@ -18,6 +18,8 @@ ghost use Rattle.sarif_streams.specs.WereRead.{failures, AllTell, NoNumberFalls,
 ghost use Rattle.sarif_program.specs.Notes.{AreNoted, lines_of};
 ghost use Rattle.sarif_program.specs.Rejected.{IsRejected};
 ghost use Rattle.sarif_program.specs.Reports.{IsWritten, report_for, report_with, reporting_for, texts_for};
+ghost use Rattle.sarif_program.specs.Reports.{wanted_reports};
+ghost use Rattle.sarif_reports.specs.Report.{needs_findings};
 ghost use Rattle.sarif_program.specs.Status.{verdict_status};
 ghost use Rattle.sarif_program.specs.Writing.{NoWriterFalls, ReaderRises, WriterRises, writer_failures};
 
@@ -46,12 +48,24 @@ fn reporting_of<W>(
     ensures { IfOk result
         (λ reporting. reporting ≡ reporting_for «request».now writers.now) }
 {
-    if !writers.iter().any(|wanted| wanted.report.needs_findings()) {
+    if !need_findings(writers) {
         return Ok(None);
     }
     let policy = request.options.policy;
     let roots = roots_of(alloc, request.roots.as_slice())?;
     Ok(Some(Reporting { policy, roots }))
+}
+
+/// Returns whether one of these writers' outputs is made from findings.
+fn need_findings<W>(writers: &[Wanted<W>]) -> bool
+    ensures { result ≡ list_any needs_findings (wanted_reports writers.now) }
+{
+    for wanted in writers {
+        if wanted.report.needs_findings() {
+            return true;
+        }
+    }
+    false
 }
 
 /// Returns a copy of these roots.
@@ -85,13 +99,11 @@ fn merge_told<
     requires suppressions { failed_calls_if readers.old.suppressions < 2 ^ 63 }
     requires tells { Tell.IsAlwaysCallable tell }
     ensures merged { IfOk result (λ all. IsMergedWith R.remaining readers.old readers.new
-        «request».now.options.today «request».now.options.checks
-        «request».now.options.policy made.now
-        (Some «request».now.upkeep) all.0) }
+        «request».now.options.today «request».now.options.checks «request».now.options.policy
+        made.now (Some «request».now.upkeep) all.0) }
     ensures told { IfOk result (λ all. IsMadeBy Tell.FnOnce tell all.0 (Ok all.1)) }
     ensures refused { IfErr result (IsRefusedWith R.remaining readers.old readers.new
-        «request».now.options.today «request».now.options.checks
-        «request».now.options.policy
+        «request».now.options.today «request».now.options.checks «request».now.options.policy
         (Some «request».now.upkeep)) }
     ensures read_failed { RisesIf (read_failed_in result)
         (failures readers.old) (failures readers.new) }
@@ -120,8 +132,7 @@ fn merge_for<R: Read, W, T: Threads + Wait + Sync>(
     requires baselines { All (λ reader. failed_calls reader < 2 ^ 63) readers.old.baselines.items }
     requires suppressions { failed_calls_if readers.old.suppressions < 2 ^ 63 }
     ensures merged { IfOk result (λ all. IsMergedWith R.remaining readers.old readers.new
-        «request».now.options.today «request».now.options.checks
-        «request».now.options.policy
+        «request».now.options.today «request».now.options.checks «request».now.options.policy
         (reporting_for «request».now writers.now) (Some «request».now.upkeep) all.0) }
     ensures summary { IfOk result (λ all. all.1.summary
         ≡ summary_of (count_at all.0.counts) «request».now.options.policy) }
@@ -130,7 +141,8 @@ fn merge_for<R: Read, W, T: Threads + Wait + Sync>(
         ≡ texts_for writers.now (report_for «request».now all.0)) }
     ensures refused { IfErr result (λ fault. (fault.cause ≡ OutOfMemory → ⊥)
         → IsRefusedWith R.remaining readers.old readers.new «request».now.options.today
-        «request».now.options.checks «request».now.options.policy (Some «request».now.upkeep) fault) }
+        «request».now.options.checks «request».now.options.policy
+        (Some «request».now.upkeep) fault) }
     ensures read_failed { RisesIf (read_failed_in result)
         (failures readers.old) (failures readers.new) }
     ensures risen { NoNumberFalls readers.old readers.new }
@@ -171,8 +183,7 @@ pub fn run_request<R: Read, W: Write, S: Write, P: Write, E: Write, T: Threads +
     // it is for, `complaints` the lines on it, and `say` its summary; 0 with the verdict pass, and 1 with fail.
     ensures accepted { result < 2 → (merged : Outcome) × (result ≡ verdict_status merged.verdict)
         × IsMergedWith R.remaining readers.old readers.new
-        «request».now.options.today «request».now.options.checks
-        «request».now.options.policy
+        «request».now.options.today «request».now.options.checks «request».now.options.policy
         (reporting_for «request».now writers.old.reports.items) (Some «request».now.upkeep) merged
         × Appends (W.contents (inner_of writers.old.out))
         (W.contents (inner_of writers.new.out)) merged.log

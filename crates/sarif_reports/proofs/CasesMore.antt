@@ -1,7 +1,6 @@
 -- The test cases and the suites of the report in JUnit XML, put together.
-use Rattle.std.proofs.Common.{◌≡◌, ◌<◌, ◌≤◌, ◌+◌, ◌++◌, ℕ, zero, suc, Bool, true, false, cond, List, [], ◌∷◌, length, take, drop, get_or, slice_get, map, bytes_eq, flat_map, string_bytes, unwrap_or, Option, Some, None, if◌then◌else◌, refl, sym, ap, ap₂, ◌∙◌, append_assoc, arith}
+use Rattle.std.proofs.Common.{◌≡◌, ◌<◌, ◌≤◌, ◌+◌, ◌++◌, ℕ, zero, suc, Bool, true, false, cond, List, [], ◌∷◌, length, take, drop, get_or, slice_get, map, bytes_eq, flat_map, string_bytes, unwrap_or, Option, Some, if◌then◌else◌, refl, sym, ap, ap₂, ◌∙◌, append_assoc, arith}
 use Rattle.std.specs.Borrow.{Bor}
-use Rattle.std.specs.List.{count_by}
 use Rattle.std.specs.HashMap.{HashMap, UpdatesBy, get_by_text}
 use Rattle.std.specs.declared.string.String.{String}
 use Rattle.std.specs.String.{string_eq}

@@ -1,5 +1,5 @@
 -- Findings grouped by file, one finding more.
-use Rattle.std.proofs.Common.{◌≡◌, ◌<◌, ◌≤◌, ◌+◌, ℕ, Bool, true, false, cond, not, ◌&&◌, ◌||◌, List, [], ◌∷◌, ◌++◌, Option, Some, None, length, take, drop, flat_map, unwrap_or, bytes_eq, min, if◌then◌else◌, refl, sym, ap, subst, ◌∙◌, append-nil, append_assoc, map, get_or, inl, inr, ⊎_elim, vec_len, arith}
+use Rattle.std.proofs.Common.{◌≡◌, ◌<◌, ◌≤◌, ◌+◌, ℕ, Bool, true, false, cond, not, ◌&&◌, ◌||◌, List, [], ◌∷◌, ◌++◌, Option, Some, None, length, take, drop, flat_map, unwrap_or, bytes_eq, if◌then◌else◌, refl, sym, ap, subst, ◌∙◌, append-nil, append_assoc, map, get_or, ⊎_elim, arith}
 use Rattle.std.specs.Borrow.{Bor}
 use Rattle.std.specs.List.{filter, list_any}
 use Rattle.std.specs.Option.{option_map, is_some}
@@ -8,7 +8,7 @@ use Rattle.std.specs.declared.alloc.Global.{Global}
 use Rattle.std.specs.declared.vec.Vec.{Vec}
 use Rattle.std.proofs.lemmas.Bool.{true≢false, cases_lt}
 use Rattle.std.proofs.lemmas.Grind.{flat_map-append}
-use Rattle.std.proofs.lemmas.List.{take_all, drop_all, take-append-le, take-append-drop, length-take, length-take-le, length-append, take_more, map-append}
+use Rattle.std.proofs.lemmas.List.{take_all, take-append-le, take-append-drop, length-take, length-take-le, length-append, take_more, map-append}
 use Rattle.std.proofs.lemmas.List.Elements.{filter-append}
 use Rattle.std.proofs.lemmas.List.Folds.{list_any-append}
 use Rattle.std.proofs.lemmas.Map.Views.{any-filter_same}
@@ -270,9 +270,9 @@ first_rows most fs =
     ⊎_elim
     (λ (less : length files < most). ap (λ l. take most (rows l)) (take_all most files (omega arith)))
     (λ (more : most ≤ length files).
-      let enough : most ≤ length (rows (take most files)) =
-      omega (arith, at_least fs [] (take most files) (drop most files) (take-append-drop most files), length-take-le most files more) in
-      sym (ap (take most) whole ∙ take-append-le most (rows (take most files)) (rows (drop most files)) enough))
+    let enough : most ≤ length (rows (take most files)) =
+    omega (arith, at_least fs [] (take most files) (drop most files) (take-append-drop most files), length-take-le most files more) in
+    sym (ap (take most) whole ∙ take-append-le most (rows (take most files)) (rows (drop most files)) enough))
     (cases_lt (length files) most)
 
 -- ---- steps of the code
@@ -301,9 +301,9 @@ cut_more most rows before group all so_far step =
     step ∙ ap (λ l. take most (l ++ group)) so_far ∙ ⊎_elim
     (λ (less : length before < most). ap (λ l. take most (l ++ group)) (take_all most before (omega arith)))
     (λ (more : most ≤ length before).
-      take-append-le most (take most before) group (omega (arith, length-take-le most before more))
-      ∙ take_all most (take most before) (omega (arith, length-take-le most before more))
-      ∙ sym (take-append-le most before group more))
+    take-append-le most (take most before) group (omega (arith, length-take-le most before more))
+    ∙ take_all most (take most before) (omega (arith, length-take-le most before more))
+    ∙ sym (take-append-le most before group more))
     (cases_lt (length before) most)
 
 -- the group of a file, one finding more
@@ -336,10 +336,11 @@ no_entries (e ∷ es) h = absurd (omega (arith, h))
 pub none_grouped : (most : ℕ) (grouped : Grouped) → grouped.files.items ≡ [] → length grouped.groups.entries ≡ 0 → IsGrouped most [] grouped
 none_grouped most grouped no_files empty =
     let no_groups = no_entries grouped.groups.entries empty in
-    let first : take most (files_of []) ≡ [] = take_all most [] (omega arith) in
-    (ap (map (λ t. t.now)) no_files ∙ sym first,
-    λ q. ap (λ es. group_in (lookup (λ own. bytes_eq q own.now) es)) no_groups
-    ∙ ap (λ l. if has_file l q then Some (filter (is_in q) []) else None) (sym first))
+    let first : take most (files_of []) ≡ [] = take_all most [] (omega arith) in (
+      ap (map (λ t. t.now)) no_files ∙ sym first,
+      λ q. ap (λ es. group_in (lookup (λ own. bytes_eq q own.now) es)) no_groups
+          ∙ ap (λ l. if has_file l q then Some (filter (is_in q) []) else None) (sym first),
+    )
 
 -- the rows of one file more
 pub rows_more : (at : List ℕ → List Finding) (most : ℕ) (refs : List (Bor (List ℕ))) (i : ℕ) (d : Bor (List ℕ)) (rows all : List Finding)

@@ -22,8 +22,11 @@ use Rattle.sarif_findings.proofs.SeenMore.{shown_seen}
 use Rattle.sarif_findings.proofs.CharsBack.{chars_back}
 use Rattle.sarif_findings.proofs.HighBytes.{high_apart, char_kept}
 use Rattle.sarif_reports.proofs.TextApart.{is_plain, seen_in_line, same_ends, decimal_plain}
-use Rattle.sarif_reports.specs.Listed.{listed}
-use Rattle.sarif_reports.proofs.ListedMore.{length_listed, listed_told}
+use Rattle.sarif_model.specs.Run.{runs_of}
+use Rattle.sarif_counts.specs.CountOf.{count_of}
+use Rattle.sarif_counts.specs.Policy.{hits_of}
+use Rattle.sarif_reports.specs.Listed.{hits_among, listed, others_among}
+use Rattle.sarif_reports.proofs.ListedMore.{filter_told, hits_counted, length_listed, lines_parted, listed_told}
 use Rattle.sarif_findings.proofs.ToldFindings.{IsShown, IsPath, IsTold, all_told}
 
 -- what follows within a line, with this number of ends of lines
@@ -150,7 +153,7 @@ line_text n f text told lines =
     (sym (regroup (command_of f.level) (file_property f.path) (number_property (codes "line=") f.line) (number_property (codes "col=") f.column) (codes "title=") (title f.rule f.tool) (codes "::") (escaped Message f.message) (codes "\n") text))
     (command_line (n + 1) f.level _ file)
 
-pub all_lines : (fs : List Finding) → AllByRecursion IsTold fs → Lines (length fs) (flat_map github_line fs)
+all_lines : (fs : List Finding) → AllByRecursion IsTold fs → Lines (length fs) (flat_map github_line fs)
 all_lines [] h = record { ends = refl; commands = refl }
 all_lines (f ∷ fs) h =
     let count : length fs + 1 ≡ length (f ∷ fs) = omega arith in
@@ -165,3 +168,14 @@ pub lines_end : (reporting : Reporting) (log : Data) → count_by (λ b. b == 10
 lines_end reporting log =
     let fs = reported_of reporting log in
     (all_lines (listed fs) (listed_told fs (all_told reporting log))).ends ∙ length_listed fs
+
+pub hit_lines : (reporting : Reporting) (log : Data)
+    → count_by (λ b. b == 10) (flat_map github_line (hits_among (reported_of reporting log))) ≡ hits_of (count_of (runs_of log)) reporting.policy
+hit_lines reporting log =
+    let fs = reported_of reporting log in
+    (all_lines (hits_among fs) (filter_told (λ f. f.hit) fs (all_told reporting log))).ends ∙ hits_counted reporting log
+
+pub hits_first : (reporting : Reporting) (log : Data)
+    → github_of (reported_of reporting log)
+    ≡ flat_map github_line (hits_among (reported_of reporting log)) ++ flat_map github_line (others_among (reported_of reporting log))
+hits_first reporting log = lines_parted github_line (reported_of reporting log)

@@ -1,9 +1,9 @@
 -- The elements and the characters of the report in JUnit XML.
 use Rattle.std.proofs.Common.{◌≡◌, ◌<◌, ◌≤◌, ◌^◌, ◌+◌, ◌==◌, ◌++◌, ℕ, Bool, true, false, not, ◌&&◌, ◌||◌, cond, List, [], ◌∷◌, Option, Some, None, IfSome, codes, decimal, length, map, filter, flat_map, bytes_eq, unwrap_or, if◌then◌else◌, refl, sym, ap, ap₂, subst, ◌∙◌, append_assoc, append-nil, arith}
-use Rattle.std.specs.Prelude.{encode_utf8_all, nat_eq, nat_lt}
+use Rattle.std.specs.Prelude.{encode_utf8_all, nat_lt}
 use Rattle.std.specs.Char.{encode_utf8, is_ascii_digit}
-use Rattle.std.specs.List.{AllByRecursion, count_by, list_all, sum_by}
-use Rattle.std.proofs.lemmas.Bool.{and_from, and_parts, eqb-true, false_from_ne_true, ltb-true, not-true, or_from, or_parts, true≢false}
+use Rattle.std.specs.List.{AllByRecursion, list_all, sum_by}
+use Rattle.std.proofs.lemmas.Bool.{and_from, and_parts, eqb-true, false_from_ne_true, ltb-true, not-true, or_parts, true≢false}
 use Rattle.std.proofs.lemmas.Bool.Decides.{nat_tests}
 use Rattle.std.proofs.lemmas.List.{length-append}
 use Rattle.std.proofs.lemmas.List.Folds.{flat_map-map}
@@ -20,7 +20,7 @@ use Rattle.sarif_findings.proofs.ToldFindings.{IsPath, IsTold}
 use Rattle.sarif_reports.specs.declared.escaping.Escaping.TheVariants.{Page}
 use Rattle.sarif_reports.specs.Escaped.{escaped, escaped_char, page_char}
 use Rattle.sarif_reports.specs.EscapedLaws.{begins_entity, is_element_text, is_markup}
-use Rattle.sarif_reports.specs.JunitReport.{attribute, case_begin, case_end, case_name, cases_after, class_of, colon_rule, counted, document_begin, document_end, document_head, ends_numbered, failure, failure_end, failures_in, file_attribute, hit_end, hits_in, junit_document, line_attribute, named_among, nth_name, passed_document, plain_name, results_of, shown_line, skipped, skipped_end, skipped_in, suite_begin, suite_end, suite_of, suites_in, test_case, test_counts, tools_of}
+use Rattle.sarif_reports.specs.JunitReport.{attribute, case_begin, case_name, cases_after, class_of, colon_rule, counted, document_begin, document_end, document_head, ends_numbered, failure, failure_end, failures_in, file_attribute, hit_end, hits_in, junit_document, line_attribute, named_among, nth_name, passed_document, plain_name, results_of, shown_line, skipped, skipped_end, skipped_in, suite_begin, suite_end, suite_of, suites_in, test_case, test_counts, tools_of}
 use Rattle.sarif_reports.specs.JunitLaws.{cases_of, occurrences}
 use Rattle.sarif_reports.specs.Suites.{Suite, suites_of, with_result}
 use Rattle.sarif_reports.specs.TextReport.{bracketed, result_line}

@@ -1,7 +1,7 @@
 -- The laws of the report in JUnit XML.
-use Rattle.std.proofs.Common.{◌≡◌, ◌<◌, ◌≤◌, ◌^◌, ◌+◌, ◌==◌, ◌||◌, ◌&&◌, ◌++◌, ℕ, Bool, true, false, not, List, [], ◌∷◌, codes, length, chars, if◌then◌else◌, refl, sym, ap, ◌∙◌, append-nil, ⊎_elim, arith}
-use Rattle.std.specs.Prelude.{encode_utf8_all, nat_lt}
-use Rattle.std.specs.List.{AllByRecursion, count_by, list_all}
+use Rattle.std.proofs.Common.{◌≡◌, ◌<◌, ◌≤◌, ◌^◌, ◌+◌, ◌==◌, ◌||◌, ◌++◌, ℕ, Bool, true, false, List, [], ◌∷◌, codes, length, chars, if◌then◌else◌, refl, sym, ap, ◌∙◌, append-nil, ⊎_elim, arith}
+use Rattle.std.specs.Prelude.{nat_lt}
+use Rattle.std.specs.List.{list_all}
 use Rattle.std.specs.Str.{IsUtf8}
 use Rattle.std.proofs.Math.Utf8.{scalar, scalar_cases, scalars}
 use Rattle.std.proofs.lemmas.Bool.{and_from, and_parts, eqb-true, le-ltb, lt-ltb, ltb-true, not-true, or_parts}
@@ -9,10 +9,9 @@ use Rattle.std.proofs.lemmas.Bool.Decides.{nat_tests}
 use Rattle.std.proofs.lemmas.Str.{scalars-chars}
 use Rattle.serde_json.specs.Data.{Data}
 use Rattle.sarif_model.specs.Run.{runs_of}
-use Rattle.sarif_counts.specs.declared.policy.Policy.{Policy}
 use Rattle.sarif_counts.specs.declared.policy.Verdict.{Verdict}
 use Rattle.sarif_counts.specs.declared.policy.Verdict.TheVariants.{Pass, Fail}
-use Rattle.sarif_counts.specs.Policy.{Count, hits_of, verdict_of}
+use Rattle.sarif_counts.specs.Policy.{hits_of, verdict_of}
 use Rattle.sarif_counts.specs.CountOf.{count_of}
 use Rattle.sarif_findings.specs.declared.finding.Finding.{Finding}
 use Rattle.sarif_findings.specs.declared.reporting.Reporting.{Reporting}
@@ -21,9 +20,9 @@ use Rattle.sarif_findings.specs.Shown.{is_blank_letter, is_concealed, is_control
 use Rattle.sarif_findings.specs.ShownLaws.{is_seen}
 use Rattle.sarif_findings.proofs.CharsBack.{chars_back}
 use Rattle.sarif_findings.proofs.HitsReported.{hits_reported}
-use Rattle.sarif_findings.proofs.ToldFindings.{IsTold, all_told}
+use Rattle.sarif_findings.proofs.ToldFindings.{all_told}
 use Rattle.sarif_reports.specs.JunitLaws.{IsXmlText, cases_of, document_of, fails, is_xml_char, occurrences}
-use Rattle.sarif_reports.specs.JunitReport.{failures_in, hits_in, junit_document, skipped_in}
+use Rattle.sarif_reports.specs.JunitReport.{failures_in, hits_in, skipped_in}
 use Rattle.sarif_reports.specs.Listed.{listed}
 use Rattle.sarif_reports.proofs.JunitApart.{IsLines, Piece, case_tag, document_piece, failure_tag, skipped_tag}
 use Rattle.sarif_reports.proofs.ListedHits.{listed_hits}

@@ -1,5 +1,5 @@
 -- The rows of a page: by file, each result once, hits before others.
-use Rattle.std.proofs.Common.{◌≡◌, ◌<◌, ◌≤◌, ◌+◌, ◌-◌, ℕ, Bool, true, false, cond, not, ◌&&◌, ◌||◌, List, [], ◌∷◌, ◌++◌, length, take, flat_map, bytes_eq, if◌then◌else◌, refl, sym, ap, ◌∙◌, append_assoc, zero, suc, arith}
+use Rattle.std.proofs.Common.{◌≡◌, ◌≤◌, ◌+◌, ◌-◌, ℕ, Bool, true, false, cond, not, ◌&&◌, ◌||◌, List, [], ◌∷◌, ◌++◌, length, take, flat_map, bytes_eq, if◌then◌else◌, refl, sym, ap, ◌∙◌, append_assoc, zero, suc, arith}
 use Rattle.std.specs.List.{filter, list_any, list_all, count_by}
 use Rattle.std.proofs.lemmas.Bool.{true≢false, and_parts, or_parts, and_from, not-true}
 use Rattle.std.proofs.lemmas.List.{take_all, length-append, length-take}

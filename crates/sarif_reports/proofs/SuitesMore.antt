@@ -1,5 +1,5 @@
 -- The test suites of the report in JUnit XML, one result after another.
-use Rattle.std.proofs.Common.{◌≡◌, ◌<◌, ◌+◌, ◌++◌, ℕ, Bool, true, false, not, cond, List, [], ◌∷◌, Option, Some, None, length, take, drop, get_or, map, filter, bytes_eq, flat_map, if◌then◌else◌, refl, sym, ap, ap₂, subst, ◌∙◌, append-nil, append_assoc, arith}
+use Rattle.std.proofs.Common.{◌≡◌, ◌<◌, ◌+◌, ◌++◌, ℕ, Bool, true, false, not, cond, List, [], ◌∷◌, Some, None, length, take, drop, get_or, map, filter, bytes_eq, flat_map, if◌then◌else◌, refl, sym, ap, ap₂, subst, ◌∙◌, append-nil, append_assoc}
 use Rattle.std.specs.Borrow.{Bor}
 use Rattle.std.specs.Map.{lookup, set_value}
 use Rattle.std.specs.declared.alloc.Global.{Global}

@@ -25,8 +25,11 @@ use Rattle.sarif_reports.specs.TextReport.{text_lines_of, text_line, bracketed}
 use Rattle.sarif_reports.specs.TextLaws.{has_colon_line, AreLines, IsTextOfLines}
 use Rattle.sarif_findings.proofs.SeenMore.{shown_seen, shown_apart}
 use Rattle.sarif_findings.proofs.ToldFindings.{IsShown, IsPath, IsTold, all_told}
-use Rattle.sarif_reports.specs.Listed.{listed}
-use Rattle.sarif_reports.proofs.ListedMore.{length_listed, listed_told}
+use Rattle.sarif_model.specs.Run.{runs_of}
+use Rattle.sarif_counts.specs.CountOf.{count_of}
+use Rattle.sarif_counts.specs.Policy.{hits_of}
+use Rattle.sarif_reports.specs.Listed.{hits_among, listed, others_among}
+use Rattle.sarif_reports.proofs.ListedMore.{filter_told, hits_counted, length_listed, lines_parted, listed_told}
 
 -- ---- what follows within a line: after any character, or after one that is no `#`
 
@@ -268,7 +271,7 @@ line_text n f text told lines =
     (sym (regroup (spot_text f) (codes ": ") (level_name f.level) (codes ": ") f.message (bracketed f.rule) (codes " (") f.tool (codes ", ") (state_name f.state) (codes ")") (codes "\n") text))
     (place_line (n + 1) f.path f.line f.column (rest_of_line f text) told.path told.line told.column (rest_text n f text told lines))
 
-pub all_lines : (fs : List Finding) → AllByRecursion IsTold fs → IsTextOfLines (length fs) (flat_map text_line fs)
+all_lines : (fs : List Finding) → AllByRecursion IsTold fs → IsTextOfLines (length fs) (flat_map text_line fs)
 all_lines [] h = ([], refl, record { ends = refl; seen = refl; colons = refl; signs = refl })
 all_lines (f ∷ fs) h =
     let count : length fs + 1 ≡ length (f ∷ fs) = omega arith in
@@ -278,3 +281,15 @@ pub text_lines : (reporting : Reporting) (log : Data) → IsTextOfLines (length 
 text_lines reporting log =
     let fs = reported_of reporting log in
     subst (λ n. IsTextOfLines n (text_lines_of fs)) (length_listed fs) (all_lines (listed fs) (listed_told fs (all_told reporting log)))
+
+pub hit_lines : (reporting : Reporting) (log : Data)
+    → IsTextOfLines (hits_of (count_of (runs_of log)) reporting.policy) (flat_map text_line (hits_among (reported_of reporting log)))
+hit_lines reporting log =
+    let fs = reported_of reporting log in
+    subst (λ n. IsTextOfLines n (flat_map text_line (hits_among fs))) (hits_counted reporting log)
+    (all_lines (hits_among fs) (filter_told (λ f. f.hit) fs (all_told reporting log)))
+
+pub hits_first : (reporting : Reporting) (log : Data)
+    → text_lines_of (reported_of reporting log)
+    ≡ flat_map text_line (hits_among (reported_of reporting log)) ++ flat_map text_line (others_among (reported_of reporting log))
+hits_first reporting log = lines_parted text_line (reported_of reporting log)

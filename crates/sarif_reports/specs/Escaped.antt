@@ -38,6 +38,7 @@ page_char c =
 -- a character of a path in a page: the path may be broken after a slash
 abbrev pub place_char : ℕ → List ℕ
 place_char c = if c == 47 then codes "/<wbr>" else page_char c
+
 -- a character of a logging command's message
 abbrev pub issue_message_char : ℕ → List ℕ
 issue_message_char c = if c == 37 then codes "%AZP25" else encode_utf8 c

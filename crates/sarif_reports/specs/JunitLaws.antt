@@ -1,5 +1,5 @@
 -- Properties of the report in JUnit XML, for any strings of a log.
-use Rattle.std.specs.Prelude.{◌≡◌, ℕ, ◌+◌, Bool, true, false, ◌&&◌, ◌||◌, ◌==◌, nat_eq, List, [], ◌∷◌, ◌++◌, length, encode_utf8_all, if◌then◌else◌}
+use Rattle.std.specs.Prelude.{◌≡◌, ℕ, ◌+◌, Bool, true, false, ◌||◌, ◌==◌, nat_eq, List, [], ◌∷◌, ◌++◌, encode_utf8_all, if◌then◌else◌}
 use Rattle.std.specs.List.{list_all, starts_with}
 use Rattle.serde_json.specs.Data.{Data}
 use Rattle.sarif_model.specs.Run.{runs_of}

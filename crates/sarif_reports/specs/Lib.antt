@@ -6,6 +6,7 @@ pub mod Escaped
 pub mod EscapedBytes
 pub mod EscapedLaws
 pub mod Facts
+pub mod FindingLaws
 pub mod GithubLaws
 pub mod GithubReport
 pub mod GitlabObjects

@@ -1,6 +1,6 @@
 -- The order in which reports list the reported results of a merged log: the hits first, since they decide the
 -- verdict, then the others, each part in the order of the log.
-use Rattle.std.specs.Prelude.{Bool, not, List, ◌++◌}
+use Rattle.std.specs.Prelude.{not, List, ◌++◌}
 use Rattle.std.specs.List.{filter}
 use Rattle.sarif_findings.specs.declared.finding.Finding.{Finding}
 

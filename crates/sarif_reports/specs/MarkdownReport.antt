@@ -90,16 +90,23 @@ fitting room (f ∷ fs) =
     if nat_le (length (result_row f)) room
     then f ∷ fitting (room - length (result_row f)) fs else []
 
+-- as many of these results as have rows in the table
+abbrev pub rows_of : List Finding → List Finding
+rows_of findings = fitting most_bytes (take most_rows findings)
+
 -- the results in the table
 abbrev pub in_table : List Finding → List Finding
-in_table findings = fitting most_bytes (take most_rows (listed findings))
+in_table findings = rows_of (listed findings)
 
 -- the results that have no row
 abbrev pub left_out : List Finding → List Finding
 left_out findings = drop (length (in_table findings)) (listed findings)
 
+abbrev pub more_line : ℕ → ℕ → List ℕ
+more_line n hits = line_if n (more_text n hits)
+
 abbrev pub others_line : List Finding → List ℕ
-others_line others = line_if (length others) (more_text (length others) (count_by (λ f. f.hit) others))
+others_line others = more_line (length others) (count_by (λ f. f.hit) others)
 
 abbrev pub table_of : List Finding → List ℕ
 table_of findings =

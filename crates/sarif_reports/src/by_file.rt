@@ -69,12 +69,7 @@ fn add_group<'f>(
 
 impl<'f> Grouped<'f> {
     /// Adds the next finding, unless it is in a file more than `most`.
-    fn add(
-        &mut self,
-        alloc: Global,
-        finding: &'f Finding,
-        most: usize,
-    ) -> Result<(), AllocError>
+    fn add(&mut self, alloc: Global, finding: &'f Finding, most: usize) -> Result<(), AllocError>
         ensures { OnOk result ((before : List Told) → said.IsGrouped most before self.old
             → said.IsGrouped most (before ++ finding.now ∷ []) self.new) }
     {

@@ -61,11 +61,7 @@ fn has_state(findings: &[&Finding], state: State) -> bool
 }
 
 /// Adds the level, if a row has it.
-fn push_level(
-    levels: &mut Vec<Level>,
-    rows: &Rows<'_>,
-    level: Level,
-) -> Result<(), AllocError>
+fn push_level(levels: &mut Vec<Level>, rows: &Rows<'_>, level: Level) -> Result<(), AllocError>
     ensures { OnOk result (levels.new.items ≡ levels.old.items
         ++ said.level_if ((tables_in rows.now).hits ++ (tables_in rows.now).others) level) }
 {
@@ -76,11 +72,7 @@ fn push_level(
 }
 
 /// Adds the state, if a row has it.
-fn push_state(
-    states: &mut Vec<State>,
-    rows: &Rows<'_>,
-    state: State,
-) -> Result<(), AllocError>
+fn push_state(states: &mut Vec<State>, rows: &Rows<'_>, state: State) -> Result<(), AllocError>
     ensures { OnOk result (states.new.items ≡ states.old.items
         ++ said.state_if ((tables_in rows.now).hits ++ (tables_in rows.now).others) state) }
 {

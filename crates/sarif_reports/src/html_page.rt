@@ -82,7 +82,9 @@ fn links_to(alloc: Global, hits: usize, others: usize) -> Result<String, AllocEr
 {
     let hits = hits_text(alloc, hits)?;
     let others = others_text(alloc, others)?;
-    format!(in alloc; "<nav aria-label=\"Results\"><a href=\"#hits\">{hits}</a> <a href=\"#others\">{others}</a></nav>\n")
+    format!(in alloc;
+        "<nav aria-label=\"Results\"><a href=\"#hits\">{hits}</a> <a href=\"#others\">{others}</a></nav>\n"
+    )
 }
 
 /// Adds links to the two tables, if there are both.
@@ -135,12 +137,7 @@ fn push_entries(alloc: Global, text: &mut String, unused: u32) -> Result<(), All
 
 /// Adds what was not looked at.
 #[tactic(auto, unfolding(crate::specs::HtmlReport::minds))]
-fn push_minds(
-    alloc: Global,
-    text: &mut String,
-    without: u32,
-    unused: u32,
-) -> Result<(), AllocError>
+fn push_minds(alloc: Global, text: &mut String, without: u32, unused: u32) -> Result<(), AllocError>
     ensures { OnOk result
         (string_bytes text.new ≡ string_bytes text.old ++ said.minds without unused) }
 {

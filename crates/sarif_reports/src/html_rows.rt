@@ -26,7 +26,9 @@ fn row_class(again: bool) -> &'static str
 fn row_data(alloc: Global, level: &str, state: &str, hit: &str) -> Result<String, AllocError>
     ensures { IfOk result (λ s. string_bytes s ≡ said.row_data level.now state.now hit.now) }
 {
-    format!(in alloc; " data-level=\"{level}\" data-state=\"{state}\" data-hit=\"{hit}\"><th scope=\"row\"><code>")
+    format!(in alloc;
+        " data-level=\"{level}\" data-state=\"{state}\" data-hit=\"{hit}\"><th scope=\"row\"><code>"
+    )
 }
 
 /// Adds what a row is, up to its place.
@@ -72,12 +74,7 @@ fn push_marked(alloc: Global, text: &mut String, position: &str) -> Result<(), A
 }
 
 /// Adds a path and a position in it.
-fn push_spot(
-    alloc: Global,
-    text: &mut String,
-    path: &str,
-    position: &str,
-) -> Result<(), AllocError>
+fn push_spot(alloc: Global, text: &mut String, path: &str, position: &str) -> Result<(), AllocError>
     ensures { OnOk result (string_bytes text.new ≡ string_bytes text.old
         ++ said.spot_in path.now position.now) }
 {

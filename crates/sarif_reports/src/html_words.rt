@@ -8,11 +8,7 @@ use sarif_model::{Level, State};
 use std::alloc::{AllocError, Global};
 
 /// Adds a state, if it counts.
-fn push_listed(
-    listed: &mut Vec<State>,
-    states: States,
-    state: State,
-) -> Result<(), AllocError>
+fn push_listed(listed: &mut Vec<State>, states: States, state: State) -> Result<(), AllocError>
     ensures { OnOk result (listed.new.items ≡ listed.old.items ++ said.listed_if states state) }
 {
     if states.lists(state) {

@@ -12,10 +12,12 @@ pub(crate) fn suppressions_text(alloc: Global, life: Option<&Life>) -> Result<St
         ≡ said.suppressions_text (option_map (λ all. all.now) life.entry)) }
 {
     match life {
-        Some(Life {
-            suppressions: Some(file),
-            ..
-        }) => copy_of(alloc, &file.text),
+        Some(
+            Life {
+                suppressions: Some(file),
+                ..
+            },
+        ) => copy_of(alloc, &file.text),
         _ => Ok(String::new(alloc)),
     }
 }
@@ -26,9 +28,12 @@ pub(crate) fn known_text(alloc: Global, life: Option<&Life>) -> Result<String, A
         (λ s. string_bytes s ≡ said.known_text (option_map (λ all. all.now) life.entry)) }
 {
     match life {
-        Some(Life {
-            known: Some(log), ..
-        }) => copy_of(alloc, &log.text),
+        Some(
+            Life {
+                known: Some(log),
+                ..
+            },
+        ) => copy_of(alloc, &log.text),
         _ => Ok(String::new(alloc)),
     }
 }
@@ -39,9 +44,12 @@ pub(crate) fn unused_text(alloc: Global, life: Option<&Life>) -> Result<String, 
         (λ s. string_bytes s ≡ said.unused_text (option_map (λ all. all.now) life.entry)) }
 {
     match life {
-        Some(Life {
-            unused: Some(text), ..
-        }) => copy_of(alloc, text),
+        Some(
+            Life {
+                unused: Some(text),
+                ..
+            },
+        ) => copy_of(alloc, text),
         _ => Ok(String::new(alloc)),
     }
 }

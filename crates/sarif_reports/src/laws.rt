@@ -1,9 +1,9 @@
 //! Laws of reports. Each law is the contract of a function that does nothing. A log may be hostile, so the laws
 //! cover any strings.
-ghost use Rattle.std.specs.Prelude.{◌≡◌, ◌<◌, ◌≤◌, ◌==◌, ◌^◌, ◌+◌, ℕ, List, Bool, true, false, not, ◌&&◌};
-ghost use Rattle.std.specs.Prelude.{[], Some, None, bytes_eq};
-ghost use Rattle.std.specs.Prelude.{codes, flat_map, length, nat_lt};
-ghost use Rattle.std.specs.List.{AllByRecursion, IsDistinct, count_by, list_all, sum_by};
+ghost use Rattle.std.specs.Prelude.{◌≡◌, ◌<◌, ◌≤◌, ◌+◌, ◌==◌, ◌++◌, ◌^◌, ℕ, List, Bool, true, false};
+ghost use Rattle.std.specs.Prelude.{not, ◌&&◌, [], Some, None, bytes_eq};
+ghost use Rattle.std.specs.Prelude.{codes, drop, flat_map, length, nat_lt, take};
+ghost use Rattle.std.specs.List.{All, AllByRecursion, IsDistinct, count_by, list_all, sum_by};
 ghost use Rattle.std.specs.Str.{IsUtf8};
 ghost use Rattle.json.specs.Json.{document};
 ghost use Rattle.serde_json.specs.Data.{Data, array};
@@ -18,21 +18,24 @@ ghost use Rattle.sarif_reports.specs.AzureReport.{azure_line, azure_of};
 ghost use Rattle.sarif_reports.specs.Escaped.{escaped};
 ghost use Rattle.sarif_reports.specs.EscapedLaws.{has_no_mark, is_element_text};
 ghost use Rattle.sarif_reports.specs.GithubLaws.{are_commands};
-ghost use Rattle.sarif_reports.specs.GithubReport.{github_of};
+ghost use Rattle.sarif_reports.specs.Facts.{Facts};
+ghost use Rattle.sarif_reports.specs.FindingLaws.{IsNamed, has_target};
+ghost use Rattle.sarif_reports.specs.GithubReport.{github_line, github_of};
+ghost use Rattle.sarif_reports.specs.Listed.{hits_among, listed, others_among};
+ghost use Rattle.sarif_findings.specs.Links.{unlinked};
 ghost use Rattle.sarif_reports.specs.GitlabReport.{gitlab_of, hashed_texts, items_after};
 ghost use Rattle.sarif_findings.specs.declared.reporting.Reporting.{Reporting};
 ghost use Rattle.sarif_reports.specs.HtmlLaws.{are_together, has_breaks, row_tags, tags_in};
 ghost use Rattle.sarif_reports.specs.HtmlReport.{rows_below};
 ghost use Rattle.sarif_reports.specs.HtmlRows as page;
 ghost use Rattle.sarif_reports.specs.JunitLaws.{IsXmlText, cases_of, document_of, fails, names_after, occurrences};
-ghost use Rattle.sarif_reports.specs.Listed.{listed};
-ghost use Rattle.sarif_reports.specs.MarkdownLaws.{have_bars};
-ghost use Rattle.sarif_reports.specs.MarkdownReport.{in_table, result_row};
+ghost use Rattle.sarif_reports.specs.MarkdownLaws.{AreSmall, have_bars};
+ghost use Rattle.sarif_reports.specs.MarkdownReport.{in_table, left_out, markdown_of, result_row};
 ghost use Rattle.sarif_findings.specs.Reported.{reported_of};
 ghost use Rattle.sarif_findings.specs.Shown.{shown_chars};
 ghost use Rattle.sarif_findings.specs.ShownLaws.{are_seen, has_two_signs};
 ghost use Rattle.sarif_reports.specs.TextLaws.{IsTextOfLines};
-ghost use Rattle.sarif_reports.specs.TextReport.{text_lines_of};
+ghost use Rattle.sarif_reports.specs.TextReport.{text_line, text_lines_of};
 
 /// No character of a shown string is a control character, a line separator, or a character that hides or controls
 /// others.
@@ -75,22 +78,58 @@ pub fn reported_hits_are_counted()
         ≡ hits_of (count_of (runs_of log)) reporting.policy }
 {}
 
+/// A message in which `](` does not occur has no link to a place of its log: it is read as itself, for any arguments.
+pub fn messages_without_targets_stay()
+    ensures { (args : List Data) (cs : List ℕ) → has_target cs ≡ false → unlinked args cs ≡ cs }
+{}
+
+/// No path of a reported result begins with `./`.
+pub fn paths_begin_with_names()
+    ensures { (reporting : Reporting) (log : Data) → All IsNamed (reported_of reporting log) }
+{}
+
+/// Of the listed results the first are the hits, as many as the gate counts, and those after them are the others. Both
+/// are in the order of the merged log. So each reported result is listed once.
+pub fn listed_results_begin_with_the_hits()
+    ensures hits { (reporting : Reporting) (log : Data) →
+        take (hits_of (count_of (runs_of log)) reporting.policy)
+        (listed (reported_of reporting log)) ≡ hits_among (reported_of reporting log) }
+    ensures others { (reporting : Reporting) (log : Data) →
+        drop (hits_of (count_of (runs_of log)) reporting.policy)
+        (listed (reported_of reporting log)) ≡ others_among (reported_of reporting log) }
+    ensures length { (findings : List Finding) → length (listed findings) ≡ length findings }
+{}
+
 /// The text report of a log has exactly one line per reported result, no control character except their ends, no
-/// line that begins with a colon, and no two adjacent `#`.
+/// line that begins with a colon, and no two adjacent `#`. Its first lines are those of the hits.
 pub fn text_reports_have_a_line_a_result()
-    ensures { (reporting : Reporting) (log : Data) →
+    ensures lines { (reporting : Reporting) (log : Data) →
         IsTextOfLines (length (reported_of reporting log))
         (text_lines_of (reported_of reporting log)) }
+    ensures hits { (reporting : Reporting) (log : Data) →
+        IsTextOfLines (hits_of (count_of (runs_of log)) reporting.policy)
+        (flat_map text_line (hits_among (reported_of reporting log))) }
+    ensures first { (reporting : Reporting) (log : Data) →
+        text_lines_of (reported_of reporting log)
+        ≡ flat_map text_line (hits_among (reported_of reporting log))
+        ++ flat_map text_line (others_among (reported_of reporting log)) }
 {}
 
 /// Each line of the report for GitHub Actions begins with one of its three commands, and there is one line per
-/// reported result: no log adds a command.
+/// reported result: no log adds a command. Its first lines are those of the hits.
 pub fn github_lines_begin_with_commands()
     ensures commands { (reporting : Reporting) (log : Data) →
         are_commands true (github_of (reported_of reporting log)) ≡ true }
     ensures lines { (reporting : Reporting) (log : Data) →
         count_by (λ b. b == 10) (github_of (reported_of reporting log))
         ≡ length (reported_of reporting log) }
+    ensures hits { (reporting : Reporting) (log : Data) →
+        count_by (λ b. b == 10) (flat_map github_line (hits_among (reported_of reporting log)))
+        ≡ hits_of (count_of (runs_of log)) reporting.policy }
+    ensures first { (reporting : Reporting) (log : Data) →
+        github_of (reported_of reporting log)
+        ≡ flat_map github_line (hits_among (reported_of reporting log))
+        ++ flat_map github_line (others_among (reported_of reporting log)) }
 {}
 
 /// In Markdown the table of results has one line per row, and each line has eight bars: no log adds a line or a
@@ -101,6 +140,26 @@ pub fn markdown_rows_have_their_cells()
     ensures lines { (reporting : Reporting) (log : Data) →
         count_by (λ b. b == 10) (flat_map result_row (in_table (reported_of reporting log)))
         ≡ length (in_table (reported_of reporting log)) }
+{}
+
+/// In Markdown each reported result has a row or is counted in the line on those that have none, and so has each hit.
+/// If anything is reported, there is a row. The rows have at most 60,000 bytes.
+pub fn markdown_tables_count_all_results()
+    ensures results { (findings : List Finding) →
+        length (in_table findings) + length (left_out findings) ≡ length findings }
+    ensures hits { (reporting : Reporting) (log : Data) →
+        count_by (λ f. f.hit) (in_table (reported_of reporting log))
+        + count_by (λ f. f.hit) (left_out (reported_of reporting log))
+        ≡ hits_of (count_of (runs_of log)) reporting.policy }
+    ensures row { (reporting : Reporting) (log : Data) → 0 < length (reported_of reporting log)
+        → 0 < length (in_table (reported_of reporting log)) }
+    ensures bytes { (findings : List Finding) →
+        length (flat_map result_row (in_table findings)) ≤ 60000 }
+{}
+
+/// A report in Markdown has at most 61,000 bytes, if its numbers have 32 bits: fewer than a comment may have.
+pub fn markdown_reports_fit_into_comments()
+    ensures { (facts : Facts) → AreSmall facts → length (markdown_of facts) ≤ 61000 }
 {}
 
 /// Read as JSON, the report for GitLab is the array of its objects, for any strings: no log adds an object or a

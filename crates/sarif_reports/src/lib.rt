@@ -20,8 +20,8 @@ mod junit_document;
 mod junit_names;
 mod junit_parts;
 mod junit_suites;
-mod laws;
 mod later_outputs;
+mod laws;
 mod listed;
 mod markdown_table;
 mod objects;
@@ -43,9 +43,11 @@ pub use junit_document::junit_report;
 pub use laws::{
     azure_lines_are_commands, azure_properties_hold_no_end, github_lines_begin_with_commands,
     gitlab_reports_read_back, hashed_texts_differ, junit_cases_are_results,
-    junit_characters_are_allowed, junit_names_differ, markdown_rows_have_their_cells,
-    markdown_texts_hold_no_mark, page_places_have_only_breaks, page_rows_are_by_file,
-    page_rows_have_their_tags, page_texts_hold_no_markup, reported_hits_are_counted,
+    junit_characters_are_allowed, junit_names_differ, listed_results_begin_with_the_hits,
+    markdown_reports_fit_into_comments, markdown_rows_have_their_cells,
+    markdown_tables_count_all_results, markdown_texts_hold_no_mark, messages_without_targets_stay,
+    page_places_have_only_breaks, page_rows_are_by_file, page_rows_have_their_tags,
+    page_texts_hold_no_markup, paths_begin_with_names, reported_hits_are_counted,
     shown_signs_stand_apart, shown_texts_are_seen, text_reports_have_a_line_a_result,
 };
 pub use markdown_table::markdown_report;

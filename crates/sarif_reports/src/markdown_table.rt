@@ -1,5 +1,5 @@
 //! The report for job summaries and comments on a change.
-ghost use Rattle.std.specs.Prelude.{◌≡◌, ◌++◌, IfOk, OnOk, flat_map, length, map, take, string_bytes};
+ghost use Rattle.std.specs.Prelude.{◌≡◌, ◌≤◌, ◌++◌, IfOk, OnOk, drop, flat_map, length, map, take, string_bytes};
 ghost use Rattle.std.specs.List.{count_by};
 ghost use Rattle.sarif_counts.specs.Counts.{count_at};
 ghost use Rattle.sarif_findings.specs.Finding.{spot_text};
@@ -171,11 +171,12 @@ fn row_of(alloc: Global, finding: &Finding) -> Result<String, AllocError>
 }
 
 /// Adds the rows of these results, as many from the first on as fit into `MOST_BYTES`. Returns how many these are.
-fn push_rows(alloc: Global, text: &mut String, listed: &[&Finding]) -> Result<usize, AllocError>
+fn push_fitting(alloc: Global, text: &mut String, listed: &[&Finding]) -> Result<usize, AllocError>
     ensures rows { OnOk result (string_bytes text.new ≡ string_bytes text.old
         ++ flat_map said.result_row (said.fitting said.most_bytes (map (λ f. f.now) listed.now))) }
     ensures count { IfOk result
         (λ n. n ≡ length (said.fitting said.most_bytes (map (λ f. f.now) listed.now))) }
+    ensures few { IfOk result (λ n. n ≤ length listed.now) }
 {
     let mut room = MOST_BYTES;
     let mut count = 0;
@@ -200,6 +201,16 @@ fn first_rows<'a, 'f>(listed: &'a [&'f Finding]) -> &'a [&'f Finding]
     } else {
         listed
     }
+}
+
+/// Adds the rows of the first of these results, as many as the table holds. Returns how many these are.
+fn push_rows(alloc: Global, text: &mut String, listed: &[&Finding]) -> Result<usize, AllocError>
+    ensures rows { OnOk result (string_bytes text.new ≡ string_bytes text.old
+        ++ flat_map said.result_row (said.rows_of (map (λ f. f.now) listed.now))) }
+    ensures count { IfOk result (λ n. n ≡ length (said.rows_of (map (λ f. f.now) listed.now))) }
+    ensures few { IfOk result (λ n. n ≤ length listed.now) }
+{
+    push_fitting(alloc, text, first_rows(listed))
 }
 
 /// How many of these results are hits.
@@ -228,15 +239,30 @@ fn push_paragraph(text: &mut String, lines: &str) -> Result<(), AllocError>
 }
 
 /// The line on results that have no row, if there are any.
+fn more_line(alloc: Global, count: usize, hits: usize) -> Result<String, AllocError>
+    ensures { IfOk result (λ s. string_bytes s ≡ said.more_line count hits) }
+{
+    if count == 0 {
+        return Ok(String::new(alloc));
+    }
+    let sentence = more_text(alloc, count, hits)?;
+    format!(in alloc; "{sentence}\n")
+}
+
+/// The line on these results, which have no row.
 fn others_line(alloc: Global, others: &[&Finding]) -> Result<String, AllocError>
     ensures { IfOk result
         (λ s. string_bytes s ≡ said.others_line (map (λ f. f.now) others.now)) }
 {
-    if others.is_empty() {
-        return Ok(String::new(alloc));
-    }
-    let sentence = more_text(alloc, others.len(), hits_among(others))?;
-    format!(in alloc; "{sentence}\n")
+    more_line(alloc, others.len(), hits_among(others))
+}
+
+/// The results after the first `count`.
+fn after<'a, 'f>(listed: &'a [&'f Finding], count: usize) -> &'a [&'f Finding]
+    requires { count ≤ length listed.now }
+    ensures { result.now ≡ drop count listed.now }
+{
+    &listed[count..]
 }
 
 /// Adds the table of results.
@@ -247,8 +273,8 @@ fn push_table(alloc: Global, text: &mut String, findings: &[Finding]) -> Result<
     let listed = listed(alloc, findings)?;
     let listed = listed.as_slice();
     text.push_str(RESULTS_HEAD)?;
-    let count = push_rows(alloc, text, first_rows(listed))?;
-    let others = others_line(alloc, &listed[count..])?;
+    let count = push_rows(alloc, text, listed)?;
+    let others = others_line(alloc, after(listed, count))?;
     push_paragraph(text, others.as_str())?;
     Ok(())
 }

@@ -144,7 +144,8 @@ fn input_told(
     }
     match wanted.report {
         Report::Known => format!(in alloc;
-            "--{option} would overwrite the baseline {name}, which is not the only baseline"),
+            "--{option} would overwrite the baseline {name}, which is not the only baseline"
+        ),
         _ => format!(in alloc; "--{option} would overwrite the baseline {name}"),
     }
 }

@@ -1,3 +1,4 @@
+pub mod Causes
 pub mod NewEntries
 pub mod Stays
 pub mod Taken

@@ -1,6 +1,7 @@
 -- The entries of the new suppression file.
-use Rattle.std.proofs.Common.{◌≡◌, ◌≤◌, ◌+◌, ◌++◌, ℕ, suc, Bool, true, false, not, List, [], ◌∷◌, Option, Some, None, map, length, length-append, refl, sym, ap, ◌∙◌, arith, if◌then◌else◌}
+use Rattle.std.proofs.Common.{◌≡◌, ◌≤◌, ◌+◌, ◌++◌, ℕ, suc, Bool, true, false, not, List, [], ◌∷◌, Option, Some, None, map, filter, length, length-append, refl, sym, ap, ◌∙◌, arith, if◌then◌else◌}
 use Rattle.std.proofs.lemmas.List.{length-map}
+use Rattle.std.proofs.lemmas.List.Sums.{length-filter}
 use Rattle.std.specs.Borrow.{Bor}
 use Rattle.std.specs.Prelude.{Result, Ok, Err, count_by, option_and_then, option_map, unwrap_or, codes}
 use Rattle.serde_json.specs.Data.{Data, Items, object, no_members}
@@ -23,7 +24,7 @@ use Rattle.sarif_accept.specs.Keeping.{chosen, is_kept}
 use Rattle.sarif_accept.specs.NewFile.{entries_after, entries_in, file_object, listed, new_file, stripped_in}
 use Rattle.sarif_upkeep.specs.Heard.{heard}
 use Rattle.sarif_upkeep.specs.IsMatched.{IsFileOf}
-use Rattle.sarif_upkeep.specs.Making.{entries_of, file_of as made_of, object_in, values_of}
+use Rattle.sarif_upkeep.specs.Making.{entries_of, file_of as made_of}
 use Rattle.sarif_upkeep.specs.Merge.{Merge}
 use Rattle.sarif_upkeep.specs.Renewed.{accepted_in, added_in, entries_count, kept_in, renewal_faults, rules_after, text_faults, values_added}
 
@@ -68,17 +69,16 @@ values_long (Some bytes) file is = read_long bytes file is
 
 -- ---- how many are kept
 
-pub chosen_long : (marks : List Bool) (ds : List Data) → length marks ≡ length ds → length (chosen marks ds) ≡ count_by (λ mark. mark) marks
-chosen_long [] ds same = refl
-chosen_long (mark ∷ marks) [] same = absurd (omega (arith, same))
-chosen_long (true ∷ marks) (d ∷ ds) same = ap suc (chosen_long marks ds (omega (arith, same)))
-chosen_long (false ∷ marks) (d ∷ ds) same = chosen_long marks ds (omega (arith, same))
+chosen_some : (marks : List Bool) (ds : List Data) → length marks ≡ length ds → length (chosen marks ds) ≡ length (filter (λ mark. mark) marks)
+chosen_some [] ds same = refl
+chosen_some (mark ∷ marks) [] same = absurd (omega (arith, same))
+chosen_some (true ∷ marks) (d ∷ ds) same = ap suc (chosen_some marks ds (omega (arith, same)))
+chosen_some (false ∷ marks) (d ∷ ds) same = chosen_some marks ds (omega (arith, same))
+
+chosen_long : (marks : List Bool) (ds : List Data) → length marks ≡ length ds → length (chosen marks ds) ≡ count_by (λ mark. mark) marks
+chosen_long marks ds same = chosen_some marks ds same ∙ length-filter (λ mark. mark) marks
 
 -- ---- the entries that are added
-
-values_are : (added : List (Bor Record)) (renewal : Renewal) → values_of added renewal ≡ map (λ r. entry_for r renewal.reason renewal.until) (map (λ r. r.now) added)
-values_are [] renewal = refl
-values_are (r ∷ rs) renewal = ap (λ l. entry_for r.now renewal.reason renewal.until ∷ l) (values_are rs renewal)
 
 long_if : (accept : Bool) (rs : List Record) → length (if accept then rs else []) ≡ count_if accept (length rs)
 long_if true rs = refl
@@ -95,19 +95,19 @@ module _ (m : Merge) (renewal : Renewal) (bytes : Option (Bor (List ℕ))) (kept
   pub added_are : map (λ r. r.now) added ≡ added_in m renewal
   added_are = added_is ∙ ap (once_each []) accepted_is ∙ once_if renewal.accept (accepted_in m)
 
-  made_values : values_of added renewal ≡ values_added m renewal
-  made_values = values_are added renewal ∙ ap (map (λ r. entry_for r renewal.reason renewal.until)) added_are
+  made_values : map (λ r. entry_for r renewal.reason renewal.until) (map (λ r. r.now) added) ≡ values_added m renewal
+  made_values = ap (map (λ r. entry_for r renewal.reason renewal.until)) added_are
 
   pub file_is : made_of bytes kept added renewal ≡ rules_after m renewal
   file_is =
-      ap (λ b. new_file (file_object b) kept (values_of added renewal)) bytes_are
-      ∙ ap (λ k. new_file (file_object m.bytes) k (values_of added renewal)) kept_is
+      ap (λ b. new_file (file_object b) kept (map (λ r. entry_for r renewal.reason renewal.until) (map (λ r. r.now) added))) bytes_are
+      ∙ ap (λ k. new_file (file_object m.bytes) k (map (λ r. entry_for r renewal.reason renewal.until) (map (λ r. r.now) added))) kept_is
       ∙ ap (new_file (file_object m.bytes) (kept_in m renewal)) made_values
 
   pub entries_are : entries_of bytes kept added renewal ≡ entries_count m renewal
   entries_are =
-      ap (λ b. length (entries_after (file_object b) kept (values_of added renewal))) bytes_are
-      ∙ ap (λ k. length (entries_after (file_object m.bytes) k (values_of added renewal))) kept_is
+      ap (λ b. length (entries_after (file_object b) kept (map (λ r. entry_for r renewal.reason renewal.until) (map (λ r. r.now) added)))) bytes_are
+      ∙ ap (λ k. length (entries_after (file_object m.bytes) k (map (λ r. entry_for r renewal.reason renewal.until) (map (λ r. r.now) added)))) kept_is
       ∙ ap (λ vs. length (entries_after (file_object m.bytes) (kept_in m renewal) vs)) made_values
 
   pub faults_are : text_faults (entries_of bytes kept added renewal) (made_of bytes kept added renewal) ≡ renewal_faults m renewal
@@ -121,10 +121,17 @@ module _ (m : Merge) (renewal : Renewal) (bytes : Option (Bor (List ℕ))) (kept
 
 -- ---- its numbers
 
+split_marks : (marks : List Bool) → length (filter (λ mark. mark) marks) + length (filter not marks) ≡ length marks
+split_marks [] = refl
+split_marks (true ∷ marks) = let rest = split_marks marks in omega (arith, rest)
+split_marks (false ∷ marks) = let rest = split_marks marks in omega (arith, rest)
+
 pub kept_or_not : (marks : List Bool) → count_by (λ mark. mark) marks + count_by (λ mark. not mark) marks ≡ length marks
-kept_or_not [] = refl
-kept_or_not (true ∷ marks) = ap suc (kept_or_not marks)
-kept_or_not (false ∷ marks) = let rest = kept_or_not marks in omega (arith, rest)
+kept_or_not marks =
+    let kept = length-filter (λ mark. mark) marks in
+    let gone = length-filter not marks in
+    let all = split_marks marks in
+    omega (arith, kept, gone, all)
 
 pub kept_long : (m : Merge) (renewal : Renewal) → length (kept_in m renewal) ≡ length m.file.entries
 kept_long m renewal = length-map m.file.entries (is_kept renewal.prune (heard m.runs) m.file m.records)

@@ -11,22 +11,18 @@ use Rattle.sarif_model.specs.declared.refusal.Refusal.{Refusal}
 use Rattle.sarif_model.specs.declared.refusal.Refusal.TheVariants as refusal
 use Rattle.sarif_model.specs.MergeFault.{fault_at, out_of_memory}
 use Rattle.sarif_counts.specs.declared.upkeep.Renewal.{Renewal}
-use Rattle.sarif_accept.specs.Entry.{entry_for}
-use Rattle.sarif_accept.specs.NewFile.{entries_after, file_object, new_file}
+use Rattle.sarif_accept.specs.Renewed.{renewed_entries, renewed_file}
 
 -- the rejection for a refusal of the new file
 abbrev pub rejected : Refusal Cause → MergeFault
 rejected (refusal.Fault cause) = fault_at (Whole Suppress) cause
 rejected refusal.OutOfMemory = out_of_memory
 
-abbrev pub object_in : Option (Bor (List ℕ)) → Data
-object_in bytes = file_object (option_map (λ b. b.now) bytes)
-
-abbrev pub values_of : List (Bor Record) → Renewal → List Data
-values_of added renewal = map (λ r. entry_for r.now renewal.reason renewal.until) added
+abbrev pub bytes_in : Option (Bor (List ℕ)) → Option (List ℕ)
+bytes_in bytes = option_map (λ b. b.now) bytes
 
 abbrev pub entries_of : Option (Bor (List ℕ)) → List Bool → List (Bor Record) → Renewal → ℕ
-entries_of bytes kept added renewal = length (entries_after (object_in bytes) kept (values_of added renewal))
+entries_of bytes kept added renewal = length (renewed_entries (bytes_in bytes) kept (map (λ r. r.now) added) renewal)
 
 abbrev pub file_of : Option (Bor (List ℕ)) → List Bool → List (Bor Record) → Renewal → Data
-file_of bytes kept added renewal = new_file (object_in bytes) kept (values_of added renewal)
+file_of bytes kept added renewal = renewed_file (bytes_in bytes) kept (map (λ r. r.now) added) renewal

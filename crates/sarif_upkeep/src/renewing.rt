@@ -115,6 +115,7 @@ fn added_of<'m>(
 }
 
 /// The text of the new suppression file with these entries.
+#[tactic(auto, using(crate::proofs::Causes::no_faults, crate::proofs::Causes::some_fault))]
 fn text_of(
     alloc: Global,
     bytes: Option<&[u8]>,

@@ -63,7 +63,11 @@ fn partial_fingerprints_stand_in_for_fingerprints(rt: HostRuntime) -> Result<(),
 #[test]
 fn without_fingerprints_the_message_is_asked_for(rt: HostRuntime) -> Result<(), Fail> {
     let finding = result_of(rt.alloc(), "R1")?;
-    expect_entry(&rt, &finding, "{\"message\":\"m\",\"ruleId\":\"R1\",\"tool\":\"lint\"}")?;
+    expect_entry(
+        &rt,
+        &finding,
+        "{\"message\":\"m\",\"ruleId\":\"R1\",\"tool\":\"lint\"}",
+    )?;
     let finding = at_uri(rt.alloc(), finding, "")?;
     expect_entry(
         &rt,

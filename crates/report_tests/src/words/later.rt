@@ -27,7 +27,13 @@ fn each_word_on_a_new_suppression_file_is_read(rt: HostRuntime) -> Result<(), Fa
     let line = "--suppress s --suppress-out n --accept --reason ticket --until 20270101 \
         --today 20260101 --out o a";
     let request = accepted(&rt, line)?;
-    check_renewal(&rt, &request, [true, false], Some("ticket"), Some(20_270_101))?;
+    check_renewal(
+        &rt,
+        &request,
+        [true, false],
+        Some("ticket"),
+        Some(20_270_101),
+    )?;
     let request = accepted(&rt, "--suppress s --suppress-out s --prune --out o a")?;
     check_renewal(&rt, &request, [false, true], None, None)?;
     let line = "--suppress s --suppress-out - --prune --accept --reason= --out o a";
@@ -84,7 +90,8 @@ fn check_known(rt: &impl Abort, request: &Request, wanted: Knowing) -> Result<()
 
 #[test]
 fn outputs_stand_in_the_order_of_writing(rt: HostRuntime) -> Result<(), Fail> {
-    let line = "--unused u --text t --html h --known k --suppress s --suppress-out n --prune --out o a";
+    let line =
+        "--unused u --text t --html h --known k --suppress s --suppress-out n --prune --out o a";
     let request = accepted(&rt, line)?;
     check_order(&rt, &request)
 }

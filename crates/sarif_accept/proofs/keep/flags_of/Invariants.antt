@@ -1,4 +1,4 @@
-use Rattle.std.proofs.Common.{◌≡◌, ◌++◌, length, drop}
+use Rattle.std.proofs.Common.{◌≡◌, ◌++◌, drop}
 use Rattle.sarif_accept.specs.Flags.{flags_by}
 use Rattle.sarif_accept.specs.Heard.{heard_of}
 use Rattle.sarif_accept.proofs.keep.flags_of.Given as goal

@@ -1,4 +1,4 @@
-use Rattle.std.proofs.Common.{rules, ◌≡◌, ◌∷◌, ◌++◌, [], ap, Some, cond, bytes_eq, ◌∙◌, sym, IsSome}
+use Rattle.std.proofs.Common.{rules, ◌≡◌, ◌∷◌, ◌++◌, [], ap, Some, bytes_eq, ◌∙◌, sym, IsSome}
 use Rattle.std.specs.HashMap.{get_by}
 use Rattle.std.proofs.lemmas.Map.Text.{hash_map_updates_str}
 use Rattle.sarif_reports.specs.ByFile.{group_in}

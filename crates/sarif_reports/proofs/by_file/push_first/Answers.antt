@@ -1,4 +1,4 @@
-use Rattle.std.proofs.Common.{◌≡◌, ◌<◌, ◌≤◌, ◌++◌, ◌∷◌, [], length, take, map, ap, sym, ◌∙◌, append_assoc, arith}
+use Rattle.std.proofs.Common.{◌≡◌, ◌≤◌, ◌++◌, ◌∷◌, [], length, take, ap, sym, ◌∙◌, append_assoc, arith}
 use Rattle.std.proofs.lemmas.List.{length-map, map-append, take_all}
 use Rattle.sarif_reports.specs.ByFile.{findings_in}
 use Rattle.sarif_reports.proofs.FilesMore.{cut_full, refs_more}
@@ -18,10 +18,10 @@ loop-finding-preserved c =
     let i = c.loop-finding.finding-index in
     record {
       rows =
-        ap findings_in c.in_ok-push.ensures.items ∙ map-append (λ f. f.now) rows (item ∷ [])
-        ∙ ap (λ l. l ++ item.now ∷ []) c.loop-finding.invariant.rows
-        ∙ append_assoc old (findings_in (take i c.args.group.now)) (item.now ∷ [])
-        ∙ ap (λ l. old ++ l) (sym (refs_more c.args.group.now i item c.loop-finding-test.true c.finding-item.is));
+          ap findings_in c.in_ok-push.ensures.items ∙ map-append (λ f. f.now) rows (item ∷ [])
+          ∙ ap (λ l. l ++ item.now ∷ []) c.loop-finding.invariant.rows
+          ∙ append_assoc old (findings_in (take i c.args.group.now)) (item.now ∷ [])
+          ∙ ap (λ l. old ++ l) (sym (refs_more c.args.group.now i item c.loop-finding-test.true c.finding-item.is));
       room = omega arith;
     }
 

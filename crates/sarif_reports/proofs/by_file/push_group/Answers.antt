@@ -1,6 +1,5 @@
-use Rattle.std.proofs.Common.{rules, ◌≡◌, ◌≤◌, ◌++◌, [], Some, None, length, take, ap, sym, ◌∙◌, append-nil, unwrap_or, bytes_eq, arith}
+use Rattle.std.proofs.Common.{rules, ◌≡◌, ◌++◌, [], Some, take, ap, sym, ◌∙◌, unwrap_or, bytes_eq}
 use Rattle.std.specs.HashMap.{get_by}
-use Rattle.std.proofs.lemmas.List.{length-map, take_all}
 use Rattle.sarif_reports.specs.ByFile.{findings_in, group_in}
 use Rattle.sarif_reports.proofs.by_file.push_group.Goals as goal
 

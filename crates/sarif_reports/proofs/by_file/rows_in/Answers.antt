@@ -1,4 +1,4 @@
-use Rattle.std.proofs.Common.{◌≡◌, ◌≤◌, [], take, map, flat_map, ap, sym, ◌∙◌, arith}
+use Rattle.std.proofs.Common.{[], take, map, flat_map, ap, sym, ◌∙◌, arith}
 use Rattle.std.proofs.lemmas.List.{take_all}
 use Rattle.sarif_reports.specs.ByFile.{findings_in, rows_at}
 use Rattle.sarif_reports.proofs.FilesMore.{rows_more}

@@ -1,4 +1,4 @@
-use Rattle.std.proofs.Common.{length, take, ap, arith}
+use Rattle.std.proofs.Common.{length, ap, arith}
 use Rattle.std.proofs.lemmas.List.{length-map, length-take}
 use Rattle.sarif_findings.specs.declared.finding.Finding.{Finding}
 use Rattle.sarif_reports.proofs.html_tables.rows_of.Goals as goal

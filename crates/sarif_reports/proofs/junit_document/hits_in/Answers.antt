@@ -1,4 +1,4 @@
-use Rattle.std.proofs.Common.{◌≡◌, ◌+◌, ◌≤◌, arith, if◌then◌else◌, refl}
+use Rattle.std.proofs.Common.{arith, refl}
 use Rattle.sarif_reports.proofs.CasesMore.{hits_step, one_at_most}
 use Rattle.sarif_reports.proofs.junit_document.hits_in.Goals as goal
 

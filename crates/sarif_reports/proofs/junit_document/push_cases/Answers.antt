@@ -1,4 +1,4 @@
-use Rattle.std.proofs.Common.{◌≡◌, ◌<◌, ◌≤◌, ◌^◌, length, arith}
+use Rattle.std.proofs.Common.{◌<◌, length, arith}
 use Rattle.sarif_reports.specs.JunitReport.{plain_name}
 use Rattle.sarif_reports.proofs.CasesMore.{cases_step, counts_step, named_few}
 use Rattle.sarif_reports.proofs.junit_document.push_cases.Goals as goal

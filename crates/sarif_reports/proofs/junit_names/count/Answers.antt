@@ -1,4 +1,4 @@
-use Rattle.std.proofs.Common.{rules, ◌≡◌, ◌+◌, List, ℕ, Option, Some, None, IsSome, bytes_eq, string_bytes, unwrap_or, if◌then◌else◌, refl, sym, ap, subst, ◌∙◌}
+use Rattle.std.proofs.Common.{rules, ◌≡◌, ◌+◌, Some, None, IsSome, bytes_eq, string_bytes, unwrap_or, if◌then◌else◌, refl, sym, ap, subst, ◌∙◌}
 use Rattle.std.specs.HashMap.{get_by_text}
 use Rattle.sarif_reports.specs.Suites.{counted}
 use Rattle.sarif_reports.proofs.CasesMore.{count_updated}

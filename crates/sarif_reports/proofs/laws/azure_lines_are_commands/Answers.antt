@@ -1,4 +1,4 @@
-use Rattle.std.proofs.Common.{length, subst}
+use Rattle.std.proofs.Common.{subst}
 use Rattle.sarif_findings.specs.Reported.{reported_of}
 use Rattle.sarif_findings.proofs.ToldFindings.{all_told}
 use Rattle.sarif_reports.specs.AzureLaws.{AreIssues}

@@ -1,8 +1,9 @@
-use Rattle.std.proofs.Common.{◌≡◌, ◌+◌, not, inl, inr, length, map, sym, ap, ◌∙◌, arith}
+use Rattle.std.proofs.Common.{◌≡◌, ◌+◌, ◌-◌, not, inl, inr, length, map, sym, ap, ◌∙◌, arith}
 use Rattle.std.proofs.lemmas.Result.{err_from_is_err_and}
 use Rattle.std.specs.Prelude.{count_by}
 use Rattle.sarif_model.specs.FirstFault.{first}
 use Rattle.sarif_accept.specs.NewFile.{file_text}
+use Rattle.sarif_upkeep.specs.Renewed.{entries_count, kept_in}
 use Rattle.sarif_upkeep.proofs.NewEntries.{accepted_count, added_count, entries_number, faults_are, file_is, kept_long, kept_or_not}
 use Rattle.sarif_upkeep.proofs.renewing.renew.Goals as goal
 
@@ -39,16 +40,18 @@ returns-clause-made c = λ m is.
     let accepted_now = ap length c.deref.ensures.value in
     let added_now = ap length c.deref-3.ensures.value in
     let many = kept_long m renewal in
-    let both = kept_or_not _ in
+    let both = kept_or_not (kept_in m renewal) in
     let entries = entries_number m renewal is.read in
     let all = c.len-all.ensures.count ∙ ap (λ f. length f.entries) is.file in
     let stays = c.staying_if.ensures m is in
     let taken = c.len.ensures ∙ c.in_ok-accepted.accepted.ok.0 ∙ sym accepted_now ∙ accepted in
     let added_all = c.len-2.ensures ∙ c.in_ok-added.added.ok.0 ∙ sym added_now ∙ added in
+    let gone : c.len-all.result - c.count_kept-left.result ≡ count_by (λ kept. not kept) (kept_in m renewal) = omega (arith, all, left, both, many) in
+    let count : c.count_kept-left.result + c.len-2.result ≡ entries_count m renewal = omega (arith, left, added_all, entries) in
     λ i. record {
       text = text i;
       accepted = taken i;
       stay = stays i;
-      pruned = ? i;
-      entries = ? i;
+      pruned = gone i;
+      entries = count i;
     }

@@ -1,6 +1,6 @@
 use Rattle.std.proofs.Common.{◌≡◌, ◌≤◌, ◌+◌, ◌++◌, drop, flat_map, length, map, string_bytes}
 use Rattle.sarif_reports.specs.MarkdownReport.{fitting, most_bytes, result_row}
-use Rattle.sarif_reports.proofs.markdown_table.push_rows.Given as goal
+use Rattle.sarif_reports.proofs.markdown_table.push_fitting.Given as goal
 
 abbrev pub invariant-loop-finding : goal.invariant-loop-finding
 invariant-loop-finding l = record {
