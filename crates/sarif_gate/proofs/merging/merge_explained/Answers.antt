@@ -6,7 +6,7 @@ returns g c =
     let run = c.run_request-status.ensures in
     record {
       accepted = λ low. let all = run.accepted low in
-          (all.0, record { verdict = all.1; from = all.2; log = all.3; reports = all.4; summary = all.5.0 });
+          (all.0, record { verdict = all.1; from = all.2; log = all.3; reports = all.4; summary = all.5 });
       exactly = run.exactly;
       failed = run.failed;
       untouched = run.untouched;
