@@ -9,3 +9,4 @@ pub mod Keeping
 pub mod NewFile
 pub mod Until
 pub mod Unused
+pub mod Weighing

@@ -1,5 +1,5 @@
 //! The new suppression file.
-ghost use Rattle.std.specs.Prelude.{◌≡◌, ◌≤◌, ◌<◌, ◌⊎◌, ◌++◌, Some, map, length, option_map, string_bytes, IfOk, OnOk};
+ghost use Rattle.std.specs.Prelude.{◌≡◌, ◌≤◌, ◌<◌, ◌⊎◌, ◌+◌, ◌++◌, Some, map, length, option_map, string_bytes, IfErr, IfOk, OnOk};
 ghost use Rattle.serde_json.specs.View.{view, members_view};
 ghost use Rattle.json_parts.specs.Indexed.{json_of};
 ghost use Rattle.json_parts.specs.Mark.{without_mark as unmarked};
@@ -9,10 +9,12 @@ ghost use Rattle.sarif_model.specs.declared.fault.Fault.TheVariants.{TooMany};
 ghost use Rattle.sarif_model.specs.declared.merge_fault.Cause.TheVariants.{Of, TooLong};
 ghost use Rattle.sarif_accept.specs.Entry as made;
 ghost use Rattle.sarif_accept.specs.NewFile as said;
+ghost use Rattle.sarif_accept.specs.Weighing.{weights_of};
 
 use crate::entry::entry_for;
 use crate::old_file::{Old, read_old};
 use crate::printing::print_file;
+use crate::weighing::are_too_heavy;
 use sarif_counts::Renewal;
 use sarif_model::{Cause, Fault, MOST_BYTES, MOST_ENTRIES, Record, Refusal};
 use serde_json::{Map, Value, put};
@@ -49,8 +51,25 @@ fn file_with(
     Ok(Value::Object(members))
 }
 
+/// Checks, before entries are made, that there aren't more than `MOST_ENTRIES` with the `count` that are kept, and that their
+/// strings alone aren't too long.
+fn check_room(count: usize, added: &[&Record]) -> Result<(), Cause>
+    ensures few { OnOk result (count + length added.now ≤ most_entries) }
+    ensures err { IfErr result (λ cause. ((cause ≡ Of TooMany) × (most_entries < count + length added.now))
+        ⊎ ((cause ≡ TooLong) × (count + length added.now ≤ most_entries)
+        × (most_bytes < weights_of (map (λ r. r.now) added.now)))) }
+{
+    if count > MOST_ENTRIES || added.len() > MOST_ENTRIES - count {
+        return Err(Cause::Of(Fault::TooMany));
+    }
+    if are_too_heavy(added) {
+        return Err(Cause::TooLong);
+    }
+    Ok(())
+}
+
 /// The new file: the entries of the old one that are marked, those that accept results, and its other members. Returns
-/// `TooMany` if it had more than `MOST_ENTRIES` entries.
+/// `TooMany` if it had more than `MOST_ENTRIES` entries, and `TooLong` if the strings in it are too long.
 fn renewed_file(
     alloc: Global,
     bytes: Option<&[u8]>,
@@ -68,17 +87,21 @@ fn renewed_file(
         (said.file_object (option_map (λ b. b.now) bytes.entry)) kept.now entries) ≤ most_entries) }
     ensures err { let entries =
         map (λ r. made.entry_for r.now renewal.now.reason renewal.now.until) added.now in
-        IfFault result (λ cause. (cause ≡ Of TooMany) × (most_entries < length (said.entries_after
-        (said.file_object (option_map (λ b. b.now) bytes.entry)) kept.now entries))) }
+        IfFault result (λ cause. ((cause ≡ Of TooMany) × (most_entries < length (said.entries_after
+        (said.file_object (option_map (λ b. b.now) bytes.entry)) kept.now entries)))
+        ⊎ ((cause ≡ TooLong) × (length (said.entries_after
+        (said.file_object (option_map (λ b. b.now) bytes.entry)) kept.now entries) ≤ most_entries)
+        × (most_bytes < length (said.file_text (said.new_file
+        (said.file_object (option_map (λ b. b.now) bytes.entry)) kept.now entries))))) }
 {
     let Old {
         mut entries,
         others,
     } = read_old(alloc, bytes, kept)?;
-    add_entries(alloc, &mut entries, added, renewal)?;
-    if entries.len() > MOST_ENTRIES {
-        return Err(Refusal::Fault(Cause::Of(Fault::TooMany)));
+    if let Err(cause) = check_room(entries.len(), added) {
+        return Err(Refusal::Fault(cause));
     }
+    add_entries(alloc, &mut entries, added, renewal)?;
     Ok(file_with(alloc, entries, others)?)
 }
 
