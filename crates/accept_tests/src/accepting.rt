@@ -109,10 +109,10 @@ fn marks_for(
 }
 
 /// The new file where these are the current results, all of them accepted unless the case prunes.
-fn renewed(
+fn renewed<'a>(
     rt: &(impl Abort + AllocGlobal),
     case: Case,
-    findings: &[&Record],
+    findings: &[&'a Record],
 ) -> Result<Result<String, Refusal<Cause>>, Fail> {
     let alloc = rt.alloc();
     let bytes = case.file.as_bytes();
@@ -121,8 +121,11 @@ fn renewed(
     let marks = marks_for(alloc, &rules, findings)?;
     let kept = kept_entries(alloc, &rules, &marks, &heard, case.prune)?;
     let renewal = renewal_with(alloc, case.prune, None, None)?;
-    let accepted = if case.prune { &[] } else { findings };
-    let added = each_once(alloc, Plain::new(), accepted)?;
+    let added = if case.prune {
+        Vec::new(alloc)
+    } else {
+        each_once(alloc, Plain::new(), findings)?
+    };
     let text = new_file(alloc, Some(bytes), &kept, &added, &renewal);
     drop(rules);
     Ok(text)
