@@ -124,7 +124,8 @@ fn known_before<'m>(
 /// How many results these runs have.
 fn count_results(runs: &[KnownRun<'_>]) -> usize
     requires { results_among (all_chosen runs.now) ≤ most_results }
-    ensures { result ≡ results_among (all_chosen runs.now) }
+    ensures count { result ≡ results_among (all_chosen runs.now) }
+    ensures few { result ≤ most_results }
 {
     let mut count = 0;
     for run in runs {
