@@ -22,4 +22,3 @@ pub mod SameConditions
 pub mod Shallow
 pub mod Staying
 pub mod Taken
-pub mod Weight

@@ -1,28 +1,24 @@
 -- A new suppression file has a text that is read again.
-use Rattle.std.proofs.Common.{◌≡◌, ℕ, ◌+◌, ◌<◌, ◌≤◌, Bool, true, false, List, [], ◌∷◌, ◌++◌, length, map, Bor, Option, Some, None, refl, sym, inl, inr, ◌⊎◌, ap, ◌∙◌, arith, length-append, if◌then◌else◌}
-use Rattle.std.specs.Prelude.{unwrap_or}
+use Rattle.std.proofs.Common.{◌≡◌, ℕ, ◌<◌, ◌≤◌, Bool, true, false, List, [], ◌∷◌, ◌++◌, length, map, Bor, Option, Some, None, refl, ap, ap₂, ◌∙◌, arith, if◌then◌else◌}
+use Rattle.std.specs.Prelude.{nat_lt, unwrap_or}
 use Rattle.std.specs.Str.{is_utf8}
 use Rattle.std.proofs.lemmas.List.{length-map}
+use Rattle.std.proofs.lemmas.Bool.Decides.{nat_tests}
 use Rattle.serde_json.specs.Data.{Data, object, no_members, depth}
 use Rattle.serde_json.specs.Read.{max_depth, read}
 use Rattle.serde_json.specs.Written.{has_float}
 use Rattle.serde_json.proofs.Nesting.{depth-read}
 use Rattle.json_parts.specs.Indexed.{json_of}
 use Rattle.json_parts.specs.Mark.{without_mark}
+use Rattle.sarif_counts.specs.declared.upkeep.Renewal.{Renewal}
 use Rattle.sarif_model.specs.Limits.{most_bytes, most_entries}
 use Rattle.sarif_model.specs.declared.fault.Fault.TheVariants.{TooMany}
 use Rattle.sarif_model.specs.declared.merge_fault.Cause.TheVariants.{Of, TooLong}
-use Rattle.sarif_model.specs.declared.fault.Fault.TheVariants.{TooMany}
-use Rattle.sarif_model.specs.declared.merge_fault.Cause.{Cause}
-use Rattle.sarif_model.specs.declared.merge_fault.Cause.TheVariants.{Of, TooLong}
 use Rattle.sarif_model.specs.declared.record.Record.{Record}
-use Rattle.sarif_model.specs.declared.refusal.Refusal.{Refusal}
-use Rattle.sarif_model.specs.declared.refusal.Refusal.TheVariants as refusal
-use Rattle.sarif_accept.specs.Weighing.{weights_of}
-use Rattle.sarif_accept.proofs.Weight.{too_long}
-use Rattle.sarif_accept.specs.NewFile.{entries_in, entries_after, file_object, file_text, new_file}
+use Rattle.sarif_accept.specs.NewFile.{entries_in, file_object, file_text}
 use Rattle.sarif_accept.specs.Entry.{entry_for}
 use Rattle.sarif_accept.specs.Keeping.{chosen}
+use Rattle.sarif_accept.specs.Renewed.{renewed_entries, renewed_file, renewal_cause}
 use Rattle.sarif_accept.proofs.NoFraction.{new_whole}
 use Rattle.sarif_accept.proofs.Shallow.{new_within}
 
@@ -42,33 +38,33 @@ entries_made : (reason : Option (List ℕ)) (until : Option ℕ) (xs : List (Bor
 entries_made reason until [] = refl
 entries_made reason until (x ∷ xs) = ap (λ l. entry_for x.now reason until ∷ l) (entries_made reason until xs)
 
-pub counted : {A B : Type 0} (f : A → Data) (g : B → Data) (items : List A) (xs : List B) (d : Data) (kept : List Bool) → map f items ≡ chosen kept (entries_in d)
-    → length (entries_after d kept (map g xs)) ≡ length items + length xs
-counted f g items xs d kept is =
-    let same : length (map f items) ≡ length (chosen kept (entries_in d)) = ap length is in
-    omega (arith, length-append (chosen kept (entries_in d)) (map g xs), length-map items f, length-map xs g, same)
+pub all_entries : (given : Option (List ℕ)) (kept : List Bool) (xs : List (Bor Record)) (renewal : Renewal) (old new : List Data) → old ≡ chosen kept (entries_in (file_object given))
+    → new ≡ old ++ map (λ r. entry_for r.now renewal.reason renewal.until) xs → new ≡ renewed_entries given kept (map (λ r. r.now) xs) renewal
+all_entries given kept xs renewal old new is more = more ∙ ap₂ (λ a b. a ++ b) is (entries_made renewal.reason renewal.until xs)
 
-pub all_entries : (d : Data) (kept : List Bool) (old new added : List Data) → old ≡ chosen kept (entries_in d) → new ≡ old ++ added → new ≡ entries_after d kept added
-all_entries d kept old new added is more = more ∙ ap (λ l. l ++ added) is
+pub few_entries : {A : Type 0} (f : A → Data) (xs : List A) (all : List Data) → map f xs ≡ all → length xs ≤ most_entries → length all ≤ most_entries
+few_entries f xs all is few = rw (← is) (omega (arith, few, length-map xs f))
 
-module _ (given : Option (List ℕ)) (kept : List Bool) (added : List (Bor Record)) (reason : Option (List ℕ)) (until : Option ℕ) where
-  pub is_shallow : (d : Data) → d ≡ new_file (file_object given) kept (map (λ r. entry_for r.now reason until) added) → depth d ≤ max_depth
-  is_shallow d is = rw (is ∙ ap (λ l. new_file (file_object given) kept l) (entries_made reason until added)) (new_within (file_object given) kept (map (λ r. r.now) added) reason until (object_depth given))
+module _ (given : Option (List ℕ)) (kept : List Bool) (added : List Record) (renewal : Renewal) where
+  pub is_shallow : (d : Data) → d ≡ renewed_file given kept added renewal → depth d ≤ max_depth
+  is_shallow d is = rw is (new_within (file_object given) kept added renewal.reason renewal.until (object_depth given))
 
-  pub is_whole : (d : Data) → d ≡ new_file (file_object given) kept (map (λ r. entry_for r.now reason until) added) → has_float d ≡ false
-  is_whole d is = rw (is ∙ ap (λ l. new_file (file_object given) kept l) (entries_made reason until added)) (new_whole (file_object given) kept (map (λ r. r.now) added) reason until)
+  pub is_whole : (d : Data) → d ≡ renewed_file given kept added renewal → has_float d ≡ false
+  is_whole d is = rw is (new_whole (file_object given) kept added renewal.reason renewal.until)
 
--- the fault of a check before entries are made is that of the file
-pub room_fault : (given : Option (List ℕ)) (kept : List Bool) (xs : List (Bor Record)) (reason : Option (List ℕ)) (until : Option ℕ) (count : ℕ) (cause fault : Cause)
-    → length (entries_after (file_object given) kept (map (λ r. entry_for r.now reason until) xs)) ≡ count + length xs
-    → ◌≡◌ {A = Refusal Cause} (refusal.Fault cause) (refusal.Fault fault)
-    → ((cause ≡ Of TooMany) × (most_entries < count + length xs)) ⊎ ((cause ≡ TooLong) × (count + length xs ≤ most_entries) × (most_bytes < weights_of (map (λ r. r.now) xs)))
-    → ((fault ≡ Of TooMany) × (most_entries < length (entries_after (file_object given) kept (map (λ r. entry_for r.now reason until) xs))))
-    ⊎ ((fault ≡ TooLong) × (length (entries_after (file_object given) kept (map (λ r. entry_for r.now reason until) xs)) ≤ most_entries)
-    × (most_bytes < length (file_text (new_file (file_object given) kept (map (λ r. entry_for r.now reason until) xs)))))
-room_fault given kept xs reason until count cause fault size same (inl many) =
-    let one : cause ≡ fault = cc in
-    inl (sym one ∙ many.0, omega (arith, size, many.1))
-room_fault given kept xs reason until count cause fault size same (inr long) =
-    let one : cause ≡ fault = cc in
-    inr (sym one ∙ long.0, omega (arith, size, long.1), too_long (file_object given) kept xs reason until long.2)
+  pub is_too_many : most_entries < length (renewed_entries given kept added renewal) → renewal_cause given kept added renewal ≡ Some (Of TooMany)
+  is_too_many many =
+      let test : nat_lt most_entries (length (renewed_entries given kept added renewal)) ≡ true = grind (arith, nat_tests) in
+      rw test refl
+
+  pub is_too_long : (length (renewed_entries given kept added renewal) ≤ most_entries) → most_bytes < length (file_text (renewed_file given kept added renewal)) → renewal_cause given kept added renewal ≡ Some TooLong
+  is_too_long few long =
+      let test : nat_lt most_entries (length (renewed_entries given kept added renewal)) ≡ false = grind (arith, nat_tests) in
+      let size : nat_lt most_bytes (length (file_text (renewed_file given kept added renewal))) ≡ true = grind (arith, nat_tests) in
+      rw (test, size) refl
+
+  pub is_accepted : (length (renewed_entries given kept added renewal) ≤ most_entries) → length (file_text (renewed_file given kept added renewal)) ≤ most_bytes → renewal_cause given kept added renewal ≡ None
+  is_accepted few short =
+      let test : nat_lt most_entries (length (renewed_entries given kept added renewal)) ≡ false = grind (arith, nat_tests) in
+      let size : nat_lt most_bytes (length (file_text (renewed_file given kept added renewal))) ≡ false = grind (arith, nat_tests) in
+      rw (test, size) refl

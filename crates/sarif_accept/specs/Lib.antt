@@ -7,6 +7,6 @@ pub mod Heard
 pub mod HeardSets
 pub mod Keeping
 pub mod NewFile
+pub mod Renewed
 pub mod Until
 pub mod Unused
-pub mod Weighing

@@ -19,7 +19,8 @@ ghost use Rattle.sarif_accept.specs.Adding.{How, Counts, is_hit, stays, added_fo
 ghost use Rattle.sarif_accept.specs.Entry.{entry_for};
 ghost use Rattle.sarif_accept.specs.Given.{file_given};
 ghost use Rattle.sarif_accept.specs.Keeping.{Heard, is_kept};
-ghost use Rattle.sarif_accept.specs.NewFile.{entries_after, file_object, file_with, new_file};
+ghost use Rattle.sarif_accept.specs.NewFile.{file_with};
+ghost use Rattle.sarif_accept.specs.Renewed.{renewed_entries, renewed_file};
 ghost use Rattle.sarif_accept.specs.Until.{HasGuid, IsDated, IsUntil};
 
 /// The entry that accepts a result is read in a file of version 4: on every date, and without an expiry date even if no
@@ -100,10 +101,11 @@ pub fn the_new_file_is_read()
         → file_given given today ≡ Ok file
         → AllByRecursion HasGuid (added_for how counts file rs states)
         → IsDated today how.renewal.until
-        → let kept = map (is_kept how.renewal.prune how.heard file rs) file.entries in
-        let made = map (λ r. entry_for r how.renewal.reason how.renewal.until)
-        (added_for how counts file rs states) in
-        length (entries_after (file_object given) kept made) ≤ most_entries
-        → json_of (without_mark text) ≡ Some (new_file (file_object given) kept made)
+        → length (renewed_entries given
+        (map (is_kept how.renewal.prune how.heard file rs) file.entries)
+        (added_for how counts file rs states) how.renewal) ≤ most_entries
+        → json_of (without_mark text) ≡ Some (renewed_file given
+        (map (is_kept how.renewal.prune how.heard file rs) file.entries)
+        (added_for how counts file rs states) how.renewal)
         → file_of text today ≡ Ok (file_after how counts file rs states) }
 {}

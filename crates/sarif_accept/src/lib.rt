@@ -12,7 +12,6 @@ mod once;
 mod printing;
 mod renewing;
 mod unused;
-mod weighing;
 
 pub use entry::entry_for;
 pub use heard::{Heard, ToolRun};
