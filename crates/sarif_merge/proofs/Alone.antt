@@ -22,7 +22,7 @@ merged_alone remaining old new today checks policy asked upkeep merged with_life
 -- and it is rejected for no other reason
 pub refused_alone : {R : Type 0} → (remaining : R → Option (List ℕ)) → (old new : Readers R) → (today : Option ℕ) → (checks : Checks) → (policy : Policy) → (fault : MergeFault)
     → IsRefusedWith remaining old new today checks policy None fault → IsRefused remaining old new today checks fault
-refused_alone remaining old new today checks policy fault refused = elim refused [ inl same ↦ same | inr large ↦ let never : ⊥ = cc large.4 in absurd never ]
+refused_alone remaining old new today checks policy fault refused = elim refused [ inl same ↦ same | inr large ↦ let never : ⊥ = cc large.1.3 in absurd never ]
 
 pub refusal_alone : (inputs : Inputs) (policy : Policy) (fault : MergeFault) → IsRefusal inputs policy None fault → IsWanting fault ⊎ (first_fault inputs ≡ Some fault)
 refusal_alone inputs policy fault (inl same) = same

@@ -24,7 +24,7 @@ use Rattle.sarif_upkeep.specs.IsMatched.{IsFileOf}
 use Rattle.sarif_upkeep.specs.Known.{known_faults, runs_known}
 use Rattle.sarif_upkeep.specs.Life.{if_known, if_renewed, life_faults}
 use Rattle.sarif_upkeep.specs.Merge.{Merge}
-use Rattle.sarif_upkeep.specs.Renewed.{text_faults}
+use Rattle.sarif_upkeep.specs.Renewed.{entries_count, rules_after, text_faults}
 use Rattle.sarif_log.specs.Kept.{IsUnkept}
 use Rattle.sarif_inputs.specs.Faults.{file_or_none}
 
@@ -49,7 +49,7 @@ of_known m knowing =
 
 of_renewed : (m : Merge) (renewal : Option Renewal) → AllByRecursion IsQuietFault (if_renewed m renewal)
 of_renewed m None = tt
-of_renewed m (Some renewal) = of_text _ _
+of_renewed m (Some renewal) = of_text (entries_count m renewal) (rules_after m renewal)
 
 of_known_if : (m : Merge) (knowing : Option Knowing) → AllByRecursion IsQuietFault (if_known m knowing)
 of_known_if m None = tt

@@ -19,7 +19,7 @@ returns-in_err-made-clause-refused g c =
     let contents = contents_of c.in_ok-sources.sources in
     rw is (elim c.in_err-made.ensures.refused [
       | inl same ↦ inl (inr (few, inr (contents, c.in_ok-sources.ensures.read, same)))
-      | inr large ↦ inr (few, contents, c.in_ok-sources.ensures.read, large.0, large.1)
+      | inr large ↦ inr (few, (contents, c.in_ok-sources.ensures.read, large.0, large.1))
     ])
 
 pub returns-clause-merged : goal.returns-clause-merged

@@ -5,7 +5,8 @@ use Rattle.sarif_model.specs.Run.{results_total}
 use Rattle.sarif_model.specs.declared.merge_fault.Source.TheVariants.{Log, Baseline}
 use Rattle.sarif_runs.specs.Judging.{faults_of_runs, run_values}
 use Rattle.sarif_runs.specs.Opened.{placed_of}
-use Rattle.sarif_log.specs.Kept.{bytes_of, upkeep_in}
+use Rattle.sarif_results.specs.Judged.{placed_in}
+use Rattle.sarif_log.specs.Kept.{bytes_of, merge_of, upkeep_in}
 use Rattle.sarif_log.specs.Told.{reporting_in}
 use Rattle.sarif_model.specs.FirstFault.{first, IsWanting}
 use Rattle.sarif_inputs.specs.Inputs.{numbered, placed}
@@ -90,4 +91,5 @@ returns-clause-faults g c = λ ls bs read.
 pub returns-in_err-prepared-clause-quiet : goal.returns-in_err-prepared-clause-quiet
 returns-in_err-prepared-clause-quiet g c =
     let p = err_from_is_err_and c.from_residual-in_err-prepared.result c.from_residual-in_err-prepared.ensures.1 in
-    rw (p.1, p.2) (unkept_quiet _ _ c.in_err-prepared.field-0.0 c.in_err-prepared.ensures.unkept)
+    rw (p.1, p.2) (unkept_quiet (merge_of c.args.rules.now.file.now (bytes_of c.args.rules.now) c.args.asked.now.options.now.policy (placed_in c.in_ok-now.now) (placed_in c.in_ok-before.before))
+    (upkeep_in c.args.asked.now) c.in_err-prepared.field-0.0 c.in_err-prepared.ensures.unkept)
