@@ -5,8 +5,6 @@
 #[cfg(test)]
 mod indexes;
 #[cfg(test)]
-mod known;
-#[cfg(test)]
 mod records;
 #[cfg(test)]
 mod rules;

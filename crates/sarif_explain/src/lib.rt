@@ -9,7 +9,6 @@ mod explaining;
 mod fitting;
 mod lines;
 mod misfit;
-mod output;
 mod past_table;
 mod place;
 mod pointer;
@@ -19,4 +18,3 @@ mod wanted;
 mod whole;
 
 pub use explaining::{FaultSource, explanation};
-pub use output::{is_past_limit, output_explanation};

@@ -40,7 +40,6 @@ fn wanted_at(at: At, fault: Fault) -> Wanted {
         Fault::BadEntry => Wanted::Entry,
         Fault::EmptyMatch => Wanted::Condition,
         Fault::NeedsToday => Wanted::Today,
-        Fault::NotSuccessful => Wanted::Success,
     }
 }
 

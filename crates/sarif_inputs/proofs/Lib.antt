@@ -1,4 +1,3 @@
-pub mod AllowedAlike
 pub mod FileAnswers
 pub mod OpenedParts
 pub mod ReadFacts

@@ -1,4 +1,3 @@
-pub mod Allowing
 pub mod Faults
 pub mod Indexes
 pub mod Inputs

@@ -1,6 +1,5 @@
 pub mod BaselineSpots
 pub mod FoundDrafts
-pub mod KeptSides
 pub mod LeftTexts
 pub mod ListedTold
 pub mod LogText

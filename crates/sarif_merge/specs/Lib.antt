@@ -1,6 +1,5 @@
 pub mod FromReaders
 pub mod Given
-pub mod Life
 pub mod Merged
 pub mod MergedLog
 pub mod OwnResult

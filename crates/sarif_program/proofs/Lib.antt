@@ -4,4 +4,3 @@ pub mod Made
 pub mod Quiet
 pub mod Rising
 pub mod Written
-pub mod SameFacts

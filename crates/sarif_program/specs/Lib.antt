@@ -1,5 +1,4 @@
 pub mod Line
-pub mod Notes
 pub mod Rejected
 pub mod Reports
 pub mod Run

@@ -1,5 +1,4 @@
 pub mod Bare
-pub mod Failed
 pub mod Indexed
 pub mod Listed
 pub mod Picked

@@ -6,7 +6,6 @@ mod command;
 mod listing;
 mod option_rows;
 mod request;
-mod together;
 mod wanted;
 mod words;
 

@@ -1,10 +1,10 @@
-//! An output that was requested beside the merged log.
+//! A report that was requested.
 use sarif_reports::Report;
 
-/// An output that was requested beside the merged log, with its destination: the name of its file, or its writer.
+/// A report that was requested, with its destination: the name of its file, or its writer.
 #[derive(Debug, Drop)]
 pub struct Wanted<T> {
-    /// The output.
+    /// The report.
     pub report: Report,
     /// Its destination.
     pub to: T,
