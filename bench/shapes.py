@@ -26,6 +26,8 @@ class Input:
     suppress: Optional[str] = None
     workers: int = 1
     are_reported: bool = False
+    # Which files for later merges are requested: `accept`, `known` or none.
+    kept: str = ""
 
     def files(self, folder):
         """Writes the files. Returns the arguments that merge them."""
@@ -36,6 +38,10 @@ class Input:
             words += ["--suppress", put(folder / "suppressions", self.suppress)]
         if self.are_reported:
             words += [word for it in REPORTS for word in (f"--{it}", str(folder / it))]
+        if self.kept == "accept":
+            words += ["--suppress-out", str(folder / "new"), "--accept"]
+        if self.kept == "known":
+            words += ["--known", str(folder / "known"), "--adopt"]
         return [*words, *(put(folder / f"log{n}", text) for n, text in enumerate(self.logs))]
 
     def bytes(self):
@@ -373,6 +379,23 @@ def told_nothing(count):
     yield from told_message(count, ("{0}" * 33_000, "{1}" * 33_000), "")
 
 
+def told_brackets(count):
+    """A message of brackets, compared with one of letters."""
+    for text in ("[" * count, "a" * count):
+        yield Input([log(run([message(text)]))], are_reported=True)
+
+
+def told_links(count):
+    """A message of links without text, compared with one of letters."""
+    for text in ("[](1)", "aaaaa"):
+        yield Input([log(run([message(text * count)]))], are_reported=True)
+
+
+def told_open_links(count):
+    """A long message of a rule that begins with `[`, compared with one that does not."""
+    yield from told_message(count, ("[" + LONG, "a" + LONG))
+
+
 # ---- JSON
 
 
@@ -435,6 +458,38 @@ def sources(count):
 
 
 # The function that makes a costly input and its twin, and the size at which they are measured.
+# ---- What is written for later merges
+
+
+def accepted_alike(count):
+    """Hits that one entry accepts. The twin has no hits."""
+    for level in ("error", "note"):
+        results = [message(level=level, ruleId="R1") for _ in range(count)]
+        yield Input([log(run(results))], kept="accept")
+
+
+def accepted_of_long_tool(count):
+    """Hits whose entries are too long together, since each has the long name of their tool."""
+    for name in (LONG, "t"):
+        results = [message(f"m{n}", level="error", ruleId="R1") for n in range(count)]
+        yield Input([log(run(results, {"name": name, "fullName": LONG if name == "t" else ""}))], kept="accept")
+
+
+def known_tools(count):
+    """Runs of as many tools. The twin has one tool."""
+    for name in ("t{}", "t"):
+        runs = [run([message(ruleId="R1")], {"name": name.format(n)}) for n in range(count)]
+        yield Input([log(*runs)], kept="known")
+
+
+def known_long_rule(count):
+    """Known results that are too long together, since each has the long id of their rule."""
+    for identity in (LONG, "R"):
+        rule = {"id": identity, "name": LONG if identity == "R" else ""}
+        results = [message(f"m{n}", ruleIndex=0) for n in range(count)]
+        yield Input([log(run(results, {"rules": [rule]}))], kept="known")
+
+
 SHAPES = {
     # Tool names, rule ids, URIs and their bases of 100,000 bytes, which many results share.
     "tool_name": (tool_name, 20_000),
@@ -478,6 +533,9 @@ SHAPES = {
     "told_path": (told_path, 20_000),
     "told_message": (told_message, 20_000),
     "told_nothing": (told_nothing, 2_000),
+    "told_brackets": (told_brackets, 1_000_000),
+    "told_links": (told_links, 200_000),
+    "told_open_links": (told_open_links, 2_000),
     "fractions": (fractions, 100_000),
     "fractions_in_lists": (fractions_in_lists, 200_000),
     "reversed_members": (reversed_members, 100_000),
@@ -486,4 +544,9 @@ SHAPES = {
     "escapes": (escapes, 500_000),
     "runs_by_64": (runs_by_64, 10_000),
     "sources": (sources, 1_000),
+    # The new suppression file and the known log.
+    "accepted_alike": (accepted_alike, 200_000),
+    "accepted_of_long_tool": (accepted_of_long_tool, 9_000),
+    "known_tools": (known_tools, 10_000),
+    "known_long_rule": (known_long_rule, 20_000),
 }

@@ -7,8 +7,11 @@ import select
 import shutil
 import subprocess
 import tempfile
+import threading
 import time
 from contextlib import contextmanager
+from http.server import BaseHTTPRequestHandler, HTTPServer
+from pathlib import Path
 
 from debian import had
 
@@ -125,7 +128,7 @@ class Page:
         screen = {"width": width, "height": height, "deviceScaleFactor": self.scale}
         self.ask("Emulation.setDeviceMetricsOverride", mobile=is_phone, **screen)
         browser.told.clear()
-        self.ask("Page.navigate", url=file.resolve().as_uri())
+        self.ask("Page.navigate", url=file if isinstance(file, str) else file.resolve().as_uri())
         browser.wait("Page.loadEventFired")
 
     def ask(self, method, **given):
@@ -171,6 +174,35 @@ class Page:
 
     def close(self):
         self.browser.ask("Target.closeTarget", targetId=self.target)
+
+
+class Strict(BaseHTTPRequestHandler):
+    """Serves the files of a folder under a policy that forbids scripts and styles, as build services do."""
+
+    def do_GET(self):
+        file = Path(self.server.folder, Path(self.path).name)
+        self.send_response(200 if file.is_file() else 404)
+        self.send_header("Content-Type", "text/html; charset=utf-8")
+        self.send_header("Content-Security-Policy", "sandbox; default-src 'none'")
+        self.end_headers()
+        self.wfile.write(file.read_bytes() if file.is_file() else b"")
+
+    def log_message(self, *told):
+        pass
+
+
+@contextmanager
+def served(folder):
+    """The address of a server for this folder."""
+    server = HTTPServer(("127.0.0.1", 0), Strict)
+    server.folder = folder
+    serving = threading.Thread(target=server.serve_forever, daemon=True)
+    serving.start()
+    try:
+        yield f"http://127.0.0.1:{server.server_port}"
+    finally:
+        server.shutdown()
+        server.server_close()
 
 
 @contextmanager

@@ -167,7 +167,8 @@ def clashes():
             yield wrong("two for standard output", ["-" if it == "p" else it for it in words])
     yield wrong("standard input twice", ["--out", "o", "-", "-"])
     yield wrong("standard input thrice", ["--out", "o", "-", "a", "-", "-"])
-    yield wrong("a root twice", ["--root", "a", "--root", "b", "--out", "o", "a"])
+    two = ["--root", "a", "--root", "b", "--out", "o", "a"]
+    yield one("two roots", two, look=holds({"a": ONE, "o": ONE_MERGED}))
     yield wrong("explained twice", ["--explain", "--explain", "--out", "o", "a"])
     yield wrong("a report and no output", ["--text", "t", "a"])
     yield wrong("a report and no log", ["--text", "t", "--out", "o"])
@@ -198,11 +199,12 @@ def tells_version(answer):
 
 
 def names_words(answer):
-    words = [*(f"--{kind}" for kind in KINDS), "--root", "--explain", "--version", "-V"]
+    later = ["--suppress-out", "--accept", "--prune", "--reason", "--until", "--known", "--adopt"]
+    words = [*(f"--{kind}" for kind in KINDS), *later, "--unused", "--root", "--explain", "--version"]
     return [f"the help doesn't name {it}" for it in words if it.encode() not in answer.stdout]
 
 
-GROUPS = ["Inputs:", "Gate:", "Outputs:", "Other:"]
+GROUPS = ["Inputs:", "Gate:", "Outputs:", "Upkeep:", "Other:"]
 HIT = "A hit is an active result with a state of --states and a level at or above that of --fail-on."
 
 
@@ -380,6 +382,28 @@ def explained(name, files, fault, words=("--out", "o", "a"), **wanted):
     return one(name, words, group="explain", files=files, status=status, stdout=b"", check=check)
 
 
+def explained_outputs():
+    """Outputs for later merges that can't be written, or would be too large for these merges."""
+    hit = log(run("lint", ruled(level="error")))
+    full = rules(*[{"uri": "b"}] * 10_000)
+    accept = ["--suppress-out", "n", "--accept", "--out", "o", "a"]
+    fewer = "accept fewer hits in one call, pass --prune, or write an entry by hand that matches many of them"
+    told = {"file": "n", "wanted": "at most 10000 entries", "advice": fewer}
+    words = ["--suppress", "s", *accept]
+    yield explained("a new file past the limit", {"a": hit, "s": full}, "suppressions: TooMany", words, **told)
+    over = rules(*[{"uri": "b"}] * 10_001)
+    told = {"file": "s", "where": "/suppressions", "wanted": "at most 10000 entries"}
+    yield explained("a file past the limit", {"a": hit, "s": over}, "suppressions: TooMany", words, **told)
+    for words, fault in (
+        (["--known", "no/f"], "known log: WriteFailed"),
+        (["--suppress-out", "no/f", "--accept"], "new suppressions: WriteFailed"),
+        (["--suppress", "s", "--unused", "no/f"], "unused report: WriteFailed"),
+    ):
+        files = {"a": hit, "s": rules()}
+        words = [*words, "--out", "o", "a"]
+        yield explained(f"{fault}, explained", files, fault, words, file="no/f", system=True, advice=True)
+
+
 def explanations():
     eight = [plain() for _ in range(7)] + [plain(correlationGuid="x")]
     bad = log(run("lint", *eight))
@@ -398,6 +422,7 @@ def explanations():
     told = "\n".join(lines).encode()
     yield one("a bad guid", ["--explain", *words], stderr=told, **given)
     yield one("the same, not explained", words, stderr=line(place), **given)
+    yield from explained_outputs()
     evil = plain(correlationGuid="x\n\x1b[31m##\u202e")
     yield explained(
         "a value that tries to write lines",

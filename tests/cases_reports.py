@@ -1,4 +1,4 @@
-"""Cases of the five reports: each report of a merged log, compared with the reference."""
+"""Cases of the reports: each report of a merged log, compared with the reference."""
 
 import json
 import random
@@ -7,17 +7,19 @@ from functools import cached_property
 
 import hostile_logs as hostile
 import reference
+from azure_reader import azure_faults
 from cases import *
 from page_reader import page_faults
 from reference_reports import Policy, Reports
+from xml_reader import xml_faults
 
-KINDS = ("text", "github", "markdown", "gitlab", "html")
+KINDS = ("text", "github", "markdown", "gitlab", "html", "junit", "azure")
 ROOT_FOLDER = "file:///src/"
 
 
 @dataclass
 class Reporting(Case):
-    """A merge that writes all five reports."""
+    """A merge that writes all reports."""
 
     policy: Policy = field(default_factory=Policy)
     logs: list = field(default_factory=list)
@@ -39,7 +41,7 @@ class Reporting(Case):
 
     def of_policy(self):
         words = ["--fail-on", self.policy.fail_on, "--max", str(self.policy.max)]
-        return words + ["--root", self.policy.root] * bool(self.policy.root)
+        return words + [word for root in self.policy.roots() for word in ("--root", root) if root]
 
     @cached_property
     def merge(self):
@@ -73,7 +75,9 @@ class Reporting(Case):
         return super().faults(answer)
 
 
-ENDINGS = dict(zip(KINDS, ("txt", "github.txt", "md", "gitlab.json", "html")))
+NAMES = ("txt", "github.txt", "md", "gitlab.json", "html", "junit.xml", "azure.txt")
+ENDINGS = dict(zip(KINDS, NAMES))
+READERS = {"junit": xml_faults, "azure": azure_faults}
 
 
 def kept_name(name, kind):
@@ -93,7 +97,8 @@ def report_faults(file, kind, reports):
     if kind == "html":
         return page_faults(found, reports)
     wanted = getattr(reports, kind)()
-    return [difference(wanted, found)] * (found != wanted)
+    faults = [difference(wanted, found)] * (found != wanted)
+    return faults + (READERS[kind](found, reports) if kind in READERS else [])
 
 
 # ---- Examples
@@ -156,7 +161,9 @@ def hostile_logs():
         ("each address of a page", hostile.linked()),
         ("each line and column", hostile.numbered()),
         ("each way to a message", hostile.spoken()),
+        ("each link of a message", hostile.bracketed()),
         ("results that look alike", hostile.alike()),
+        ("names that are equal", hostile.called()),
         ("each level and kind", hostile.levelled()),
     )
     for name, given in parts:
@@ -167,6 +174,9 @@ def hostile_logs():
     for root in ("file:///", "file:///src", "a", "%", "a b", "\u00e9", "a.c", ":a", "x" * 2_000):
         policy = Policy(root=root)
         yield strange(f"each uri without {root[:20]!r}", hostile.placed(), policy=policy)
+    for roots in (("file:///s", "file:///src/"), (ROOT_FOLDER, "file:///"), ("", "a", "a")):
+        policy = Policy(root=roots)
+        yield strange(f"each uri without one of {roots}", hostile.placed(), policy=policy)
     level, alike = hostile.levelled(), hostile.alike()
     other = {"uri": "open.c", "status": "underReview"}
     given = {"baselines": [level], "suppress": rules({"ruleId": "none"}, {"uri": "pass.c"}, other)}
@@ -180,6 +190,15 @@ def many():
         yield Reporting("many", f"{count} results", logs=[hostile.many(count)], policy=policy)
 
 
+def scattered():
+    """Logs whose files take turns, with as many rows as a page has, and more."""
+    for count in (2, 11, 200, 10_000, 10_203):
+        for fail_on, most in (("error", 0), ("error", count), ("note", 1)):
+            name = f"{count} results of a few files in turn, from {fail_on}, {most} allowed"
+            policy = Policy(fail_on, most)
+            yield Reporting("many", name, logs=[hostile.scattered(count)], policy=policy)
+
+
 def drawn(seed, count):
     """This number of random logs."""
     for number in range(count):
@@ -187,7 +206,7 @@ def drawn(seed, count):
         makes = hostile.Drawn(rng)
         logs = [makes.log() for _ in range(rng.choice([1, 1, 2]))]
         before = [logs[0]] * (rng.random() < 0.2) + [makes.log()] * (rng.random() < 0.2)
-        root = rng.choice(["", "", ROOT_FOLDER, "a", "%", "./"])
+        root = rng.choice(["", "", ROOT_FOLDER, "a", "%", "./", ("a", ROOT_FOLDER), ("", "src/")])
         level = rng.choice(["error", "warning", "note", "none"])
         policy = Policy(level, rng.choice([0, 1, 4]), root=root)
         name = f"seed {seed}, number {number}"
@@ -195,6 +214,6 @@ def drawn(seed, count):
 
 
 def cases(seed=1, count=200):
-    for part in (examples, hostile_logs, many):
+    for part in (examples, hostile_logs, many, scattered):
         yield from part()
     yield from drawn(seed, count)

@@ -120,6 +120,10 @@ def usage():
         "--states new;updated",
         "--states all",
         "--states new --states new",
+        "--require-success --require-success",
+        "--require-success=true",
+        "--allow-external-properties --allow-external-properties",
+        "--allow-external",
     ]
     for words in wrong:
         yield usual(
@@ -140,6 +144,7 @@ def says_usage(answer):
 
 
 OPTIONS = ("--baseline", "--suppress", "--today", "--workers", "--fail-on", "--max", "--out")
+OPTIONS += ("--require-success", "--allow-external-properties")
 
 
 def says_help(answer):

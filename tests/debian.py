@@ -7,8 +7,8 @@ from pathlib import Path
 NEEDS = Path(__file__).resolve().parent / "needs"
 
 
-def had(name):
+def had(name, package=None):
     """The path of this program, or None. It is installed if it is missing and root runs the test."""
     if shutil.which(name) is None and NEEDS.is_file():
-        subprocess.run([NEEDS, name], capture_output=True)
+        subprocess.run([NEEDS, f"{package or name}={name}"], capture_output=True)
     return shutil.which(name)

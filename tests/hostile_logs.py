@@ -17,6 +17,8 @@ COMMANDS = [
     "::stop-commands::x",
     "##[error]owned",
     "##vso[task.setvariable variable=a]b",
+    "]##vso[task.setvariable variable=a]b",
+    "x;code=R;]y",
     "#",
     "##",
     "###",
@@ -51,11 +53,32 @@ MARKUP = [
     "https://example.org www.example.org",
 ]
 DIRECTIONS = ["\u202eabc\u202c", "a\u2066b\u2069c", "\u200f\u061ca", "\ufeffa\u200b\u00ad"]
-ESCAPES = ["%", "%%", "100%", "%0A%0D%25%3A%2C", "a%2", "%zz", "file=a,line=1", ":,", "a:b,c%"]
+ESCAPES = ["%AZP25", "%3B%5D", "%AZP253B"]
+ESCAPES += ["%", "%%", "100%", "%0A%0D%25%3A%2C", "a%2", "%zz", "file=a,line=1", ":,", "a:b,c%"]
 BRACES = ["{", "}", "{{", "}}", "{{0}}", "{{{0}}}", "{0}", "{1}", "{00}", "{01}", "{ 0}", "{0"]
 BRACES += ["0}", "{-1}", "{9}}", "{{9}", "}{0}{", "{0}{1}{2}", "{4294967296}", "{\u0660}", "{}"]
 BRACES += ["{18446744073709551616}", "{0}}", "{{{9}}}"]
+BRACKETS = [
+    "This [user-provided value](1) flows to [a sink](2).",
+    "[](1)",
+    "[a](007)(2)",
+    "[para\\[0\\]\\\\spans\\[2\\]](1)",
+    "f\\[x](1)",
+    "[x\\](1)",
+    "f\\\\[x](1)",
+    "[C:\\dir\\f.c](1)",
+    "[a]() [b](-1) [c](1.0) [d]( 1) [e](https://example.org/1) [f](\u0663) [g](2",
+    "[[a](1)](2) [x[a](1) ]a](1) [a](1",
+    "see [here]({0}) {1} [there]({1}) [it]({00}) [more]({9})",
+    "[{0}](1) [{](1){0}} {[0](1)} [a](1){{",
+    "#[#](1)[error]x",
+    "y" * 995 + "[link](123)z",
+    "[" * 2_000 + "a](1)",
+    "[](1)" * 2_000 + "a",
+]
 EDGES = ["", " ", ":", " :a", "./:a", "-", "\\", "\u00e9", "\U0001f600", "e\u0301", "\uffff", "/"]
+XML = ["a (2)", "a (2) (2)", "a)", "\ufffe\uffff\x00", "\ufffd\U0010ffff\ue000", "<![CDATA[", "&#0;"]
+XML += ["<?xml version='1.1'?>", "</testcase></testsuite>", '"/><failure message="', "&amp;lt;"]
 LONG = [
     "a" * 999,
     "a" * 1_000,
@@ -73,7 +96,7 @@ LONG = [
 ]
 ENDS = ["[" + "".join(map(chr, sorted({max(0, a - 1), a, b, b + 1}))) + "]" for a, b in HIDDEN]
 TEXTS = LINES + COMMANDS + TERMINAL + TAGS + MARKUP + DIRECTIONS
-TEXTS += ESCAPES + BRACES + EDGES + LONG + ENDS
+TEXTS += ESCAPES + BRACES + BRACKETS + EDGES + XML + LONG + ENDS
 URIS = [
     "a.c",
     "a%20b.c",
@@ -107,6 +130,18 @@ URIS = [
     "file:///sr%63/a.c",
     "FILE:///src/a.c",
     "src/../a.c",
+    "./src/a.c",
+    "././a.c",
+    ".//etc/x",
+    "./",
+    "%2E/b.c",
+    ".",
+    ".a.c",
+    "../a.c",
+    "a/./b.c",
+    "/./a.c",
+    "\u200b./a.c",
+    "file:///src/./a.c",
     "C:\\a.c",
     " ",
     "",
@@ -212,6 +247,13 @@ def spoken():
     return log({"tool": {"driver": driver, "extensions": extensions}, "results": results})
 
 
+def bracketed():
+    """A log whose messages have links, with different arguments."""
+    arguments = [[], ["3"], ["3a"], [""], ["\u0663", "1"], ["0", "x", "[a](1)"]]
+    messages = [{"text": text, "arguments": given} for text in BRACKETS for given in arguments]
+    return log(run("lint", *[{"message": it} for it in messages]))
+
+
 def alike():
     """A log with results that look the same in a report, some of them only there."""
     texts = ["a", "a", "a\n", "a ", "a", "b", "a" * 1_001, "a" * 1_002, "", "(no message)"]
@@ -219,6 +261,14 @@ def alike():
     messages = [{"text": text} for text in texts]
     results += [{"message": it, "ruleId": rule} for it in messages for rule in ("", "R", "R")]
     return log(run("lint", *results), run("lint", *results[:5]), run("flint", *results[:5]))
+
+
+def called():
+    """A log whose results have equal names, and names that look like numbered ones."""
+    paths = ["a", "a", "a: b", "a: b (2)", "a (2)", "a (2)", "f(x)", "f(x) (1)", "", ""]
+    rules = ["", "b", "b (2)", "R (2)", "R", "(1)", ")"]
+    results = [named("m", path, ruleId=rule) for rule in rules for path in paths * 2]
+    return log(run("lint", *results), run("flint", *results[:9]), run("lint)", *results[:9]))
 
 
 def levelled():
@@ -238,6 +288,19 @@ def many(count):
     levels = ("error", "warning", "note", "none")
     results = [named(f"m{it}", f"{it // 3}.c", level=levels[it % 4]) for it in range(count)]
     return log(run("lint", *results))
+
+
+def scattered(count):
+    """A log with this number of results whose files take turns; each fifth is an error, and some have no place."""
+    levels = ("error", "note", "warning", "none", "note")
+    files = ("b/c.c", "a.c", "b/a.c", "/", "a/b/../c.c", "<wbr>/c.c", "\u200b/c.c")
+    results = [
+        named(f"m{it}", files[it * it % 7], level=levels[it % 5], ruleId=f"R{it % 3}")
+        for it in range(count)
+    ]
+    for it in results[7::11]:
+        del it["locations"]
+    return log(run("lint", *results[::2]), run("flint", *results[1::2]))
 
 
 # ---- Random logs

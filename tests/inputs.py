@@ -115,10 +115,18 @@ class Inputs:
             ("tool", 1 - self.wrong / 8, self.tool),
             *tables * self.has_rules,
             ("baselineGuid", 0.2, self.one(GUIDS)),
-            ("externalPropertyFileReferences", 0.05 * self.has_rules, dict),
+            ("externalPropertyFileReferences", 0.05 * self.has_rules, self.named_files),
             ("columnKind", 0.2, lambda: self.anything(2)),
             ("results", 0.93, results),
         )
+
+    def named_files(self):
+        """External property files: none, or ones that hold nothing that is read, or ones that do."""
+        if self.chance(0.5):
+            return {}
+        parts = ["taxonomies", "conversion", "artifacts", "driver", "extensions", "invocations", "results"]
+        given = [(part, 0.5 if part in parts[:2] else 0.1, self.one([[], [{}], {}])) for part in parts]
+        return self.members(*given)
 
     def tool(self):
         tool = self.members(

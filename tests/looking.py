@@ -1,7 +1,11 @@
 """What a browser shows for the page of a merge: width, colours, boxes, and what is read aloud."""
 
+import base64
 import json
+import re
 import struct
+import subprocess
+import tempfile
 
 STATES = ("new", "updated")
 LEVELS = ("error", "warning", "note", "none")
@@ -19,11 +23,43 @@ BOXES = """[...document.querySelectorAll('label')].map(it => {
 TICKED = """[...document.querySelectorAll('label')].map(it => [
   it.textContent.trim(), it.querySelector('input').checked])"""
 
-# The rightmost position of anything that the page shows.
-REACH = """Math.max(...[...document.querySelectorAll('main *')].map(
+# The rightmost position of anything that the page shows, without the headings for screen readers alone. The
+# counts are left out if they are in a box that scrolls.
+REACH = """Math.max(...[...document.querySelectorAll('body *')].filter(
+  it => !it.closest('.results thead') && !(it.closest('.counts') &&
+    getComputedStyle(it.closest('.counts').parentElement).overflowX === 'auto')).map(
   it => it.getBoundingClientRect().right))"""
 
-INPUTS = """[...document.querySelectorAll('input')].filter(
+# Each part that is displayed, in the order of the file: its name, and the positions of its top and its left side.
+PARTS = """[...document.querySelectorAll(
+  'h1, header p, nav, .counts, .filters, h2, tbody tr[data-level], main > p')].filter(
+  it => it.getClientRects().length > 0).map(it => {
+    const box = it.getBoundingClientRect();
+    return [it.className || it.localName, Math.round(box.top), Math.round(box.left)];
+  })"""
+
+# How far down the place of the first hit ends.
+FIRST_PLACE = """Math.max(...[...document.querySelector(
+  'tr[data-hit="yes"] th').getClientRects()].map(it => it.bottom)) + window.scrollY"""
+
+# What has the focus, and how it is shown.
+FOCUS = """(() => {
+  const it = document.activeElement, style = getComputedStyle(it);
+  if (it === document.body) return null;
+  let under = it.parentElement;
+  const ground = it => getComputedStyle(it).backgroundColor;
+  while (under && ground(under) === 'rgba(0, 0, 0, 0)') under = under.parentElement;
+  return [it.localName + (it.id ? '#' + it.id : '') + (it.href || ''), style.outlineStyle,
+    parseFloat(style.outlineWidth), style.outlineColor + ' on ' + ground(under)];
+})()"""
+
+BREAKS = """[...document.querySelectorAll('tr')].filter(
+  it => getComputedStyle(it).breakInside !== 'avoid').length"""
+
+# Whether the style of the page is in use, and what the boxes and the links take of the page.
+STYLED = "getComputedStyle(document.querySelector('h1')).borderLeftStyle !== 'none'"
+
+INPUTS = """[...document.querySelectorAll('input, nav')].filter(
   it => it.getClientRects().length > 0).length"""
 
 # Two cells of one row whose contents overlap.
@@ -64,6 +100,8 @@ COLOURS = """(() => {
 
 GROUND = "getComputedStyle(document.body).backgroundColor"
 LEAST_CONTRAST = 4.5
+LEAST_FOCUS = 3
+LOWEST_PLACE = 700
 
 
 # ---- Colours
@@ -108,6 +146,36 @@ def fits(page, file):
     return wrong + [f"something reaches to {reach}"] * (reach > page.width + 0.5)
 
 
+def in_order(page, file):
+    """Checks that the parts are seen in the order of the file: downwards, or to the right."""
+    parts = page.tells(PARTS)
+    return [
+        f"{after} is seen before {before}"
+        for before, after in zip(parts, parts[1:])
+        if after[1] < before[1] and after[2] <= before[2]
+    ][:3]
+
+
+def first_hit_is_near(page, file):
+    lowest = page.tells(FIRST_PLACE)
+    return [f"the first hit's place ends at {lowest}"] * (lowest > LOWEST_PLACE)
+
+
+def focus_is_seen(page, file):
+    """Goes through the page with the keyboard, and checks that what has the focus is outlined."""
+    seen, wrong = [], []
+    for _ in range(30):
+        page.press("Tab", "Tab")
+        focus = page.tells(FOCUS)
+        if focus is None or focus[0] in seen:
+            break
+        seen.append(focus[0])
+        is_shown = focus[1] == "solid" and focus[2] >= 2 and contrast(focus[3]) >= LEAST_FOCUS
+        wrong += [f"the focus on {focus} isn't seen"] * (not is_shown)
+    boxes = page.tells("document.querySelectorAll('a, input').length")
+    return wrong + ["nothing has the focus"] * (boxes > 0 and not seen)
+
+
 def has_scheme(scheme):
     def look(page, file):
         found = light(page.tells(GROUND))
@@ -140,21 +208,23 @@ def pictured(page, folder, name):
     return [f"the picture is {wide} wide"] * (wide != page.width)
 
 
-def is_spoken(rows):
-    """Checks that a screen reader gets two tables with names, headings and cells, and the boxes."""
+def is_spoken(tables, rows, boxes):
+    """Checks that a screen reader gets the tables with names, headings and cells, and the boxes."""
 
     def look(page, file):
         named = page.named()
         of = lambda role: [name for it, name in named if it == role]
-        wrong = [f"the tables are {of('table')}"] * (len(of("table")) != 2 or "" in of("table"))
-        heads = ["hit", "level", "place", "rule", "message", "tool", "state"]
-        wrong += [f"the headings are {of('columnheader')}"] * (of("columnheader")[-7:] != heads)
+        found = of("table")
+        wrong = [f"the tables are {found}"] * (len(found) != tables + 1 or "" in found)
+        heads = ["Place", "Level", "Message", "Rule", "State", "Tool"]
+        wanted = ["state", "error", "warning", "note", "none", "suppressed"] + heads * tables
+        wrong += [f"the headings are {of('columnheader')}"] * (of("columnheader") != wanted)
+        wrong += [f"{len(of('rowheader'))} rows are named"] * (len(of("rowheader")) != 4 + rows)
         cells = len(of("cell")) + len(of("gridcell"))
-        wrong += [f"there are {cells} cells"] * (cells != 20 + 7 * rows)
-        boxes = {"error", "warning", "note", "none", "new", "updated"}
-        missing = boxes - set(of("checkbox")) - set(of("radio"))
-        wrong += [f"no box is named {it}" for it in sorted(missing)]
-        return wrong + ["there is no heading"] * (not of("heading"))
+        wrong += [f"there are {cells} cells"] * (cells != 20 + 5 * rows)
+        wrong += [f"the boxes are {of('checkbox')}"] * (of("checkbox") != boxes)
+        headings = len(of("heading"))
+        return wrong + [f"there are {headings} headings"] * (headings != 1 + tables)
 
     return called("is_spoken", look)
 
@@ -175,9 +245,8 @@ def tick(page, name):
 
 def displayed(row, boxes):
     """Returns whether a row must be visible with these boxes ticked."""
-    level, state, hit, _ = row
-    is_hit = hit == "yes" or not boxes.get("hits only", False)
-    return is_hit and boxes.get(level, True) and boxes.get(state, True)
+    level, state, _, _ = row
+    return boxes.get(level, True) and boxes.get(state, True)
 
 
 def filters(page, file):
@@ -189,7 +258,7 @@ def filters(page, file):
         wrong += judged(page, f"after {name}")
         tick(page, name)
     wrong += judged(page, "after all again")
-    for name in ("error", "hits only", "updated"):
+    for name in ("updated", "error"):
         if name in names:
             tick(page, name)
             wrong += judged(page, f"with {name} too")
@@ -210,15 +279,52 @@ def judged(page, when):
 
 
 def is_printed(rows):
-    """Checks that on paper all rows are on white, without boxes, even if the screen is dark."""
+    """Checks that on paper all rows are on white, without boxes and links, even if the screen is dark."""
 
     def look(page, file):
         wrong = ["the ground isn't white"] * (light(page.tells(GROUND)) < 0.99)
         seen = sum(row[3] for row in page.tells(SEEN))
         wrong += [f"{seen} rows are printed"] * (seen != rows)
         boxes = page.tells(INPUTS)
-        wrong += [f"{boxes} boxes are printed"] * bool(boxes)
-        pages = page.ask("Page.printToPDF", paperWidth=8.27, paperHeight=11.69)["data"]
-        return wrong + is_readable(page, file) + ["nothing is printed"] * (len(pages) < 1_000)
+        wrong += [f"{boxes} boxes or lists of links are printed"] * bool(boxes)
+        cut = page.tells(BREAKS)
+        return wrong + is_readable(page, file) + [f"{cut} rows may be cut in two"] * bool(cut)
 
     return called("is_printed", look)
+
+
+def rows_are_whole(pdfgrep):
+    """Checks that on paper each row whose message begins with `beginN` and ends with `endN` is on one page."""
+
+    def look(page, file):
+        told = page.ask("Page.printToPDF", paperWidth=8.27, paperHeight=11.69)["data"]
+        with tempfile.NamedTemporaryFile(suffix=".pdf") as paper:
+            paper.write(base64.b64decode(told))
+            paper.flush()
+            words = [pdfgrep, "-n", "-o", "(begin|end)[0-9]+x", "-P", paper.name]
+            found = subprocess.run(words, capture_output=True, text=True, timeout=120).stdout
+        ends = re.findall(r"^(\d+):(begin|end)(\d+)x$", found, re.MULTILINE)
+        pages = {(end, number): on for on, end, number in ends}
+        numbers = {number for _, number in pages}
+        wrong = [f"{len(numbers)} rows on {len(set(pages.values()))} pages"] * (len(numbers) < 100)
+        cut = [it for it in numbers if pages.get(("begin", it)) != pages.get(("end", it))]
+        return wrong + [f"row {it} is cut in two" for it in sorted(cut)[:3]]
+
+    return called("rows_are_whole", look)
+
+
+# ---- Without styles
+
+
+def is_plain(rows):
+    """Checks that a policy without styles and scripts leaves a page with all rows and no box."""
+
+    def look(page, file):
+        wrong = ["the style is in use"] * bool(page.tells(STYLED))
+        seen = sum(row[3] for row in page.tells(SEEN))
+        wrong += [f"{seen} rows are displayed"] * (seen != rows)
+        boxes = page.tells("document.querySelectorAll('.filters').length")
+        shown = page.tells("[...document.querySelectorAll('input')].filter(it => it.getClientRects().length).length")
+        return wrong + [f"{shown} boxes do nothing"] * bool(boxes and shown)
+
+    return called("is_plain", look)

@@ -2,11 +2,14 @@
 
 from html.parser import HTMLParser
 
+from reference_page import FALLING, PageOf
+
 POLICY = "default-src 'none'; style-src 'unsafe-inline'; base-uri 'none'; form-action 'none'"
+COLUMNS = ["Place", "Level", "Message", "Rule", "State", "Tool"]
 VOID = {"meta", "input", "br", "hr", "col", "wbr"}
 ELEMENTS = VOID | set("html head title style body header main footer section div span p".split())
 ELEMENTS |= set("h1 h2 h3 table caption colgroup thead tbody tfoot tr th td code a".split())
-ELEMENTS |= set("fieldset legend label details summary strong em ul ol li small".split())
+ELEMENTS |= set("fieldset legend label nav b".split())
 LOADING = ("src", "srcset", "data", "action", "formaction", "poster", "ping", "background", "cite")
 ENTITIES = {"amp": "&", "lt": "<", "gt": ">", "quot": '"', "apos": "'"}
 REFERENCES = {"#39": "'", "#x27": "'", "#34": '"', "#x22": '"', "#38": "&", "#60": "<", "#62": ">"}
@@ -108,7 +111,7 @@ class PageReader(HTMLParser):
         wrong = list(self.wrong)
         wrong += ["it doesn't begin with its type"] * (self.told != ["DOCTYPE html"])
         wrong += self.of_head() + self.of_elements() + self.of_tables()
-        return wrong
+        return wrong or self.outline()
 
     def of_head(self):
         root = self.top.first("html")
@@ -142,6 +145,9 @@ class PageReader(HTMLParser):
             loads = [it for it in ("url(", "@import", "image(", "src(") if it in style.text]
             wrong += [f"the style has {it}" for it in loads]
         for link in self.top.all("a"):
+            if link.given.get("href") in ("#hits", "#others"):
+                wrong += ["a link to nothing"] * (link.given["href"][1:] not in seen)
+                continue
             wrong += ["a link without rel"] * (link.given.get("rel") != "noopener noreferrer")
             inner = link.raw.split('href="', 1)[-1].split('"', 1)[0]
             wrong += [f"the address {inner[:60]!r}"] * any(it in inner for it in "<>'")
@@ -159,44 +165,86 @@ class PageReader(HTMLParser):
 
     # ---- Its contents
 
-    def rows(self):
-        """The rows of results, as the reference has them, and what is wrong with them."""
+    def of(self, name):
+        """The texts of the elements with this name."""
+        return [it.text for it in self.top.all(name)]
+
+    def outline(self):
+        """What is wrong with the order and the nesting of the parts."""
+        body = self.top.first("body")
+        wrong = ["body has more than header and main"] * (
+            [it.name for it in body.within] != ["header", "main"]
+        )
+        header, main = body.first("header"), body.first("main")
+        parts = [it.name for it in walked(header) if it.name in ("h1", "p", "nav", "table")]
+        in_order = [it for it in parts if it != "p"] in (["h1", "table"], ["h1", "nav", "table"])
+        wrong += [f"the header has {parts}"] * (not in_order)
+        wrong += ["there are several h1"] * (len(list(self.top.all("h1"))) != 1)
+        for section in main.all("section"):
+            heading = section.first("h2")
+            named = heading is not None and section.given.get("aria-labelledby")
+            wrong += ["a section without its heading"] * (
+                not named or heading.given.get("id") != named
+            )
+        return wrong
+
+    def tables(self):
+        """The name, the heading and the rows of each table of results, and what is wrong with the rows."""
         found, wrong = [], []
-        for row in self.top.all("tr"):
-            if "data-level" not in row.given:
-                continue
-            cells = [it.text for it in row.all("td", "th")]
-            link = row.first("a")
-            data = {name: row.given.get(f"data-{name}") for name in ("hit", "level", "state")}
-            cells[:1] = [cells[0] or "no"]
-            told = [cells[0], *cells[1:2], *cells[6:7]]
-            wrong += [f"the data {data} beside {cells}"] * (list(data.values()) != told)
-            found.append((cells, link.given["href"] if link else None))
-            is_rule = link is None or link.text == cells[3]
-            wrong += ["a link that isn't the rule"] * (not is_rule)
+        for section in self.top.all("section"):
+            rows = []
+            for row in section.first("tbody").within:
+                cells = [it.text for it in row.within]
+                names = [it.name for it in row.within]
+                wrong += [f"a row of {names}"] * (names != ["th"] + ["td"] * 5)
+                link = row.first("a")
+                given = [row.given.get(f"data-{name}") for name in ("level", "state")]
+                wrong += [f"the data {given} beside {cells}"] * (given != [cells[1], cells[4]])
+                is_rule = link is None or link.text == cells[3]
+                wrong += ["a link that isn't the rule"] * (not is_rule)
+                rows.append((cells, row.given.get("data-hit"), link and link.given["href"]))
+            heading = section.first("h2")
+            found.append((heading.given["id"], heading.text, rows))
+            names = [it.text for it in section.first("thead").all("th")]
+            wrong += [f"the columns are {names}"] * (names != COLUMNS)
         return found, wrong
 
     def counts(self):
-        """The numbers of the first table, by state."""
+        """The numbers of the first table by state, and the states and levels whose numbers are marked."""
         table = self.top.first("table")
         rows = [it for it in table.all("tr") if it.first("td")]
-        return {row.first("th").text: [int(it.text) for it in row.all("td")] for row in rows}
-
-    def headings(self):
-        """The heading, and the text before the first table."""
-        heading = self.top.first("h1")
-        body = self.top.first("body").text
-        caption = self.top.first("caption").text
-        return heading.text if heading else "", body.partition(caption)[0]
-
-    def after(self):
-        """The text after the last row."""
-        rows = [it for it in self.top.all("tr")]
-        return self.top.first("body").text.rpartition(rows[-1].text)[2]
+        numbers, marked = {}, set()
+        for row in rows:
+            state, cells = row.first("th").text, list(row.all("td"))
+            numbers[state] = [int(it.text) for it in cells]
+            for level, cell in zip(FALLING, cells):
+                is_bold = cell.first("b") is not None
+                if cell.given.get("class") == "on" and is_bold == (cell.text != "0"):
+                    marked.add((state, level))
+                elif is_bold or cell.given:
+                    marked.add((state, level, "badly"))
+        return numbers, marked
 
     def boxes(self):
-        """The names of the boxes, by label."""
-        return [it.text.strip() for it in self.top.all("label") if it.first("input")]
+        """The names of the boxes by group. Each group is within an element that only a style displays."""
+        found = {}
+        for block in self.top.all("div"):
+            if "hidden" not in block.given:
+                continue
+            for group in block.all("fieldset"):
+                labels = [it.text for it in group.all("label")]
+                boxes = [(it.given.get("id"), "checked" in it.given) for it in group.all("input")]
+                same = boxes == [(it, True) for it in labels]
+                found[group.first("legend").text] = labels if same else boxes
+        return found
+
+    def links(self):
+        nav = self.top.first("nav")
+        return [(it.given["href"], it.text) for it in nav.all("a")] if nav else []
+
+    def paragraphs(self, name):
+        """The paragraphs of the header or of the main part."""
+        return [it.text for it in self.top.first(name).all("p")]
 
 
 def walked(element):
@@ -212,24 +260,27 @@ def is_escaped(text):
 
 
 def page_faults(source, reports):
-    """What is wrong with a page, by itself and compared with the reference's reports."""
-    page = PageReader(source)
+    """What is wrong with a page, by itself and compared with the reference."""
+    page, wanted = PageReader(source), PageOf(reports)
     wrong = page.faults()
     if wrong:
         return wrong[:5]
-    found, wrong = page.rows()
-    for number, (one, other) in enumerate(zip(found, reports.rows())):
-        if one != tuple(other):
-            return [f"row {number} is {one}, and not {other}"]
-    count = len(reports.rows())
-    wrong += [f"{len(found)} rows, and not {count}"] * (len(found) != count)
-    wrong += [f"the counts are {page.counts()}"] * (page.counts() != reports.counts())
-    heading, front = page.headings()
-    wrong += [f"the heading is {heading!r}"] * (reports.verdict() not in heading)
-    numbers = (f"{reports.hits()} hits", f"{reports.policy.max} allowed")
-    wrong += [f"{it} isn't told" for it in numbers if it not in front]
-    others = f"{reports.others()} more"
-    wrong += ["the others aren't told"] * ((others in page.after()) != (reports.others() > 0))
-    boxes = {"error", "warning", "note", "none", "new", "updated"}
-    wrong += [f"no box for {it}" for it in sorted(boxes - set(page.boxes()))] * bool(found)
+    tables, wrong = page.tables()
+    pairs = {
+        "title": (page.of("title"), [wanted.heading()]),
+        "heading": (page.of("h1"), [wanted.heading()]),
+        "header": (page.paragraphs("header"), [wanted.reason(), *wanted.sentences()]),
+        "links": (page.links(), wanted.links()),
+        "counts": (page.counts(), (reports.counts(), wanted.marked())),
+        "boxes": (page.boxes(), wanted.boxes()),
+        "rest": (page.paragraphs("main"), wanted.rest()),
+    }
+    wrong += [f"{name}: {one}, and not {it}" for name, (one, it) in pairs.items() if one != it]
+    names = [it[:2] for it in wanted.tables()]
+    wrong += [f"the tables are {tables}"[:300]] * ([it[:2] for it in tables] != names)
+    for (name, _, rows), (_, _, others) in zip(tables, wanted.tables()):
+        for number, (one, other) in enumerate(zip(rows, others)):
+            if one != other:
+                return [*wrong, f"row {number} of {name} is {one}, and not {other}"][:5]
+        wrong += [f"{len(rows)} {name}, and not {len(others)}"] * (len(rows) != len(others))
     return wrong[:5]

@@ -11,6 +11,7 @@ import re
 import sys
 
 from reference_json import Fault, compact, read_json, stripped
+from reference_life import Known, PastLimit, Renewed, failed, file_of, unused
 
 MOST_LOGS = 1_000
 MOST_RUNS = 10_000
@@ -98,7 +99,7 @@ def guid(holder, name, cause):
 # ---- Reading a log
 
 
-def read_log(source):
+def read_log(source, allow_external=False):
     """The stripped runs of a log."""
     log = stripped(read_json(source))
     if not isinstance(log, dict) or not isinstance(log.get("runs", 0), (list, type(None))):
@@ -111,7 +112,7 @@ def read_log(source):
     total = 0
     for number, run in enumerate(runs):
         try:
-            check_form(run)
+            check_form(run, allow_external)
         except Fault as fault:
             raise Fault(fault.cause, run=number) from None
         total += len(run.get("results") or [])
@@ -120,13 +121,26 @@ def read_log(source):
     return runs
 
 
-def check_form(run):
+# What is read of a run, of what an external property file may hold.
+READ_PARTS = ("artifacts", "driver", "extensions", "invocations", "results")
+
+
+def may_be_named(files, allow_external):
+    """Returns whether a run may name these external property files."""
+    if files is None or files == {}:
+        return True
+    if not allow_external or not isinstance(files, dict):
+        return False
+    return all(files.get(part) is None or files[part] == [] for part in READ_PARTS)
+
+
+def check_form(run, allow_external):
     driver = run
     for name in ("tool", "driver"):
         driver = driver.get(name) if isinstance(driver, dict) else None
     if not isinstance(driver, dict) or not isinstance(driver.get("name"), str):
         raise Fault("BadRun")
-    if run.get("externalPropertyFileReferences") not in (None, {}):
+    if not may_be_named(run.get("externalPropertyFileReferences"), allow_external):
         raise Fault("ExternalProperties")
     objects(run, "results", "BadRun")
 
@@ -430,6 +444,13 @@ class Policy:
         self.fail_on, self.max, self.states = fail_on, most, states
 
 
+class Checks:
+    """What is required of runs beyond the form of a log."""
+
+    def __init__(self, require_success=False, allow_external=False):
+        self.require_success, self.allow_external = require_success, allow_external
+
+
 class Finding:
     """A result with its place in the inputs, and with what the merge adds."""
 
@@ -462,8 +483,8 @@ def same(one, other):
 class Merge:
     """A merge of sources, which are byte strings."""
 
-    def __init__(self, logs, baselines, suppress=None, policy=None, today=None):
-        self.policy = policy or Policy()
+    def __init__(self, logs, baselines, suppress=None, policy=None, today=None, checks=None):
+        self.policy, self.checks = policy or Policy(), checks or Checks()
         check_number(logs, baselines)
         self.runs, self.results = 0, 0
         logs = [self.read(f"log {number}", source) for number, source in enumerate(logs)]
@@ -471,6 +492,7 @@ class Merge:
             self.read(f"baseline {number}", source) for number, source in enumerate(baselines)
         ]
         self.entries = self.read_entries(suppress, today)
+        self.file = file_of(suppress)
         self.inputs = [run for log in logs for run in log]
         self.before = [run for log in baselines for run in log]
         self.current = self.findings(logs, "log", False)
@@ -480,7 +502,7 @@ class Merge:
 
     def read(self, name, source):
         try:
-            runs = read_log(source)
+            runs = read_log(source, self.checks.allow_external)
         except Fault as fault:
             raise Refused(
                 name if fault.run is None else f"{name}, run {fault.run}", fault.cause
@@ -498,20 +520,22 @@ class Merge:
             number = "" if fault.entry is None else f", entry {fault.entry}"
             raise Refused(f"suppressions{number}", fault.cause) from None
 
-    def findings(self, logs, name, may_skip):
+    def findings(self, logs, name, is_baseline):
         found = []
         for number, log in enumerate(logs):
             for count, run in enumerate(log):
-                found += self.of_run(f"{name} {number}, run {count}", run, may_skip)
+                found += self.of_run(f"{name} {number}, run {count}", run, is_baseline)
         return found
 
-    def of_run(self, place, run, may_skip):
+    def of_run(self, place, run, is_baseline):
         found = []
         try:
             head = Head(run)
+            if self.checks.require_success and not is_baseline and failed(run):
+                raise Fault("NotSuccessful")
             for number, value in enumerate(run.get("results") or []):
                 at = f"{place}, result {number}"
-                if not may_skip or value.get("baselineState") != "absent":
+                if not is_baseline or value.get("baselineState") != "absent":
                     found.append(Finding(run, value, self.record(at, head, value)))
         except Fault as fault:
             raise Refused(place, fault.cause) from None
@@ -527,7 +551,7 @@ class Merge:
         """Computes states and suppressions, and the baseline results that no result matches."""
         before = [finding.record for finding in self.baseline]
         found = partners([finding.record for finding in self.current], before)
-        used = set()
+        self.used = used = set()
         for finding, partner in zip(self.current, found):
             finding.state = "new"
             if partner is not None:
@@ -542,13 +566,17 @@ class Merge:
 
     def count(self):
         self.counts = {state: {"active": [0] * 4, "suppressed": [0] * 4} for state in STATES}
-        for finding in [*self.current, *self.absent]:
+        for finding in self.merged():
             side = "suppressed" if finding.is_suppressed() else "active"
             self.counts[finding.state][side][3 - LEVELS.index(finding.record.level)] += 1
         shown = 4 - LEVELS.index(self.policy.fail_on)
         self.hits = sum(sum(self.counts[it]["active"][:shown]) for it in self.policy.states)
         self.verdict = "fail" if self.hits > self.policy.max else "pass"
         self.without = sum(run.get("results") is None for run in self.inputs)
+
+    def merged(self):
+        """The results of the merged log, in its order."""
+        return [*self.current, *self.absent]
 
     def written(self, run, findings):
         kept = {name: it for name, it in run.items() if name not in ("baselineGuid", "results")}
@@ -594,7 +622,9 @@ def check_number(logs, baselines):
 # ---- The command line
 
 USAGE = """Usage: sarif_gate [--baseline F]... [--suppress F] [--today N] [--workers N]
-    [--fail-on L] [--states LIST] [--max N] --out F LOG...
+    [--fail-on L] [--states LIST] [--max N] [--suppress-out F] [--accept] [--prune]
+    [--reason TEXT] [--until N] [--unused F] [--known F] [--adopt] [--require-success]
+    [--allow-external-properties] --out F LOG...
 """
 
 
@@ -607,6 +637,10 @@ class Usage(Exception):
 
 
 RANGES = {"today": (10000101, 99991231), "workers": (1, 64), "max": (0, 2**32 - 1)}
+VALUES = ("suppress", "out", "fail-on", "states", "suppress-out", "reason", "until", "unused", "known")
+FLAGS = ("accept", "prune", "adopt", "require-success", "allow-external-properties")
+# Only their names count here: reference_reports.py makes the reports.
+REPORTS = ("text", "github", "markdown", "gitlab", "html", "junit", "azure")
 
 
 class Request:
@@ -629,19 +663,25 @@ class Request:
         if not self.logs or self.out is None:
             raise Usage(2)
         self.suppress, self.today = self.given.get("suppress"), self.given.get("today")
-        if self.suppress == self.out or self.out != "-" and self.out in self.logs:
+        if not self.fits_together() or self.have_clash():
             raise Usage(2)
         states = self.given.get("states", ("new", "updated"))
         self.policy = Policy(self.given.get("fail-on", "error"), self.given.get("max", 0), states)
+        self.checks = Checks("require-success" in self.given, "allow-external-properties" in self.given)
 
     def option(self, word, words):
         name, equals, value = word.removeprefix("--").partition("=")
-        if not word.startswith("--") or not equals and (not words or words[0].startswith("-")):
+        if not word.startswith("--") or name in self.given:
+            raise Usage(2)
+        if name in FLAGS and not equals:
+            self.given[name] = True
+            return
+        if not equals and (not words or words[0].startswith("-") and words[0] != "-"):
             raise Usage(2)
         value = value if equals else words.pop(0)
         if name == "baseline":
             self.baselines.append(value)
-        elif name in self.given or name not in ("suppress", "out", "fail-on", "states", *RANGES):
+        elif name not in (*VALUES, *RANGES, *REPORTS):
             raise Usage(2)
         else:
             self.given[name] = self.checked(name, value)
@@ -651,12 +691,55 @@ class Request:
             raise Usage(2)
         if name == "states":
             return listed(value)
+        if name == "until":
+            return day(value)
         if name not in RANGES:
             return value
         least, most = RANGES[name]
         if not re.fullmatch("[0-9]+", value) or not least <= int(value) <= most:
             raise Usage(2)
         return int(value)
+
+    def fits_together(self):
+        """Returns whether each option has those that it needs, and none that it rules out."""
+        has = self.given.__contains__
+        until = self.given.get("until")
+        return (
+            has("suppress-out") == (has("accept") or has("prune"))
+            and (has("suppress") or not has("prune") and not has("unused"))
+            and (has("accept") or not has("reason") and not has("until"))
+            and (until is None or self.today is not None and self.today <= until)
+            and not (has("known") and has("accept"))
+            and (has("known") or not has("adopt"))
+        )
+
+    def have_clash(self):
+        """Returns whether an output has the name of an input or of another output, where it may not."""
+        outputs = ("out", "suppress-out", "known", *REPORTS, "unused")
+        names = [it for it in outputs if it in self.given]
+        files = [self.given[it] for it in names]
+        if len(set(files)) < len(files):
+            return True
+        return any(self.replaces(name, self.given[name]) for name in names)
+
+    def replaces(self, name, file):
+        if file == self.suppress and name != "suppress-out":
+            return True
+        if file == "-":
+            return False
+        is_only = name == "known" and len(self.baselines) == 1
+        may_replace_baseline = name == "out" or is_only
+        return file in self.logs or file in self.baselines and not may_replace_baseline
+
+
+def day(text):
+    """A day yyyymmdd of a month 1 to 12 and a day 1 to 31."""
+    if not re.fullmatch("[0-9]{8}", text):
+        raise Usage(2)
+    number = int(text)
+    if number < 10000101 or not 1 <= number // 100 % 100 <= 12 or not 1 <= number % 100 <= 31:
+        raise Usage(2)
+    return number
 
 
 def listed(text):
@@ -677,7 +760,9 @@ def read_source(place, source):
     return read
 
 
-def read_file(place, name):
+def read_file(place, name, may_be_stream=False):
+    if may_be_stream and name == "-":
+        return read_source(place, sys.stdin.buffer)
     try:
         file = open(name, "rb")
     except OSError:
@@ -689,25 +774,25 @@ def read_file(place, name):
 def asked(request):
     """The merge of the files that the arguments name."""
     check_number(request.logs, request.baselines)
-    logs = [read_file(f"log {number}", name) for number, name in enumerate(request.logs)]
+    logs = [read_file(f"log {number}", name, True) for number, name in enumerate(request.logs)]
     baselines = [
         read_file(f"baseline {number}", name) for number, name in enumerate(request.baselines)
     ]
     suppress = None if request.suppress is None else read_file("suppressions", request.suppress)
-    return Merge(logs, baselines, suppress, request.policy, request.today)
+    return Merge(logs, baselines, suppress, request.policy, request.today, request.checks)
 
 
-def write_file(name, text):
+def write_file(name, text, place="output"):
     """Writes a file completely, or leaves the old file unchanged."""
     try:
-        name = followed(name)
+        name = "/dev/stdout" if name == "-" else followed(name)
         if is_as_is(name):
             with open(name, "wb") as file:
                 file.write(text.encode())
         else:
             replace_file(name, text.encode())
     except OSError:
-        raise Refused("output", "WriteFailed") from None
+        raise Refused(place, "WriteFailed") from None
 
 
 def is_as_is(name):
@@ -752,21 +837,54 @@ def says(stream, text):
         return False
 
 
+class Outputs:
+    """What a request writes besides the merged log and the summary."""
+
+    def __init__(self, request, merge):
+        given = request.given
+        how = {it: given[it] for it in ("accept", "prune", "reason", "until") if it in given}
+        self.files, self.lines = [], []
+        try:
+            if "suppress-out" in given:
+                self.add("new suppressions", given["suppress-out"], Renewed(merge, **how))
+            if "known" in given:
+                self.add("known log", given["known"], Known(merge, "adopt" in given))
+        except PastLimit as past:
+            raise Refused(past.place, past.cause) from None
+        if "unused" in given:
+            self.files.append(("unused report", given["unused"], unused(merge)))
+
+    def add(self, place, name, made):
+        self.files.append((place, name, made.text))
+        self.lines.append(made.line())
+
+
+def speaks_aside(request):
+    """Returns whether the summary goes to standard error, as a file that is read again is on standard output."""
+    return "-" in [request.given.get(it) for it in ("out", "suppress-out", "known")]
+
+
 def main(words):
-    out, say = (None, 1) if words else ("/dev/stdout", 2)
+    out, say, files, lines = "/dev/stdout", 2, [], []
     try:
         if words:
             merge = asked(request := Request(words))
-            out = request.out
+            out, say = request.out, 2 if speaks_aside(request) else 1
+            outputs = Outputs(request, merge)
+            files, lines = outputs.files, outputs.lines
         else:
             merge = Merge([read_source("log 0", sys.stdin.buffer)], [])
         write_file(out, merge.text())
+        for place, name, text in files:
+            write_file(name, text, place)
     except Usage as usage:
         says(2 if usage.status else 1, USAGE)
         return usage.status
     except Refused as refused:
         says(2, f"sarif_gate: {refused}\n")
         return refused.status
+    for line in lines:
+        says(2, line)
     return merge.status() if says(say, merge.summary()) else 3
 
 

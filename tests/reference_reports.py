@@ -1,8 +1,8 @@
 #!/usr/bin/env python3
 """The reports of a merged log, in plain Python, for tests/reports.
 
-tests/reference_reports.py text|github|markdown|gitlab [--fail-on L] [--max N] [--states LIST]
-    [--root PREFIX] LOG
+tests/reference_reports.py text|github|markdown|gitlab|junit|azure [--fail-on L] [--max N] [--states LIST]
+    [--root PREFIX].. LOG
 
 It follows the chapter on reports in docs/formats.md sentence by sentence. Its only inputs are the finished
 merged log and the policy. It shares no code with the program, so that a mistake in either shows as a difference.
@@ -23,18 +23,22 @@ STATES = ("new", "unchanged", "updated", "absent")
 MOST_CHARACTERS = 1_000
 CUT = "\N{HORIZONTAL ELLIPSIS}"
 MOST_MARKDOWN_ROWS = 200
+MOST_MARKDOWN_BYTES = 60_000
 MOST_PAGE_ROWS = 10_000
 LARGEST = 2**32 - 1
 
 
 @dataclass
 class Policy:
-    """The policy of the gate, and the prefix to strip from paths."""
+    """The policy of the gate, and the prefixes to strip from paths: one, or several in a tuple."""
 
     fail_on: str = "error"
     max: int = 0
     states: tuple = ("new", "updated")
-    root: str = ""
+    root: object = ""
+
+    def roots(self):
+        return (self.root,) if isinstance(self.root, str) else tuple(self.root)
 
 
 # ---- Members by type: a member of another type is treated as missing
@@ -93,6 +97,7 @@ HIDDEN = (
     (0xFEFF, 0xFEFF),
     (0xFFA0, 0xFFA0),
     (0xFFF9, 0xFFFB),
+    (0xFFFE, 0xFFFF),
     (0x1D173, 0x1D17A),
     (0xE0000, 0xE0FFF),
 )
@@ -124,7 +129,48 @@ def as_path(uri):
         return uri
 
 
+def without_root(path, roots):
+    """The path without the first root that it begins with, and without the `./` that it begins with then."""
+    root = next((it for it in roots if it and path.startswith(it)), "")
+    path = path[len(root) :]
+    while path.startswith("./"):
+        path = path[2:].lstrip("/")
+    return path
+
+
 # ---- A result of the merged log
+
+PAIR = re.compile(r"\\([\[\]\\])")
+TEXT = r"(?:\\[\[\]\\]|\\(?![\[\]\\])|[^\[\]\\])*"
+LINK = re.compile(rf"\[({TEXT})\]\((?:([0-9]+)|\{{(0|[1-9][0-9]*)\}})\)")
+DIGITS = re.compile("[0-9]+")
+
+
+def unlinked(text, words):
+    """The string with its links to places of the log read as their texts, from left to right."""
+    found, at_ = [], 0
+    while at_ < len(text):
+        pair, link = PAIR.match(text, at_), LINK.match(text, at_)
+        if pair:
+            found.append(pair.group())
+            at_ = pair.end()
+        elif link and is_target(link, words):
+            found.append(PAIR.sub(r"\1", link.group(1)))
+            at_ = link.end()
+        else:
+            found.append(text[at_])
+            at_ += 1
+    return "".join(found)
+
+
+def is_target(link, words):
+    """Whether a link has a number, or a placeholder of an argument that is a number."""
+    if link.group(2) is not None:
+        return True
+    number = int(link.group(3))
+    word = words[number] if number < len(words) else None
+    return isinstance(word, str) and bool(DIGITS.fullmatch(word))
+
 
 MARK = re.compile(r"\{\{|\}\}|\{(0|[1-9][0-9]*)\}")
 
@@ -181,7 +227,8 @@ class Found:
             texts.append(at(self.descriptor, "messageStrings", identity, "text"))
             texts.append(at(self.component, "globalMessageStrings", identity, "text"))
         found = first([a_text(it) for it in texts] + [""])
-        return filled(found, a_list(message.get("arguments")))
+        words = a_list(message.get("arguments"))
+        return filled(unlinked(found, words), words)
 
     def physical(self):
         return at(element(a_list(self.result.get("locations")), 0), "physicalLocation")
@@ -225,7 +272,7 @@ class Reported:
 
 def reported(found, policy):
     uri = found.uri()
-    path = None if uri is None else shown(as_path(uri).removeprefix(policy.root)) or None
+    path = None if uri is None else shown(without_root(as_path(uri), policy.roots())) or None
     line = None if path is None else found.number("startLine")
     return Reported(
         tool=shown(found.tool),
@@ -281,25 +328,56 @@ class Reports:
             counted[it.state][column] += 1
         return counted
 
+    def listed(self):
+        """The reported results in the order of reports: the hits first."""
+        return sorted(self.results, key=lambda it: not it.is_hit)
+
     def text(self):
-        return "".join(text_line(it) for it in self.results).encode()
+        return "".join(text_line(it) for it in self.listed()).encode()
 
     def github(self):
-        return "".join(github_line(it) for it in self.results).encode()
+        return "".join(github_line(it) for it in self.listed()).encode()
 
     def markdown(self):
-        lines = [f"## Gate: {self.verdict()}, {self.hits()} hits, {self.policy.max} allowed", ""]
+        lines = [f"## {self.gate()}", ""]
         lines += ["| | error | warning | note | none | suppressed |", "|---|--:|--:|--:|--:|--:|"]
         lines += [markdown_row(state, *numbers) for state, numbers in self.counts().items()]
+        lines += [""] * bool(self.notes()) + self.notes()
         if self.results:
             lines += ["", markdown_row("hit", "level", *SHOWN, "state"), "|---" * 7 + "|"]
-        for it in self.results[:MOST_MARKDOWN_ROWS]:
-            texts = [coded(text) for text in (it.place(), it.rule, it.message, it.tool)]
-            lines.append(markdown_row("yes" if it.is_hit else "", it.level, *texts, it.state))
-        others = len(self.results) - MOST_MARKDOWN_ROWS
-        if others > 0:
-            lines += ["", f"{others} more results are in the merged log."]
+            rows = self.markdown_rows()
+            others = self.listed()[len(rows) :]
+            lines += rows + ["", more_line(others)] * bool(others)
         return "".join(f"{line}\n" for line in lines).encode()
+
+    def gate(self):
+        """The verdict, the hits and the maximum, in one line."""
+        return f"Gate: {self.verdict()}, {counted(self.hits(), 'hit')}, {self.policy.max} allowed"
+
+    def notes(self):
+        """Sentences on what wasn't looked at."""
+        gate = at(self.log, "properties", "gate")
+        without, unused = at(gate, "runsWithoutResults"), at(gate, "unusedSuppressions")
+        runs = "runs without results: nothing is known of what they looked for."
+        if without == 1:
+            runs = "run without results: nothing is known of what it looked for."
+        entries = "suppression entries match nothing."
+        if unused == 1:
+            entries = "suppression entry matches nothing."
+        said = (without, runs), (unused, entries)
+        return [f"{number} {sentence}" for number, sentence in said if number]
+
+    def markdown_rows(self):
+        """The rows of the first listed results, as many as fit."""
+        rows, room = [], MOST_MARKDOWN_BYTES
+        for it in self.listed()[:MOST_MARKDOWN_ROWS]:
+            texts = [coded(text) for text in (it.place(), it.rule, it.message, it.tool)]
+            row = markdown_row("yes" if it.is_hit else "", it.level, *texts, it.state)
+            room -= len(row.encode()) + 1
+            if room < 0:
+                break
+            rows.append(row)
+        return rows
 
     def gitlab(self):
         before, found = {}, []
@@ -308,6 +386,32 @@ class Reports:
             found.append(quality(it, [*four, before.get(four, 0)]))
             before[four] = before.get(four, 0) + 1
         return compact(found).encode()
+
+    def junit(self):
+        return junit_text(self.suites()).encode()
+
+    def suites(self):
+        """The suites of the JUnit report, each with its test cases."""
+        tools, found = {}, []
+        for it in self.listed():
+            tools.setdefault(it.tool, []).append(it)
+        for tool, results in tools.items():
+            names = unique_names([f"{it.place()}{': ' * bool(it.rule)}{it.rule}" for it in results])
+            cases = [self.case(name, it) for name, it in zip(names, results)]
+            found.append(Suite(tool, cases))
+        return found or [Suite("sarif_gate", [TestCase("gate", "sarif_gate")])]
+
+    def case(self, name, it):
+        """A result as a test case: a hit fails, or is skipped where the gate passes."""
+        case = TestCase(name, it.tool if it.path is None else it.path, it.path, it.line)
+        if it.is_hit and self.verdict() == "fail":
+            case.failure = (it.level, it.message, text_line(it).removesuffix("\n"))
+        elif it.is_hit:
+            case.skipped = it.message
+        return case
+
+    def azure(self):
+        return "".join(azure_line(it) for it in self.listed()).encode()
 
     def rows(self):
         """The rows of the page, each with the text of its cells and its link or None."""
@@ -328,6 +432,20 @@ class Reports:
 SHOWN = ("place", "rule", "message", "tool")
 COMMANDS = {"error": "error", "warning": "warning", "note": "notice", "none": "notice"}
 SEVERITIES = {"error": "critical", "warning": "major", "note": "minor", "none": "info"}
+
+
+def counted(number, noun):
+    return f"{number} {noun}" + "s" * (number != 1)
+
+
+def more_line(others):
+    """The line on results that have no row."""
+    number, hits = len(others), sum(it.is_hit for it in others)
+    if hits in (0, number):
+        noun = counted(number, "more hit" if hits else "more result")
+        return f"{noun} {'is' if number == 1 else 'are'} in the merged log."
+    them = "1 of them a hit." if hits == 1 else f"{hits} of them hits."
+    return f"{number} more results are in the merged log, {them}"
 
 
 def text_line(it):
@@ -374,19 +492,118 @@ def quality(it, identity):
     }
 
 
+# ---- JUnit XML
+
+
+@dataclass
+class TestCase:
+    """A test case. A failure has the level, the message and the text."""
+
+    name: str
+    of_class: str
+    file: Optional[str] = None
+    line: Optional[int] = None
+    failure: Optional[tuple] = None
+    skipped: Optional[str] = None
+
+
+@dataclass
+class Suite:
+    """The test cases of a tool."""
+
+    name: str
+    cases: list
+
+    def failures(self):
+        return sum(it.failure is not None for it in self.cases)
+
+    def skipped(self):
+        return sum(it.skipped is not None for it in self.cases)
+
+
+def unique_names(names):
+    """The names with numbers, so that no two are equal."""
+    counted, found = {}, []
+    for name in names:
+        counted[name] = counted.get(name, 0) + 1
+        is_numbered = counted[name] > 1 or name.endswith(")")
+        found.append(f"{name} ({counted[name]})" if is_numbered else name)
+    return found
+
+
+ENTITIES = {"&": "&amp;", "<": "&lt;", ">": "&gt;", '"': "&quot;", "'": "&#39;"}
+
+
+def in_xml(text):
+    return "".join(ENTITIES.get(it, it) for it in str(text))
+
+
+def tag(element, **attributes):
+    """The beginning of an element. Attributes that are None are left out."""
+    given = {"classname" if key == "of_class" else key: it for key, it in attributes.items()}
+    return f"<{element}" + "".join(
+        f' {key}="{in_xml(it)}"' for key, it in given.items() if it is not None
+    )
+
+
+def junit_text(suites):
+    tests = sum(len(suite.cases) for suite in suites)
+    failures = sum(suite.failures() for suite in suites)
+    lines = ['<?xml version="1.0" encoding="UTF-8"?>']
+    lines.append(tag("testsuites", name="sarif_gate", tests=tests, failures=failures) + ">")
+    for suite in suites:
+        counts = {"tests": len(suite.cases), "failures": suite.failures()}
+        lines.append(tag("testsuite", name=suite.name, **counts, skipped=suite.skipped()) + ">")
+        lines += [case_line(case) for case in suite.cases]
+        lines.append("</testsuite>")
+    return "".join(f"{line}\n" for line in [*lines, "</testsuites>"])
+
+
+def case_line(case):
+    begin = tag("testcase", name=case.name, of_class=case.of_class, file=case.file, line=case.line)
+    if case.failure is not None:
+        level, message, text = case.failure
+        inner = tag("failure", type=level, message=message) + f">{in_xml(text)}</failure>"
+    elif case.skipped is not None:
+        inner = tag("skipped", message=case.skipped) + "/>"
+    else:
+        return f"{begin}/>"
+    return f"{begin}>{inner}</testcase>"
+
+
+# ---- Azure Pipelines
+
+
+def azure_line(it):
+    kind = "error" if it.level == "error" else "warning"
+    given = {"type": kind, "sourcepath": it.path, "linenumber": it.line}
+    given |= {"columnnumber": it.column, "code": it.rule or None}
+    pairs = [f"{name}={of_azure(value)};" for name, value in given.items() if value is not None]
+    message = f"{it.message} ({it.tool}, {it.level}, {it.state})".replace("%", "%AZP25")
+    return f"##vso[task.logissue {''.join(pairs)}]{message}\n"
+
+
+def of_azure(value):
+    """A value as a property of a logging command."""
+    return str(value).replace("%", "%AZP25").replace(";", "%3B").replace("]", "%5D")
+
+
+CHOICES = ("text", "github", "markdown", "gitlab", "junit", "azure")
+
+
 def main(words):
     about = argparse.ArgumentParser(
         description=__doc__, formatter_class=argparse.RawTextHelpFormatter
     )
-    about.add_argument("report", choices=("text", "github", "markdown", "gitlab"))
+    about.add_argument("report", choices=CHOICES)
     about.add_argument("log")
     about.add_argument("--fail-on", choices=LEVELS, default="error")
     about.add_argument("--max", type=int, default=0)
     about.add_argument("--states", default="new,updated")
-    about.add_argument("--root", default="")
+    about.add_argument("--root", action="append", default=[])
     given = about.parse_args(words)
     states = tuple(given.states.split(","))
-    policy = Policy(fail_on=given.fail_on, max=given.max, root=given.root, states=states)
+    policy = Policy(given.fail_on, given.max, states, tuple(given.root))
     with open(given.log, "rb") as source:
         reports = Reports(json.load(source), policy)
     sys.stdout.buffer.write(getattr(reports, given.report)())

@@ -1,12 +1,12 @@
 //! The log of nothing, worked by hand.
 ghost use Rattle.std.specs.Prelude.{◌≡◌, []};
 
-use sarif_counts::{Options, Policy, Verdict};
-use sarif_log::{Asked, Merged, assemble, prepare};
-use sarif_model::{Level, State};
+use sarif_counts::{Checks, Options, Policy, Verdict};
+use sarif_log::{Asked, FileRead, Merged, assemble, prepare};
+use sarif_model::{Level, MergeFault, State};
 use sarif_results::Judged;
 use sarif_suppress::Suppressions;
-use std::alloc::{AllocError, Global};
+use std::alloc::Global;
 use std::hash::RandomState;
 use std::test::Fail;
 use std::thread::Threads;
@@ -35,13 +35,17 @@ fn merge_nothing<R: Threads + Sync>(
     alloc: Global,
     file: &Suppressions,
     options: &Options,
-) -> Result<Merged, AllocError> {
+) -> Result<Merged, MergeFault>
+    requires { file.now.entries ≡ [] }
+{
+    let rules = FileRead { file, bytes: None };
     let asked = Asked {
         options,
         reporting: None,
+        upkeep: None,
     };
-    let prepared = prepare(rt, alloc, no_runs(alloc), no_runs(alloc), file, &asked)?;
-    let (merged, ()) = assemble(rt, alloc, prepared, options, |_, _| Ok(()))?;
+    let prepared = prepare(rt, alloc, no_runs(alloc), no_runs(alloc), &rules, &asked)?;
+    let (merged, ()) = assemble(rt, alloc, prepared, options, |_| Ok(()))?;
     Ok(merged)
 }
 
@@ -49,7 +53,7 @@ fn merge_without_file<R: Threads + Sync>(
     rt: &R,
     alloc: Global,
     options: &Options,
-) -> Result<Merged, AllocError> {
+) -> Result<Merged, MergeFault> {
     let file = Suppressions::none(alloc, options.seed, None)?;
     merge_nothing(rt, alloc, &file, options)
 }
@@ -58,6 +62,7 @@ fn merge_without_file<R: Threads + Sync>(
 fn without_runs_the_log_holds_its_gate(rt: HostRuntime) -> Result<(), Fail> {
     let options = Options {
         policy: Policy::default(),
+        checks: Checks::default(),
         today: None,
         workers: 1,
         seed: RandomState::new(&rt)?,

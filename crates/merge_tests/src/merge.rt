@@ -4,10 +4,12 @@
 mod baselines;
 mod counting;
 mod faults;
+mod keeping;
 mod merging;
 mod one_log;
 mod reading;
 mod refusing;
+mod requiring;
 mod seeds;
 mod suppressing;
 mod telling;

@@ -3,4 +3,6 @@
 #![tactic(auto)]
 
 #[cfg(test)]
+mod later;
+#[cfg(test)]
 mod running;

@@ -15,7 +15,7 @@ use std::thread::Threads;
 
 /// A system without random bytes.
 #[derive(Drop)]
-struct NoBytes;
+pub(crate) struct NoBytes;
 
 impl RandomSource for NoBytes {
     fn fill_bytes(&self, _buf: &mut [u8]) -> io::Result<()> {
@@ -24,7 +24,7 @@ impl RandomSource for NoBytes {
 }
 
 /// The seed of a run that has no random bytes.
-fn seed() -> Result<RandomState, AllocError> {
+pub(crate) fn seed() -> Result<RandomState, AllocError> {
     seed_of(&NoBytes).map_err(|_| AllocError)
 }
 
@@ -76,7 +76,7 @@ const BROKEN: &str = r#"{"version":"2.1.0","runs":[{"tool":{"driver":{"nam"#;
 
 /// Returns at most `piece` of its bytes per read, and fails after this many reads.
 #[derive(Drop)]
-struct Given {
+pub(crate) struct Given {
     bytes: &'static [u8],
     piece: usize,
     good: u32,
@@ -84,7 +84,7 @@ struct Given {
 
 impl Given {
     /// All of a text, ten bytes per read.
-    fn whole(text: &'static str) -> Given {
+    pub(crate) fn whole(text: &'static str) -> Given {
         Given {
             bytes: text.as_bytes(),
             piece: 10,
@@ -139,14 +139,14 @@ const AMPLE: Rooms = Rooms {
 
 /// Takes at most `piece` bytes a write and `room` in all, and then fails.
 #[derive(Drop)]
-struct Narrow<'a> {
+pub(crate) struct Narrow<'a> {
     taken: &'a RefCell<Vec<u8>>,
     piece: usize,
     room: usize,
 }
 
 impl<'a> Narrow<'a> {
-    fn new(taken: &'a RefCell<Vec<u8>>, piece: usize, room: usize) -> Narrow<'a> {
+    pub(crate) fn new(taken: &'a RefCell<Vec<u8>>, piece: usize, room: usize) -> Narrow<'a> {
         Narrow { taken, piece, room }
     }
 }

@@ -5,6 +5,8 @@
 #[cfg(test)]
 mod indexes;
 #[cfg(test)]
+mod known;
+#[cfg(test)]
 mod records;
 #[cfg(test)]
 mod rules;

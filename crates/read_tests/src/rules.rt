@@ -19,7 +19,9 @@ struct Answer {
 
 fn read_run(alloc: Global, run: &str) -> Result<Log, Fail> {
     let text = format!(in alloc; "{{\"version\":\"2.1.0\",\"runs\":[{run}]}}")?;
-    let log = read_log(alloc, text.as_bytes()).ok().ok_or("no log")?;
+    let log = read_log(alloc, text.as_bytes(), false)
+        .ok()
+        .ok_or("no log")?;
     Ok(log)
 }
 

@@ -4,7 +4,7 @@ ghost use Rattle.std.specs.List.{All};
 ghost use Rattle.sarif_streams.specs.Counted.{failed_calls};
 ghost use Rattle.sarif_streams.specs.OptionalReader.{failed_calls_if};
 
-use sarif_counts::{Options, Policy};
+use sarif_counts::{Checks, Options, Policy};
 use sarif_gather::NoGate;
 use sarif_merge::{merge_bytes, merge_to};
 use sarif_streams::{Counted, Readers, SourceBytes};
@@ -39,6 +39,7 @@ impl<'a> Given<'a> {
 fn options_by(seed: RandomState) -> Options {
     Options {
         policy: Policy::default(),
+        checks: Checks::default(),
         today: None,
         workers: 4,
         seed,

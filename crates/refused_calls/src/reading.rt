@@ -8,7 +8,7 @@ use std::hash::RandomState;
 
 /// The runs of a log as JSON, or its error.
 pub fn runs_in_words(alloc: Global, log: &str) -> Result<String, AllocError> {
-    match read_log(alloc, log.as_bytes()) {
+    match read_log(alloc, log.as_bytes(), false) {
         Ok(log) => runs_as_text(alloc, &log),
         Err(Refusal::Fault(found)) => fault_in_words(alloc, found),
         Err(Refusal::OutOfMemory) => String::from_str(alloc, "OutOfMemory"),
@@ -42,7 +42,7 @@ pub fn stripped(alloc: Global, text: &str) -> Result<String, AllocError> {
 
 /// The log of that text.
 pub fn log_of(alloc: Global, text: &str) -> Result<Log, Refusal<Fault>> {
-    match read_log(alloc, text.as_bytes()) {
+    match read_log(alloc, text.as_bytes(), false) {
         Ok(log) => Ok(log),
         Err(Refusal::Fault(found)) => Err(Refusal::Fault(found.fault)),
         Err(Refusal::OutOfMemory) => Err(Refusal::OutOfMemory),

@@ -1,6 +1,7 @@
 //! The smallest source of each cause, with the complete expected explanation.
 mod files;
 mod logs;
+mod outputs;
 mod results;
 mod runs;
 

@@ -5,6 +5,18 @@
 #[cfg(test)]
 mod explanations;
 #[cfg(test)]
+mod listing;
+#[cfg(test)]
+mod messages;
+#[cfg(test)]
+mod pages;
+#[cfg(test)]
+mod paths;
+#[cfg(test)]
 mod reports;
+#[cfg(test)]
+mod samples;
+#[cfg(test)]
+mod services;
 #[cfg(test)]
 mod words;

@@ -1,12 +1,11 @@
 //! The worked examples of the reports.
+use crate::samples::{findings_with, told_of};
 use sarif_counts::{Counts, Policy};
-use sarif_findings::{Finding, Reporting, reported, shown};
+use sarif_findings::{Finding, shown};
 use sarif_model::{Level, State, Text};
 use sarif_reports::{
-    Report, Told, github_report, gitlab_report, html_report, markdown_report, report_text,
-    text_report,
+    Report, github_report, gitlab_report, markdown_report, report_text, text_report,
 };
-use serde_json::Value;
 use std::alloc::{AllocError, AllocGlobal, Global};
 use std::test::Fail;
 
@@ -19,19 +18,19 @@ const LOG: &str = r#"{"properties":{},"runs":[{"results":[
 ],"tool":{"driver":{"name":"Bandit","rules":[{"id":"B703","messageStrings":{"default":{"text":"Use of {0} in {{x}} {1} {01} {2}"}}}]}}}],"version":"2.1.0"}"#;
 
 const TEXT: &str = "\
-django/forms/forms.py:12:5: warning: Potential XSS on mark_safe function. [B703] (Bandit, new)
 a b.c: error: Use of a%b in {x} 1 {01} {2} [B703] (Bandit, updated)
+django/forms/forms.py:12:5: warning: Potential XSS on mark_safe function. [B703] (Bandit, new)
 -: note: x ::error::y # #[z] {0} (Bandit, new)
 ";
 
 const GITHUB: &str = "\
-::warning file=django/forms/forms.py,line=12,col=5,title=B703 (Bandit)::Potential XSS on mark_safe function.
 ::error file=a b.c,title=B703 (Bandit)::Use of a%25b in {x} 1 {01} {2}
+::warning file=django/forms/forms.py,line=12,col=5,title=B703 (Bandit)::Potential XSS on mark_safe function.
 ::notice title=Bandit::x ::error::y # #[z] {0}
 ";
 
 const MARKDOWN: &str = "\
-## Gate: fail, 1 hits, 0 allowed
+## Gate: fail, 1 hit, 0 allowed
 
 | | error | warning | note | none | suppressed |
 |---|--:|--:|--:|--:|--:|
@@ -42,8 +41,8 @@ const MARKDOWN: &str = "\
 
 | hit | level | place | rule | message | tool | state |
 |---|---|---|---|---|---|---|
-|  | warning | <code>django/forms/forms&#46;py&#58;12&#58;5</code> | <code>B703</code> | <code>Potential XSS on mark&#95;safe function&#46;</code> | <code>Bandit</code> | new |
 | yes | error | <code>a b&#46;c</code> | <code>B703</code> | <code>Use of a&#37;b in &#123;x&#125; 1 &#123;01&#125; &#123;2&#125;</code> | <code>Bandit</code> | updated |
+|  | warning | <code>django/forms/forms&#46;py&#58;12&#58;5</code> | <code>B703</code> | <code>Potential XSS on mark&#95;safe function&#46;</code> | <code>Bandit</code> | new |
 |  | note | <code>-</code> |  | <code>x &#58;&#58;error&#58;&#58;y &#35; &#35;&#91;z&#93; &#123;0&#125;</code> | <code>Bandit</code> | new |
 ";
 
@@ -60,22 +59,6 @@ const ALIKE: &str = r#"{"runs":[{"results":[
 const ALIKE_GITLAB: &str =
     r#"[{"check_name":"unknown","description":"same","fingerprint":"7a3df80537ebc91124c5c334c78a4a68add7fdc7c79f01e6d6719ef38011ff8a","location":{"lines":{"begin":1},"path":"unknown"},"severity":"critical"},{"check_name":"unknown","description":"other","fingerprint":"b68b06f9d176ee91b74f39a9c79fb03b7f5b7cea5cc654f8532b4bcc05418034","location":{"lines":{"begin":1},"path":"unknown"},"severity":"critical"},{"check_name":"unknown","description":"same","fingerprint":"655b0a3daa05899ac32609e95ae5203e3e08d9ed2a18a995ba351f89837220c5","location":{"lines":{"begin":1},"path":"unknown"},"severity":"critical"}]"#;
 
-/// A log that would write into the page.
-const HOSTILE: &str = r#"{"runs":[{"results":[
-{"baselineState":"new","level":"error","locations":[{"physicalLocation":{"artifactLocation":{"uri":"a.c"},"region":{"startLine":1}}}],"message":{"text":"</td><script>alert(\"1\")</script> & 'x'"},"ruleIndex":0},
-{"baselineState":"updated","level":"note","locations":[{"physicalLocation":{"artifactLocation":{"uri":"a.c"},"region":{"startLine":2}}}],"message":{"text":"m"},"ruleIndex":1}
-],"tool":{"driver":{"name":"T","rules":[{"helpUri":"https://e.org/?a=1&b=\"2\"","id":"R<1>"},{"helpUri":"javascript:alert(1)","id":"R2"}]}}}],"version":"2.1.0"}"#;
-
-/// What the page says about these.
-const HOSTILE_ROWS: [&str; 6] = [
-    "<tr data-level=\"error\" data-state=\"new\" data-hit=\"yes\">",
-    ">a.c:1<",
-    "<a href=\"https://e.org/?a=1&amp;b=&quot;2&quot;\" rel=\"noopener noreferrer\">R&lt;1&gt;</a>",
-    ">&lt;/td&gt;&lt;script&gt;alert(&quot;1&quot;)&lt;/script&gt; &amp; &#39;x&#39;<",
-    " data-level=\"note\" data-state=\"updated\" data-hit=\"no\">",
-    ">R2<",
-];
-
 /// Two rules of the driver have one id, and so have two of the second extension.
 const SAME_IDS: &str = r#"{"runs":[{"results":[
 {"baselineState":"new","level":"error","message":{"id":"default"},"ruleId":"R"},
@@ -85,13 +68,7 @@ const SAME_IDS: &str = r#"{"runs":[{"results":[
 ],"tool":{"driver":{"name":"T","rules":[{"id":"R","helpUri":"https://e.org/first","messageStrings":{"default":{"text":"first"}}},{"id":"R","helpUri":"https://e.org/second","messageStrings":{"default":{"text":"second"}}}]},"extensions":[{"name":"E","rules":[{"id":"Q"}]},{"name":"F","rules":[{"id":"R","helpUri":"https://e.org/third","messageStrings":{"default":{"text":"third"}}},{"id":"R"}]}]}}]}"#;
 
 fn findings_in<R: AllocGlobal>(rt: &R, text: &str) -> Result<Vec<Finding>, Fail> {
-    let alloc = rt.alloc();
-    let reporting = Reporting {
-        policy: Policy::default(),
-        root: Text::copy_of(alloc, "file:///b/")?,
-    };
-    let log = Value::from_str(alloc, text)?;
-    Ok(reported(alloc, &reporting, &log)?)
+    findings_with(rt, &["file:///b/"], text)
 }
 
 fn findings_of<R: AllocGlobal>(rt: &R) -> Result<Vec<Finding>, Fail> {
@@ -195,11 +172,7 @@ fn a_report_is_picked_by_its_name(rt: HostRuntime) -> Result<(), Fail> {
     let findings = findings_of(&rt)?;
     let counts = Counts::new();
     let policy = Policy::default();
-    let told = Told {
-        counts: &counts,
-        policy: &policy,
-        findings: findings.as_slice(),
-    };
+    let told = told_of(&rt, &counts, &policy, findings.as_slice())?;
     for (report, word, piece) in [
         (Report::Text, "text", TEXT),
         (Report::Github, "github", GITHUB),
@@ -209,7 +182,17 @@ fn a_report_is_picked_by_its_name(rt: HostRuntime) -> Result<(), Fail> {
             "## Gate: pass, 0 hits, 0 allowed\n",
         ),
         (Report::Gitlab, "gitlab", GITLAB),
-        (Report::Html, "html", "<title>Gate: pass</title>"),
+        (
+            Report::Html,
+            "html",
+            "<title>Gate: pass, 0 hits, 0 allowed</title>",
+        ),
+        (
+            Report::Junit,
+            "junit",
+            "<testsuites name=\"sarif_gate\" tests=\"3\" failures=\"0\">\n",
+        ),
+        (Report::Azure, "azure", "##vso[task.logissue type=error;"),
     ] {
         assert_eq!(rt; report.name(), word);
         let text = report_text(&rt, alloc, report, &told, 2)?;
@@ -245,7 +228,8 @@ fn the_markdown_report_has_the_verdict_the_counts_and_a_table(rt: HostRuntime) -
     counts.add(State::Unchanged, Level::Error, false);
     counts.add(State::New, Level::Note, false);
     let policy = Policy::default();
-    let text = markdown_report(alloc, &counts, &policy, findings.as_slice())?;
+    let told = told_of(&rt, &counts, &policy, findings.as_slice())?;
+    let text = markdown_report(alloc, &told)?;
     assert_eq!(rt; text.as_str(), MARKDOWN);
     Ok(())
 }
@@ -273,34 +257,6 @@ fn results_that_are_alike_have_fingerprints_of_their_own(rt: HostRuntime) -> Res
     Ok(())
 }
 
-#[test]
-fn the_page_escapes_what_a_log_says(rt: HostRuntime) -> Result<(), Fail> {
-    let alloc = rt.alloc();
-    let findings = findings_in(&rt, HOSTILE)?;
-    let mut counts = Counts::new();
-    counts.add(State::New, Level::Error, false);
-    counts.add(State::Updated, Level::Note, false);
-    let page = html_report(alloc, &counts, &Policy::default(), findings.as_slice())?;
-    for piece in HOSTILE_ROWS {
-        assert!(rt; page.contains(piece));
-    }
-    assert!(rt; page.contains("1 hits, 0 allowed"));
-    assert!(rt; !page.contains("<script"));
-    assert!(rt; !page.contains("javascript:"));
-    Ok(())
-}
-
-#[test]
-fn a_page_without_results_has_no_table_of_them(rt: HostRuntime) -> Result<(), Fail> {
-    let alloc = rt.alloc();
-    let page = html_report(alloc, &Counts::new(), &Policy::default(), &[])?;
-    assert!(rt; page.starts_with("<!DOCTYPE html>"));
-    assert!(rt; page.contains("Gate: pass"));
-    assert!(rt; page.contains("0 hits, 0 allowed"));
-    assert!(rt; !page.contains("data-level=\"error\" data-state"));
-    Ok(())
-}
-
 /// This many equal results.
 fn many(alloc: Global, count: u32) -> Result<Vec<Finding>, Fail> {
     let mut findings = Vec::new(alloc);
@@ -325,35 +281,17 @@ fn many(alloc: Global, count: u32) -> Result<Vec<Finding>, Fail> {
 fn two_hundred_results_stand_in_the_markdown_table(rt: HostRuntime) -> Result<(), Fail> {
     let alloc = rt.alloc();
     let policy = Policy::default();
-    let others = "\n\n1 more results are in the merged log.\n";
-    let all = markdown_report(alloc, &Counts::new(), &policy, many(alloc, 200)?.as_slice())?;
-    assert!(rt; !all.contains("more results"));
-    let more = markdown_report(alloc, &Counts::new(), &policy, many(alloc, 201)?.as_slice())?;
+    let others = "\n\n1 more result is in the merged log.\n";
+    let counts = Counts::new();
+    let findings = many(alloc, 200)?;
+    let told = told_of(&rt, &counts, &policy, findings.as_slice())?;
+    let all = markdown_report(alloc, &told)?;
+    assert!(rt; !all.contains("more result"));
+    let findings = many(alloc, 201)?;
+    let told = told_of(&rt, &counts, &policy, findings.as_slice())?;
+    let more = markdown_report(alloc, &told)?;
     assert!(rt; more.ends_with(others));
     assert_eq!(rt; more.len(), all.len() + others.len() - 1);
-    Ok(())
-}
-
-#[test]
-fn ten_thousand_results_stand_in_the_page(rt: HostRuntime) -> Result<(), Fail> {
-    let alloc = rt.alloc();
-    let policy = Policy::default();
-    let others = "<p>1 more results are in the merged log.</p>\n";
-    let all = html_report(
-        alloc,
-        &Counts::new(),
-        &policy,
-        many(alloc, 10_000)?.as_slice(),
-    )?;
-    assert!(rt; !all.contains("more results"));
-    let more = html_report(
-        alloc,
-        &Counts::new(),
-        &policy,
-        many(alloc, 10_001)?.as_slice(),
-    )?;
-    assert!(rt; more.contains(others));
-    assert_eq!(rt; more.len(), all.len() + others.len());
     Ok(())
 }
 
@@ -388,12 +326,10 @@ fn no_log_writes_a_line_a_command_or_a_cell(rt: HostRuntime) -> Result<(), Fail>
         github_report(alloc, findings.as_slice())?.as_str(),
         FORGING_GITHUB
     );
-    let markdown = markdown_report(
-        alloc,
-        &Counts::new(),
-        &Policy::default(),
-        findings.as_slice(),
-    )?;
+    let counts = Counts::new();
+    let policy = Policy::default();
+    let told = told_of(&rt, &counts, &policy, findings.as_slice())?;
+    let markdown = markdown_report(alloc, &told)?;
     assert!(rt; markdown.contains(FORGING_ROW));
     Ok(())
 }

@@ -5,6 +5,7 @@ use std::io;
 use std::random::RandomSource;
 
 mod asking;
+mod later;
 
 /// Bytes that are the same in each run.
 #[derive(Drop)]

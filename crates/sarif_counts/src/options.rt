@@ -2,6 +2,7 @@
 ghost use Rattle.std.specs.Prelude.{◌≤◌};
 ghost use Rattle.sarif_model.specs.Limits.{most_workers};
 
+use crate::checks::Checks;
 use crate::policy::Policy;
 use std::hash::RandomState;
 
@@ -10,6 +11,8 @@ use std::hash::RandomState;
 pub struct Options {
     /// What the gate fails on.
     pub policy: Policy,
+    /// What is required of runs beyond the form of a log.
+    pub checks: Checks,
     /// Today's date as YYYYMMDD, which decides whether suppressions have expired. Without it an entry with an
     /// expiry date is rejected.
     pub today: Option<u32>,

@@ -4,6 +4,20 @@ use sarif_model::{At, Cause, Fault, MergeFault, Source};
 /// What to do about an input past a limit.
 const SPLIT: &str = "split the analysis, or drop what you don't need";
 
+/// Returns what to do about an output for later merges that would be too large for them: the known log or the new
+/// suppression file.
+pub(crate) fn advice_on_output(at: At) -> &'static str {
+    match at {
+        At::Whole(Source::Known) => {
+            "merge fewer logs in one call, and write a known log for each of these merges"
+        }
+        _ => {
+            "accept fewer hits in one call, pass --prune, or write an entry by hand that matches \
+             many of them"
+        }
+    }
+}
+
 /// Returns what to do about a log or a suppression file of the wrong version. If `is_missing` is set, it has no
 /// `version`.
 fn advice_on_version(at: At, is_missing: bool) -> &'static str {
@@ -35,8 +49,10 @@ fn advice_on_fault(fault: Fault, at: At, is_missing: bool) -> &'static str {
             "report it to the developers of the analyser, or fix the run before the merge"
         }
         Fault::ExternalProperties => {
-            "if you don't need what is in the other file, drop the reference: jq \
-             'del(.runs[].externalPropertyFileReferences)' LOG > NEW_LOG"
+            "if the other files hold no results, artifacts, invocations, driver or extensions, \
+             pass --allow-external-properties; otherwise drop the references, if you don't need \
+             what is in those files: jq 'del(.runs[].externalPropertyFileReferences)' LOG > \
+             NEW_LOG"
         }
         Fault::BadIndex
         | Fault::BadLevel
@@ -59,6 +75,9 @@ fn advice_on_fault(fault: Fault, at: At, is_missing: bool) -> &'static str {
         Fault::BadEntry => "fix the entry, or validate the file against its JSON Schema",
         Fault::EmptyMatch => "add a condition; without one, the entry would match every result",
         Fault::NeedsToday => "pass today's date as YYYYMMDD: --today \"$(date -u +%Y%m%d)\"",
+        Fault::NotSuccessful => {
+            "run the analysis again, or read the analyser's own output to see what failed"
+        }
     }
 }
 

@@ -129,10 +129,13 @@ pub(crate) fn artifact_checks(fault: Fault) -> &'static [Check] {
 
 const OVERRIDES: &[Check] = &[Check(&["ruleConfigurationOverrides"], May, Wanted::Objects)];
 
+const SUCCESSFUL: &[Check] = &[Check(&["executionSuccessful"], May, Wanted::Success)];
+
 /// The checks of each invocation.
 pub(crate) fn invocation_checks(fault: Fault) -> &'static [Check] {
     match fault {
         Fault::BadMember => OVERRIDES,
+        Fault::NotSuccessful => SUCCESSFUL,
         _ => &[],
     }
 }

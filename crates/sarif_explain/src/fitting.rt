@@ -38,6 +38,14 @@ fn is_wanted_number(wanted: Wanted, number: i64) -> bool {
     }
 }
 
+/// Returns whether an `executionSuccessful` doesn't say that the analysis failed: only the value false does.
+fn is_no_failure(value: &Value) -> bool {
+    match value {
+        Value::Bool(successful) => *successful,
+        _ => true,
+    }
+}
+
 impl Wanted {
     /// Returns whether an object with any members is expected.
     fn is_object(self) -> bool {
@@ -55,6 +63,9 @@ impl Wanted {
     /// Returns whether the value is as expected. For arrays and maps only the type is checked, not the elements.
     /// If a value is wrong only because of its position, for example past a limit, no value is expected.
     pub(crate) fn fits(self, value: &Value) -> bool {
+        if self == Wanted::Success {
+            return is_no_failure(value);
+        }
         match value {
             Value::Null => matches!(self, Wanted::Runs | Wanted::TextOrNull),
             Value::Bool(_) => false,

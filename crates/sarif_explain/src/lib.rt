@@ -9,6 +9,7 @@ mod explaining;
 mod fitting;
 mod lines;
 mod misfit;
+mod output;
 mod past_table;
 mod place;
 mod pointer;
@@ -18,3 +19,4 @@ mod wanted;
 mod whole;
 
 pub use explaining::{FaultSource, explanation};
+pub use output::{is_past_limit, output_explanation};

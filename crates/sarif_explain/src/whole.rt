@@ -40,6 +40,7 @@ fn wanted_at(at: At, fault: Fault) -> Wanted {
         Fault::BadEntry => Wanted::Entry,
         Fault::EmptyMatch => Wanted::Condition,
         Fault::NeedsToday => Wanted::Today,
+        Fault::NotSuccessful => Wanted::Success,
     }
 }
 

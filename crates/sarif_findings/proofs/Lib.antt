@@ -1,9 +1,12 @@
 pub mod ArtifactsMore
 pub mod ByHalves
 pub mod CharsBack
+pub mod FirstChar
 pub mod HighBytes
 pub mod HitsCounted
 pub mod HitsReported
+pub mod LinksMore
+pub mod LinksWhole
 pub mod MessageMore
 pub mod MessageWhole
 pub mod PathMore

@@ -3,10 +3,9 @@ use Rattle.std.proofs.Common.{◌≡◌, ◌==◌, ℕ, zero, suc, ◌+◌, ◌-
 use Rattle.std.proofs.lemmas.Str.{chars_past_char}
 use Rattle.std.proofs.StrCases.{chars_of_empty}
 use Rattle.serde_json.specs.Data.{Data}
-use Rattle.sarif_findings.specs.Message.{index_from, takes_digit, filled, filled_from, piece_of}
+use Rattle.sarif_findings.specs.Placeholders.{index_from, takes_digit, least_of_nine_digits, filled, filled_from, piece_of}
 use Rattle.sarif_findings.specs.declared.shown_text.ShownText.{ShownText}
 use Rattle.sarif_findings.specs.ShownSoFar.{shown_with, Takes}
-use Rattle.sarif_findings.specs.Message.{least_of_nine_digits}
 
 -- ---- the number of an argument
 
@@ -49,41 +48,57 @@ filled-some [] cs some = absurd (some refl)
 filled-some (d ∷ ds) cs some = refl
 
 -- a character that is part of what was read already
-pub skip_step : (s : ShownText) (args : List Data) (skip : ℕ) (text rest : List ℕ) (c : ℕ) (more : List ℕ)
-    → IsUtf8 text → text ≡ encode_utf8 c ++ rest → (skip ≡ 0 → ⊥)
-    → shown_with s (filled_from args skip (chars text) ++ more) ≡ shown_with s (filled_from args (skip - 1) (chars rest) ++ more)
-skip_step s args skip text rest c more utf8 parts some =
+pub skip_step : (s : ShownText) (args : List Data) (skip : ℕ) (cs ds : List ℕ) (c : ℕ) (more : List ℕ)
+    → cs ≡ c ∷ ds → (skip ≡ 0 → ⊥)
+    → shown_with s (filled_from args skip cs ++ more) ≡ shown_with s (filled_from args (skip - 1) ds ++ more)
+skip_step s args skip cs ds c more parts some =
     let less : skip ≡ suc (skip - 1) = omega (arith, some) in
-    ap (λ cs. shown_with s (filled_from args skip cs ++ more)) (chars_past_char text rest c utf8 parts)
-    ∙ ap (λ n. shown_with s (filled_from args n (c ∷ chars rest) ++ more)) less
+    ap (λ es. shown_with s (filled_from args skip es ++ more)) parts
+    ∙ ap (λ n. shown_with s (filled_from args n (c ∷ ds) ++ more)) less
 
 -- a character that is written for
-pub piece_step : (s t : ShownText) (args : List Data) (skip next : ℕ) (text rest : List ℕ) (c : ℕ) (more : List ℕ)
-    → IsUtf8 text → text ≡ encode_utf8 c ++ rest → skip ≡ 0 → next ≡ (piece_of args c (chars rest)).1
-    → Takes s t (piece_of args c (chars rest)).0
-    → shown_with s (filled_from args skip (chars text) ++ more) ≡ shown_with t (filled_from args next (chars rest) ++ more)
-piece_step s t args skip next text rest c more utf8 parts none is_next takes =
-    let piece : List ℕ = (piece_of args c (chars rest)).0 in
-    let left : List ℕ = filled_from args (piece_of args c (chars rest)).1 (chars rest) in
-    ap (λ cs. shown_with s (filled_from args skip cs ++ more)) (chars_past_char text rest c utf8 parts)
-    ∙ ap (λ n. shown_with s (filled_from args n (c ∷ chars rest) ++ more)) none
+pub piece_step : (s t : ShownText) (args : List Data) (skip next : ℕ) (cs ds : List ℕ) (c : ℕ) (more : List ℕ)
+    → cs ≡ c ∷ ds → skip ≡ 0 → next ≡ (piece_of args c ds).1
+    → Takes s t (piece_of args c ds).0
+    → shown_with s (filled_from args skip cs ++ more) ≡ shown_with t (filled_from args next ds ++ more)
+piece_step s t args skip next cs ds c more parts none is_next takes =
+    let piece : List ℕ = (piece_of args c ds).0 in
+    let left : List ℕ = filled_from args (piece_of args c ds).1 ds in
+    ap (λ es. shown_with s (filled_from args skip es ++ more)) parts
+    ∙ ap (λ n. shown_with s (filled_from args n (c ∷ ds) ++ more)) none
     ∙ ap (shown_with s) (append_assoc piece left more)
     ∙ takes (left ++ more)
-    ∙ ap (λ n. shown_with t (filled_from args n (chars rest) ++ more)) (sym is_next)
+    ∙ ap (λ n. shown_with t (filled_from args n ds ++ more)) (sym is_next)
 
-pub filled_empty : (s : ShownText) (args : List Data) (skip : ℕ) (text more : List ℕ) → length text ≡ 0
-    → shown_with s (filled_from args skip (chars text) ++ more) ≡ shown_with s more
-filled_empty s args zero text more none = ap (λ cs. shown_with s (filled_from args zero cs ++ more)) (chars_of_empty text none)
-filled_empty s args (suc n) text more none = ap (λ cs. shown_with s (filled_from args (suc n) cs ++ more)) (chars_of_empty text none)
+none_filled : (args : List Data) (skip : ℕ) → filled_from args skip [] ≡ []
+none_filled args zero = refl
+none_filled args (suc n) = refl
 
--- the text that was filled in is the message's
-pub takes_filled : (s t : ShownText) (args args' : List Data) (text text' : List ℕ) → args ≡ args' → text ≡ text' → (length args ≡ 0 → ⊥)
-    → Takes s t (filled_from args 0 (chars text)) → Takes s t (filled args' (chars text'))
-takes_filled s t args args' text text' same_args same_text some takes = λ rest.
-    ap (λ a. shown_with s (filled a (chars text') ++ rest)) (sym same_args)
-    ∙ ap (λ x. shown_with s (filled args (chars x) ++ rest)) (sym same_text)
-    ∙ ap (λ cs. shown_with s (cs ++ rest)) (filled-some args (chars text) some)
-    ∙ takes rest
+pub filled_empty : (s : ShownText) (args : List Data) (skip : ℕ) (cs more : List ℕ) → cs ≡ []
+    → shown_with s (filled_from args skip cs ++ more) ≡ shown_with s more
+filled_empty s args skip cs more none =
+    ap (λ es. shown_with s (filled_from args skip es ++ more)) none ∙ ap (λ es. shown_with s (es ++ more)) (none_filled args skip)
+
+-- what was filled in, where there are arguments
+pub takes_filled : (s t : ShownText) (args : List Data) (cs : List ℕ) → (length args ≡ 0 → ⊥)
+    → Takes s t (filled_from args 0 cs) → Takes s t (filled args cs)
+takes_filled s t args cs some takes = λ rest. ap (λ ds. shown_with s (ds ++ rest)) (filled-some args cs some) ∙ takes rest
+
+filled-none : (args : List Data) (cs : List ℕ) → length args ≡ 0 → filled args cs ≡ cs
+filled-none [] cs none = refl
+filled-none (d ∷ ds) cs none = absurd (omega (arith, none))
+
+-- what was read, where there are no arguments
+pub takes_unlinked : (s t : ShownText) (args : List Data) (cs : List ℕ) → length args ≡ 0 → Takes s t cs → Takes s t (filled args cs)
+takes_unlinked s t args cs none takes = λ rest. ap (λ ds. shown_with s (ds ++ rest)) (filled-none args cs none) ∙ takes rest
+
+-- a text that is read as itself
+pub takes_plain : (s t : ShownText) (cs ds : List ℕ) → ds ≡ cs → Takes s t cs → Takes s t ds
+takes_plain s t cs ds same takes = λ rest. ap (λ es. shown_with s (es ++ rest)) same ∙ takes rest
+
+pub mapped_none : {A B : Type 0} → (f : A → B) → (xs : List A) → length xs ≡ 0 → length (map f xs) ≡ 0
+mapped_none f [] none = refl
+mapped_none f (x ∷ xs) none = absurd (omega (arith, none))
 
 pub not_zero : (n : ℕ) → false ≡ (n == 0) → n ≡ 0 → ⊥
 not_zero n tested none = let wrong : false ≡ true = tested ∙ ap (λ k. k == 0) none in cc

@@ -8,7 +8,7 @@ use Rattle.std.proofs.lemmas.Bool.Decides.{nat_tests}
 use Rattle.std.proofs.lemmas.List.Folds.{list_all-append}
 use Rattle.std.proofs.lemmas.Str.{encode_ascii, encodes-chars}
 use Rattle.serde_json.specs.Data.{Data}
-use Rattle.sarif_findings.specs.Message.{is_unbraced, filled_from, filled}
+use Rattle.sarif_findings.specs.Placeholders.{is_unbraced, filled_from, filled}
 
 brace_low : (c : ℕ) → is_unbraced c ≡ false → c < 128
 brace_low c h = grind (arith, nat_tests, h)

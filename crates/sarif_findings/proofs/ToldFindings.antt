@@ -41,9 +41,9 @@ path_by : (cs text : List ℕ) → text ≡ shown cs → IfSome (none_if_empty t
 path_by cs [] e = tt
 path_by cs (b ∷ bs) e = record { shown = (cs, e); some = λ none. cc }
 
-path_told : (root : List ℕ) (o : Option (List ℕ)) → IfSome (option_and_then (shown_path root) o) IsPath
-path_told root None = tt
-path_told root (Some uri) = path_by _ _ refl
+path_told : (roots : List (List ℕ)) (o : Option (List ℕ)) → IfSome (option_and_then (shown_path roots) o) IsPath
+path_told roots None = tt
+path_told roots (Some uri) = path_by _ _ refl
 
 number_by : (b : Bool) (n : ℕ) → (nat_le 1 n && nat_lt n (2 ^ 32)) ≡ b → IfSome (if b then Some n else None) (λ k. k < 2 ^ 64)
 number_by true n e = let small : n < 2 ^ 32 = ltb-true n (2 ^ 32) (and_parts (nat_le 1 n) (nat_lt n (2 ^ 32)) e).1 in omega (arith, small)
@@ -63,7 +63,7 @@ finding_told reporting run result l s = record {
   tool = (_, refl);
   rule = (_, refl);
   message = message_by _ _ refl;
-  path = path_told reporting.root (uri_of run result);
+  path = path_told reporting.roots (uri_of run result);
   line = with_told (path_in reporting run result) (position_in (codes "startLine") result)
       (number_told (option_and_then (number_in (codes "startLine")) (option_and_then (get (codes "region")) (physical_location result))));
   column = with_told (line_in reporting run result) (position_in (codes "startColumn") result)

@@ -1,11 +1,14 @@
 pub mod ArtifactsOf
 pub mod Finding
+pub mod Links
 pub mod Lookup
 pub mod Message
 pub mod PathOf
+pub mod Placeholders
 pub mod Reported
 pub mod RulesOf
 pub mod Shown
 pub mod ShownLaws
 pub mod ShownSoFar
 pub mod Subject
+pub mod Unlinked

@@ -14,7 +14,7 @@ use Rattle.sarif_findings.specs.declared.finding.Finding.{Finding}
 use Rattle.sarif_findings.specs.declared.reporting.Reporting.{Reporting}
 use Rattle.sarif_findings.specs.Lookup.{text_in, elements_in, rule_id, help_uri, uri_of, position_in}
 use Rattle.sarif_findings.specs.Message.{message_of}
-use Rattle.sarif_findings.specs.PathOf.{path_of}
+use Rattle.sarif_findings.specs.PathOf.{path_chars}
 use Rattle.sarif_findings.specs.Shown.{shown}
 
 abbrev pub state_in : Data → Option State
@@ -36,11 +36,11 @@ none_if_empty [] = None
 none_if_empty (b ∷ bs) = Some (b ∷ bs)
 
 -- a URI as it is shown; an empty path is treated as missing
-abbrev pub shown_path : List ℕ → List ℕ → Option (List ℕ)
-shown_path root uri = none_if_empty (shown (chars (path_of root uri)))
+abbrev pub shown_path : List (List ℕ) → List ℕ → Option (List ℕ)
+shown_path roots uri = none_if_empty (shown (path_chars roots uri))
 
 abbrev pub path_in : Reporting → Data → Data → Option (List ℕ)
-path_in reporting run result = option_and_then (shown_path reporting.root) (uri_of run result)
+path_in reporting run result = option_and_then (shown_path reporting.roots) (uri_of run result)
 
 -- a value that is reported only together with another value
 abbrev pub only_with : {X Y : Type 0} → Option X → Option Y → Option Y

@@ -5,9 +5,12 @@ use Rattle.std.specs.Prelude.{ℕ, zero, suc, Bool, false, ◌&&◌, ◌||◌, �
 abbrev pub is_between : ℕ → ℕ → ℕ → Bool
 is_between first last c = nat_le first c && nat_le c last
 
--- control characters, and line and paragraph separators
+-- control characters, line and paragraph separators, and the two codes that are no characters in XML
+-- (XML 1.0, "Characters")
 abbrev pub is_control : ℕ → Bool
-is_control c = is_between 0 0x1F c || is_between 0x7F 0x9F c || is_between 0x2028 0x2029 c
+is_control c =
+    is_between 0 0x1F c || is_between 0x7F 0x9F c || is_between 0x2028 0x2029 c
+    || is_between 0xFFFE 0xFFFF c
 
 -- characters that change the reading order, or that join or control their neighbours without being visible
 abbrev pub is_unseen_mark : ℕ → Bool

@@ -1,18 +1,23 @@
 //! What reports say about a result: its rule, message and place, made safe to show.
 #![tactic(auto)]
 
+mod arguments;
 mod artifacts;
 mod finding;
+mod first_char;
+mod links;
 mod lookup;
 mod message;
 mod named_run;
 mod path;
+mod placeholders;
 mod reported_results;
 mod reporting;
 mod rules;
 mod shown_text;
 mod spot;
 mod subject;
+mod unlinked;
 
 pub use finding::Finding;
 pub use named_run::NamedRun;

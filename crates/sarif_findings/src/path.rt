@@ -1,13 +1,17 @@
 //! A URI read as a path.
-ghost use Rattle.std.specs.Prelude.{◌≡◌, ◌++◌, OnOk, IfOk, IfSome, IfNone, true, false, chars};
+ghost use Rattle.std.specs.Prelude.{◌≡◌, ◌++◌, OnOk, IfOk, IfSome, IfNone, true, false, chars, drop};
+ghost use Rattle.std.specs.Prelude.{length, nat_eq, option_map, if◌then◌else◌};
+ghost use Rattle.std.specs.List.{starts_with};
 ghost use Rattle.std.specs.Cow.{cow_str_bytes};
 ghost use Rattle.std.specs.Str.{is_utf8};
 ghost use Rattle.percent_encoding.specs.Percent.{percent_decode as decoded_bytes};
 ghost use Rattle.sarif_findings.specs.PathOf as said;
 ghost use Rattle.sarif_findings.specs.ShownSoFar.{Takes};
 
+use crate::first_char::begins_with;
 use crate::shown_text::ShownText;
 use percent_encoding::{DecodeError, percent_decode};
+use sarif_model::Text;
 use std::alloc::{AllocError, Global};
 use std::borrow::CowStr;
 
@@ -46,12 +50,78 @@ fn decode(alloc: Global, uri: &str) -> Result<Option<CowStr<'_, Global>>, AllocE
     }
 }
 
-/// The path without the root, where it begins with it.
-fn without_root<'a>(root: &str, path: &'a str) -> &'a str
-    ensures { result.now ≡ said.without_root root.now path.now }
+/// The path without this root, if it begins with it.
+fn stripped<'a>(root: &str, path: &'a str) -> Option<&'a str>
+    ensures { option_map (λ s. s.now) result ≡ (if starts_with nat_eq path.now root.now
+        then Some (drop (length root.now) path.now) else None) }
 {
-    match path.strip_prefix(root) {
-        Some(rest) => rest,
+    path.strip_prefix(root)
+}
+
+/// The rest of a path that begins with the root. An empty root counts as none.
+fn after_root<'a>(root: &str, path: &'a str) -> Option<&'a str>
+    ensures { option_map (λ s. s.now) result ≡ said.after_root root.now path.now }
+{
+    if root.is_empty() {
+        return None;
+    }
+    stripped(root, path)
+}
+
+/// The path without the first of these roots that it begins with.
+fn without_root<'a>(roots: &[Text], path: &'a str) -> &'a str
+    ensures { result.now ≡ said.without_root roots.now path.now }
+{
+    for root in roots {
+        if let Some(rest) = after_root(root.as_str(), path) {
+            return rest;
+        }
+    }
+    path
+}
+
+/// Returns whether this is the `.` of a `./`.
+fn begins_here(c: char, rest: &str) -> bool
+    ensures { result ≡ said.begins_here c (chars rest.now) }
+{
+    c == '.' && begins_with(rest, '/')
+}
+
+/// Returns whether a character that follows a `./` is removed with it: a slash, or the `.` of one more `./`.
+fn is_removed(c: char, rest: &str) -> bool
+    ensures { result ≡ said.is_removed c (chars rest.now) }
+{
+    c == '/' || begins_here(c, rest)
+}
+
+/// What follows a `./`, without the slashes and the further `./` that it begins with.
+fn after_here(path: &str) -> &str
+    ensures { chars result.now ≡ said.after_here (chars path.now) }
+{
+    let mut left = path;
+    let mut rest = path.chars();
+    while let Some(c) = rest.next() {
+        if !is_removed(c, rest.as_str()) {
+            return left;
+        }
+        left = rest.as_str();
+    }
+    left
+}
+
+/// The path without the `./` that it begins with, and without the slashes that follow them.
+fn without_here(path: &str) -> &str
+    ensures { chars result.now ≡ said.without_here (chars path.now) }
+{
+    let mut rest = path.chars();
+    match rest.next() {
+        Some(c) => {
+            if begins_here(c, rest.as_str()) {
+                after_here(rest.as_str())
+            } else {
+                path
+            }
+        }
         None => path,
     }
 }
@@ -68,11 +138,15 @@ pub(crate) fn decoded(alloc: Global, uri: &str) -> Result<CowStr<'_, Global>, Al
     Ok(CowStr::Borrowed(uri))
 }
 
-/// Shows a path, less the root.
-pub(crate) fn push_path(so_far: &mut ShownText, root: &str, path: &str) -> Result<(), AllocError>
-    ensures { OnOk result
-        (Takes so_far.old so_far.new (chars (said.without_root root.now path.now))) }
+/// Shows a path without its root and without the `./` that it begins with then.
+pub(crate) fn push_path(
+    so_far: &mut ShownText,
+    roots: &[Text],
+    path: &str,
+) -> Result<(), AllocError>
+    ensures { OnOk result (Takes so_far.old so_far.new
+        (said.without_here (chars (said.without_root roots.now path.now)))) }
 {
-    so_far.push_str(without_root(root, path))?;
+    so_far.push_str(without_here(without_root(roots, path)))?;
     Ok(())
 }

@@ -11,11 +11,17 @@ use std::alloc::{AllocError, Global};
 /// The maximum number of characters of a shown string.
 pub const MOST_CHARACTERS: u32 = 1_000;
 
-/// A control character, or a line or paragraph separator.
+/// A control character, a line or paragraph separator, or one of the two codes that are no characters in XML.
 fn is_control(c: char) -> bool
     ensures { result ≡ said.is_control c }
 {
-    matches!(c, '\u{0}'..='\u{1f}' | '\u{7f}'..='\u{9f}' | '\u{2028}'..='\u{2029}')
+    matches!(
+        c,
+        '\u{0}'..='\u{1f}'
+            | '\u{7f}'..='\u{9f}'
+            | '\u{2028}'..='\u{2029}'
+            | '\u{fffe}'..='\u{ffff}'
+    )
 }
 
 /// A character that changes the reading order, or that joins or controls its neighbours without being visible.

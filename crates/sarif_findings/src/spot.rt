@@ -4,7 +4,7 @@ ghost use Rattle.serde_json.specs.Find.{get};
 ghost use Rattle.serde_json.specs.View.{view};
 ghost use Rattle.sarif_findings.specs.Lookup as lookup;
 ghost use Rattle.sarif_findings.specs.PathOf as path_of;
-ghost use Rattle.sarif_findings.specs.PathOf.{without_root};
+ghost use Rattle.sarif_findings.specs.PathOf.{without_here, without_root};
 ghost use Rattle.sarif_findings.specs.Reported as said;
 ghost use Rattle.sarif_findings.specs.Shown.{shown as text_shown};
 
@@ -35,21 +35,21 @@ fn physical_location(found: &Value) -> Option<&Value>
     }
 }
 
-/// A path as it is shown, without the root.
-fn text_of_path(alloc: Global, root: &str, path: &str) -> Result<String, AllocError>
+/// A path as it is shown.
+fn text_of_path(alloc: Global, roots: &[Text], path: &str) -> Result<String, AllocError>
     ensures { IfOk result
-        (λ s. string_bytes s ≡ text_shown (chars (without_root root.now path.now))) }
+        (λ s. string_bytes s ≡ text_shown (without_here (chars (without_root roots.now path.now)))) }
 {
     let mut so_far = ShownText::new(alloc);
-    push_path(&mut so_far, root, path)?;
+    push_path(&mut so_far, roots, path)?;
     Ok(so_far.finish())
 }
 
-fn shown_path(alloc: Global, root: &str, path: &str) -> Result<Option<Text>, AllocError>
+fn shown_path(alloc: Global, roots: &[Text], path: &str) -> Result<Option<Text>, AllocError>
     ensures { IfOk result (λ o. o ≡ said.none_if_empty
-        (text_shown (chars (without_root root.now path.now)))) }
+        (text_shown (without_here (chars (without_root roots.now path.now))))) }
 {
-    let shown = text_of_path(alloc, root, path)?;
+    let shown = text_of_path(alloc, roots, path)?;
     if shown.is_empty() {
         return Ok(None);
     }
@@ -57,11 +57,11 @@ fn shown_path(alloc: Global, root: &str, path: &str) -> Result<Option<Text>, All
 }
 
 /// A URI as it is shown as a path.
-fn shown_uri(alloc: Global, root: &str, uri: &str) -> Result<Option<Text>, AllocError>
-    ensures { IfOk result (λ o. o ≡ said.shown_path root.now uri.now) }
+fn shown_uri(alloc: Global, roots: &[Text], uri: &str) -> Result<Option<Text>, AllocError>
+    ensures { IfOk result (λ o. o ≡ said.shown_path roots.now uri.now) }
 {
     let path = decoded(alloc, uri)?;
-    shown_path(alloc, root, path.as_str())
+    shown_path(alloc, roots, path.as_str())
 }
 
 /// The path of the artifact whose index an artifact location has.
@@ -76,50 +76,50 @@ fn artifact_path<'r>(run: &'r NamedRun<'_>, location: &Value) -> Option<&'r Text
 /// What is shown as a path of that artifact.
 fn shown_artifact(
     alloc: Global,
-    root: &str,
+    roots: &[Text],
     run: &NamedRun<'_>,
     location: &Value,
 ) -> Result<Option<Text>, AllocError>
-    ensures { IfOk result (λ o. o ≡ option_and_then (said.shown_path root.now)
+    ensures { IfOk result (λ o. o ≡ option_and_then (said.shown_path roots.now)
         (option_and_then (lookup.artifact_uri (view run.now))
         (lookup.number_in (codes "index") (view location.now)))) }
 {
     match artifact_path(run, location) {
         None => Ok(None),
-        Some(path) => shown_path(alloc, root, path.as_str()),
+        Some(path) => shown_path(alloc, roots, path.as_str()),
     }
 }
 
 /// The shown path of the URI of an artifact location, otherwise of the URI of the artifact whose index it has.
 fn shown_location(
     alloc: Global,
-    root: &str,
+    roots: &[Text],
     run: &NamedRun<'_>,
     location: &Value,
 ) -> Result<Option<Text>, AllocError>
-    ensures { IfOk result (λ o. o ≡ option_and_then (said.shown_path root.now)
+    ensures { IfOk result (λ o. o ≡ option_and_then (said.shown_path roots.now)
         (lookup.location_uri (view run.now) (view location.now))) }
 {
     match text_in(location, "uri") {
-        Some(uri) => shown_uri(alloc, root, uri),
-        None => shown_artifact(alloc, root, run, location),
+        Some(uri) => shown_uri(alloc, roots, uri),
+        None => shown_artifact(alloc, roots, run, location),
     }
 }
 
 /// The shown path of the URI of a physical location.
 fn path_in(
     alloc: Global,
-    root: &str,
+    roots: &[Text],
     run: &NamedRun<'_>,
     physical: &Value,
 ) -> Result<Option<Text>, AllocError>
-    ensures { IfOk result (λ o. o ≡ option_and_then (said.shown_path root.now)
+    ensures { IfOk result (λ o. o ≡ option_and_then (said.shown_path roots.now)
         (option_and_then (lookup.location_uri (view run.now))
         (get (codes "artifactLocation") (view physical.now)))) }
 {
     match physical.get("artifactLocation") {
         None => Ok(None),
-        Some(location) => shown_location(alloc, root, run, location),
+        Some(location) => shown_location(alloc, roots, run, location),
     }
 }
 
@@ -170,7 +170,7 @@ pub(crate) fn spot_of(
             column: None,
         });
     };
-    let path = path_in(alloc, reporting.root.as_str(), run, physical)?;
+    let path = path_in(alloc, reporting.roots.as_slice(), run, physical)?;
     let line = position_with(&path, physical, "startLine");
     let column = position_with(&line, physical, "startColumn");
     Ok(Spot { path, line, column })

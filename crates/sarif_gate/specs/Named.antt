@@ -1,6 +1,8 @@
 -- What a request names: its sources and its outputs.
-use Rattle.std.specs.Prelude.{◌≡◌, ℕ, List, Bool, true, false, map, option_map, codes, bytes_eq}
+use Rattle.std.specs.Prelude.{◌≡◌, ◌&&◌, ◌||◌, ℕ, List, Bool, true, false, map, option_map, codes, bytes_eq}
+use Rattle.std.specs.List.{list_any}
 use Rattle.sarif_program.specs.declared.writers.Writers.{Writers}
+use Rattle.sarif_reports.specs.Report.{is_for_merges}
 use Rattle.sarif_request.specs.declared.request.Request.{Request}
 use Rattle.sarif_request.specs.declared.wanted.Wanted.{Wanted}
 use Rattle.sarif_streams.specs.declared.counted.Counted.{Counted}
@@ -22,14 +24,22 @@ source_channel source = input_channel (kept_in (inner_of source))
 abbrev pub output_channel : {R O F D : Type 0} → Counted (Kept (Target R O F D)) → Channel
 output_channel output = target_channel (kept_in (inner_of output))
 
--- what a report is written to
+-- what another output is written to
 abbrev pub report_channel : {R O F D : Type 0}
     → Wanted (Counted (Kept (Target R O F D))) → Wanted Channel
 report_channel output = record { report = output.report; to = output_channel output.to }
 
--- what a request names for a report
+-- what a request names for another output
 abbrev pub report_named : Wanted (List ℕ) → Wanted Channel
 report_named wanted = record { report = wanted.report; to = channel_named wanted.to }
+
+-- whether an output that a later merge reads is standard output, where it has to be alone
+abbrev pub takes_output : Wanted (List ℕ) → Bool
+takes_output wanted = is_for_merges wanted.report && bytes_eq wanted.to (codes "-")
+
+abbrev pub leaves_no_output : Request → Bool
+leaves_no_output request =
+    bytes_eq request.out (codes "-") || list_any takes_output request.reports.items
 
 -- whether the summary goes to standard error
 abbrev pub is_error : {O E : Type 0} → Console O E → Bool
@@ -48,4 +58,4 @@ pub record AreNamed {R I F D O E : Type 0} (request : Request)
       ≡ option_map Named request.suppress
   pub out : output_channel writers.out ≡ channel_named request.out
   pub reports : map report_channel writers.reports.items ≡ map report_named request.reports.items
-  pub say : is_error (inner_of writers.say) ≡ bytes_eq request.out (codes "-")
+  pub say : is_error (inner_of writers.say) ≡ leaves_no_output request

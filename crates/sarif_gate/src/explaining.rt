@@ -1,7 +1,7 @@
 //! Explaining on standard error what stopped a run.
 use crate::outputs::Outputs;
 use crate::sources::Source as Reading;
-use sarif_explain::{FaultSource, explanation};
+use sarif_explain::{FaultSource, explanation, is_past_limit, output_explanation};
 use sarif_findings::shown;
 use sarif_model::{At, Cause, MergeFault, Source, Text};
 use sarif_program::{Complaint, Complaints};
@@ -61,14 +61,33 @@ impl Ended<'_, '_> {
         }
     }
 
-    /// Returns the name of a source or of the merged log, as it was passed.
+    /// Returns the name of a source, of the merged log or of the known log, as it was passed.
     fn name_of(&self, source: Source) -> Option<&Text> {
         match source {
             Source::Log(number) => self.request.logs.get(number as usize),
             Source::Baseline(number) => self.request.baselines.get(number as usize),
             Source::Suppress => self.request.suppress.as_ref(),
             Source::Output => Some(&self.request.out),
+            Source::Known => self.name_for(Report::Known),
         }
+    }
+
+    /// Returns the name of the file of an output beside the merged log, if it was requested.
+    fn name_for(&self, report: Report) -> Option<&Text> {
+        destination_of(report, self.request.reports.as_slice())
+    }
+
+    /// Returns whether the error is one of the new suppression file: it would be past a limit, and the suppression file
+    /// is not.
+    fn is_of_new_file(&self, alloc: Global, fault: &MergeFault) -> Result<bool, AllocError> {
+        if fault.at != At::Whole(Source::Suppress) || self.request.upkeep.renewal.is_none() {
+            return Ok(false);
+        }
+        let bytes = match &self.readers.suppressions {
+            Some(file) => file.inner().bytes(),
+            None => &[],
+        };
+        Ok(!is_past_limit(alloc, fault.cause, bytes)?)
     }
 
     /// Returns the explanation of an error, by its source.
@@ -77,6 +96,9 @@ impl Ended<'_, '_> {
         let Some(source) = source_of(fault) else {
             return of_source(alloc, fault, "", &[], None);
         };
+        if self.is_of_new_file(alloc, fault)? {
+            return of_output(alloc, fault, self.name_for(Report::Suppressions));
+        }
         let name = self.name_of(source);
         match source {
             Source::Log(number) => {
@@ -87,22 +109,23 @@ impl Ended<'_, '_> {
             }
             Source::Suppress => of_kept(alloc, fault, name, readers.suppressions.as_ref()),
             Source::Output => of_kept(alloc, fault, name, Some(&self.writers.out)),
+            Source::Known => of_output(alloc, fault, name),
         }
     }
 
-    /// Returns the explanation of a report that was not written.
+    /// Returns the explanation of another output that was not written.
     fn lost(&self, alloc: Global, report: Report) -> Result<String, AllocError> {
         let fault = MergeFault {
             at: At::Whole(Source::Output),
             cause: Cause::WriteFailed,
         };
-        let name = destination_of(report, self.request.reports.as_slice());
+        let name = self.name_for(report);
         let writer = destination_of(report, self.writers.reports.as_slice());
         of_kept(alloc, &fault, name, writer)
     }
 }
 
-/// Returns the destination of this report, if it is among these.
+/// Returns the destination of this output, if it is among these.
 fn destination_of<T>(report: Report, reports: &[Wanted<T>]) -> Option<&T> {
     let wanted = reports.iter().find(|wanted| wanted.report == report)?;
     Some(&wanted.to)
@@ -117,6 +140,19 @@ fn source_of(fault: &MergeFault) -> Option<Source> {
     }
 }
 
+/// Returns the explanation of an output with this name that would be too large for later merges.
+fn of_output(alloc: Global, fault: &MergeFault, name: Option<&Text>) -> Result<String, AllocError> {
+    output_explanation(alloc, fault, name_or_none(name))
+}
+
+/// Returns the name, or the empty string if there is none.
+fn name_or_none(name: Option<&Text>) -> &str {
+    match name {
+        Some(name) => name.as_str(),
+        None => "",
+    }
+}
+
 /// Returns the explanation of an error in a source with this name, from the bytes and the error that were kept.
 fn of_kept<'a, D>(
     alloc: Global,
@@ -124,10 +160,7 @@ fn of_kept<'a, D>(
     name: Option<&'a Text>,
     source: Option<&'a Counted<Kept<D>>>,
 ) -> Result<String, AllocError> {
-    let file = match name {
-        Some(name) => name.as_str(),
-        None => "",
-    };
+    let file = name_or_none(name);
     match source {
         Some(source) => {
             let kept = source.inner();

@@ -1,11 +1,11 @@
 //! A request, together with the sources and the outputs that it names.
-ghost use Rattle.std.specs.Prelude.{◌≡◌, map, option_map, codes, bytes_eq};
+ghost use Rattle.std.specs.Prelude.{◌≡◌, map, option_map};
 ghost use Rattle.sarif_streams.specs.Counted.{failed_calls, inner_of};
 ghost use Rattle.sarif_streams.specs.Failing.{failed_calls_in};
 ghost use Rattle.sarif_streams.specs.Named.{Named, channel_named};
 ghost use Rattle.sarif_streams.specs.OptionalReader.{failed_calls_if};
 ghost use Rattle.sarif_program.specs.Reports.{report_failures};
-ghost use Rattle.sarif_gate.specs.Named.{source_channel, output_channel, report_channel, report_named, is_error};
+ghost use Rattle.sarif_gate.specs.Named.{source_channel, output_channel, report_channel, report_named, is_error, leaves_no_output};
 
 use crate::merging::merge_streams;
 use crate::outputs::{Outputs, outputs_of};
@@ -31,7 +31,7 @@ pub struct Job<'a> {
     ghost out: { output_channel writers.out ≡ channel_named «request».now.out },
     ghost reports: { map report_channel writers.reports.items
         ≡ map report_named «request».now.reports.items },
-    ghost say: { is_error (inner_of writers.say) ≡ bytes_eq «request».now.out (codes "-") },
+    ghost say: { is_error (inner_of writers.say) ≡ leaves_no_output «request».now },
     ghost fresh_logs: { failed_calls_in readers.logs.items ≡ 0 },
     ghost fresh_baselines: { failed_calls_in readers.baselines.items ≡ 0 },
     ghost fresh_suppressions: { failed_calls_if readers.suppressions ≡ 0 },

@@ -12,7 +12,6 @@ use crate::sources::Source;
 use sarif_program::{Complaint, Complaints, run_request};
 use sarif_request::Request;
 use sarif_streams::Readers;
-use std::io;
 use std::sync::Wait;
 use std::thread::Threads;
 
@@ -89,7 +88,7 @@ fn merge_explained<'a, T: Threads + Wait + Sync>(
         (record { readers = readers.old; writers = writers.old })
         (record { readers = readers.new; writers = writers.new }) result }
 {
-    let mut complaints = Complaints::new(io::sink());
+    let mut complaints = Complaints::explained(rt.stderr());
     let status = run_request(
         threads,
         rt.alloc(),

@@ -1,9 +1,11 @@
 //! The outputs that a request names.
-ghost use Rattle.std.specs.Prelude.{◌≡◌, IfOk, map, codes, bytes_eq};
+ghost use Rattle.std.specs.Prelude.{◌≡◌, IfOk, map};
+ghost use Rattle.std.specs.List.{list_any};
 ghost use Rattle.sarif_streams.specs.Counted.{failed_calls, inner_of};
 ghost use Rattle.sarif_streams.specs.Named.{channel_named};
 ghost use Rattle.sarif_program.specs.Reports.{report_failures};
 ghost use Rattle.sarif_gate.specs.Named.{is_error, output_channel, report_channel, report_named};
+ghost use Rattle.sarif_gate.specs.Named.{leaves_no_output, takes_output};
 
 use sarif_model::Text;
 use sarif_program::Writers;
@@ -25,33 +27,46 @@ pub type Outputs<'a> = Writers<Output<'a>, Console<Stdout, Stderr>, Output<'a>>;
 pub fn outputs_of<'a>(rt: &'a HostRuntime, request: &'a Request) -> Result<Outputs<'a>, AllocError>
     ensures out { IfOk result
         (λ outputs. output_channel outputs.out ≡ channel_named «request».now.out) }
-    // There is a writer for each report that is requested, in the same order, and for no other report.
+    // There is a writer for each other output that is requested, in the same order, and for no more.
     ensures reports { IfOk result (λ outputs. map report_channel outputs.reports.items
         ≡ map report_named «request».now.reports.items) }
-    // If the merged log goes to standard output, the summary goes to standard error.
-    ensures say { IfOk result (λ outputs. is_error (inner_of outputs.say)
-        ≡ bytes_eq «request».now.out (codes "-")) }
+    // If the merged log or another output that a merge reads goes to standard output, the summary goes to standard
+    // error.
+    ensures say { IfOk result
+        (λ outputs. is_error (inner_of outputs.say) ≡ leaves_no_output «request».now) }
     ensures fresh { IfOk result (λ outputs. (failed_calls outputs.out ≡ 0)
         × (report_failures outputs.reports.items ≡ 0) × (failed_calls outputs.say ≡ 0)) }
 {
     let out = output_of(rt, &request.out)?;
     let reports = reports_of(rt, request.reports.as_slice())?;
-    let say = Counted::new(console_of(rt, &request.out));
+    let say = Counted::new(console_of(rt, request));
     Ok(Writers { out, reports, say })
 }
 
-/// Returns where the summary goes if the merged log goes to `out`.
-fn console_of(rt: &HostRuntime, out: &Text) -> Console<Stdout, Stderr>
-    ensures { is_error result ≡ bytes_eq out.now (codes "-") }
+/// Returns where the summary of a request goes.
+fn console_of(rt: &HostRuntime, request: &Request) -> Console<Stdout, Stderr>
+    ensures { is_error result ≡ leaves_no_output request.now }
 {
-    if out.as_str() == STANDARD {
+    if request.out.as_str() == STANDARD || one_takes_output(request.reports.as_slice()) {
         Console::Error(rt.stderr())
     } else {
         Console::Output(rt.stdout())
     }
 }
 
-/// Returns the outputs of these reports, in order.
+/// Returns whether one of these outputs is standard output and is read by a later merge.
+fn one_takes_output(outputs: &[Wanted<Text>]) -> bool
+    ensures { result ≡ list_any takes_output outputs.now }
+{
+    for wanted in outputs {
+        if wanted.report.is_for_merges() && wanted.to.as_str() == STANDARD {
+            return true;
+        }
+    }
+    false
+}
+
+/// Returns the outputs of these names, in order.
 fn reports_of<'a>(
     rt: &'a HostRuntime,
     names: &'a [Wanted<Text>],

@@ -1,3 +1,4 @@
+pub mod AllowedAlike
 pub mod FileAnswers
 pub mod OpenedParts
 pub mod ReadFacts

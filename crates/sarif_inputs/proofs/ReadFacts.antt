@@ -1,5 +1,5 @@
 -- What is known about the runs of sources, and about a result after the checks before it.
-use Rattle.std.proofs.Common.{◌≡◌, ℕ, ◌+◌, ◌++◌, ◌||◌, List, [], ◌∷◌, true, false, Result, Ok, Err, take, drop, length, refl, ap, ◌∙◌}
+use Rattle.std.proofs.Common.{◌≡◌, ℕ, ◌+◌, ◌++◌, ◌||◌, Bool, List, [], ◌∷◌, true, false, Result, Ok, Err, take, drop, length, refl, ap, ◌∙◌}
 use Rattle.std.proofs.lemmas.List.{map-append}
 use Rattle.std.proofs.lemmas.List.Concat.{flat_map-append}
 use Rattle.std.proofs.lemmas.List.Folds.{list_any-append}
@@ -7,6 +7,7 @@ use Rattle.std.proofs.Math.Seq.{take-append_seam, drop-append_seam}
 use Rattle.std.specs.List.{AllByRecursion, list_any}
 use Rattle.serde_json.specs.Data.{Data}
 use Rattle.serde_json.specs.Written.{has_float}
+use Rattle.sarif_counts.specs.declared.checks.Checks.{Checks}
 use Rattle.sarif_read.specs.declared.read_fault.ReadFault.{ReadFault}
 use Rattle.sarif_read.specs.Reading.{log_of}
 use Rattle.sarif_model.specs.declared.merge_fault.MergeFault.{MergeFault}
@@ -17,7 +18,7 @@ use Rattle.sarif_runs.specs.Placed.{Placed}
 use Rattle.sarif_inputs.proofs.SourceRuns.{data_placed}
 
 pub placed-append : (xs ys : List Sourced) → placed (xs ++ ys) ≡ placed xs ++ placed ys
-placed-append xs ys = flat_map-append (λ s. placed_from s.source 0 (runs_in s)) xs ys
+placed-append xs ys = flat_map-append (λ s. placed_from s.checks s.source 0 (runs_in s)) xs ys
 
 -- ---- logs and baselines
 
@@ -25,38 +26,38 @@ all-append : (P : Placed → Type 0) (xs ys : List Placed) → AllByRecursion P 
 all-append P [] ys h k = k
 all-append P (x ∷ xs) ys h k = (h.0, all-append P xs ys h.1 k)
 
-log_from : (k n : ℕ) (runs : List Data) → AllByRecursion (λ p. skips p.source ≡ false) (placed_from (Log k) n runs)
-log_from k n [] = tt
-log_from k n (run ∷ runs) = (refl, log_from k (n + 1) runs)
+log_from : (checks : Checks) (k n : ℕ) (runs : List Data) → AllByRecursion (λ p. skips p.source ≡ false) (placed_from checks (Log k) n runs)
+log_from checks k n [] = tt
+log_from checks k n (run ∷ runs) = (refl, log_from checks k (n + 1) runs)
 
-pub log_sides : (k : ℕ) (ls : List (List ℕ)) → AllByRecursion (λ p. skips p.source ≡ false) (placed (numbered Log k ls))
-log_sides k [] = tt
-log_sides k (bytes ∷ ls) =
-    all-append (λ p. skips p.source ≡ false) (placed_from (Log k) 0 (readable (log_of bytes))) (placed (numbered Log (k + 1) ls)) (log_from k 0 (readable (log_of bytes))) (log_sides (k + 1) ls)
+pub log_sides : (checks : Checks) (k : ℕ) (ls : List (List ℕ)) → AllByRecursion (λ p. skips p.source ≡ false) (placed (numbered checks Log k ls))
+log_sides checks k [] = tt
+log_sides checks k (bytes ∷ ls) =
+    all-append (λ p. skips p.source ≡ false) (placed_from checks (Log k) 0 (readable (log_of checks.allow_external bytes))) (placed (numbered checks Log (k + 1) ls)) (log_from checks k 0 (readable (log_of checks.allow_external bytes))) (log_sides checks (k + 1) ls)
 
-baseline_from : (k n : ℕ) (runs : List Data) → AllByRecursion (λ p. skips p.source ≡ true) (placed_from (Baseline k) n runs)
-baseline_from k n [] = tt
-baseline_from k n (run ∷ runs) = (refl, baseline_from k (n + 1) runs)
+baseline_from : (checks : Checks) (k n : ℕ) (runs : List Data) → AllByRecursion (λ p. skips p.source ≡ true) (placed_from checks (Baseline k) n runs)
+baseline_from checks k n [] = tt
+baseline_from checks k n (run ∷ runs) = (refl, baseline_from checks k (n + 1) runs)
 
-pub baseline_sides : (k : ℕ) (bs : List (List ℕ)) → AllByRecursion (λ p. skips p.source ≡ true) (placed (numbered Baseline k bs))
-baseline_sides k [] = tt
-baseline_sides k (bytes ∷ bs) =
-    all-append (λ p. skips p.source ≡ true) (placed_from (Baseline k) 0 (readable (log_of bytes))) (placed (numbered Baseline (k + 1) bs)) (baseline_from k 0 (readable (log_of bytes))) (baseline_sides (k + 1) bs)
+pub baseline_sides : (checks : Checks) (k : ℕ) (bs : List (List ℕ)) → AllByRecursion (λ p. skips p.source ≡ true) (placed (numbered checks Baseline k bs))
+baseline_sides checks k [] = tt
+baseline_sides checks k (bytes ∷ bs) =
+    all-append (λ p. skips p.source ≡ true) (placed_from checks (Baseline k) 0 (readable (log_of checks.allow_external bytes))) (placed (numbered checks Baseline (k + 1) bs)) (baseline_from checks k 0 (readable (log_of checks.allow_external bytes))) (baseline_sides checks (k + 1) bs)
 
 -- ---- numbers with a fraction
 
-module _ (law : (bytes : List ℕ) (runs : List Data) → log_of bytes ≡ Ok runs → list_any has_float runs ≡ false) where
-  readable_whole : (bytes : List ℕ) (r : Result (List Data) ReadFault) → log_of bytes ≡ r → list_any has_float (readable r) ≡ false
-  readable_whole bytes (Ok runs) h = law bytes runs h
-  readable_whole bytes (Err fault) h = refl
+module _ (law : (allow : Bool) (bytes : List ℕ) (runs : List Data) → log_of allow bytes ≡ Ok runs → list_any has_float runs ≡ false) where
+  readable_whole : (allow : Bool) (bytes : List ℕ) (r : Result (List Data) ReadFault) → log_of allow bytes ≡ r → list_any has_float (readable r) ≡ false
+  readable_whole allow bytes (Ok runs) h = law allow bytes runs h
+  readable_whole allow bytes (Err fault) h = refl
 
   pub whole : (sources : List Sourced) → list_any has_float (run_values (placed sources)) ≡ false
   whole [] = refl
   whole (s ∷ rest) =
-      let here = placed_from s.source 0 (runs_in s) in
+      let here = placed_from s.checks s.source 0 (runs_in s) in
       ap (list_any has_float) (map-append (λ p. p.run) here (placed rest))
       ∙ (list_any-append has_float (run_values here) (run_values (placed rest))
-      ∙ (ap (λ b. b || list_any has_float (run_values (placed rest))) (ap (list_any has_float) (data_placed s.source 0 (runs_in s)) ∙ readable_whole s.bytes (log_of s.bytes) refl)
+      ∙ (ap (λ b. b || list_any has_float (run_values (placed rest))) (ap (list_any has_float) (data_placed s.checks s.source 0 (runs_in s)) ∙ readable_whole s.checks.allow_external s.bytes (log_of s.checks.allow_external s.bytes) refl)
       ∙ whole rest))
 
 -- ---- the two parts of all runs

@@ -1,5 +1,5 @@
 -- What the index of a source says about its bytes.
-use Rattle.std.proofs.Common.{◌≡◌, ◌≤◌, ◌⊎◌, ℕ, List, map, length, Result, inr, refl, ap, ◌∙◌}
+use Rattle.std.proofs.Common.{◌≡◌, ◌≤◌, ◌⊎◌, ℕ, Bool, List, map, length, Result, inr, refl, ap, ◌∙◌}
 use Rattle.std.specs.Prelude.{Ok, Err, Some, IfOk}
 use Rattle.std.proofs.lemmas.Result.{IfErr-at_err}
 use Rattle.json.specs.Token.{Token}
@@ -25,37 +25,37 @@ use Rattle.sarif_inputs.specs.SourceFaults.{reading_faults, fault_of_reading}
 use Rattle.sarif_inputs.specs.Parsed.{Parsed, IsParsedFrom}
 use Rattle.sarif_model.specs.Limits.{most_results, most_runs}
 
-pub read_of_index : (bytes : List ℕ) (found : List Token) (r : Parsed)
+pub read_of_index : (allow : Bool) (bytes : List ℕ) (found : List Token) (r : Parsed)
     → json_of (without_mark bytes) ≡ Some (data_of found)
-    → IfOk r (λ runs. log_of_value (stripped (data_of found)) ≡ Ok (map run_of runs.items))
+    → IfOk r (λ runs. log_of_value allow (stripped (data_of found)) ≡ Ok (map run_of runs.items))
     → IfOk r (λ runs. results_total (map run_of runs.items) ≤ most_results)
     → IfOk r (λ runs. length runs.items ≤ most_runs)
-    → IfFault r (λ e. log_of_value (stripped (data_of found)) ≡ Err e)
-    → IsParsedFrom bytes r
-read_of_index bytes found (Ok runs) is ok few few_runs err = record {
-  ok = log_of_text bytes (data_of found) is ∙ ok;
+    → IfFault r (λ e. log_of_value allow (stripped (data_of found)) ≡ Err e)
+    → IsParsedFrom allow bytes r
+read_of_index allow bytes found (Ok runs) is ok few few_runs err = record {
+  ok = log_of_text allow bytes (data_of found) is ∙ ok;
   few_runs = few_runs;
   few_results = few;
   err = tt;
 }
-read_of_index bytes found (Err e) is ok few few_runs err = record {
+read_of_index allow bytes found (Err e) is ok few few_runs err = record {
   ok = tt;
   few_runs = tt;
   few_results = tt;
-  err = λ fault same. log_of_text bytes (data_of found) is ∙ err fault same;
+  err = λ fault same. log_of_text allow bytes (data_of found) is ∙ err fault same;
 }
 
 told_by : (fault : ReadFault) → refusal_of_index index.NotJson ≡ refusal.Fault fault → whole NotJson ≡ fault
 told_by fault same = cc
 
-pub read_without_index : (bytes : List ℕ) (fault : IndexFault) → IsIndexed (without_mark bytes) (Err fault) → IsParsedFrom bytes (Err (refusal_of_index fault))
-read_without_index bytes index.NotJson none = record {
+pub read_without_index : (allow : Bool) (bytes : List ℕ) (fault : IndexFault) → IsIndexed (without_mark bytes) (Err fault) → IsParsedFrom allow bytes (Err (refusal_of_index fault))
+read_without_index allow bytes index.NotJson none = record {
   ok = tt;
   few_runs = tt;
   few_results = tt;
-  err = λ fault same. log_of_none bytes (none refl) ∙ ap Err (told_by fault same);
+  err = λ fault same. log_of_none allow bytes (none refl) ∙ ap Err (told_by fault same);
 }
-read_without_index bytes index.OutOfMemory none = record {
+read_without_index allow bytes index.OutOfMemory none = record {
   ok = tt;
   few_runs = tt;
   few_results = tt;
@@ -63,9 +63,9 @@ read_without_index bytes index.OutOfMemory none = record {
 }
 
 -- the error that reading a source returned is the first of its bytes
-pub reading_refused : (source : Source) (bytes : List ℕ) (parsed : Parsed) (fault : ReadFault)
-    → parsed ≡ Err (refusal.Fault fault) → IsParsedFrom bytes parsed
-    → IsWanting (fault_of_reading source fault) ⊎ (first (reading_faults source (log_of bytes)) ≡ Some (fault_of_reading source fault))
-reading_refused source bytes parsed fault is p =
-    let told = IfErr-at_err (λ e. (found : ReadFault) → e ≡ refusal.Fault found → log_of bytes ≡ Err found) is p.err fault refl in
+pub reading_refused : (source : Source) (allow : Bool) (bytes : List ℕ) (parsed : Parsed) (fault : ReadFault)
+    → parsed ≡ Err (refusal.Fault fault) → IsParsedFrom allow bytes parsed
+    → IsWanting (fault_of_reading source fault) ⊎ (first (reading_faults source (log_of allow bytes)) ≡ Some (fault_of_reading source fault))
+reading_refused source allow bytes parsed fault is p =
+    let told = IfErr-at_err (λ e. (found : ReadFault) → e ≡ refusal.Fault found → log_of allow bytes ≡ Err found) is p.err fault refl in
     inr (ap (λ r. first (reading_faults source r)) told)

@@ -1,6 +1,7 @@
 -- One more source, read without an error: the remaining sources determine the result for all of them.
 use Rattle.std.proofs.Common.{◌≡◌, ℕ, ◌+◌, List, [], ◌∷◌, ◌++◌, ◌⊎◌, Some, map, length, refl, sym, ap, ◌∙◌, append_assoc, add-zero, length-append, arith}
 use Rattle.std.proofs.lemmas.List.{length-map, map-append}
+use Rattle.sarif_counts.specs.declared.checks.Checks.{Checks}
 use Rattle.sarif_read.specs.Reading.{log_of}
 use Rattle.sarif_model.specs.Run.{results_total}
 use Rattle.sarif_model.specs.declared.merge_fault.MergeFault.{MergeFault}
@@ -16,50 +17,50 @@ use Rattle.sarif_inputs.specs.SourceFaults.{source_faults, reading_faults, limit
 use Rattle.sarif_model.proofs.SourceAnswers.{still_first}
 use Rattle.sarif_inputs.proofs.SourceRuns.{counted_more, total_append, length_placed, data_placed}
 
-faults_step : (name : ℕ → Source) (n runs results now all : ℕ) (bytes : List ℕ) (rest : List (List ℕ))
-    → now ≡ runs + length (readable (log_of bytes))
-    → all ≡ results + results_total (readable (log_of bytes))
-    → faults_with (name n) (log_of bytes) runs results ≡ []
-    → source_faults now all (numbered name (n + 1) rest) ≡ source_faults runs results (numbered name n (bytes ∷ rest))
-faults_step name n runs results now all bytes rest same_now same_all none =
-    let then = source_faults (runs + length (readable (log_of bytes))) (results + results_total (readable (log_of bytes))) (numbered name (n + 1) rest) in
+faults_step : (checks : Checks) (name : ℕ → Source) (n runs results now all : ℕ) (bytes : List ℕ) (rest : List (List ℕ))
+    → now ≡ runs + length (readable (log_of checks.allow_external bytes))
+    → all ≡ results + results_total (readable (log_of checks.allow_external bytes))
+    → faults_with (name n) (log_of checks.allow_external bytes) runs results ≡ []
+    → source_faults now all (numbered checks name (n + 1) rest) ≡ source_faults runs results (numbered checks name n (bytes ∷ rest))
+faults_step checks name n runs results now all bytes rest same_now same_all none =
+    let then = source_faults (runs + length (readable (log_of checks.allow_external bytes))) (results + results_total (readable (log_of checks.allow_external bytes))) (numbered checks name (n + 1) rest) in
     rw (same_now, same_all) (sym (ap (λ faults. faults ++ then) none))
 
-pub source_step : (name : ℕ → Source) (n : ℕ) (old new : Reading) (bytes : List ℕ) (rest : List (List ℕ))
-    → map placed_read new.runs.items ≡ map placed_read old.runs.items ++ placed_from (name n) 0 (readable (log_of bytes))
-    → new.results ≡ old.results + results_total (readable (log_of bytes))
-    → faults_with (name n) (log_of bytes) (length old.runs.items) old.results ≡ []
-    → (map placed_read new.runs.items ++ placed (numbered name (n + 1) rest) ≡ map placed_read old.runs.items ++ placed (numbered name n (bytes ∷ rest))) × (source_faults (length new.runs.items) new.results (numbered name (n + 1) rest) ≡ source_faults (length old.runs.items) old.results (numbered name n (bytes ∷ rest)))
-source_step name n old new bytes rest runs results none =
-    let here = placed_from (name n) 0 (readable (log_of bytes)) in
-    let then = placed (numbered name (n + 1) rest) in
-    let long = counted_more old.runs.items new.runs.items (name n) (readable (log_of bytes)) runs in (
+pub source_step : (checks : Checks) (name : ℕ → Source) (n : ℕ) (old new : Reading) (bytes : List ℕ) (rest : List (List ℕ))
+    → map placed_read new.runs.items ≡ map placed_read old.runs.items ++ placed_from checks (name n) 0 (readable (log_of checks.allow_external bytes))
+    → new.results ≡ old.results + results_total (readable (log_of checks.allow_external bytes))
+    → faults_with (name n) (log_of checks.allow_external bytes) (length old.runs.items) old.results ≡ []
+    → (map placed_read new.runs.items ++ placed (numbered checks name (n + 1) rest) ≡ map placed_read old.runs.items ++ placed (numbered checks name n (bytes ∷ rest))) × (source_faults (length new.runs.items) new.results (numbered checks name (n + 1) rest) ≡ source_faults (length old.runs.items) old.results (numbered checks name n (bytes ∷ rest)))
+source_step checks name n old new bytes rest runs results none =
+    let here = placed_from checks (name n) 0 (readable (log_of checks.allow_external bytes)) in
+    let then = placed (numbered checks name (n + 1) rest) in
+    let long = counted_more checks old.runs.items new.runs.items (name n) (readable (log_of checks.allow_external bytes)) runs in (
       ap (λ ps. ps ++ then) runs ∙ append_assoc (map placed_read old.runs.items) here then,
-      faults_step name n (length old.runs.items) old.results (length new.runs.items) new.results bytes rest long.0 results none,
+      faults_step checks name n (length old.runs.items) old.results (length new.runs.items) new.results bytes rest long.0 results none,
     )
 
 -- ---- the logs, and then the baselines
 
 length_on : (s : Sourced) (rest : List Sourced) → length (placed (s ∷ rest)) ≡ length (runs_in s) + length (placed rest)
 length_on s rest =
-    let here = placed_from s.source 0 (runs_in s) in
-    length-append here (placed rest) ∙ ap (λ n. n + length (placed rest)) (length_placed s.source 0 (runs_in s))
+    let here = placed_from s.checks s.source 0 (runs_in s) in
+    length-append here (placed rest) ∙ ap (λ n. n + length (placed rest)) (length_placed s.checks s.source 0 (runs_in s))
 
 total_on : (s : Sourced) (rest : List Sourced)
     → results_total (run_values (placed (s ∷ rest))) ≡ results_total (runs_in s) + results_total (run_values (placed rest))
 total_on s rest =
-    let here = placed_from s.source 0 (runs_in s) in
+    let here = placed_from s.checks s.source 0 (runs_in s) in
     ap results_total (map-append (λ (p : Placed). p.run) here (placed rest))
     ∙ total_append (run_values here) (run_values (placed rest))
-    ∙ ap (λ ds. results_total ds + results_total (run_values (placed rest))) (data_placed s.source 0 (runs_in s))
+    ∙ ap (λ ds. results_total ds + results_total (run_values (placed rest))) (data_placed s.checks s.source 0 (runs_in s))
 
-faults_append : (runs results : ℕ) (ls bs : List Sourced)
+pub faults_append : (runs results : ℕ) (ls bs : List Sourced)
     → source_faults runs results (ls ++ bs) ≡ source_faults runs results ls ++ source_faults (runs + length (placed ls)) (results + results_total (run_values (placed ls))) bs
 faults_append runs results [] bs = rw (add-zero runs, add-zero results) refl
 faults_append runs results (s ∷ ls) bs =
     let now = runs + length (runs_in s) in
     let all = results + results_total (runs_in s) in
-    let here = reading_faults s.source (log_of s.bytes) ++ limit_faults s.source now all in
+    let here = reading_faults s.source (log_of s.checks.allow_external s.bytes) ++ limit_faults s.source now all in
     let same_now : now + length (placed ls) ≡ runs + length (placed (s ∷ ls)) = omega (arith, length_on s ls) in
     let same_all : all + results_total (run_values (placed ls)) ≡ results + results_total (run_values (placed (s ∷ ls))) = omega (arith, total_on s ls) in
     ap (λ faults. here ++ faults) (faults_append now all ls bs)

@@ -1,46 +1,62 @@
 -- What a merge is given, and the runs that can be read from it.
-use Rattle.std.specs.Prelude.{ℕ, ◌+◌, List, [], ◌∷◌, ◌++◌, Option, Result, Ok, Err}
+use Rattle.std.specs.Prelude.{ℕ, ◌+◌, Bool, false, List, [], ◌∷◌, ◌++◌, Option, Result, Ok, Err}
 use Rattle.std.specs.List.{flat_map}
 use Rattle.serde_json.specs.Data.{Data}
+use Rattle.sarif_counts.specs.declared.checks.Checks.{Checks}
 use Rattle.sarif_runs.specs.Placed.{Placed}
 use Rattle.sarif_read.specs.declared.read_fault.ReadFault.{ReadFault}
 use Rattle.sarif_read.specs.Reading.{log_of}
 use Rattle.sarif_model.specs.declared.merge_fault.Source.{Source}
-use Rattle.sarif_model.specs.declared.merge_fault.Source.TheVariants.{Log, Baseline}
+use Rattle.sarif_model.specs.declared.merge_fault.Source.TheVariants.{Log, Baseline, Suppress, Output, Known}
 
--- the bytes of the logs, of the baselines and of the suppression file, if there is one, and today's date, if it is
--- known
+-- the bytes of the logs, of the baselines and of the suppression file, if there is one; today's date, if it is known;
+-- and what is required of runs
 pub record Inputs : Type 0 where
   pub logs : List (List ℕ)
   pub baselines : List (List ℕ)
   pub suppressions : Option (List ℕ)
   pub today : Option ℕ
+  pub checks : Checks
 
--- a source with its bytes
+-- a source with its bytes, and what is required of its runs
 pub record Sourced : Type 0 where
   pub source : Source
   pub bytes : List ℕ
+  pub checks : Checks
 
 -- the sources in order, from number n on
-abbrev pub numbered : (ℕ → Source) → ℕ → List (List ℕ) → List Sourced
-numbered name n [] = []
-numbered name n (bytes ∷ rest) =
-    record { source = name n; bytes = bytes } ∷ numbered name (n + 1) rest
+abbrev pub numbered : Checks → (ℕ → Source) → ℕ → List (List ℕ) → List Sourced
+numbered checks name n [] = []
+numbered checks name n (bytes ∷ rest) =
+    record { source = name n; bytes = bytes; checks = checks } ∷ numbered checks name (n + 1) rest
 
 abbrev pub log_sources : Inputs → List Sourced
-log_sources inputs = numbered Log 0 inputs.logs
+log_sources inputs = numbered inputs.checks Log 0 inputs.logs
 
 abbrev pub baseline_sources : Inputs → List Sourced
-baseline_sources inputs = numbered Baseline 0 inputs.baselines
+baseline_sources inputs = numbered inputs.checks Baseline 0 inputs.baselines
 
 -- the logs, and then the baselines
 abbrev pub all_sources : Inputs → List Sourced
 all_sources inputs = log_sources inputs ++ baseline_sources inputs
 
-abbrev pub placed_from : Source → ℕ → List Data → List Placed
-placed_from source n [] = []
-placed_from source n (run ∷ runs) =
-    record { source = source; number = n; run = run } ∷ placed_from source (n + 1) runs
+-- whether the analysis of a run of this source must have been successful: this is never required of a baseline
+abbrev pub must_succeed : Checks → Source → Bool
+must_succeed checks (Log k) = checks.require_success
+must_succeed checks (Baseline k) = false
+must_succeed checks Suppress = false
+must_succeed checks Output = false
+must_succeed checks Known = false
+
+abbrev pub placed_from : Checks → Source → ℕ → List Data → List Placed
+placed_from checks source n [] = []
+placed_from checks source n (run ∷ runs) =
+    record {
+      source = source;
+      number = n;
+      must_succeed = must_succeed checks source;
+      run = run;
+    } ∷ placed_from checks source (n + 1) runs
 
 -- the runs of a source; one that can't be read gives none
 abbrev pub readable : Result (List Data) ReadFault → List Data
@@ -48,11 +64,11 @@ readable (Ok runs) = runs
 readable (Err fault) = []
 
 abbrev pub runs_in : Sourced → List Data
-runs_in sourced = readable (log_of sourced.bytes)
+runs_in sourced = readable (log_of sourced.checks.allow_external sourced.bytes)
 
 -- the runs of these sources, in order
 abbrev pub placed : List Sourced → List Placed
-placed sources = flat_map (λ s. placed_from s.source 0 (runs_in s)) sources
+placed sources = flat_map (λ s. placed_from s.checks s.source 0 (runs_in s)) sources
 
 abbrev pub input_runs : Inputs → List Placed
 input_runs inputs = placed (log_sources inputs)

@@ -1,3 +1,4 @@
+pub mod Allowing
 pub mod Faults
 pub mod Indexes
 pub mod Inputs

@@ -1,6 +1,6 @@
 -- The possible results of reading an indexed source. Internal: no public contract of the merge refers to this
 -- module.
-use Rattle.std.specs.Prelude.{◌≡◌, ◌≤◌, ℕ, ⊤, List, [], ◌∷◌, map, length, Result, Ok, Err, IfOk}
+use Rattle.std.specs.Prelude.{◌≡◌, ◌≤◌, ℕ, ⊤, Bool, List, [], ◌∷◌, map, length, Result, Ok, Err, IfOk}
 use Rattle.std.specs.declared.alloc.Global.{Global}
 use Rattle.std.specs.declared.vec.Vec.{Vec}
 use Rattle.json.specs.Token.{Token}
@@ -21,27 +21,28 @@ abbrev pub Parsed : Type 0
 Parsed = Result (Vec IndexedRun Global) (Refusal ReadFault)
 
 -- the log of these bytes, within the limits of one log, or its first error, or out of memory
-pub record IsParsedFrom (bytes : List ℕ) (parsed : Parsed) : Type 0 where
-  pub ok : IfOk parsed (λ log. log_of bytes ≡ Ok (map run_of log.items))
+pub record IsParsedFrom (allow : Bool) (bytes : List ℕ) (parsed : Parsed) : Type 0 where
+  pub ok : IfOk parsed (λ log. log_of allow bytes ≡ Ok (map run_of log.items))
   pub few_runs : IfOk parsed (λ log. length log.items ≤ most_runs)
   pub few_results : IfOk parsed (λ log. results_total (map run_of log.items) ≤ most_results)
-  pub err : IfFault parsed (λ e. log_of bytes ≡ Err e)
+  pub err : IfFault parsed (λ e. log_of allow bytes ≡ Err e)
 
 -- this was read from each of these sources
-abbrev pub AreParsedFrom : List (List ℕ) → List Parsed → Type 0
-AreParsedFrom [] [] = ⊤
-AreParsedFrom [] (one ∷ parsed) = ⊥
-AreParsedFrom (bytes ∷ sources) [] = ⊥
-AreParsedFrom (bytes ∷ sources) (one ∷ parsed) =
-    IsParsedFrom bytes one × AreParsedFrom sources parsed
+abbrev pub AreParsedFrom : Bool → List (List ℕ) → List Parsed → Type 0
+AreParsedFrom allow [] [] = ⊤
+AreParsedFrom allow [] (one ∷ parsed) = ⊥
+AreParsedFrom allow (bytes ∷ sources) [] = ⊥
+AreParsedFrom allow (bytes ∷ sources) (one ∷ parsed) =
+    IsParsedFrom allow bytes one × AreParsedFrom allow sources parsed
 
 -- this was read from this index, of any bytes
-abbrev pub IsReadFrom : Result (List Token) IndexFault → Parsed → Type 0
-IsReadFrom index read =
-    (bytes : List ℕ) → IsIndexed (without_mark bytes) index → IsParsedFrom bytes read
+abbrev pub IsReadFrom : Bool → Result (List Token) IndexFault → Parsed → Type 0
+IsReadFrom allow index read =
+    (bytes : List ℕ) → IsIndexed (without_mark bytes) index → IsParsedFrom allow bytes read
 
-abbrev pub AreReadFrom : List (Result (List Token) IndexFault) → List Parsed → Type 0
-AreReadFrom [] [] = ⊤
-AreReadFrom [] (one ∷ read) = ⊥
-AreReadFrom (index ∷ indexes) [] = ⊥
-AreReadFrom (index ∷ indexes) (one ∷ read) = IsReadFrom index one × AreReadFrom indexes read
+abbrev pub AreReadFrom : Bool → List (Result (List Token) IndexFault) → List Parsed → Type 0
+AreReadFrom allow [] [] = ⊤
+AreReadFrom allow [] (one ∷ read) = ⊥
+AreReadFrom allow (index ∷ indexes) [] = ⊥
+AreReadFrom allow (index ∷ indexes) (one ∷ read) =
+    IsReadFrom allow index one × AreReadFrom allow indexes read

@@ -3,6 +3,7 @@
 use Rattle.std.specs.Prelude.{◌≡◌, ℕ, ◌+◌, ◌≤◌, List, ◌++◌, map, length, Result}
 use Rattle.serde_json.specs.Data.{Data}
 use Rattle.sarif_read.specs.declared.read_fault.ReadFault.{ReadFault}
+use Rattle.sarif_counts.specs.declared.checks.Checks.{Checks}
 use Rattle.sarif_model.specs.Run.{results_total}
 use Rattle.sarif_model.specs.declared.merge_fault.MergeFault.{MergeFault}
 use Rattle.sarif_model.specs.declared.merge_fault.Source.{Source}
@@ -28,5 +29,6 @@ faults_with source log runs results =
     ++ limit_faults source (runs + length (readable log)) (results + results_total (readable log))
 
 -- the logs and then the baselines, by their bytes
-abbrev pub sources_of : List (List ℕ) → List (List ℕ) → List Sourced
-sources_of logs baselines = numbered Log 0 logs ++ numbered Baseline 0 baselines
+abbrev pub sources_of : Checks → List (List ℕ) → List (List ℕ) → List Sourced
+sources_of checks logs baselines =
+    numbered checks Log 0 logs ++ numbered checks Baseline 0 baselines

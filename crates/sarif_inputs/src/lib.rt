@@ -3,6 +3,7 @@
 #![tactic(auto)]
 
 mod indexes;
+mod laws;
 mod opening;
 mod read_run;
 mod reading;
@@ -10,5 +11,6 @@ mod sources;
 mod suppression_file;
 
 pub use indexes::index_sources;
-pub use sources::{Runs, check_numbers, open_sources};
+pub use laws::allowing_external_files_changes_nothing_without_them;
+pub use sources::{Opening, Runs, check_numbers, open_sources};
 pub use suppression_file::read_file;

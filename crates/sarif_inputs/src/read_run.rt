@@ -12,6 +12,8 @@ pub(crate) struct ReadRun<'t, 'a> {
     pub(crate) source: Source,
     /// Its number in its source, from 0.
     pub(crate) number: u32,
+    /// Whether its analysis must have been successful.
+    pub(crate) must_succeed: bool,
     pub(crate) run: IndexedRun<'t, 'a>,
     ghost whole: { has_float (run_of run) ≡ false },
 }
@@ -20,14 +22,25 @@ impl<'t, 'a> ReadRun<'t, 'a> {
     ghost use Rattle.sarif_inputs.specs.ReadRun.{placed_read};
 
     /// A run that holds no number with a fraction, with its place.
-    pub(crate) fn new(source: Source, number: u32, run: IndexedRun<'t, 'a>) -> ReadRun<'t, 'a>
+    pub(crate) fn new(
+        source: Source,
+        number: u32,
+        must_succeed: bool,
+        run: IndexedRun<'t, 'a>,
+    ) -> ReadRun<'t, 'a>
         requires whole { has_float (run_of run) ≡ false }
         ensures placed { placed_read result
-            ≡ record { source = source; number = number; run = run_of run.entry } }
+            ≡ record {
+              source = source;
+              number = number;
+              must_succeed = must_succeed;
+              run = run_of run.entry;
+            } }
     {
         ReadRun {
             source,
             number,
+            must_succeed,
             run,
         }
     }

@@ -16,12 +16,16 @@ use std::thread::Threads;
 pub(crate) type ReadLog<'t, 'a> = Result<Vec<IndexedRun<'t, 'a>>, Refusal<ReadFault>>;
 
 /// The runs of the log of an index, or why it is not a log.
-fn read_index<'t, 'a>(alloc: Global, index: &'t Result<Index<'a>, IndexFault>) -> ReadLog<'t, 'a>
+fn read_index<'t, 'a>(
+    alloc: Global,
+    index: &'t Result<Index<'a>, IndexFault>,
+    allow_external: bool,
+) -> ReadLog<'t, 'a>
     ensures { (bytes : List ℕ) → IsIndexed (without_mark bytes) index.now
-        → IsParsedFrom bytes result }
+        → IsParsedFrom allow_external bytes result }
 {
     match index {
-        Ok(found) => index_log(alloc, found),
+        Ok(found) => index_log(alloc, found, allow_external),
         Err(fault) => Err(refused_text(*fault)),
     }
 }
@@ -44,8 +48,9 @@ pub(crate) fn read_each<'t, 'a, R: Threads + Sync>(
     alloc: Global,
     indexes: &'t [Result<Index<'a>, IndexFault>],
     threads: u32,
+    allow_external: bool,
 ) -> Result<Vec<ReadLog<'t, 'a>>, AllocError>
-    ensures { IfOk result (λ read. AreReadFrom indexes.now read.items) }
+    ensures { IfOk result (λ read. AreReadFrom allow_external indexes.now read.items) }
 {
     let sharing = Sharing {
         rt,
@@ -54,8 +59,8 @@ pub(crate) fn read_each<'t, 'a, R: Threads + Sync>(
         least: 1,
     };
     let one = move |index|
-        ensures { IfOk result (λ read. IsReadFrom index.now read) }
-    { Ok(read_index(alloc, index)) };
+        ensures { IfOk result (λ read. IsReadFrom allow_external index.now read) }
+    { Ok(read_index(alloc, index, allow_external)) };
     let each = each_of(alloc, indexes)?;
     let read = share_jobs(&sharing, each, &one)?;
     Ok(read)
@@ -69,16 +74,17 @@ pub(crate) fn read_kinds<'t, 'a, R: Threads + Sync>(
     indexes: &'t [Result<Index<'a>, IndexFault>],
     logs: usize,
     threads: u32,
+    allow_external: bool,
 ) -> Result<(Vec<ReadLog<'t, 'a>>, Vec<ReadLog<'t, 'a>>), AllocError>
     requires threads { 1 ≤ threads }
     requires indexes { (ls : List (List ℕ)) × (bs : List (List ℕ))
         × AreIndexesOf ls bs indexes.now logs }
     ensures logs { (ls bs : List (List ℕ)) → AreIndexesOf ls bs indexes.now logs
-        → IfOk result (λ read. AreParsedFrom ls read.0.items) }
+        → IfOk result (λ read. AreParsedFrom allow_external ls read.0.items) }
     ensures baselines { (ls bs : List (List ℕ)) → AreIndexesOf ls bs indexes.now logs
-        → IfOk result (λ read. AreParsedFrom bs read.1.items) }
+        → IfOk result (λ read. AreParsedFrom allow_external bs read.1.items) }
 {
-    let mut first = read_each(rt, alloc, indexes, threads)?;
+    let mut first = read_each(rt, alloc, indexes, threads, allow_external)?;
     let second = first.split_off(logs)?;
     Ok((first, second))
 }

@@ -1,5 +1,5 @@
 //! Opening the runs of all sources of a merge.
-ghost use Rattle.std.specs.Prelude.{◌≡◌, ◌≤◌, ◌+◌, ◌++◌, [], Ok, ℕ, List, map, length, false};
+ghost use Rattle.std.specs.Prelude.{◌≡◌, ◌≤◌, ◌+◌, ◌++◌, [], Ok, ℕ, Bool, List, map, length, false};
 ghost use Rattle.std.specs.Prelude.{OnOk, IfErr, IfOk};
 ghost use Rattle.std.specs.List.{list_any};
 ghost use Rattle.serde_json.specs.Written.{has_float};
@@ -11,6 +11,7 @@ ghost use Rattle.sarif_model.specs.SourceKind.{source_of};
 ghost use Rattle.sarif_model.specs.FirstFault.{Answers};
 ghost use Rattle.sarif_inputs.specs.Faults.{IsTooMany, number_faults};
 ghost use Rattle.sarif_runs.specs.Judging.{run_values};
+ghost use Rattle.sarif_inputs.specs.Inputs as said;
 ghost use Rattle.sarif_inputs.specs.Inputs.{numbered, placed, placed_from, readable};
 ghost use Rattle.sarif_inputs.specs.Indexes.{AreIndexesOf};
 ghost use Rattle.sarif_inputs.specs.Parsed.{AreParsedFrom, IsParsedFrom};
@@ -24,6 +25,7 @@ use crate::opening::open_each;
 use crate::read_run::ReadRun;
 use crate::reading::{ReadLog, read_kinds};
 use json_parts::{Index, IndexFault};
+use sarif_counts::Checks;
 use sarif_model::{
     At, Cause, Fault, MOST_RESULTS, MOST_RUNS, MOST_SOURCES, MergeFault, Refusal, Source,
     SourceKind,
@@ -93,11 +95,11 @@ fn log_of_source<'t, 'a>(
     source: Source,
     parsed: ReadLog<'t, 'a>,
 ) -> Result<Vec<IndexedRun<'t, 'a>>, MergeFault>
-    ensures runs { (bytes : List ℕ) → IsParsedFrom bytes parsed.entry
-        → IfOk result (λ log. log_of bytes ≡ Ok (map run_of log.items)) }
+    ensures runs { (allow : Bool) (bytes : List ℕ) → IsParsedFrom allow bytes parsed.entry
+        → IfOk result (λ log. log_of allow bytes ≡ Ok (map run_of log.items)) }
     ensures same { IfOk result (λ log. parsed.entry ≡ Ok log) }
-    ensures faults { (bytes : List ℕ) → IsParsedFrom bytes parsed.entry
-        → Answers (reading_faults source (log_of bytes)) result }
+    ensures faults { (allow : Bool) (bytes : List ℕ) → IsParsedFrom allow bytes parsed.entry
+        → Answers (reading_faults source (log_of allow bytes)) result }
     ensures quiet { IsQuiet result }
 {
     match parsed {
@@ -134,8 +136,19 @@ fn count_results(runs: &[IndexedRun<'_, '_>]) -> u32
     results
 }
 
+/// Whether the analysis of a run of this source must have been successful.
+fn must_succeed(checks: Checks, source: Source) -> bool
+    ensures { result ≡ said.must_succeed checks source }
+{
+    match source {
+        Source::Log(_) => checks.require_success,
+        _ => false,
+    }
+}
+
 /// Adds the runs of a source with their numbers.
 fn place_runs<'t, 'a>(
+    checks: Checks,
     source: Source,
     runs: Vec<IndexedRun<'t, 'a>>,
     all: &mut Vec<ReadRun<'t, 'a>>,
@@ -143,11 +156,11 @@ fn place_runs<'t, 'a>(
     requires few { length runs.items ≤ most_runs }
     requires whole { list_any has_float (map run_of runs.items) ≡ false }
     ensures { OnOk result (map placed_read all.new.items
-        ≡ map placed_read all.old.items ++ placed_from source 0 (map run_of runs.entry.items)) }
+        ≡ map placed_read all.old.items ++ placed_from checks source 0 (map run_of runs.entry.items)) }
 {
     let mut number = 0;
     for run in runs {
-        let read = ReadRun::new(source, number, run);
+        let read = ReadRun::new(source, number, must_succeed(checks, source), run);
         all.push(read)?;
         number += 1;
     }
@@ -175,19 +188,24 @@ impl<'t, 'a> Reading<'t, 'a> {
     }
 
     /// Adds the runs that were read from a source.
-    fn add(&mut self, source: Source, parsed: ReadLog<'t, 'a>) -> Result<(), MergeFault>
+    fn add(
+        &mut self,
+        checks: Checks,
+        source: Source,
+        parsed: ReadLog<'t, 'a>,
+    ) -> Result<(), MergeFault>
         requires counted { IsCounted self.old }
-        requires parsed { (bytes : List ℕ) × IsParsedFrom bytes parsed }
-        ensures runs { (bytes : List ℕ) → IsParsedFrom bytes parsed.entry
+        requires parsed { (bytes : List ℕ) × IsParsedFrom checks.allow_external bytes parsed }
+        ensures runs { (bytes : List ℕ) → IsParsedFrom checks.allow_external bytes parsed.entry
             → OnOk result (map placed_read self.new.runs.items
             ≡ map placed_read self.old.runs.items
-            ++ placed_from source 0 (readable (log_of bytes))) }
-        ensures results { (bytes : List ℕ) → IsParsedFrom bytes parsed.entry
+            ++ placed_from checks source 0 (readable (log_of checks.allow_external bytes))) }
+        ensures results { (bytes : List ℕ) → IsParsedFrom checks.allow_external bytes parsed.entry
             → OnOk result (self.new.results
-            ≡ self.old.results + results_total (readable (log_of bytes))) }
+            ≡ self.old.results + results_total (readable (log_of checks.allow_external bytes))) }
         ensures counted { OnOk result (IsCounted self.new) }
-        ensures faults { (bytes : List ℕ) → IsParsedFrom bytes parsed.entry
-            → Answers (faults_with source (log_of bytes)
+        ensures faults { (bytes : List ℕ) → IsParsedFrom checks.allow_external bytes parsed.entry
+            → Answers (faults_with source (log_of checks.allow_external bytes)
             (length self.old.runs.items) self.old.results) result }
         ensures quiet { IsQuiet result }
     {
@@ -195,29 +213,34 @@ impl<'t, 'a> Reading<'t, 'a> {
         let log = log_of_source(source, parsed)?;
         let results = self.results + count_results(log.as_slice());
         check_limits(source, self.runs.len() + log.len(), results)?;
-        place_runs(source, log, &mut self.runs)?;
+        place_runs(checks, source, log, &mut self.runs)?;
         self.results = results;
         Ok(())
     }
 
     /// Adds the runs that were read from the sources of a kind, in order.
-    fn add_all(&mut self, kind: SourceKind, logs: Vec<ReadLog<'t, 'a>>) -> Result<(), MergeFault>
+    fn add_all(
+        &mut self,
+        checks: Checks,
+        kind: SourceKind,
+        logs: Vec<ReadLog<'t, 'a>>,
+    ) -> Result<(), MergeFault>
         requires few { length logs.items ≤ most_sources }
         requires counted { IsCounted self.old }
-        requires parsed { (sources : List (List ℕ)) × AreParsedFrom sources logs.items }
-        ensures runs { (sources : List (List ℕ)) → AreParsedFrom sources logs.entry.items
+        requires parsed { (sources : List (List ℕ)) × AreParsedFrom checks.allow_external sources logs.items }
+        ensures runs { (sources : List (List ℕ)) → AreParsedFrom checks.allow_external sources logs.entry.items
             → OnOk result (map placed_read self.new.runs.items
             ≡ map placed_read self.old.runs.items
-            ++ placed (numbered (source_of kind) 0 sources)) }
+            ++ placed (numbered checks (source_of kind) 0 sources)) }
         ensures counted { OnOk result (IsCounted self.new) }
-        ensures faults { (sources : List (List ℕ)) → AreParsedFrom sources logs.entry.items
+        ensures faults { (sources : List (List ℕ)) → AreParsedFrom checks.allow_external sources logs.entry.items
             → Answers (source_faults (length self.old.runs.items) self.old.results
-            (numbered (source_of kind) 0 sources)) result }
+            (numbered checks (source_of kind) 0 sources)) result }
         ensures quiet { IsQuiet result }
     {
         let mut number = 0;
         for parsed in logs {
-            self.add(kind.source(number), parsed)?;
+            self.add(checks, kind.source(number), parsed)?;
             number += 1;
         }
         Ok(())
@@ -229,6 +252,7 @@ impl<'t, 'a> Reading<'t, 'a> {
 fn read_all<'t, 'a, R: Threads + Sync>(
     rt: &R,
     alloc: Global,
+    checks: Checks,
     indexes: &'t [Result<Index<'a>, IndexFault>],
     logs: usize,
     threads: u32,
@@ -237,35 +261,43 @@ fn read_all<'t, 'a, R: Threads + Sync>(
     requires indexes { (ls : List (List ℕ)) × (bs : List (List ℕ))
         × AreIndexesOf ls bs indexes.now logs }
     ensures all { (ls bs : List (List ℕ)) → AreIndexesOf ls bs indexes.now logs
-        → IfOk result (λ runs. map placed_read runs.all.items ≡ placed (sources_of ls bs)) }
+        → IfOk result (λ runs. map placed_read runs.all.items ≡ placed (sources_of checks ls bs)) }
     ensures inputs { (ls bs : List (List ℕ)) → AreIndexesOf ls bs indexes.now logs
-        → IfOk result (λ runs. runs.inputs ≡ length (placed (numbered Source.Log 0 ls))) }
+        → IfOk result (λ runs. runs.inputs ≡ length (placed (numbered checks Source.Log 0 ls))) }
     ensures few { IfOk result (λ runs. length runs.all.items ≤ most_runs) }
     ensures few_results { IfOk result
         (λ runs. results_total (run_values (map placed_read runs.all.items)) ≤ most_results) }
     ensures faults { (ls bs : List (List ℕ)) → AreIndexesOf ls bs indexes.now logs
-        → Answers (source_faults 0 0 (sources_of ls bs)) result }
+        → Answers (source_faults 0 0 (sources_of checks ls bs)) result }
     ensures quiet { IsQuiet result }
 {
-    let (first, second) = read_kinds(rt, alloc, indexes, logs, threads)?;
+    let (first, second) = read_kinds(rt, alloc, indexes, logs, threads, checks.allow_external)?;
     let mut reading = Reading::new(alloc);
-    reading.add_all(SourceKind::Log, first)?;
+    reading.add_all(checks, SourceKind::Log, first)?;
     let inputs = reading.runs.len() as u32;
-    reading.add_all(SourceKind::Baseline, second)?;
+    reading.add_all(checks, SourceKind::Baseline, second)?;
     let Reading { runs: all, .. } = reading;
     Ok(AllRuns { all, inputs })
 }
 
+/// How runs are read and opened.
+#[derive(Clone, Copy)]
+pub struct Opening {
+    /// What is required of runs beyond the form of a log.
+    pub checks: Checks,
+    /// What the tables of their rules and overrides hash with; no result depends on it.
+    pub seed: RandomState,
+}
+
 /// Opens the runs of the logs, which are the first `logs` of the indexes, and those of the baselines. At most
-/// `threads` threads, including this one, read the runs and make their heads. The tables of their rules and
-/// overrides hash with `seed`, on which no result depends. A rejection is the first error of the sources in order:
+/// `threads` threads, including this one, read the runs and make their heads. A rejection is the first error of the sources in order:
 /// `NotJson`, `NotLog` or `WrongVersion` of a source; `TooMany` at a source of more than `MOST_RUNS` runs, or with
 /// which there are more than `MOST_RUNS` runs or `MOST_RESULTS` results; `BadRun`, `ExternalProperties` or
 /// `TooMany` at a run. `OutOfMemory` has no place. An error of a run's head is not returned: it is kept with the run.
 pub fn open_sources<'t, 'a, R: Threads + Sync>(
     rt: &R,
     alloc: Global,
-    seed: RandomState,
+    opening: Opening,
     indexes: &'t [Result<Index<'a>, IndexFault>],
     logs: usize,
     threads: u32,
@@ -274,13 +306,13 @@ pub fn open_sources<'t, 'a, R: Threads + Sync>(
     requires indexes { (ls : List (List ℕ)) × (bs : List (List ℕ))
         × AreIndexesOf ls bs indexes.now logs }
     ensures runs { (ls bs : List (List ℕ)) → AreIndexesOf ls bs indexes.now logs
-        → IfOk result (AreRunsOf ls bs) }
+        → IfOk result (AreRunsOf opening.checks ls bs) }
     ensures faults { (ls bs : List (List ℕ)) → AreIndexesOf ls bs indexes.now logs
-        → Answers (source_faults 0 0 (sources_of ls bs)) result }
+        → Answers (source_faults 0 0 (sources_of opening.checks ls bs)) result }
     ensures quiet { IsQuiet result }
 {
-    let AllRuns { all, inputs } = read_all(rt, alloc, indexes, logs, threads)?;
-    let mut current = open_each(rt, alloc, seed, all, threads)?;
+    let AllRuns { all, inputs } = read_all(rt, alloc, opening.checks, indexes, logs, threads)?;
+    let mut current = open_each(rt, alloc, opening.seed, all, threads)?;
     let baseline = current.split_off(inputs as usize)?;
     Ok(Runs { current, baseline })
 }

@@ -1,5 +1,6 @@
 pub mod BaselineSpots
 pub mod FoundDrafts
+pub mod KeptSides
 pub mod LeftTexts
 pub mod ListedTold
 pub mod LogText

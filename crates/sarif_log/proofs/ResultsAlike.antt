@@ -12,7 +12,9 @@ use Rattle.sarif_model.specs.Run.{elements_or_none}
 use Rattle.sarif_read.proofs.PickedMembers.{picked_get}
 use Rattle.sarif_findings.specs.declared.reporting.Reporting.{Reporting}
 use Rattle.sarif_findings.specs.Lookup.{text_in, number_in, own_rule_id, index_of_rule, rule_index, component_by, component_of, driver_of, rule_by, rule_in, descriptor_of, descriptor_id, rule_id, elements_in, location_uri, physical_location, position_in, position_number}
-use Rattle.sarif_findings.specs.Message.{string_named, strings_of, own_string, shared_string, looked_up, text_by, message_of, filled, arguments_in, arguments_of}
+use Rattle.sarif_findings.specs.Message.{string_named, strings_of, own_string, shared_string, looked_up, text_by, message_of, arguments_in, arguments_of}
+use Rattle.sarif_findings.specs.Links.{unlinked}
+use Rattle.sarif_findings.specs.Placeholders.{filled}
 use Rattle.sarif_findings.specs.Reported.{help_in, link_of, path_in, shown_path, finding_of}
 use Rattle.sarif_log.proofs.RunsAlike.{run_same, AreAlike}
 
@@ -81,8 +83,8 @@ text_same run x y (Some message) same =
 
 message_same : (run x y : Data) → AreToldAlike x y → message_of run x ≡ message_of run y
 message_same run x y same =
-    ap (λ o. filled (arguments_in o) (chars (unwrap_or (option_and_then (text_by run x) o) []))) same.message
-    ∙ ap (λ text. filled (arguments_of y) (chars (unwrap_or text []))) (text_same run x y (get (codes "message") y) same)
+    ap (λ o. filled (arguments_in o) (unlinked (arguments_in o) (chars (unwrap_or (option_and_then (text_by run x) o) [])))) same.message
+    ∙ ap (λ text. filled (arguments_of y) (unlinked (arguments_of y) (chars (unwrap_or text [])))) (text_same run x y (get (codes "message") y) same)
 
 -- ---- the place
 
@@ -92,7 +94,7 @@ physical_same x y same =
 
 path_same : (reporting : Reporting) (run x y : Data) → AreToldAlike x y → path_in reporting run x ≡ path_in reporting run y
 path_same reporting run x y same =
-    ap (λ p. option_and_then (shown_path reporting.root) (option_and_then (location_uri run) (option_and_then (get (codes "artifactLocation")) p))) (physical_same x y same)
+    ap (λ p. option_and_then (shown_path reporting.roots) (option_and_then (location_uri run) (option_and_then (get (codes "artifactLocation")) p))) (physical_same x y same)
 
 position_same : (name : List ℕ) (x y : Data) → AreToldAlike x y → position_in name x ≡ position_in name y
 position_same name x y same =

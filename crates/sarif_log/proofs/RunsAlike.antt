@@ -11,7 +11,9 @@ use Rattle.sarif_model.specs.Run.{elements_or_none}
 use Rattle.sarif_read.proofs.Beside.{bare_get}
 use Rattle.sarif_findings.specs.declared.reporting.Reporting.{Reporting}
 use Rattle.sarif_findings.specs.Lookup.{text_in, element_at, own_rule_id, rule_in, driver_of, extension_index, component_by, component_of, descriptor_of, rule_id, artifact_uri, location_uri, physical_location, number_in}
-use Rattle.sarif_findings.specs.Message.{string_named, strings_of, own_string, shared_string, looked_up, text_by, message_of, filled, arguments_of}
+use Rattle.sarif_findings.specs.Message.{string_named, strings_of, own_string, shared_string, looked_up, text_by, message_of, arguments_of}
+use Rattle.sarif_findings.specs.Links.{unlinked}
+use Rattle.sarif_findings.specs.Placeholders.{filled}
 use Rattle.sarif_findings.specs.Reported.{tool_in, help_in, link_of, path_in, shown_path, finding_of}
 
 -- two runs have the same tool and the same artifacts
@@ -57,7 +59,7 @@ location_same a b (Some location) same =
 
 path_same : (reporting : Reporting) (a b x : Data) → AreAlike a b → path_in reporting a x ≡ path_in reporting b x
 path_same reporting a b x same =
-    ap (option_and_then (shown_path reporting.root)) (location_same a b (option_and_then (get (codes "artifactLocation")) (physical_location x)) same)
+    ap (option_and_then (shown_path reporting.roots)) (location_same a b (option_and_then (get (codes "artifactLocation")) (physical_location x)) same)
 
 -- ---- the message
 
@@ -83,7 +85,7 @@ text_same a b x (Some message) same =
 
 message_same : (a b x : Data) → AreAlike a b → message_of a x ≡ message_of b x
 message_same a b x same =
-    ap (λ text. filled (arguments_of x) (chars (unwrap_or text []))) (text_same a b x (get (codes "message") x) same)
+    ap (λ text. filled (arguments_of x) (unlinked (arguments_of x) (chars (unwrap_or text [])))) (text_same a b x (get (codes "message") x) same)
 
 -- ---- the whole
 

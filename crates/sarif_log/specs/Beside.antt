@@ -2,16 +2,23 @@
 use Rattle.std.specs.Prelude.{◌≡◌}
 use Rattle.std.specs.Borrow.{Bor}
 use Rattle.std.specs.Fn.{FnOnceReturns, Once}
-use Rattle.std.specs.declared.alloc.Global.{Global}
-use Rattle.std.specs.declared.vec.Vec.{Vec}
-use Rattle.sarif_counts.specs.declared.counts.Counts.{Counts}
-use Rattle.sarif_findings.specs.declared.finding.Finding.{Finding}
+use Rattle.sarif_log.specs.declared.facts.Facts.{Facts}
+use Rattle.sarif_log.specs.declared.merged.Merged.{Merged}
 
--- a call of this function with these counts and these findings may return this
-abbrev pub IsMadeBy : {F R : Type 0}
-    → Once F (Bor Counts × (Bor (Vec Finding Global) × Unit {0})) R
-    → F → Counts → Vec Finding Global → R → Type 0
-IsMadeBy call tell counts findings made =
-    (counted : Bor Counts) × (found : Bor (Vec Finding Global))
-    × FnOnceReturns call tell (counted, (found, tt)) made
-    × (counted.now ≡ counts) × (found.now ≡ findings)
+-- these are the facts of that merge
+pub record AreFactsOf (merged : Merged) (facts : Facts) : Type 0 where
+  pub counts : facts.counts.now ≡ merged.counts
+  pub without : facts.without ≡ merged.without
+  pub unused : facts.unused ≡ merged.unused
+  pub findings : facts.findings.now ≡ merged.findings
+  pub life : facts.life.now ≡ merged.life
+
+-- a call of this function with these facts may return this
+abbrev pub IsToldBy : {F R : Type 0} → Once F (Bor Facts × Unit {0}) R → F → Facts → R → Type 0
+IsToldBy call tell facts made =
+    (told : Bor Facts) × FnOnceReturns call tell (told, tt) made × (told.now ≡ facts)
+
+-- the same with the facts of this merge
+abbrev pub IsMadeBy : {F R : Type 0} → Once F (Bor Facts × Unit {0}) R → F → Merged → R → Type 0
+IsMadeBy call tell merged made =
+    (facts : Facts) × IsToldBy call tell facts made × AreFactsOf merged facts

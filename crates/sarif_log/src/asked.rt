@@ -1,8 +1,8 @@
 //! What a merge is asked to do.
-use sarif_counts::Options;
+use sarif_counts::{Options, Upkeep};
 use sarif_findings::Reporting;
 
-/// The options of a merge, and what reports of it need.
+/// The options of a merge, what reports of it need, and what is made for later merges.
 #[derive(Clone, Copy)]
 pub struct Asked<'o> {
     /// How it is done, and what the gate fails on.
@@ -10,4 +10,6 @@ pub struct Asked<'o> {
     /// What reports depend on, if findings are requested. For the program its policy is the gate's; another caller
     /// may pass a different one.
     pub reporting: Option<&'o Reporting>,
+    /// What is made for later merges, if anything is.
+    pub upkeep: Option<&'o Upkeep>,
 }

@@ -1,5 +1,5 @@
 //! Assembling the merged log.
-ghost use Rattle.std.specs.Prelude.{List, Ok, Option, IfOk};
+ghost use Rattle.std.specs.Prelude.{◌≡◌, List, Ok, Option, IfOk};
 ghost use Rattle.sarif_suppress.specs.File.{File};
 ghost use Rattle.sarif_runs.specs.Placed.{Placed};
 ghost use Rattle.sarif_findings.specs.declared.reporting.Reporting.{Reporting};
@@ -7,22 +7,19 @@ ghost use Rattle.sarif_log.specs.Beside.{IsMadeBy};
 ghost use Rattle.sarif_log.specs.Assembled.{IsMergedBy};
 ghost use Rattle.sarif_log.specs.Prepared.{IsPrepared};
 
+use crate::facts::Facts;
 use crate::merged::Merged;
 use crate::prepared::Prepared;
 use crate::written::write_log;
-use sarif_counts::{Counts, Options};
-use sarif_findings::Finding;
+use sarif_counts::Options;
 use std::alloc::{AllocError, Global};
 use std::thread::Threads;
 
-/// Returns the merged log of what was prepared, with the gate of the policy of `options`, and what `tell` returns
-/// for its counts and findings. As many threads as there are workers count the results, and `tell` is called while
-/// the log's text is made. Returns `AllocError` if memory runs out or if `tell` returns it.
-pub fn assemble<
-    R: Threads + Sync,
-    B: Drop,
-    Tell: FnOnce(&Counts, &Vec<Finding>) -> Result<B, AllocError>,
->(
+/// Returns the merged log of what was prepared, with the gate of the policy of `options`, with what is for later
+/// merges, and what `tell` returns for the facts of the merge. As many threads as there are workers count the
+/// results, and `tell` is called while the log's text is made. Returns `AllocError` if memory runs out or if `tell`
+/// returns it.
+pub fn assemble<R: Threads + Sync, B: Drop, Tell: FnOnce(&Facts<'_>) -> Result<B, AllocError>>(
     rt: &R,
     alloc: Global,
     prepared: Prepared,
@@ -33,8 +30,8 @@ pub fn assemble<
     ensures merged { IfOk result (λ made. (file : File) (current_runs baseline_runs : List Placed)
         (asked : Option Reporting) → IsPrepared file current_runs baseline_runs asked prepared
         → IsMergedBy file current_runs baseline_runs options.now.policy asked made.0) }
-    ensures told { IfOk result (λ made. IsMadeBy Tell.FnOnce tell
-        made.0.counts made.0.findings (Ok made.1)) }
+    ensures life { IfOk result (λ made. made.0.life ≡ prepared.life) }
+    ensures told { IfOk result (λ made. IsMadeBy Tell.FnOnce tell made.0 (Ok made.1)) }
 {
     write_log(rt, alloc, prepared, options, tell)
 }

@@ -1,5 +1,5 @@
 //! What a merge gives.
-use sarif_counts::{Counts, Verdict};
+use sarif_counts::{Counts, Life, Verdict};
 use sarif_findings::Finding;
 use sarif_model::Text;
 
@@ -18,4 +18,6 @@ pub struct Merged {
     pub unused: u32,
     /// The findings of its results, in the order of the log; empty if none were requested.
     pub findings: Vec<Finding>,
+    /// What is for later merges.
+    pub life: Life,
 }

@@ -5,6 +5,7 @@ ghost use Rattle.sarif_log.specs.Side.{IsSide};
 ghost use Rattle.sarif_model.specs.Limits.{most_results};
 
 use crate::merged_text::Side;
+use sarif_counts::Life;
 use sarif_findings::Finding;
 use sarif_model::Record;
 
@@ -26,6 +27,8 @@ pub struct Prepared {
     pub(crate) unused: u32,
     /// The findings of its results, in order.
     pub(crate) findings: Vec<Finding>,
+    /// What is for later merges.
+    pub(crate) life: Life,
     /// What only has to be released.
     pub(crate) spent: Spent,
     ghost current_is: { IsSide current } by { Prim.hlevel props },

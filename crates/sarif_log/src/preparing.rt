@@ -1,5 +1,5 @@
 //! Matching the results of logs with those of baselines.
-ghost use Rattle.std.specs.Prelude.{◌≡◌, ◌≤◌, false, true, not, is_some, count_by, length, map, List, IfOk};
+ghost use Rattle.std.specs.Prelude.{◌≡◌, ◌≤◌, false, true, not, is_some, count_by, length, map, List, IfOk, IfErr};
 ghost use Rattle.std.specs.List.{AllByRecursion};
 ghost use Rattle.serde_json.specs.Data.{Data};
 ghost use Rattle.sarif_model.specs.declared.record.Record.{Record};
@@ -13,6 +13,8 @@ ghost use Rattle.sarif_log.specs.Texts.{own_count, ArePartsOf, IsWholeRun};
 ghost use Rattle.sarif_log.specs.LogBy.{listing_of, runs_by};
 ghost use Rattle.sarif_log.specs.Prepared.{IsPrepared};
 ghost use Rattle.sarif_results.specs.Judged.{placed_in, IsJudged};
+ghost use Rattle.sarif_upkeep.specs.IsMatched.{IsFileOf};
+ghost use Rattle.sarif_log.specs.Kept.{bytes_of, merge_of, upkeep_in, IsKept, IsUnkept};
 ghost use Rattle.sarif_log.specs.Together.{AreTogether, IsPaired};
 ghost use Rattle.sarif_log.specs.Told.{reporting_in, told_of};
 ghost use Rattle.sarif_model.specs.Limits.{most_runs};
@@ -20,16 +22,18 @@ ghost use Rattle.sarif_model.specs.Limits.{most_runs};
 use crate::asked::Asked;
 use crate::baselines::{Baselines, gather_baselines};
 use crate::counting::count_unused;
+use crate::file_read::FileRead;
 use crate::halves::{Half, current_half, current_parts};
+use crate::keeping::{Sides, keep_if_asked};
 use crate::left::{left_drafts, left_side};
 use crate::matched::{Matched, match_records};
 use crate::merged_text::Side;
 use crate::prepared::{Prepared, Spent};
 use crate::run_parts::count_without;
 use crate::telling::{tell_current, tell_left};
-use sarif_counts::Options;
+use sarif_counts::{Life, Options};
 use sarif_findings::Finding;
-use sarif_model::{Record, State};
+use sarif_model::{MergeFault, Record, State};
 use sarif_results::{Draft, Judged};
 use sarif_suppress::Suppressions;
 use std::alloc::{AllocError, Global};
@@ -39,11 +43,11 @@ use std::thread::Threads;
 #[derive(Drop)]
 pub(crate) struct Paired {
     /// The baseline state of each current result.
-    states: Vec<Option<State>>,
+    pub(crate) states: Vec<Option<State>>,
     /// Whether each baseline result is the match of a current result.
-    taken: Vec<bool>,
+    pub(crate) taken: Vec<bool>,
     /// The drafts of those that aren't.
-    left: Vec<Draft>,
+    pub(crate) left: Vec<Draft>,
 }
 
 /// What is written for the runs of logs.
@@ -147,23 +151,86 @@ fn current_side(
     })
 }
 
-/// Matches the results of logs with those of baselines, and takes out of them what is written and reported.
+/// What is told of the results of logs and baselines, once they are matched.
+#[derive(Drop)]
+struct Told {
+    paired: Paired,
+    findings: Vec<Finding>,
+    life: Life,
+}
+
+/// Matches the results of logs with those of baselines, and says what is reported and what is for later merges.
+fn tell_sides<R: Threads + Sync>(
+    rt: &R,
+    alloc: Global,
+    current: &Half<'_, '_>,
+    baselines: &Baselines<'_, '_>,
+    rules: &FileRead<'_>,
+    asked: &Asked<'_>,
+) -> Result<Told, MergeFault>
+    requires read { IsFileOf (bytes_of rules.now) rules.now.file.now }
+    requires together { (current_runs : List Placed) × (baseline_runs : List Placed)
+        × AreTogether rules.now.file.now current_runs baseline_runs current.now baselines.now }
+    ensures paired { IfOk result (λ told. IsPaired current.now baselines.now told.paired) }
+    ensures findings { IfOk result (λ told. (file : File) (current_runs baseline_runs : List Placed)
+        → AreTogether file current_runs baseline_runs current.now baselines.now
+        → told.findings.items
+        ≡ told_of (reporting_in asked.now) (runs_by file current_runs baseline_runs)) }
+    ensures kept { (current_runs baseline_runs : List Placed)
+        → AreTogether rules.now.file.now current_runs baseline_runs current.now baselines.now
+        → IfOk result (λ told. IsKept (merge_of rules.now.file.now (bytes_of rules.now)
+        asked.now.options.now.policy current_runs baseline_runs) (upkeep_in asked.now) told.life) }
+    ensures unkept { (current_runs baseline_runs : List Placed)
+        → AreTogether rules.now.file.now current_runs baseline_runs current.now baselines.now
+        → IfErr result (IsUnkept (merge_of rules.now.file.now (bytes_of rules.now)
+        asked.now.options.now.policy current_runs baseline_runs) (upkeep_in asked.now)) }
+{
+    let paired = pair_results(rt, alloc, current, baselines, asked.options)?;
+    let findings = tell_results(rt, alloc, asked, current, baselines, &paired)?;
+    let sides = Sides {
+        current,
+        baselines,
+        paired: &paired,
+    };
+    let life = keep_if_asked(alloc, &sides, rules, asked)?;
+    Ok(Told {
+        paired,
+        findings,
+        life,
+    })
+}
+
+/// Matches the results of logs with those of baselines, and takes out of them what is written and reported, and what
+/// is for later merges.
 fn prepare_sides<R: Threads + Sync>(
     rt: &R,
     alloc: Global,
     current: Half<'_, '_>,
     baselines: Baselines<'_, '_>,
-    file: &Suppressions,
+    rules: &FileRead<'_>,
     asked: &Asked<'_>,
-) -> Result<Prepared, AllocError>
-    requires { (current_runs : List Placed) × (baseline_runs : List Placed)
-        × AreTogether file.now current_runs baseline_runs current baselines }
-    ensures { IfOk result (λ prepared. (current_runs baseline_runs : List Placed)
-        → AreTogether file.now current_runs baseline_runs current.entry baselines.entry
-        → IsPrepared file.now current_runs baseline_runs (reporting_in asked.now) prepared) }
+) -> Result<Prepared, MergeFault>
+    requires read { IsFileOf (bytes_of rules.now) rules.now.file.now }
+    requires together { (current_runs : List Placed) × (baseline_runs : List Placed)
+        × AreTogether rules.now.file.now current_runs baseline_runs current baselines }
+    ensures prepared { IfOk result (λ prepared. (current_runs baseline_runs : List Placed)
+        → AreTogether rules.now.file.now current_runs baseline_runs current.entry baselines.entry
+        → IsPrepared rules.now.file.now current_runs baseline_runs (reporting_in asked.now) prepared) }
+    ensures kept { (current_runs baseline_runs : List Placed)
+        → AreTogether rules.now.file.now current_runs baseline_runs current.entry baselines.entry
+        → IfOk result (λ prepared. IsKept (merge_of rules.now.file.now (bytes_of rules.now)
+        asked.now.options.now.policy current_runs baseline_runs) (upkeep_in asked.now)
+        prepared.life) }
+    ensures unkept { (current_runs baseline_runs : List Placed)
+        → AreTogether rules.now.file.now current_runs baseline_runs current.entry baselines.entry
+        → IfErr result (IsUnkept (merge_of rules.now.file.now (bytes_of rules.now)
+        asked.now.options.now.policy current_runs baseline_runs) (upkeep_in asked.now)) }
 {
-    let paired = pair_results(rt, alloc, &current, &baselines, asked.options)?;
-    let findings = tell_results(rt, alloc, asked, &current, &baselines, &paired)?;
+    let Told {
+        paired,
+        findings,
+        life,
+    } = tell_sides(rt, alloc, &current, &baselines, rules, asked)?;
     let Paired {
         states,
         taken,
@@ -175,7 +242,7 @@ fn prepare_sides<R: Threads + Sync>(
         without,
         unused,
         records,
-    } = current_side(alloc, current, states, file)?;
+    } = current_side(alloc, current, states, rules.file)?;
     let spent = Spent {
         current: records,
         baseline: unmatched.records,
@@ -186,6 +253,7 @@ fn prepare_sides<R: Threads + Sync>(
         without,
         unused,
         findings,
+        life,
         spent,
     })
 }
@@ -193,23 +261,32 @@ fn prepare_sides<R: Threads + Sync>(
 /// Returns everything that is written for runs of logs and baselines without errors: each current result with its
 /// level, its baseline state and its suppressions, and the unmatched baseline results as absent (SARIF 2.1.0,
 /// "baselineState property"). Matching uses tables that hash with the options' seed, on which no result depends;
-/// the threads of the options share the work. If findings are requested, the result has them too. Returns
-/// `AllocError` if memory runs out.
+/// the threads of the options share the work. If findings are requested, the result has them too, and if something is
+/// requested for later merges, that. Returns `TooMany` or `TooLong` at the suppression file if the new one could not be
+/// read again, then `TooLong` at the known log if this one could not, and `OutOfMemory` without a place if memory runs
+/// out.
 pub fn prepare<R: Threads + Sync>(
     rt: &R,
     alloc: Global,
     current: Judged<'_, '_>,
     baseline: Judged<'_, '_>,
-    file: &Suppressions,
+    rules: &FileRead<'_>,
     asked: &Asked<'_>,
-) -> Result<Prepared, AllocError>
-    requires current { IsJudged file.now false current }
-    requires baseline { IsJudged file.now true baseline }
-    ensures { IfOk result (IsPrepared file.now (placed_in current.entry)
+) -> Result<Prepared, MergeFault>
+    requires read { IsFileOf (bytes_of rules.now) rules.now.file.now }
+    requires current { IsJudged rules.now.file.now false current }
+    requires baseline { IsJudged rules.now.file.now true baseline }
+    ensures prepared { IfOk result (IsPrepared rules.now.file.now (placed_in current.entry)
         (placed_in baseline.entry) (reporting_in asked.now)) }
+    ensures kept { IfOk result (λ prepared. IsKept (merge_of rules.now.file.now (bytes_of rules.now)
+        asked.now.options.now.policy (placed_in current.entry) (placed_in baseline.entry))
+        (upkeep_in asked.now) prepared.life) }
+    ensures unkept { IfErr result (IsUnkept (merge_of rules.now.file.now (bytes_of rules.now)
+        asked.now.options.now.policy (placed_in current.entry) (placed_in baseline.entry))
+        (upkeep_in asked.now)) }
 {
     let current = current_half(alloc, current)?;
     let baselines = gather_baselines(alloc, baseline)?;
-    let prepared = prepare_sides(rt, alloc, current, baselines, file, asked)?;
+    let prepared = prepare_sides(rt, alloc, current, baselines, rules, asked)?;
     Ok(prepared)
 }

@@ -5,16 +5,16 @@ ghost use Rattle.serde_json.specs.View.{view};
 ghost use Rattle.serde_json.specs.Written.{compact_text, has_float};
 ghost use Rattle.sarif_log.specs.Log.{log_with};
 ghost use Rattle.sarif_log.specs.Side.{IsSide, texts_of_left, texts_of_runs};
-ghost use Rattle.sarif_log.specs.Beside.{IsMadeBy};
+ghost use Rattle.sarif_log.specs.Beside.{IsMadeBy, IsToldBy};
 ghost use Rattle.sarif_log.specs.Assembled.{IsLogOf};
 ghost use Rattle.sarif_log.specs.Written.{AreWritten};
 
 use crate::counting::count_sides;
+use crate::facts::Facts;
 use crate::merged::Merged;
 use crate::merged_text::{Side, log_text};
 use crate::prepared::Prepared;
-use sarif_counts::{Counts, Options, gate_value, verdict};
-use sarif_findings::Finding;
+use sarif_counts::{Options, gate_value, verdict};
 use sarif_model::Text;
 use serde_json::Value;
 use std::alloc::{AllocError, Global};
@@ -50,12 +50,12 @@ fn text_beside<R: Threads + Sync, T: Drop, Say: FnOnce() -> T>(
     thread::join(rt, write, say)
 }
 
-/// Returns the log of what was prepared, with its gate, and what `tell` returns for its counts and findings, which
-/// runs while the text is made.
+/// Returns the log of what was prepared, with its gate, with what is for later merges, and what `tell` returns for
+/// the facts of the merge, which runs while the text is made.
 pub(crate) fn write_log<
     R: Threads + Sync,
     B: Drop,
-    Tell: FnOnce(&Counts, &Vec<Finding>) -> Result<B, AllocError>,
+    Tell: FnOnce(&Facts<'_>) -> Result<B, AllocError>,
 >(
     rt: &R,
     alloc: Global,
@@ -68,8 +68,8 @@ pub(crate) fn write_log<
         → AreWritten prepared.current prepared.baseline runs
         → IsLogOf runs options.now.policy prepared.without prepared.unused made.0) }
     ensures findings { IfOk result (λ made. made.0.findings.items ≡ prepared.findings.items) }
-    ensures told { IfOk result (λ made. IsMadeBy Tell.FnOnce tell
-        made.0.counts made.0.findings (Ok made.1)) }
+    ensures life { IfOk result (λ made. made.0.life ≡ prepared.life) }
+    ensures told { IfOk result (λ made. IsMadeBy Tell.FnOnce tell made.0 (Ok made.1)) }
 {
     let Prepared {
         current,
@@ -77,20 +77,25 @@ pub(crate) fn write_log<
         without,
         unused,
         findings,
+        life,
         spent,
     } = prepared;
     let counts = count_sides(rt, &current, &baseline, options.workers);
     let verdict = verdict(&counts, &options.policy);
     let gate = gate_value(alloc, &counts, &options.policy, without, unused)?;
-    let counted = &counts;
-    let found = &findings;
+    let facts = Facts {
+        counts: &counts,
+        without,
+        unused,
+        findings: &findings,
+        life: &life,
+    };
     let say = move || -> Result<B, AllocError>
         requires { Tell.IsAlwaysCallable tell }
-        ensures { IsMadeBy Tell.FnOnce tell
-            counted.entry.now found.entry.now result }
+        ensures { IsToldBy Tell.FnOnce tell facts.entry result }
     {
         drop(spent);
-        tell(counted, found)
+        tell(&facts)
     };
     let (text, told) = text_beside(rt, alloc, gate, current, baseline, say);
     let log = Text::from_string(text?)?;
@@ -102,6 +107,7 @@ pub(crate) fn write_log<
         without,
         unused,
         findings,
+        life,
     };
     Ok((merged, told))
 }

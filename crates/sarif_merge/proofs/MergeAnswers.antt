@@ -16,6 +16,7 @@ use Rattle.sarif_suppress.specs.File.{File}
 use Rattle.sarif_suppress.specs.Suppressing.{unused_of}
 use Rattle.sarif_model.specs.declared.merge_fault.MergeFault.{MergeFault}
 use Rattle.sarif_model.specs.declared.merge_fault.Source.TheVariants.{Log, Baseline}
+use Rattle.sarif_counts.specs.declared.checks.Checks.{Checks}
 use Rattle.sarif_counts.specs.declared.policy.Policy.{Policy}
 use Rattle.sarif_findings.specs.declared.reporting.Reporting.{Reporting}
 use Rattle.sarif_counts.specs.CountOf.{count_of}
@@ -39,6 +40,10 @@ use Rattle.sarif_inputs.specs.ReadSoFar.{sources_of}
 use Rattle.sarif_inputs.specs.SourceFaults.{source_faults}
 use Rattle.sarif_inputs.proofs.ReadFacts.{log_sides, baseline_sides, nothing_before}
 use Rattle.sarif_model.proofs.SourceAnswers.{still_first}
+use Rattle.sarif_counts.specs.declared.life.Life.{Life}
+use Rattle.sarif_counts.specs.declared.upkeep.Upkeep.{Upkeep}
+use Rattle.sarif_upkeep.specs.Life.{life_faults}
+use Rattle.sarif_log.specs.Kept.{merge_of, IsKept}
 use Rattle.sarif_merge.specs.Given.{given}
 use Rattle.sarif_merge.specs.Merged.{IsMerged}
 use Rattle.sarif_merge.specs.MergedLog.{file_in}
@@ -49,35 +54,35 @@ use Rattle.sarif_model.specs.Limits.{most_results, most_runs, most_sources}
 -- ---- what is assembled
 
 -- the runs of logs, judged
-pub judged_logs : (file : File) (ls : List (List ℕ)) (judged : Judged)
-    → placed_in judged ≡ placed (numbered Log 0 ls)
+pub judged_logs : (checks : Checks) (file : File) (ls : List (List ℕ)) (judged : Judged)
+    → placed_in judged ≡ placed (numbered checks Log 0 ls)
     → judged.outcomes.items ≡ all_outcomes file (placed_in judged)
     → faults_of_runs (placed_in judged) ≡ []
     → length (placed_in judged) ≤ most_runs
     → results_total (run_values (placed_in judged)) ≤ most_results
     → IsJudged file false judged
-judged_logs file ls judged same outcomes none few few_results = record {
+judged_logs checks file ls judged same outcomes none few few_results = record {
   outcomes = outcomes;
   faultless = none;
-  sources = subst (AllByRecursion (λ p. skips p.source ≡ false)) (sym same) (log_sides 0 ls);
-  objects = subst (λ ps. AllByRecursion IsRun (run_values ps)) (sym same) (objects_in (numbered Log 0 ls));
+  sources = subst (AllByRecursion (λ p. skips p.source ≡ false)) (sym same) (log_sides checks 0 ls);
+  objects = subst (λ ps. AllByRecursion IsRun (run_values ps)) (sym same) (objects_in (numbered checks Log 0 ls));
   few_runs = few;
   few_results = few_results;
 }
 
 -- the runs of baselines, judged
-pub judged_baselines : (file : File) (bs : List (List ℕ)) (judged : Judged)
-    → placed_in judged ≡ placed (numbered Baseline 0 bs)
+pub judged_baselines : (checks : Checks) (file : File) (bs : List (List ℕ)) (judged : Judged)
+    → placed_in judged ≡ placed (numbered checks Baseline 0 bs)
     → judged.outcomes.items ≡ all_outcomes file (placed_in judged)
     → faults_of_runs (placed_in judged) ≡ []
     → length (placed_in judged) ≤ most_runs
     → results_total (run_values (placed_in judged)) ≤ most_results
     → IsJudged file true judged
-judged_baselines file bs judged same outcomes none few few_results = record {
+judged_baselines checks file bs judged same outcomes none few few_results = record {
   outcomes = outcomes;
   faultless = none;
-  sources = subst (AllByRecursion (λ p. skips p.source ≡ true)) (sym same) (baseline_sides 0 bs);
-  objects = subst (λ ps. AllByRecursion IsRun (run_values ps)) (sym same) (objects_in (numbered Baseline 0 bs));
+  sources = subst (AllByRecursion (λ p. skips p.source ≡ true)) (sym same) (baseline_sides checks 0 bs);
+  objects = subst (λ ps. AllByRecursion IsRun (run_values ps)) (sym same) (objects_in (numbered checks Baseline 0 bs));
   few_runs = few;
   few_results = few_results;
 }
@@ -87,14 +92,27 @@ pub same_runs : (file : File) (now before xs ys : List Placed) (asked : Option R
 same_runs file now before xs ys asked prepared h e f =
     subst (λ k. IsPrepared file xs k asked prepared) f (subst (λ k. IsPrepared file k before asked prepared) e h)
 
+-- what is for later merges, of the same runs
+pub same_kept : (file : File) (bytes : Option (List ℕ)) (policy : Policy) (now before xs ys : List Placed) (upkeep : Option Upkeep) (life : Life)
+    → IsKept (merge_of file bytes policy now before) upkeep life → now ≡ xs → before ≡ ys → IsKept (merge_of file bytes policy xs ys) upkeep life
+same_kept file bytes policy now before xs ys upkeep life h e f =
+    subst (λ k. IsKept (merge_of file bytes policy xs k) upkeep life) f (subst (λ k. IsKept (merge_of file bytes policy k before) upkeep life) e h)
+
+pub same_large : (file : File) (bytes : Option (List ℕ)) (policy : Policy) (now before xs ys : List Placed) (upkeep : Option Upkeep) (fault : MergeFault)
+    → first (life_faults (merge_of file bytes policy now before) upkeep) ≡ Some fault → now ≡ xs → before ≡ ys
+    → first (life_faults (merge_of file bytes policy xs ys) upkeep) ≡ Some fault
+same_large file bytes policy now before xs ys upkeep fault h e f =
+    subst (λ k. first (life_faults (merge_of file bytes policy xs k) upkeep) ≡ Some fault) f
+    (subst (λ k. first (life_faults (merge_of file bytes policy k before) upkeep) ≡ Some fault) e h)
+
 -- what is assembled of what was prepared for these inputs
-pub assembled_is : (inputs : Inputs) (policy : Policy) (asked : Option Reporting) (prepared : Prepared) (merged : Merged) → IsPreparedFor inputs asked prepared
+pub assembled_is : (inputs : Inputs) (policy : Policy) (asked : Option Reporting) (upkeep : Option Upkeep) (prepared : Prepared) (merged : Merged) → IsPreparedFor inputs policy asked upkeep prepared
     → ((file : File) (now before : List Placed) (told : Option Reporting) → IsPrepared file now before told prepared → IsMergedBy file now before policy told merged)
     → IsMerged inputs policy asked merged
-assembled_is inputs policy asked prepared merged ready assembled =
+assembled_is inputs policy asked upkeep prepared merged ready assembled =
     let entries = file_in (file_or_none inputs.suppressions inputs.today) in
-    let logs = placed (numbered Log 0 inputs.logs) in
-    let baselines = placed (numbered Baseline 0 inputs.baselines) in
+    let logs = placed (numbered inputs.checks Log 0 inputs.logs) in
+    let baselines = placed (numbered inputs.checks Baseline 0 inputs.baselines) in
     let made = assembled entries logs baselines asked ready.written in record {
       faultless = ready.faultless;
       begins = (gate_of (count_of (runs_by entries logs baselines)) policy (runs_without_results (run_values logs)) (unused_of entries (records_of logs)), leftover_runs logs baselines, made.written.log);
@@ -130,34 +148,36 @@ first_of : (xs ys : List MergeFault) (fault : MergeFault) → first xs ≡ Some 
 first_of [] ys fault h = cc
 first_of (x ∷ xs) ys fault h = h
 
-module _ (ls bs : List (List ℕ)) (few_ls : length ls ≤ most_sources) (few_bs : length bs ≤ most_sources) (file : Option (List ℕ)) (today : Option ℕ) where
+module _ (ls bs : List (List ℕ)) (few_ls : length ls ≤ most_sources) (few_bs : length bs ≤ most_sources) (file : Option (List ℕ)) (today : Option ℕ) (checks : Checks) where
   within : number_faults Log ls ++ number_faults Baseline bs ≡ []
   within = ap (λ x. x ++ number_faults Baseline bs) (few_sources ls few_ls) ∙ few_baselines bs few_bs
 
-  module _ (sources : source_faults 0 0 (sources_of ls bs) ≡ []) where
+  module _ (sources : source_faults 0 0 (sources_of checks ls bs) ≡ []) where
     -- if reading has no error, the first error is that of the suppression file
-    pub file_first : (fault : MergeFault) → first (file_faults (file_or_none file today)) ≡ Some fault → first (faults_of (given ls bs file today)) ≡ Some fault
+    pub file_first : (fault : MergeFault) → first (file_faults (file_or_none file today)) ≡ Some fault → first (faults_of (given ls bs file today checks)) ≡ Some fault
     file_first fault is =
-        let runs = faults_of_runs (placed (numbered Log 0 ls) ++ placed (numbered Baseline 0 bs)) in
+        let runs = faults_of_runs (placed (numbered checks Log 0 ls) ++ placed (numbered checks Baseline 0 bs)) in
         let files = file_faults (file_or_none file today) in
-        ap first (nothing_before (number_faults Log ls) (number_faults Baseline bs) (source_faults 0 0 (sources_of ls bs)) [] (files ++ runs) within sources refl)
+        ap first (nothing_before (number_faults Log ls) (number_faults Baseline bs) (source_faults 0 0 (sources_of checks ls bs)) [] (files ++ runs) within sources refl)
         ∙ first_of files runs fault is
 
     -- if reading and the suppression file have no error, the errors are those of the runs
-    pub faults_are : file_faults (file_or_none file today) ≡ [] → faults_of (given ls bs file today) ≡ faults_of_runs (placed (numbered Log 0 ls) ++ placed (numbered Baseline 0 bs))
+    pub faults_are : file_faults (file_or_none file today) ≡ [] → faults_of (given ls bs file today checks) ≡ faults_of_runs (placed (numbered checks Log 0 ls) ++ placed (numbered checks Baseline 0 bs))
     faults_are sound =
-        nothing_before (number_faults Log ls) (number_faults Baseline bs) (source_faults 0 0 (sources_of ls bs)) (file_faults (file_or_none file today)) (faults_of_runs (placed (numbered Log 0 ls) ++ placed (numbered Baseline 0 bs)))
+        nothing_before (number_faults Log ls) (number_faults Baseline bs) (source_faults 0 0 (sources_of checks ls bs)) (file_faults (file_or_none file today)) (faults_of_runs (placed (numbered checks Log 0 ls) ++ placed (numbered checks Baseline 0 bs)))
         within sources sound
 
-    pub prepared_is : (entries : File) (asked : Option Reporting) (prepared : Prepared) → file_or_none file today ≡ Ok entries
-        → IsPrepared entries (placed (numbered Log 0 ls)) (placed (numbered Baseline 0 bs)) asked prepared
-        → faults_of_runs (placed (numbered Log 0 ls) ++ placed (numbered Baseline 0 bs)) ≡ []
-        → IsPreparedFor (given ls bs file today) asked prepared
-    prepared_is entries asked prepared is h none =
-        let logs = placed (numbered Log 0 ls) in
-        let baselines = placed (numbered Baseline 0 bs) in record {
+    pub prepared_is : (entries : File) (policy : Policy) (asked : Option Reporting) (upkeep : Option Upkeep) (prepared : Prepared) → file_or_none file today ≡ Ok entries
+        → IsPrepared entries (placed (numbered checks Log 0 ls)) (placed (numbered checks Baseline 0 bs)) asked prepared
+        → faults_of_runs (placed (numbered checks Log 0 ls) ++ placed (numbered checks Baseline 0 bs)) ≡ []
+        → IsKept (merge_of entries file policy (placed (numbered checks Log 0 ls)) (placed (numbered checks Baseline 0 bs))) upkeep prepared.life
+        → IsPreparedFor (given ls bs file today checks) policy asked upkeep prepared
+    prepared_is entries policy asked upkeep prepared is h none kept =
+        let logs = placed (numbered checks Log 0 ls) in
+        let baselines = placed (numbered checks Baseline 0 bs) in record {
           faultless = faults_are (ap file_faults is) ∙ none;
           written = subst (λ f. IsPrepared f logs baselines asked prepared) (sym (ap file_in is)) h;
+          kept = subst (λ f. IsKept (merge_of f file policy logs baselines) upkeep prepared.life) (sym (ap file_in is)) kept;
         }
 
 -- ---- indexes

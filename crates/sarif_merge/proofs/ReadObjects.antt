@@ -57,11 +57,11 @@ with_tool (string s) x h = cc
 with_tool (array ds) x h = cc
 with_tool (object ms) x h = tt
 
-run_object : (run : Data) (before now : ℕ) → check_run before run ≡ Ok now → IsRun run
+run_object : (allow : Bool) (run : Data) (before now : ℕ) → check_run allow before run ≡ Ok now → IsRun run
 unfolding check_run checked
-run_object run before now h =
+run_object allow run before now h =
     let tool = bind_ok (check_tool run) _ now h in
-    let external = bind_ok (check_external run) _ now tool.2 in
+    let external = bind_ok (check_external allow run) _ now tool.2 in
     let results = bind_ok (check_results run) _ now external.2 in
     (with_tool run tool.0 tool.1, of_found (get (codes "results") run) results.0 results.1)
 
@@ -69,26 +69,26 @@ at_run_ok : {A : Type 0} (n : ℕ) (r : Result A Fault) (x : A) → at_run n r �
 at_run_ok n (Ok y) x h = cc
 at_run_ok n (Err fault) x h = cc
 
-each_run : (n before : ℕ) (runs : List Data) (x : ⊤) → check_each n before runs ≡ Ok x → AllByRecursion IsRun runs
+each_run : (allow : Bool) (n before : ℕ) (runs : List Data) (x : ⊤) → check_each allow n before runs ≡ Ok x → AllByRecursion IsRun runs
 unfolding check_each
-each_run n before [] x h = tt
-each_run n before (run ∷ runs) x h =
-    let first = bind_ok (at_run n (check_run before run)) _ x h in
-    (run_object run before first.0 (at_run_ok n (check_run before run) first.0 first.1), each_run (n + 1) first.0 runs x first.2)
+each_run allow n before [] x h = tt
+each_run allow n before (run ∷ runs) x h =
+    let first = bind_ok (at_run n (check_run allow before run)) _ x h in
+    (run_object allow run before first.0 (at_run_ok n (check_run allow before run) first.0 first.1), each_run allow (n + 1) first.0 runs x first.2)
 
-log_objects : (bytes : List ℕ) (runs : List Data) → log_of bytes ≡ Ok runs → AllByRecursion IsRun runs
+log_objects : (allow : Bool) (bytes : List ℕ) (runs : List Data) → log_of allow bytes ≡ Ok runs → AllByRecursion IsRun runs
 unfolding log_of log_of_value
-log_objects bytes runs h =
+log_objects allow bytes runs h =
     let parsed = bind_ok (at_whole (ok_or (json_of (without_mark bytes)) NotJson)) _ runs h in
     let d = stripped parsed.0 in
     let log = bind_ok (at_whole (check_log d)) _ runs parsed.2 in
-    let each = bind_ok (check_each 0 0 (runs_of d)) _ runs log.2 in
+    let each = bind_ok (check_each allow 0 0 (runs_of d)) _ runs log.2 in
     let same : runs_of d ≡ runs = cc each.2 in
-    subst (AllByRecursion IsRun) same (each_run 0 0 (runs_of d) each.0 each.1)
+    subst (AllByRecursion IsRun) same (each_run allow 0 0 (runs_of d) each.0 each.1)
 
-readable_objects : (bytes : List ℕ) (found : Result (List Data) ReadFault) → log_of bytes ≡ found → AllByRecursion IsRun (readable found)
-readable_objects bytes (Ok runs) is = log_objects bytes runs is
-readable_objects bytes (Err fault) is = tt
+readable_objects : (allow : Bool) (bytes : List ℕ) (found : Result (List Data) ReadFault) → log_of allow bytes ≡ found → AllByRecursion IsRun (readable found)
+readable_objects allow bytes (Ok runs) is = log_objects allow bytes runs is
+readable_objects allow bytes (Err fault) is = tt
 
 all_append : (xs ys : List Data) → AllByRecursion IsRun xs → AllByRecursion IsRun ys → AllByRecursion IsRun (xs ++ ys)
 all_append [] ys of_xs of_ys = of_ys
@@ -98,6 +98,6 @@ all_append (x ∷ xs) ys of_xs of_ys = (of_xs.0, all_append xs ys of_xs.1 of_ys)
 pub objects_in : (sources : List Sourced) → AllByRecursion IsRun (run_values (placed sources))
 objects_in [] = tt
 objects_in (s ∷ rest) =
-    let here = placed_from s.source 0 (runs_in s) in
-    let same = map-append (λ (p : Placed). p.run) here (placed rest) ∙ ap (λ ds. ds ++ run_values (placed rest)) (data_placed s.source 0 (runs_in s)) in
-    subst (AllByRecursion IsRun) (sym same) (all_append (runs_in s) (run_values (placed rest)) (readable_objects s.bytes (log_of s.bytes) refl) (objects_in rest))
+    let here = placed_from s.checks s.source 0 (runs_in s) in
+    let same = map-append (λ (p : Placed). p.run) here (placed rest) ∙ ap (λ ds. ds ++ run_values (placed rest)) (data_placed s.checks s.source 0 (runs_in s)) in
+    subst (AllByRecursion IsRun) (sym same) (all_append (runs_in s) (run_values (placed rest)) (readable_objects s.checks.allow_external s.bytes (log_of s.checks.allow_external s.bytes) refl) (objects_in rest))

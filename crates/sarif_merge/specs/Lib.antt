@@ -1,5 +1,6 @@
 pub mod FromReaders
 pub mod Given
+pub mod Life
 pub mod Merged
 pub mod MergedLog
 pub mod OwnResult

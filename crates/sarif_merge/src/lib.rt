@@ -9,9 +9,12 @@ mod preparing;
 pub use laws::{each_result_is_written_as_its_own, merged_runs_hold_no_fraction};
 pub use merge::merge_bytes;
 pub use merge_sources::{merge_readers, merge_to};
-pub use sarif_counts::{Counts, Options, Policy, States, Verdict, hits, summary, verdict};
+pub use sarif_counts::{
+    Counts, Knowing, KnownLog, Life, NewFile, Options, Policy, Renewal, States, Upkeep, Verdict,
+    hits, summary, verdict,
+};
 pub use sarif_gather::{Gate, NoGate};
-pub use sarif_log::{Asked, Merged};
+pub use sarif_log::{Asked, Facts, Merged};
 pub use sarif_model::{At, Cause, MergeFault, Refusal, Source};
 pub use sarif_streams::{
     Counted, Failed, Readers, ReadersFault, SourceBytes, SourceFault, read_source,

@@ -11,17 +11,18 @@ ghost use Rattle.sarif_log.specs.Told.{reporting_in};
 ghost use Rattle.sarif_model.specs.FirstFault.{IsWanting};
 ghost use Rattle.sarif_inputs.specs.Faults.{faults_of, first_fault};
 ghost use Rattle.sarif_merge.specs.Given.{inputs_of};
+ghost use Rattle.sarif_log.specs.Kept.{upkeep_in};
+ghost use Rattle.sarif_merge.specs.Life.{IsLifeOf, IsRefusal};
 ghost use Rattle.sarif_merge.specs.Merged.{HoldsFirst, IsMerged};
 ghost use Rattle.sarif_merge.specs.MergedLog.{output_text, runs_written, without_of, unused_in, written_inputs};
 ghost use Rattle.sarif_model.specs.Limits.{most_sources};
 
 use crate::preparing::{make_scratches, prepare_few};
 use json::Scratch;
-use sarif_counts::{Counts, Options};
-use sarif_findings::Finding;
+use sarif_counts::Options;
 use sarif_gather::Gate;
 use sarif_inputs::check_numbers;
-use sarif_log::{Asked, Merged, Prepared, assemble};
+use sarif_log::{Asked, Facts, Merged, Prepared, assemble};
 use sarif_model::MergeFault;
 use sarif_streams::SourceBytes;
 use std::alloc::{AllocError, Global};
@@ -30,11 +31,7 @@ use std::thread;
 use std::thread::Threads;
 
 /// The merged log of what was prepared, and what `tell` returns for it, made while the scratches are released.
-fn assemble_beside<
-    R: Threads + Sync,
-    B: Drop,
-    Tell: FnOnce(&Counts, &Vec<Finding>) -> Result<B, AllocError>,
->(
+fn assemble_beside<R: Threads + Sync, B: Drop, Tell: FnOnce(&Facts<'_>) -> Result<B, AllocError>>(
     rt: &R,
     alloc: Global,
     prepared: Prepared,
@@ -46,8 +43,8 @@ fn assemble_beside<
     ensures merged { IfOk result (λ made. (file : File) (current_runs baseline_runs : List Placed)
         (asked : Option Reporting) → IsPrepared file current_runs baseline_runs asked prepared
         → IsMergedBy file current_runs baseline_runs options.now.policy asked made.0) }
-    ensures told { IfOk result (λ made. IsMadeBy Tell.FnOnce tell
-        made.0.counts made.0.findings (Ok made.1)) }
+    ensures life { IfOk result (λ made. made.0.life ≡ prepared.life) }
+    ensures told { IfOk result (λ made. IsMadeBy Tell.FnOnce tell made.0 (Ok made.1)) }
 {
     let write = move || -> Result<(Merged, B), AllocError>
         requires { Tell.IsAlwaysCallable tell }
@@ -55,8 +52,8 @@ fn assemble_beside<
             (current_runs baseline_runs : List Placed) (asked : Option Reporting)
             → IsPrepared file current_runs baseline_runs asked prepared
             → IsMergedBy file current_runs baseline_runs options.entry.now.policy asked made.0) }
-        ensures told { IfOk result (λ made. IsMadeBy Tell.FnOnce tell
-            made.0.counts made.0.findings (Ok made.1)) }
+        ensures life { IfOk result (λ made. made.0.life ≡ prepared.life) }
+        ensures told { IfOk result (λ made. IsMadeBy Tell.FnOnce tell made.0 (Ok made.1)) }
     { assemble(rt, alloc, prepared, options, tell) };
     let let_go = move || drop(scratches);
     let (_, made) = thread::join(rt, let_go, write);
@@ -68,7 +65,7 @@ pub(crate) fn merge_few<
     G: Gate + Sync,
     R: Threads + Wait + Sync,
     B: Drop,
-    Tell: FnOnce(&Counts, &Vec<Finding>) -> Result<B, AllocError>,
+    Tell: FnOnce(&Facts<'_>) -> Result<B, AllocError>,
 >(
     rt: &R,
     alloc: Global,
@@ -82,10 +79,11 @@ pub(crate) fn merge_few<
     requires tells { Tell.IsAlwaysCallable tell }
     ensures merged { IfOk result (λ made. IsMerged (inputs_of sources.now asked.now.options.now)
         asked.now.options.now.policy (reporting_in asked.now) made.0) }
-    ensures told { IfOk result (λ made. IsMadeBy Tell.FnOnce tell
-        made.0.counts made.0.findings (Ok made.1)) }
-    ensures refused { IfErr result (λ fault. IsWanting fault
-        ⊎ (first_fault (inputs_of sources.now asked.now.options.now) ≡ Some fault)) }
+    ensures life { IfOk result (λ made. IsLifeOf (inputs_of sources.now asked.now.options.now)
+        asked.now.options.now.policy (upkeep_in asked.now) made.0.life) }
+    ensures told { IfOk result (λ made. IsMadeBy Tell.FnOnce tell made.0 (Ok made.1)) }
+    ensures refused { IfErr result (IsRefusal (inputs_of sources.now asked.now.options.now)
+        asked.now.options.now.policy (upkeep_in asked.now)) }
     ensures quiet { IsQuiet result }
 {
     let count = sources.logs.len() + sources.baselines.len();
@@ -96,7 +94,7 @@ pub(crate) fn merge_few<
 }
 
 /// Nothing, of any merge.
-pub(crate) fn tell_nothing(_counts: &Counts, _findings: &Vec<Finding>) -> Result<(), AllocError> {
+pub(crate) fn tell_nothing(_facts: &Facts<'_>) -> Result<(), AllocError> {
     Ok(())
 }
 
@@ -108,6 +106,7 @@ pub(crate) fn tell_nothing(_counts: &Counts, _findings: &Vec<Finding>) -> Result
 /// logs and the baselines, of the suppression file, of the logs' runs and results, and of the baselines' runs and
 /// results. Its cause is any except `TooLong`, `ReadFailed` and `WriteFailed`. `OutOfMemory`, if memory runs out,
 /// and `NoWorker`, if a thread cannot be started, have no place, and may be returned instead of any of these.
+#[tactic(auto, using(crate::proofs::Alone::refusal_alone))]
 pub fn merge_bytes<G: Gate + Sync, R: Threads + Wait + Sync>(
     rt: &R,
     alloc: Global,
@@ -138,6 +137,7 @@ pub fn merge_bytes<G: Gate + Sync, R: Threads + Wait + Sync>(
     let asked = Asked {
         options,
         reporting: None,
+        upkeep: None,
     };
     let (merged, ()) = merge_few(rt, alloc, sources, &asked, observer, tell_nothing)?;
     Ok(merged)

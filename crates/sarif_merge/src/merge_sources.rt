@@ -7,7 +7,8 @@ ghost use Rattle.sarif_model.specs.MergeFault.{read_failed_in, write_failed_in};
 ghost use Rattle.sarif_streams.specs.OptionalReader.{failed_calls_if};
 ghost use Rattle.sarif_log.specs.Beside.{IsMadeBy};
 ghost use Rattle.sarif_log.specs.Told.{reporting_in};
-ghost use Rattle.sarif_merge.specs.FromReaders.{IsMergedFrom, IsPartlyWritten, IsRefused, IsStopped};
+ghost use Rattle.sarif_merge.specs.FromReaders.{IsMergedFrom, IsMergedWith, IsPartlyWritten, IsRefused, IsRefusedWith, IsStopped};
+ghost use Rattle.sarif_log.specs.Kept.{upkeep_in};
 ghost use Rattle.sarif_model.specs.Limits.{most_sources};
 ghost use Rattle.sarif_streams.specs.WereRead.{contents_of, failures, NoNumberFalls, WereRead};
 ghost use Rattle.sarif_model.specs.declared.merge_fault.At.TheVariants.{Whole};
@@ -15,11 +16,10 @@ ghost use Rattle.sarif_model.specs.declared.merge_fault.Cause.TheVariants.{Write
 ghost use Rattle.sarif_model.specs.declared.merge_fault.Source.TheVariants.{Output};
 
 use crate::merge::{merge_few, tell_nothing};
-use sarif_counts::{Counts, Options};
-use sarif_findings::Finding;
+use sarif_counts::Options;
 use sarif_gather::Gate;
 use sarif_inputs::check_numbers;
-use sarif_log::{Asked, Merged};
+use sarif_log::{Asked, Facts, Merged};
 use sarif_model::{At, Cause, MergeFault, Source};
 use sarif_streams::{Counted, Readers, SourceBytes, read_sources, rejection_of, write_out};
 use std::alloc::{AllocError, Global};
@@ -54,18 +54,19 @@ fn read_all<R: Read>(alloc: Global, readers: &mut Readers<R>) -> Result<SourceBy
 
 /// Merges logs and baselines from readers, as [`merge_bytes`](crate::merge_bytes) does with bytes: reads all
 /// sources, the logs, the baselines and the suppression file, then merges what was read, and writes nothing. If
-/// findings are requested, the result has them too, and what `tell` computes from the counts and findings while
-/// the log's text is made. A rejection is `TooMany` for more than `MOST_SOURCES` logs, or otherwise for more than
+/// findings are requested, the result has them too, and what `tell` computes from the facts of the merge
+/// while the log's text is made. A rejection is `TooMany` for more than `MOST_SOURCES` logs, or otherwise for more than
 /// `MOST_SOURCES` baselines; otherwise `ReadFailed` or `TooLong` at the first source that cannot be read to its
 /// end; otherwise the first error of what was read, as [`merge_bytes`](crate::merge_bytes) returns it.
 /// `OutOfMemory`, if memory runs out, including in `tell`, and `NoWorker`, if a thread cannot be started, have no
 /// place.
+#[tactic(auto, using(crate::proofs::Alone::refused_first))]
 pub fn merge_readers<
     R: Read,
     G: Gate + Sync,
     T: Threads + Wait + Sync,
     B: Drop,
-    Tell: FnOnce(&Counts, &Vec<Finding>) -> Result<B, AllocError>,
+    Tell: FnOnce(&Facts<'_>) -> Result<B, AllocError>,
 >(
     rt: &T,
     alloc: Global,
@@ -79,14 +80,15 @@ pub fn merge_readers<
     requires suppressions { failed_calls_if readers.old.suppressions < 2 ^ 63 }
     requires tells { Tell.IsAlwaysCallable tell }
     // Ok is returned only if all sources were read and have no errors; the result is the merge of these, with its
-    // findings.
-    ensures merged { IfOk result (λ made. IsMergedFrom R.remaining readers.old readers.new
-        asked.now.options.now.today asked.now.options.now.policy (reporting_in asked.now) made.0) }
+    // findings and with what is for later merges.
+    ensures merged { IfOk result (λ made. IsMergedWith R.remaining readers.old readers.new
+        asked.now.options.now.today asked.now.options.now.checks asked.now.options.now.policy
+        (reporting_in asked.now) (upkeep_in asked.now) made.0) }
     // And what was made of it.
-    ensures told { IfOk result (λ made. IsMadeBy Tell.FnOnce tell
-        made.0.counts made.0.findings (Ok made.1)) }
-    ensures refused { IfErr result
-        (IsRefused R.remaining readers.old readers.new asked.now.options.now.today) }
+    ensures told { IfOk result (λ made. IsMadeBy Tell.FnOnce tell made.0 (Ok made.1)) }
+    ensures refused { IfErr result (IsRefusedWith R.remaining readers.old readers.new
+        asked.now.options.now.today asked.now.options.now.checks asked.now.options.now.policy
+        (upkeep_in asked.now)) }
     // A failed read is reported as such, and only one.
     ensures read_failed { RisesIf (read_failed_in result)
         (failures readers.old) (failures readers.new) }
@@ -102,6 +104,7 @@ pub fn merge_readers<
 /// Merges logs and baselines from readers into a writer: reads and merges as [`merge_readers`] does, then writes
 /// the text of the log. The rejections are those of [`merge_readers`], which have written nothing, and
 /// `WriteFailed` at the output, if a write failed: a part of the text may have been written then.
+#[tactic(auto, using(crate::proofs::Alone::merged_alone, crate::proofs::Alone::refused_alone))]
 pub fn merge_to<R: Read, W: Write, G: Gate + Sync, T: Threads + Wait + Sync>(
     rt: &T,
     alloc: Global,
@@ -116,19 +119,19 @@ pub fn merge_to<R: Read, W: Write, G: Gate + Sync, T: Threads + Wait + Sync>(
     requires writes { failed_calls out.old < 2 ^ 63 }
     // Ok is returned only if all sources were read and have no errors; the result is the merge of these.
     ensures merged { IfOk result
-        (IsMergedFrom R.remaining readers.old readers.new options.now.today
+        (IsMergedFrom R.remaining readers.old readers.new options.now.today options.now.checks
         options.now.policy None) }
     // The text was written, and nothing else.
     ensures written { IfOk result (λ merged. Appends (W.contents (inner_of out.old))
         (W.contents (inner_of out.new)) merged.log) }
     // A rejection before writing, and its cause.
     ensures refused { IfErr result (λ fault. (fault.cause ≡ WriteFailed → ⊥) → IsRefused R.remaining
-        readers.old readers.new options.now.today fault) }
+        readers.old readers.new options.now.today options.now.checks fault) }
     ensures untouched { IfErr result
         (λ fault. (fault.cause ≡ WriteFailed → ⊥) → out.new ≡ out.old) }
     // A rejection while writing.
     ensures part { IfErr result (λ fault. fault.cause ≡ WriteFailed → IsPartlyWritten R.remaining
-        readers.old readers.new options.now.today options.now.policy
+        readers.old readers.new options.now.today options.now.checks options.now.policy
         (W.contents (inner_of out.old)) (W.contents (inner_of out.new))) }
     ensures place { IfErr result (λ fault. fault.cause ≡ WriteFailed → fault.at ≡ Whole Output) }
     ensures read_failed { RisesIf (read_failed_in result)
@@ -140,6 +143,7 @@ pub fn merge_to<R: Read, W: Write, G: Gate + Sync, T: Threads + Wait + Sync>(
     let asked = Asked {
         options,
         reporting: None,
+        upkeep: None,
     };
     let (merged, ()) = merge_readers(rt, alloc, readers, &asked, observer, tell_nothing)?;
     match write_out(out, merged.log.as_str().as_bytes()) {

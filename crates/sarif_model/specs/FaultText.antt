@@ -1,7 +1,7 @@
 -- The printed places of errors.
 use Rattle.std.specs.Prelude.{ℕ, List, [], ◌++◌, codes, decimal}
 use Rattle.sarif_model.specs.declared.merge_fault.Source.{Source}
-use Rattle.sarif_model.specs.declared.merge_fault.Source.TheVariants.{Log, Baseline, Suppress, Output}
+use Rattle.sarif_model.specs.declared.merge_fault.Source.TheVariants.{Log, Baseline, Suppress, Output, Known}
 use Rattle.sarif_model.specs.declared.merge_fault.At.{At}
 use Rattle.sarif_model.specs.declared.merge_fault.At.TheVariants.{Nowhere, Whole, Run, Single, Entry}
 
@@ -10,6 +10,7 @@ source_text (Log number) = codes "log " ++ decimal number
 source_text (Baseline number) = codes "baseline " ++ decimal number
 source_text Suppress = codes "suppressions"
 source_text Output = codes "output"
+source_text Known = codes "known log"
 
 abbrev pub at_text : At → List ℕ
 at_text Nowhere = []

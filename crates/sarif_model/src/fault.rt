@@ -81,4 +81,8 @@ pub enum Fault {
     /// An entry of the suppression file that expires, if the merge has no date of today.
     #[error("NeedsToday")]
     NeedsToday = 20,
+    /// A run whose analysis failed, if success is required: `executionSuccessful` of an invocation is false, or the run
+    /// has no results.
+    #[error("NotSuccessful")]
+    NotSuccessful = 21,
 }

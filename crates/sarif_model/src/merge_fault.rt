@@ -18,6 +18,8 @@ pub enum Source {
     Suppress,
     /// The merged log.
     Output,
+    /// The known log, a baseline for later merges.
+    Known,
 }
 
 /// Where an error is. Runs are numbered from 0 within their log or baseline, results within their run.
@@ -136,6 +138,7 @@ impl fmt::Display for Source {
             Source::Baseline(number) => write!(f, "baseline {number}"),
             Source::Suppress => f.write_str("suppressions"),
             Source::Output => f.write_str("output"),
+            Source::Known => f.write_str("known log"),
         }
     }
 }

@@ -4,3 +4,4 @@ pub mod Made
 pub mod Quiet
 pub mod Rising
 pub mod Written
+pub mod SameFacts

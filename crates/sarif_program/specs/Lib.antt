@@ -1,4 +1,5 @@
 pub mod Line
+pub mod Notes
 pub mod Rejected
 pub mod Reports
 pub mod Run

@@ -8,7 +8,7 @@ use Rattle.sarif_model.specs.declared.merge_fault.At.TheVariants.{Nowhere, Whole
 use Rattle.sarif_model.specs.declared.merge_fault.Cause.{Cause}
 use Rattle.sarif_model.specs.declared.merge_fault.Cause.TheVariants as cause
 use Rattle.sarif_model.specs.FaultText.{at_text}
-use Rattle.sarif_reports.specs.Report.{report_name}
+use Rattle.sarif_reports.specs.Report.{output_name}
 use Rattle.sarif_streams.specs.declared.counted.Counted.{Counted}
 use Rattle.sarif_streams.specs.Counted.{inner_of}
 use Rattle.sarif_program.specs.declared.complaint.Complaint.{Complaint}
@@ -36,6 +36,7 @@ fault_name fault.NotList = codes "NotList"
 fault_name fault.BadEntry = codes "BadEntry"
 fault_name fault.EmptyMatch = codes "EmptyMatch"
 fault_name fault.NeedsToday = codes "NeedsToday"
+fault_name fault.NotSuccessful = codes "NotSuccessful"
 
 -- the name of a cause
 abbrev pub cause_name : Cause → List ℕ
@@ -58,7 +59,7 @@ placed (Entry entry) name = at_text (Entry entry) ++ (codes ": " ++ name)
 -- what an error message says
 abbrev pub complaint_text : Complaint → List ℕ
 complaint_text (complaint.Fault fault) = placed fault.at (cause_name fault.cause)
-complaint_text (complaint.Lost report) = report_name report ++ codes " report: WriteFailed"
+complaint_text (complaint.Lost report) = output_name report ++ codes ": WriteFailed"
 
 -- its line
 abbrev pub complaint_line : Complaint → List ℕ

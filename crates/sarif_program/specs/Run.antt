@@ -1,12 +1,12 @@
 -- What one run of a request does: the contract of `run_request` as one fact, for what cites it.
-use Rattle.std.specs.Prelude.{◌≡◌, ◌<◌, ◌≤◌, ◌+◌, ◌⊎◌, ◌↔◌, ℕ, List, [], Option, nat_eq}
+use Rattle.std.specs.Prelude.{◌≡◌, ◌<◌, ◌≤◌, ◌+◌, ◌⊎◌, ◌↔◌, ℕ, List, [], Option, Some, nat_eq}
 use Rattle.std.specs.Io.KnownBytes.{Appends}
 use Rattle.std.specs.List.{AllZip}
 use Rattle.sarif_counts.specs.Counts.{count_at}
 use Rattle.sarif_counts.specs.Summary.{summary_of}
 use Rattle.sarif_inputs.specs.Faults.{faults_of}
 use Rattle.sarif_log.specs.declared.merged.Merged.{Merged}
-use Rattle.sarif_merge.specs.FromReaders.{IsMergedFrom}
+use Rattle.sarif_merge.specs.FromReaders.{IsMergedWith}
 use Rattle.sarif_merge.specs.Given.{given_by}
 use Rattle.sarif_request.specs.declared.request.Request.{Request}
 use Rattle.sarif_streams.specs.declared.readers.Readers.{Readers}
@@ -17,7 +17,7 @@ use Rattle.sarif_program.specs.Reports.{IsWritten, report_for, reporting_for}
 use Rattle.sarif_program.specs.Status.{verdict_status}
 use Rattle.sarif_program.specs.Writing.{NoWriterFalls, ReaderRises, WriterRises, writer_failures}
 
--- what a reader has left, and what the writers of the log, of a report and of the summary hold, if they say so
+-- what a reader has left, and what the writers of the log, of another output and of the summary hold, if they say so
 pub record Views (R W S P : Type 0) : Type 0 where
   pub remaining : R → Option (List ℕ)
   pub log : W → Option (List ℕ)
@@ -29,12 +29,14 @@ pub record Streams (R W S P : Type 0) : Type 0 where
   pub readers : Readers R
   pub writers : Writers W S P
 
--- the status is that of the verdict of this merge of what was read; the log, the reports and the summary were written
+-- the status is that of the verdict of this merge of what was read; the log, the other outputs and the summary were
+-- written
 pub record IsAccepted {R W S P : Type 0} (views : Views R W S P) (request : Request)
     (old new : Streams R W S P) (status : ℕ) (merged : Merged) : Type 0 where
   pub verdict : status ≡ verdict_status merged.verdict
-  pub from : IsMergedFrom views.remaining old.readers new.readers request.options.today
-      request.options.policy (reporting_for request old.writers.reports.items) merged
+  pub from : IsMergedWith views.remaining old.readers new.readers request.options.today
+      request.options.checks request.options.policy (reporting_for request old.writers.reports.items)
+      (Some request.upkeep) merged
   pub log : Appends (views.log (inner_of old.writers.out)) (views.log (inner_of new.writers.out))
       merged.log
   pub reports : AllZip (IsWritten views.report (report_for request merged))
@@ -56,5 +58,5 @@ pub record IsRun {R W S P : Type 0} (views : Views R W S P) (request : Request)
   pub risen : NoNumberFalls old.readers new.readers × NoWriterFalls old.writers new.writers
   pub faulty : (contents : SourceContents) → AllTell views.remaining old.readers
       → WereRead views.remaining old.readers new.readers contents
-      → (faults_of (given_by contents request.options.today) ≡ [] → ⊥) → status ≡ 2
+      → (faults_of (given_by contents request.options.today request.options.checks) ≡ [] → ⊥) → status ≡ 2
   pub known : status ≤ 3

@@ -43,5 +43,6 @@ fn fault_name(fault: Fault) -> &'static str
         Fault::BadEntry => "BadEntry",
         Fault::EmptyMatch => "EmptyMatch",
         Fault::NeedsToday => "NeedsToday",
+        Fault::NotSuccessful => "NotSuccessful",
     }
 }

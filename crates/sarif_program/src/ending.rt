@@ -5,6 +5,7 @@ ghost use Rattle.std.specs.Io.KnownBytes.{Appends};
 ghost use Rattle.sarif_streams.specs.Counted.{inner_of, failed_calls, RisesIf};
 ghost use Rattle.sarif_model.specs.MergeFault.{exit_status};
 ghost use Rattle.sarif_program.specs.Line.{IsTold};
+ghost use Rattle.sarif_program.specs.Notes.{AreNoted};
 ghost use Rattle.sarif_program.specs.Reports.{AreTaken};
 ghost use Rattle.sarif_program.specs.Status.{verdict_status};
 ghost use Rattle.sarif_program.specs.Writing.{NoWriterFalls, writer_failures};
@@ -13,7 +14,7 @@ ghost use Rattle.sarif_program.specs.declared.complaint.Complaint.TheVariants.{F
 use crate::complaint::{Complaint, Complaints};
 use crate::telling::Texts;
 use crate::writers::Writers;
-use crate::writing::{Lost, put_all};
+use crate::writing::{Lost, put_outputs, put_summary};
 use sarif_counts::Verdict;
 use sarif_log::Merged;
 use sarif_model::{At, Cause, MergeFault, Source};
@@ -40,8 +41,7 @@ pub(crate) fn refuse<E: Write>(complaints: &mut Complaints<E>, fault: MergeFault
     fault.cause.status()
 }
 
-/// Reports which output was not written. Returns the exit status. A lost summary is reported by the exit status
-/// only.
+/// Reports which output was not written. Returns the exit status.
 fn tell_lost<E: Write>(complaints: &mut Complaints<E>, lost: Lost) -> u8
     requires { failed_calls complaints.old.out < 2 ^ 63 }
     ensures { result ≡ 3 }
@@ -55,13 +55,13 @@ fn tell_lost<E: Write>(complaints: &mut Complaints<E>, lost: Lost) -> u8
             complaints.complain(Complaint::Fault(unwritten));
         }
         Lost::Report(report) => complaints.complain(Complaint::Lost(report)),
-        Lost::Summary => {}
     }
     3
 }
 
-/// Writes an accepted merge: its log, then the reports that there are writers for, and then its summary. The status
-/// is that of the verdict, or 3 where one of them was not written.
+/// Writes an accepted merge: its log, then the other outputs that there are writers for, then the lines on what is for
+/// later merges, and then its summary. Returns the exit status: that of the verdict, or 3 if one of the outputs or the
+/// summary was not written. A lost summary is reported by the status only, and lost lines are not reported.
 pub(crate) fn accept<W: Write, S: Write, P: Write, E: Write>(
     merged: &Merged,
     texts: &Texts,
@@ -84,11 +84,16 @@ pub(crate) fn accept<W: Write, S: Write, P: Write, E: Write>(
     ensures failed { RisesIf (nat_eq result 3)
         (writer_failures writers.old) (writer_failures writers.new) }
     ensures risen { NoWriterFalls writers.old writers.new }
-    ensures quiet { result < 2 → complaints.new ≡ complaints.old }
+    ensures noted { result < 2
+        → AreNoted E.contents texts.now.lines complaints.old complaints.new }
     ensures known { result ≤ 3 }
 {
-    match put_all(writers, &merged.log, texts) {
+    if let Err(lost) = put_outputs(writers, &merged.log, texts) {
+        return tell_lost(complaints, lost);
+    }
+    complaints.note(texts.lines.as_str());
+    match put_summary(writers, texts) {
         Ok(()) => status_of_verdict(merged.verdict),
-        Err(lost) => tell_lost(complaints, lost),
+        Err(_) => 3,
     }
 }

@@ -1,11 +1,12 @@
-//! What one run of `sarif_gate` does, over readers and writers of any kind: it merges, writes the log, the reports
-//! and the summary, and reports what stopped it.
+//! What one run of `sarif_gate` does, over readers and writers of any kind: it merges, writes the log, the other
+//! outputs and the summary, and reports what stopped it.
 #![tactic(auto)]
 
 mod cause_name;
 mod complaint;
 mod ending;
 mod line;
+mod notes;
 mod run;
 mod seed;
 mod telling;

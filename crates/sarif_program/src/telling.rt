@@ -1,12 +1,15 @@
-//! The texts of a merge for people and review services.
+//! The texts of a merge beside its log.
 ghost use Rattle.std.specs.Prelude.{◌≡◌, ◌≤◌, IfOk, map};
 ghost use Rattle.sarif_counts.specs.Counts.{count_at};
 ghost use Rattle.sarif_counts.specs.Summary.{summary_of};
+ghost use Rattle.sarif_reports.specs.Facts.{facts_of};
 ghost use Rattle.sarif_reports.specs.Report.{report_of};
+ghost use Rattle.sarif_program.specs.Notes as notes;
 ghost use Rattle.sarif_program.specs.Reports.{report_with, wanted_reports, texts_for};
 
-use sarif_counts::{Counts, Policy, summary};
-use sarif_findings::Finding;
+use crate::notes::lines_of;
+use sarif_counts::summary;
+use sarif_log::Facts;
 use sarif_model::Text;
 use sarif_reports::{Report, Told, report_text};
 use sarif_request::{Request, Wanted};
@@ -17,11 +20,14 @@ use std::thread::Threads;
 /// The texts of an accepted merge, except its log.
 #[derive(Debug, Drop)]
 pub(crate) struct Texts {
+    /// The outputs beside the log, in the order of their writers.
     pub(crate) reports: Vec<Text>,
+    /// The lines on what is for later merges.
+    pub(crate) lines: Text,
     pub(crate) summary: Text,
 }
 
-/// Returns the text of a report, made in at most `threads` threads, this one among them.
+/// Returns the text of an output, made in at most `threads` threads, this one among them.
 fn text_of<T: Threads + Sync>(
     rt: &T,
     alloc: Global,
@@ -30,14 +36,13 @@ fn text_of<T: Threads + Sync>(
     threads: u32,
 ) -> Result<Text, AllocError>
     requires { 1 ≤ threads }
-    ensures { IfOk result (λ text. text ≡ report_of report
-        (count_at told.now.counts.now) told.now.policy.now told.now.findings.now) }
+    ensures { IfOk result (λ text. text ≡ report_of report (facts_of told.now)) }
 {
     Text::from_string(report_text(rt, alloc, report, told, threads)?)
 }
 
-/// Returns the texts of these reports, which are made at the same time. A report that shares its work among
-/// threads uses at most `threads`.
+/// Returns the texts of these outputs, which are made at the same time. One that shares its work among threads uses at
+/// most `threads`.
 fn texts_told<T: Threads + Sync>(
     rt: &T,
     alloc: Global,
@@ -46,14 +51,12 @@ fn texts_told<T: Threads + Sync>(
     threads: u32,
 ) -> Result<Vec<Text>, AllocError>
     requires { 1 ≤ threads }
-    ensures { IfOk result (λ texts. texts.items ≡ map (λ one. report_of one
-        (count_at told.now.counts.now) told.now.policy.now told.now.findings.now) reports.items) }
+    ensures { IfOk result (λ texts. texts.items
+        ≡ map (λ one. report_of one (facts_of told.now)) reports.items) }
 {
     let tell = move |report: Report| -> Result<Text, AllocError>
         requires { 1 ≤ threads }
-        ensures { IfOk result (λ text. text ≡ report_of report
-            (count_at told.entry.now.counts.now) told.entry.now.policy.now
-            told.entry.now.findings.now) }
+        ensures { IfOk result (λ text. text ≡ report_of report (facts_of told.entry.now)) }
     { text_of(rt, alloc, told, report, threads) };
     let made = thread::map_vec(rt, reports, &tell)?;
     all_made(alloc, made)
@@ -70,7 +73,7 @@ fn all_made(alloc: Global, made: Vec<Result<Text, AllocError>>) -> Result<Vec<Te
     Ok(texts)
 }
 
-/// Returns the reports that there are writers for, in the order of the writers.
+/// Returns the outputs that there are writers for, in the order of the writers.
 fn wanted_reports<W>(alloc: Global, writers: &[Wanted<W>]) -> Result<Vec<Report>, AllocError>
     ensures { IfOk result (λ reports. reports.items ≡ wanted_reports writers.now) }
 {
@@ -81,44 +84,52 @@ fn wanted_reports<W>(alloc: Global, writers: &[Wanted<W>]) -> Result<Vec<Report>
     Ok(reports)
 }
 
-/// Returns the texts of the reports that there are writers for, of a merge with these counts.
+/// Returns the texts of the outputs that there are writers for, of a merge with these facts.
 fn reports_of<W, T: Threads + Sync>(
     rt: &T,
     alloc: Global,
-    counts: &Counts,
-    findings: &Vec<Finding>,
+    facts: &Facts<'_>,
     request: &Request,
     writers: &[Wanted<W>],
 ) -> Result<Vec<Text>, AllocError>
-    ensures { IfOk result (λ texts. texts.items ≡ texts_for writers.now
-        (report_with request.now counts.now findings.now)) }
+    ensures { IfOk result
+        (λ texts. texts.items ≡ texts_for writers.now (report_with request.now facts.now)) }
 {
     let told = Told {
-        counts,
+        counts: facts.counts,
         policy: &request.options.policy,
-        findings: findings.as_slice(),
+        findings: facts.findings.as_slice(),
+        without: facts.without,
+        unused: facts.unused,
+        life: Some(facts.life),
+        seed: request.options.seed,
     };
     let reports = wanted_reports(alloc, writers)?;
     texts_told(rt, alloc, &told, reports, request.options.workers)
 }
 
-/// The summary of a merge with these counts, and the texts of the reports that there are writers for. The threads
-/// of the options share the work of reports.
+/// The summary of a merge with these facts, the lines on what is for later merges, and the texts of the outputs that
+/// there are writers for. The threads of the options share the work of reports.
 pub(crate) fn texts_of<W, T: Threads + Sync>(
     rt: &T,
     alloc: Global,
-    counts: &Counts,
-    findings: &Vec<Finding>,
+    facts: &Facts<'_>,
     request: &Request,
     writers: &[Wanted<W>],
 ) -> Result<Texts, AllocError>
     ensures summary { IfOk result (λ texts. texts.summary
-        ≡ summary_of (count_at counts.now) request.now.options.policy) }
+        ≡ summary_of (count_at facts.now.counts.now) request.now.options.policy) }
+    ensures lines { IfOk result (λ texts. texts.lines ≡ notes.lines_of facts.now.life.now) }
     ensures reports { IfOk result (λ texts. texts.reports.items
-        ≡ texts_for writers.now (report_with request.now counts.now findings.now)) }
+        ≡ texts_for writers.now (report_with request.now facts.now)) }
 {
-    let summary = summary(alloc, counts, &request.options.policy)?;
+    let summary = summary(alloc, facts.counts, &request.options.policy)?;
     let summary = Text::from_string(summary)?;
-    let reports = reports_of(rt, alloc, counts, findings, request, writers)?;
-    Ok(Texts { reports, summary })
+    let lines = lines_of(alloc, facts.life)?;
+    let reports = reports_of(rt, alloc, facts, request, writers)?;
+    Ok(Texts {
+        reports,
+        lines,
+        summary,
+    })
 }

@@ -7,7 +7,7 @@ use sarif_streams::Counted;
 pub struct Writers<W, S, P> {
     /// The merged log.
     pub out: Counted<W>,
-    /// The reports that are requested, in the order in which they are written.
+    /// The other outputs that are requested, in the order in which they are written.
     pub reports: Vec<Wanted<Counted<P>>>,
     /// The summary.
     pub say: Counted<S>,

@@ -15,13 +15,13 @@ use sarif_request::Wanted;
 use sarif_streams::{Counted, Failed, write_out};
 use std::io::Write;
 
-/// What was not written.
+/// The output that was not written.
 #[derive(Clone, Copy, Debug, PartialEq, Eq)]
 pub(crate) enum Lost {
     /// The merged log.
     Log,
+    /// Another one.
     Report(Report),
-    Summary,
 }
 
 /// Writes an output completely, and then no bytes, which ends it: the writer commits what it accepted.
@@ -73,9 +73,9 @@ fn put_reports<P: Write>(writers: &mut [Wanted<Counted<P>>], texts: &[Text]) -> 
     Ok(())
 }
 
-/// Writes the merged log, then the reports in their order, and then the summary, up to what is lost.
+/// Writes the merged log, and then the other outputs in their order, up to what is lost.
 #[tactic(auto, using(sarif_streams::proofs::ReadersRead::none_has_fallen))]
-pub(crate) fn put_all<W: Write, S: Write, P: Write>(
+pub(crate) fn put_outputs<W: Write, S, P: Write>(
     writers: &mut Writers<W, S, P>,
     log: &Text,
     texts: &Texts,
@@ -83,25 +83,41 @@ pub(crate) fn put_all<W: Write, S: Write, P: Write>(
     requires out { failed_calls writers.old.out < 2 ^ 63 }
     requires reports { All (λ wanted. failed_calls wanted.to < 2 ^ 63) writers.old.reports.items }
     requires number { length texts.now.reports.items ≡ length writers.old.reports.items }
-    requires say { failed_calls writers.old.say < 2 ^ 63 }
     ensures log { OnOk result (Appends (W.contents (inner_of writers.old.out))
         (W.contents (inner_of writers.new.out)) log.now) }
     ensures reports { OnOk result (AreTaken P.contents texts.now.reports.items
         writers.old.reports.items writers.new.reports.items) }
-    ensures summary { OnOk result (Appends (S.contents (inner_of writers.old.say))
-        (S.contents (inner_of writers.new.say)) texts.now.summary) }
     ensures counted { RisesIf (is_err result)
         (writer_failures writers.old) (writer_failures writers.new) }
     ensures risen { NoWriterFalls writers.old writers.new }
+    ensures unsaid { writers.new.say ≡ writers.old.say }
 {
     if put_out(&mut writers.out, log.as_str().as_bytes()).is_err() {
         return Err(Lost::Log);
     }
-    if let Err(report) = put_reports(writers.reports.as_mut_slice(), texts.reports.as_slice()) {
-        return Err(Lost::Report(report));
+    match put_reports(writers.reports.as_mut_slice(), texts.reports.as_slice()) {
+        Ok(()) => Ok(()),
+        Err(report) => Err(Lost::Report(report)),
     }
+}
+
+/// Writes the summary.
+#[tactic(auto, using(sarif_streams::proofs::ReadersRead::none_has_fallen))]
+pub(crate) fn put_summary<W, S: Write, P>(
+    writers: &mut Writers<W, S, P>,
+    texts: &Texts,
+) -> Result<(), Failed>
+    requires { failed_calls writers.old.say < 2 ^ 63 }
+    ensures summary { OnOk result (Appends (S.contents (inner_of writers.old.say))
+        (S.contents (inner_of writers.new.say)) texts.now.summary) }
+    ensures out { writers.new.out ≡ writers.old.out }
+    ensures reports { writers.new.reports ≡ writers.old.reports }
+    ensures counted { RisesIf (is_err result)
+        (writer_failures writers.old) (writer_failures writers.new) }
+    ensures risen { NoWriterFalls writers.old writers.new }
+{
     match write_out(&mut writers.say, texts.summary.as_str().as_bytes()) {
         Ok(()) => Ok(()),
-        Err(_) => Err(Lost::Summary),
+        Err(_) => Err(Failed),
     }
 }

@@ -1,5 +1,5 @@
 -- A run that is made of its parts in an index.
-use Rattle.std.proofs.Common.{◌≡◌, List, length, IsTrue, Ok, refl, sym, ap, ◌∙◌, codes, option_and_then}
+use Rattle.std.proofs.Common.{◌≡◌, Bool, List, length, IsTrue, Ok, refl, sym, ap, ◌∙◌, codes, option_and_then}
 use Rattle.std.proofs.lemmas.List.{length-map}
 use Rattle.json.specs.Token.{Token}
 use Rattle.serde_json.specs.Data.{Data, null, boolean, number, string, array, object}
@@ -24,8 +24,8 @@ bare_is tokens b is = is ∙ stripped-without (codes "results") (data_of tokens)
 pub tool_of_bare : (tokens : List Token) (b : Data) → b ≡ stripped (without_member (codes "results") (data_of tokens)) → check_tool b ≡ check_tool (value_at tokens)
 tool_of_bare tokens b is = ap check_tool (bare_is tokens b is) ∙ bare_check_tool (value_at tokens)
 
-pub external_of_bare : (tokens : List Token) (b : Data) → b ≡ stripped (without_member (codes "results") (data_of tokens)) → check_external b ≡ check_external (value_at tokens)
-external_of_bare tokens b is = ap check_external (bare_is tokens b is) ∙ bare_check_external (value_at tokens)
+pub external_of_bare : (allow : Bool) (tokens : List Token) (b : Data) → b ≡ stripped (without_member (codes "results") (data_of tokens)) → check_external allow b ≡ check_external allow (value_at tokens)
+external_of_bare allow tokens b is = ap (check_external allow) (bare_is tokens b is) ∙ bare_check_external allow (value_at tokens)
 
 -- what has a tool is an object
 named : (d : Data) → check_tool d ≡ Ok tt → IsTrue (is_bare (bare d))

@@ -1,5 +1,6 @@
 pub mod Beside
 pub mod CheckEach
+pub mod External
 pub mod IndexEach
 pub mod IndexRun
 pub mod ListResults

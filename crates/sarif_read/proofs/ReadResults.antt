@@ -1,5 +1,5 @@
 -- The results of a run whose form was checked.
-use Rattle.std.proofs.Common.{◌≡◌, ℕ, Option, Some, None, is_some, Result, Ok, refl, ap, ◌∙◌, codes, option_and_then}
+use Rattle.std.proofs.Common.{◌≡◌, ℕ, Bool, Option, Some, None, is_some, Result, Ok, refl, ap, ◌∙◌, codes, option_and_then}
 use Rattle.std.specs.Prelude.{⊤}
 use Rattle.serde_json.specs.Data.{Data, null, boolean, number, string, array, object}
 use Rattle.serde_json.specs.Find.{get, as_array}
@@ -28,10 +28,10 @@ of_found (Some (object ms)) h = cc
 unit : (x : ⊤) → x ≡ tt
 unit x = refl
 
-pub results_there : (run : Data) (before now : ℕ) → check_run before run ≡ Ok now → is_some (results_array run) ≡ is_some (member_at (codes "results") run)
+pub results_there : (allow : Bool) (run : Data) (before now : ℕ) → check_run allow before run ≡ Ok now → is_some (results_array run) ≡ is_some (member_at (codes "results") run)
 unfolding check_run checked
-results_there run before now h =
+results_there allow run before now h =
     let tool = bind_ok (check_tool run) _ now h in
-    let external = bind_ok (check_external run) _ now tool.2 in
+    let external = bind_ok (check_external allow run) _ now tool.2 in
     let results = bind_ok (check_results run) _ now external.2 in
     of_found (get (codes "results") run) (results.1 ∙ ap Ok (unit results.0))

@@ -1,5 +1,5 @@
 -- The runs of a stripped log hold no number with a fraction.
-use Rattle.std.proofs.Common.{◌≡◌, ℕ, List, false, ◌||◌, Option, Some, None, Result, Ok, Err, refl, ap, ◌∙◌}
+use Rattle.std.proofs.Common.{◌≡◌, ℕ, Bool, List, false, ◌||◌, Option, Some, None, Result, Ok, Err, refl, ap, ◌∙◌}
 use Rattle.std.specs.Prelude.{codes, option_and_then}
 use Rattle.std.specs.Ordering.{match_ordering}
 use Rattle.std.specs.declared.cmp.Ordering.TheVariants.{Less, Equal, Greater}
@@ -62,15 +62,15 @@ pub bind_ok : {A B E : Type 0} (r : Result A E) (f : A → Result B E) (y : B) �
 bind_ok (Ok x) f y h = (x, refl, h)
 bind_ok (Err e) f y h = cc
 
-value_runs : (d : Data) (runs : List Data) → log_of_value d ≡ Ok runs → runs ≡ runs_of d
+value_runs : (allow : Bool) (d : Data) (runs : List Data) → log_of_value allow d ≡ Ok runs → runs ≡ runs_of d
 unfolding log_of_value
-value_runs d runs h =
+value_runs allow d runs h =
     let checked = bind_ok (at_whole (check_log d)) _ runs h in
-    let each = bind_ok (check_each 0 0 (runs_of d)) _ runs checked.2 in
+    let each = bind_ok (check_each allow 0 0 (runs_of d)) _ runs checked.2 in
     cc each.2
 
-pub read_whole : (bytes : List ℕ) (runs : List Data) → log_of bytes ≡ Ok runs → list_any has_float runs ≡ false
+pub read_whole : (allow : Bool) (bytes : List ℕ) (runs : List Data) → log_of allow bytes ≡ Ok runs → list_any has_float runs ≡ false
 unfolding log_of
-read_whole bytes runs h =
+read_whole allow bytes runs h =
     let parsed = bind_ok (at_whole (ok_or (json_of (without_mark bytes)) NotJson)) _ runs h in
-    rw (value_runs (stripped parsed.0) runs parsed.2) (stripped_runs parsed.0)
+    rw (value_runs allow (stripped parsed.0) runs parsed.2) (stripped_runs parsed.0)

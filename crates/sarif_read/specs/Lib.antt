@@ -1,4 +1,5 @@
 pub mod Bare
+pub mod Failed
 pub mod Indexed
 pub mod Listed
 pub mod Picked

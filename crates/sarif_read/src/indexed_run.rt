@@ -8,6 +8,7 @@ ghost use Rattle.sarif_model.specs.Limits.{most_results};
 use crate::filling::{values_of, with_results};
 use crate::listed::Listed;
 use crate::picking::pick_members;
+use crate::success::has_unsuccessful;
 use crate::whole::RawRun;
 use serde_json::Value;
 use std::alloc::{AllocError, Global};
@@ -27,6 +28,7 @@ impl<'t, 'a> IndexedRun<'t, 'a> {
     ghost use Rattle.serde_json.specs.View.{view};
     ghost use Rattle.sarif_model.specs.Run.{results_of, results_array, result_at};
     ghost use Rattle.sarif_read.specs.Bare.{bare, is_bare};
+    ghost use Rattle.sarif_read.specs.Failed.{failed};
     ghost use Rattle.sarif_read.specs.Listed.{nodes_of};
     ghost use Rattle.sarif_read.specs.Indexed.{run_of};
     ghost use Rattle.sarif_read.specs.Picked.{picked};
@@ -59,6 +61,16 @@ impl<'t, 'a> IndexedRun<'t, 'a> {
             Listed::Array(_) => true,
             Listed::Missing | Listed::Null => false,
         }
+    }
+
+    /// Whether the analysis of the run failed: an invocation has an `executionSuccessful` that is false, or the run
+    /// has no results (SARIF 2.1.0, invocation object, "executionSuccessful property"; run object, "results
+    /// property").
+    #[tactic(auto, using(crate::proofs::Beside::bare_unsuccessful))]
+    pub fn has_failed(&self) -> bool
+        ensures { result ≡ failed (run_of self.now) }
+    {
+        has_unsuccessful(self.bare()) || !self.has_results()
     }
 
     /// The run without its results.

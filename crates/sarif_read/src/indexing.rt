@@ -53,18 +53,19 @@ fn index_run<'t, 'a>(
     alloc: Global,
     before: usize,
     run: &Node<'t, 'a>,
+    allow_external: bool,
 ) -> Result<IndexedRun<'t, 'a>, Refusal<Fault>>
     requires few { before ≤ most_results }
     requires ordered { IsOrdered (data_of run.now) }
     ensures ok { IfOk result (λ made. run_of made ≡ value_at run.now) }
-    ensures checked { OnOk result (said.check_run before (value_at run.now)
+    ensures checked { OnOk result (said.check_run allow_external before (value_at run.now)
         ≡ Ok (before + length (results_of (value_at run.now)))) }
     ensures few { OnOk result (before + length (results_of (value_at run.now)) ≤ most_results) }
-    ensures err { IfFault result (λ fault. said.check_run before (value_at run.now) ≡ Err fault) }
+    ensures err { IfFault result (λ fault. said.check_run allow_external before (value_at run.now) ≡ Err fault) }
 {
     let bare = run.to_value_without(alloc, "results")?;
     check_tool(&bare)?;
-    check_external(&bare)?;
+    check_external(allow_external, &bare)?;
     let results = list_results(alloc, run)?;
     if results.len() > MOST_RESULTS - before {
         return Err(Refusal::Fault(Fault::TooMany));
@@ -89,19 +90,20 @@ fn refused_at(number: u32, refusal: Refusal<Fault>) -> Refusal<ReadFault>
 fn index_each<'t, 'a>(
     alloc: Global,
     nodes: &[Node<'t, 'a>],
+    allow_external: bool,
 ) -> Result<Vec<IndexedRun<'t, 'a>>, Refusal<ReadFault>>
     requires few { length nodes.now ≤ most_runs }
     requires ordered { AreOrdered nodes.now }
     ensures ok { IfOk result (λ runs. map run_of runs.items ≡ map value_at nodes.now) }
-    ensures checked { OnOk result (said.check_each 0 0 (map value_at nodes.now) ≡ Ok tt) }
+    ensures checked { OnOk result (said.check_each allow_external 0 0 (map value_at nodes.now) ≡ Ok tt) }
     ensures few { IfOk result (λ runs. results_total (map run_of runs.items) ≤ most_results) }
-    ensures err { IfFault result (λ e. said.check_each 0 0 (map value_at nodes.now) ≡ Err e) }
+    ensures err { IfFault result (λ e. said.check_each allow_external 0 0 (map value_at nodes.now) ≡ Err e) }
 {
     let mut runs = Vec::with_capacity(alloc, nodes.len())?;
     let mut number: u32 = 0;
     let mut before = 0;
     for node in nodes {
-        let run = match index_run(alloc, before, node) {
+        let run = match index_run(alloc, before, node, allow_external) {
             Ok(run) => run,
             Err(refusal) => return Err(refused_at(number, refusal)),
         };
@@ -168,7 +170,9 @@ fn checked_runs<'t, 'a>(
 }
 
 /// The runs of an indexed log (SARIF 2.1.0, "sarifLog object"), of which each is stripped and has
-/// the form of one. Takes no memory for their results but the list of their places.
+/// the form of one. Takes no memory for their results but the list of their places. With `allow_external` a run may
+/// name external property files, if none of them holds artifacts, tool components, invocations or results, which
+/// are what is read of a run (SARIF 2.1.0, "externalPropertyFileReferences property").
 ///
 /// Returns the first error of the log:
 /// `NotLog`, `WrongVersion` or `TooMany` without a run, `BadRun`, `ExternalProperties` or `TooMany`
@@ -177,14 +181,15 @@ fn checked_runs<'t, 'a>(
 pub fn index_log<'t, 'a>(
     alloc: Global,
     index: &'t Index<'a>,
+    allow_external: bool,
 ) -> Result<Vec<IndexedRun<'t, 'a>>, Refusal<ReadFault>>
     ensures ok { IfOk result
-        (λ runs. said.log_of_value (value_at index.now) ≡ Ok (map run_of runs.items)) }
+        (λ runs. said.log_of_value allow_external (value_at index.now) ≡ Ok (map run_of runs.items)) }
     ensures few { IfOk result (λ runs. results_total (map run_of runs.items) ≤ most_results) }
     ensures few_runs { IfOk result (λ runs. length runs.items ≤ most_runs) }
-    ensures err { IfFault result (λ e. said.log_of_value (value_at index.now) ≡ Err e) }
+    ensures err { IfFault result (λ e. said.log_of_value allow_external (value_at index.now) ≡ Err e) }
 {
     let log = index.root();
     let nodes = checked_runs(alloc, &log).map_err(refused_whole)?;
-    index_each(alloc, nodes.as_slice())
+    index_each(alloc, nodes.as_slice(), allow_external)
 }

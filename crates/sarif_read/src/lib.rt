@@ -12,14 +12,15 @@ mod nodes;
 mod picking;
 mod read_fault;
 mod reading;
+mod success;
 mod whole;
 
 pub use absent::is_marked_absent;
 pub use indexed_run::IndexedRun;
 pub use indexing::index_log;
 pub use laws::{
-    read_runs_hold_no_fraction, runs_have_results_where_they_are_listed,
-    stripped_holds_no_fraction, stripping_twice_is_once,
+    allowing_external_files_changes_nothing_else, read_runs_hold_no_fraction,
+    runs_have_results_where_they_are_listed, stripped_holds_no_fraction, stripping_twice_is_once,
 };
 pub use read_fault::{ReadFault, refused_text};
 pub use whole::{Log, RawRun, read_log, strip, strip_in_place};

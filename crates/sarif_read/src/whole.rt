@@ -35,20 +35,25 @@ fn fill_each(alloc: Global, runs: Vec<IndexedRun<'_, '_>>) -> Result<Vec<RawRun>
 }
 
 /// Reads a log (SARIF 2.1.0, "sarifLog object"): the JSON after one leading byte order mark,
-/// stripped, with the form of the log and of its runs.
+/// stripped, with the form of the log and of its runs. With `allow_external` a run may name external property files,
+/// if none of them holds artifacts, tool components, invocations or results.
 ///
 /// Returns the first error of the bytes: `NotJson`, `NotLog`, `WrongVersion` or `TooMany` without
 /// a run, or `BadRun`, `ExternalProperties` or `TooMany` with the number of the run from 0. Returns
 /// `OutOfMemory` if memory runs out.
 #[tactic(auto, using(crate::proofs::LogText::read_steps), unfolding(crate::specs::Reading::log_of))]
-pub fn read_log(alloc: Global, bytes: &[u8]) -> Result<Log, Refusal<ReadFault>>
-    ensures ok { IfOk result (λ log. said.log_of bytes.now ≡ Ok (map view log)) }
+pub fn read_log(
+    alloc: Global,
+    bytes: &[u8],
+    allow_external: bool,
+) -> Result<Log, Refusal<ReadFault>>
+    ensures ok { IfOk result (λ log. said.log_of allow_external bytes.now ≡ Ok (map view log)) }
     ensures few { IfOk result (λ log. results_total (map view log) ≤ most_results) }
     ensures few_runs { IfOk result (λ log. length log ≤ most_runs) }
-    ensures err { IfFault result (λ e. said.log_of bytes.now ≡ Err e) }
+    ensures err { IfFault result (λ e. said.log_of allow_external bytes.now ≡ Err e) }
 {
     let mut scratch = Scratch::new(alloc);
     let index = index_text(alloc, without_mark(bytes), &mut scratch).map_err(refused_text)?;
-    let runs = index_log(alloc, &index)?;
+    let runs = index_log(alloc, &index, allow_external)?;
     Ok(Log::new(fill_each(alloc, runs)?))
 }

@@ -33,7 +33,7 @@ page_by false false false false true c rest e0 e1 e2 e3 e4 h = h
 page_by false false false false false c rest e0 e1 e2 e3 e4 h =
     char_kept (λ bs. is_element_text bs ≡ true) page_high c rest (λ _ g. page_low c rest e0 e1 e2 e3 e4 g) h
 
-page_chars : (cs : List ℕ) → is_element_text (flat_map page_char cs) ≡ true
+pub page_chars : (cs : List ℕ) → is_element_text (flat_map page_char cs) ≡ true
 page_chars [] = refl
 page_chars (c ∷ cs) =
     page_by (c == 38) (c == 60) (c == 62) (c == 34) (c == 39) c (flat_map page_char cs) refl refl refl refl refl (page_chars cs)

@@ -22,6 +22,11 @@ use Rattle.sarif_findings.proofs.SeenMore.{shown_seen}
 use Rattle.sarif_findings.proofs.CharsBack.{chars_back}
 use Rattle.sarif_findings.proofs.HighBytes.{high_apart, char_kept}
 use Rattle.sarif_reports.proofs.TextApart.{is_plain, seen_in_line, same_ends, decimal_plain}
+use Rattle.sarif_model.specs.Run.{runs_of}
+use Rattle.sarif_counts.specs.CountOf.{count_of}
+use Rattle.sarif_counts.specs.Policy.{hits_of}
+use Rattle.sarif_reports.specs.Listed.{hits_among, listed, others_among}
+use Rattle.sarif_reports.proofs.ListedMore.{filter_told, hits_counted, length_listed, lines_parted, listed_told}
 use Rattle.sarif_findings.proofs.ToldFindings.{IsShown, IsPath, IsTold, all_told}
 
 -- what follows within a line, with this number of ends of lines
@@ -73,7 +78,7 @@ properties_more n (c ∷ cs) text seen rest =
     subst (Inner n) (sym (append_assoc (property_char c) (flat_map (escaped_char Property) cs) text))
     (property_more (c == 37) (c == 58) (c == 44) n c _ parts.0 (properties_more n cs text parts.1 rest))
 
-escaped_shown : (way : Escaping) (cs shows : List ℕ) → shows ≡ encode_utf8_all (shown_chars cs) → escaped way shows ≡ flat_map (escaped_char way) (shown_chars cs)
+pub escaped_shown : (way : Escaping) (cs shows : List ℕ) → shows ≡ encode_utf8_all (shown_chars cs) → escaped way shows ≡ flat_map (escaped_char way) (shown_chars cs)
 unfolding escaped
 escaped_shown way cs shows e = ap (λ t. flat_map (escaped_char way) (chars t)) e ∙ ap (flat_map (escaped_char way)) (chars_back (shown_chars cs))
 
@@ -148,14 +153,29 @@ line_text n f text told lines =
     (sym (regroup (command_of f.level) (file_property f.path) (number_property (codes "line=") f.line) (number_property (codes "col=") f.column) (codes "title=") (title f.rule f.tool) (codes "::") (escaped Message f.message) (codes "\n") text))
     (command_line (n + 1) f.level _ file)
 
-all_lines : (fs : List Finding) → AllByRecursion IsTold fs → Lines (length fs) (github_of fs)
+all_lines : (fs : List Finding) → AllByRecursion IsTold fs → Lines (length fs) (flat_map github_line fs)
 all_lines [] h = record { ends = refl; commands = refl }
 all_lines (f ∷ fs) h =
     let count : length fs + 1 ≡ length (f ∷ fs) = omega arith in
-    subst (λ n. Lines n (github_of (f ∷ fs))) count (line_text (length fs) f (github_of fs) h.0 (all_lines fs h.1))
+    subst (λ n. Lines n (flat_map github_line (f ∷ fs))) count (line_text (length fs) f (flat_map github_line fs) h.0 (all_lines fs h.1))
 
 pub commands_begin : (reporting : Reporting) (log : Data) → are_commands true (github_of (reported_of reporting log)) ≡ true
-commands_begin reporting log = (all_lines (reported_of reporting log) (all_told reporting log)).commands
+commands_begin reporting log =
+    let fs = reported_of reporting log in
+    (all_lines (listed fs) (listed_told fs (all_told reporting log))).commands
 
 pub lines_end : (reporting : Reporting) (log : Data) → count_by (λ b. b == 10) (github_of (reported_of reporting log)) ≡ length (reported_of reporting log)
-lines_end reporting log = (all_lines (reported_of reporting log) (all_told reporting log)).ends
+lines_end reporting log =
+    let fs = reported_of reporting log in
+    (all_lines (listed fs) (listed_told fs (all_told reporting log))).ends ∙ length_listed fs
+
+pub hit_lines : (reporting : Reporting) (log : Data)
+    → count_by (λ b. b == 10) (flat_map github_line (hits_among (reported_of reporting log))) ≡ hits_of (count_of (runs_of log)) reporting.policy
+hit_lines reporting log =
+    let fs = reported_of reporting log in
+    (all_lines (hits_among fs) (filter_told (λ f. f.hit) fs (all_told reporting log))).ends ∙ hits_counted reporting log
+
+pub hits_first : (reporting : Reporting) (log : Data)
+    → github_of (reported_of reporting log)
+    ≡ flat_map github_line (hits_among (reported_of reporting log)) ++ flat_map github_line (others_among (reported_of reporting log))
+hits_first reporting log = lines_parted github_line (reported_of reporting log)

@@ -1,5 +1,5 @@
 -- The table of results in Markdown, row by row.
-use Rattle.std.proofs.Common.{◌≡◌, ◌+◌, ◌==◌, ◌++◌, ℕ, Bool, true, false, not, ◌&&◌, List, [], ◌∷◌, codes, decimal, length, flat_map, encode_utf8, if◌then◌else◌, refl, sym, ap, ◌∙◌, cond, append_assoc, subst, arith, take}
+use Rattle.std.proofs.Common.{◌≡◌, ◌+◌, ◌-◌, ◌==◌, ◌++◌, ℕ, Bool, true, false, not, ◌&&◌, List, [], ◌∷◌, codes, decimal, length, flat_map, encode_utf8, if◌then◌else◌, refl, sym, ap, ◌∙◌, cond, append_assoc, subst, arith, take}
 use Rattle.std.specs.List.{AllByRecursion, count_by, list_all}
 use Rattle.std.specs.Char.{is_ascii_digit}
 use Rattle.std.proofs.lemmas.Bool.{and_parts, and_from, false_from_ne_true, eqb-true, true≢false, not-true}
@@ -27,7 +27,10 @@ use Rattle.sarif_findings.proofs.HighBytes.{high_apart, char_kept}
 use Rattle.sarif_reports.proofs.SeenTexts.{IsSeenText, shown_text, place_seen, escaped_chars}
 use Rattle.sarif_reports.proofs.TextApart.{seen_in_line, same_ends}
 use Rattle.sarif_findings.proofs.ToldFindings.{IsTold, all_told}
-use Rattle.sarif_reports.specs.MarkdownReport.{most_rows}
+use Rattle.sarif_reports.specs.Listed.{listed}
+use Rattle.sarif_reports.specs.MarkdownReport.{most_rows, most_bytes, fitting, in_table}
+use Rattle.sarif_reports.proofs.ListedMore.{listed_told}
+use Rattle.std.specs.Prelude.{nat_le}
 
 -- this many lines end, each with eight bars, after this many earlier ones
 record Cells (count before : ℕ) (text : List ℕ) : Type 0 where
@@ -150,16 +153,32 @@ all_rows (f ∷ fs) h =
     let count : length fs + 1 ≡ length (f ∷ fs) = omega arith in
     subst (λ n. Cells n 0 (flat_map result_row (f ∷ fs))) count (row_text (length fs) f (flat_map result_row fs) h.0 (all_rows fs h.1))
 
--- the rows of the table
+-- ---- the rows of the table
+
+fitting_by : (b : Bool) (f : Finding) (fs : List Finding) → IsTold f → AllByRecursion IsTold fs → AllByRecursion IsTold (if b then f ∷ fs else [])
+fitting_by true f fs h rest = (h, rest)
+fitting_by false f fs h rest = tt
+
+fitting_told : (room : ℕ) (fs : List Finding) → AllByRecursion IsTold fs → AllByRecursion IsTold (fitting room fs)
+fitting_told room [] h = tt
+fitting_told room (f ∷ fs) h =
+    fitting_by (nat_le (length (result_row f)) room) f (fitting (room - length (result_row f)) fs) h.0 (fitting_told (room - length (result_row f)) fs h.1)
+
+pub table_told : (fs : List Finding) → AllByRecursion IsTold fs → AllByRecursion IsTold (in_table fs)
+table_told fs h =
+    let told = listed_told fs h in
+    fitting_told most_bytes (take most_rows (listed fs))
+    (recursion_from_All IsTold (take most_rows (listed fs)) (All-take IsTold most_rows (listed fs) (All-from_recursion IsTold (listed fs) told)))
+
 table_rows : (reporting : Reporting) (log : Data)
-    → Cells (length (take most_rows (reported_of reporting log))) 0 (flat_map result_row (take most_rows (reported_of reporting log)))
+    → Cells (length (in_table (reported_of reporting log))) 0 (flat_map result_row (in_table (reported_of reporting log)))
 table_rows reporting log =
     let fs = reported_of reporting log in
-    all_rows (take most_rows fs) (recursion_from_All IsTold (take most_rows fs) (All-take IsTold most_rows fs (All-from_recursion IsTold fs (all_told reporting log))))
+    all_rows (in_table fs) (table_told fs (all_told reporting log))
 
-pub rows_barred : (reporting : Reporting) (log : Data) → have_bars 8 0 (flat_map result_row (take most_rows (reported_of reporting log))) ≡ true
+pub rows_barred : (reporting : Reporting) (log : Data) → have_bars 8 0 (flat_map result_row (in_table (reported_of reporting log))) ≡ true
 rows_barred reporting log = (table_rows reporting log).bars
 
 pub rows_end : (reporting : Reporting) (log : Data)
-    → count_by (λ b. b == 10) (flat_map result_row (take most_rows (reported_of reporting log))) ≡ length (take most_rows (reported_of reporting log))
+    → count_by (λ b. b == 10) (flat_map result_row (in_table (reported_of reporting log))) ≡ length (in_table (reported_of reporting log))
 rows_end reporting log = (table_rows reporting log).ends

@@ -24,7 +24,7 @@ seen_append (x ∷ xs) ys h rest =
     let parts = and_parts (is_seen x) (are_seen xs) h in
     and_from (is_seen x) (are_seen (xs ++ ys)) parts.0 (seen_append xs ys parts.1 rest)
 
-two_texts : (a b : List ℕ) → IsSeenText a → IsSeenText b → IsSeenText (a ++ b)
+pub two_texts : (a b : List ℕ) → IsSeenText a → IsSeenText b → IsSeenText (a ++ b)
 two_texts a b first second =
     (first.0 ++ second.0, encodes-append first.0 second.0 ∙ ap₂ (λ x y. x ++ y) first.1 second.1, seen_append first.0 second.0 first.2 second.2)
 
@@ -34,7 +34,7 @@ plains_seen (w ∷ ws) h =
     let parts = and_parts (is_plain w) (list_all is_plain ws) h in
     and_from (is_seen w) (are_seen ws) (and_parts (is_seen w) (not (w == 35) && nat_lt w 128) parts.0).0 (plains_seen ws parts.1)
 
-plain_text : (ws : List ℕ) → list_all is_plain ws ≡ true → IsSeenText ws
+pub plain_text : (ws : List ℕ) → list_all is_plain ws ≡ true → IsSeenText ws
 plain_text ws h = (ws, plain_bytes ws h, plains_seen ws h)
 
 pub shown_text : (text : List ℕ) → IsShown text → IsSeenText text

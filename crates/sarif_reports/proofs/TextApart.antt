@@ -1,5 +1,5 @@
 -- The text report, line by line.
-use Rattle.std.proofs.Common.{◌≡◌, ◌<◌, ◌^◌, ◌+◌, ◌%◌, ◌==◌, ◌++◌, ℕ, zero, suc, Bool, true, false, not, ◌&&◌, ◌||◌, List, [], ◌∷◌, Option, Some, None, IfSome, codes, decimal, length, if◌then◌else◌, refl, sym, ap, ap₂, ◌∙◌, cond, append_assoc, subst, arith}
+use Rattle.std.proofs.Common.{◌≡◌, ◌<◌, ◌^◌, ◌+◌, ◌%◌, ◌==◌, ◌++◌, ℕ, zero, suc, Bool, true, false, not, ◌&&◌, ◌||◌, List, [], ◌∷◌, Option, Some, None, IfSome, codes, decimal, flat_map, length, if◌then◌else◌, refl, sym, ap, ap₂, ◌∙◌, cond, append_assoc, subst, arith}
 use mathlib.Core.Bool.{and-false}
 use Rattle.std.specs.Prelude.{encode_utf8_all, nat_lt}
 use Rattle.std.specs.Char.{encode_utf8}
@@ -25,6 +25,11 @@ use Rattle.sarif_reports.specs.TextReport.{text_lines_of, text_line, bracketed}
 use Rattle.sarif_reports.specs.TextLaws.{has_colon_line, AreLines, IsTextOfLines}
 use Rattle.sarif_findings.proofs.SeenMore.{shown_seen, shown_apart}
 use Rattle.sarif_findings.proofs.ToldFindings.{IsShown, IsPath, IsTold, all_told}
+use Rattle.sarif_model.specs.Run.{runs_of}
+use Rattle.sarif_counts.specs.CountOf.{count_of}
+use Rattle.sarif_counts.specs.Policy.{hits_of}
+use Rattle.sarif_reports.specs.Listed.{hits_among, listed, others_among}
+use Rattle.sarif_reports.proofs.ListedMore.{filter_told, hits_counted, length_listed, lines_parted, listed_told}
 
 -- ---- what follows within a line: after any character, or after one that is no `#`
 
@@ -255,22 +260,36 @@ place_line n (Some path) line column text p l c rest =
     let apart = append_assoc (place_path path) (numbered line ++ numbered column) text ∙ ap (λ t. place_path path ++ t) (append_assoc (numbered line) (numbered column) text) in
     subst (IsTextOfLines n) (sym apart) whole
 
-regroup : (p a l b m r o t c s e text : List ℕ)
-    → (p ++ ((a ++ (l ++ (b ++ m))) ++ (r ++ (o ++ (t ++ (c ++ (s ++ e))))))) ++ text
-    ≡ p ++ (a ++ (l ++ (b ++ (m ++ (r ++ (o ++ (t ++ (c ++ (s ++ (e ++ text))))))))))
-regroup p a l b m r o t c s e text = simp append_assoc
+regroup : (p a l b m r o t c s e n text : List ℕ)
+    → ((p ++ ((a ++ (l ++ (b ++ m))) ++ (r ++ (o ++ (t ++ (c ++ (s ++ e))))))) ++ n) ++ text
+    ≡ p ++ (a ++ (l ++ (b ++ (m ++ (r ++ (o ++ (t ++ (c ++ (s ++ (e ++ (n ++ text)))))))))))
+regroup p a l b m r o t c s e n text = simp append_assoc
 
 line_text : (n : ℕ) (f : Finding) (text : List ℕ) → IsTold f → IsTextOfLines n text → IsTextOfLines (n + 1) (text_line f ++ text)
 line_text n f text told lines =
     subst (IsTextOfLines (n + 1))
-    (sym (regroup (spot_text f) (codes ": ") (level_name f.level) (codes ": ") f.message (bracketed f.rule) (codes " (") f.tool (codes ", ") (state_name f.state) (codes ")\n") text))
+    (sym (regroup (spot_text f) (codes ": ") (level_name f.level) (codes ": ") f.message (bracketed f.rule) (codes " (") f.tool (codes ", ") (state_name f.state) (codes ")") (codes "\n") text))
     (place_line (n + 1) f.path f.line f.column (rest_of_line f text) told.path told.line told.column (rest_text n f text told lines))
 
-all_lines : (fs : List Finding) → AllByRecursion IsTold fs → IsTextOfLines (length fs) (text_lines_of fs)
+all_lines : (fs : List Finding) → AllByRecursion IsTold fs → IsTextOfLines (length fs) (flat_map text_line fs)
 all_lines [] h = ([], refl, record { ends = refl; seen = refl; colons = refl; signs = refl })
 all_lines (f ∷ fs) h =
     let count : length fs + 1 ≡ length (f ∷ fs) = omega arith in
-    subst (λ n. IsTextOfLines n (text_lines_of (f ∷ fs))) count (line_text (length fs) f (text_lines_of fs) h.0 (all_lines fs h.1))
+    subst (λ n. IsTextOfLines n (flat_map text_line (f ∷ fs))) count (line_text (length fs) f (flat_map text_line fs) h.0 (all_lines fs h.1))
 
 pub text_lines : (reporting : Reporting) (log : Data) → IsTextOfLines (length (reported_of reporting log)) (text_lines_of (reported_of reporting log))
-text_lines reporting log = all_lines (reported_of reporting log) (all_told reporting log)
+text_lines reporting log =
+    let fs = reported_of reporting log in
+    subst (λ n. IsTextOfLines n (text_lines_of fs)) (length_listed fs) (all_lines (listed fs) (listed_told fs (all_told reporting log)))
+
+pub hit_lines : (reporting : Reporting) (log : Data)
+    → IsTextOfLines (hits_of (count_of (runs_of log)) reporting.policy) (flat_map text_line (hits_among (reported_of reporting log)))
+hit_lines reporting log =
+    let fs = reported_of reporting log in
+    subst (λ n. IsTextOfLines n (flat_map text_line (hits_among fs))) (hits_counted reporting log)
+    (all_lines (hits_among fs) (filter_told (λ f. f.hit) fs (all_told reporting log)))
+
+pub hits_first : (reporting : Reporting) (log : Data)
+    → text_lines_of (reported_of reporting log)
+    ≡ flat_map text_line (hits_among (reported_of reporting log)) ++ flat_map text_line (others_among (reported_of reporting log))
+hits_first reporting log = lines_parted text_line (reported_of reporting log)

@@ -3,7 +3,7 @@ use Rattle.std.specs.Prelude.{ℕ, Bool, ◌||◌, List, ◌==◌, ◌++◌, cod
 use Rattle.std.specs.Fmt.{decimal}
 use Rattle.sarif_findings.specs.Shown.{is_between}
 use Rattle.sarif_reports.specs.declared.escaping.Escaping.{Escaping}
-use Rattle.sarif_reports.specs.declared.escaping.Escaping.TheVariants.{Message, Property, Markdown, Page}
+use Rattle.sarif_reports.specs.declared.escaping.Escaping.TheVariants.{Message, Property, Markdown, Page, Place, IssueMessage, IssueProperty}
 
 -- a character of a workflow command's message
 abbrev pub message_char : ℕ → List ℕ
@@ -35,11 +35,29 @@ page_char c =
     if c == 34 then codes "&quot;" else (
     if c == 39 then codes "&#39;" else encode_utf8 c))))
 
+-- a character of a path in a page: the path may be broken after a slash
+abbrev pub place_char : ℕ → List ℕ
+place_char c = if c == 47 then codes "/<wbr>" else page_char c
+
+-- a character of a logging command's message
+abbrev pub issue_message_char : ℕ → List ℕ
+issue_message_char c = if c == 37 then codes "%AZP25" else encode_utf8 c
+
+-- a character of a logging command's property
+abbrev pub issue_property_char : ℕ → List ℕ
+issue_property_char c =
+    if c == 37 then codes "%AZP25" else (
+    if c == 59 then codes "%3B" else (
+    if c == 93 then codes "%5D" else encode_utf8 c))
+
 abbrev pub escaped_char : Escaping → ℕ → List ℕ
 escaped_char Message c = message_char c
 escaped_char Property c = property_char c
 escaped_char Markdown c = markdown_char c
 escaped_char Page c = page_char c
+escaped_char Place c = place_char c
+escaped_char IssueMessage c = issue_message_char c
+escaped_char IssueProperty c = issue_property_char c
 
 -- a string, character by character
 unfoldable pub escaped : Escaping → List ℕ → List ℕ

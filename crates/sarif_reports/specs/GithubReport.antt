@@ -1,4 +1,4 @@
--- The report for GitHub Actions: one workflow command per result.
+-- The report for GitHub Actions: one workflow command per result, those of the hits first.
 use Rattle.std.specs.Prelude.{ℕ, List, [], ◌∷◌, ◌++◌, Option, Some, None, codes, flat_map}
 use Rattle.std.specs.Fmt.{decimal}
 use Rattle.sarif_model.specs.declared.kinds.Level.{Level}
@@ -6,6 +6,7 @@ use Rattle.sarif_model.specs.declared.kinds.Level.TheVariants.{NoLevel, Note, Wa
 use Rattle.sarif_findings.specs.declared.finding.Finding.{Finding}
 use Rattle.sarif_reports.specs.declared.escaping.Escaping.TheVariants.{Message, Property}
 use Rattle.sarif_reports.specs.Escaped.{escaped}
+use Rattle.sarif_reports.specs.Listed.{listed}
 
 abbrev pub command_of : Level → List ℕ
 command_of Error = codes "::error "
@@ -46,4 +47,4 @@ github_line finding =
     command_of finding.level ++ (position_of finding ++ title_and_message finding)
 
 abbrev pub github_of : List Finding → List ℕ
-github_of findings = flat_map github_line findings
+github_of findings = flat_map github_line (listed findings)

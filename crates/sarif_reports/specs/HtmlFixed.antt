@@ -10,63 +10,76 @@ page_begin =
     codes "<meta charset=\"utf-8\">\n" ++ (
     codes "<meta http-equiv=\"Content-Security-Policy\" content=\"default-src 'none'; style-src 'unsafe-inline'; base-uri 'none'; form-action 'none'\">\n" ++ (
     codes "<meta name=\"viewport\" content=\"width=device-width, initial-scale=1\">\n" ++ (
-    codes "<title>Gate: "))))))
+    codes "<meta name=\"color-scheme\" content=\"light dark\">\n" ++ (
+    codes "<title>")))))))
 
--- after the verdict
+-- after the title
 unfoldable pub title_end : List ℕ
 title_end = codes "</title>\n"
 
--- after the style
+-- after the style, up to the heading
 unfoldable pub body_begin : List ℕ
 body_begin =
     codes "</head>\n" ++ (
     codes "<body>\n" ++ (
-    codes "<main>\n"))
+    codes "<header>\n" ++ (
+    codes "<div>\n")))
 
 -- the table of counts, up to its rows
 unfoldable pub counts_begin : List ℕ
 counts_begin =
-    codes "<table class=\"counts\">\n" ++ (
-    codes "<caption>Results of the merged log</caption>\n" ++ (
-    codes "<thead><tr><th scope=\"col\">state</th><th scope=\"col\">error</th><th scope=\"col\">warning</th><th scope=\"col\">note</th><th scope=\"col\">none</th><th scope=\"col\">suppressed</th></tr></thead>\n" ++ (
-    codes "<tbody>\n")))
+    codes "</div>\n" ++ (
+    codes "<div>\n" ++ (
+    codes "<table class=\"counts\" rules=\"rows\" cellpadding=\"4\">\n" ++ (
+    codes "<caption>All results by state and level; hits in bold</caption>\n" ++ (
+    codes "<thead><tr><th scope=\"col\" align=\"left\">state</th><th scope=\"col\">error</th><th scope=\"col\">warning</th><th scope=\"col\">note</th><th scope=\"col\">none</th><th scope=\"col\">suppressed</th></tr></thead>\n" ++ (
+    codes "<tbody align=\"right\">\n")))))
 
--- boxes to pick what is displayed; all is, at first
-unfoldable pub filters : List ℕ
-filters =
-    codes "<fieldset><legend>gate</legend>\n" ++ (
-    codes "<label><input type=\"checkbox\" id=\"hits\"> hits only</label>\n" ++ (
-    codes "</fieldset>\n" ++ (
-    codes "<fieldset><legend>level</legend>\n" ++ (
-    codes "<label><input type=\"checkbox\" id=\"error\" checked> error</label>\n" ++ (
-    codes "<label><input type=\"checkbox\" id=\"warning\" checked> warning</label>\n" ++ (
-    codes "<label><input type=\"checkbox\" id=\"note\" checked> note</label>\n" ++ (
-    codes "<label><input type=\"checkbox\" id=\"none\" checked> none</label>\n" ++ (
-    codes "</fieldset>\n" ++ (
-    codes "<fieldset><legend>state</legend>\n" ++ (
-    codes "<label><input type=\"checkbox\" id=\"new\" checked> new</label>\n" ++ (
-    codes "<label><input type=\"checkbox\" id=\"unchanged\" checked> unchanged</label>\n" ++ (
-    codes "<label><input type=\"checkbox\" id=\"updated\" checked> updated</label>\n" ++ (
-    codes "<label><input type=\"checkbox\" id=\"absent\" checked> absent</label>\n" ++ (
-    codes "</fieldset>\n"))))))))))))))
-
--- the table of results, up to its rows
-unfoldable pub results_begin : List ℕ
-results_begin =
-    codes "<table class=\"results\">\n" ++ (
-    codes "<caption>Reported results</caption>\n" ++ (
-    codes "<thead><tr><th scope=\"col\">hit</th><th scope=\"col\">level</th><th scope=\"col\">place</th><th scope=\"col\">rule</th><th scope=\"col\">message</th><th scope=\"col\">tool</th><th scope=\"col\">state</th></tr></thead>\n" ++ (
-    codes "<tbody>\n")))
-
--- after the rows of a table
-unfoldable pub table_end : List ℕ
-table_end =
+-- after the rows of the counts
+unfoldable pub counts_end : List ℕ
+counts_end =
     codes "</tbody>\n" ++ (
     codes "</table>\n")
 
--- instead of the table of results
+-- between the sentences below the counts and the results
+unfoldable pub header_end : List ℕ
+header_end =
+    codes "</div>\n" ++ (
+    codes "</header>\n" ++ (
+    codes "<main>\n"))
+
+-- before the boxes: only a style displays them, in a browser in which they work
+unfoldable pub filters_begin : List ℕ
+filters_begin = codes "<div class=\"filters\" hidden>\n"
+
+-- after the boxes
+unfoldable pub filters_end : List ℕ
+filters_end = codes "</div>\n"
+
+-- between the two names of a section
+unfoldable pub section_middle : List ℕ
+section_middle =
+    codes "\">\n" ++ (
+    codes "<table class=\"results\" width=\"100%\" rules=\"rows\" cellpadding=\"6\">\n" ++ (
+    codes "<caption><h2 id=\""))
+
+-- between the heading of a section and its rows
+unfoldable pub section_heads : List ℕ
+section_heads =
+    codes "</h2></caption>\n" ++ (
+    codes "<thead align=\"left\"><tr><th scope=\"col\">Place</th><th scope=\"col\">Level</th><th scope=\"col\">Message</th><th scope=\"col\">Rule</th><th scope=\"col\">State</th><th scope=\"col\">Tool</th></tr></thead>\n" ++ (
+    codes "<tbody align=\"left\" valign=\"top\">\n"))
+
+-- after the rows of a section
+unfoldable pub section_end : List ℕ
+section_end =
+    codes "</tbody>\n" ++ (
+    codes "</table>\n" ++ (
+    codes "</section>\n"))
+
+-- instead of the tables of results
 unfoldable pub nothing_reported : List ℕ
-nothing_reported = codes "<p>No results are reported.</p>\n"
+nothing_reported = codes "<p class=\"empty\">No results are reported.</p>\n"
 
 -- the end of the page
 unfoldable pub page_end : List ℕ

@@ -1,5 +1,9 @@
 -- Properties of the table of results in Markdown, for any strings of a log.
-use Rattle.std.specs.Prelude.{ℕ, ◌+◌, Bool, ◌&&◌, ◌==◌, List, [], ◌∷◌, if◌then◌else◌}
+use Rattle.std.specs.Prelude.{ℕ, ◌+◌, ◌<◌, ◌^◌, length, Bool, ◌&&◌, ◌==◌, List, [], ◌∷◌, if◌then◌else◌}
+use Rattle.sarif_model.specs.declared.kinds.Level.{Level}
+use Rattle.sarif_model.specs.declared.kinds.State.{State}
+use Rattle.sarif_counts.specs.Policy.{hits_of}
+use Rattle.sarif_reports.specs.Facts.{Facts}
 
 -- whether each line ends and has this many bars; some of the first line's were read already
 abbrev pub have_bars : ℕ → ℕ → List ℕ → Bool
@@ -7,3 +11,12 @@ have_bars count before [] = before == 0
 have_bars count before (b ∷ bs) =
     if b == 10 then (before == count && have_bars count 0 bs) else (
     if b == 124 then have_bars count (before + 1) bs else have_bars count before bs)
+
+-- numbers of 32 bits, as the program counts
+pub record AreSmall (facts : Facts) : Type 0 where
+  pub counts : (s : State) (l : Level) (b : Bool) → facts.count s l b < 2 ^ 32
+  pub hits : hits_of facts.count facts.policy < 2 ^ 32
+  pub max : facts.policy.max < 2 ^ 32
+  pub without : facts.without < 2 ^ 32
+  pub unused : facts.unused < 2 ^ 32
+  pub findings : length facts.findings < 2 ^ 32

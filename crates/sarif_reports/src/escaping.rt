@@ -12,13 +12,20 @@ pub(crate) enum Escaping {
     Property,
     /// Code within Markdown.
     Markdown,
-    /// The text of an element of a page, or of an attribute.
+    /// The text of an element of a page or of XML, or of an attribute.
     Page,
+    /// A path in a page, which may be broken after a slash.
+    Place,
+    /// The message of a logging command of Azure Pipelines.
+    IssueMessage,
+    /// A property of a logging command of Azure Pipelines.
+    IssueProperty,
 }
 
 impl Escaping {
     ghost use Rattle.sarif_reports.specs.Escaped.{escaped_char, escaped, message_char, property_char};
-    ghost use Rattle.sarif_reports.specs.Escaped.{markdown_char, is_mark, page_char};
+    ghost use Rattle.sarif_reports.specs.Escaped.{markdown_char, is_mark, page_char, place_char};
+    ghost use Rattle.sarif_reports.specs.Escaped.{issue_message_char, issue_property_char};
     ghost use Rattle.sarif_reports.specs.EscapedBytes.{escapes};
 
     fn push_message(text: &mut String, c: char) -> Result<(), AllocError>
@@ -76,6 +83,40 @@ impl Escaping {
         Ok(())
     }
 
+    fn push_place(text: &mut String, c: char) -> Result<(), AllocError>
+        ensures { OnOk result (string_bytes text.new ≡ string_bytes text.old ++ place_char c) }
+    {
+        match c {
+            '/' => text.push_str("/<wbr>")?,
+            _ => Escaping::push_page(text, c)?,
+        }
+        Ok(())
+    }
+
+    fn push_issue_message(text: &mut String, c: char) -> Result<(), AllocError>
+        ensures { OnOk result
+            (string_bytes text.new ≡ string_bytes text.old ++ issue_message_char c) }
+    {
+        match c {
+            '%' => text.push_str("%AZP25")?,
+            _ => text.push(c)?,
+        }
+        Ok(())
+    }
+
+    fn push_issue_property(text: &mut String, c: char) -> Result<(), AllocError>
+        ensures { OnOk result
+            (string_bytes text.new ≡ string_bytes text.old ++ issue_property_char c) }
+    {
+        match c {
+            '%' => text.push_str("%AZP25")?,
+            ';' => text.push_str("%3B")?,
+            ']' => text.push_str("%5D")?,
+            _ => text.push(c)?,
+        }
+        Ok(())
+    }
+
     fn push_char(self, alloc: Global, text: &mut String, c: char) -> Result<(), AllocError>
         ensures { OnOk result
             (string_bytes text.new ≡ string_bytes text.old ++ escaped_char self c) }
@@ -85,6 +126,9 @@ impl Escaping {
             Escaping::Property => Escaping::push_property(text, c)?,
             Escaping::Markdown => Escaping::push_markdown(alloc, text, c)?,
             Escaping::Page => Escaping::push_page(text, c)?,
+            Escaping::Place => Escaping::push_place(text, c)?,
+            Escaping::IssueMessage => Escaping::push_issue_message(text, c)?,
+            Escaping::IssueProperty => Escaping::push_issue_property(text, c)?,
         }
         Ok(())
     }
@@ -98,6 +142,9 @@ impl Escaping {
             Escaping::Property => matches!(byte, b'%' | b':' | b','),
             Escaping::Markdown => Escaping::is_mark(byte as char),
             Escaping::Page => matches!(byte, b'&' | b'<' | b'>' | b'"' | b'\''),
+            Escaping::Place => matches!(byte, b'/' | b'&' | b'<' | b'>' | b'"' | b'\''),
+            Escaping::IssueMessage => byte == b'%',
+            Escaping::IssueProperty => matches!(byte, b'%' | b';' | b']'),
         }
     }
 

@@ -1,8 +1,9 @@
 //! The report for GitHub Actions.
-ghost use Rattle.std.specs.Prelude.{◌≡◌, ◌++◌, IfOk, OnOk, string_bytes};
+ghost use Rattle.std.specs.Prelude.{◌≡◌, ◌++◌, IfOk, OnOk, flat_map, map, string_bytes};
 ghost use Rattle.sarif_reports.specs.GithubReport as said;
 
 use crate::escaping::Escaping;
+use crate::listed::listed;
 use sarif_findings::Finding;
 use sarif_model::{Level, Text};
 use std::alloc::{AllocError, Global};
@@ -99,14 +100,24 @@ fn push_line(alloc: Global, text: &mut String, finding: &Finding) -> Result<(), 
     Ok(())
 }
 
-/// Returns the report for GitHub Actions, one workflow command per result: `::COMMAND
-/// file=PATH,line=LINE,col=COLUMN,title=TITLE::MESSAGE`. Returns `AllocError` if memory for it runs out.
+/// Adds the commands of these results.
+fn push_lines(alloc: Global, text: &mut String, listed: &[&Finding]) -> Result<(), AllocError>
+    ensures { OnOk result (string_bytes text.new
+        ≡ string_bytes text.old ++ flat_map said.github_line (map (λ f. f.now) listed.now)) }
+{
+    for finding in listed {
+        push_line(alloc, text, finding)?;
+    }
+    Ok(())
+}
+
+/// Returns the report for GitHub Actions: one workflow command per result, those of the hits first. Returns
+/// `AllocError` if memory for it runs out.
 pub fn github_report(alloc: Global, findings: &[Finding]) -> Result<String, AllocError>
     ensures { IfOk result (λ s. string_bytes s ≡ said.github_of findings.now) }
 {
+    let listed = listed(alloc, findings)?;
     let mut text = String::new(alloc);
-    for finding in findings {
-        push_line(alloc, &mut text, finding)?;
-    }
+    push_lines(alloc, &mut text, listed.as_slice())?;
     Ok(text)
 }

@@ -15,10 +15,11 @@ pub(crate) fn page_begin() -> &'static str
 <meta charset=\"utf-8\">
 <meta http-equiv=\"Content-Security-Policy\" content=\"default-src 'none'; style-src 'unsafe-inline'; base-uri 'none'; form-action 'none'\">
 <meta name=\"viewport\" content=\"width=device-width, initial-scale=1\">
-<title>Gate: "
+<meta name=\"color-scheme\" content=\"light dark\">
+<title>"
 }
 
-/// After the verdict in the title.
+/// After the title.
 #[tactic(auto, unfolding(crate::specs::HtmlFixed::title_end))]
 pub(crate) fn title_end() -> &'static str
     ensures { result.now ≡ fixed.title_end }
@@ -28,107 +29,120 @@ pub(crate) fn title_end() -> &'static str
 "
 }
 
-/// Light and dark, on a phone and printed. What the boxes leave out is not displayed.
+/// Light and dark, on a phone and printed. Rows that the boxes exclude are not displayed.
 #[tactic(auto, unfolding(crate::specs::HtmlStyle::style))]
 pub(crate) fn style() -> &'static str
     ensures { result.now ≡ fixed_style.style }
 {
     "\
 <style>
-:root{color-scheme:light dark;--page:#fff;--soft:#f6f8fa;--line:#d0d7de;--text:#1f2328;--dim:#57606a}
-:root{--error:#b42318;--warning:#8a5a00;--note:#0b5cad;--none:#57606a;--pass:#1a7f37}
-@media (prefers-color-scheme:dark){
-:root{--page:#0d1117;--soft:#161b22;--line:#3d444d;--text:#e6edf3;--dim:#9da7b1}
-:root{--error:#ff8a80;--warning:#e3b341;--note:#79c0ff;--none:#9da7b1;--pass:#56d364}
-}
+:root{color-scheme:light dark;--page:#fff;--soft:#f6f8fa;--line:#d8dee4;--edge:#818b98;--text:#1f2328;--dim:#57606a;--mark:#fff3cd;--error:#b3261e;--warning:#7d4e00;--note:#0a58b0;--pass:#1a7f37}
+@media (prefers-color-scheme:dark){:root{--page:#0d1117;--soft:#161b22;--line:#30363d;--edge:#7d8590;--text:#e6edf3;--dim:#9da7b1;--mark:#3b2e00;--error:#ff9a92;--warning:#e3b341;--note:#79c0ff;--pass:#56d364}}
 *{box-sizing:border-box}
-body{margin:0;background:var(--page);color:var(--text);font:1rem/1.5 system-ui,sans-serif}
-main{max-width:100rem;margin:0 auto;padding:2rem 1.5rem}
-h1{margin:0;padding-left:1rem;border-left:.5rem solid;font-size:2rem;line-height:1.2}
-h1.pass{color:var(--pass)}
+body{margin:0 auto;max-width:92rem;padding:1.5rem 2rem 3rem;background:var(--page);color:var(--text);font:1rem/1.5 system-ui,-apple-system,\"Segoe UI\",sans-serif}
+header{display:grid;grid-template-columns:minmax(0,1fr) auto;gap:0 4rem;align-items:start}
+h1{margin:0 0 .75rem;padding-left:1rem;border-left:.5rem solid;font-size:2rem;line-height:1.2;text-wrap:balance}
 h1.fail{color:var(--error)}
-p{margin:.5rem 0 1.5rem;color:var(--dim)}
-h1+p{padding-left:1.5rem}
-a{color:inherit}
-code{font:.875em/1.5 ui-monospace,monospace;overflow-wrap:anywhere}
-table{border-collapse:separate;border-spacing:0;margin:0 0 1.5rem}
-caption{padding:.5rem 0;text-align:left;font-size:1.125rem;font-weight:600}
-th,td{padding:.375rem .75rem;text-align:left;vertical-align:top}
-thead th{background:var(--soft);font-weight:600}
-.counts{font-size:.875rem}
-.counts td,.counts thead th+th{text-align:right;font-variant-numeric:tabular-nums}
-.counts tbody th{font-weight:400}
-.counts tbody th,.counts td{padding-block:.25rem;border-bottom:1px solid var(--line)}
-fieldset{display:inline-block;margin:0 .5rem .75rem 0;padding:0 .75rem .25rem}
-fieldset{border:1px solid var(--line);border-radius:.5rem}
-legend{padding:0 .25rem;color:var(--dim);font-size:.875rem}
-label{display:inline-block;margin-right:.75rem;padding:.125rem 0;white-space:nowrap}
-.results{width:100%}
-.results tr.again td:nth-child(3){color:var(--dim)}
-.results td{overflow-wrap:anywhere}
-.results td:nth-child(-n+2),.results td:nth-child(7){white-space:nowrap}
-[data-hit=\"yes\"] td:first-child{font-weight:700}
-[data-hit=\"no\"] td:first-child{color:var(--dim)}
-[data-level=\"error\"] td:nth-child(2){color:var(--error);font-weight:700}
-[data-level=\"warning\"] td:nth-child(2){color:var(--warning);font-weight:600}
-[data-level=\"note\"] td:nth-child(2){color:var(--note)}
-[data-level=\"none\"] td:nth-child(2){color:var(--none);font-style:italic}
-[data-state=\"new\"] td:nth-child(7){font-weight:600}
-[data-state=\"unchanged\"] td:nth-child(7){font-style:italic}
-[data-state=\"absent\"] td:nth-child(7){text-decoration:line-through}
-@media (min-width:64rem){
-.results thead th{position:sticky;top:0}
-.results td{border-top:1px solid var(--line)}
-.results tr.again td{border-top-style:dotted}
-.results tr.again td:nth-child(-n+3){border-top-color:transparent}
-.results td:nth-child(3){width:26%;min-width:17rem}
-.results td:nth-child(4){width:12%;min-width:7rem}
-.results td:nth-child(5){min-width:18rem}
-.results td:nth-child(6){min-width:5rem}
-[data-hit=\"yes\"] td:first-child{box-shadow:inset .375rem 0 var(--error)}
-}
+h1.pass{color:var(--pass)}
+h1 span{color:var(--text);font-weight:400}
+header p{margin:0 0 .5rem;max-width:40rem}
+header>div>p,header nav{padding-left:1.5rem}
+nav{color:var(--dim)}
+nav a{display:inline-block;padding:.25rem 0;margin-right:1rem}
+p.mind{margin:.75rem 0 0;padding:.375rem .75rem;border-left:.25rem solid var(--warning);background:var(--soft)}
+header p.mind{max-width:34rem;padding-left:.75rem;font-size:.9375rem}
+a{color:var(--note);text-underline-offset:.15em}
+code{font:.875rem/1.5 ui-monospace,SFMono-Regular,Menlo,Consolas,monospace}
+table{border-collapse:collapse;border-style:none}
+th,td{border-style:none}
+caption{text-align:left}
+.counts{width:100%;font-size:.875rem;line-height:1.4}
+.counts caption{padding-bottom:.25rem;color:var(--dim)}
+.counts th,.counts td{padding:.1875rem .625rem;border-bottom:1px solid var(--line);text-align:right;font-weight:400;font-variant-numeric:tabular-nums}
+.counts tr>:first-child{padding-left:0;text-align:left}
+.counts thead th{color:var(--dim)}
+.counts .on{outline:1px solid var(--edge);outline-offset:-2px;background:var(--mark)}
+.filters{display:none}
+@supports selector(:has(*)){.filters{display:flex}}
+.filters{flex-wrap:wrap;gap:.25rem 2rem;margin-top:1.5rem}
+fieldset{display:flex;flex-wrap:wrap;gap:0 1.25rem;min-width:0;margin:0;padding:0;border:0}
+legend{float:left;min-width:3rem;padding:.25rem 0;color:var(--dim)}
+label{display:inline-flex;align-items:center;gap:.375rem;padding:.25rem 0}
+input{width:1.125rem;height:1.125rem;margin:0;accent-color:var(--note)}
+:focus-visible{outline:3px solid var(--note);outline-offset:2px}
+section{margin-top:1.75rem}
+h2{margin:0;padding-bottom:.5rem;font-size:1.375rem;line-height:1.3}
+.results{width:100%;table-layout:fixed;font-size:.9375rem;line-height:1.45}
+.results thead th{position:sticky;top:0;padding:.375rem 1rem .375rem 0;border-bottom:2px solid var(--edge);background:var(--page);color:var(--dim);font-size:.875rem;font-weight:400;text-align:left}
+.results th{width:29%}
+.results th:nth-child(2){width:6.25rem}
+.results th:nth-child(3){width:auto}
+.results th:nth-child(4){width:7.5rem}
+.results th:nth-child(5){width:6rem}
+.results th:nth-child(6){width:7rem}
+.results tbody>tr>*{padding:.5rem 1rem .5rem 0;border-top:1px solid var(--line);text-align:left;vertical-align:baseline;font-weight:400;overflow-wrap:anywhere}
+.results tbody>tr>:last-child{padding-right:0}
+.results tbody>.again>*{padding-top:.0625rem;border-top-color:transparent}
+.results tbody>:first-child>*{border-top:0}
+.results tbody code{font-size:.8125rem}
+.results tbody th code{font-weight:700}
+.results .again th code{color:var(--dim);font-weight:400}
+.results th b{color:var(--text);white-space:nowrap}
+.results td:nth-child(2) span{display:inline-block;padding:0 .4375rem;border:1px solid;border-radius:.25rem;font-size:.8125rem;line-height:1.4;white-space:nowrap}
+.results td:nth-child(5){white-space:nowrap}
+[data-level=\"error\"] td:nth-child(2) span{background:var(--error);border-color:var(--error)!important;color:var(--page);font-weight:700}
+[data-level=\"warning\"] td:nth-child(2) span{color:var(--warning);font-weight:700}
+[data-level=\"note\"] td:nth-child(2) span{border-color:var(--line)!important;color:var(--note)}
+[data-level=\"none\"] td:nth-child(2) span{border-color:transparent!important;padding:0!important;color:var(--dim);font-style:italic}
+[data-state=\"new\"] td:nth-child(5){font-weight:700}
+[data-state=\"unchanged\"] td:nth-child(5),[data-state=\"absent\"] td:nth-child(5){color:var(--dim);font-style:italic}
+.results td:nth-child(6){color:var(--dim)}
+.empty{margin-top:2rem;color:var(--dim)}
 @media (max-width:64rem){
-main{padding:1rem;overflow-x:auto}
-.counts{width:100%;font-size:.75rem}
+body{padding:1rem 1rem 2rem}
+header{display:block}
+header>div+div{overflow-x:auto}
+h1{margin-bottom:.5rem;padding-left:.75rem;font-size:1.375rem}
+header>div>p,header nav{padding-left:0}
+.counts{margin-top:.5rem;font-size:.8125rem}
 .counts th,.counts td{padding-inline:.25rem}
-fieldset{display:block;margin-right:0}
-.results,.results caption,.results tbody,.results td{display:block}
+.filters{margin-top:.75rem}
+label,legend{padding:.3125rem 0}
+section{margin-top:1.25rem}
+h2{font-size:1.25rem}
+.results,.results caption,.results tbody{display:block}
 .results thead{position:absolute;width:1px;height:1px;overflow:hidden;clip-path:inset(50%)}
-.results tr{display:grid;grid-template-columns:auto auto 1fr auto;gap:.125rem .75rem}
-.results tr{padding:.625rem 0 .625rem .875rem;border-top:1px solid var(--line)}
+.results tr{display:flex;flex-wrap:wrap;align-items:baseline;gap:.125rem .75rem;padding:.625rem 0;border-top:1px solid var(--line)}
 .results tr.again{border-top-style:dotted}
-.results tr[data-hit=\"yes\"]{box-shadow:inset .375rem 0 var(--error)}
-.results td{padding:0}
-.results td:first-child::before{content:\"hit: \"}
-.results td:nth-child(3),.results td:nth-child(5){grid-column:1/-1}
-.results td:nth-child(3){grid-row:2}
-.results td:nth-child(5){grid-row:3}
-.results td:nth-child(4){grid-area:4/1/5/4}
-.results td:nth-child(6){grid-area:4/4;text-align:right}
-.results td:nth-child(7){grid-area:1/4;text-align:right}
+.results tbody>tr>*{width:auto!important;padding:0!important;border:0!important}
+.results tbody>tr>:nth-child(1),.results tbody>tr>:nth-child(3){flex:0 0 100%}
+.results tbody>tr>:nth-child(2){order:1}
+.results tbody>tr>:nth-child(4){order:2}
+.results tbody>tr>:nth-child(5){order:3}
+.results tbody>tr>:nth-child(6){order:4}
+.results td:nth-child(3){font-size:1rem}
+.results tbody code{font-size:.875rem}
+.results a{padding-block:.25rem}
 }
-main:has(#hits:checked) [data-hit=\"no\"]{display:none}
-main:has(#error:not(:checked)) [data-level=\"error\"]{display:none}
-main:has(#warning:not(:checked)) [data-level=\"warning\"]{display:none}
-main:has(#note:not(:checked)) [data-level=\"note\"]{display:none}
-main:has(#none:not(:checked)) [data-level=\"none\"]{display:none}
-main:has(#new:not(:checked)) [data-state=\"new\"]{display:none}
-main:has(#unchanged:not(:checked)) [data-state=\"unchanged\"]{display:none}
-main:has(#updated:not(:checked)) [data-state=\"updated\"]{display:none}
-main:has(#absent:not(:checked)) [data-state=\"absent\"]{display:none}
+main:has(#error:not(:checked)) [data-level=\"error\"],main:has(#warning:not(:checked)) [data-level=\"warning\"],main:has(#note:not(:checked)) [data-level=\"note\"],main:has(#none:not(:checked)) [data-level=\"none\"],
+main:has(#new:not(:checked)) [data-state=\"new\"],main:has(#unchanged:not(:checked)) [data-state=\"unchanged\"],main:has(#updated:not(:checked)) [data-state=\"updated\"],main:has(#absent:not(:checked)) [data-state=\"absent\"]{display:none}
 @media print{
-:root{--page:#fff;--soft:#fff;--line:#999;--text:#000;--dim:#333}
-:root{--error:#000;--warning:#000;--note:#000;--none:#000;--pass:#000}
-main{max-width:none;padding:0}
-fieldset{display:none}
-tr{break-inside:avoid}
+:root{color-scheme:light;--page:#fff;--soft:#fff;--line:#999;--edge:#000;--text:#000;--dim:#333;--mark:#fff;--error:#000;--warning:#000;--note:#000;--pass:#000}
+body{max-width:none;padding:0;font-size:.8125rem}
+.filters,nav{display:none}
+.results{font-size:.75rem}
+.results tbody code{font-size:.6875rem}
+.results td:nth-child(3){font-size:inherit}
 .results thead th{position:static}
+tr,h2{break-inside:avoid}
+caption{break-after:avoid}
+[data-level=\"error\"] td:nth-child(2) span{background:none;color:#000;border-width:2px}
 }
 </style>
 "
 }
 
-/// After the style.
+/// After the style, up to the heading.
 #[tactic(auto, unfolding(crate::specs::HtmlFixed::body_begin))]
 pub(crate) fn body_begin() -> &'static str
     ensures { result.now ≡ fixed.body_begin }
@@ -136,7 +150,8 @@ pub(crate) fn body_begin() -> &'static str
     "\
 </head>
 <body>
-<main>
+<header>
+<div>
 "
 }
 
@@ -146,54 +161,19 @@ pub(crate) fn counts_begin() -> &'static str
     ensures { result.now ≡ fixed.counts_begin }
 {
     "\
-<table class=\"counts\">
-<caption>Results of the merged log</caption>
-<thead><tr><th scope=\"col\">state</th><th scope=\"col\">error</th><th scope=\"col\">warning</th><th scope=\"col\">note</th><th scope=\"col\">none</th><th scope=\"col\">suppressed</th></tr></thead>
-<tbody>
+</div>
+<div>
+<table class=\"counts\" rules=\"rows\" cellpadding=\"4\">
+<caption>All results by state and level; hits in bold</caption>
+<thead><tr><th scope=\"col\" align=\"left\">state</th><th scope=\"col\">error</th><th scope=\"col\">warning</th><th scope=\"col\">note</th><th scope=\"col\">none</th><th scope=\"col\">suppressed</th></tr></thead>
+<tbody align=\"right\">
 "
 }
 
-/// Boxes to pick what is displayed.
-#[tactic(auto, unfolding(crate::specs::HtmlFixed::filters))]
-pub(crate) fn filters() -> &'static str
-    ensures { result.now ≡ fixed.filters }
-{
-    "\
-<fieldset><legend>gate</legend>
-<label><input type=\"checkbox\" id=\"hits\"> hits only</label>
-</fieldset>
-<fieldset><legend>level</legend>
-<label><input type=\"checkbox\" id=\"error\" checked> error</label>
-<label><input type=\"checkbox\" id=\"warning\" checked> warning</label>
-<label><input type=\"checkbox\" id=\"note\" checked> note</label>
-<label><input type=\"checkbox\" id=\"none\" checked> none</label>
-</fieldset>
-<fieldset><legend>state</legend>
-<label><input type=\"checkbox\" id=\"new\" checked> new</label>
-<label><input type=\"checkbox\" id=\"unchanged\" checked> unchanged</label>
-<label><input type=\"checkbox\" id=\"updated\" checked> updated</label>
-<label><input type=\"checkbox\" id=\"absent\" checked> absent</label>
-</fieldset>
-"
-}
-
-/// The table of results, up to its rows.
-#[tactic(auto, unfolding(crate::specs::HtmlFixed::results_begin))]
-pub(crate) fn results_begin() -> &'static str
-    ensures { result.now ≡ fixed.results_begin }
-{
-    "\
-<table class=\"results\">
-<caption>Reported results</caption>
-<thead><tr><th scope=\"col\">hit</th><th scope=\"col\">level</th><th scope=\"col\">place</th><th scope=\"col\">rule</th><th scope=\"col\">message</th><th scope=\"col\">tool</th><th scope=\"col\">state</th></tr></thead>
-<tbody>
-"
-}
-
-/// After the rows of a table.
-#[tactic(auto, unfolding(crate::specs::HtmlFixed::table_end))]
-pub(crate) fn table_end() -> &'static str
-    ensures { result.now ≡ fixed.table_end }
+/// After the rows of the counts.
+#[tactic(auto, unfolding(crate::specs::HtmlFixed::counts_end))]
+pub(crate) fn counts_end() -> &'static str
+    ensures { result.now ≡ fixed.counts_end }
 {
     "\
 </tbody>
@@ -201,13 +181,80 @@ pub(crate) fn table_end() -> &'static str
 "
 }
 
-/// Instead of the table of results.
+/// Between the sentences below the counts and the results.
+#[tactic(auto, unfolding(crate::specs::HtmlFixed::header_end))]
+pub(crate) fn header_end() -> &'static str
+    ensures { result.now ≡ fixed.header_end }
+{
+    "\
+</div>
+</header>
+<main>
+"
+}
+
+/// Before the boxes. Only a style displays them, in a browser in which they work.
+#[tactic(auto, unfolding(crate::specs::HtmlFixed::filters_begin))]
+pub(crate) fn filters_begin() -> &'static str
+    ensures { result.now ≡ fixed.filters_begin }
+{
+    "\
+<div class=\"filters\" hidden>
+"
+}
+
+/// After the boxes.
+#[tactic(auto, unfolding(crate::specs::HtmlFixed::filters_end))]
+pub(crate) fn filters_end() -> &'static str
+    ensures { result.now ≡ fixed.filters_end }
+{
+    "\
+</div>
+"
+}
+
+/// Between the two names of a section.
+#[tactic(auto, unfolding(crate::specs::HtmlFixed::section_middle))]
+pub(crate) fn section_middle() -> &'static str
+    ensures { result.now ≡ fixed.section_middle }
+{
+    "\
+\">
+<table class=\"results\" width=\"100%\" rules=\"rows\" cellpadding=\"6\">
+<caption><h2 id=\""
+}
+
+/// Between the heading of a section and its rows.
+#[tactic(auto, unfolding(crate::specs::HtmlFixed::section_heads))]
+pub(crate) fn section_heads() -> &'static str
+    ensures { result.now ≡ fixed.section_heads }
+{
+    "\
+</h2></caption>
+<thead align=\"left\"><tr><th scope=\"col\">Place</th><th scope=\"col\">Level</th><th scope=\"col\">Message</th><th scope=\"col\">Rule</th><th scope=\"col\">State</th><th scope=\"col\">Tool</th></tr></thead>
+<tbody align=\"left\" valign=\"top\">
+"
+}
+
+/// After the rows of a section.
+#[tactic(auto, unfolding(crate::specs::HtmlFixed::section_end))]
+pub(crate) fn section_end() -> &'static str
+    ensures { result.now ≡ fixed.section_end }
+{
+    "\
+</tbody>
+</table>
+</section>
+"
+}
+
+/// Instead of the tables of results.
 #[tactic(auto, unfolding(crate::specs::HtmlFixed::nothing_reported))]
 pub(crate) fn nothing_reported() -> &'static str
     ensures { result.now ≡ fixed.nothing_reported }
 {
     "\
-<p>No results are reported.</p>
+<p class=\"empty\">No results are reported.</p>
 "
 }
 

@@ -1,31 +1,37 @@
 //! The page of a merge.
-ghost use Rattle.std.specs.Prelude.{◌≡◌, ◌++◌, IfOk, OnOk, option_map, None, take, string_bytes};
-ghost use Rattle.sarif_counts.specs.Counts.{count_at};
+ghost use Rattle.std.specs.Prelude.{◌≡◌, ◌<◌, ◌+◌, ◌^◌, ◌++◌, IfOk, OnOk, string_bytes};
+ghost use Rattle.sarif_reports.specs.ByFile.{tables_in};
+ghost use Rattle.sarif_reports.specs.Facts.{facts_of};
 ghost use Rattle.sarif_reports.specs.HtmlReport as said;
 
-use crate::count_row::row_numbers;
-use crate::escaping::Escaping;
+use crate::html_counts::push_counts;
+use crate::html_filters::push_filters;
 use crate::html_fixed::{
-    body_begin, counts_begin, filters, nothing_reported, page_begin, page_end, results_begin,
-    style, table_end, title_end,
+    body_begin, header_end, nothing_reported, page_begin, page_end, style, title_end,
 };
-use crate::place::push_place;
-use sarif_counts::{Counts, Policy, Verdict, hits, verdict};
-use sarif_findings::Finding;
-use sarif_model::{State, Text};
+use crate::html_rows::push_section;
+use crate::html_tables::{Rows, rows_of};
+use crate::html_words::{hits_heading, others_text, reason};
+use crate::sentences::{entries_text, gate_end, gate_text, hits_text, more_text, runs_text};
+use crate::told::Told;
+use sarif_counts::{Policy, Verdict, hits, verdict};
 use std::alloc::{AllocError, Global};
-
-/// The maximum number of results in the table.
-const MOST_ROWS: usize = 10_000;
 
 /// Adds the page up to its heading.
 #[tactic(auto, unfolding(crate::specs::HtmlReport::page_head))]
-fn push_head(text: &mut String, verdict: Verdict) -> Result<(), AllocError>
-    ensures { OnOk result
-        (string_bytes text.new ≡ string_bytes text.old ++ said.page_head verdict) }
+fn push_head(
+    alloc: Global,
+    text: &mut String,
+    verdict: Verdict,
+    hits: u32,
+    max: u32,
+) -> Result<(), AllocError>
+    ensures { OnOk result (string_bytes text.new
+        ≡ string_bytes text.old ++ said.page_head verdict hits max) }
 {
+    let title = gate_text(alloc, verdict, hits, max)?;
     text.push_str(page_begin())?;
-    text.push_str(verdict.name())?;
+    text.push_str(title.as_str())?;
     text.push_str(title_end())?;
     text.push_str(style())?;
     text.push_str(body_begin())?;
@@ -37,291 +43,195 @@ fn heading(alloc: Global, verdict: Verdict, hits: u32, max: u32) -> Result<Strin
     ensures { IfOk result (λ s. string_bytes s ≡ said.heading verdict hits max) }
 {
     let word = verdict.name();
-    format!(in alloc; "<h1 class=\"{word}\">Gate: {word}</h1>\n<p>{hits} hits, {max} allowed</p>\n")
+    let end = gate_end(alloc, hits, max)?;
+    format!(in alloc; "<h1 class=\"{word}\">Gate: {word}<span>{end}</span></h1>\n")
 }
 
-/// A state's name and its active errors and warnings.
-fn row_begin(alloc: Global, name: &str, error: u32, warning: u32) -> Result<String, AllocError>
-    ensures { IfOk result (λ s. string_bytes s ≡ said.row_begin name.now error warning) }
+#[tactic(auto, unfolding(crate::specs::HtmlReport::reason_line))]
+fn reason_line(alloc: Global, policy: &Policy) -> Result<String, AllocError>
+    ensures { IfOk result (λ s. string_bytes s ≡ said.reason_line policy.now) }
 {
-    format!(in alloc; "<tr><th scope=\"row\">{name}</th><td>{error}</td><td>{warning}</td><td>")
+    let reason = reason(alloc, policy)?;
+    format!(in alloc; "<p>{reason}</p>\n")
 }
 
-/// A state's other active results, and its suppressed ones.
-fn row_end(alloc: Global, note: u32, none: u32, hidden: u64) -> Result<String, AllocError>
-    ensures { IfOk result (λ s. string_bytes s ≡ said.row_end note none hidden) }
-{
-    format!(in alloc; "{note}</td><td>{none}</td><td>{hidden}</td></tr>\n")
-}
-
-/// Adds the row of one state.
-#[tactic(auto, unfolding(crate::specs::HtmlReport::count_row))]
-fn push_count_row(
+/// Adds the verdict, up to the links.
+#[tactic(auto, unfolding(crate::specs::HtmlReport::top_of))]
+fn push_top(
     alloc: Global,
     text: &mut String,
-    counts: &Counts,
-    state: State,
+    verdict: Verdict,
+    hits: u32,
+    policy: &Policy,
 ) -> Result<(), AllocError>
     ensures { OnOk result (string_bytes text.new
-        ≡ string_bytes text.old ++ said.count_row state (count_at counts.now state)) }
+        ≡ string_bytes text.old ++ said.top_of verdict hits policy.now) }
 {
-    let numbers = row_numbers(counts, state);
-    let begin = row_begin(alloc, state.name(), numbers.error, numbers.warning)?;
-    let end = row_end(alloc, numbers.note, numbers.none, numbers.suppressed)?;
-    text.push_str(begin.as_str())?;
-    text.push_str(end.as_str())?;
+    push_head(alloc, text, verdict, hits, policy.max)?;
+    let heading = heading(alloc, verdict, hits, policy.max)?;
+    let reason = reason_line(alloc, policy)?;
+    text.push_str(heading.as_str())?;
+    text.push_str(reason.as_str())?;
     Ok(())
 }
 
-/// Adds the table of counts.
-#[tactic(auto, unfolding(crate::specs::HtmlReport::counts_table))]
-fn push_counts(alloc: Global, text: &mut String, counts: &Counts) -> Result<(), AllocError>
-    ensures { OnOk result (string_bytes text.new
-        ≡ string_bytes text.old ++ said.counts_table (count_at counts.now)) }
+/// Links to the two tables.
+#[tactic(auto, unfolding(crate::specs::HtmlReport::links_to))]
+fn links_to(alloc: Global, hits: usize, others: usize) -> Result<String, AllocError>
+    ensures { IfOk result (λ s. string_bytes s ≡ said.links_to hits others) }
 {
-    text.push_str(counts_begin())?;
-    push_count_row(alloc, text, counts, State::New)?;
-    push_count_row(alloc, text, counts, State::Unchanged)?;
-    push_count_row(alloc, text, counts, State::Updated)?;
-    push_count_row(alloc, text, counts, State::Absent)?;
-    text.push_str(table_end())?;
-    Ok(())
+    let hits = hits_text(alloc, hits)?;
+    let others = others_text(alloc, others)?;
+    format!(in alloc;
+        "<nav aria-label=\"Results\"><a href=\"#hits\">{hits}</a> <a href=\"#others\">{others}</a></nav>\n"
+    )
 }
 
-fn hit_word(hit: bool) -> &'static str
-    ensures { result.now ≡ said.hit_word hit }
-{
-    if hit { "yes" } else { "no" }
-}
-
-fn row_class(again: bool) -> &'static str
-    ensures { result.now ≡ said.row_class again }
-{
-    if again { "<tr class=\"again\"" } else { "<tr" }
-}
-
-fn row_data(alloc: Global, level: &str, state: &str, hit: &str) -> Result<String, AllocError>
-    ensures { IfOk result (λ s. string_bytes s ≡ said.row_data level.now state.now hit.now) }
-{
-    format!(in alloc; " data-level=\"{level}\" data-state=\"{state}\" data-hit=\"{hit}\">")
-}
-
-fn hit_cells(alloc: Global, hit: &str, level: &str) -> Result<String, AllocError>
-    ensures { IfOk result (λ s. string_bytes s ≡ said.hit_cells hit.now level.now) }
-{
-    format!(in alloc; "<td>{hit}</td><td>{level}</td><td><code>")
-}
-
-/// Adds what a row is, its hit and its level.
-#[tactic(auto, unfolding(crate::specs::HtmlReport::row_front))]
-fn push_front(
-    alloc: Global,
-    text: &mut String,
-    finding: &Finding,
-    again: bool,
-) -> Result<(), AllocError>
+/// Adds links to the two tables, if there are both.
+#[tactic(auto, unfolding(crate::specs::HtmlReport::links))]
+fn push_links(alloc: Global, text: &mut String, rows: &Rows<'_>) -> Result<(), AllocError>
     ensures { OnOk result
-        (string_bytes text.new ≡ string_bytes text.old ++ said.row_front again finding.now) }
+        (string_bytes text.new ≡ string_bytes text.old ++ said.links (tables_in rows.now)) }
 {
-    let hit = hit_word(finding.hit);
-    let level = finding.level.name();
-    let data = row_data(alloc, level, finding.state.name(), hit)?;
-    let cells = hit_cells(alloc, hit, level)?;
-    text.push_str(row_class(again))?;
-    text.push_str(data.as_str())?;
-    text.push_str(cells.as_str())?;
-    Ok(())
-}
-
-/// Adds a rule that links to its page.
-#[tactic(auto, unfolding(crate::specs::HtmlReport::linked_to))]
-fn push_link(alloc: Global, text: &mut String, rule: &str, uri: &str) -> Result<(), AllocError>
-    ensures { OnOk result (string_bytes text.new
-        ≡ string_bytes text.old ++ said.linked_to rule.now uri.now) }
-{
-    text.push_str("<a href=\"")?;
-    Escaping::Page.push_str(alloc, text, uri)?;
-    text.push_str("\" rel=\"noopener noreferrer\">")?;
-    Escaping::Page.push_str(alloc, text, rule)?;
-    text.push_str("</a>")?;
-    Ok(())
-}
-
-/// Adds the rule, which links to its page if there is one.
-fn push_rule(alloc: Global, text: &mut String, finding: &Finding) -> Result<(), AllocError>
-    ensures { OnOk result (string_bytes text.new
-        ≡ string_bytes text.old ++ said.rule_cell finding.now.rule finding.now.help) }
-{
-    let rule = finding.rule.as_str();
-    if rule.is_empty() {
+    if rows.hits.is_empty() || rows.others.is_empty() {
         return Ok(());
     }
-    match &finding.help {
-        None => Escaping::Page.push_str(alloc, text, rule)?,
-        Some(uri) => push_link(alloc, text, rule, uri.as_str())?,
-    }
+    let links = links_to(alloc, rows.all_hits, rows.all_others)?;
+    text.push_str(links.as_str())?;
     Ok(())
 }
 
-/// Adds the place.
-#[tactic(auto, unfolding(crate::specs::HtmlReport::place_text))]
-fn push_place_text(alloc: Global, text: &mut String, finding: &Finding) -> Result<(), AllocError>
+/// A sentence that the reader has to know.
+#[tactic(auto, unfolding(crate::specs::HtmlReport::mind))]
+fn mind(alloc: Global, sentence: &str) -> Result<String, AllocError>
+    ensures { IfOk result (λ s. string_bytes s ≡ said.mind sentence.now) }
+{
+    format!(in alloc; "<p class=\"mind\">{sentence}</p>\n")
+}
+
+/// Adds how many input runs have no results, if there are any.
+fn push_runs(alloc: Global, text: &mut String, without: u32) -> Result<(), AllocError>
     ensures { OnOk result
-        (string_bytes text.new ≡ string_bytes text.old ++ said.place_text finding.now) }
+        (string_bytes text.new ≡ string_bytes text.old ++ said.runs_line without) }
 {
-    let mut place = String::new(alloc);
-    push_place(alloc, &mut place, finding)?;
-    Escaping::Page.push_str(alloc, text, place.as_str())?;
-    Ok(())
-}
-
-/// Adds the place and the rule of a row.
-#[tactic(auto, unfolding(crate::specs::HtmlReport::place_cells))]
-fn push_place_cells(alloc: Global, text: &mut String, finding: &Finding) -> Result<(), AllocError>
-    ensures { OnOk result
-        (string_bytes text.new ≡ string_bytes text.old ++ said.place_cells finding.now) }
-{
-    push_place_text(alloc, text, finding)?;
-    text.push_str("</code></td><td><code>")?;
-    push_rule(alloc, text, finding)?;
-    text.push_str("</code></td><td>")?;
-    Ok(())
-}
-
-/// Adds the message, the tool and the state of a row, and ends it.
-#[tactic(auto, unfolding(crate::specs::HtmlReport::message_cells))]
-fn push_message_cells(alloc: Global, text: &mut String, finding: &Finding) -> Result<(), AllocError>
-    ensures { OnOk result
-        (string_bytes text.new ≡ string_bytes text.old ++ said.message_cells finding.now) }
-{
-    Escaping::Page.push_str(alloc, text, finding.message.as_str())?;
-    text.push_str("</td><td>")?;
-    Escaping::Page.push_str(alloc, text, finding.tool.as_str())?;
-    text.push_str("</td><td>")?;
-    text.push_str(finding.state.name())?;
-    text.push_str("</td></tr>\n")?;
-    Ok(())
-}
-
-/// Adds the row of a result.
-#[tactic(auto, unfolding(crate::specs::HtmlReport::result_row))]
-fn push_row(
-    alloc: Global,
-    text: &mut String,
-    finding: &Finding,
-    again: bool,
-) -> Result<(), AllocError>
-    ensures { OnOk result
-        (string_bytes text.new ≡ string_bytes text.old ++ said.result_row again finding.now) }
-{
-    push_front(alloc, text, finding, again)?;
-    push_place_cells(alloc, text, finding)?;
-    push_message_cells(alloc, text, finding)?;
-    Ok(())
-}
-
-/// Whether there are both paths, and they are the same.
-fn is_same_file(above: Option<&str>, path: Option<&str>) -> bool
-    ensures { result ≡ said.is_same_file (option_map (λ s. s.now) above.entry)
-        (option_map (λ s. s.now) path.entry) }
-{
-    match (above, path) {
-        (Some(above), Some(path)) => above == path,
-        _ => false,
-    }
-}
-
-fn path_of(finding: &Finding) -> Option<&str>
-    ensures { option_map (λ s. s.now) result ≡ finding.now.path }
-{
-    finding.path.as_ref().map(Text::as_str)
-}
-
-fn push_rows(alloc: Global, text: &mut String, findings: &[Finding]) -> Result<(), AllocError>
-    ensures { OnOk result (string_bytes text.new
-        ≡ string_bytes text.old ++ said.rows_below None findings.now) }
-{
-    let mut above: Option<&str> = None;
-    for finding in findings {
-        let path = path_of(finding);
-        push_row(alloc, text, finding, is_same_file(above, path))?;
-        above = path;
-    }
-    Ok(())
-}
-
-/// The first results, as many as the table holds.
-fn first_rows(findings: &[Finding]) -> &[Finding]
-    ensures { result.now ≡ take said.most_rows findings.now }
-{
-    if findings.len() > MOST_ROWS {
-        &findings[..MOST_ROWS]
-    } else {
-        findings
-    }
-}
-
-/// Adds how many results are left out, where some are.
-#[tactic(auto, unfolding(crate::specs::HtmlReport::others_line))]
-fn push_others(alloc: Global, text: &mut String, count: usize) -> Result<(), AllocError>
-    ensures { OnOk result
-        (string_bytes text.new ≡ string_bytes text.old ++ said.others_line count) }
-{
-    if count > MOST_ROWS {
-        let others = count - MOST_ROWS;
-        let line = format!(in alloc; "<p>{others} more results are in the merged log.</p>\n")?;
+    if without != 0 {
+        let sentence = runs_text(alloc, without)?;
+        let line = mind(alloc, sentence.as_str())?;
         text.push_str(line.as_str())?;
     }
     Ok(())
 }
 
-/// Adds the table of results.
-#[tactic(auto, unfolding(crate::specs::HtmlReport::table_of))]
-fn push_table(alloc: Global, text: &mut String, findings: &[Finding]) -> Result<(), AllocError>
+/// Adds how many suppression entries match nothing, if there are any.
+fn push_entries(alloc: Global, text: &mut String, unused: u32) -> Result<(), AllocError>
     ensures { OnOk result
-        (string_bytes text.new ≡ string_bytes text.old ++ said.table_of findings.now) }
+        (string_bytes text.new ≡ string_bytes text.old ++ said.entries_line unused) }
 {
-    text.push_str(filters())?;
-    text.push_str(results_begin())?;
-    push_rows(alloc, text, first_rows(findings))?;
-    text.push_str(table_end())?;
-    push_others(alloc, text, findings.len())?;
-    Ok(())
-}
-
-/// Adds the table of results, or that there are none.
-#[tactic(auto, unfolding(crate::specs::HtmlReport::results_table))]
-fn push_results(alloc: Global, text: &mut String, findings: &[Finding]) -> Result<(), AllocError>
-    ensures { OnOk result
-        (string_bytes text.new ≡ string_bytes text.old ++ said.results_table findings.now) }
-{
-    if findings.is_empty() {
-        text.push_str(nothing_reported())?;
-    } else {
-        push_table(alloc, text, findings)?;
+    if unused != 0 {
+        let sentence = entries_text(alloc, unused)?;
+        let line = mind(alloc, sentence.as_str())?;
+        text.push_str(line.as_str())?;
     }
     Ok(())
 }
 
-/// Returns the page: the verdict, the counts, and a table of the first `MOST_ROWS` reported results. Returns
-/// `AllocError` if memory for it runs out.
-#[tactic(auto, unfolding(crate::specs::HtmlReport::html_of))]
-pub fn html_report(
-    alloc: Global,
-    counts: &Counts,
-    policy: &Policy,
-    findings: &[Finding],
-) -> Result<String, AllocError>
-    ensures { IfOk result (λ s. string_bytes s
-        ≡ said.html_of (count_at counts.now) policy.now findings.now) }
+/// Adds what was not looked at.
+#[tactic(auto, unfolding(crate::specs::HtmlReport::minds))]
+fn push_minds(alloc: Global, text: &mut String, without: u32, unused: u32) -> Result<(), AllocError>
+    ensures { OnOk result
+        (string_bytes text.new ≡ string_bytes text.old ++ said.minds without unused) }
 {
+    push_runs(alloc, text, without)?;
+    push_entries(alloc, text, unused)?;
+    Ok(())
+}
+
+/// Adds how many results have no row, if some have none.
+#[tactic(auto, unfolding(crate::specs::HtmlReport::more_line))]
+fn push_more(alloc: Global, text: &mut String, more: usize, hits: usize) -> Result<(), AllocError>
+    ensures { OnOk result
+        (string_bytes text.new ≡ string_bytes text.old ++ said.more_line more hits) }
+{
+    if more != 0 {
+        let sentence = more_text(alloc, more, hits)?;
+        let line = mind(alloc, sentence.as_str())?;
+        text.push_str(line.as_str())?;
+    }
+    Ok(())
+}
+
+/// Adds that nothing is reported, or how many results have no row.
+#[tactic(auto, unfolding(crate::specs::HtmlReport::rest_line))]
+fn push_rest(alloc: Global, text: &mut String, rows: &Rows<'_>) -> Result<(), AllocError>
+    requires { rows.now.all_hits + rows.now.all_others < 2 ^ 64 }
+    ensures { OnOk result
+        (string_bytes text.new ≡ string_bytes text.old ++ said.rest_line (tables_in rows.now)) }
+{
+    let is_empty = rows.all_hits == 0 && rows.all_others == 0;
+    if is_empty {
+        text.push_str(nothing_reported())?;
+        return Ok(());
+    }
+    let hits = rows.all_hits.saturating_sub(rows.hits.len());
+    let others = rows.all_others.saturating_sub(rows.others.len());
+    push_more(alloc, text, hits + others, hits)?;
+    Ok(())
+}
+
+/// Adds the tables.
+#[tactic(auto, unfolding(crate::specs::HtmlReport::sections))]
+fn push_sections(
+    alloc: Global,
+    text: &mut String,
+    verdict: Verdict,
+    max: u32,
+    rows: &Rows<'_>,
+) -> Result<(), AllocError>
+    ensures { OnOk result (string_bytes text.new
+        ≡ string_bytes text.old ++ said.sections verdict max (tables_in rows.now)) }
+{
+    let hits = hits_heading(alloc, verdict, rows.all_hits, max)?;
+    let others = others_text(alloc, rows.all_others)?;
+    push_section(alloc, text, "hits", hits.as_str(), &rows.hits)?;
+    push_section(alloc, text, "others", others.as_str(), &rows.others)?;
+    Ok(())
+}
+
+/// Adds the boxes and the tables.
+#[tactic(auto, unfolding(crate::specs::HtmlReport::results_of))]
+fn push_results(
+    alloc: Global,
+    text: &mut String,
+    verdict: Verdict,
+    max: u32,
+    rows: &Rows<'_>,
+) -> Result<(), AllocError>
+    requires { rows.now.all_hits + rows.now.all_others < 2 ^ 64 }
+    ensures { OnOk result (string_bytes text.new
+        ≡ string_bytes text.old ++ said.results_of verdict max (tables_in rows.now)) }
+{
+    push_filters(alloc, text, rows)?;
+    push_sections(alloc, text, verdict, max, rows)?;
+    push_rest(alloc, text, rows)?;
+    Ok(())
+}
+
+/// Returns the page: the verdict, the counts, and a row for each of the first 10,000 reported results, the hits
+/// before the others, by file. Returns `AllocError` if memory for it runs out.
+#[tactic(auto, unfolding(crate::specs::HtmlReport::html_of, crate::specs::HtmlReport::page_of))]
+pub fn html_report(alloc: Global, told: &Told<'_>) -> Result<String, AllocError>
+    ensures { IfOk result (λ s. string_bytes s ≡ said.html_of (facts_of told.now)) }
+{
+    let Told { counts, policy, .. } = *told;
     let verdict = verdict(counts, policy);
-    let heading = heading(alloc, verdict, hits(counts, policy), policy.max)?;
+    let rows = rows_of(alloc, told.seed, told.findings)?;
     let mut text = String::new(alloc);
-    push_head(&mut text, verdict)?;
-    text.push_str(heading.as_str())?;
-    push_counts(alloc, &mut text, counts)?;
-    push_results(alloc, &mut text, findings)?;
+    push_top(alloc, &mut text, verdict, hits(counts, policy), policy)?;
+    push_links(alloc, &mut text, &rows)?;
+    push_counts(alloc, &mut text, counts, policy)?;
+    push_minds(alloc, &mut text, told.without, told.unused)?;
+    text.push_str(header_end())?;
+    push_results(alloc, &mut text, verdict, policy.max, &rows)?;
     text.push_str(page_end())?;
     Ok(text)
 }

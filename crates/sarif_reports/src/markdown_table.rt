@@ -1,20 +1,29 @@
 //! The report for job summaries and comments on a change.
-ghost use Rattle.std.specs.Prelude.{◌≡◌, ◌++◌, IfOk, OnOk, flat_map, take, string_bytes};
+ghost use Rattle.std.specs.Prelude.{◌≡◌, ◌≤◌, ◌++◌, IfOk, OnOk, drop, flat_map, length, map, take, string_bytes};
+ghost use Rattle.std.specs.List.{count_by};
 ghost use Rattle.sarif_counts.specs.Counts.{count_at};
 ghost use Rattle.sarif_findings.specs.Finding.{spot_text};
 ghost use Rattle.sarif_reports.specs.CountRow.{row_begin, row_end};
+ghost use Rattle.sarif_reports.specs.Facts.{facts_of};
 ghost use Rattle.sarif_reports.specs.MarkdownReport as said;
+ghost use Rattle.sarif_reports.specs.Sentences.{entries_text, runs_text};
 
 use crate::count_row::row_numbers;
 use crate::escaping::Escaping;
+use crate::listed::listed;
 use crate::place::push_place;
-use sarif_counts::{Counts, Policy, Verdict, hits, verdict};
+use crate::sentences::{entries_text, gate_text, more_text, runs_text};
+use crate::told::Told;
+use sarif_counts::{Counts, Verdict, hits, verdict};
 use sarif_findings::Finding;
 use sarif_model::State;
 use std::alloc::{AllocError, Global};
 
 /// The maximum number of results in the table.
 const MOST_ROWS: usize = 200;
+
+/// The maximum number of bytes of their rows.
+const MOST_BYTES: usize = 60_000;
 
 const COUNTS_HEAD: &str = "\
 | | error | warning | note | none | suppressed |\n|---|--:|--:|--:|--:|--:|\n";
@@ -38,8 +47,8 @@ fn push_code(alloc: Global, text: &mut String, plain: &str) -> Result<(), AllocE
 fn heading(alloc: Global, verdict: Verdict, hits: u32, max: u32) -> Result<String, AllocError>
     ensures { IfOk result (λ s. string_bytes s ≡ said.heading verdict hits max) }
 {
-    let word = verdict.name();
-    format!(in alloc; "## Gate: {word}, {hits} hits, {max} allowed\n\n")
+    let gate = gate_text(alloc, verdict, hits, max)?;
+    format!(in alloc; "## {gate}\n\n")
 }
 
 /// A state's name and its active errors and warnings.
@@ -152,38 +161,108 @@ fn push_row(alloc: Global, text: &mut String, finding: &Finding) -> Result<(), A
     Ok(())
 }
 
-fn push_rows(alloc: Global, text: &mut String, findings: &[Finding]) -> Result<(), AllocError>
-    ensures { OnOk result (string_bytes text.new
-        ≡ string_bytes text.old ++ flat_map said.result_row findings.now) }
+/// The row of a result.
+fn row_of(alloc: Global, finding: &Finding) -> Result<String, AllocError>
+    ensures { IfOk result (λ s. string_bytes s ≡ said.result_row finding.now) }
 {
-    for finding in findings {
-        push_row(alloc, text, finding)?;
+    let mut row = String::new(alloc);
+    push_row(alloc, &mut row, finding)?;
+    Ok(row)
+}
+
+/// Adds the rows of these results, as many from the first on as fit into `MOST_BYTES`. Returns how many these are.
+fn push_fitting(alloc: Global, text: &mut String, listed: &[&Finding]) -> Result<usize, AllocError>
+    ensures rows { OnOk result (string_bytes text.new ≡ string_bytes text.old
+        ++ flat_map said.result_row (said.fitting said.most_bytes (map (λ f. f.now) listed.now))) }
+    ensures count { IfOk result
+        (λ n. n ≡ length (said.fitting said.most_bytes (map (λ f. f.now) listed.now))) }
+    ensures few { IfOk result (λ n. n ≤ length listed.now) }
+{
+    let mut room = MOST_BYTES;
+    let mut count = 0;
+    for finding in listed {
+        let row = row_of(alloc, finding)?;
+        if row.len() > room {
+            return Ok(count);
+        }
+        text.push_str(row.as_str())?;
+        room -= row.len();
+        count += 1;
     }
-    Ok(())
+    Ok(count)
 }
 
 /// The first results, as many as the table holds.
-fn first_rows(findings: &[Finding]) -> &[Finding]
-    ensures { result.now ≡ take said.most_rows findings.now }
+fn first_rows<'a, 'f>(listed: &'a [&'f Finding]) -> &'a [&'f Finding]
+    ensures { result.now ≡ take said.most_rows listed.now }
 {
-    if findings.len() > MOST_ROWS {
-        &findings[..MOST_ROWS]
+    if listed.len() > MOST_ROWS {
+        &listed[..MOST_ROWS]
     } else {
-        findings
+        listed
     }
 }
 
-/// Adds how many results are left out, where some are.
-fn push_others(alloc: Global, text: &mut String, count: usize) -> Result<(), AllocError>
-    ensures { OnOk result
-        (string_bytes text.new ≡ string_bytes text.old ++ said.others_line count) }
+/// Adds the rows of the first of these results, as many as the table holds. Returns how many these are.
+fn push_rows(alloc: Global, text: &mut String, listed: &[&Finding]) -> Result<usize, AllocError>
+    ensures rows { OnOk result (string_bytes text.new ≡ string_bytes text.old
+        ++ flat_map said.result_row (said.rows_of (map (λ f. f.now) listed.now))) }
+    ensures count { IfOk result (λ n. n ≡ length (said.rows_of (map (λ f. f.now) listed.now))) }
+    ensures few { IfOk result (λ n. n ≤ length listed.now) }
 {
-    if count > MOST_ROWS {
-        let others = count - MOST_ROWS;
-        let line = format!(in alloc; "\n{others} more results are in the merged log.\n")?;
-        text.push_str(line.as_str())?;
+    push_fitting(alloc, text, first_rows(listed))
+}
+
+/// How many of these results are hits.
+fn hits_among(listed: &[&Finding]) -> usize
+    ensures { result ≡ count_by (λ f. f.hit) (map (λ f. f.now) listed.now) }
+{
+    let mut count = 0;
+    for finding in listed {
+        if finding.hit {
+            count += 1;
+        }
+    }
+    count
+}
+
+/// Adds lines after an empty line, if there are any.
+fn push_paragraph(text: &mut String, lines: &str) -> Result<(), AllocError>
+    ensures { OnOk result
+        (string_bytes text.new ≡ string_bytes text.old ++ said.paragraph lines.now) }
+{
+    if !lines.is_empty() {
+        text.push_str("\n")?;
+        text.push_str(lines)?;
     }
     Ok(())
+}
+
+/// The line on results that have no row, if there are any.
+fn more_line(alloc: Global, count: usize, hits: usize) -> Result<String, AllocError>
+    ensures { IfOk result (λ s. string_bytes s ≡ said.more_line count hits) }
+{
+    if count == 0 {
+        return Ok(String::new(alloc));
+    }
+    let sentence = more_text(alloc, count, hits)?;
+    format!(in alloc; "{sentence}\n")
+}
+
+/// The line on these results, which have no row.
+fn others_line(alloc: Global, others: &[&Finding]) -> Result<String, AllocError>
+    ensures { IfOk result
+        (λ s. string_bytes s ≡ said.others_line (map (λ f. f.now) others.now)) }
+{
+    more_line(alloc, others.len(), hits_among(others))
+}
+
+/// The results after the first `count`.
+fn after<'a, 'f>(listed: &'a [&'f Finding], count: usize) -> &'a [&'f Finding]
+    requires { count ≤ length listed.now }
+    ensures { result.now ≡ drop count listed.now }
+{
+    &listed[count..]
 }
 
 /// Adds the table of results.
@@ -191,9 +270,12 @@ fn push_table(alloc: Global, text: &mut String, findings: &[Finding]) -> Result<
     ensures { OnOk result
         (string_bytes text.new ≡ string_bytes text.old ++ said.table_of findings.now) }
 {
+    let listed = listed(alloc, findings)?;
+    let listed = listed.as_slice();
     text.push_str(RESULTS_HEAD)?;
-    push_rows(alloc, text, first_rows(findings))?;
-    push_others(alloc, text, findings.len())?;
+    let count = push_rows(alloc, text, listed)?;
+    let others = others_line(alloc, after(listed, count))?;
+    push_paragraph(text, others.as_str())?;
     Ok(())
 }
 
@@ -208,17 +290,54 @@ fn push_results(alloc: Global, text: &mut String, findings: &[Finding]) -> Resul
     Ok(())
 }
 
-/// Returns the report for job summaries and comments on a change: the verdict, the counts, and a table of the
-/// first 200 reported results. Returns `AllocError` if memory for it runs out.
-pub fn markdown_report(
-    alloc: Global,
-    counts: &Counts,
-    policy: &Policy,
-    findings: &[Finding],
-) -> Result<String, AllocError>
-    ensures { IfOk result (λ s. string_bytes s
-        ≡ said.markdown_of (count_at counts.now) policy.now findings.now) }
+/// The line on runs without results, if there are any.
+fn runs_line(alloc: Global, without: u32) -> Result<String, AllocError>
+    ensures { IfOk result
+        (λ s. string_bytes s ≡ said.line_if without (runs_text without)) }
 {
+    if without == 0 {
+        return Ok(String::new(alloc));
+    }
+    let sentence = runs_text(alloc, without)?;
+    format!(in alloc; "{sentence}\n")
+}
+
+/// The line on entries that match nothing, if there are any.
+fn entries_line(alloc: Global, unused: u32) -> Result<String, AllocError>
+    ensures { IfOk result
+        (λ s. string_bytes s ≡ said.line_if unused (entries_text unused)) }
+{
+    if unused == 0 {
+        return Ok(String::new(alloc));
+    }
+    let sentence = entries_text(alloc, unused)?;
+    format!(in alloc; "{sentence}\n")
+}
+
+/// Adds the lines on what was not looked at, if there are any.
+fn push_notes(alloc: Global, text: &mut String, without: u32, unused: u32) -> Result<(), AllocError>
+    ensures { OnOk result (string_bytes text.new
+        ≡ string_bytes text.old ++ said.paragraph (said.notes without unused)) }
+{
+    let mut notes = runs_line(alloc, without)?;
+    let entries = entries_line(alloc, unused)?;
+    notes.push_str(entries.as_str())?;
+    push_paragraph(text, notes.as_str())?;
+    Ok(())
+}
+
+/// Returns the report for job summaries and comments on a change: the verdict, the counts, what was not looked at,
+/// and a table of the first listed results: at most 200, whose rows take at most 60,000 bytes. Returns `AllocError`
+/// if memory for it runs out.
+pub fn markdown_report(alloc: Global, told: &Told<'_>) -> Result<String, AllocError>
+    ensures { IfOk result (λ s. string_bytes s ≡ said.markdown_of (facts_of told.now)) }
+{
+    let Told {
+        counts,
+        policy,
+        findings,
+        ..
+    } = *told;
     let mut text = heading(
         alloc,
         verdict(counts, policy),
@@ -226,6 +345,7 @@ pub fn markdown_report(
         policy.max,
     )?;
     push_counts(alloc, &mut text, counts)?;
+    push_notes(alloc, &mut text, told.without, told.unused)?;
     push_results(alloc, &mut text, findings)?;
     Ok(text)
 }

@@ -18,7 +18,11 @@ fn begins_with_colon(path: &str) -> bool
 }
 
 /// Adds a colon and the number, if there is one.
-fn push_numbered(alloc: Global, text: &mut String, number: Option<u32>) -> Result<(), AllocError>
+pub(crate) fn push_numbered(
+    alloc: Global,
+    text: &mut String,
+    number: Option<u32>,
+) -> Result<(), AllocError>
     ensures { OnOk result (string_bytes text.new ≡ string_bytes text.old ++ said.numbered number) }
 {
     if let Some(number) = number {
@@ -29,7 +33,7 @@ fn push_numbered(alloc: Global, text: &mut String, number: Option<u32>) -> Resul
 }
 
 /// Adds a path, which never begins with a colon.
-fn push_path(text: &mut String, path: &str) -> Result<(), AllocError>
+pub(crate) fn push_path(text: &mut String, path: &str) -> Result<(), AllocError>
     ensures { OnOk result
         (string_bytes text.new ≡ string_bytes text.old ++ said.place_path path.now) }
 {

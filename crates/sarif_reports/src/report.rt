@@ -1,16 +1,21 @@
-//! The reports as rows: a variant for each report, with its name, its help and its content.
+//! The outputs beside the merged log as rows: a variant for each, with its name, its help and its content.
 ghost use Rattle.std.specs.Prelude.{◌≡◌, ◌≤◌, IfOk, string_bytes};
-ghost use Rattle.sarif_counts.specs.Counts.{count_at};
-ghost use Rattle.sarif_reports.specs.Report.{report_name, report_of};
+ghost use Rattle.sarif_reports.specs.Facts.{facts_of};
+ghost use Rattle.sarif_reports.specs.Report.{is_for_merges, needs_findings, report_name, report_of};
 
-use sarif_counts::{Counts, Policy};
-use sarif_findings::Finding;
+use crate::later_outputs::{known_text, suppressions_text, unused_text};
+use crate::told::Told;
 use std::alloc::{AllocError, Global};
+use std::fmt;
 use std::thread::Threads;
 
-/// A report on a merged log.
+/// An output beside the merged log: a report on it, or a file for later merges.
 #[derive(Clone, Copy, Debug, PartialEq, Eq)]
 pub enum Report {
+    /// For later merges: a new suppression file.
+    Suppressions,
+    /// For later merges: a log of what is known, as their baseline.
+    Known,
     /// For people, editors and problem matchers: one line per result.
     Text,
     /// For GitHub Actions: one workflow command per result.
@@ -21,34 +26,56 @@ pub enum Report {
     Gitlab,
     /// For people: a self-contained page.
     Html,
+    /// For build services: a document in JUnit XML.
+    Junit,
+    /// For Azure Pipelines: one logging command per result.
+    Azure,
+    /// For people: one line per entry of the suppression file that matches nothing.
+    Unused,
 }
 
 impl Report {
-    /// All reports, in the order in which they are written.
+    /// All of them, in the order in which they are written.
     pub const ALL: &'static [Report] = &[
+        Report::Suppressions,
+        Report::Known,
         Report::Text,
         Report::Github,
         Report::Markdown,
         Report::Gitlab,
         Report::Html,
+        Report::Junit,
+        Report::Azure,
+        Report::Unused,
     ];
 
-    /// Returns the name of this report, which is also the name of its option.
+    /// Returns the name of this output, which is also the name of its option.
     pub fn name(self) -> &'static str
         ensures { result.now ≡ report_name self }
     {
         match self {
+            Report::Suppressions => "suppress-out",
+            Report::Known => "known",
             Report::Text => "text",
             Report::Github => "github",
             Report::Markdown => "markdown",
             Report::Gitlab => "gitlab",
             Report::Html => "html",
+            Report::Junit => "junit",
+            Report::Azure => "azure",
+            Report::Unused => "unused",
         }
     }
 
-    /// Returns what `--help` says about the option of this report.
+    /// Returns what `--help` says about the option of this output.
     pub fn help(self) -> &'static str {
         match self {
+            Report::Suppressions =>
+                "Write a new suppression file, made with --accept, --prune or both. It\n\
+                may replace the file of --suppress",
+            Report::Known =>
+                "Write a log of what is known, as the baseline of later merges. It may\n\
+                replace the only --baseline",
             Report::Text =>
                 "Write one line per reported result, for people, editors and problem\nmatchers",
             Report::Github => "Write one workflow command of GitHub Actions per reported result",
@@ -56,22 +83,50 @@ impl Report {
                 "Write the verdict, the counts and a table, for job summaries and comments",
             Report::Gitlab => "Write a JSON report for GitLab's code quality widget",
             Report::Html => "Write an HTML page that needs no other file",
+            Report::Junit =>
+                "Write JUnit XML with a test case per reported result, for build services",
+            Report::Azure => "Write one logging command of Azure Pipelines per reported result",
+            Report::Unused =>
+                "Write one line per entry of the suppression file that matches no result.\n\
+                Needs --suppress",
+        }
+    }
+
+    /// Returns whether this output is made from the findings of a merge.
+    pub fn needs_findings(self) -> bool
+        ensures { result ≡ needs_findings self }
+    {
+        !matches!(self, Report::Suppressions | Report::Known | Report::Unused)
+    }
+
+    /// Returns whether a later merge reads this output: as its suppression file or as its baseline.
+    pub fn is_for_merges(self) -> bool
+        ensures { result ≡ is_for_merges self }
+    {
+        matches!(self, Report::Suppressions | Report::Known)
+    }
+}
+
+/// Writes what error messages call the output.
+impl fmt::Display for Report {
+    ghost use Rattle.std.specs.Prelude.{Some};
+    ghost use Rattle.sarif_reports.specs.Report.{output_name};
+
+    ghost output = { λ report. Some (output_name report) };
+
+    fn fmt<W: fmt::Write>(&self, f: &mut fmt::Formatter<W>) -> fmt::Result {
+        match *self {
+            Report::Suppressions => f.write_str("new suppressions"),
+            Report::Known => f.write_str("known log"),
+            report => {
+                let name = report.name();
+                write!(f, "{name} report")
+            }
         }
     }
 }
 
-/// The input of reports: the counts and the policy of the gate, and the findings.
-#[derive(Clone, Copy, Drop)]
-pub struct Told<'a> {
-    /// How many results the merged log has, by baseline state, level and suppression.
-    pub counts: &'a Counts,
-    /// The policy of the gate, which decides the hits and the verdict.
-    pub policy: &'a Policy,
-    /// The findings, in the order of the merged log.
-    pub findings: &'a [Finding],
-}
-
-/// Returns the text of a report. At most `threads` threads make it, including this one. Returns `AllocError` if
+/// Returns the text of an output. At most `threads` threads make it, including this one. Returns `AllocError` if
 /// memory runs out.
 pub fn report_text<R: Threads + Sync>(
     rt: &R,
@@ -81,19 +136,18 @@ pub fn report_text<R: Threads + Sync>(
     threads: u32,
 ) -> Result<String, AllocError>
     requires { 1 ≤ threads }
-    ensures { IfOk result (λ s. string_bytes s ≡ report_of report
-        (count_at told.now.counts.now) told.now.policy.now told.now.findings.now) }
+    ensures { IfOk result (λ s. string_bytes s ≡ report_of report (facts_of told.now)) }
 {
-    let Told {
-        counts,
-        policy,
-        findings,
-    } = *told;
     match report {
-        Report::Text => crate::text_report(alloc, findings),
-        Report::Github => crate::github_report(alloc, findings),
-        Report::Markdown => crate::markdown_report(alloc, counts, policy, findings),
-        Report::Gitlab => crate::gitlab_report(rt, alloc, findings, threads),
-        Report::Html => crate::html_report(alloc, counts, policy, findings),
+        Report::Suppressions => suppressions_text(alloc, told.life),
+        Report::Known => known_text(alloc, told.life),
+        Report::Text => crate::text_report(alloc, told.findings),
+        Report::Github => crate::github_report(alloc, told.findings),
+        Report::Markdown => crate::markdown_report(alloc, told),
+        Report::Gitlab => crate::gitlab_report(rt, alloc, told.findings, threads),
+        Report::Html => crate::html_report(alloc, told),
+        Report::Junit => crate::junit_report(alloc, told),
+        Report::Azure => crate::azure_report(alloc, told.findings),
+        Report::Unused => unused_text(alloc, told.life),
     }
 }

@@ -1,7 +1,8 @@
 //! The report that people, editors and problem matchers read.
-ghost use Rattle.std.specs.Prelude.{◌≡◌, ◌++◌, IfOk, OnOk, string_bytes};
+ghost use Rattle.std.specs.Prelude.{◌≡◌, ◌++◌, IfOk, OnOk, flat_map, map, string_bytes};
 ghost use Rattle.sarif_reports.specs.TextReport as said;
 
+use crate::listed::listed;
 use crate::place::push_place;
 use sarif_findings::Finding;
 use std::alloc::{AllocError, Global};
@@ -31,7 +32,7 @@ fn push_said(text: &mut String, finding: &Finding) -> Result<(), AllocError>
     Ok(())
 }
 
-/// Adds the tool and the state, and ends the line.
+/// Adds the tool and the state.
 fn push_source(text: &mut String, finding: &Finding) -> Result<(), AllocError>
     ensures { OnOk result
         (string_bytes text.new ≡ string_bytes text.old ++ said.tool_and_state finding.now) }
@@ -40,14 +41,18 @@ fn push_source(text: &mut String, finding: &Finding) -> Result<(), AllocError>
     text.push_str(finding.tool.as_str())?;
     text.push_str(", ")?;
     text.push_str(finding.state.name())?;
-    text.push_str(")\n")?;
+    text.push_str(")")?;
     Ok(())
 }
 
-/// Adds the line of a result.
-fn push_line(alloc: Global, text: &mut String, finding: &Finding) -> Result<(), AllocError>
+/// Adds the line of a result, without its end.
+pub(crate) fn push_result_line(
+    alloc: Global,
+    text: &mut String,
+    finding: &Finding,
+) -> Result<(), AllocError>
     ensures { OnOk result
-        (string_bytes text.new ≡ string_bytes text.old ++ said.text_line finding.now) }
+        (string_bytes text.new ≡ string_bytes text.old ++ said.result_line finding.now) }
 {
     push_place(alloc, text, finding)?;
     push_said(text, finding)?;
@@ -56,14 +61,34 @@ fn push_line(alloc: Global, text: &mut String, finding: &Finding) -> Result<(), 
     Ok(())
 }
 
-/// Returns the report for people, editors and problem matchers, one line per result: `PLACE: LEVEL: MESSAGE [RULE]
-/// (TOOL, STATE)`. Returns `AllocError` if memory for it runs out.
+/// Adds the line of a result.
+fn push_line(alloc: Global, text: &mut String, finding: &Finding) -> Result<(), AllocError>
+    ensures { OnOk result
+        (string_bytes text.new ≡ string_bytes text.old ++ said.text_line finding.now) }
+{
+    push_result_line(alloc, text, finding)?;
+    text.push_str("\n")?;
+    Ok(())
+}
+
+/// Adds the lines of these results.
+fn push_lines(alloc: Global, text: &mut String, listed: &[&Finding]) -> Result<(), AllocError>
+    ensures { OnOk result (string_bytes text.new
+        ≡ string_bytes text.old ++ flat_map said.text_line (map (λ f. f.now) listed.now)) }
+{
+    for finding in listed {
+        push_line(alloc, text, finding)?;
+    }
+    Ok(())
+}
+
+/// Returns the report for people, editors and problem matchers, one line per result, those of the hits first:
+/// `PLACE: LEVEL: MESSAGE [RULE] (TOOL, STATE)`. Returns `AllocError` if memory for it runs out.
 pub fn text_report(alloc: Global, findings: &[Finding]) -> Result<String, AllocError>
     ensures { IfOk result (λ s. string_bytes s ≡ said.text_lines_of findings.now) }
 {
+    let listed = listed(alloc, findings)?;
     let mut text = String::new(alloc);
-    for finding in findings {
-        push_line(alloc, &mut text, finding)?;
-    }
+    push_lines(alloc, &mut text, listed.as_slice())?;
     Ok(text)
 }

@@ -3,3 +3,4 @@ pub mod Asked
 pub mod Numbers
 pub mod Rows
 pub mod Told
+pub mod WantedMore

@@ -68,11 +68,18 @@ arguments =
     ∷ argument (codes "baseline") Many
     ∷ argument (codes "suppress") Once
     ∷ argument (codes "today") (Number (pos first_day) (pos last_day))
+    ∷ argument (codes "require-success") Flag
+    ∷ argument (codes "allow-external-properties") Flag
     ∷ with_default (codes "error") (argument (codes "fail-on") Level)
     ∷ with_default (codes "new,updated") (argument (codes "states") Once)
     ∷ with_default (codes "0") (argument (codes "max") (Number (pos 0) (pos (2 ^ 32 - 1))))
     ∷ argument (codes "out") Needed
-    ∷ argument (codes "root") Once
+    ∷ argument (codes "root") Many
+    ∷ argument (codes "accept") Flag
+    ∷ argument (codes "prune") Flag
+    ∷ argument (codes "reason") Once
+    ∷ argument (codes "until") (Number (pos first_day) (pos last_day))
+    ∷ argument (codes "adopt") Flag
     ∷ with_default (codes "4") (argument (codes "workers") (Number (pos 1) (pos most_workers)))
     ∷ argument (codes "explain") Flag
     ∷ argument (codes "help") Help

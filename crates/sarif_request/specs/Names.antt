@@ -1,8 +1,10 @@
 -- Which names in the arguments clash.
-use Rattle.std.specs.Prelude.{Bool, List, [], ◌∷◌, Option, Some, None, ◌&&◌, ◌||◌, map, not, false, codes, bytes_eq, count_by, nat_lt, if◌then◌else◌}
+use Rattle.std.specs.Prelude.{Bool, List, [], ◌∷◌, Option, Some, None, ◌&&◌, ◌||◌, length, map, not, true, false, codes, bytes_eq, count_by, nat_eq, nat_lt, if◌then◌else◌}
 use Rattle.std.specs.List.{list_any}
 use Rattle.std.specs.Option.{option_map_or}
 use Rattle.clap.specs.Words.{Text}
+use Rattle.sarif_reports.specs.declared.report.Report.{Report}
+use Rattle.sarif_reports.specs.declared.report.Report.TheVariants as report
 use Rattle.sarif_request.specs.declared.clash.Clash.{Clash}
 use Rattle.sarif_request.specs.declared.clash.Clash.TheVariants.{Suppressions, Outputs, Log, Inputs, StandardInput}
 use Rattle.sarif_request.specs.declared.request.Request.{Request}
@@ -29,7 +31,7 @@ names_of request = record {
 abbrev pub standard : Text
 standard = codes "-"
 
--- the names of the reports, in the order in which the reports are written
+-- the names of the other outputs, in the order in which these are written
 abbrev pub report_names : Names → List Text
 report_names names = map (λ wanted. wanted.to) names.reports
 
@@ -40,10 +42,19 @@ outputs_of names = names.out ∷ report_names names
 abbrev pub is_among : Text → List Text → Bool
 is_among name names = list_any (λ other. bytes_eq other name) names
 
--- an output has the name of the suppression file
+-- the new suppression file may replace the suppression file
+abbrev pub may_replace_suppressions : Report → Bool
+may_replace_suppressions report.Suppressions = true
+may_replace_suppressions _ = false
+
+abbrev pub replaces_file : Text → Wanted Text → Bool
+replaces_file name wanted = not (may_replace_suppressions wanted.report) && bytes_eq wanted.to name
+
+-- another output has the name of the suppression file
 abbrev pub replaces_suppressions : Names → Bool
-replaces_suppressions names =
-    option_map_or (λ name. is_among name (outputs_of names)) names.suppress false
+replaces_suppressions names = option_map_or
+    (λ name. bytes_eq names.out name || list_any (replaces_file name) names.reports)
+    names.suppress false
 
 -- two of these have one name
 abbrev pub have_one_name : List Text → Bool
@@ -54,13 +65,20 @@ have_one_name (name ∷ others) = is_among name others || have_one_name others
 abbrev pub replaces_log : Names → Bool
 replaces_log names = not (bytes_eq names.out standard) && is_among names.out names.logs
 
--- a report has the name of a log or of a baseline; standard output has no name
-abbrev pub replaces_input : Names → Text → Bool
-replaces_input names name = not (bytes_eq name standard)
-    && (is_among name names.logs || is_among name names.baselines)
+-- the known log may replace the baseline if there is just one
+abbrev pub may_replace_baseline : Names → Report → Bool
+may_replace_baseline names report.Known = nat_eq (length names.baselines) 1
+may_replace_baseline names _ = false
+
+-- an output beside the merged log has the name of a log, or of a baseline that it may not replace; standard output has
+-- no name
+abbrev pub replaces_input : Names → Wanted Text → Bool
+replaces_input names wanted = not (bytes_eq wanted.to standard)
+    && (is_among wanted.to names.logs
+    || (is_among wanted.to names.baselines && not (may_replace_baseline names wanted.report)))
 
 abbrev pub replaces_inputs : Names → Bool
-replaces_inputs names = list_any (replaces_input names) (report_names names)
+replaces_inputs names = list_any (replaces_input names) names.reports
 
 -- standard input is more than one of the logs
 abbrev pub reads_twice : Names → Bool

@@ -10,8 +10,13 @@ pub record IsPlain (request : Request) : Type 0 where
   pub suppress : request.suppress ≡ None
   pub out : request.out ≡ codes "-"
   pub reports : request.reports.items ≡ []
-  pub root : request.root ≡ []
+  pub roots : request.roots.items ≡ []
   pub explain : request.explain ≡ false
+  pub renewal : request.upkeep.renewal ≡ None
+  pub unused : request.upkeep.unused ≡ false
+  pub known : request.upkeep.known ≡ None
   pub workers : request.options.workers ≡ 1
   pub policy : request.options.policy ≡ default_policy
   pub today : request.options.today ≡ None
+  pub require_success : request.options.checks.require_success ≡ false
+  pub allow_external : request.options.checks.allow_external ≡ false

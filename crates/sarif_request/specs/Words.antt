@@ -1,5 +1,5 @@
 -- What the arguments of the command line request, and the result if they make no request.
-use Rattle.std.specs.Prelude.{◌≡◌, ◌≢◌, ℕ, Bool, false, List, [], ◌∷◌, flat_map, Option, Some, None, Result, Ok, Err, unwrap_or, option_and_then, codes, bytes_eq, min, max, ◌<◌, ◌^◌, ◌⊎◌, ⊤}
+use Rattle.std.specs.Prelude.{◌≡◌, ◌≢◌, ℕ, Bool, true, false, is_some, List, [], ◌∷◌, flat_map, Option, Some, None, Result, Ok, Err, unwrap_or, option_and_then, codes, bytes_eq, min, max, ◌<◌, ◌^◌, ◌⊎◌, ⊤, if◌then◌else◌}
 use Rattle.std.specs.Borrow.{Bor}
 use Rattle.std.specs.Option.{option_map_or}
 use Rattle.std.specs.Str.Parse.{IsNumeral, digits_value, without_leading_plus}
@@ -10,6 +10,9 @@ use Rattle.sarif_model.specs.declared.kinds.Level.{Level}
 use Rattle.sarif_model.specs.Level.{level_named}
 use Rattle.sarif_model.specs.Limits.{most_workers}
 use Rattle.sarif_counts.specs.declared.policy.States.{States}
+use Rattle.sarif_counts.specs.declared.upkeep.Knowing.{Knowing}
+use Rattle.sarif_counts.specs.declared.upkeep.Knowing.TheVariants.{Adopted, Matched}
+use Rattle.sarif_counts.specs.declared.upkeep.Renewal.{Renewal}
 use Rattle.sarif_counts.specs.Policy.{default_policy}
 use Rattle.sarif_reports.specs.declared.report.Report.{Report}
 use Rattle.sarif_reports.specs.Report.{all_reports, report_name}
@@ -17,10 +20,13 @@ use Rattle.sarif_request.specs.declared.clash.Clash.{Clash}
 use Rattle.sarif_request.specs.declared.words.WordsFault.{WordsFault}
 use Rattle.sarif_request.specs.declared.words.WordsFault.TheVariants.{Usage, Help, OutOfMemory}
 use Rattle.sarif_request.specs.declared.request.Request.{Request}
+use Rattle.sarif_request.specs.declared.together.Given.{Given}
+use Rattle.sarif_request.specs.declared.together.Misfit.{Misfit}
 use Rattle.sarif_request.specs.declared.wanted.Wanted.{Wanted}
 use Rattle.sarif_request.specs.Command.{AreLevels, program}
 use Rattle.sarif_request.specs.Listing.{states_listed}
 use Rattle.sarif_request.specs.Names.{Names, clash_of}
+use Rattle.sarif_request.specs.Together.{misfit_of}
 
 -- the program's exit status
 abbrev pub words_status : WordsFault → ℕ
@@ -73,12 +79,12 @@ abbrev pub states_in : List Row → Option States
 states_in rows =
     option_map_or states_listed (first_of (codes "states") rows) (Some default_policy.states)
 
--- a report is requested if its option has a value, which is the name of its file
+-- an output is requested if its option has a value, which is the name of its file
 abbrev pub wanted_if : Report → Option Text → List (Wanted Text)
 wanted_if report None = []
 wanted_if report (Some name) = record { report = report; to = name } ∷ []
 
--- the reports that are requested, in the order in which they are written
+-- the outputs that are requested beside the merged log, in the order in which they are written
 abbrev pub reports_in : List Row → List (Wanted Text)
 reports_in rows =
     flat_map (λ report. wanted_if report (first_of (report_name report) rows)) all_reports
@@ -87,6 +93,40 @@ reports_in rows =
 abbrev pub is_set : Text → List Row → Bool
 is_set name rows = option_map_or (λ text. bytes_eq text (codes "true")) (first_of name rows) false
 
+-- an option with a value is given
+abbrev pub is_given : Text → List Row → Bool
+is_given name rows = is_some (first_of name rows)
+
+-- how a new suppression file is made
+pub record Renews (rows : List Row) (how : Renewal) : Type 0 where
+  pub accept : how.accept ≡ is_set (codes "accept") rows
+  pub prune : how.prune ≡ is_set (codes "prune") rows
+  pub reason : how.reason ≡ first_of (codes "reason") rows
+  pub until : IsRead (one_of (codes "until") rows) how.until
+
+-- how it is made, if it is requested
+abbrev pub IsRenewal : List Row → Option Renewal → Type 0
+IsRenewal rows None = is_given (codes "suppress-out") rows ≡ false
+IsRenewal rows (Some how) = (is_given (codes "suppress-out") rows ≡ true) × Renews rows how
+
+-- what the known log has, if it is requested
+abbrev pub known_in : List Row → Option Knowing
+known_in rows = if is_given (codes "known") rows
+    then Some (if is_set (codes "adopt") rows then Adopted else Matched) else None
+
+-- which options are given of those that need each other
+pub record AreGiven (rows : List Row) (given : Given) : Type 0 where
+  pub suppress : given.suppress ≡ is_given (codes "suppress") rows
+  pub suppress_out : given.suppress_out ≡ is_given (codes "suppress-out") rows
+  pub accept : given.accept ≡ is_set (codes "accept") rows
+  pub prune : given.prune ≡ is_set (codes "prune") rows
+  pub reason : given.reason ≡ is_given (codes "reason") rows
+  pub until : IsRead (one_of (codes "until") rows) given.until
+  pub today : IsRead (one_of (codes "today") rows) given.today
+  pub unused : given.unused ≡ is_given (codes "unused") rows
+  pub known : given.known ≡ is_given (codes "known") rows
+  pub adopt : given.adopt ≡ is_set (codes "adopt") rows
+
 -- what was found under the arguments' names
 pub record AsksFor (rows : List Row) (request : Request) : Type 0 where
   pub logs : request.logs.items ≡ values_of (codes "log") rows
@@ -94,9 +134,16 @@ pub record AsksFor (rows : List Row) (request : Request) : Type 0 where
   pub suppress : request.suppress ≡ first_of (codes "suppress") rows
   pub out : request.out ≡ unwrap_or (first_of (codes "out") rows) []
   pub reports : request.reports.items ≡ reports_in rows
-  pub root : request.root ≡ unwrap_or (first_of (codes "root") rows) []
+  pub roots : request.roots.items ≡ values_of (codes "root") rows
   pub explain : request.explain ≡ is_set (codes "explain") rows
+  pub renewal : IsRenewal rows request.upkeep.renewal
+  pub unused : request.upkeep.unused ≡ is_given (codes "unused") rows
+  pub known : request.upkeep.known ≡ known_in rows
   pub today : IsRead (one_of (codes "today") rows) request.options.today
+  pub require_success : request.options.checks.require_success
+      ≡ is_set (codes "require-success") rows
+  pub allow_external : request.options.checks.allow_external
+      ≡ is_set (codes "allow-external-properties") rows
   pub workers : (n : ℕ) × IsReadOr 1 (one_of (codes "workers") rows) n
       × (request.options.workers ≡ in_range n)
   pub fail_on : request.options.policy.fail_on ≡ fail_on_in rows
@@ -118,6 +165,15 @@ abbrev pub HaveClash : App → List Text → Type 0
 HaveClash app words = (fault_of app words ≡ [])
     × (clash : Clash) × (clash_of (names_in (matches_of app words)) ≡ Some clash)
 
+-- the options that were found go together, or they don't for this reason
+abbrev pub FitUnless : Option Misfit → List Row → Type 0
+FitUnless misfit rows = (given : Given) × AreGiven rows given × (misfit_of given ≡ misfit)
+
+-- the arguments are valid, but some of the options don't go together
+abbrev pub HaveMisfit : App → List Text → Type 0
+HaveMisfit app words = (fault_of app words ≡ [])
+    × (misfit : Misfit) × FitUnless (Some misfit) (matches_of app words)
+
 -- the arguments are valid, but their list of states is none
 abbrev pub HaveNoStates : App → List Text → Type 0
 HaveNoStates app words = (fault_of app words ≡ []) × (states_in (matches_of app words) ≡ None)
@@ -133,15 +189,17 @@ IsUsageOrOutOfMemory OutOfMemory = ⊤
 abbrev pub IsFaultOf : List Text → WordsFault → Type 0
 IsFaultOf words (Usage text) = (levels : Bor (List (Bor Text))) × AreLevels levels
     × (((k : ErrorKind) × IsAmong k (fault_of (program levels) words) × (¬ IsAsked k))
-    ⊎ (HaveNoStates (program levels) words ⊎ HaveClash (program levels) words))
+    ⊎ (HaveNoStates (program levels) words
+    ⊎ (HaveMisfit (program levels) words ⊎ HaveClash (program levels) words)))
 IsFaultOf words (Help text) = (levels : Bor (List (Bor Text))) × AreLevels levels
     × (k : ErrorKind) × IsAmong k (fault_of (program levels) words) × IsAsked k
 IsFaultOf words OutOfMemory = ⊤
 
--- a request is returned only if the arguments are valid, they list states and no names in them clash, and it is what
--- they request
+-- a request is returned only if the arguments are valid, they list states, their options go together and no names in
+-- them clash, and it is what they request
 abbrev pub Answers : List Text → Result Request WordsFault → Type 0
 Answers words (Ok request) = (levels : Bor (List (Bor Text))) × AreLevels levels
     × (fault_of (program levels) words ≡ []) × AsksFor (matches_of (program levels) words) request
+    × FitUnless None (matches_of (program levels) words)
     × (clash_of (names_in (matches_of (program levels) words)) ≡ None)
 Answers words (Err fault) = IsFaultOf words fault

@@ -1,10 +1,12 @@
 //! Names in the arguments that clash.
 ghost use Rattle.std.specs.Prelude.{◌≡◌, Option, map};
+ghost use Rattle.std.specs.List.{list_any};
 ghost use Rattle.sarif_request.specs.Names as said;
 
 use crate::request::Request;
 use crate::wanted::Wanted;
 use sarif_model::Text;
+use sarif_reports::Report;
 use sarif_streams::STANDARD;
 use std::alloc::{AllocError, Global};
 
@@ -17,7 +19,7 @@ pub enum Clash {
     Outputs,
     /// The merged log would overwrite a log.
     Log,
-    /// A report would overwrite a log or a baseline.
+    /// Another output would overwrite a log or a baseline.
     Inputs,
     /// Standard input is more than one of the logs.
     StandardInput,
@@ -48,7 +50,7 @@ impl Clash {
     }
 }
 
-/// Returns the outputs of a request: the merged log and then the reports.
+/// Returns the outputs of a request: the merged log and then the others.
 fn outputs_of<'a>(alloc: Global, request: &'a Request) -> Result<Vec<Output<'a>>, AllocError> {
     let mut outputs = Vec::new(alloc);
     outputs.push(Output {
@@ -64,17 +66,21 @@ fn outputs_of<'a>(alloc: Global, request: &'a Request) -> Result<Vec<Output<'a>>
     Ok(outputs)
 }
 
-/// Names the first output with the name of the suppression file.
+/// Names the first output that would overwrite the suppression file.
 fn suppressions_told(alloc: Global, request: &Request) -> Result<String, AllocError> {
     let name = match &request.suppress {
         Some(name) => name.as_str(),
         None => "",
     };
-    let outputs = outputs_of(alloc, request)?;
-    let option = match outputs.iter().find(|output| output.file == name) {
-        Some(output) => output.option,
-        None => "out",
-    };
+    let mut option = "out";
+    if request.out.as_str() != name {
+        for wanted in &request.reports {
+            if replaces_file(name, wanted) {
+                option = wanted.report.name();
+                break;
+            }
+        }
+    }
     format!(in alloc; "--{option} would overwrite the suppression file {name}")
 }
 
@@ -115,20 +121,33 @@ fn log_told(alloc: Global, request: &Request) -> Result<String, AllocError> {
     format!(in alloc; "--out would overwrite the log {name}")
 }
 
-/// Names the first report with the name of a log or of a baseline.
+/// Names the first other output that would overwrite a log or a baseline.
 fn inputs_told(alloc: Global, request: &Request) -> Result<String, AllocError> {
-    for report in &request.reports {
-        if replaces_input(request, &report.to) {
-            let option = report.report.name();
-            let name = report.to.as_str();
-            return if request.logs.contains(&report.to) {
-                format!(in alloc; "--{option} would overwrite the log {name}")
-            } else {
-                format!(in alloc; "--{option} would overwrite the baseline {name}")
-            };
+    for wanted in &request.reports {
+        if replaces_input(request, wanted) {
+            return input_told(alloc, request, wanted);
         }
     }
-    String::from_str(alloc, "a report would overwrite a log or a baseline")
+    String::from_str(alloc, "an output would overwrite a log or a baseline")
+}
+
+/// Names the log or the baseline that this output would overwrite.
+fn input_told(
+    alloc: Global,
+    request: &Request,
+    wanted: &Wanted<Text>,
+) -> Result<String, AllocError> {
+    let option = wanted.report.name();
+    let name = wanted.to.as_str();
+    if request.logs.contains(&wanted.to) {
+        return format!(in alloc; "--{option} would overwrite the log {name}");
+    }
+    match wanted.report {
+        Report::Known => format!(in alloc;
+            "--{option} would overwrite the baseline {name}, which is not the only baseline"
+        ),
+        _ => format!(in alloc; "--{option} would overwrite the baseline {name}"),
+    }
 }
 
 /// Returns why the names of this request clash, or `None` if they don't. Names are compared byte for byte.
@@ -150,16 +169,38 @@ pub fn clash_of(request: &Request) -> Option<Clash>
     }
 }
 
-/// Whether an output has the name of the suppression file.
+/// Whether an output has the name of the suppression file without being allowed to replace it.
 fn replaces_suppressions(request: &Request) -> bool
     ensures { result ≡ said.replaces_suppressions (said.names_of request.now) }
 {
     match &request.suppress {
         Some(name) => {
             let name = name.as_str();
-            request.out.as_str() == name || is_among(name, request.reports.as_slice())
+            request.out.as_str() == name || one_replaces(name, request.reports.as_slice())
         }
         None => false,
+    }
+}
+
+/// Whether one of these outputs would overwrite the suppression file of this name.
+fn one_replaces(name: &str, outputs: &[Wanted<Text>]) -> bool
+    ensures { result ≡ list_any (said.replaces_file name.now) outputs.now }
+{
+    for wanted in outputs {
+        if replaces_file(name, wanted) {
+            return true;
+        }
+    }
+    false
+}
+
+/// Whether this output would overwrite the suppression file of this name.
+fn replaces_file(name: &str, wanted: &Wanted<Text>) -> bool
+    ensures { result ≡ said.replaces_file name.now wanted.now }
+{
+    match wanted.report {
+        Report::Suppressions => false,
+        _ => wanted.to.as_str() == name,
     }
 }
 
@@ -203,24 +244,36 @@ fn replaces_log(request: &Request) -> bool
     request.out.as_str() != STANDARD && is_log
 }
 
-/// Whether a report has the name of a log or of a baseline.
+/// Whether another output has the name of a log, or of a baseline that it may not replace.
 fn replaces_inputs(request: &Request) -> bool
     ensures { result ≡ said.replaces_inputs (said.names_of request.now) }
 {
-    for report in &request.reports {
-        if replaces_input(request, &report.to) {
+    for wanted in &request.reports {
+        if replaces_input(request, wanted) {
             return true;
         }
     }
     false
 }
 
-/// Whether a log or a baseline has the name of this report.
-fn replaces_input(request: &Request, name: &Text) -> bool
-    ensures { result ≡ said.replaces_input (said.names_of request.now) name.now }
+/// Whether this output has the name of a log, or of a baseline that it may not replace.
+fn replaces_input(request: &Request, wanted: &Wanted<Text>) -> bool
+    ensures { result ≡ said.replaces_input (said.names_of request.now) wanted.now }
 {
-    let is_input = request.logs.contains(name) || request.baselines.contains(name);
-    name.as_str() != STANDARD && is_input
+    let is_log = request.logs.contains(&wanted.to);
+    let is_baseline = request.baselines.contains(&wanted.to);
+    let may = may_replace_baseline(request, wanted.report);
+    wanted.to.as_str() != STANDARD && (is_log || (is_baseline && !may))
+}
+
+/// Whether this output may replace the baseline: the known log may if there is just one.
+fn may_replace_baseline(request: &Request, report: Report) -> bool
+    ensures { result ≡ said.may_replace_baseline (said.names_of request.now) report }
+{
+    match report {
+        Report::Known => request.baselines.len() == 1,
+        _ => false,
+    }
 }
 
 /// Whether standard input is more than one of the logs.

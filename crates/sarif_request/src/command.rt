@@ -1,4 +1,4 @@
-//! The command line as its parser sees it: the options' rows, the reports, and the help.
+//! The command line as its parser sees it: the options' rows, the rows of the outputs, and the help.
 ghost use Rattle.std.specs.Prelude.{◌≡◌, IfOk, false, map};
 ghost use Rattle.clap.specs.Words.{app_of, rule_of};
 ghost use Rattle.sarif_reports.specs.Report.{all_reports, report_name};
@@ -26,9 +26,10 @@ const AFTER: &str = "\
 Without arguments, the program reads one log from standard input, and writes the merged log to
 standard output and the summary to standard error.
 
-At most one output is standard output. With --out - the summary goes to standard error. No two
-outputs may have the same name. No output may have the name of the suppression file or of a log, and
-no report may have the name of a baseline.
+At most one output is standard output. If it is that of --out, --suppress-out or --known, the
+summary goes to standard error. No two outputs may have the same name. No output may have the name
+of the suppression file, of a log or of a baseline, with three exceptions: --suppress-out may have
+the name of --suppress, --known that of the only --baseline, and --out that of a --baseline.
 
 Exit status:
   0  the gate passes
@@ -50,7 +51,7 @@ pub fn command<'a>(alloc: Global) -> Result<Command<'a>, AllocError>
     with_reports(alloc, of_rows(alloc, ValueParser::from(LEVELS.as_slice()))?)
 }
 
-/// Returns the command with its options but the reports.
+/// Returns the command with its options but those of the outputs beside the merged log.
 fn of_rows<'a>(alloc: Global, levels: ValueParser<'a>) -> Result<Command<'a>, AllocError>
     ensures { IfOk result (λ c. app_of c ≡ with_arguments levels.entry start arguments) }
 {
@@ -75,7 +76,7 @@ fn named<'a>(alloc: Global) -> Command<'a>
         .next_display_order(1)
 }
 
-/// Adds an option for each report.
+/// Adds an option for each output beside the merged log.
 fn with_reports<'a>(alloc: Global, command: Command<'a>) -> Result<Command<'a>, AllocError>
     ensures { IfOk result (λ c. app_of c ≡ with_reports (app_of command.entry) all_reports) }
 {
@@ -86,7 +87,7 @@ fn with_reports<'a>(alloc: Global, command: Command<'a>) -> Result<Command<'a>, 
     Ok(command)
 }
 
-/// Returns the option for this report: `--NAME FILE`.
+/// Returns the option for this output: `--NAME FILE`.
 fn report_option<'a>(alloc: Global, report: Report) -> Arg<'a>
     ensures rule { rule_of result ≡ option_rule (report_name report) }
     ensures local { result.global ≡ false }
@@ -97,7 +98,15 @@ fn report_option<'a>(alloc: Global, report: Report) -> Arg<'a>
         .long(name)
         .value_name("FILE")
         .help(help)
-        .help_heading(Group::Outputs.heading())
+        .help_heading(group_of(report).heading())
+}
+
+/// Returns where the help shows the option for this output.
+fn group_of(report: Report) -> Group {
+    match report {
+        Report::Suppressions | Report::Known => Group::Upkeep,
+        _ => Group::Outputs,
+    }
 }
 
 /// Returns the option of a row.

@@ -6,6 +6,7 @@ mod command;
 mod listing;
 mod option_rows;
 mod request;
+mod together;
 mod wanted;
 mod words;
 

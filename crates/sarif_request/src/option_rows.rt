@@ -11,8 +11,10 @@ pub enum Group {
     Inputs,
     /// What decides between pass and fail.
     Gate,
-    /// What is written.
+    /// What is written for people and services.
     Outputs,
+    /// What is written for later runs.
+    Upkeep,
     /// Everything else.
     Other,
 }
@@ -24,6 +26,7 @@ impl Group {
             Group::Inputs => "Inputs",
             Group::Gate => "Gate",
             Group::Outputs => "Outputs",
+            Group::Upkeep => "Upkeep",
             Group::Other => "Other",
         }
     }
@@ -59,7 +62,7 @@ pub struct OptionRow {
     pub id: &'static str,
     /// What the help calls the value.
     pub value: &'static str,
-    /// The help text of the option, in lines of at most 74 columns.
+    /// The help text of the option, in lines of at most 74 columns, and of at most 65 in the group of inputs.
     pub help: &'static str,
     /// Where the help shows the option.
     pub group: Group,
@@ -69,11 +72,15 @@ pub struct OptionRow {
     pub default: Option<&'static str>,
 }
 
-static ROWS: [OptionRow; 13] = [
+/// A date as YYYYMMDD, of which only the range is checked here.
+const DATE: Kind = Kind::Number(FIRST_DAY as i64, LAST_DAY as i64);
+
+static ROWS: [OptionRow; 20] = [
     OptionRow {
         id: "log",
         value: "LOG",
-        help: "SARIF logs to merge, in this order; - is standard input, at most once",
+        help: "SARIF logs to merge, in this order; - is standard input, at most\n\
+            once",
         group: Group::Inputs,
         kind: Kind::Logs,
         default: None,
@@ -81,8 +88,8 @@ static ROWS: [OptionRow; 13] = [
     OptionRow {
         id: "baseline",
         value: "FILE",
-        help: "SARIF log of known results, for example an earlier merged log; all other\n\
-            results are new. May be repeated",
+        help: "SARIF log of known results, for example an earlier merged log;\n\
+            all other results are new. May be repeated",
         group: Group::Inputs,
         kind: Kind::Many,
         default: None,
@@ -90,8 +97,8 @@ static ROWS: [OptionRow; 13] = [
     OptionRow {
         id: "suppress",
         value: "FILE",
-        help: "JSON file of accepted findings (suppressions), each with a reason and an\n\
-            optional expiry date",
+        help: "JSON file of accepted findings (suppressions), each with a reason\n\
+            and an optional expiry date",
         group: Group::Inputs,
         kind: Kind::Once,
         default: None,
@@ -99,10 +106,28 @@ static ROWS: [OptionRow; 13] = [
     OptionRow {
         id: "today",
         value: "YYYYMMDD",
-        help: "Today's date, for example 20250131. Required if a suppression has an\n\
-            expiry date; the program reads no clock",
+        help: "Today's date, for example 20250131. Required if a suppression has\n\
+            an expiry date; the program reads no clock",
         group: Group::Inputs,
-        kind: Kind::Number(FIRST_DAY as i64, LAST_DAY as i64),
+        kind: DATE,
+        default: None,
+    },
+    OptionRow {
+        id: "require-success",
+        value: "",
+        help: "Reject a log if the analysis of a run failed: an invocation was\n\
+            not successful, or the run has no results",
+        group: Group::Inputs,
+        kind: Kind::Flag,
+        default: None,
+    },
+    OptionRow {
+        id: "allow-external-properties",
+        value: "",
+        help: "Allow runs to name external property files, except for results,\n\
+            artifacts, invocations, driver and extensions",
+        group: Group::Inputs,
+        kind: Kind::Flag,
         default: None,
     },
     OptionRow {
@@ -143,9 +168,54 @@ static ROWS: [OptionRow; 13] = [
     OptionRow {
         id: "root",
         value: "PREFIX",
-        help: "Prefix to strip from paths in reports, for example file:///builds/app/",
+        help: "Prefix to strip from paths in reports, for example file:///builds/app/. Of\n\
+            the prefixes that fit, the first is stripped. May be repeated",
         group: Group::Outputs,
+        kind: Kind::Many,
+        default: None,
+    },
+    OptionRow {
+        id: "accept",
+        value: "",
+        help: "Add an entry to the new suppression file for each hit, so that the next\n\
+            merge accepts it. Needs --suppress-out",
+        group: Group::Upkeep,
+        kind: Kind::Flag,
+        default: None,
+    },
+    OptionRow {
+        id: "prune",
+        value: "",
+        help: "Leave out of the new suppression file what expired, and what matches no\n\
+            result of a tool that ran. Needs --suppress and --suppress-out",
+        group: Group::Upkeep,
+        kind: Kind::Flag,
+        default: None,
+    },
+    OptionRow {
+        id: "reason",
+        value: "TEXT",
+        help: "Justification of the entries that --accept adds",
+        group: Group::Upkeep,
         kind: Kind::Once,
+        default: None,
+    },
+    OptionRow {
+        id: "until",
+        value: "YYYYMMDD",
+        help: "Expiry date of the entries that --accept adds, for example 20270101.\n\
+            Needs --today, which must not be after it",
+        group: Group::Upkeep,
+        kind: DATE,
+        default: None,
+    },
+    OptionRow {
+        id: "adopt",
+        value: "",
+        help: "Let new hits and new suppressed results into the known log too. Needs\n\
+            --known",
+        group: Group::Upkeep,
+        kind: Kind::Flag,
         default: None,
     },
     OptionRow {

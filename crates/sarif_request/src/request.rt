@@ -3,7 +3,7 @@ ghost use Rattle.std.specs.Prelude.{IfOk};
 ghost use Rattle.sarif_request.specs.Plain.{IsPlain};
 
 use crate::wanted::Wanted;
-use sarif_counts::{Options, Policy};
+use sarif_counts::{Checks, Options, Policy, Upkeep};
 use sarif_model::Text;
 use sarif_streams::STANDARD;
 use std::alloc::{AllocError, Global};
@@ -20,20 +20,23 @@ pub struct Request {
     pub suppress: Option<Text>,
     /// Where the merged log goes; `-` is standard output.
     pub out: Text,
-    /// The reports that were requested, in the order of `Report::ALL`, with the names of their files; `-` is standard
-    /// output.
+    /// The other outputs that were requested, in the order of `Report::ALL`, with the names of their files; `-` is
+    /// standard output.
     pub reports: Vec<Wanted<Text>>,
-    /// What the paths of reports are read without where they begin with it.
-    pub root: Text,
+    /// The prefixes of paths in reports, in the order of the arguments: a path that begins with one loses the first of
+    /// these. An empty one is none.
+    pub roots: Vec<Text>,
     /// Whether errors are explained.
     pub explain: bool,
+    /// What is made for later merges.
+    pub upkeep: Upkeep,
     /// How they are merged.
     pub options: Options,
 }
 
 impl Request {
     /// Returns the request to merge one log from standard input to standard output, with one worker, the default
-    /// policy and no report. Returns `AllocError` if memory for it runs out.
+    /// policy and no other output. Returns `AllocError` if memory for it runs out.
     pub fn of_standard_streams(alloc: Global, seed: RandomState) -> Result<Request, AllocError>
         ensures { IfOk result IsPlain }
     {
@@ -43,10 +46,16 @@ impl Request {
             suppress: None,
             out: Text::copy_of(alloc, STANDARD)?,
             reports: Vec::new(alloc),
-            root: Text::copy_of(alloc, "")?,
+            roots: Vec::new(alloc),
             explain: false,
+            upkeep: Upkeep {
+                renewal: None,
+                unused: false,
+                known: None,
+            },
             options: Options {
                 policy: Policy::default(),
+                checks: Checks::default(),
                 today: None,
                 workers: 1,
                 seed,

@@ -1,10 +1,10 @@
-//! A report that was requested.
+//! An output that was requested beside the merged log.
 use sarif_reports::Report;
 
-/// A report that was requested, with its destination: the name of its file, or its writer.
+/// An output that was requested beside the merged log, with its destination: the name of its file, or its writer.
 #[derive(Debug, Drop)]
 pub struct Wanted<T> {
-    /// The report.
+    /// The output.
     pub report: Report,
     /// Its destination.
     pub to: T,

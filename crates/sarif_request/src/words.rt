@@ -1,19 +1,22 @@
 //! Reading the arguments of the command line.
-ghost use Rattle.std.specs.Prelude.{◌≡◌, ◌↔◌, IfOk, IsTrue, [], Some, map, unwrap_or, string_bytes, option_and_then, codes};
+ghost use Rattle.std.specs.Prelude.{◌≡◌, ◌↔◌, ◌++◌, IfOk, IsTrue, OnOk, [], Some, map, unwrap_or, string_bytes, option_and_then, codes};
 ghost use Rattle.clap.specs.Words.{kind_of, rows_of, found_of, first_of, one_of};
 ghost use Rattle.sarif_model.specs.Level.{level_named};
 ghost use Rattle.sarif_counts.specs.Policy.{default_policy};
 ghost use Rattle.sarif_request.specs.Words.{words_status, Tells, IsAsked, AsksFor, Answers, IsRead, IsReadOr, IsUsageOrOutOfMemory};
 ghost use Rattle.sarif_request.specs.Words.{fail_on_in, is_set, reports_in, states_in, values_of};
+ghost use Rattle.sarif_reports.specs.Report.{report_name};
+ghost use Rattle.sarif_request.specs.Words.{AreGiven, IsRenewal, is_given, known_in, wanted_if};
 
 use crate::clash::{Clash, clash_of};
 use crate::command::command;
 use crate::listing::states_of;
 use crate::request::Request;
+use crate::together::{Given, misfit_of};
 use crate::wanted::Wanted;
 use clap::ArgMatches;
 use clap::error::ErrorKind;
-use sarif_counts::{Options, Policy, States};
+use sarif_counts::{Checks, Knowing, Options, Policy, Renewal, States, Upkeep};
 use sarif_model::{Level, MOST_WORKERS, Text};
 use sarif_reports::Report;
 use std::alloc::{AllocError, AllocFailed, Global};
@@ -54,8 +57,8 @@ impl From<AllocError> for WordsFault {
 }
 
 /// Returns the request of the arguments after the program's name. The tables of the merge hash with `seed`.
-/// Returns `Usage` if the arguments are invalid, their list of states is none or names in them clash; `Help` if they
-/// request the help or the version; `OutOfMemory` if memory runs out.
+/// Returns `Usage` if the arguments are invalid, their list of states is none, options in them don't go together or
+/// names in them clash; `Help` if they request the help or the version; `OutOfMemory` if memory runs out.
 pub fn read_words(alloc: Global, seed: RandomState, words: &[String]) -> Result<Request, WordsFault>
     ensures { Answers (map string_bytes words.now) result }
 {
@@ -65,6 +68,9 @@ pub fn read_words(alloc: Global, seed: RandomState, words: &[String]) -> Result<
             let Some(states) = listed_states(alloc, &matches)? else {
                 return Err(usage_of(told_of(alloc, NO_STATES)));
             };
+            if let Some(misfit) = misfit_of(&given_of(&matches)) {
+                return Err(usage_of(told_of(alloc, misfit.sentence())));
+            }
             let request = request_of(alloc, seed, &matches, states)?;
             if let Some(clash) = clash_of(&request) {
                 return Err(usage_of(told_clash(alloc, clash, &request)));
@@ -117,10 +123,13 @@ fn request_of(
     let suppress = name_of(alloc, matches, "suppress")?;
     let out = text_in(alloc, matches, "out")?;
     let reports = reports_of(alloc, matches)?;
-    let root = text_in(alloc, matches, "root")?;
+    let roots = names_of(alloc, matches, "root")?;
+    let upkeep = upkeep_of(alloc, matches)?;
+    let today = number_of(matches, "today");
     let options = Options {
         policy: policy_of(matches, states),
-        today: number_of(matches, "today"),
+        checks: checks_of(matches),
+        today,
         workers: number_of(matches, "workers")
             .unwrap_or(1)
             .clamp(1, MOST_WORKERS),
@@ -132,10 +141,75 @@ fn request_of(
         suppress,
         out,
         reports,
-        root,
+        roots,
         explain: is_set(matches, "explain"),
+        upkeep,
         options,
     })
+}
+
+/// Returns what is made for later merges.
+fn upkeep_of(alloc: Global, matches: &ArgMatches<'_>) -> Result<Upkeep, AllocError>
+    ensures renewal { IfOk result
+        (λ upkeep. IsRenewal (rows_of (found_of matches.now)) upkeep.renewal) }
+    ensures unused { IfOk result
+        (λ upkeep. upkeep.unused ≡ is_given (codes "unused") (rows_of (found_of matches.now))) }
+    ensures known { IfOk result
+        (λ upkeep. upkeep.known ≡ known_in (rows_of (found_of matches.now))) }
+{
+    let renewal = renewal_of(alloc, matches)?;
+    Ok(Upkeep {
+        renewal,
+        unused: is_given(matches, "unused"),
+        known: known_of(matches),
+    })
+}
+
+/// Returns how the new suppression file is made, or `None` if it is not requested.
+fn renewal_of(alloc: Global, matches: &ArgMatches<'_>) -> Result<Option<Renewal>, AllocError>
+    ensures { IfOk result (IsRenewal (rows_of (found_of matches.now))) }
+{
+    if !is_given(matches, "suppress-out") {
+        return Ok(None);
+    }
+    let reason = name_of(alloc, matches, "reason")?;
+    Ok(Some(Renewal {
+        accept: is_set(matches, "accept"),
+        prune: is_set(matches, "prune"),
+        reason,
+        until: number_of(matches, "until"),
+    }))
+}
+
+/// Returns what the known log has, or `None` if it is not requested.
+fn known_of(matches: &ArgMatches<'_>) -> Option<Knowing>
+    ensures { result ≡ known_in (rows_of (found_of matches.now)) }
+{
+    if !is_given(matches, "known") {
+        None
+    } else if is_set(matches, "adopt") {
+        Some(Knowing::Adopted)
+    } else {
+        Some(Knowing::Matched)
+    }
+}
+
+/// Returns which options are given of those that need each other.
+fn given_of(matches: &ArgMatches<'_>) -> Given
+    ensures { AreGiven (rows_of (found_of matches.now)) result }
+{
+    Given {
+        suppress: is_given(matches, "suppress"),
+        suppress_out: is_given(matches, "suppress-out"),
+        accept: is_set(matches, "accept"),
+        prune: is_set(matches, "prune"),
+        reason: is_given(matches, "reason"),
+        until: number_of(matches, "until"),
+        today: number_of(matches, "today"),
+        unused: is_given(matches, "unused"),
+        known: is_given(matches, "known"),
+        adopt: is_set(matches, "adopt"),
+    }
 }
 
 /// All values of an argument.
@@ -182,18 +256,40 @@ fn text_in(alloc: Global, matches: &ArgMatches<'_>, id: &str) -> Result<Text, Al
     Text::copy_of(alloc, matches.get_str(id).unwrap_or(""))
 }
 
-/// Returns the reports that are requested, in the order in which they are written.
+/// Returns the outputs that are requested beside the merged log, in the order in which they are written.
 fn reports_of(alloc: Global, matches: &ArgMatches<'_>) -> Result<Vec<Wanted<Text>>, AllocError>
     ensures { IfOk result
         (λ reports. reports.items ≡ reports_in (rows_of (found_of matches.now))) }
 {
     let mut reports = Vec::new(alloc);
     for &report in Report::ALL {
-        if let Some(to) = name_of(alloc, matches, report.name())? {
-            reports.push(Wanted { report, to })?;
-        }
+        push_wanted(alloc, matches, report, &mut reports)?;
     }
     Ok(reports)
+}
+
+/// Adds this output to the others if it is requested.
+fn push_wanted(
+    alloc: Global,
+    matches: &ArgMatches<'_>,
+    report: Report,
+    reports: &mut Vec<Wanted<Text>>,
+) -> Result<(), AllocError>
+    ensures { OnOk result (reports.new.items ≡ reports.old.items
+        ++ wanted_if report (first_of (report_name report) (rows_of (found_of matches.now)))) }
+{
+    if let Some(to) = name_of(alloc, matches, report.name())? {
+        reports.push(Wanted { report, to })?;
+    }
+    Ok(())
+}
+
+/// Returns whether an option with a value is given.
+#[tactic(auto, using(crate::proofs::Rows::first_in_rows))]
+fn is_given(matches: &ArgMatches<'_>, id: &str) -> bool
+    ensures { result ≡ is_given id.now (rows_of (found_of matches.now)) }
+{
+    matches.get_str(id).is_some()
 }
 
 /// Returns whether an option without a value is given.
@@ -212,6 +308,19 @@ fn number_of(matches: &ArgMatches<'_>, id: &str) -> Option<u32>
     ensures { IsRead (one_of id.now (rows_of (found_of matches.now))) result }
 {
     matches.get_one::<u32>(id)
+}
+
+/// What is required of runs.
+fn checks_of(matches: &ArgMatches<'_>) -> Checks
+    ensures require_success { result.require_success
+        ≡ is_set (codes "require-success") (rows_of (found_of matches.now)) }
+    ensures allow_external { result.allow_external
+        ≡ is_set (codes "allow-external-properties") (rows_of (found_of matches.now)) }
+{
+    Checks {
+        require_success: is_set(matches, "require-success"),
+        allow_external: is_set(matches, "allow-external-properties"),
+    }
 }
 
 /// When the gate fails.

@@ -3,14 +3,18 @@ use Rattle.std.specs.Prelude.{ℕ, ◌+◌, Bool, true, false, ◌&&◌, List, [
 use Rattle.std.specs.List.{flat_map, range_with_len}
 use Rattle.serde_json.specs.Data.{Data}
 use Rattle.sarif_model.specs.declared.fault.Fault.{Fault}
+use Rattle.sarif_model.specs.declared.fault.Fault.TheVariants.{NotSuccessful}
 use Rattle.sarif_model.specs.declared.record.Record.{Record}
+use Rattle.sarif_model.specs.Members.{◌>>=◌}
 use Rattle.sarif_model.specs.Run.{results_of, result_at, is_absent_result}
+use Rattle.sarif_read.specs.Failed.{failed}
 use Rattle.sarif_runs.specs.Head.{head_of}
 use Rattle.sarif_runs.specs.Record.{record_of}
+use Rattle.sarif_runs.specs.declared.head.RunHead.{RunHead}
 use Rattle.sarif_runs.specs.declared.item.Item.{Item}
 use Rattle.sarif_runs.specs.declared.item.Item.TheVariants.{Sound, Bad, Skipped}
 use Rattle.sarif_model.specs.declared.merge_fault.Source.{Source}
-use Rattle.sarif_model.specs.declared.merge_fault.Source.TheVariants.{Log, Baseline, Suppress, Output}
+use Rattle.sarif_model.specs.declared.merge_fault.Source.TheVariants.{Log, Baseline, Suppress, Output, Known}
 use Rattle.sarif_model.specs.declared.merge_fault.At.{At}
 use Rattle.sarif_model.specs.declared.merge_fault.At.TheVariants.{Run, Single}
 use Rattle.sarif_model.specs.declared.merge_fault.MergeFault.{MergeFault}
@@ -23,6 +27,7 @@ skips (Log k) = false
 skips (Baseline k) = true
 skips Suppress = false
 skips Output = false
+skips Known = false
 
 abbrev pub item_by : Result Record Fault → Item
 item_by (Ok r) = Sound r
@@ -42,9 +47,18 @@ abbrev pub fault_of : {X : Type 0} → Result X Fault → Option Fault
 fault_of (Ok x) = None
 fault_of (Err fault) = Some fault
 
+-- the head of a run whose analysis was successful; that it failed is the last error of opening it
+abbrev pub successful_head : Data → Result RunHead Fault
+successful_head run = head_of run >>= λ head. if failed run then Err NotSuccessful else Ok head
+
+-- the head of a run, or its first error; whether its analysis must have been successful
+abbrev pub opened_of : Bool → Data → Result RunHead Fault
+opened_of false run = head_of run
+opened_of true run = successful_head run
+
 -- the error of opening a run, if it has one
 abbrev pub opening_fault : Placed → Option Fault
-opening_fault p = fault_of (head_of p.run)
+opening_fault p = fault_of (opened_of p.must_succeed p.run)
 
 -- ---- records
 

@@ -4,6 +4,7 @@ pub mod Found
 pub mod Head
 pub mod Judging
 pub mod Level
+pub mod NamedFiles
 pub mod Opened
 pub mod Overrides
 pub mod OwnMembers

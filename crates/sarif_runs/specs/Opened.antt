@@ -5,4 +5,9 @@ use Rattle.sarif_runs.specs.Placed.{Placed}
 
 abbrev pub placed_of : OpenedRun → Placed
 placed_of opened =
-    record { source = opened.source; number = opened.number; run = run_of opened.run }
+    record {
+      source = opened.source;
+      number = opened.number;
+      must_succeed = opened.must_succeed;
+      run = run_of opened.run;
+    }

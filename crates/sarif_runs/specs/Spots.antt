@@ -1,6 +1,6 @@
 -- How the results of all runs are shared among workers: as spots in one list, a range of them for each shard.
 -- Internal: no public contract of the merge refers to this module.
-use Rattle.std.specs.Prelude.{◌≡◌, ℕ, ◌+◌, ◌*◌, ◌<◌, List, [], ◌∷◌, ◌++◌, map, take, drop, length, slice_index_or}
+use Rattle.std.specs.Prelude.{◌≡◌, ℕ, false, ◌+◌, ◌*◌, ◌<◌, List, [], ◌∷◌, ◌++◌, map, take, drop, length, slice_index_or}
 use Rattle.std.specs.List.{range_with_len}
 use Rattle.serde_json.specs.Data.{null}
 use Rattle.sarif_model.specs.Run.{results_of}
@@ -10,7 +10,7 @@ use Rattle.sarif_runs.specs.Placed.{Placed}
 
 -- stands past the end of a list of runs
 abbrev pub no_run : Placed
-no_run = record { source = Output; number = 0; run = null }
+no_run = record { source = Output; number = 0; must_succeed = false; run = null }
 
 abbrev pub placed_at : List Placed → ℕ → Placed
 placed_at runs k = slice_index_or runs k no_run

@@ -20,7 +20,7 @@ pub use component::{Component, Rule};
 pub use head::RunHead;
 pub use invocation::{Invocation, Override};
 pub use item::Item;
-pub use laws::same_members_give_the_same_pairs;
+pub use laws::{external_files_change_no_record, same_members_give_the_same_pairs};
 pub use making::{copy_tool_name, make_record_of};
 pub use open::open_value;
 pub use opened::OpenedRun;

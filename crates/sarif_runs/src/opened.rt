@@ -25,6 +25,8 @@ pub struct OpenedRun<'t, 'a> {
     pub source: Source,
     /// Its number in its source, from 0.
     pub number: u32,
+    /// Whether its analysis must have been successful.
+    pub must_succeed: bool,
     pub(crate) run: IndexedRun<'t, 'a>,
     pub(crate) tool: Text,
     pub(crate) head: Result<RunHead, Fault>,
@@ -53,43 +55,66 @@ impl<'t, 'a> OpenedRun<'t, 'a> {
     ghost use Rattle.sarif_runs.specs.Judging.{opening_fault};
     ghost use Rattle.sarif_runs.specs.Opened.{placed_of};
     ghost use Rattle.sarif_read.specs.Bare.{bare};
+    ghost use Rattle.sarif_read.specs.Failed.{failed};
     ghost use Rattle.sarif_read.specs.Picked.{picked};
     ghost use Rattle.sarif_model.specs.Run.{result_at, results_array, results_of};
 
     /// Opens run `number` of a source, which holds no number with a fraction. The tables of its head hash with
-    /// `seed`, on which no result depends. Returns `AllocError` if memory runs out. An error of the run is not
-    /// returned; it is kept with the run (see `fault`).
+    /// `seed`, on which no result depends. With `must_succeed` it is an error of the run that its analysis failed.
+    /// Returns `AllocError` if memory runs out. An error of the run is not returned; it is kept with the run (see
+    /// `fault`).
     #[tactic(auto, using(crate::proofs::Beside::bare_head, crate::proofs::Beside::bare_tool_name))]
     pub fn open(
         alloc: Global,
         seed: RandomState,
         source: Source,
         number: u32,
+        must_succeed: bool,
         run: IndexedRun<'t, 'a>,
     ) -> Result<OpenedRun<'t, 'a>, AllocError>
         requires whole { has_float (run_of run) ≡ false }
         ensures placed { IfOk result (λ opened. placed_of opened
-            ≡ record { source = source; number = number; run = run_of run.entry }) }
+            ≡ record {
+              source = source;
+              number = number;
+              must_succeed = must_succeed;
+              run = run_of run.entry;
+            }) }
     {
         let tool = copy_tool_name(alloc, run.bare())?;
         let head = open_head(alloc, seed, run.bare())?;
         Ok(OpenedRun {
             source,
             number,
+            must_succeed,
             run,
             tool,
             head,
         })
     }
 
-    /// Why the run cannot be opened: the first error of [`open_value`](sarif_runs::open_value), or `None`.
+    /// Why the run cannot be opened: the first error of [`open_value`](sarif_runs::open_value), otherwise
+    /// `NotSuccessful` if its analysis failed and must not have, otherwise `None`.
     pub fn fault(&self) -> Option<Fault>
         ensures { result ≡ opening_fault (placed_of self.now) }
     {
         match &self.head {
-            Ok(_) => None,
+            Ok(_) => {
+                if self.must_succeed && self.has_failed() {
+                    Some(Fault::NotSuccessful)
+                } else {
+                    None
+                }
+            }
             Err(fault) => Some(*fault),
         }
+    }
+
+    /// The name of the run's tool (SARIF 2.1.0, toolComponent object, "name property"); empty if it has none.
+    pub fn tool(&self) -> &Text
+        ensures { result.now ≡ tool_name (placed_of self.now).run }
+    {
+        &self.tool
     }
 
     /// How many results the run has, at most `MOST_RESULTS`.
@@ -105,6 +130,15 @@ impl<'t, 'a> OpenedRun<'t, 'a> {
         ensures { result ≡ is_some (results_array (placed_of self.now).run) }
     {
         self.run.has_results()
+    }
+
+    /// Whether the analysis of the run failed: an invocation has an `executionSuccessful` that is false, or the run
+    /// has no results (SARIF 2.1.0, invocation object, "executionSuccessful property"; run object, "results
+    /// property").
+    pub fn has_failed(&self) -> bool
+        ensures { result ≡ failed (placed_of self.now).run }
+    {
+        self.run.has_failed()
     }
 
     /// The run without its results.

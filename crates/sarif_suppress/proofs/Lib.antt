@@ -5,6 +5,7 @@ pub mod Candidates
 pub mod FromEntries
 pub mod JustTexts
 pub mod Keyed
+pub mod ForGood
 pub mod Marked
 pub mod Meaning
 pub mod Numbered

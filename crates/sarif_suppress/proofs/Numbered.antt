@@ -97,7 +97,7 @@ one_more test n es e old new whole within is added so_far =
 
 -- ---- the verdict
 
-all_numbers : (test picked : Entry → Bool) (whole : List Entry) (n : ℕ) (es : List Entry) → IsPart whole n es → list_all (passes_at test whole) (numbers_from picked n es) ≡ list_all test (filter picked es)
+pub all_numbers : (test picked : Entry → Bool) (whole : List Entry) (n : ℕ) (es : List Entry) → IsPart whole n es → list_all (passes_at test whole) (numbers_from picked n es) ≡ list_all test (filter picked es)
 all_numbers test picked whole n [] part = refl
 all_numbers test picked whole n (e ∷ es) part =
     let rest : list_all (passes_at test whole) (numbers_from picked (n + 1) es) ≡ list_all test (filter picked es) = all_numbers test picked whole (n + 1) es part.1 in

@@ -1,5 +1,5 @@
 -- What a suppression file makes of a result (SARIF 2.1.0, result object, "suppressions property").
-use Rattle.std.specs.Prelude.{ℕ, Bool, true, false, not, ◌&&◌, List, ◌++◌, map, filter, count_by}
+use Rattle.std.specs.Prelude.{ℕ, Bool, true, false, not, ◌&&◌, List, ◌++◌, map, filter, count_by, is_some}
 use Rattle.std.specs.List.{list_any, list_all}
 use Rattle.sarif_model.specs.declared.kinds.Status.{Status}
 use Rattle.sarif_model.specs.declared.kinds.Status.TheVariants.{Accepted, UnderReview, Rejected}
@@ -40,3 +40,13 @@ is_unused file rs e = not (list_any (λ r. matches file.today e r) rs)
 -- how many entries match none of the results
 abbrev pub unused_of : File → List Record → ℕ
 unused_of file rs = count_by (is_unused file rs) file.entries
+
+-- ---- what is suppressed for good
+
+-- the entry has no expiry date
+abbrev pub is_lasting : Entry → Bool
+is_lasting e = not (is_some e.expires)
+
+-- the file without the entries that have an expiry date
+abbrev pub lasting : File → File
+lasting file = record { entries = filter is_lasting file.entries; today = file.today }

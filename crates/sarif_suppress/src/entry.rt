@@ -20,7 +20,7 @@ pub struct Entry {
 
 impl Entry {
     /// Returns whether the expiry date of the entry is before `today`.
-    fn is_expired(&self, today: Option<u32>) -> bool
+    pub fn is_expired(&self, today: Option<u32>) -> bool
         ensures { result ≡ said.is_expired today self.now }
     {
         match (self.expires, today) {

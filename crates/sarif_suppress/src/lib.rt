@@ -6,6 +6,7 @@ mod entry;
 mod fault;
 mod filing;
 mod key;
+mod lasting;
 mod laws;
 mod marks;
 mod numbers;
@@ -27,6 +28,7 @@ pub use laws::{
     written_passes_where_its_parts_do, written_suppressions_say_what_is_suppressed,
 };
 pub use marks::Marks;
+pub use read_entry::is_day;
 pub use read_file::{read_rules, read_rules_with};
 pub use suppressions::{Applied, Suppressions};
 pub use version::Version;

@@ -71,6 +71,13 @@ impl Marks {
         set_marks(&mut self.marks, applied.entries.as_slice());
     }
 
+    /// The marks, in file order.
+    pub fn as_slice(&self) -> &[bool]
+        ensures { result.now ≡ self.now }
+    {
+        &self.marks
+    }
+
     /// Returns how many entries are not marked. Does not allocate. If the marks are those of all results, these
     /// are the unused entries.
     pub fn unused(&self) -> u32

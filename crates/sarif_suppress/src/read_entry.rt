@@ -172,9 +172,9 @@ fn texts_at(
     texts_of(alloc, elements_at(entry, name, wrong)?, wrong)
 }
 
-/// Whether the number is a day yyyymmdd of the years 1000 to 9999, of a month 1 to 12 and a day 1
-/// to 31.
-fn is_day(number: u64) -> bool
+/// Returns whether the number is a date as YYYYMMDD that an entry can have as its expiry date: a year from 1000 to 9999,
+/// a month from 1 to 12 and a day from 1 to 31. The lengths of months don't matter.
+pub fn is_day(number: u64) -> bool
     ensures { result ≡ said.is_day number }
 {
     let month = number / 100 % 100;

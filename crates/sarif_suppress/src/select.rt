@@ -85,7 +85,7 @@ fn sequence_of(alloc: Global, numbers: &[u32]) -> Result<Sequence<u32>, AllocErr
 }
 
 /// Whether the status doesn't hinder a suppression.
-fn is_accepted(status: Status) -> bool
+pub(crate) fn is_accepted(status: Status) -> bool
     ensures { result ≡ said.is_accepted status }
 {
     match status {
@@ -95,7 +95,7 @@ fn is_accepted(status: Status) -> bool
 }
 
 /// Whether all of these statuses are accepted.
-fn all_accepted(statuses: &[Status]) -> bool
+pub(crate) fn all_accepted(statuses: &[Status]) -> bool
     ensures { result ≡ list_all said.is_accepted statuses.now }
 {
     statuses.iter().all(|status| is_accepted(*status))

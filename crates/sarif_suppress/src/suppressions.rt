@@ -4,10 +4,11 @@ ghost use Rattle.serde_json.specs.View.{view};
 ghost use Rattle.sarif_model.specs.declared.record.Record.{Record};
 ghost use Rattle.sarif_suppress.specs.Marks.{marks_of};
 ghost use Rattle.sarif_suppress.specs.Written as said;
-ghost use Rattle.sarif_suppress.specs.Suppressing.{matching_numbers, is_suppressed, unused_of};
+ghost use Rattle.sarif_suppress.specs.Suppressing.{lasting, matching_numbers, is_suppressed, unused_of};
 ghost use Rattle.sarif_model.specs.Limits.{most_entries};
 
 use crate::entry::Entry;
+use crate::lasting::do_suppress_for_good;
 use crate::marks::Marks;
 use crate::object::{object_of, with_objects};
 use crate::prefixes::PrefixTable;
@@ -93,6 +94,20 @@ impl<S: BuildHasher + Copy> Suppressions<S> {
         self.entries.len() as u32
     }
 
+    /// The entries, in file order.
+    pub fn entries(&self) -> &[Entry]
+        ensures { result.now ≡ self.now.entries }
+    {
+        &self.entries
+    }
+
+    /// The date for which the file was read, if one is known.
+    pub fn today(&self) -> Option<u32>
+        ensures { result ≡ self.now.today }
+    {
+        self.today
+    }
+
     /// Whether the file has no entries.
     pub fn is_empty(&self) -> bool
         ensures { result ≡ (length self.now.entries == 0) }
@@ -116,6 +131,16 @@ impl<S: BuildHasher + Copy> Suppressions<S> {
             entries,
             suppressed,
         })
+    }
+
+    /// Returns whether a result to which the file was applied is suppressed by its own suppressions and those of the
+    /// matching entries without an expiry date. Does not allocate.
+    pub fn suppresses_for_good(&self, found: &Record, applied: &Applied) -> bool
+        requires { applied.now.entries ≡ matching_numbers self.now found.now }
+        ensures { result ≡ is_suppressed (lasting self.now) found.now }
+    {
+        let numbers = applied.entries.as_slice();
+        do_suppress_for_good(found.held.as_slice(), &self.entries, numbers)
     }
 
     /// Returns how many entries match none of the results. Does not allocate.

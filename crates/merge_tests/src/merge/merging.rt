@@ -1,6 +1,6 @@
 //! Merging texts. A list of runs is written `lint: A M; b: `: each run is a tool and its results, each by its name
 //! or by its own JSON without spaces.
-use sarif_counts::{Options, Policy, Verdict};
+use sarif_counts::{Checks, Options, Policy, Verdict};
 use sarif_gather::{Gate, NoGate};
 use sarif_log::Merged;
 use sarif_merge::{merge_bytes, merge_to};
@@ -20,6 +20,7 @@ fn result_named(name: &str) -> Option<&'static str> {
     match name {
         "M" => Some(r#"{"message":{"text":"m"}}"#),
         "A" => Some(r#"{"message":{"text":"m"},"ruleId":"R1"}"#),
+        "E" => Some(r#"{"level":"error","message":{"text":"m"},"ruleId":"R1"}"#),
         "A_NEW" => Some(concat!(
             r#"{"baselineState":"new","level":"warning","message":{"text":"m"},"#,
             r#""ruleId":"R1","suppressions":[]}"#
@@ -100,13 +101,14 @@ pub fn log_of(alloc: Global, runs: &str) -> Result<String, Fail> {
 pub struct Given {
     sources: SourceBytes,
     pub policy: Policy,
+    pub checks: Checks,
     pub today: Option<u32>,
     pub workers: u32,
     pub bytes: Bytes,
 }
 
 impl Given {
-    /// Nothing, to one worker, on a system whose random bytes are 0; the policy is the default.
+    /// Nothing, to one worker, on a system whose random bytes are 0; policy and checks are the default ones.
     pub fn new(alloc: Global) -> Given {
         Given {
             sources: SourceBytes {
@@ -115,6 +117,7 @@ impl Given {
                 suppressions: None,
             },
             policy: Policy::default(),
+            checks: Checks::default(),
             today: None,
             workers: 1,
             bytes: ZEROS,
@@ -193,6 +196,7 @@ pub fn merge_watched<G: Gate + Sync, R: Abort + AllocGlobal + Threads + Wait + S
     assert!(rt; 1 <= workers && workers <= 64);
     let options = Options {
         policy: given.policy,
+        checks: given.checks,
         today: given.today,
         workers,
         seed: seed_of(given.bytes)?,
@@ -216,6 +220,7 @@ pub fn write_watched<G: Gate + Sync, R: Abort + AllocGlobal + Threads + Wait + S
     };
     let options = Options {
         policy: Policy::default(),
+        checks: Checks::default(),
         today: None,
         workers,
         seed: seed_of(ZEROS)?,

@@ -4,7 +4,7 @@ use crate::merge::merging::{
     Given, NOTHING, Wanted, ZEROS, expect_log, expect_part, expect_runs, log_of, log_with, merge,
     one_log, seed_of,
 };
-use sarif_counts::{Options, Policy, Verdict};
+use sarif_counts::{Checks, Options, Policy, Verdict};
 use sarif_gather::NoGate;
 use sarif_log::Asked;
 use sarif_merge::merge_readers;
@@ -36,6 +36,7 @@ fn a_log_that_a_reader_gives(rt: HostRuntime) -> Result<(), Fail> {
     };
     let options = Options {
         policy: Policy::default(),
+        checks: Checks::default(),
         today: None,
         workers: 1,
         seed: seed_of(ZEROS)?,
@@ -43,15 +44,9 @@ fn a_log_that_a_reader_gives(rt: HostRuntime) -> Result<(), Fail> {
     let asked = Asked {
         options: &options,
         reporting: None,
+        upkeep: None,
     };
-    let (merged, ()) = merge_readers(
-        &rt,
-        rt.alloc(),
-        &mut readers,
-        &asked,
-        &NoGate,
-        |_, _| Ok(()),
-    )?;
+    let (merged, ()) = merge_readers(&rt, rt.alloc(), &mut readers, &asked, &NoGate, |_| Ok(()))?;
     assert_eq!(rt; merged.log.as_str(), MERGED);
     assert_eq!(rt; merged.verdict, Verdict::Pass);
     Ok(())

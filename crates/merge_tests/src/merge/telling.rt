@@ -1,11 +1,11 @@
 //! The findings of a merge.
 use crate::merge::merging::{ZEROS, seed_of};
-use sarif_counts::{Options, Policy, States};
+use sarif_counts::{Checks, Options, Policy, States};
 use sarif_findings::{Finding, Reporting};
 use sarif_gather::NoGate;
 use sarif_log::Asked;
 use sarif_merge::merge_readers;
-use sarif_model::{Level, MergeFault, Text};
+use sarif_model::{Level, MergeFault, Sequence, Text};
 use sarif_reports::text_report;
 use sarif_streams::{Counted, Readers};
 use std::alloc::{AllocError, AllocGlobal, Global};
@@ -52,7 +52,11 @@ fn strict() -> Policy {
 /// A merge with these options, with findings for this.
 fn asked_by<'o>(options: &'o Options, made: &'o Option<Reporting>) -> Asked<'o> {
     let reporting = made.as_ref();
-    Asked { options, reporting }
+    Asked {
+        options,
+        reporting,
+        upkeep: None,
+    }
 }
 
 /// The findings of a log with this baseline.
@@ -71,16 +75,19 @@ fn told_of<'s, R: Abort + AllocGlobal + Threads + Wait + Sync>(
     };
     let options = Options {
         policy: strict(),
+        checks: Checks::default(),
         today: None,
         workers,
         seed: seed_of(ZEROS)?,
     };
+    let mut roots = Sequence::new(alloc);
+    roots.push(Text::copy_of(alloc, "file:///b/")?)?;
     let reporting = Some(Reporting {
         policy: strict(),
-        root: Text::copy_of(alloc, "file:///b/")?,
+        roots,
     });
     let asked = asked_by(&options, &reporting);
-    let (merged, ()) = merge_readers(rt, alloc, &mut readers, &asked, &NoGate, |_, _| Ok(()))?;
+    let (merged, ()) = merge_readers(rt, alloc, &mut readers, &asked, &NoGate, |_| Ok(()))?;
     Ok(merged.findings)
 }
 

@@ -40,7 +40,7 @@ fn results_are_made_one_at_a_time(rt: HostRuntime) -> Result<(), Fail> {
     let alloc = rt.alloc();
     let mut scratch = Scratch::new(alloc);
     let index = index_text(alloc, LOG.as_bytes(), &mut scratch)?;
-    let runs = index_log(alloc, &index)?;
+    let runs = index_log(alloc, &index, false)?;
     let texts = texts_of(alloc, &runs)?;
     assert_eq!(rt;
         texts.as_str(),
@@ -49,6 +49,30 @@ fn results_are_made_one_at_a_time(rt: HostRuntime) -> Result<(), Fail> {
             {\"columns\":[{\"width\":3}],\"tool\":{\"driver\":{\"name\":\"b\"}}} hasn't \n\
             {\"tool\":{\"driver\":{\"name\":\"c\"}}} hasn't \n"
     );
+    Ok(())
+}
+
+/// Three runs that failed: by the word of an invocation, without results, and with results that are left out. And one
+/// whose invocations say nothing of it.
+const FAILED: &str = r#"{"version":"2.1.0","runs":[
+    {"tool":{"driver":{"name":"a"}},"results":[],
+        "invocations":[{"executionSuccessful":true},{"executionSuccessful":false}]},
+    {"tool":{"driver":{"name":"b"}}},
+    {"tool":{"driver":{"name":"c"}},"results":[1.5]},
+    {"tool":{"driver":{"name":"d"}},"results":[],"invocations":[{},{"executionSuccessful":null}]}
+    ]}"#;
+
+#[test]
+fn a_run_failed_by_its_own_word_or_without_results(rt: HostRuntime) -> Result<(), Fail> {
+    let alloc = rt.alloc();
+    let mut scratch = Scratch::new(alloc);
+    let index = index_text(alloc, FAILED.as_bytes(), &mut scratch)?;
+    let runs = index_log(alloc, &index, false)?;
+    let wanted = [true, true, true, false];
+    assert_eq!(rt; runs.len(), wanted.len());
+    for (run, failed) in runs.iter().zip(wanted.iter()) {
+        assert_eq!(rt; run.has_failed(), *failed);
+    }
     Ok(())
 }
 
@@ -62,7 +86,7 @@ fn a_run_is_kept_without_its_results(rt: HostRuntime) -> Result<(), Fail> {
     let alloc = rt.alloc();
     let mut scratch = Scratch::new(alloc);
     let index = index_text(alloc, LOG.as_bytes(), &mut scratch)?;
-    for run in index_log(alloc, &index)? {
+    for run in index_log(alloc, &index, false)? {
         assert!(rt; is_bare(run));
     }
     Ok(())
@@ -71,7 +95,7 @@ fn a_run_is_kept_without_its_results(rt: HostRuntime) -> Result<(), Fail> {
 #[test]
 fn a_log_is_read_with_all_its_results(rt: HostRuntime) -> Result<(), Fail> {
     let alloc = rt.alloc();
-    let log = read_log(alloc, LOG.as_bytes())?;
+    let log = read_log(alloc, LOG.as_bytes(), false)?;
     let mut texts = String::new(alloc);
     for run in log.runs() {
         texts.push_str(run.value().to_string(alloc)?.as_str())?;

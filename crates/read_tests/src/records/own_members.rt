@@ -12,7 +12,7 @@ fn read(alloc: Global, text: &str) -> Result<Result<Parts, Refusal<Fault>>, Fail
         "{{\"tool\":{{\"driver\":{{\"name\":\"lint\"}}}},\"results\":[{text}]}}"
     )?;
     let log = format!(in alloc; "{{\"version\":\"2.1.0\",\"runs\":[{run}]}}")?;
-    let log = read_log(alloc, log.as_bytes())?;
+    let log = read_log(alloc, log.as_bytes(), false)?;
     match log.runs() {
         [run] if run.len() == 1 => Ok(read_parts(alloc, run, 0)),
         _ => Err(Fail::new("one result is wanted")),

@@ -110,7 +110,7 @@ fn a_run_stands_in_one_log_and_within_the_limits(rt: HostRuntime) -> Result<(), 
   where: /runs/0/externalPropertyFileReferences
   found: {"results":[]}
   wanted: an empty object, or no such member
-  advice: if you don't need what is in the other file, drop the reference: jq 'del(.runs[].externalPropertyFileReferences)' LOG > NEW_LOG
+  advice: if the other files hold no results, artifacts, invocations, driver or extensions, pass --allow-external-properties; otherwise drop the references, if you don't need what is in those files: jq 'del(.runs[].externalPropertyFileReferences)' LOG > NEW_LOG
 "#,
         ),
         (
@@ -263,6 +263,39 @@ fn indexes_of_overrides_are_within_their_tables(rt: HostRuntime) -> Result<(), F
         ),
     ] {
         check_run(&rt, rt.alloc(), Cause::Of(Fault::BadIndex), run, wanted)?;
+    }
+    Ok(())
+}
+
+#[test]
+fn a_run_is_successful_and_has_results(rt: HostRuntime) -> Result<(), Fail> {
+    for (run, wanted) in [
+        (
+            r#"{"tool":{"driver":{"name":"t"}},"invocations":[{"executionSuccessful":true},{"executionSuccessful":false}]}"#,
+            r#"  file: found.sarif
+  where: /runs/0/invocations/1/executionSuccessful
+  found: false
+  wanted: a run with results whose analysis was successful
+  advice: run the analysis again, or read the analyser's own output to see what failed
+"#,
+        ),
+        (
+            r#"{"tool":{"driver":{"name":"t"}},"invocations":[{"executionSuccessful":null}]}"#,
+            r#"  file: found.sarif
+  where: /runs/0
+  found: {"invocations":[{"executionSuccessful":null}],"tool":{"driver":{"name":"t"}}}
+  wanted: a run with results whose analysis was successful
+  advice: run the analysis again, or read the analyser's own output to see what failed
+"#,
+        ),
+    ] {
+        check_run(
+            &rt,
+            rt.alloc(),
+            Cause::Of(Fault::NotSuccessful),
+            run,
+            wanted,
+        )?;
     }
     Ok(())
 }

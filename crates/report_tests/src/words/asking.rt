@@ -1,7 +1,7 @@
 //! Which arguments ask for what.
 
 use crate::words::seed;
-use sarif_counts::{Options, States};
+use sarif_counts::{Checks, Options, States};
 use sarif_model::{Level, Text};
 use sarif_reports::Report;
 use sarif_request::{Request, WordsFault, read_words};
@@ -10,7 +10,10 @@ use std::process::Abort;
 use std::test::Fail;
 
 /// Reads words that are parted by one blank.
-fn read(rt: &HostRuntime, line: &str) -> Result<Result<Request, WordsFault>, AllocError> {
+pub(super) fn read(
+    rt: &HostRuntime,
+    line: &str,
+) -> Result<Result<Request, WordsFault>, AllocError> {
     let mut words = Vec::new(rt.alloc());
     for word in line.split(' ') {
         words.push(String::from_str(rt.alloc(), word)?)?;
@@ -19,7 +22,7 @@ fn read(rt: &HostRuntime, line: &str) -> Result<Result<Request, WordsFault>, All
 }
 
 /// The request of the arguments; a rejection fails the test.
-fn accepted(rt: &HostRuntime, line: &str) -> Result<Request, Fail> {
+pub(super) fn accepted(rt: &HostRuntime, line: &str) -> Result<Request, Fail> {
     let read = read(rt, line)?;
     Ok(read.map_err(|_| "refused")?)
 }
@@ -49,7 +52,7 @@ fn check_default_files(rt: &impl Abort, request: &Request) -> Result<(), Fail> {
     assert!(rt; request.suppress.is_none());
     assert!(rt; request.out.as_str() == "o");
     assert!(rt; request.reports.is_empty());
-    assert!(rt; request.root.as_str() == "");
+    assert!(rt; request.roots.is_empty());
     assert!(rt; !request.explain);
     Ok(())
 }
@@ -102,18 +105,20 @@ fn check_options(rt: &impl Abort, options: &Options) -> Result<(), Fail> {
 #[test]
 fn each_word_on_reports_is_read(rt: HostRuntime) -> Result<(), Fail> {
     let line = "a --html h --text t --github=g --markdown m --root file:///builds/app/ --gitlab - \
-        --explain --out o";
+        --root= --explain --azure z --junit j --out o";
     let request = accepted(&rt, line)?;
     check_reports(&rt, &request)
 }
 
 /// Each report with the name of its file, in the order in which reports are written.
-const NAMED: [(Report, &str); 5] = [
+const NAMED: [(Report, &str); 7] = [
     (Report::Text, "t"),
     (Report::Github, "g"),
     (Report::Markdown, "m"),
     (Report::Gitlab, "-"),
     (Report::Html, "h"),
+    (Report::Junit, "j"),
+    (Report::Azure, "z"),
 ];
 
 fn check_reports(rt: &impl Abort, request: &Request) -> Result<(), Fail> {
@@ -122,7 +127,7 @@ fn check_reports(rt: &impl Abort, request: &Request) -> Result<(), Fail> {
         assert_eq!(rt; wanted.report, *report);
         assert_eq!(rt; wanted.to.as_str(), *name);
     }
-    assert!(rt; request.root.as_str() == "file:///builds/app/");
+    assert!(rt; are_named(&request.roots, &["file:///builds/app/", ""]));
     assert!(rt; request.explain);
     Ok(())
 }
@@ -133,6 +138,33 @@ fn is_named(found: &Option<Text>, name: &str) -> bool {
         Some(found) => found.as_str() == name,
         None => false,
     }
+}
+
+#[test]
+fn what_is_required_of_runs_is_read(rt: HostRuntime) -> Result<(), Fail> {
+    for (line, require_success, allow_external) in [
+        ("a --out o", false, false),
+        ("a --out o --require-success", true, false),
+        ("--allow-external-properties a --out o", false, true),
+        (
+            "a --allow-external-properties --out o --require-success",
+            true,
+            true,
+        ),
+    ] {
+        let request = accepted(&rt, line)?;
+        let wanted = Checks {
+            require_success,
+            allow_external,
+        };
+        check_checks(&rt, request.options.checks, wanted)?;
+    }
+    Ok(())
+}
+
+fn check_checks(rt: &impl Abort, checks: Checks, wanted: Checks) -> Result<(), Fail> {
+    assert_eq!(rt; checks, wanted);
+    Ok(())
 }
 
 #[test]
@@ -232,8 +264,9 @@ fn wrong_words_are_usage(rt: HostRuntime) -> Result<(), Fail> {
         "a --out o --markdown m --markdown n",
         "a --out o --gitlab g --gitlab h",
         "a --out o --html h --html i",
-        "a --out o --root r --root s",
         "a --out o --explain --explain",
+        "a --out o --require-success --require-success",
+        "a --out o --allow-external-properties=true",
         "a --out o --explain=true",
         "a --out o --text",
         "a --out o --states=",
@@ -422,6 +455,7 @@ fn check_groups(rt: &impl Abort, help: &str) -> Result<(), Fail> {
         ("\n\nInputs:\n  ", "<LOG>..."),
         ("\n\nGate:\n      ", "--fail-on <LEVEL>"),
         ("\n\nOutputs:\n      ", "--out <FILE>"),
+        ("\n\nUpkeep:\n      ", "--accept"),
         ("\n\nOther:\n      ", "--workers <NUMBER>"),
     ] {
         match help.split_once(group) {

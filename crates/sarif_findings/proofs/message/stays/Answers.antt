@@ -1,6 +1,6 @@
 use Rattle.std.proofs.Common.{rules, ◌≡◌}
 use Rattle.std.specs.List.{list_all}
-use Rattle.sarif_findings.specs.Message.{is_unbraced}
+use Rattle.sarif_findings.specs.Placeholders.{is_unbraced}
 use Rattle.sarif_findings.proofs.MessageWhole.{stays_if}
 use Rattle.sarif_findings.proofs.message.stays.Goals as goal
 

@@ -8,5 +8,5 @@ abbrev pub invariant-loop-run : goal.invariant-loop-run
 invariant-loop-run l = record {
   parts : l.fn.runs.items ≡ l.yielded ++ l.run-iterator.rest.items;
   number : l.number ≡ length l.yielded;
-  placed : map placed_read l.all.items ≡ map placed_read l.fn.all.items ++ placed_from l.source 0 (map run_of l.yielded);
+  placed : map placed_read l.all.items ≡ map placed_read l.fn.all.items ++ placed_from l.checks l.source 0 (map run_of l.yielded);
 }

@@ -1,4 +1,5 @@
 use Rattle.std.proofs.Common.{length, sym, ap, ◌∙◌, subst, arith}
+use Rattle.std.proofs.lemmas.Result.{err_from_is_err_and}
 use Rattle.std.specs.List.{flat_map}
 use Rattle.sarif_model.specs.Run.{results_of}
 use Rattle.sarif_runs.specs.Judging.{records_of, run_values}
@@ -12,15 +13,15 @@ use Rattle.sarif_log.proofs.preparing.prepare_sides.Goals as goal
 
 pub left_side-requires-clause-taken : goal.left_side-requires-clause-taken
 left_side-requires-clause-taken g c =
-    ap length (c.deref.ensures.value ∙ c.in_ok-paired.ensures.taken) ∙ taken_long c.args.current.records.items c.args.baselines.records.items
+    ap length (c.deref.ensures.value ∙ c.in_ok-paired.ensures.paired.taken) ∙ taken_long c.args.current.records.items c.args.baselines.records.items
 
 pub invariant_of-result : goal.invariant_of-result
 invariant_of-result g c =
-    let h = c.requires.2 in
-    let file = c.args.file.now in
-    let now = c.requires.0 in
-    let before = c.requires.1 in
-    let q = c.in_ok-paired.ensures in
+    let h = c.requires.together.2 in
+    let file = c.args.rules.now.file.now in
+    let now = c.requires.together.0 in
+    let before = c.requires.together.1 in
+    let q = c.in_ok-paired.ensures.paired in
     let s = c.in_ok-side.field-0.side in
     let t = c.in_ok-unmatched.unmatched.side in
     let taken = c.deref.result.now in
@@ -39,10 +40,10 @@ invariant_of-result g c =
       few = omega (arith, many, drafts, fewer, h.few_current, h.few_baseline);
     }
 
-pub returns : goal.returns
-returns g c = λ now before h.
-    let file = c.args.file.now in
-    let q = c.in_ok-paired.ensures in
+pub returns-clause-prepared : goal.returns-clause-prepared
+returns-clause-prepared g c = λ now before h.
+    let file = c.args.rules.now.file.now in
+    let q = c.in_ok-paired.ensures.paired in
     let s = c.in_ok-side.field-0.side in
     let t = c.in_ok-unmatched.unmatched.side in
     let parts = subst (λ ps. ArePartsOf own_count s.runs.items (run_values ps)) h.is_current.opened c.in_ok-side.ensures.parts in
@@ -57,5 +58,13 @@ returns g c = λ now before h.
       without = without_results s.runs.items (run_values now) c.in_ok-side.field-0.without parts c.in_ok-side.ensures.without;
       unused =
           c.in_ok-side.ensures.unused (records_of now) (flat_map results_of (run_values now)) (h.current_records ∙ sym (results_long (run_values now))) h.is_current.drafts;
-      told = c.in_ok-findings.ensures file now before h;
+      told = c.in_ok-paired.ensures.findings file now before h;
     }
+
+pub returns-clause-kept : goal.returns-clause-kept
+returns-clause-kept g c = λ now before h. c.in_ok-paired.ensures.kept now before h
+
+pub returns-in_err-paired-clause-unkept : goal.returns-in_err-paired-clause-unkept
+returns-in_err-paired-clause-unkept g c = λ now before h.
+    let p = err_from_is_err_and c.from_residual.result c.from_residual.ensures.1 in
+    rw (p.1, p.2) (c.in_err-paired.ensures.unkept now before h)

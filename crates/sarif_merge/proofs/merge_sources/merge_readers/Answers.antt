@@ -1,4 +1,4 @@
-use Rattle.std.proofs.Common.{◌≡◌, Err, arith, inr, refl, rules}
+use Rattle.std.proofs.Common.{◌≡◌, Err, arith, inl, inr, refl, rules}
 use Rattle.std.proofs.lemmas.Result.{err_from_is_err_and}
 use Rattle.sarif_streams.specs.WereRead.{contents_of}
 use Rattle.sarif_merge.specs.FromReaders.{AreFew}
@@ -16,4 +16,11 @@ returns-in_err-made-clause-refused g c =
     let p = err_from_is_err_and c.from_residual-in_err-made.result c.from_residual-in_err-made.ensures.1 in
     let is : c.from_residual-in_err-made.result ≡ Err fault = rw (p.1, p.2) refl in
     let few : AreFew c.args.readers.now = (search rules, search rules) in
-    rw is (inr (few, inr (contents_of c.in_ok-sources.sources, c.in_ok-sources.ensures.read, c.in_err-made.ensures.refused)))
+    let contents = contents_of c.in_ok-sources.sources in
+    rw is (elim c.in_err-made.ensures.refused [
+      | inl same ↦ inl (inr (few, inr (contents, c.in_ok-sources.ensures.read, same)))
+      | inr large ↦ inr (few, (contents, c.in_ok-sources.ensures.read, large.0, large.1))
+    ])
+
+pub returns-clause-merged : goal.returns-clause-merged
+returns-clause-merged g c = (contents_of c.in_ok-sources.sources, c.in_ok-sources.ensures.read, c.in_ok-made.ensures.merged, c.in_ok-made.ensures.life)

@@ -1,8 +1,16 @@
-use Rattle.std.proofs.Common.{◌≡◌, Ok, arith, refl, rules, subst}
+use Rattle.std.proofs.Common.{◌≡◌, ◌∙◌, List, ℕ, Ok, ap, arith, refl, rules, subst}
 use Rattle.std.proofs.lemmas.Result.{IfErr-weaker, IfOk-weaker, err_from_is_err_and}
-use Rattle.sarif_log.specs.Beside.{IsMadeBy}
+use Rattle.sarif_counts.specs.declared.counts.Counts.{Counts}
+use Rattle.sarif_counts.specs.Counts.{count_at}
+use Rattle.sarif_counts.specs.declared.life.Life.{Life}
+use Rattle.sarif_counts.specs.Summary.{summary_of}
+use Rattle.sarif_log.specs.declared.facts.Facts.{Facts as MergeFacts}
+use Rattle.sarif_reports.specs.Facts.{Facts}
+use Rattle.sarif_reports.specs.Report.{report_of}
 use Rattle.sarif_streams.proofs.ReadersRead.{none_has_fallen}
+use Rattle.sarif_program.specs.Notes.{lines_of}
 use Rattle.sarif_program.specs.Reports.{report_for, report_with, texts_for}
+use Rattle.sarif_program.proofs.SameFacts.{same_facts}
 use Rattle.sarif_program.proofs.run.merge_for.Goals as goal
 
 pub returns-in_err-made-clause-risen : goal.returns-in_err-made-clause-risen
@@ -10,14 +18,31 @@ returns-in_err-made-clause-risen g c =
     let all = c.args.readers.now in
     record { logs = none_has_fallen all.logs.items; baselines = none_has_fallen all.baselines.items; suppressions = omega arith }
 
+pub returns-clause-summary : goal.returns-clause-summary
+returns-clause-summary g c =
+    let policy = c.args.request.now.options.policy in
+    IfOk-weaker c.merge_told.result _ (λ all. all.1.summary ≡ summary_of (count_at all.0.counts) policy)
+    (λ all told.
+    subst (λ (counts : Counts). all.1.summary ≡ summary_of (count_at counts) policy) told.2.counts
+    (subst (λ (facts : MergeFacts). all.1.summary ≡ summary_of (count_at facts.counts.now) policy) {x = told.1.0.now} {y = told.0} told.1.2 (search rules)))
+    c.merge_told.ensures.told
+
+pub returns-clause-lines : goal.returns-clause-lines
+returns-clause-lines g c =
+    IfOk-weaker c.merge_told.result _ (λ all. all.1.lines ≡ lines_of all.0.life)
+    (λ all told.
+    subst (λ (life : Life). all.1.lines ≡ lines_of life) told.2.life
+    (subst (λ (facts : MergeFacts). all.1.lines ≡ lines_of facts.life.now) {x = told.1.0.now} {y = told.0} told.1.2 (search rules)))
+    c.merge_told.ensures.told
+
 pub returns-clause-reports : goal.returns-clause-reports
 returns-clause-reports g c =
     let request = c.args.request.now in
     let writers = c.args.writers.now in
     IfOk-weaker c.merge_told.result _ (λ all. all.1.reports.items ≡ texts_for writers (report_for request all.0))
     (λ all told.
-    subst (λ findings. all.1.reports.items ≡ texts_for writers (report_with request all.0.counts findings)) {x = told.1.now} {y = all.0.findings} told.4
-    (subst (λ counts. all.1.reports.items ≡ texts_for writers (report_with request counts told.1.now)) {x = told.0.now} {y = all.0.counts} told.3 (search rules)))
+    subst (λ (facts : Facts). all.1.reports.items ≡ texts_for writers (λ one. report_of one facts)) (same_facts request all.0 told.0 told.2)
+    (subst (λ (facts : MergeFacts). all.1.reports.items ≡ texts_for writers (report_with request facts)) {x = told.1.0.now} {y = told.0} told.1.2 (search rules)))
     c.merge_told.ensures.told
 
 pub returns-in_err-made-clause-refused : goal.returns-in_err-made-clause-refused

@@ -1,17 +1,21 @@
-use Rattle.std.proofs.Common.{◌≡◌, inl, inr, ℕ, List, ap, arith, nat_eq, subst, sym, ◌∙◌, ◌+◌}
+use Rattle.std.proofs.Common.{◌≡◌, inl, inr, ℕ, List, Some, ap, arith, nat_eq, subst, sym, ◌∙◌, ◌+◌}
 use Rattle.std.specs.Io.KnownBytes.{Appends}
+use Rattle.std.specs.Prelude.{option_map}
+use Rattle.sarif_counts.specs.declared.life.Life.{Life}
 use Rattle.sarif_inputs.specs.Faults.{faults_of}
 use Rattle.sarif_merge.specs.Given.{given_by}
 use Rattle.sarif_streams.proofs.ReadersRead.{were_read_quiet}
-use Rattle.sarif_merge.specs.FromReaders.{IsMergedFrom}
+use Rattle.sarif_merge.specs.FromReaders.{IsMergedWith}
 use Rattle.sarif_request.specs.declared.wanted.Wanted.{Wanted}
 use Rattle.sarif_streams.specs.declared.counted.Counted.{Counted}
 use Rattle.sarif_streams.specs.Counted.{inner_of, RisesIf}
 use Rattle.sarif_streams.specs.WereRead.{failures}
+use Rattle.sarif_program.specs.Notes.{AreNoted}
 use Rattle.sarif_program.specs.Reports.{report_for, reporting_for, texts_for}
 use Rattle.sarif_program.specs.Writing.{writer_failures}
 use Rattle.sarif_program.proofs.Quiet.{low_status, quiet_status, no_rise, refused_rise}
 use Rattle.sarif_program.proofs.Rising.{exactly, no_writer_has_fallen}
+use Rattle.sarif_program.proofs.SameFacts.{no_lines}
 use Rattle.sarif_program.proofs.run.run_request.Goals as goal
 
 pub returns-in-Ok-clause-accepted : goal.returns-in-Ok-clause-accepted
@@ -23,14 +27,19 @@ returns-in-Ok-clause-accepted g c = λ low.
     let same = c.as_slice.ensures.value in (
       merged,
       c.accept.ensures.status low,
-      subst (λ (writers : List (Wanted (Counted g.row.P.Denot))). IsMergedFrom g.R.Read.remaining c.args.readers.now c.merge_for.new.readers
-          request.options.today request.options.policy (reporting_for request writers) merged) same c.in-Ok.ensures.merged,
+      subst (λ (writers : List (Wanted (Counted g.row.P.Denot))). IsMergedWith g.R.Read.remaining c.args.readers.now c.merge_for.new.readers
+          request.options.today request.options.checks request.options.policy (reporting_for request writers) (Some request.upkeep) merged) same c.in-Ok.ensures.merged,
       c.accept.ensures.written low,
       c.accept.ensures.reported low (report_for request merged)
           (subst (λ (writers : List (Wanted (Counted g.row.P.Denot))). c.in-Ok.texts.reports.items ≡ texts_for writers (report_for request merged)) same c.in-Ok.ensures.reports),
       subst (λ (text : List ℕ). Appends (g.S.Write.contents (inner_of old.say)) (g.S.Write.contents (inner_of new.say)) text)
           c.in-Ok.ensures.summary (c.accept.ensures.said low),
+      subst (λ (lines : List ℕ). AreNoted g.E.Write.contents lines c.args.complaints.now c.accept.new.complaints)
+          c.in-Ok.ensures.lines (c.accept.ensures.noted low),
     )
+
+pub returns-in-Err-clause-accepted : goal.returns-in-Err-clause-accepted
+returns-in-Err-clause-accepted g c = λ low. absurd (low_status c.in-Err.fault.cause c.refuse.result c.refuse.ensures.status low)
 
 pub returns-in-Ok-clause-exactly : goal.returns-in-Ok-clause-exactly
 returns-in-Ok-clause-exactly g c =
@@ -48,7 +57,7 @@ pub returns-in-Ok-clause-faulty : goal.returns-in-Ok-clause-faulty
 returns-in-Ok-clause-faulty g c = λ contents tell read faulty.
     let from = c.in-Ok.ensures.merged in
     let same = c.sources_are_read_in_one_way.ensures _ _ contents from.0 tell read from.1 in
-    absurd (faulty (ap (λ x. faults_of (given_by x c.args.request.now.options.today)) same ∙ from.2.faultless))
+    absurd (faulty (ap (λ x. faults_of (given_by x c.args.request.now.options.today c.args.request.now.options.checks)) same ∙ from.2.faultless))
 
 pub returns-in-Err-clause-faulty : goal.returns-in-Err-clause-faulty
 returns-in-Err-clause-faulty g c = λ contents tell read faulty.
@@ -92,8 +101,21 @@ returns-in-Err-clause-rejected g c = λ which. (
   },
 )
 
+pub returns-in-Ok-clause-quiet : goal.returns-in-Ok-clause-quiet
+returns-in-Ok-clause-quiet g c = λ low. (c.accept.ensures.noted low).last
+
+pub returns-in-Ok-clause-silent : goal.returns-in-Ok-clause-silent
+returns-in-Ok-clause-silent g c = λ low unrenewed unknown.
+    let is = c.in-Ok.ensures.merged.3.is in
+    let none = no_lines c.in-Ok.merged.life (ap (λ (life : Life). life.suppressions) is ∙ ap (option_map _) unrenewed)
+    (ap (λ (life : Life). life.known) is ∙ ap (option_map _) unknown) in
+    (c.accept.ensures.noted low).none (c.in-Ok.ensures.lines ∙ none)
+
 pub returns-in-Err-clause-quiet : goal.returns-in-Err-clause-quiet
 returns-in-Err-clause-quiet g c = λ low. absurd (low_status c.in-Err.fault.cause c.refuse.result c.refuse.ensures.status low)
+
+pub returns-in-Err-clause-silent : goal.returns-in-Err-clause-silent
+returns-in-Err-clause-silent g c = λ low. absurd (low_status c.in-Err.fault.cause c.refuse.result c.refuse.ensures.status low)
 
 pub returns-in-Err-clause-risen : goal.returns-in-Err-clause-risen
 returns-in-Err-clause-risen g c = (c.in-Err.ensures.risen, no_writer_has_fallen c.args.writers.now)

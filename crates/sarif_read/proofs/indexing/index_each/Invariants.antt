@@ -13,5 +13,5 @@ invariant-loop-node l = record {
   sum : l.before ≡ results_total (map run_of l.runs.items);
   runs : map run_of l.runs.items ≡ map value_at (take l.node-index l.nodes);
   ordered : AreOrdered (drop l.node-index l.nodes);
-  told : check_each l.number l.before (map value_at (drop l.node-index l.nodes)) ≡ check_each 0 0 (map value_at l.nodes);
+  told : check_each l.allow_external l.number l.before (map value_at (drop l.node-index l.nodes)) ≡ check_each l.allow_external 0 0 (map value_at l.nodes);
 }

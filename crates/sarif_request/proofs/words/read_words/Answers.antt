@@ -1,11 +1,12 @@
-use Rattle.std.proofs.Common.{◌≡◌, ◌∙◌, ap, sym, subst, rules, true, None, map, string_bytes}
-use Rattle.clap.specs.Words.{App, app_of, fault_of, found_of, is_simple_and_free, HasKind, kind_of, rows_of}
+use Rattle.std.proofs.Common.{◌≡◌, ◌∙◌, List, ap, sym, subst, rules, true, None, Some, map, string_bytes}
+use Rattle.clap.specs.Words.{App, app_of, fault_of, found_of, is_simple_and_free, HasKind, Row, kind_of, rows_of}
 use Rattle.sarif_request.specs.Command.{program}
 use Rattle.sarif_request.specs.Names.{clash_of, names_of}
-use Rattle.sarif_request.specs.Words.{states_in}
+use Rattle.sarif_request.specs.Together.{misfit_of}
+use Rattle.sarif_request.specs.Words.{AreGiven, states_in}
 use Rattle.sarif_request.proofs.Asked.{asked, matched}
 use Rattle.sarif_request.proofs.Rows.{program_is_free}
-use Rattle.sarif_request.proofs.Told.{told, clashing, same_names, stateless}
+use Rattle.sarif_request.proofs.Told.{told, clashing, misfitting, same_names, stateless}
 use Rattle.sarif_request.proofs.words.read_words.Goals as goal
 
 pub returns-in_default : goal.returns-in_default
@@ -15,6 +16,17 @@ returns-in_default c =
     let are = matched found.0 (app_of c.in_ok-command.command) words (rows_of (found_of c.in-Ok.matches)) found.2 c.in-Ok.ensures.kinds (λ simple. (c.in-Ok.ensures.matches simple).0) in
     let none : states_in (rows_of (found_of c.in-Ok.matches)) ≡ None = search rules in
     stateless found.0 words c.usage_of.result found.1 (are.0, ap states_in (sym are.1) ∙ none) c.usage_of.ensures
+
+pub returns-in-Some-misfit_of : goal.returns-in-Some-misfit_of
+returns-in-Some-misfit_of c =
+    let found = c.in_ok-command.ensures in
+    let words = map string_bytes c.args.words.now in
+    let are = matched found.0 (app_of c.in_ok-command.command) words (rows_of (found_of c.in-Ok.matches)) found.2 c.in-Ok.ensures.kinds (λ simple. (c.in-Ok.ensures.matches simple).0) in
+    let given = c.given_of.result in
+    let misfit : misfit_of given ≡ Some c.in-Some-misfit_of.misfit = search rules in
+    misfitting found.0 words c.usage_of-in-Some-misfit_of.result found.1
+    (are.0, c.in-Some-misfit_of.misfit, (given, subst (λ (rows : List Row). AreGiven rows given) are.1 c.given_of.ensures, misfit))
+    c.usage_of-in-Some-misfit_of.ensures
 
 pub returns-in-Some-clash_of : goal.returns-in-Some-clash_of
 returns-in-Some-clash_of c =
@@ -33,7 +45,10 @@ returns-in_default-clash_of c =
     let is = asked found.0 (app_of c.in_ok-command.command) (map string_bytes c.args.words.now) _ request found.2
     c.in-Ok.ensures.kinds (λ simple. (c.in-Ok.ensures.matches simple).0) c.in_ok-request-in-Ok.ensures in
     let none : clash_of (names_of request) ≡ None = search rules in
-    (found.0, found.1, is.0, is.1, ap clash_of (sym (same_names _ request is.1)) ∙ none)
+    let are = matched found.0 (app_of c.in_ok-command.command) (map string_bytes c.args.words.now) (rows_of (found_of c.in-Ok.matches)) found.2 c.in-Ok.ensures.kinds (λ simple. (c.in-Ok.ensures.matches simple).0) in
+    let given = c.given_of.result in
+    let fits : misfit_of given ≡ None = search rules in
+    (found.0, found.1, is.0, is.1, (given, subst (λ (rows : List Row). AreGiven rows given) are.1 c.given_of.ensures, fits), ap clash_of (sym (same_names _ request is.1)) ∙ none)
 
 pub returns-in-Err : goal.returns-in-Err
 returns-in-Err c =

@@ -14,9 +14,9 @@ invariant-loop-parsed l =
     record {
       number : l.number + length rest ≡ length l.fn.logs.items;
       counted : IsCounted l.self;
-      within : (left : List (List ℕ)) × AreParsedFrom left rest;
-      whole : (sources : List (List ℕ)) → AreParsedFrom sources l.fn.logs.items → (left : List (List ℕ))
-          × AreParsedFrom left rest
-          × (map placed_read l.self.runs.items ++ placed (numbered name l.number left) ≡ map placed_read l.fn.self.runs.items ++ placed (numbered name 0 sources))
-          × (source_faults (length l.self.runs.items) l.self.results (numbered name l.number left) ≡ source_faults (length l.fn.self.runs.items) l.fn.self.results (numbered name 0 sources));
+      within : (left : List (List ℕ)) × AreParsedFrom l.checks.allow_external left rest;
+      whole : (sources : List (List ℕ)) → AreParsedFrom l.checks.allow_external sources l.fn.logs.items → (left : List (List ℕ))
+          × AreParsedFrom l.checks.allow_external left rest
+          × (map placed_read l.self.runs.items ++ placed (numbered l.checks name l.number left) ≡ map placed_read l.fn.self.runs.items ++ placed (numbered l.checks name 0 sources))
+          × (source_faults (length l.self.runs.items) l.self.results (numbered l.checks name l.number left) ≡ source_faults (length l.fn.self.runs.items) l.fn.self.results (numbered l.checks name 0 sources));
     }

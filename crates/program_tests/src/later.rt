@@ -1,0 +1,270 @@
+//! What is written for later merges, the lines on it, and in which order.
+
+use crate::running::{Given, Narrow, seed};
+use sarif_counts::{Knowing, Renewal};
+use sarif_program::{Complaints, Writers, run_request};
+use sarif_reports::Report;
+use sarif_request::{Request, Wanted};
+use sarif_streams::{Counted, Readers};
+use std::alloc::{AllocError, AllocGlobal, Global};
+use std::cell::RefCell;
+use std::sync::Wait;
+use std::test::Fail;
+use std::thread::Threads;
+
+/// A log of three errors: two of one rule, which differ in their rank, and one of another rule.
+const HITS: &str = concat!(
+    r#"{"version":"2.1.0","runs":[{"tool":{"driver":{"name":"lint"}},"results":["#,
+    r#"{"level":"error","message":{"text":"m"},"ruleId":"R1"},"#,
+    r#"{"level":"error","message":{"text":"m"},"ruleId":"R1","rank":1},"#,
+    r#"{"level":"error","message":{"text":"m"},"ruleId":"R2"}]}]}"#
+);
+
+/// The suppression file that accepts them.
+const ACCEPTED: &str = r#"{
+  "suppressions": [
+    {
+      "message": "m",
+      "ruleId": "R1",
+      "tool": "lint"
+    },
+    {
+      "message": "m",
+      "ruleId": "R2",
+      "tool": "lint"
+    }
+  ],
+  "version": 4
+}
+"#;
+
+const ACCEPTED_LINE: &str = "sarif_gate: 3 accepted, 0 stay, 0 pruned, 2 entries\n";
+
+/// A log of an open note and of a failure without a rule.
+const OPEN: &str = concat!(
+    r#"{"version":"2.1.0","runs":[{"tool":{"driver":{"name":"lint"}},"results":["#,
+    r#"{"kind":"open","level":"note"},{"kind":"fail","ruleId":""}]}]}"#
+);
+
+/// What is known of it, all of it adopted.
+const KNOWN: &str = r#"{
+  "runs": [
+    {
+      "results": [
+        {
+          "kind": "open",
+          "message": {}
+        },
+        {
+          "level": "warning",
+          "message": {}
+        }
+      ],
+      "tool": {
+        "driver": {
+          "name": "lint"
+        }
+      }
+    }
+  ],
+  "version": "2.1.0"
+}
+"#;
+
+const KNOWN_LINE: &str = "sarif_gate: 2 known, 0 left out, 0 kept\n";
+
+/// How many bytes two of the writers of a run take; the others take all.
+#[derive(Clone, Copy)]
+struct Rooms {
+    later: usize,
+    complain: usize,
+}
+
+/// Room for all that is ever written here.
+const AMPLE: Rooms = Rooms {
+    later: 10_000,
+    complain: 10_000,
+};
+
+/// The status of a run, and what its writers took.
+#[derive(Drop)]
+struct Ended {
+    status: u8,
+    out: Vec<u8>,
+    later: Vec<u8>,
+    say: Vec<u8>,
+    complain: Vec<u8>,
+}
+
+/// The request to accept all hits.
+fn accepting(alloc: Global) -> Result<Request, AllocError> {
+    let mut request = Request::of_standard_streams(alloc, seed()?)?;
+    request.upkeep.renewal = Some(Renewal {
+        accept: true,
+        prune: false,
+        reason: None,
+        until: None,
+    });
+    Ok(request)
+}
+
+/// The request to know all results.
+fn adopting(alloc: Global) -> Result<Request, AllocError> {
+    let mut request = Request::of_standard_streams(alloc, seed()?)?;
+    request.upkeep.known = Some(Knowing::Adopted);
+    Ok(request)
+}
+
+/// Runs a request over one log and no other source, with this output beside the merged log. If `is_explained` is set,
+/// error messages are the caller's to write.
+fn run<T: Threads + Wait + Sync + AllocGlobal>(
+    threads: &T,
+    request: &Request,
+    log: &'static str,
+    report: Report,
+    rooms: Rooms,
+    is_explained: bool,
+) -> Result<Ended, AllocError> {
+    let alloc = threads.alloc();
+    let mut readers = Readers {
+        logs: vec![in alloc; Counted::new(Given::whole(log))]?,
+        baselines: Vec::new(alloc),
+        suppressions: None,
+    };
+    let out = RefCell::new(Vec::new(alloc));
+    let later = RefCell::new(Vec::new(alloc));
+    let say = RefCell::new(Vec::new(alloc));
+    let complain = RefCell::new(Vec::new(alloc));
+    let to = Counted::new(Narrow::new(&later, 10_000, rooms.later));
+    let mut writers: Writers<Narrow<'_>, Narrow<'_>, Narrow<'_>> = Writers {
+        out: Counted::new(Narrow::new(&out, 10_000, 10_000)),
+        reports: vec![in alloc; Wanted { report, to }]?,
+        say: Counted::new(Narrow::new(&say, 10_000, 10_000)),
+    };
+    let told = Narrow::new(&complain, 10_000, rooms.complain);
+    let mut complaints = if is_explained {
+        Complaints::explained(told)
+    } else {
+        Complaints::new(told)
+    };
+    let status = run_request(
+        threads,
+        alloc,
+        request,
+        &mut readers,
+        &mut writers,
+        &mut complaints,
+    );
+    drop(writers);
+    drop(complaints);
+    Ok(Ended {
+        status,
+        out: out.into_inner(),
+        later: later.into_inner(),
+        say: say.into_inner(),
+        complain: complain.into_inner(),
+    })
+}
+
+#[test]
+fn accepted_hits_are_written_and_still_fail_this_gate(rt: HostRuntime) -> Result<(), Fail> {
+    let request = accepting(rt.alloc())?;
+    let ended = run(&rt, &request, HITS, Report::Suppressions, AMPLE, false)?;
+    assert_eq!(rt; ended.status, 1);
+    assert_eq!(rt; ended.later.as_slice(), ACCEPTED.as_bytes());
+    assert_eq!(rt; ended.complain.as_slice(), ACCEPTED_LINE.as_bytes());
+    assert!(rt; ended.say.ends_with(b"\ngate: fail, hits 3, max 0\n"));
+    Ok(())
+}
+
+#[test]
+fn what_is_adopted_is_known(rt: HostRuntime) -> Result<(), Fail> {
+    let request = adopting(rt.alloc())?;
+    let ended = run(&rt, &request, OPEN, Report::Known, AMPLE, false)?;
+    assert_eq!(rt; ended.status, 0);
+    assert_eq!(rt; ended.later.as_slice(), KNOWN.as_bytes());
+    assert_eq!(rt; ended.complain.as_slice(), KNOWN_LINE.as_bytes());
+    Ok(())
+}
+
+#[test]
+fn a_lost_new_suppression_file_ends_the_run(rt: HostRuntime) -> Result<(), Fail> {
+    let request = accepting(rt.alloc())?;
+    for room in 0..ACCEPTED.len() {
+        let rooms = Rooms {
+            later: room,
+            ..AMPLE
+        };
+        let ended = run(&rt, &request, HITS, Report::Suppressions, rooms, false)?;
+        assert_eq!(rt; ended.status, 3);
+        assert!(rt; !ended.out.is_empty());
+        assert_eq!(rt; ended.later.len(), room);
+        assert!(rt; ended.say.is_empty());
+        assert_eq!(rt;
+            ended.complain.as_slice(),
+            b"sarif_gate: new suppressions: WriteFailed\n".as_slice()
+        );
+    }
+    Ok(())
+}
+
+#[test]
+fn a_lost_output_is_named(rt: HostRuntime) -> Result<(), Fail> {
+    let request = adopting(rt.alloc())?;
+    let rooms = Rooms { later: 0, ..AMPLE };
+    for (report, line) in [
+        (
+            Report::Known,
+            b"sarif_gate: known log: WriteFailed\n".as_slice(),
+        ),
+        (
+            Report::Text,
+            b"sarif_gate: text report: WriteFailed\n".as_slice(),
+        ),
+        (
+            Report::Html,
+            b"sarif_gate: html report: WriteFailed\n".as_slice(),
+        ),
+    ] {
+        let ended = run(&rt, &request, HITS, report, rooms, false)?;
+        assert_eq!(rt; ended.status, 3);
+        assert!(rt; ended.say.is_empty());
+        assert_eq!(rt; ended.complain.as_slice(), line);
+    }
+    Ok(())
+}
+
+#[test]
+fn a_lost_line_changes_no_status(rt: HostRuntime) -> Result<(), Fail> {
+    let request = accepting(rt.alloc())?;
+    for room in 0..ACCEPTED_LINE.len() {
+        let rooms = Rooms {
+            complain: room,
+            ..AMPLE
+        };
+        let ended = run(&rt, &request, HITS, Report::Suppressions, rooms, false)?;
+        assert_eq!(rt; ended.status, 1);
+        assert_eq!(rt; ended.later.as_slice(), ACCEPTED.as_bytes());
+        assert_eq!(rt; ended.complain.len(), room);
+        assert!(rt;
+            ACCEPTED_LINE
+                .as_bytes()
+                .starts_with(ended.complain.as_slice())
+        );
+        assert!(rt; ended.say.ends_with(b"\ngate: fail, hits 3, max 0\n"));
+    }
+    Ok(())
+}
+
+#[test]
+fn an_explained_run_writes_lines_and_no_message(rt: HostRuntime) -> Result<(), Fail> {
+    let request = accepting(rt.alloc())?;
+    let ended = run(&rt, &request, HITS, Report::Suppressions, AMPLE, true)?;
+    assert_eq!(rt; ended.status, 1);
+    assert_eq!(rt; ended.complain.as_slice(), ACCEPTED_LINE.as_bytes());
+    let ended = run(&rt, &request, "{", Report::Suppressions, AMPLE, true)?;
+    assert_eq!(rt; ended.status, 2);
+    assert!(rt; ended.complain.is_empty());
+    assert!(rt; ended.later.is_empty());
+    Ok(())
+}

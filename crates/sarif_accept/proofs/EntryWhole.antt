@@ -1,0 +1,307 @@
+-- Stripping changes nothing of an entry that is read.
+use Rattle.std.proofs.Common.{◌≡◌, ℕ, Bool, true, false, ◌||◌, List, [], ◌∷◌, map, Option, Some, None, bytes_eq, codes, refl, sym, ap, ap₂, ◌∙◌, true≢false, Ordering, Less, Equal, Greater, is_eq, nat_cmp, if◌then◌else◌}
+use Rattle.std.specs.Prelude.{◌+◌, Result, Ok, Err, option_and_then}
+use Rattle.std.specs.List.{AllByRecursion}
+use Rattle.std.specs.Cmp.Lexicographic.{slice_cmp}
+use Rattle.std.specs.Ordering.{match_ordering}
+use Rattle.std.proofs.lemmas.Map.Text.{is_eq-slice_cmp}
+use Rattle.std.proofs.lemmas.Slice.Eq.{bytes_eq-Decides}
+use Rattle.serde_json.specs.Data.{Data, null, boolean, number, unsigned, negative, float, string, array, object, Items, no_items, item, Members, no_members, member}
+use Rattle.serde_json.specs.Find.{get, get_member, as_str, as_array}
+use Rattle.json_parts.specs.Ordered.{IsOrdered, AreMembersOrdered}
+use Rattle.json_parts.specs.Stripping.{is_fractional, stripped, stripped_items, stripped_members}
+use Rattle.json_parts.proofs.SameMembers.{same_members}
+use Rattle.json_parts.proofs.Stripped.{get-stripped, unless_fractional}
+use Rattle.sarif_read.proofs.RunOf.{stripped_ordered}
+use Rattle.sarif_model.specs.Members.{◌>>=◌, of_kind, text_at, unless_null, elements, elements_of, read_each, result_map}
+use Rattle.sarif_model.specs.declared.fault.Fault.TheVariants.{BadEntry}
+use Rattle.sarif_suppress.specs.declared.conditions.Conditions.{Conditions}
+use Rattle.sarif_suppress.specs.declared.entry.Entry.{Entry}
+use Rattle.sarif_suppress.specs.declared.fault.FileFault.{FileFault}
+use Rattle.sarif_suppress.specs.declared.version.Version.{Version}
+use Rattle.sarif_suppress.specs.declared.version.Version.TheVariants.{Fourth}
+use Rattle.sarif_suppress.specs.Entries.{is_first_member, is_second_member, has_member, are_members_of, check_members, unless_fault, conditions_of, members_of, entry_of, guid_at, pairs_at, pairs_of_member, are_texts, pairs_of, texts_at, text_or, day_at, day_of_member, status_at}
+use Rattle.sarif_suppress.specs.File.{entries_from}
+use Rattle.sarif_suppress.specs.FileFault.{in_entry}
+use Rattle.sarif_accept.specs.NewFile.{entry_in}
+use Rattle.sarif_accept.proofs.Rows.{and_both}
+use Rattle.sarif_accept.proofs.Kept.{all_known, parts}
+
+-- where two steps went well, both did
+pub record Both {A B : Type 0} (a : Result A FileFault) (f : A → Result B FileFault) (y : B) : Type 0 where
+  pub value : A
+  pub first : a ≡ Ok value
+  pub second : f value ≡ Ok y
+
+pub both : {A B : Type 0} (a : Result A FileFault) (f : A → Result B FileFault) (y : B) → (a >>= f) ≡ Ok y → Both a f y
+both (Ok x) f y is = record { value = x; first = refl; second = is }
+both (Err e) f y is = let never : ⊥ = cc in absurd never
+
+-- stripping leaves what is found
+abbrev Stays : Option Data → Type 0
+Stays o = option_and_then unless_fractional o ≡ o
+
+-- ---- what a member may be
+
+module _ (wrong : FileFault) where
+  text_stays : (o : Option Data) (x : Option (List ℕ)) → of_kind wrong as_str (option_and_then unless_null o) ≡ Ok x → Stays o
+  text_stays None x is = refl
+  text_stays (Some null) x is = refl
+  text_stays (Some (boolean b)) x is = refl
+  text_stays (Some (number n)) x is = let never : ⊥ = cc in absurd never
+  text_stays (Some (string s)) x is = refl
+  text_stays (Some (array ds)) x is = let never : ⊥ = cc in absurd never
+  text_stays (Some (object ms)) x is = let never : ⊥ = cc in absurd never
+
+  day_stays : (o : Option Data) (x : Option ℕ) → day_of_member wrong (option_and_then unless_null o) ≡ Ok x → Stays o
+  day_stays None x is = refl
+  day_stays (Some null) x is = refl
+  day_stays (Some (boolean b)) x is = refl
+  day_stays (Some (number (unsigned n))) x is = refl
+  day_stays (Some (number (negative z))) x is = refl
+  day_stays (Some (number (float n))) x is = let never : ⊥ = cc in absurd never
+  day_stays (Some (string s)) x is = refl
+  day_stays (Some (array ds)) x is = let never : ⊥ = cc in absurd never
+  day_stays (Some (object ms)) x is = let never : ⊥ = cc in absurd never
+
+  members_stay : (ms : Members) → are_texts ms ≡ true → stripped_members ms ≡ ms
+  members_stay no_members all = refl
+  members_stay (member k null ms) all = ap (member k null) (members_stay ms all)
+  members_stay (member k (boolean b) ms) all = absurd (true≢false (sym all))
+  members_stay (member k (number n) ms) all = absurd (true≢false (sym all))
+  members_stay (member k (string s) ms) all = ap (member k (string s)) (members_stay ms all)
+  members_stay (member k (array ds) ms) all = absurd (true≢false (sym all))
+  members_stay (member k (object ns) ms) all = absurd (true≢false (sym all))
+
+  passed : (b : Bool) (ps : List (List ℕ × List ℕ)) (x : List (List ℕ × List ℕ)) → ◌≡◌ {A = Result (List (List ℕ × List ℕ)) FileFault} (if b then Ok ps else Err wrong) (Ok x) → b ≡ true
+  passed true ps x is = refl
+  passed false ps x is = let never : ⊥ = cc in absurd never
+
+  pairs_stay : (o : Option Data) (x : List (List ℕ × List ℕ)) → pairs_of_member wrong (option_and_then unless_null o) ≡ Ok x → Stays o
+  pairs_stay None x is = refl
+  pairs_stay (Some null) x is = refl
+  pairs_stay (Some (boolean b)) x is = refl
+  pairs_stay (Some (number n)) x is = let never : ⊥ = cc in absurd never
+  pairs_stay (Some (string s)) x is = refl
+  pairs_stay (Some (array ds)) x is = let never : ⊥ = cc in absurd never
+  pairs_stay (Some (object ms)) x is = ap (λ ns. Some (object ns)) (members_stay ms (passed (are_texts ms) (pairs_of ms) x is))
+
+  -- an array of texts
+  record AreWhole (ds : Items) : Type 0 where
+    plain : Rattle.json_parts.specs.Stripping.any_fractional ds ≡ false
+    same : stripped_items ds ≡ ds
+
+  one_text : (d : Data) (x : List ℕ) → text_or wrong d ≡ Ok x → (is_fractional d ≡ false) × (stripped d ≡ d)
+  one_text null x is = let never : ⊥ = cc in absurd never
+  one_text (boolean b) x is = (refl, refl)
+  one_text (number n) x is = let never : ⊥ = cc in absurd never
+  one_text (string s) x is = (refl, refl)
+  one_text (array ds) x is = let never : ⊥ = cc in absurd never
+  one_text (object ms) x is = let never : ⊥ = cc in absurd never
+
+  each_text : (ds : Items) (xs : List (List ℕ)) → read_each (text_or wrong) (elements ds) ≡ Ok xs → AreWhole ds
+  each_text no_items xs is = record { plain = refl; same = refl }
+  each_text (item d ds) xs is =
+      let b = both (text_or wrong d) _ xs is in
+      let one = one_text d b.value b.first in
+      let more = each_text ds _ (rest (read_each (text_or wrong) (elements ds)) b.value xs b.second).1 in
+      record { plain = rw (one.0, more.plain) refl; same = rw (one.1, more.same) refl }
+    where
+      rest : (r : Result (List (List ℕ)) FileFault) (x : List ℕ) (xs : List (List ℕ)) → result_map (λ ys. x ∷ ys) r ≡ Ok xs → (ys : List (List ℕ)) × (r ≡ Ok ys)
+      rest (Ok ys) x xs is = (ys, refl)
+      rest (Err e) x xs is = let never : ⊥ = cc in absurd never
+
+  list_stays : (o : Option Data) (x : List (List ℕ)) → (elements_of (of_kind wrong as_array (option_and_then unless_null o)) >>= read_each (text_or wrong)) ≡ Ok x → Stays o
+  list_stays None x is = refl
+  list_stays (Some null) x is = refl
+  list_stays (Some (boolean b)) x is = refl
+  list_stays (Some (number n)) x is = let never : ⊥ = cc in absurd never
+  list_stays (Some (string s)) x is = refl
+  list_stays (Some (array ds)) x is = let whole = each_text ds x is in rw (whole.plain, whole.same) refl
+  list_stays (Some (object ms)) x is = let never : ⊥ = cc in absurd never
+
+-- ---- the members of an entry that is read
+
+record MembersStay (d : Data) : Type 0 where
+  tool : Stays (get (codes "tool") d)
+  rule_id : Stays (get (codes "ruleId") d)
+  uri : Stays (get (codes "uri") d)
+  uri_prefix : Stays (get (codes "uriPrefix") d)
+  guid : Stays (get (codes "guid") d)
+  full : Stays (get (codes "fingerprints") d)
+  partial : Stays (get (codes "partialFingerprints") d)
+  message : Stays (get (codes "message") d)
+  message_id : Stays (get (codes "messageId") d)
+  message_args : Stays (get (codes "messageArguments") d)
+  expires : Stays (get (codes "expires") d)
+  status : Stays (get (codes "status") d)
+  justification : Stays (get (codes "justification") d)
+
+record ConditionsStay (d : Data) : Type 0 where
+  tool : Stays (get (codes "tool") d)
+  rule_id : Stays (get (codes "ruleId") d)
+  uri : Stays (get (codes "uri") d)
+  uri_prefix : Stays (get (codes "uriPrefix") d)
+  guid : Stays (get (codes "guid") d)
+  full : Stays (get (codes "fingerprints") d)
+  partial : Stays (get (codes "partialFingerprints") d)
+  message : Stays (get (codes "message") d)
+  message_id : Stays (get (codes "messageId") d)
+  message_args : Stays (get (codes "messageArguments") d)
+
+conditions_stay : (wrong : FileFault) (d : Data) (c : Conditions) → conditions_of wrong d ≡ Ok c → ConditionsStay d
+unfolding conditions_of
+conditions_stay wrong d c is =
+    let s1 = both (text_at wrong (codes "tool") d) _ c is in
+    let s2 = both (text_at wrong (codes "ruleId") d) _ c s1.second in
+    let s3 = both (text_at wrong (codes "uri") d) _ c s2.second in
+    let s4 = both (text_at wrong (codes "uriPrefix") d) _ c s3.second in
+    let s5 = both (guid_at wrong (codes "guid") d) _ c s4.second in
+    let g = both (text_at wrong (codes "guid") d) _ s5.value s5.first in
+    let s6 = both (pairs_at wrong (codes "fingerprints") d) _ c s5.second in
+    let s7 = both (pairs_at wrong (codes "partialFingerprints") d) _ c s6.second in
+    let s8 = both (text_at wrong (codes "message") d) _ c s7.second in
+    let s9 = both (text_at wrong (codes "messageId") d) _ c s8.second in
+    let s10 = both (texts_at wrong (codes "messageArguments") d) _ c s9.second in
+    record {
+      tool = text_stays wrong _ s1.value s1.first;
+      rule_id = text_stays wrong _ s2.value s2.first;
+      uri = text_stays wrong _ s3.value s3.first;
+      uri_prefix = text_stays wrong _ s4.value s4.first;
+      guid = text_stays wrong _ g.value g.first;
+      full = pairs_stay wrong _ s6.value s6.first;
+      partial = pairs_stay wrong _ s7.value s7.first;
+      message = text_stays wrong _ s8.value s8.first;
+      message_id = text_stays wrong _ s9.value s9.first;
+      message_args = list_stays wrong _ s10.value s10.first;
+    }
+
+all_stay : (wrong : FileFault) (d : Data) (e : Entry) → members_of wrong d ≡ Ok e → MembersStay d
+unfolding members_of
+all_stay wrong d e is =
+    let s1 = both (conditions_of wrong d) _ e is in
+    let s2 = both (day_at wrong (codes "expires") d) _ e s1.second in
+    let s3 = both (status_at wrong (codes "status") d) _ e s2.second in
+    let t = both (text_at wrong (codes "status") d) _ s3.value s3.first in
+    let s4 = both (text_at wrong (codes "justification") d) _ e s3.second in
+    let c = conditions_stay wrong d s1.value s1.first in
+    record {
+      tool = c.tool;
+      rule_id = c.rule_id;
+      uri = c.uri;
+      uri_prefix = c.uri_prefix;
+      guid = c.guid;
+      full = c.full;
+      partial = c.partial;
+      message = c.message;
+      message_id = c.message_id;
+      message_args = c.message_args;
+      expires = day_stays wrong _ s2.value s2.first;
+      status = text_stays wrong _ t.value t.first;
+      justification = text_stays wrong _ s4.value s4.first;
+    }
+
+-- ---- any other name
+
+-- a name that isn't known isn't found
+unknown_on : (o : Ordering) (q l : List ℕ) (e : Data) (found : Option Data) → slice_cmp nat_cmp q l ≡ o → has_member Fourth l ≡ true → has_member Fourth q ≡ false → found ≡ None
+    → match_ordering o found (Some e) found ≡ None
+unknown_on Less q l e found is known unknown none = none
+unknown_on Equal q l e found is known unknown none =
+    let same : q ≡ l = (bytes_eq-Decides q l).0 (sym (is_eq-slice_cmp q l) ∙ ap is_eq is) in
+    absurd (true≢false (sym known ∙ ap (has_member Fourth) (sym same) ∙ unknown))
+unknown_on Greater q l e found is known unknown none = none
+
+unknown_missing : (q : List ℕ) (ms : Members) → are_members_of Fourth ms ≡ true → has_member Fourth q ≡ false → get_member q ms ≡ None
+unknown_missing q no_members all unknown = refl
+unknown_missing q (member l e ms) all unknown =
+    let parts = and_both (has_member Fourth l) (are_members_of Fourth ms) all in
+    unknown_on (slice_cmp nat_cmp q l) q l e (get_member q ms) refl parts.0 unknown (unknown_missing q ms parts.1 unknown)
+
+-- what is found under a name stays, if it does under each known one
+module _ (ms : Members) (stay : MembersStay (object ms)) (q : List ℕ) where
+  abbrev StaysHere : Type 0
+  StaysHere = Stays (get_member q ms)
+
+  one_of : (name : List ℕ) (rest : Bool) → (bytes_eq q name || rest) ≡ true → Stays (get_member name ms) → (rest ≡ true → StaysHere) → StaysHere
+  one_of name rest is here later =
+      elim (bytes_eq q name) as (λ b. bytes_eq q name ≡ b → (b || rest) ≡ true → StaysHere) [
+        | true ↦ λ same _. rw ((bytes_eq-Decides q name).0 same) here
+        | false ↦ λ _ more. later more
+      ] refl is
+
+  last_of : (name : List ℕ) → bytes_eq q name ≡ true → Stays (get_member name ms) → StaysHere
+  last_of name same here = rw ((bytes_eq-Decides q name).0 same) here
+
+  first_stays : is_first_member q ≡ true → StaysHere
+  first_stays is =
+      one_of (codes "tool") _ is stay.tool (λ is.
+      one_of (codes "ruleId") _ is stay.rule_id (λ is.
+      one_of (codes "uri") _ is stay.uri (λ is.
+      one_of (codes "guid") _ is stay.guid (λ is.
+      one_of (codes "fingerprints") _ is stay.full (λ is.
+      one_of (codes "partialFingerprints") _ is stay.partial (λ is.
+      one_of (codes "status") _ is stay.status (λ is.
+      last_of (codes "justification") is stay.justification)))))))
+
+  either : (a b : Bool) → (a || b) ≡ true → (a ≡ true → StaysHere) → (b ≡ true → StaysHere) → StaysHere
+  either true b is f g = f refl
+  either false b is f g = g is
+
+  known_stays : has_member Fourth q ≡ true → StaysHere
+  known_stays is =
+      either (is_second_member q) _ is
+      (λ is. either (is_first_member q) _ is first_stays (λ is.
+      one_of (codes "uriPrefix") _ is stay.uri_prefix (λ is.
+      last_of (codes "expires") is stay.expires)))
+      (λ is.
+      one_of (codes "message") _ is stay.message (λ is.
+      one_of (codes "messageId") _ is stay.message_id (λ is.
+      last_of (codes "messageArguments") is stay.message_args)))
+
+any_stays : (ms : Members) → are_members_of Fourth ms ≡ true → MembersStay (object ms) → (q : List ℕ) → Stays (get_member q ms)
+any_stays ms all stay q =
+    elim (has_member Fourth q) as (λ b. has_member Fourth q ≡ b → Stays (get_member q ms)) [
+      | true ↦ λ known. known_stays ms stay q known
+      | false ↦ λ unknown. rw (unknown_missing q ms all unknown) refl
+    ] refl
+
+object_stays : (ms : Members) → AreMembersOrdered ms → are_members_of Fourth ms ≡ true → MembersStay (object ms) → stripped_members ms ≡ ms
+object_stays ms ordered all stay =
+    same_members (stripped_members ms) ms (stripped_ordered (object ms) ordered) ordered
+    (λ q. get-stripped q (object ms) ordered ∙ any_stays ms all stay q)
+
+checked_members : (version : Version) (wrong : FileFault) (ms : Members) → check_members version wrong (object ms) ≡ Ok tt → are_members_of version ms ≡ true
+checked_members version wrong ms is = by_test (are_members_of version ms) is
+  where
+    by_test : (b : Bool) → unless_fault b wrong ≡ Ok tt → b ≡ true
+    by_test true is = refl
+    by_test false is = let never : ⊥ = cc in absurd never
+
+object_whole : (version : Version) (wrong : FileFault) (d : Data) (e : Entry) → IsOrdered d → check_members version wrong d ≡ Ok tt → members_of wrong d ≡ Ok e → entry_in d ≡ d
+object_whole version wrong null e ordered checked read = let never : ⊥ = cc in absurd never
+object_whole version wrong (boolean b) e ordered checked read = let never : ⊥ = cc in absurd never
+object_whole version wrong (number n) e ordered checked read = let never : ⊥ = cc in absurd never
+object_whole version wrong (string s) e ordered checked read = let never : ⊥ = cc in absurd never
+object_whole version wrong (array ds) e ordered checked read = let never : ⊥ = cc in absurd never
+object_whole version wrong (object ms) e ordered checked read =
+    ap object (object_stays ms ordered (all_known version ms (checked_members version wrong ms checked)) (all_stay wrong (object ms) e read))
+
+-- stripping changes nothing of an entry that is read
+entry_whole : (version : Version) (today : Option ℕ) (n : ℕ) (d : Data) (e : Entry) → IsOrdered d → entry_of version today n d ≡ Ok e → entry_in d ≡ d
+unfolding entry_of
+entry_whole version today n d e ordered is =
+    let wrong : FileFault = in_entry n BadEntry in
+    let s1 = both (check_members version wrong d) _ e is in
+    let s2 = both (members_of wrong d) _ e s1.second in
+    object_whole version wrong d s2.value ordered s1.first s2.first
+
+-- nor of the entries of a file that is read
+pub entries_whole : (version : Version) (today : Option ℕ) (n : ℕ) (ds : List Data) (es : List Entry) → AllByRecursion IsOrdered ds → entries_from version today n ds ≡ Ok es
+    → map entry_in ds ≡ ds
+entries_whole version today n [] es ordered is = refl
+entries_whole version today n (d ∷ ds) es ordered is =
+    let p = parts version today n d ds es is in
+    let one = entry_whole version today n d p.first ordered.0 p.first_is in
+    let more = entries_whole version today (n + 1) ds p.rest ordered.1 p.rest_is in
+    ap₂ (λ x xs. x ∷ xs) one more

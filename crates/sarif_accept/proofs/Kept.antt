@@ -1,0 +1,256 @@
+-- Entries of a file of an earlier version are the same in version 4.
+use Rattle.std.proofs.Common.{◌≡◌, ℕ, ◌+◌, Bool, true, false, ◌&&◌, ◌||◌, not, List, [], ◌∷◌, ◌++◌, map, Option, Some, None, codes, refl, sym, ◌∙◌, if◌then◌else◌, true≢false}
+use Rattle.std.specs.Prelude.{⊤, Result, Ok, Err, filter, option_and_then}
+use Rattle.std.proofs.lemmas.Bool.{and_from}
+use Rattle.serde_json.specs.Data.{Data, Items, Members, no_members, member}
+use Rattle.serde_json.specs.Find.{as_object, as_str, as_number, as_u64, as_array}
+use Rattle.std.specs.Prelude.{is_some, is_none}
+use Rattle.std.specs.List.{AllByRecursion}
+use Rattle.sarif_model.specs.Guid.{guid_of_text}
+use Rattle.sarif_model.specs.Members.{◌>>=◌, of_kind, text_at, or_wrong, member_at, elements_of, elements_at, read_each, result_map}
+use Rattle.sarif_model.specs.Status.{status_named}
+use Rattle.sarif_model.specs.declared.fault.Fault.TheVariants.{BadEntry, EmptyMatch, NeedsToday}
+use Rattle.sarif_model.specs.declared.kinds.Status.{Status}
+use Rattle.sarif_model.specs.declared.record.Record.{Record}
+use Rattle.sarif_suppress.specs.declared.entry.Entry.{Entry}
+use Rattle.sarif_suppress.specs.declared.fault.FileFault.{FileFault}
+use Rattle.sarif_suppress.specs.declared.version.Version.{Version}
+use Rattle.sarif_suppress.specs.declared.version.Version.TheVariants.{First, Second, Fourth}
+use Rattle.sarif_suppress.specs.Entries.{unless_fault, check_object, check_members, has_member, is_first_member, is_second_member, are_members_of, conditions_of, members_of, entry_of, guid_at, guid_or, text_if, text_or, texts_at, pairs_at, pairs_of_member, pairs_or, are_texts, pairs_of, day_at, day_of_member, day_or, is_day, status_at, status_or, status_of_name}
+use Rattle.sarif_suppress.specs.File.{entries_from}
+use Rattle.sarif_suppress.specs.FileFault.{in_entry}
+use Rattle.sarif_suppress.specs.Matching.{is_any}
+use Rattle.sarif_accept.specs.Entry.{entry_for}
+use Rattle.sarif_accept.specs.Adding.{entry_read}
+use Rattle.sarif_accept.specs.Keeping.{chosen}
+use Rattle.sarif_accept.specs.Until.{HasGuid, IsDated}
+use Rattle.sarif_accept.proofs.EntryRead.{entry_is}
+use Rattle.sarif_accept.proofs.Rows.{and_both}
+
+-- ---- members
+
+left : (a b : Bool) → a ≡ true → (a || b) ≡ true
+left true b is = refl
+left false b is = absurd (true≢false (sym is))
+
+known_by_fourth : (version : Version) (name : List ℕ) → has_member version name ≡ true → has_member Fourth name ≡ true
+known_by_fourth First name is = left (is_second_member name) _ (left (is_first_member name) _ is)
+known_by_fourth Second name is = left (is_second_member name) _ is
+known_by_fourth Fourth name is = is
+
+pub all_known : (version : Version) (ms : Members) → are_members_of version ms ≡ true → are_members_of Fourth ms ≡ true
+all_known version no_members is = refl
+all_known version (member name d ms) is =
+    let both = and_both (has_member version name) (are_members_of version ms) is in
+    and_from _ _ (known_by_fourth version name both.0) (all_known version ms both.1)
+
+-- ---- which fault is given where there is one makes no difference where there is none
+
+-- where the first reading gives a value, the second gives it
+abbrev pub Gives : {X : Type 0} → Result X FileFault → Result X FileFault → Type 0
+Gives (Ok x) r = r ≡ Ok x
+Gives (Err fault) r = ⊤
+
+give_it : {X : Type 0} (a b : Result X FileFault) (x : X) → Gives a b → a ≡ Ok x → b ≡ Ok x
+give_it (Ok y) b x gives is = gives ∙ is
+give_it (Err fault) b x gives is = let never : ⊥ = cc in absurd never
+
+then_gives : {X Y : Type 0} (a b : Result X FileFault) (f g : X → Result Y FileFault) → Gives a b → ((x : X) → Gives (f x) (g x)) → Gives (a >>= f) (b >>= g)
+then_gives (Ok x) b f g gives each = rw gives (each x)
+then_gives (Err fault) b f g gives each = tt
+
+itself : {X : Type 0} (a : Result X FileFault) → Gives a a
+itself (Ok x) = refl
+itself (Err fault) = tt
+
+module _ (v w : FileFault) where
+  wrong_gives : {X : Type 0} (o : Option X) → Gives (or_wrong v o) (or_wrong w o)
+  wrong_gives None = tt
+  wrong_gives (Some x) = refl
+
+  kind_gives : {X : Type 0} (f : Data → Option X) (o : Option Data) → Gives (of_kind v f o) (of_kind w f o)
+  kind_gives f None = refl
+  kind_gives f (Some d) = wrong_gives (f d)
+
+  text_gives : (name : List ℕ) (d : Data) → Gives (text_at v name d) (text_at w name d)
+  text_gives name d = kind_gives as_str (member_at name d)
+
+  guid_gives : (name : List ℕ) (d : Data) → Gives (guid_at v name d) (guid_at w name d)
+  guid_gives name d = then_gives (text_at v name d) (text_at w name d) (guid_or v) (guid_or w) (text_gives name d) (λ o. guid_or_gives o)
+    where
+      guid_or_gives : (o : Option (List ℕ)) → Gives (guid_or v o) (guid_or w o)
+      guid_or_gives None = refl
+      guid_or_gives (Some text) = wrong_gives (guid_of_text text)
+
+  pairs_gives : (name : List ℕ) (d : Data) → Gives (pairs_at v name d) (pairs_at w name d)
+  pairs_gives name d = member_gives (member_at name d)
+    where
+      if_gives : (b : Bool) (x : List (List ℕ × List ℕ)) → Gives {X = List (List ℕ × List ℕ)} (if b then Ok x else Err v) (if b then Ok x else Err w)
+      if_gives true x = refl
+      if_gives false x = tt
+
+      or_gives : (o : Option Members) → Gives (pairs_or v o) (pairs_or w o)
+      or_gives None = tt
+      or_gives (Some ms) = if_gives (are_texts ms) (pairs_of ms)
+
+      member_gives : (o : Option Data) → Gives (pairs_of_member v o) (pairs_of_member w o)
+      member_gives None = refl
+      member_gives (Some d) = or_gives (as_object d)
+
+  texts_gives : (name : List ℕ) (d : Data) → Gives (texts_at v name d) (texts_at w name d)
+  texts_gives name d = then_gives (elements_at v name d) (elements_at w name d) _ _ (elements_gives (member_at name d)) each_gives
+    where
+      of_gives : (a b : Result (Option Items) FileFault) → Gives a b → Gives (elements_of a) (elements_of b)
+      of_gives (Ok None) b gives = rw gives refl
+      of_gives (Ok (Some ds)) b gives = rw gives refl
+      of_gives (Err fault) b gives = tt
+
+      elements_gives : (o : Option Data) → Gives (elements_of (of_kind v as_array o)) (elements_of (of_kind w as_array o))
+      elements_gives o = of_gives (of_kind v as_array o) (of_kind w as_array o) (kind_gives as_array o)
+
+      text_or_gives : (o : Option (List ℕ)) → Gives (text_if v o) (text_if w o)
+      text_or_gives None = tt
+      text_or_gives (Some text) = refl
+
+      map_gives : (text : List ℕ) (a b : Result (List (List ℕ)) FileFault) → Gives a b → Gives (result_map (λ ts. text ∷ ts) a) (result_map (λ ts. text ∷ ts) b)
+      map_gives text (Ok ts) b gives = rw gives refl
+      map_gives text (Err fault) b gives = tt
+
+      each_gives : (ds : List Data) → Gives (read_each (text_or v) ds) (read_each (text_or w) ds)
+      each_gives [] = refl
+      each_gives (d ∷ ds) = then_gives (text_or v d) (text_or w d) _ _ (text_or_gives (as_str d)) (λ text. map_gives text _ _ (each_gives ds))
+
+  day_gives : (name : List ℕ) (d : Data) → Gives (day_at v name d) (day_at w name d)
+  day_gives name d = member_gives (member_at name d)
+    where
+      if_gives : (b : Bool) (n : ℕ) → Gives {X = Option ℕ} (if b then Ok (Some n) else Err v) (if b then Ok (Some n) else Err w)
+      if_gives true n = refl
+      if_gives false n = tt
+
+      or_gives : (o : Option ℕ) → Gives (day_or v o) (day_or w o)
+      or_gives None = tt
+      or_gives (Some n) = if_gives (is_day n) n
+
+      member_gives : (o : Option Data) → Gives (day_of_member v o) (day_of_member w o)
+      member_gives None = refl
+      member_gives (Some d) = or_gives (option_and_then as_u64 (as_number d))
+
+  status_gives : (name : List ℕ) (d : Data) → Gives (status_at v name d) (status_at w name d)
+  status_gives name d = then_gives (text_at v name d) (text_at w name d) (status_or v) (status_or w) (text_gives name d) (λ o. or_gives o)
+    where
+      name_gives : (o : Option Status) → Gives (status_of_name v o) (status_of_name w o)
+      name_gives None = tt
+      name_gives (Some status) = refl
+
+      or_gives : (o : Option (List ℕ)) → Gives (status_or v o) (status_or w o)
+      or_gives None = refl
+      or_gives (Some text) = name_gives (status_named text)
+
+  conditions_gives : (d : Data) → Gives (conditions_of v d) (conditions_of w d)
+  unfolding conditions_of
+  conditions_gives d =
+      then_gives _ _ _ _ (text_gives (codes "tool") d) (λ tool.
+      then_gives _ _ _ _ (text_gives (codes "ruleId") d) (λ rule.
+      then_gives _ _ _ _ (text_gives (codes "uri") d) (λ uri.
+      then_gives _ _ _ _ (text_gives (codes "uriPrefix") d) (λ prefix.
+      then_gives _ _ _ _ (guid_gives (codes "guid") d) (λ guid.
+      then_gives _ _ _ _ (pairs_gives (codes "fingerprints") d) (λ full.
+      then_gives _ _ _ _ (pairs_gives (codes "partialFingerprints") d) (λ partial.
+      then_gives _ _ _ _ (text_gives (codes "message") d) (λ message.
+      then_gives _ _ _ _ (text_gives (codes "messageId") d) (λ id.
+      then_gives _ _ _ _ (texts_gives (codes "messageArguments") d) (λ args. refl))))))))))
+
+  members_gives : (d : Data) → Gives (members_of v d) (members_of w d)
+  unfolding members_of
+  members_gives d =
+      then_gives _ _ _ _ (conditions_gives d) (λ conditions.
+      then_gives _ _ _ _ (day_gives (codes "expires") d) (λ expires.
+      then_gives _ _ _ _ (status_gives (codes "status") d) (λ status.
+      then_gives _ _ _ _ (text_gives (codes "justification") d) (λ justification. refl))))
+
+unless_gives : (b : Bool) (v w : FileFault) → Gives (unless_fault b v) (unless_fault b w)
+unless_gives true v w = refl
+unless_gives false v w = tt
+
+checked_gives : (version : Version) (v w : FileFault) (d : Data) → Gives (check_members version v d) (check_members Fourth w d)
+checked_gives version v w d = by_members (as_object d)
+  where
+    by_test : (b c : Bool) → (b ≡ true → c ≡ true) → Gives (unless_fault b v) (unless_fault c w)
+    by_test true c so = rw (so refl) refl
+    by_test false c so = tt
+
+    by_members : (o : Option Members) → Gives (check_object version v o) (check_object Fourth w o)
+    by_members None = tt
+    by_members (Some ms) = by_test (are_members_of version ms) (are_members_of Fourth ms) (all_known version ms)
+
+-- an entry of a file of any version is the same in version 4, at any place
+entry_gives : (version : Version) (today : Option ℕ) (n m : ℕ) (d : Data) → Gives (entry_of version today n d) (entry_of Fourth today m d)
+unfolding entry_of
+entry_gives version today n m d =
+    then_gives _ _ _ _ (checked_gives version (in_entry n BadEntry) (in_entry m BadEntry) d) (λ _.
+    then_gives _ _ _ _ (members_gives (in_entry n BadEntry) (in_entry m BadEntry) d) (λ e.
+    then_gives _ _ _ _ (unless_gives (is_any e.conditions) (in_entry n EmptyMatch) (in_entry m EmptyMatch)) (λ _.
+    then_gives _ _ _ _ (unless_gives (not (is_some e.expires && is_none today)) (in_entry n NeedsToday) (in_entry m NeedsToday)) (λ _. refl))))
+
+pub entry_kept : (version : Version) (today : Option ℕ) (n m : ℕ) (d : Data) (e : Entry) → entry_of version today n d ≡ Ok e → entry_of Fourth today m d ≡ Ok e
+entry_kept version today n m d e is = give_it _ _ e (entry_gives version today n m d) is
+
+-- ---- lists of entries
+
+one_ok : (version : Version) (today : Option ℕ) (n : ℕ) (d : Data) (ds : List Data) (e : Entry) (es : List Entry)
+    → entry_of version today n d ≡ Ok e → entries_from version today (n + 1) ds ≡ Ok es → entries_from version today n (d ∷ ds) ≡ Ok (e ∷ es)
+unfolding entries_from
+one_ok version today n d ds e es first rest = rw (first, rest) refl
+
+-- what the first entry and the rest are, where all can be read
+pub record Parts (version : Version) (today : Option ℕ) (n : ℕ) (d : Data) (ds : List Data) (es : List Entry) : Type 0 where
+  pub first : Entry
+  pub rest : List Entry
+  pub whole : es ≡ first ∷ rest
+  pub first_is : entry_of version today n d ≡ Ok first
+  pub rest_is : entries_from version today (n + 1) ds ≡ Ok rest
+
+ok_same : (a b : List Entry) → ◌≡◌ {A = Result (List Entry) FileFault} (Ok a) (Ok b) → a ≡ b
+ok_same a b e = cc
+
+pub parts : (version : Version) (today : Option ℕ) (n : ℕ) (d : Data) (ds : List Data) (es : List Entry) → entries_from version today n (d ∷ ds) ≡ Ok es → Parts version today n d ds es
+unfolding entries_from
+parts version today n d ds es is =
+    elim (entry_of version today n d) as (λ r. entry_of version today n d ≡ r → (r >>= λ e. entries_from version today (n + 1) ds >>= λ es. Ok (e ∷ es)) ≡ Ok es → Parts version today n d ds es) [
+      | Ok e ↦ λ first more.
+          elim (entries_from version today (n + 1) ds) as (λ r. entries_from version today (n + 1) ds ≡ r → (r >>= λ es. Ok (e ∷ es)) ≡ Ok es → Parts version today n d ds es) [
+            | Ok rest ↦ λ later whole. record { first = e; rest = rest; whole = sym (ok_same (e ∷ rest) es whole); first_is = first; rest_is = later }
+            | Err fault ↦ λ _ no. let never : ⊥ = cc in absurd never
+          ] refl more
+      | Err fault ↦ λ _ no. let never : ⊥ = cc in absurd never
+    ] refl is
+
+-- the entries that are kept are read as they were
+pub kept_read : (version : Version) (today : Option ℕ) (keep : Entry → Bool) (n m : ℕ) (ds : List Data) (es : List Entry) → entries_from version today n ds ≡ Ok es
+    → entries_from Fourth today m (chosen (map keep es) ds) ≡ Ok (filter keep es)
+unfolding entries_from
+kept_read version today keep n m [] es is = let none : [] ≡ es = ok_same [] es is in rw (← none) refl
+kept_read version today keep n m (d ∷ ds) es is =
+    let p = parts version today n d ds es is in
+    let later : (m : ℕ) → entries_from Fourth today m (chosen (map keep p.rest) ds) ≡ Ok (filter keep p.rest) = λ m. kept_read version today keep (n + 1) m ds p.rest p.rest_is in
+    rw p.whole (elim (keep p.first) as (λ b. entries_from Fourth today m (chosen (b ∷ map keep p.rest) (d ∷ ds)) ≡ Ok (if b then p.first ∷ filter keep p.rest else filter keep p.rest)) [
+      | true ↦ one_ok Fourth today m d (chosen (map keep p.rest) ds) p.first (filter keep p.rest) (entry_kept version today n m d p.first p.first_is) (later (m + 1))
+      | false ↦ later m
+    ])
+
+-- entries that are read at any place, behind others
+pub read_behind : (today : Option ℕ) (n : ℕ) (ds more : List Data) (es others : List Entry) → entries_from Fourth today n ds ≡ Ok es
+    → ((m : ℕ) → entries_from Fourth today m more ≡ Ok others) → entries_from Fourth today n (ds ++ more) ≡ Ok (es ++ others)
+unfolding entries_from
+read_behind today n [] more es others is rest = let none : [] ≡ es = ok_same [] es is in rw (← none) (rest n)
+read_behind today n (d ∷ ds) more es others is rest =
+    let p = parts Fourth today n d ds es is in
+    rw p.whole (one_ok Fourth today n d (ds ++ more) p.first (p.rest ++ others) p.first_is (read_behind today (n + 1) ds more p.rest others p.rest_is rest))
+
+-- entries that are made for results are read as they were meant, at any place
+pub made_read : (rs : List Record) (reason : Option (List ℕ)) (today until : Option ℕ) (m : ℕ) → AllByRecursion HasGuid rs → IsDated today until
+    → entries_from Fourth today m (map (λ r. entry_for r reason until) rs) ≡ Ok (map (λ r. entry_read r reason until) rs)
+unfolding entries_from
+made_read [] reason today until m fits is = refl
+made_read (r ∷ rs) reason today until m fits is =
+    one_ok Fourth today m _ _ _ _ (entry_is r reason today until m fits.0 is) (made_read rs reason today until (m + 1) fits.1 is)

@@ -1,0 +1,70 @@
+-- A new suppression file has a text that is read again.
+use Rattle.std.proofs.Common.{◌≡◌, ℕ, ◌<◌, ◌≤◌, Bool, true, false, List, [], ◌∷◌, ◌++◌, length, map, Bor, Option, Some, None, refl, ap, ap₂, ◌∙◌, arith, if◌then◌else◌}
+use Rattle.std.specs.Prelude.{nat_lt, unwrap_or}
+use Rattle.std.specs.Str.{is_utf8}
+use Rattle.std.proofs.lemmas.List.{length-map}
+use Rattle.std.proofs.lemmas.Bool.Decides.{nat_tests}
+use Rattle.serde_json.specs.Data.{Data, object, no_members, depth}
+use Rattle.serde_json.specs.Read.{max_depth, read}
+use Rattle.serde_json.specs.Written.{has_float}
+use Rattle.serde_json.proofs.Nesting.{depth-read}
+use Rattle.json_parts.specs.Indexed.{json_of}
+use Rattle.json_parts.specs.Mark.{without_mark}
+use Rattle.sarif_counts.specs.declared.upkeep.Renewal.{Renewal}
+use Rattle.sarif_model.specs.Limits.{most_bytes, most_entries}
+use Rattle.sarif_model.specs.declared.fault.Fault.TheVariants.{TooMany}
+use Rattle.sarif_model.specs.declared.merge_fault.Cause.TheVariants.{Of, TooLong}
+use Rattle.sarif_model.specs.declared.record.Record.{Record}
+use Rattle.sarif_accept.specs.NewFile.{entries_in, file_object, file_text}
+use Rattle.sarif_accept.specs.Entry.{entry_for}
+use Rattle.sarif_accept.specs.Keeping.{chosen}
+use Rattle.sarif_accept.specs.Renewed.{renewed_entries, renewed_file, renewal_cause}
+use Rattle.sarif_accept.proofs.NoFraction.{new_whole}
+use Rattle.sarif_accept.proofs.Shallow.{new_within}
+
+json_depth : (bytes : List ℕ) (o : Option Data) → json_of bytes ≡ o → depth (unwrap_or o (object no_members)) ≤ max_depth
+json_depth bytes None is = omega arith
+json_depth bytes (Some d) is = by_utf8 (is_utf8 bytes) is
+  where
+    by_utf8 : (b : Bool) → (if b then read bytes else None) ≡ Some d → depth d ≤ max_depth
+    by_utf8 true is = depth-read bytes d is
+    by_utf8 false is = let never : ⊥ = cc in absurd never
+
+object_depth : (given : Option (List ℕ)) → depth (file_object given) ≤ max_depth
+object_depth None = omega arith
+object_depth (Some bytes) = json_depth (without_mark bytes) (json_of (without_mark bytes)) refl
+
+entries_made : (reason : Option (List ℕ)) (until : Option ℕ) (xs : List (Bor Record)) → map (λ r. entry_for r.now reason until) xs ≡ map (λ r. entry_for r reason until) (map (λ r. r.now) xs)
+entries_made reason until [] = refl
+entries_made reason until (x ∷ xs) = ap (λ l. entry_for x.now reason until ∷ l) (entries_made reason until xs)
+
+pub all_entries : (given : Option (List ℕ)) (kept : List Bool) (xs : List (Bor Record)) (renewal : Renewal) (old new : List Data) → old ≡ chosen kept (entries_in (file_object given))
+    → new ≡ old ++ map (λ r. entry_for r.now renewal.reason renewal.until) xs → new ≡ renewed_entries given kept (map (λ r. r.now) xs) renewal
+all_entries given kept xs renewal old new is more = more ∙ ap₂ (λ a b. a ++ b) is (entries_made renewal.reason renewal.until xs)
+
+pub few_entries : {A : Type 0} (f : A → Data) (xs : List A) (all : List Data) → map f xs ≡ all → length xs ≤ most_entries → length all ≤ most_entries
+few_entries f xs all is few = rw (← is) (omega (arith, few, length-map xs f))
+
+module _ (given : Option (List ℕ)) (kept : List Bool) (added : List Record) (renewal : Renewal) where
+  pub is_shallow : (d : Data) → d ≡ renewed_file given kept added renewal → depth d ≤ max_depth
+  is_shallow d is = rw is (new_within (file_object given) kept added renewal.reason renewal.until (object_depth given))
+
+  pub is_whole : (d : Data) → d ≡ renewed_file given kept added renewal → has_float d ≡ false
+  is_whole d is = rw is (new_whole (file_object given) kept added renewal.reason renewal.until)
+
+  pub is_too_many : most_entries < length (renewed_entries given kept added renewal) → renewal_cause given kept added renewal ≡ Some (Of TooMany)
+  is_too_many many =
+      let test : nat_lt most_entries (length (renewed_entries given kept added renewal)) ≡ true = grind (arith, nat_tests) in
+      rw test refl
+
+  pub is_too_long : (length (renewed_entries given kept added renewal) ≤ most_entries) → most_bytes < length (file_text (renewed_file given kept added renewal)) → renewal_cause given kept added renewal ≡ Some TooLong
+  is_too_long few long =
+      let test : nat_lt most_entries (length (renewed_entries given kept added renewal)) ≡ false = grind (arith, nat_tests) in
+      let size : nat_lt most_bytes (length (file_text (renewed_file given kept added renewal))) ≡ true = grind (arith, nat_tests) in
+      rw (test, size) refl
+
+  pub is_accepted : (length (renewed_entries given kept added renewal) ≤ most_entries) → length (file_text (renewed_file given kept added renewal)) ≤ most_bytes → renewal_cause given kept added renewal ≡ None
+  is_accepted few short =
+      let test : nat_lt most_entries (length (renewed_entries given kept added renewal)) ≡ false = grind (arith, nat_tests) in
+      let size : nat_lt most_bytes (length (file_text (renewed_file given kept added renewal))) ≡ false = grind (arith, nat_tests) in
+      rw (test, size) refl

@@ -1,0 +1,103 @@
+-- For which results entries are added to a new suppression file, and what the file is then.
+use Rattle.std.specs.Prelude.{ℕ, Bool, not, ◌&&◌, List, [], ◌∷◌, ◌++◌, map, filter, Option, nat_eq, bytes_eq, if◌then◌else◌}
+use Rattle.std.specs.Cmp.Lexicographic.{pointwise}
+use Rattle.std.specs.List.{list_any, list_all}
+use Rattle.std.specs.Option.{option_eq}
+use Rattle.sarif_model.specs.declared.kinds.State.{State}
+use Rattle.sarif_model.specs.declared.kinds.Status.TheVariants.{Accepted}
+use Rattle.sarif_model.specs.declared.record.Record.{Record}
+use Rattle.sarif_counts.specs.declared.policy.Policy.{Policy}
+use Rattle.sarif_counts.specs.declared.upkeep.Renewal.{Renewal}
+use Rattle.sarif_counts.specs.Policy.{is_listed, is_at_least}
+use Rattle.sarif_suppress.specs.declared.conditions.Conditions.{Conditions}
+use Rattle.sarif_suppress.specs.declared.entry.Entry.{Entry}
+use Rattle.sarif_suppress.specs.Entries.{pairs_of}
+use Rattle.sarif_suppress.specs.File.{File}
+use Rattle.sarif_suppress.specs.Matching.{is_pair}
+use Rattle.sarif_suppress.specs.Suppressing.{statuses_of, is_accepted, is_suppressed}
+use Rattle.sarif_accept.specs.Entry.{texts_put, conditions_for}
+use Rattle.sarif_accept.specs.Keeping.{Heard, is_kept}
+
+-- ---- which results are accepted
+
+-- whether a result of a state may be a hit, if it is not suppressed
+abbrev pub Counts : Type 0
+Counts = Record → State → Bool
+
+-- the policy's: the state is listed, and the level is at least that of the policy
+abbrev pub may_hit : Policy → Counts
+may_hit policy r state = is_listed policy.states state && is_at_least policy.fail_on r.level
+
+abbrev pub is_hit : Counts → File → Record → State → Bool
+is_hit counts file r state = counts r state && not (is_suppressed file r)
+
+-- the result has a suppression that isn't accepted, so no entry can make it suppressed
+abbrev pub stays : File → Record → Bool
+stays file r = not (list_all is_accepted (statuses_of file r))
+
+-- the results that are accepted: hits that don't stay, in order
+abbrev pub accepted_among : Counts → File → List Record → List State → List Record
+accepted_among counts file [] states = []
+accepted_among counts file (r ∷ rs) [] = []
+accepted_among counts file (r ∷ rs) (state ∷ states) =
+    if is_hit counts file r state && not (stays file r)
+    then r ∷ accepted_among counts file rs states else accepted_among counts file rs states
+
+-- ---- each entry once
+
+-- both ask the same
+abbrev pub same_conditions : Conditions → Conditions → Bool
+same_conditions a b =
+    option_eq bytes_eq a.tool b.tool && (option_eq bytes_eq a.rule_id b.rule_id
+    && (option_eq bytes_eq a.uri b.uri && (option_eq bytes_eq a.uri_prefix b.uri_prefix
+    && (option_eq nat_eq a.guid b.guid
+    && (pointwise is_pair a.full b.full && (pointwise is_pair a.partial b.partial
+    && (option_eq bytes_eq a.message b.message
+    && (option_eq bytes_eq a.message_id b.message_id
+    && pointwise bytes_eq a.message_args b.message_args))))))))
+
+-- the entry of the other result asks what that of the result asks
+abbrev pub is_said : Record → Record → Bool
+is_said r other = same_conditions (conditions_for other) (conditions_for r)
+
+-- the results, without each whose entry asks what that of one before it asks
+abbrev pub once_each : List Record → List Record → List Record
+once_each before [] = []
+once_each before (r ∷ rs) =
+    if list_any (is_said r) before then once_each before rs
+    else r ∷ once_each (before ++ r ∷ []) rs
+
+-- ---- the file as it is read again
+
+-- how the file is renewed, and whether a tool was heard
+pub record How : Type 0 where
+  pub renewal : Renewal
+  pub heard : Heard
+
+-- the results for which entries are added
+abbrev pub added_for : How → Counts → File → List Record → List State → List Record
+added_for how counts file rs states =
+    if how.renewal.accept then once_each [] (accepted_among counts file rs states) else []
+
+-- the conditions as they are read: fingerprints are in the order of their names
+abbrev pub as_read : Conditions → Conditions
+as_read c =
+    record c { full = pairs_of (texts_put c.full); partial = pairs_of (texts_put c.partial) }
+
+-- what is read of the entry that accepts a result
+abbrev pub entry_read : Record → Option (List ℕ) → Option ℕ → Entry
+entry_read r reason until = record {
+  conditions = as_read (conditions_for r);
+  expires = until;
+  status = Accepted;
+  justification = reason;
+}
+
+-- the entries that are kept, and then those of the accepted results
+abbrev pub file_after : How → Counts → File → List Record → List State → File
+file_after how counts file rs states = record {
+  entries = filter (is_kept how.renewal.prune how.heard file rs) file.entries
+      ++ map (λ r. entry_read r how.renewal.reason how.renewal.until)
+      (added_for how counts file rs states);
+  today = file.today;
+}

@@ -1,0 +1,82 @@
+-- What an entry asks for, as it refers to a record, and which records ask for it. Internal: no public contract refers
+-- to this module.
+use Rattle.std.specs.Prelude.{◌≡◌, ℕ, Bool, List, [], ◌∷◌, ◌++◌, Option, Some, None, map, option_map, codes}
+use Rattle.std.specs.List.{list_any}
+use Rattle.indexmap.specs.IndexSet.{IndexSet, contains}
+use Rattle.serde_json.specs.Data.{string, Members}
+use Rattle.sarif_model.specs.declared.record.Record.{Record}
+use Rattle.sarif_suppress.specs.declared.conditions.Conditions.{Conditions}
+use Rattle.sarif_accept.specs.contracts.asked.AskedPartialEq.TheImpl as derived
+use Rattle.sarif_accept.specs.declared.asked.Asked.{Asked}
+use Rattle.sarif_accept.specs.Entry.{conditions_for, members_from, texts_if_any, list_if_any}
+use Rattle.sarif_accept.specs.Adding.{same_conditions, once_each}
+
+-- the conditions that it refers to
+abbrev pub conditions_in : Asked → Conditions
+conditions_in a = record {
+  tool = Some a.tool.now;
+  rule_id = Some a.rule_id.now;
+  uri = option_map (λ text. text.now) a.uri;
+  uri_prefix = None;
+  guid = a.guid;
+  full = a.full.now;
+  partial = a.partial.now;
+  message = option_map (λ text. text.now) a.message;
+  message_id = option_map (λ text. text.now) a.message_id;
+  message_args = a.message_args.now;
+}
+
+-- the members of the conditions on the message and on the fingerprints
+abbrev pub members_but_place : Conditions → Members
+members_but_place c =
+    members_from ((codes "fingerprints", texts_if_any c.full)
+    ∷ (codes "partialFingerprints", texts_if_any c.partial)
+    ∷ (codes "message", option_map string c.message)
+    ∷ (codes "messageId", option_map string c.message_id)
+    ∷ (codes "messageArguments", list_if_any (map string c.message_args))
+    ∷ [])
+
+-- a tool, a rule, and what else is asked for
+abbrev pub with_place : Record → Option (List ℕ) → Option ℕ → List (List ℕ × List ℕ)
+    → List (List ℕ × List ℕ) → Conditions
+with_place r uri guid full partial = record {
+  tool = Some r.tool;
+  rule_id = Some r.rule_id;
+  uri = uri;
+  uri_prefix = None;
+  guid = guid;
+  full = full;
+  partial = partial;
+  message = None;
+  message_id = None;
+  message_args = [];
+}
+
+-- a tool, a rule, a URI and a message
+abbrev pub with_message : Record → Conditions
+with_message r = record {
+  tool = Some r.tool;
+  rule_id = Some r.rule_id;
+  uri = r.place.uri;
+  uri_prefix = None;
+  guid = None;
+  full = [];
+  partial = [];
+  message = r.message.text;
+  message_id = r.message.id;
+  message_args = r.message.args;
+}
+
+-- whether two are equal, part by part
+abbrev pub same_asked : Asked → Asked → Bool
+same_asked = derived.ghosts.eq
+
+-- the set has what the entries of these records ask for, and nothing else
+abbrev pub HasAsked : {S : Type 0} → IndexSet Asked S → List Record → Type 0
+HasAsked set records =
+    (q : Asked) → contains same_asked set q
+    ≡ list_any (λ r. same_conditions (conditions_for r) (conditions_in q)) records
+
+-- the results so far, each once, and then those of the rest: the same by either beginning
+abbrev pub IsSameList : List Record → List Record → List Record → List Record → Type 0
+IsSameList new rest old more = new ++ once_each new rest ≡ old ++ once_each old more

@@ -1,0 +1,124 @@
+-- The entry of the suppression file that accepts a result: it asks for what a baseline would take for the same finding
+-- in the same file.
+use Rattle.std.specs.Prelude.{ℕ, List, [], ◌∷◌, map, Option, Some, None, option_map, codes}
+use Rattle.std.specs.Int.{w128, to_be_bytes}
+use Rattle.uuid.specs.Text.{lower, hyphenated_text}
+use Rattle.serde_json.specs.Data.{Data, number, unsigned, string, array, object, Members, no_members, put}
+use Rattle.serde_json.specs.View.{items_of}
+use Rattle.sarif_model.specs.declared.record.Record.{Record}
+use Rattle.sarif_suppress.specs.declared.conditions.Conditions.{Conditions}
+
+-- what is asked of a result besides its tool and its rule, by what it has first: a GUID, fingerprints, partial
+-- fingerprints, or its message
+abbrev pub asked_of : Record → Option ℕ → List (List ℕ × List ℕ) → List (List ℕ × List ℕ)
+    → Conditions
+asked_of r (Some guid) full partial = record {
+  tool = Some r.tool;
+  rule_id = Some r.rule_id;
+  uri = None;
+  uri_prefix = None;
+  guid = Some guid;
+  full = [];
+  partial = [];
+  message = None;
+  message_id = None;
+  message_args = [];
+}
+asked_of r None (p ∷ ps) partial = record {
+  tool = Some r.tool;
+  rule_id = Some r.rule_id;
+  uri = r.place.uri;
+  uri_prefix = None;
+  guid = None;
+  full = p ∷ ps;
+  partial = [];
+  message = None;
+  message_id = None;
+  message_args = [];
+}
+asked_of r None [] (p ∷ ps) = record {
+  tool = Some r.tool;
+  rule_id = Some r.rule_id;
+  uri = r.place.uri;
+  uri_prefix = None;
+  guid = None;
+  full = [];
+  partial = p ∷ ps;
+  message = None;
+  message_id = None;
+  message_args = [];
+}
+asked_of r None [] [] = record {
+  tool = Some r.tool;
+  rule_id = Some r.rule_id;
+  uri = r.place.uri;
+  uri_prefix = None;
+  guid = None;
+  full = [];
+  partial = [];
+  message = r.message.text;
+  message_id = r.message.id;
+  message_args = r.message.args;
+}
+
+abbrev pub conditions_for : Record → Conditions
+conditions_for r = asked_of r r.guid r.full r.partial
+
+-- a name, and its value if there is one
+abbrev pub Row : Type 0
+Row = List ℕ × Option Data
+
+abbrev pub with_value : List ℕ → Option Data → Members → Members
+with_value name None ms = ms
+with_value name (Some d) ms = put name d ms
+
+-- the members that have a value
+abbrev pub members_from : List Row → Members
+members_from [] = no_members
+members_from (row ∷ rows) = with_value row.0 row.1 (members_from rows)
+
+-- members, with those of a map of strings
+abbrev pub texts_into : Members → List (List ℕ × List ℕ) → Members
+texts_into ms [] = ms
+texts_into ms (p ∷ ps) = texts_into (put p.0 (string p.1) ms) ps
+
+-- the members of a map of strings
+abbrev pub texts_put : List (List ℕ × List ℕ) → Members
+texts_put ps = texts_into no_members ps
+
+abbrev pub texts_if_any : List (List ℕ × List ℕ) → Option Data
+texts_if_any [] = None
+texts_if_any (p ∷ ps) = Some (object (texts_put (p ∷ ps)))
+
+abbrev pub list_if_any : List Data → Option Data
+list_if_any [] = None
+list_if_any (d ∷ ds) = Some (array (items_of (d ∷ ds)))
+
+-- a GUID in lower-case hexadecimal digits with hyphens (RFC 9562)
+abbrev pub guid_text : ℕ → List ℕ
+guid_text guid = hyphenated_text lower (to_be_bytes w128 guid)
+
+-- the conditions that an entry names, as its members
+abbrev pub condition_rows : Conditions → List Row
+condition_rows c =
+    (codes "tool", option_map string c.tool)
+    ∷ (codes "ruleId", option_map string c.rule_id)
+    ∷ (codes "uri", option_map string c.uri)
+    ∷ (codes "guid", option_map (λ n. string (guid_text n)) c.guid)
+    ∷ (codes "fingerprints", texts_if_any c.full)
+    ∷ (codes "partialFingerprints", texts_if_any c.partial)
+    ∷ (codes "message", option_map string c.message)
+    ∷ (codes "messageId", option_map string c.message_id)
+    ∷ (codes "messageArguments", list_if_any (map string c.message_args))
+    ∷ []
+
+-- the members of an entry with these conditions, with an expiry date and a justification if there are
+abbrev pub entry_rows : Conditions → Option (List ℕ) → Option ℕ → List Row
+entry_rows c reason until =
+    (codes "expires", option_map (λ n. number (unsigned n)) until)
+    ∷ (codes "justification", option_map string reason)
+    ∷ condition_rows c
+
+-- the entry that accepts the result
+abbrev pub entry_for : Record → Option (List ℕ) → Option ℕ → Data
+entry_for r reason until = object (members_from (entry_rows (conditions_for r) reason until))

@@ -1,0 +1,26 @@
+-- Which entries stay in a new suppression file.
+use Rattle.std.specs.Prelude.{ℕ, Bool, true, false, not, ◌&&◌, ◌||◌, List, [], ◌∷◌, Option}
+use Rattle.sarif_model.specs.declared.record.Record.{Record}
+use Rattle.sarif_suppress.specs.declared.entry.Entry.{Entry}
+use Rattle.sarif_suppress.specs.File.{File}
+use Rattle.sarif_suppress.specs.Matching.{is_expired}
+use Rattle.sarif_suppress.specs.Suppressing.{is_unused}
+
+-- whether the tool that an entry names was heard, if it names one
+abbrev pub Heard : Type 0
+Heard = Option (List ℕ) → Bool
+
+-- an entry is dropped by pruning if it expired, or if it matches no current result although its tool was heard
+abbrev pub goes : Heard → File → List Record → Entry → Bool
+goes heard file rs e =
+    is_expired file.today e || (is_unused file rs e && heard e.conditions.tool)
+
+abbrev pub is_kept : Bool → Heard → File → List Record → Entry → Bool
+is_kept prune heard file rs e = not (prune && goes heard file rs e)
+
+-- those of a list that are marked
+abbrev pub chosen : {A : Type 0} → List Bool → List A → List A
+chosen [] xs = []
+chosen (mark ∷ marks) [] = []
+chosen (true ∷ marks) (x ∷ xs) = x ∷ chosen marks xs
+chosen (false ∷ marks) (x ∷ xs) = chosen marks xs

@@ -1,0 +1,12 @@
+pub mod Adding
+pub mod Asked
+pub mod Entry
+pub mod Flags
+pub mod Given
+pub mod Heard
+pub mod HeardSets
+pub mod Keeping
+pub mod NewFile
+pub mod Renewed
+pub mod Until
+pub mod Unused

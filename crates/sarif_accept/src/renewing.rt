@@ -1,0 +1,111 @@
+//! The new suppression file.
+ghost use Rattle.std.specs.Prelude.{◌≡◌, ◌≤◌, ◌<◌, ◌++◌, Some, None, map, length, option_map, string_bytes, IfOk, OnOk};
+ghost use Rattle.serde_json.specs.View.{view, members_view};
+ghost use Rattle.json_parts.specs.Indexed.{json_of};
+ghost use Rattle.json_parts.specs.Mark.{without_mark as unmarked};
+ghost use Rattle.sarif_model.specs.Limits.{most_entries};
+ghost use Rattle.sarif_model.specs.Refusal.{IfFault};
+ghost use Rattle.sarif_model.specs.declared.fault.Fault.TheVariants.{TooMany};
+ghost use Rattle.sarif_model.specs.declared.merge_fault.Cause.TheVariants.{Of};
+ghost use Rattle.sarif_accept.specs.Entry as made;
+ghost use Rattle.sarif_accept.specs.NewFile as parts;
+ghost use Rattle.sarif_accept.specs.NewFile.{file_text};
+ghost use Rattle.sarif_accept.specs.Renewed as said;
+
+use crate::entry::entry_for;
+use crate::old_file::{Old, read_old};
+use crate::printing::print_file;
+use sarif_counts::Renewal;
+use sarif_model::{Cause, Fault, MOST_BYTES, MOST_ENTRIES, Record, Refusal};
+use serde_json::{Map, Value, put};
+use std::alloc::{AllocError, Global};
+
+/// Adds the entries that accept these results to the end.
+fn add_entries(
+    alloc: Global,
+    entries: &mut Vec<Value>,
+    added: &[&Record],
+    renewal: &Renewal,
+) -> Result<(), AllocError>
+    ensures { OnOk result (map view entries.new.items ≡ map view entries.old.items
+        ++ map (λ r. made.entry_for r.now renewal.now.reason renewal.now.until) added.now) }
+{
+    for record in added {
+        entries.push(entry_for(alloc, record, renewal)?)?;
+    }
+    Ok(())
+}
+
+/// The object of these entries and of the other members of a file, of version 4.
+fn file_with(
+    alloc: Global,
+    entries: Vec<Value>,
+    others: Map<String, Value>,
+) -> Result<Value, AllocError>
+    ensures { IfOk result (λ v. view v
+        ≡ parts.file_with (map view entries.items) (members_view others.entries)) }
+{
+    let mut members = others;
+    put(&mut members, alloc, "version", Value::from(4u32))?;
+    put(&mut members, alloc, "suppressions", Value::Array(entries))?;
+    Ok(Value::Object(members))
+}
+
+/// The new file: the entries of the old one that are marked, those that accept results, and its other members. Returns
+/// `TooMany` if it had more than `MOST_ENTRIES` entries.
+fn renewed_file(
+    alloc: Global,
+    bytes: Option<&[u8]>,
+    kept: &[bool],
+    added: &[&Record],
+    renewal: &Renewal,
+) -> Result<Value, Refusal<Cause>>
+    ensures value { IfOk result (λ v. view v ≡ said.renewed_file
+        (option_map (λ b. b.now) bytes.entry) kept.now (map (λ r. r.now) added.now) renewal.now) }
+    ensures few { IfOk result (λ v. length (said.renewed_entries
+        (option_map (λ b. b.now) bytes.entry) kept.now (map (λ r. r.now) added.now) renewal.now)
+        ≤ most_entries) }
+    ensures err { IfFault result (λ cause. (cause ≡ Of TooMany)
+        × (most_entries < length (said.renewed_entries (option_map (λ b. b.now) bytes.entry)
+        kept.now (map (λ r. r.now) added.now) renewal.now))) }
+{
+    let Old {
+        mut entries,
+        others,
+    } = read_old(alloc, bytes, kept)?;
+    add_entries(alloc, &mut entries, added, renewal)?;
+    if entries.len() > MOST_ENTRIES {
+        return Err(Refusal::Fault(Cause::Of(Fault::TooMany)));
+    }
+    Ok(file_with(alloc, entries, others)?)
+}
+
+/// Returns the text of the new suppression file: of the entries of the file `bytes` those that `kept` marks, in order, then
+/// the entries that accept the results `added`, version 4, and the file's other members without numbers that have a
+/// fraction. Without a file there are no entries and no other members. Returns `TooMany` if it had more than
+/// `MOST_ENTRIES` entries, `TooLong` if its text had more than `MOST_BYTES` bytes, so that it could not be read again, and
+/// `OutOfMemory` if memory runs out.
+#[tactic(auto, using(crate::proofs::RenewedFile::is_too_many, crate::proofs::RenewedFile::is_too_long, crate::proofs::RenewedFile::is_accepted))]
+pub fn new_file(
+    alloc: Global,
+    bytes: Option<&[u8]>,
+    kept: &[bool],
+    added: &[&Record],
+    renewal: &Renewal,
+) -> Result<String, Refusal<Cause>>
+    ensures text { IfOk result (λ s. string_bytes s ≡ file_text (said.renewed_file
+        (option_map (λ b. b.now) bytes.entry) kept.now (map (λ r. r.now) added.now) renewal.now)) }
+    ensures reads { IfOk result (λ s. json_of (unmarked (string_bytes s)) ≡ Some (said.renewed_file
+        (option_map (λ b. b.now) bytes.entry) kept.now (map (λ r. r.now) added.now) renewal.now)) }
+    ensures ok { IfOk result (λ s. said.renewal_cause (option_map (λ b. b.now) bytes.entry)
+        kept.now (map (λ r. r.now) added.now) renewal.now ≡ None) }
+    ensures err { IfFault result (λ cause. said.renewal_cause (option_map (λ b. b.now) bytes.entry)
+        kept.now (map (λ r. r.now) added.now) renewal.now ≡ Some cause) }
+{
+    let file = renewed_file(alloc, bytes, kept, added, renewal)?;
+    let text = print_file(alloc, &file)?;
+    if text.len() > MOST_BYTES {
+        return Err(Refusal::Fault(Cause::TooLong));
+    }
+    Ok(text)
+}

@@ -1,0 +1,51 @@
+-- Runs and the log, from their parts.
+use Rattle.std.proofs.Common.{◌≡◌, List, [], ◌∷◌, ◌++◌, map, sym, ap, ◌∙◌, append_assoc}
+use Rattle.json.specs.Layout.{pretty}
+use Rattle.json.specs.Token.{Token}
+use Rattle.sarif_model.specs.declared.merge_fault.MergeFault.{MergeFault}
+use Rattle.sarif_model.specs.declared.record.Record.{Record}
+use Rattle.sarif_known.specs.Chosen.{Chosen}
+use Rattle.sarif_known.specs.KnownLog.{known_log, pretty_text, IsLost}
+use Rattle.sarif_known.specs.KnownRun.{known_run, results_from}
+use Rattle.sarif_known.specs.Tokens.{data_tokens, each_tokens, log_closing, log_opening, run_closing, run_opening}
+use Rattle.sarif_known.proofs.Lost.{part_lost}
+use Rattle.sarif_known.proofs.TokensOf.{three, run_tokens, log_tokens}
+
+-- a run is added by its opening, its results and its closing
+pub run_added : (o o1 o2 o3 : List Token) (run : Chosen) (first again : List Record) → first ≡ run.records → again ≡ run.records
+    → o1 ≡ o ++ run_opening first → o2 ≡ o1 ++ each_tokens (results_from 0 again) → o3 ≡ o2 ++ run_closing run.tool → o3 ≡ o ++ data_tokens (known_run run)
+run_added o o1 o2 o3 run first again same too e1 e2 e3 =
+    three o (run_opening run.records) (each_tokens (results_from 0 run.records)) (run_closing run.tool) o1 o2 o3
+    (e1 ∙ ap (λ rs. o ++ run_opening rs) same) (e2 ∙ ap (λ rs. o1 ++ each_tokens (results_from 0 rs)) too) e3
+    ∙ ap (λ ts. o ++ ts) (sym (run_tokens run))
+
+regrouped : (o a b c : List Token) → ((o ++ a) ++ b) ++ c ≡ o ++ (a ++ (b ++ c))
+regrouped o a b c = simp append_assoc
+
+-- a run is lost where its results are
+pub run_lost : (o o1 : List Token) (run : Chosen) (first again : List Record) (fault : MergeFault) → first ≡ run.records → again ≡ run.records
+    → o1 ≡ o ++ run_opening first → IsLost (pretty (o1 ++ each_tokens (results_from 0 again))) fault → IsLost (pretty (o ++ data_tokens (known_run run))) fault
+run_lost o o1 run first again fault same too e1 lost =
+    part_lost (o1 ++ each_tokens (results_from 0 again)) (run_closing run.tool) (o ++ data_tokens (known_run run)) fault
+    (ap (λ ts. (ts ++ each_tokens (results_from 0 again)) ++ run_closing run.tool) (e1 ∙ ap (λ rs. o ++ run_opening rs) same)
+    ∙ ap (λ rs. ((o ++ run_opening run.records) ++ each_tokens (results_from 0 rs)) ++ run_closing run.tool) too
+    ∙ regrouped o (run_opening run.records) (each_tokens (results_from 0 run.records)) (run_closing run.tool)
+    ∙ ap (λ ts. o ++ ts) (sym (run_tokens run)))
+    lost
+
+-- the runs are lost where one of them is
+pub runs_lost : (o whole : List Token) (run : Chosen) (more : List Chosen) (fault : MergeFault) → o ++ each_tokens (map known_run (run ∷ more)) ≡ whole
+    → IsLost (pretty (o ++ data_tokens (known_run run))) fault → IsLost (pretty whole) fault
+runs_lost o whole run more fault is lost =
+    part_lost (o ++ data_tokens (known_run run)) (each_tokens (map known_run more)) whole fault (append_assoc o (data_tokens (known_run run)) (each_tokens (map known_run more)) ∙ is) lost
+
+-- the log is made of its opening, its runs and its closing
+pub log_made : (o1 o2 o3 : List Token) (runs : List Chosen) → o1 ≡ log_opening → o2 ≡ o1 ++ each_tokens (map known_run runs) → o3 ≡ o2 ++ log_closing → o3 ≡ data_tokens (known_log runs)
+log_made o1 o2 o3 runs e1 e2 e3 = three [] log_opening (each_tokens (map known_run runs)) log_closing o1 o2 o3 e1 e2 e3 ∙ sym (log_tokens runs)
+
+-- the log is lost where its runs are
+pub log_lost : (o1 : List Token) (runs : List Chosen) (fault : MergeFault) → o1 ≡ log_opening
+    → IsLost (pretty (o1 ++ each_tokens (map known_run runs))) fault → IsLost (pretty_text (known_log runs)) fault
+log_lost o1 runs fault e1 lost =
+    part_lost (o1 ++ each_tokens (map known_run runs)) log_closing (data_tokens (known_log runs)) fault
+    (ap (λ ts. (ts ++ each_tokens (map known_run runs)) ++ log_closing) e1 ∙ append_assoc log_opening (each_tokens (map known_run runs)) log_closing ∙ sym (log_tokens runs)) lost

@@ -1,0 +1,8 @@
+use Rattle.std.proofs.Common.{◌≡◌, ◌++◌, drop, map}
+use Rattle.sarif_known.specs.Chosen.{all_chosen}
+use Rattle.sarif_known.specs.KnownRun.{known_run}
+use Rattle.sarif_known.specs.Tokens.{each_tokens}
+use Rattle.sarif_known.proofs.known_log.push_runs.Given as goal
+
+abbrev pub invariant-loop-run : goal.invariant-loop-run
+invariant-loop-run l = l.out ++ each_tokens (map known_run (all_chosen (drop l.run-index l.runs))) ≡ l.initial.out ++ each_tokens (map known_run (all_chosen l.runs))

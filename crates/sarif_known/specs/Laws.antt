@@ -1,0 +1,56 @@
+-- What is said of records that can become known, and of a known log that is read again.
+use Rattle.std.specs.Prelude.{◌≡◌, ◌≤◌, ◌<◌, ◌^◌, ℕ, false, List, [], map, length, IfSome}
+use Rattle.std.specs.List.{AllByRecursion, flat_map}
+use Rattle.json_parts.specs.Ordered.{AreMembersOrdered}
+use Rattle.sarif_model.specs.declared.kinds.Level.TheVariants.{NoLevel}
+use Rattle.sarif_model.specs.declared.record.Record.{Record}
+use Rattle.sarif_model.specs.Limits.{most_results, most_runs}
+use Rattle.sarif_runs.specs.Judging.{faults_of_runs, records_of}
+use Rattle.sarif_runs.specs.Level.{is_fail}
+use Rattle.sarif_runs.specs.Placed.{Placed}
+use Rattle.sarif_known.specs.Chosen.{Chosen, results_among}
+use Rattle.sarif_known.specs.KnownResult.{text_members}
+
+-- what is so of each record that was read: its GUID has 128 bits; it has a level only where its kind is fail; the names
+-- of its fingerprints strictly rise
+pub record IsReadable (r : Record) : Type 0 where
+  pub guid : IfSome r.guid (λ guid. guid < 2 ^ 128)
+  pub level : is_fail r.kind ≡ false → r.level ≡ NoLevel
+  pub full : AreMembersOrdered (text_members r.full)
+  pub partial : AreMembersOrdered (text_members r.partial)
+
+-- the results of a run of this tool can be read again
+pub record IsOfTool (tool : List ℕ) (r : Record) : Type 0 where
+  pub tool_is : r.tool ≡ tool
+  pub readable : IsReadable r
+
+-- few enough results for a log, each of its run's tool
+pub record CanBeRead (runs : List Chosen) : Type 0 where
+  pub each : AllByRecursion (λ run. AllByRecursion (IsOfTool run.tool) run.records) runs
+  pub few_runs : length runs ≤ most_runs
+  pub few_results : results_among runs ≤ most_results
+
+-- the runs of a known log, wherever they are read: none has an error, and the records of their results are just
+-- these, in this order
+pub record AreKnownAgain (runs : List Chosen) (placed : List Placed) : Type 0 where
+  pub faultless : faults_of_runs placed ≡ []
+  pub records : records_of placed ≡ flat_map (λ run. run.records) runs
+
+-- the record without the statuses of its own suppressions
+abbrev pub without_own : Record → Record
+without_own r = record {
+  tool = r.tool;
+  rule_id = r.rule_id;
+  kind = r.kind;
+  level = r.level;
+  message = r.message;
+  place = r.place;
+  guid = r.guid;
+  full = r.full;
+  partial = r.partial;
+  held = [];
+}
+
+-- the records are the same but for those statuses
+abbrev pub AreAlike : List Record → List Record → Type 0
+AreAlike bs others = map without_own bs ≡ map without_own others

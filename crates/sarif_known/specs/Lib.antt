@@ -1,0 +1,9 @@
+pub mod Chosen
+pub mod Groups
+pub mod KnownLog
+pub mod KnownResult
+pub mod KnownRun
+pub mod Laws
+pub mod Order
+pub mod Selected
+pub mod Tokens

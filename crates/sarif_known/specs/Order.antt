@@ -1,0 +1,27 @@
+-- The runs of the known log, tool by tool.
+use Rattle.std.specs.Prelude.{ℕ, not, if◌then◌else◌, ◌&&◌, List, [], ◌∷◌, ◌++◌, map, filter, bytes_eq}
+use Rattle.std.specs.List.{flat_map, list_any}
+use Rattle.sarif_suppress.specs.Matching.{is_empty}
+use Rattle.sarif_known.specs.Chosen.{Chosen}
+
+-- the texts, each once where it comes first, without those before
+abbrev pub once_each : List (List ℕ) → List (List ℕ) → List (List ℕ)
+once_each before [] = []
+once_each before (x ∷ xs) =
+    if list_any (bytes_eq x) before then once_each before xs
+    else x ∷ once_each (before ++ x ∷ []) xs
+
+-- the runs of that tool that have results
+abbrev pub runs_of_tool : List Chosen → List ℕ → List Chosen
+runs_of_tool runs tool =
+    filter (λ run. bytes_eq run.tool tool && not (is_empty run.records)) runs
+
+-- the tools in the order of their first runs
+abbrev pub tools_of : List Chosen → List (List ℕ)
+tools_of runs = once_each [] (map (λ run. run.tool) runs)
+
+-- the runs that are written: the tools in the order of their first runs among those of the baselines and then of
+-- the inputs; of a tool its input runs with a result, then its baseline runs with a result
+abbrev pub known_runs : List Chosen → List Chosen → List Chosen
+known_runs current baseline =
+    flat_map (runs_of_tool (current ++ baseline)) (tools_of (baseline ++ current))

@@ -1,0 +1,58 @@
+-- Which results become known.
+use Rattle.std.specs.Prelude.{Bool, true, false, not, ◌&&◌, ◌||◌, List, [], ◌∷◌}
+use Rattle.sarif_model.specs.declared.record.Record.{Record}
+use Rattle.sarif_model.specs.declared.kinds.State.{State}
+use Rattle.sarif_model.specs.declared.kinds.State.TheVariants.{New, Unchanged, Updated, Absent}
+use Rattle.sarif_counts.specs.Policy.{is_listed, is_at_least}
+use Rattle.sarif_counts.specs.declared.policy.Policy.{Policy}
+use Rattle.sarif_suppress.specs.File.{File}
+use Rattle.sarif_suppress.specs.Suppressing.{is_suppressed, lasting}
+
+-- suppressed, and active without the entries that have an expiry date
+abbrev pub is_accepted_for_now : File → Record → Bool
+is_accepted_for_now file r = is_suppressed file r && not (is_suppressed (lasting file) r)
+
+-- results of this state and level count, if they are active
+abbrev pub counts : Policy → Record → State → Bool
+counts policy r state = is_listed policy.states state && is_at_least policy.fail_on r.level
+
+-- a hit, or suppressed
+abbrev pub is_hit_or_suppressed : File → Policy → Record → State → Bool
+is_hit_or_suppressed file policy r state = is_suppressed file r || counts policy r state
+
+abbrev pub is_new : State → Bool
+is_new New = true
+is_new Unchanged = false
+is_new Updated = false
+is_new Absent = false
+
+-- a current result that doesn't become known: it is accepted for now only; or, unless new results are adopted, it is
+-- new, and a hit or suppressed
+abbrev pub is_left_out : File → Policy → Bool → Record → State → Bool
+is_left_out file policy adopt r state =
+    is_accepted_for_now file r
+    || (not adopt && (is_new state && is_hit_or_suppressed file policy r state))
+
+abbrev pub keep_unless : {A : Type 0} → Bool → A → List A → List A
+keep_unless true x xs = xs
+keep_unless false x xs = x ∷ xs
+
+-- the current results that become known, of these results with these states
+abbrev pub known_of : File → Policy → Bool → List Record → List State → List Record
+known_of file policy adopt [] states = []
+known_of file policy adopt (r ∷ rs) [] = []
+known_of file policy adopt (r ∷ rs) (state ∷ states) =
+    keep_unless (is_left_out file policy adopt r state) r
+    (known_of file policy adopt rs states)
+
+-- those that no current result matches
+abbrev pub unmatched_of : List Record → List Bool → List Record
+unmatched_of [] taken = []
+unmatched_of (r ∷ rs) [] = []
+unmatched_of (r ∷ rs) (t ∷ taken) = keep_unless t r (unmatched_of rs taken)
+
+-- the results of a baseline run that stay known: unmatched results of a tool that was not heard, since nobody looked
+-- for them
+abbrev pub kept_of : Bool → List Record → List Bool → List Record
+kept_of true rs taken = []
+kept_of false rs taken = unmatched_of rs taken

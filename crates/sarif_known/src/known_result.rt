@@ -1,0 +1,147 @@
+//! A known result.
+ghost use Rattle.std.specs.Prelude.{◌≡◌, ◌<◌, ◌^◌, ◌++◌, Some, OnOk, codes};
+ghost use Rattle.serde_json.specs.Data.{no_members, member, number, unsigned};
+ghost use Rattle.sarif_model.specs.declared.place.Place.{Place};
+ghost use Rattle.sarif_known.specs.KnownResult.{known_result, locations_for, members_from, message_rows};
+ghost use Rattle.sarif_known.specs.KnownResult.{object_from, one_location, result_rows, uri_rows};
+ghost use Rattle.sarif_known.specs.Tokens.{closed, data_tokens, first_tokens, last_tokens, opened, value_tokens};
+
+use crate::lines::Lines;
+use crate::members::{
+    push_guid, push_kind, push_level, push_rule_id, push_strings_if, push_suppressions_if,
+    push_text, push_text_if, push_texts_if,
+};
+use itoa::Buffer;
+use json::Token;
+use sarif_model::{Message, Place, Record, Text};
+use std::alloc::AllocError;
+
+/// Adds the message: its text, its id and its arguments, as far as there are any (SARIF 2.1.0, "message object").
+fn push_message(out: &mut Lines, message: &Message) -> Result<(), AllocError>
+    ensures { OnOk result (out.new ≡ out.old
+        ++ value_tokens (codes "message") (Some (object_from (message_rows message.now)))) }
+{
+    out.token(Token::Key("message"))?;
+    out.token(Token::BeginObject)?;
+    push_strings_if(out, "arguments", &message.args)?;
+    push_text_if(out, "id", &message.id)?;
+    push_text_if(out, "text", &message.text)?;
+    out.token(Token::EndObject)?;
+    Ok(())
+}
+
+/// Opens the member `locations` up to the members of the artifact's location.
+fn open_location(out: &mut Lines) -> Result<(), AllocError>
+    ensures { OnOk result (out.new ≡ out.old ++ opened) }
+{
+    out.token(Token::Key("locations"))?;
+    out.token(Token::BeginArray)?;
+    out.token(Token::BeginObject)?;
+    out.token(Token::Key("physicalLocation"))?;
+    out.token(Token::BeginObject)?;
+    out.token(Token::Key("artifactLocation"))?;
+    out.token(Token::BeginObject)?;
+    Ok(())
+}
+
+/// Closes it again.
+fn close_location(out: &mut Lines) -> Result<(), AllocError>
+    ensures { OnOk result (out.new ≡ out.old ++ closed) }
+{
+    out.token(Token::EndObject)?;
+    out.token(Token::EndObject)?;
+    out.token(Token::EndObject)?;
+    out.token(Token::EndArray)?;
+    Ok(())
+}
+
+/// Adds a place by its uri, and its base next to it if it has one.
+fn push_uri(out: &mut Lines, uri: &Text, base: &Option<Text>) -> Result<(), AllocError>
+    ensures { OnOk result (out.new ≡ out.old ++ value_tokens (codes "locations")
+        (Some (one_location (members_from (uri_rows uri.now base.now))))) }
+{
+    open_location(out)?;
+    push_text(out, "uri", uri.as_str())?;
+    push_text_if(out, "uriBaseId", base)?;
+    close_location(out)?;
+    Ok(())
+}
+
+/// Adds the number of an artifact.
+fn push_index(out: &mut Lines, artifact: u32) -> Result<(), AllocError>
+    ensures { OnOk result (out.new ≡ out.old
+        ++ value_tokens (codes "index") (Some (number (unsigned artifact)))) }
+{
+    let mut buffer = Buffer::new();
+    out.token(Token::Key("index"))?;
+    out.token(Token::Number(buffer.format(artifact)))?;
+    Ok(())
+}
+
+/// Adds a place by the artifact that has it.
+fn push_artifact(out: &mut Lines, artifact: u32) -> Result<(), AllocError>
+    ensures { OnOk result (out.new ≡ out.old ++ value_tokens (codes "locations")
+        (Some (one_location (member (codes "index") (number (unsigned artifact)) no_members)))) }
+{
+    open_location(out)?;
+    push_index(out, artifact)?;
+    close_location(out)?;
+    Ok(())
+}
+
+/// Adds the location, if the place has a uri or the number of an artifact (SARIF 2.1.0, "locations property").
+fn push_location(out: &mut Lines, place: &Place, artifact: Option<u32>) -> Result<(), AllocError>
+    ensures { OnOk result (out.new ≡ out.old
+        ++ value_tokens (codes "locations") (locations_for place.now artifact)) }
+{
+    match artifact {
+        Some(number) => push_artifact(out, number),
+        None => match &place.uri {
+            Some(uri) => push_uri(out, uri, &place.base),
+            None => Ok(()),
+        },
+    }
+}
+
+/// Adds the members from `correlationGuid` to `locations`.
+fn push_first_members(
+    out: &mut Lines,
+    found: &Record,
+    artifact: Option<u32>,
+) -> Result<(), AllocError>
+    ensures { OnOk result (out.new ≡ out.old ++ first_tokens found.now artifact) }
+{
+    push_guid(out, found.guid)?;
+    push_texts_if(out, "fingerprints", &found.full)?;
+    push_kind(out, found.kind)?;
+    push_level(out, found.kind, found.level)?;
+    push_location(out, &found.place, artifact)?;
+    Ok(())
+}
+
+/// Adds the members from `message` to `suppressions`.
+fn push_last_members(out: &mut Lines, found: &Record) -> Result<(), AllocError>
+    ensures { OnOk result (out.new ≡ out.old ++ last_tokens found.now) }
+{
+    push_message(out, &found.message)?;
+    push_texts_if(out, "partialFingerprints", &found.partial)?;
+    push_rule_id(out, &found.rule_id)?;
+    push_suppressions_if(out, &found.held)?;
+    Ok(())
+}
+
+/// Adds the result of a record, whose place is that of an artifact if it has a number (SARIF 2.1.0, "result
+/// object").
+pub(crate) fn push_result(
+    out: &mut Lines,
+    found: &Record,
+    artifact: Option<u32>,
+) -> Result<(), AllocError>
+    ensures { OnOk result (out.new ≡ out.old ++ data_tokens (known_result found.now artifact)) }
+{
+    out.token(Token::BeginObject)?;
+    push_first_members(out, found, artifact)?;
+    push_last_members(out, found)?;
+    out.token(Token::EndObject)?;
+    Ok(())
+}

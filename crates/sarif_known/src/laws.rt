@@ -1,0 +1,45 @@
+//! Laws of the known log, each the contract of a function that does nothing.
+ghost use Rattle.std.specs.Prelude.{◌≡◌, ℕ, Bool, List, Option, Some, Ok, map, option_and_then};
+ghost use Rattle.std.specs.Prelude.{slice_get, slice_index_or};
+ghost use Rattle.serde_json.specs.Data.{Data, null};
+ghost use Rattle.json_parts.specs.Indexed.{json_of};
+ghost use Rattle.json_parts.specs.Mark.{without_mark};
+ghost use Rattle.sarif_match.specs.Partners.{partners_of};
+ghost use Rattle.sarif_match.specs.State.{state_of};
+ghost use Rattle.sarif_model.specs.declared.record.Record.{Record};
+ghost use Rattle.sarif_read.specs.Reading.{log_of};
+ghost use Rattle.sarif_runs.specs.Judging.{run_values};
+ghost use Rattle.sarif_runs.specs.Placed.{Placed};
+ghost use Rattle.sarif_runs.specs.Record.{record_of, tool_name};
+ghost use Rattle.sarif_known.specs.Chosen.{Chosen};
+ghost use Rattle.sarif_known.specs.KnownLog.{known_log};
+ghost use Rattle.sarif_known.specs.KnownRun.{known_run};
+ghost use Rattle.sarif_known.specs.Laws.{AreAlike, AreKnownAgain, CanBeRead, IsOfTool};
+
+/// What is known is read again: the known log is read without an error, and the records of its results are just
+/// those that were written, in their order. `known_text` ensures the premise.
+pub fn what_is_known_is_read_again()
+    ensures log { (allow : Bool) (runs : List Chosen) (text : List ℕ) → CanBeRead runs
+        → json_of (without_mark text) ≡ Some (known_log runs)
+        → log_of allow text ≡ Ok (map known_run runs) }
+    ensures records { (runs : List Chosen) (placed : List Placed) → CanBeRead runs
+        → run_values placed ≡ map known_run runs → AreKnownAgain runs placed }
+{}
+
+/// Each result that was read can become known: its record is of its run's tool, and can be read again.
+pub fn what_is_read_can_be_known()
+    ensures { (allow : Bool) (bytes : List ℕ) (runs : List Data) (k seq : ℕ) (r : Record)
+        → log_of allow bytes ≡ Ok runs → record_of (slice_index_or runs k null) seq ≡ Ok r
+        → IsOfTool (tool_name (slice_index_or runs k null)) r }
+{}
+
+/// Baselines whose records are the same but for their own suppressions give each current result the same match and
+/// the same state.
+pub fn own_suppressions_of_a_baseline_change_no_match()
+    ensures partners { (current baseline others : List Record) → AreAlike baseline others
+        → partners_of current baseline ≡ partners_of current others }
+    ensures states { (r : Record) (baseline others : List Record) (partner : Option ℕ)
+        → AreAlike baseline others
+        → state_of r (option_and_then (slice_get baseline) partner)
+        ≡ state_of r (option_and_then (slice_get others) partner) }
+{}

@@ -1,0 +1,21 @@
+//! The known log: a baseline that people can read, review and merge. It has of each result just what matching and
+//! states look at.
+#![tactic(auto)]
+
+mod choosing;
+mod chosen;
+mod known_log;
+mod known_result;
+mod known_run;
+mod laws;
+mod lines;
+mod members;
+mod order;
+
+pub use choosing::{Choice, Results, keep_run, know_run};
+pub use chosen::KnownRun;
+pub use known_log::known_text;
+pub use laws::{
+    own_suppressions_of_a_baseline_change_no_match, what_is_known_is_read_again,
+    what_is_read_can_be_known,
+};

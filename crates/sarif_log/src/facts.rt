@@ -1,0 +1,18 @@
+//! What outputs besides the log are made of.
+use sarif_counts::{Counts, Life};
+use sarif_findings::Finding;
+
+/// What is known of a merge before the text of its log is made: what its other outputs are made of.
+#[derive(Clone, Copy)]
+pub struct Facts<'m> {
+    /// The results of the log, counted.
+    pub counts: &'m Counts,
+    /// How many input runs have no results.
+    pub without: u32,
+    /// How many entries of the suppression file match no current result.
+    pub unused: u32,
+    /// The findings of the results, in the order of the log; empty if none were requested.
+    pub findings: &'m Vec<Finding>,
+    /// What is for later merges.
+    pub life: &'m Life,
+}

@@ -1,0 +1,34 @@
+-- A merge of which nothing was requested for later merges.
+use Rattle.std.proofs.Common.{◌≡◌, ◌⊎◌, ℕ, List, Option, Some, inl, inr}
+use Rattle.std.specs.Prelude.{None}
+use Rattle.sarif_counts.specs.declared.checks.Checks.{Checks}
+use Rattle.sarif_counts.specs.declared.policy.Policy.{Policy}
+use Rattle.sarif_counts.specs.declared.upkeep.Upkeep.{Upkeep}
+use Rattle.sarif_findings.specs.declared.reporting.Reporting.{Reporting}
+use Rattle.sarif_log.specs.declared.merged.Merged.{Merged}
+use Rattle.sarif_model.specs.declared.merge_fault.MergeFault.{MergeFault}
+use Rattle.sarif_model.specs.FirstFault.{IsWanting}
+use Rattle.sarif_inputs.specs.Faults.{first_fault}
+use Rattle.sarif_inputs.specs.Inputs.{Inputs}
+use Rattle.sarif_merge.specs.Life.{IsRefusal}
+use Rattle.sarif_streams.specs.declared.readers.Readers.{Readers}
+use Rattle.sarif_merge.specs.FromReaders.{IsMergedFrom, IsMergedWith, IsRefused, IsRefusedWith}
+
+-- the merge that was read is that of the log alone
+pub merged_alone : {R : Type 0} → (remaining : R → Option (List ℕ)) → (old new : Readers R) → (today : Option ℕ) → (checks : Checks) → (policy : Policy) → (asked : Option Reporting) → (upkeep : Option Upkeep) → (merged : Merged)
+    → IsMergedWith remaining old new today checks policy asked upkeep merged → IsMergedFrom remaining old new today checks policy asked merged
+merged_alone remaining old new today checks policy asked upkeep merged with_life = (with_life.0, with_life.1, with_life.2)
+
+-- and it is rejected for no other reason
+pub refused_alone : {R : Type 0} → (remaining : R → Option (List ℕ)) → (old new : Readers R) → (today : Option ℕ) → (checks : Checks) → (policy : Policy) → (fault : MergeFault)
+    → IsRefusedWith remaining old new today checks policy None fault → IsRefused remaining old new today checks fault
+refused_alone remaining old new today checks policy fault refused = elim refused [ inl same ↦ same | inr large ↦ let never : ⊥ = cc large.1.3 in absurd never ]
+
+pub refusal_alone : (inputs : Inputs) (policy : Policy) (fault : MergeFault) → IsRefusal inputs policy None fault → IsWanting fault ⊎ (first_fault inputs ≡ Some fault)
+refusal_alone inputs policy fault (inl same) = same
+refusal_alone inputs policy fault (inr large) = let never : ⊥ = cc large.1 in absurd never
+
+-- what rejects the merge of the log alone rejects the merge
+pub refused_first : {R : Type 0} → (remaining : R → Option (List ℕ)) → (old new : Readers R) → (today : Option ℕ) → (checks : Checks) → (policy : Policy) → (upkeep : Option Upkeep) → (fault : MergeFault)
+    → IsRefused remaining old new today checks fault → IsRefusedWith remaining old new today checks policy upkeep fault
+refused_first remaining old new today checks policy upkeep fault refused = inl refused

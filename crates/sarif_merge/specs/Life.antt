@@ -1,0 +1,33 @@
+-- What a merge gives for later merges.
+use Rattle.std.specs.Prelude.{◌≡◌, ◌⊎◌, [], Option, Some}
+use Rattle.sarif_counts.specs.declared.life.Life.{Life}
+use Rattle.sarif_counts.specs.declared.policy.Policy.{Policy}
+use Rattle.sarif_counts.specs.declared.upkeep.Upkeep.{Upkeep}
+use Rattle.sarif_model.specs.declared.merge_fault.MergeFault.{MergeFault}
+use Rattle.sarif_model.specs.FirstFault.{first, IsWanting}
+use Rattle.sarif_upkeep.specs.Life.{life_faults}
+use Rattle.sarif_upkeep.specs.Merge.{Merge}
+use Rattle.sarif_log.specs.Kept.{merge_of, IsKept}
+use Rattle.sarif_inputs.specs.Faults.{faults_of, first_fault}
+use Rattle.sarif_inputs.specs.Inputs.{Inputs, input_runs, baseline_runs}
+use Rattle.sarif_merge.specs.MergedLog.{file_given}
+
+-- the merge of these inputs under this policy
+abbrev pub merge_in : Inputs → Policy → Merge
+merge_in inputs policy =
+    merge_of (file_given inputs) inputs.suppressions policy (input_runs inputs) (baseline_runs inputs)
+
+-- what is for later merges is what was requested and nothing else, and each file of it can be read again
+abbrev pub IsLifeOf : Inputs → Policy → Option Upkeep → Life → Type 0
+IsLifeOf inputs policy upkeep life = IsKept (merge_in inputs policy) upkeep life
+
+-- the first file of what was requested for later merges that could not be read again, and why
+abbrev pub IsTooLarge : Inputs → Policy → Option Upkeep → MergeFault → Type 0
+IsTooLarge inputs policy upkeep fault = first (life_faults (merge_in inputs policy) upkeep) ≡ Some fault
+
+-- why a merge that was read is rejected: memory ran out, a thread could not be started, or this is the first error of
+-- the inputs; or they have none, and what was requested for later merges is too large
+abbrev pub IsRefusal : Inputs → Policy → Option Upkeep → MergeFault → Type 0
+IsRefusal inputs policy upkeep fault =
+    (IsWanting fault ⊎ (first_fault inputs ≡ Some fault))
+    ⊎ ((faults_of inputs ≡ []) × IsTooLarge inputs policy upkeep fault)

@@ -1,0 +1,26 @@
+-- The facts of a merge, as its outputs are made from them, and the lines on what is for later merges.
+use Rattle.std.proofs.Common.{◌≡◌, ◌∙◌, [], Option, Some, None, ap, refl}
+use Rattle.std.specs.Prelude.{option_map}
+use Rattle.sarif_counts.specs.declared.life.Life.{Life}
+use Rattle.sarif_counts.specs.Counts.{count_at}
+use Rattle.sarif_log.specs.declared.facts.Facts.{Facts as MergeFacts}
+use Rattle.sarif_log.specs.declared.merged.Merged.{Merged}
+use Rattle.sarif_log.specs.Beside.{AreFactsOf}
+use Rattle.sarif_request.specs.declared.request.Request.{Request}
+use Rattle.sarif_program.specs.Notes.{lines_of}
+use Rattle.sarif_program.specs.Reports.{facts_for, facts_with}
+
+-- the facts of the merge are those that were told
+pub same_facts : (request : Request) (merged : Merged) (facts : MergeFacts) → AreFactsOf merged facts → facts_with request facts ≡ facts_for request merged
+same_facts request merged facts are = λ i. record {
+  count = count_at (are.counts i);
+  policy = request.options.policy;
+  findings = (are.findings i).items;
+  without = are.without i;
+  unused = are.unused i;
+  life = Some (are.life i);
+}
+
+-- there is no line on what is not there
+pub no_lines : (life : Life) → life.suppressions ≡ None → life.known ≡ None → lines_of life ≡ []
+no_lines life unrenewed unknown = rw (unrenewed, unknown) refl

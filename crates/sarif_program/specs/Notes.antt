@@ -1,0 +1,41 @@
+-- The lines on what a merge gives for later merges: this project's own format.
+use Rattle.std.specs.Prelude.{◌≡◌, ℕ, List, [], ◌++◌, Option, take, codes}
+use Rattle.std.specs.Fmt.{decimal}
+use Rattle.std.specs.Io.KnownBytes.{Appends}
+use Rattle.std.specs.Option.{option_map_or}
+use Rattle.sarif_counts.specs.declared.life.KnownLog.{KnownLog}
+use Rattle.sarif_counts.specs.declared.life.Life.{Life}
+use Rattle.sarif_counts.specs.declared.life.NewFile.{NewFile}
+use Rattle.sarif_counts.specs.Summary.{newline}
+use Rattle.sarif_streams.specs.Counted.{failed_calls, inner_of}
+use Rattle.sarif_program.specs.declared.complaint.Complaints.{Complaints}
+
+-- the line on a new suppression file
+abbrev pub file_line : NewFile → List ℕ
+file_line file =
+    codes "sarif_gate: " ++ (decimal file.accepted
+    ++ (codes " accepted, " ++ (decimal file.stay
+    ++ (codes " stay, " ++ (decimal file.pruned
+    ++ (codes " pruned, " ++ (decimal file.entries ++ (codes " entries" ++ newline))))))))
+
+-- the line on a known log
+abbrev pub log_line : KnownLog → List ℕ
+log_line log =
+    codes "sarif_gate: " ++ (decimal log.known
+    ++ (codes " known, " ++ (decimal log.left_out
+    ++ (codes " left out, " ++ (decimal log.kept ++ (codes " kept" ++ newline))))))
+
+-- a line for each of the two that there is
+abbrev pub lines_of : Life → List ℕ
+lines_of life = option_map_or file_line life.suppressions [] ++ option_map_or log_line life.known []
+
+-- these lines were written, or a prefix of them if a write failed; no error was reported, and nothing was written if
+-- there are no lines
+pub record AreNoted {E : Type 0} (contents : E → Option (List ℕ)) (lines : List ℕ)
+    (old new : Complaints E) : Type 0 where
+  pub whole : failed_calls new.out ≡ failed_calls old.out
+      → Appends (contents (inner_of old.out)) (contents (inner_of new.out)) lines
+  pub prefix : (n : ℕ)
+      × Appends (contents (inner_of old.out)) (contents (inner_of new.out)) (take n lines)
+  pub last : new.last ≡ old.last
+  pub none : lines ≡ [] → new ≡ old

@@ -1,0 +1,123 @@
+-- The laws of the report in JUnit XML.
+use Rattle.std.proofs.Common.{◌≡◌, ◌<◌, ◌≤◌, ◌^◌, ◌+◌, ◌==◌, ◌||◌, ◌++◌, ℕ, Bool, true, false, List, [], ◌∷◌, codes, length, chars, if◌then◌else◌, refl, sym, ap, ◌∙◌, append-nil, ⊎_elim, arith}
+use Rattle.std.specs.Prelude.{nat_lt}
+use Rattle.std.specs.List.{list_all}
+use Rattle.std.specs.Str.{IsUtf8}
+use Rattle.std.proofs.Math.Utf8.{scalar, scalar_cases, scalars}
+use Rattle.std.proofs.lemmas.Bool.{and_from, and_parts, eqb-true, le-ltb, lt-ltb, ltb-true, not-true, or_parts}
+use Rattle.std.proofs.lemmas.Bool.Decides.{nat_tests}
+use Rattle.std.proofs.lemmas.Str.{scalars-chars}
+use Rattle.serde_json.specs.Data.{Data}
+use Rattle.sarif_model.specs.Run.{runs_of}
+use Rattle.sarif_counts.specs.declared.policy.Verdict.{Verdict}
+use Rattle.sarif_counts.specs.declared.policy.Verdict.TheVariants.{Pass, Fail}
+use Rattle.sarif_counts.specs.Policy.{hits_of, verdict_of}
+use Rattle.sarif_counts.specs.CountOf.{count_of}
+use Rattle.sarif_findings.specs.declared.finding.Finding.{Finding}
+use Rattle.sarif_findings.specs.declared.reporting.Reporting.{Reporting}
+use Rattle.sarif_findings.specs.Reported.{reported_of}
+use Rattle.sarif_findings.specs.Shown.{is_blank_letter, is_concealed, is_control, is_unseen_mark}
+use Rattle.sarif_findings.specs.ShownLaws.{is_seen}
+use Rattle.sarif_findings.proofs.CharsBack.{chars_back}
+use Rattle.sarif_findings.proofs.HitsReported.{hits_reported}
+use Rattle.sarif_findings.proofs.ToldFindings.{all_told}
+use Rattle.sarif_reports.specs.JunitLaws.{IsXmlText, cases_of, document_of, fails, is_xml_char, occurrences}
+use Rattle.sarif_reports.specs.JunitReport.{failures_in, hits_in, skipped_in}
+use Rattle.sarif_reports.specs.Listed.{listed}
+use Rattle.sarif_reports.proofs.JunitApart.{IsLines, Piece, case_tag, document_piece, failure_tag, skipped_tag}
+use Rattle.sarif_reports.proofs.ListedHits.{listed_hits}
+use Rattle.sarif_reports.proofs.ListedMore.{length_listed, listed_told}
+
+-- the numbers of elements of a whole document
+whole : (part text : List ℕ) (n : ℕ) → ((more : List ℕ) → occurrences part (text ++ more) ≡ occurrences part more + n) → occurrences part text ≡ n
+whole part text n h = ap (occurrences part) (sym (append-nil text)) ∙ h [] ∙ omega arith
+
+abbrev verdict_on : Reporting → Data → Verdict
+verdict_on reporting log = verdict_of (count_of (runs_of log)) reporting.policy
+
+piece : (reporting : Reporting) (log : Data) → length (reported_of reporting log) < 2 ^ 64
+    → Piece (cases_of (length (listed (reported_of reporting log)))) (failures_in (verdict_on reporting log) (listed (reported_of reporting log)))
+    (skipped_in (verdict_on reporting log) (listed (reported_of reporting log))) (document_of reporting log)
+piece reporting log small =
+    let fs = reported_of reporting log in
+    let size = length_listed fs in
+    document_piece (verdict_on reporting log) (listed fs) (listed_told fs (all_told reporting log)) (omega (arith, size, small))
+
+pub cases_told : (reporting : Reporting) (log : Data) → length (reported_of reporting log) < 2 ^ 64
+    → occurrences (codes "<testcase ") (document_of reporting log) ≡ cases_of (length (reported_of reporting log))
+cases_told reporting log small =
+    whole case_tag (document_of reporting log) _ (piece reporting log small).cases ∙ ap cases_of (length_listed (reported_of reporting log))
+
+both : (v : Verdict) (fs : List Finding) → failures_in v fs + skipped_in v fs ≡ hits_in fs
+both Fail fs = omega arith
+both Pass fs = omega arith
+
+hits_told : (reporting : Reporting) (log : Data) → hits_in (listed (reported_of reporting log)) ≡ hits_of (count_of (runs_of log)) reporting.policy
+hits_told reporting log = listed_hits (reported_of reporting log) ∙ hits_reported reporting log
+
+pub hits_shown : (reporting : Reporting) (log : Data) → length (reported_of reporting log) < 2 ^ 64
+    → occurrences (codes "<failure ") (document_of reporting log) + occurrences (codes "<skipped ") (document_of reporting log)
+    ≡ hits_of (count_of (runs_of log)) reporting.policy
+hits_shown reporting log small =
+    let fs = listed (reported_of reporting log) in
+    let failures = whole failure_tag (document_of reporting log) _ (piece reporting log small).failures in
+    let skips = whole skipped_tag (document_of reporting log) _ (piece reporting log small).skips in
+    let hits = both (verdict_on reporting log) fs in
+    let told = hits_told reporting log in
+    omega (arith, failures, skips, hits, told)
+
+failed_by : (b : Bool) (max hits n : ℕ) → nat_lt max hits ≡ b → n ≡ (if b then hits else 0) → nat_lt 0 n ≡ b
+failed_by true max hits n e is =
+    let more = ltb-true max hits e in
+    lt-ltb 0 n (omega (arith, more, is))
+failed_by false max hits n e is = le-ltb 0 n (omega (arith, is))
+
+failures_by : (b : Bool) (fs : List Finding) → failures_in (if b then Fail else Pass) fs ≡ (if b then hits_in fs else 0)
+failures_by true fs = refl
+failures_by false fs = refl
+
+fails_by : (b : Bool) → fails (if b then Fail else Pass) ≡ b
+fails_by true = refl
+fails_by false = refl
+
+pub failures_tell : (reporting : Reporting) (log : Data) → length (reported_of reporting log) < 2 ^ 64
+    → nat_lt 0 (occurrences (codes "<failure ") (document_of reporting log)) ≡ fails (verdict_of (count_of (runs_of log)) reporting.policy)
+failures_tell reporting log small =
+    let hits = hits_of (count_of (runs_of log)) reporting.policy in
+    let over = nat_lt reporting.policy.max hits in
+    let failures = whole failure_tag (document_of reporting log) _ (piece reporting log small).failures in
+    let told = failures_by over (listed (reported_of reporting log)) ∙ ap (λ n. if over then n else 0) (hits_told reporting log) in
+    failed_by over reporting.policy.max hits _ refl (failures ∙ told) ∙ sym (fails_by over)
+
+-- ---- characters
+
+xml_low : (c : ℕ) → is_control c ≡ false → c < 55296 → is_xml_char c ≡ true
+xml_low c h small = grind (arith, nat_tests, h, small)
+
+xml_high : (c : ℕ) → is_control c ≡ false → 57344 ≤ c → c < 1114112 → is_xml_char c ≡ true
+xml_high c h large small = grind (arith, nat_tests, h, large, small)
+
+seen_xml : (c : ℕ) → is_seen c ≡ true → scalar c ≡ true → is_xml_char c ≡ true
+seen_xml c seen whole =
+    let control = (or_parts (is_control c) (is_unseen_mark c || is_blank_letter c) (not-true (is_concealed c) seen)).0 in
+    ⊎_elim (λ small. xml_low c control small) (λ range. xml_high c control range.0 range.1) (scalar_cases c whole)
+
+line_xml : (b : Bool) (c : ℕ) → (c == 10) ≡ b → (b || is_seen c) ≡ true → scalar c ≡ true → is_xml_char c ≡ true
+line_xml true c e seen whole = let same = eqb-true c 10 e in rw same refl
+line_xml false c e seen whole = seen_xml c seen whole
+
+all_xml : (cs : List ℕ) → list_all (λ c. c == 10 || is_seen c) cs ≡ true → scalars cs ≡ true → list_all is_xml_char cs ≡ true
+all_xml [] h s = refl
+all_xml (c ∷ cs) h s =
+    let seen = and_parts (c == 10 || is_seen c) (list_all (λ c. c == 10 || is_seen c) cs) h in
+    let whole = and_parts (scalar c) (scalars cs) s in
+    and_from (is_xml_char c) (list_all is_xml_char cs) (line_xml (c == 10) c refl seen.0 whole.0) (all_xml cs seen.1 whole.1)
+
+lines_xml : (text : List ℕ) → IsLines text → IsUtf8 text → IsXmlText text
+lines_xml text lines utf8 =
+    let same : chars text ≡ lines.0 = sym (ap chars lines.1) ∙ chars_back lines.0 in
+    (lines.0, lines.1, all_xml lines.0 lines.2 (ap scalars (sym same) ∙ scalars-chars text utf8))
+
+pub characters_allowed : (reporting : Reporting) (log : Data) → length (reported_of reporting log) < 2 ^ 64
+    → IsUtf8 (document_of reporting log) → IsXmlText (document_of reporting log)
+characters_allowed reporting log small utf8 = lines_xml (document_of reporting log) (piece reporting log small).lines utf8

@@ -1,0 +1,51 @@
+-- Properties of the report in JUnit XML, for any strings of a log.
+use Rattle.std.specs.Prelude.{◌≡◌, ℕ, ◌+◌, Bool, true, false, ◌||◌, ◌==◌, nat_eq, List, [], ◌∷◌, ◌++◌, encode_utf8_all, if◌then◌else◌}
+use Rattle.std.specs.List.{list_all, starts_with}
+use Rattle.serde_json.specs.Data.{Data}
+use Rattle.sarif_model.specs.Run.{runs_of}
+use Rattle.sarif_counts.specs.declared.policy.Verdict.{Verdict}
+use Rattle.sarif_counts.specs.declared.policy.Verdict.TheVariants.{Pass, Fail}
+use Rattle.sarif_counts.specs.CountOf.{count_of}
+use Rattle.sarif_counts.specs.Policy.{verdict_of}
+use Rattle.sarif_findings.specs.declared.finding.Finding.{Finding}
+use Rattle.sarif_findings.specs.declared.reporting.Reporting.{Reporting}
+use Rattle.sarif_findings.specs.Reported.{reported_of}
+use Rattle.sarif_findings.specs.Shown.{is_between}
+use Rattle.sarif_reports.specs.JunitReport.{case_name, junit_document}
+use Rattle.sarif_reports.specs.Listed.{listed}
+
+-- how often a string occurs in another
+abbrev pub occurrences : List ℕ → List ℕ → ℕ
+occurrences part [] = 0
+occurrences part (b ∷ bs) =
+    if starts_with nat_eq (b ∷ bs) part then occurrences part bs + 1 else occurrences part bs
+
+-- how many test cases there are for so many results: at least one
+abbrev pub cases_of : ℕ → ℕ
+cases_of n = if n == 0 then 1 else n
+
+-- the report of a merged log
+abbrev pub document_of : Reporting → Data → List ℕ
+document_of reporting log =
+    junit_document (verdict_of (count_of (runs_of log)) reporting.policy)
+    (listed (reported_of reporting log))
+
+abbrev pub fails : Verdict → Bool
+fails Fail = true
+fails Pass = false
+
+-- the names of these results of a suite, which follow the earlier ones
+abbrev pub names_after : List Finding → List Finding → List (List ℕ)
+names_after earlier [] = []
+names_after earlier (f ∷ fs) = case_name earlier f ∷ names_after (earlier ++ f ∷ []) fs
+
+-- whether a character may occur in a document (XML 1.0, "Characters")
+abbrev pub is_xml_char : ℕ → Bool
+is_xml_char c =
+    c == 9 || (c == 10 || (c == 13 || (is_between 0x20 0xD7FF c
+    || (is_between 0xE000 0xFFFD c || is_between 0x10000 0x10FFFF c))))
+
+-- text of such characters
+abbrev pub IsXmlText : List ℕ → Type 0
+IsXmlText text =
+    (cs : List ℕ) × (encode_utf8_all cs ≡ text) × (list_all is_xml_char cs ≡ true)

@@ -1,0 +1,58 @@
+-- Sentences that several reports share.
+use Rattle.std.specs.Prelude.{ℕ, List, ◌++◌, ◌==◌, codes, if◌then◌else◌}
+use Rattle.std.specs.Fmt.{decimal}
+use Rattle.sarif_counts.specs.declared.policy.Verdict.{Verdict}
+use Rattle.sarif_counts.specs.Policy.{verdict_name}
+
+-- a number and what it counts: in the singular for 1
+abbrev pub counted : ℕ → List ℕ → List ℕ → List ℕ
+counted n one more = decimal n ++ (if n == 1 then one else more)
+
+-- N hits
+abbrev pub hits_text : ℕ → List ℕ
+hits_text hits = counted hits (codes " hit") (codes " hits")
+
+-- what follows the verdict: N hits, MAX allowed
+abbrev pub gate_end : ℕ → ℕ → List ℕ
+gate_end hits max =
+    codes ", " ++ (hits_text hits ++ (codes ", " ++ (decimal max ++ codes " allowed")))
+
+-- Gate: VERDICT, N hits, MAX allowed
+abbrev pub gate_text : Verdict → ℕ → ℕ → List ℕ
+gate_text verdict hits max = codes "Gate: " ++ (verdict_name verdict ++ gate_end hits max)
+
+-- results without a row, all of them hits
+abbrev pub more_hits : ℕ → List ℕ
+more_hits n =
+    counted n (codes " more hit is in the merged log.") (codes " more hits are in the merged log.")
+
+-- results without a row, none of them a hit
+abbrev pub more_others : ℕ → List ℕ
+more_others n =
+    counted n (codes " more result is in the merged log.")
+    (codes " more results are in the merged log.")
+
+-- n results without a row, and what some of them are
+abbrev pub more_with : ℕ → List ℕ → List ℕ
+more_with n of_them = decimal n ++ (codes " more results are in the merged log, " ++ of_them)
+
+-- n results without a row, some of them hits
+abbrev pub more_of_both : ℕ → ℕ → List ℕ
+more_of_both n hits = more_with n (counted hits (codes " of them a hit.") (codes " of them hits."))
+
+-- how many results have no row, and how many of them are hits
+abbrev pub more_text : ℕ → ℕ → List ℕ
+more_text n hits =
+    if hits == n then more_hits n else (if hits == 0 then more_others n else more_of_both n hits)
+
+-- how many input runs have no results
+abbrev pub runs_text : ℕ → List ℕ
+runs_text n =
+    counted n (codes " run without results: nothing is known of what it looked for.")
+    (codes " runs without results: nothing is known of what they looked for.")
+
+-- how many entries of the suppression file match no current result
+abbrev pub entries_text : ℕ → List ℕ
+entries_text n =
+    counted n (codes " suppression entry matches nothing.")
+    (codes " suppression entries match nothing.")

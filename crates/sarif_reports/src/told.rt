@@ -1,0 +1,23 @@
+//! The input of reports.
+use sarif_counts::{Counts, Life, Policy};
+use sarif_findings::Finding;
+use std::hash::RandomState;
+
+/// What reports are made from: the results of the merged log, counted, the policy of the gate, and the findings.
+#[derive(Clone, Copy, Drop)]
+pub struct Told<'a> {
+    /// How many results the merged log has, by baseline state, level and suppression.
+    pub counts: &'a Counts,
+    /// The policy of the gate, which decides the hits and the verdict.
+    pub policy: &'a Policy,
+    /// The findings, in the order of the merged log.
+    pub findings: &'a [Finding],
+    /// How many input runs have no results.
+    pub without: u32,
+    /// How many entries of the suppression file match no current result.
+    pub unused: u32,
+    /// What is for later merges, if anything is.
+    pub life: Option<&'a Life>,
+    /// The seed of hash tables whose keys come from logs. No report depends on it.
+    pub seed: RandomState,
+}

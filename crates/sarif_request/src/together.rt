@@ -1,0 +1,141 @@
+//! Which options go together.
+ghost use Rattle.std.specs.Prelude.{◌≡◌};
+ghost use Rattle.sarif_request.specs.Together as said;
+
+use sarif_suppress::is_day;
+
+/// Which options are given of those that need each other, and the dates among their values.
+#[derive(Clone, Copy, Debug)]
+pub struct Given {
+    /// The suppression file.
+    pub suppress: bool,
+    /// The new suppression file.
+    pub suppress_out: bool,
+    /// Whether hits get entries.
+    pub accept: bool,
+    /// Whether entries are dropped.
+    pub prune: bool,
+    /// The justification of added entries.
+    pub reason: bool,
+    /// The expiry date of added entries as YYYYMMDD.
+    pub until: Option<u32>,
+    /// Today's date as YYYYMMDD.
+    pub today: Option<u32>,
+    /// The list of unused entries.
+    pub unused: bool,
+    /// The known log.
+    pub known: bool,
+    /// Whether new hits become known too.
+    pub adopt: bool,
+}
+
+/// Why options don't go together.
+#[derive(Clone, Copy, Debug, PartialEq, Eq)]
+pub enum Misfit {
+    /// There is no file for the entries of accepted hits.
+    AcceptNeedsFile,
+    /// There is no file for the entries that are kept.
+    PruneNeedsFile,
+    /// Nothing is changed in the new suppression file.
+    FileNeedsChange,
+    /// There are no entries to drop.
+    PruneNeedsEntries,
+    /// There are no entries to justify.
+    ReasonNeedsAccept,
+    /// There are no entries to list.
+    UnusedNeedsEntries,
+    /// A known log does not know what the same merge accepts.
+    KnownWithAccept,
+    /// There is no known log.
+    AdoptNeedsKnown,
+    /// There are no entries that could expire.
+    UntilNeedsAccept,
+    /// An expiry date needs today's date.
+    UntilNeedsToday,
+    /// The expiry date is not a date.
+    UntilIsNoDate,
+    /// The expiry date is before today's date.
+    UntilIsPast,
+}
+
+impl Misfit {
+    /// Returns the sentence for users, which names the options.
+    pub fn sentence(self) -> &'static str {
+        match self {
+            Misfit::AcceptNeedsFile => "--accept needs --suppress-out",
+            Misfit::PruneNeedsFile => "--prune needs --suppress-out",
+            Misfit::FileNeedsChange => "--suppress-out needs --accept, --prune or both",
+            Misfit::PruneNeedsEntries => "--prune needs --suppress",
+            Misfit::ReasonNeedsAccept => "--reason needs --accept",
+            Misfit::UnusedNeedsEntries => "--unused needs --suppress",
+            Misfit::KnownWithAccept =>
+                "--known and --accept cannot be used together: the next merge knows what was accepted",
+            Misfit::AdoptNeedsKnown => "--adopt needs --known",
+            Misfit::UntilNeedsAccept => "--until needs --accept",
+            Misfit::UntilNeedsToday => "--until needs --today",
+            Misfit::UntilIsNoDate =>
+                "invalid value for '--until <YYYYMMDD>': expected a date, for example 20270101",
+            Misfit::UntilIsPast => "the date of --until is before the date of --today",
+        }
+    }
+}
+
+/// Returns why options don't go together, or `None` if they do.
+pub(crate) fn misfit_of(given: &Given) -> Option<Misfit>
+    ensures { result ≡ said.misfit_of given.now }
+{
+    upkeep_misfit(given).or(until_misfit(given))
+}
+
+/// Returns why the options of the outputs for later merges don't go together, or `None` if they do.
+fn upkeep_misfit(given: &Given) -> Option<Misfit>
+    ensures { result ≡ said.upkeep_misfit given.now }
+{
+    if given.accept && !given.suppress_out {
+        Some(Misfit::AcceptNeedsFile)
+    } else if given.prune && !given.suppress_out {
+        Some(Misfit::PruneNeedsFile)
+    } else if given.suppress_out && !(given.accept || given.prune) {
+        Some(Misfit::FileNeedsChange)
+    } else if given.prune && !given.suppress {
+        Some(Misfit::PruneNeedsEntries)
+    } else if given.reason && !given.accept {
+        Some(Misfit::ReasonNeedsAccept)
+    } else if given.unused && !given.suppress {
+        Some(Misfit::UnusedNeedsEntries)
+    } else if given.known && given.accept {
+        Some(Misfit::KnownWithAccept)
+    } else if given.adopt && !given.known {
+        Some(Misfit::AdoptNeedsKnown)
+    } else {
+        None
+    }
+}
+
+/// Returns why the expiry date of added entries doesn't fit, or `None` if it does or there is none.
+fn until_misfit(given: &Given) -> Option<Misfit>
+    ensures { result ≡ said.until_misfit given.now }
+{
+    if given.until.is_some() && !given.accept {
+        Some(Misfit::UntilNeedsAccept)
+    } else {
+        date_misfit(given.until, given.today)
+    }
+}
+
+/// Returns why an expiry date does not fit today's date, or `None` if it does or there is none.
+fn date_misfit(until: Option<u32>, today: Option<u32>) -> Option<Misfit>
+    ensures { result ≡ said.date_misfit until today }
+{
+    let until = until?;
+    let Some(today) = today else {
+        return Some(Misfit::UntilNeedsToday);
+    };
+    if !is_day(u64::from(until)) {
+        Some(Misfit::UntilIsNoDate)
+    } else if until < today {
+        Some(Misfit::UntilIsPast)
+    } else {
+        None
+    }
+}

@@ -1,0 +1,16 @@
+use Rattle.std.proofs.Common.{length, map, sym, ap, ◌∙◌}
+use Rattle.std.proofs.lemmas.List.{length-map}
+use Rattle.sarif_results.specs.Drafts.{applied_of}
+use Rattle.sarif_upkeep.proofs.renewing.accepted_if.Goals as goal
+
+pub accepted_among-requires-clause-drafts : goal.accepted_among-requires-clause-drafts
+accepted_among-requires-clause-drafts c =
+    let m = c.requires.0 in
+    let is = c.requires.1.current in
+    let drafts = c.args.matched.now.current.drafts.now in
+    sym (length-map drafts (λ draft. draft.applied)) ∙ ap length is.drafts ∙ length-map m.records (applied_of m.file) ∙ sym (ap length is.records)
+
+pub accepted_among-requires-clause-states : goal.accepted_among-requires-clause-states
+accepted_among-requires-clause-states c =
+    let is = c.requires.1.current in
+    ap length is.states ∙ is.states_long ∙ sym (ap length is.records)

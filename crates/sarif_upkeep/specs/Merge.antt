@@ -1,0 +1,33 @@
+-- A merge whose results are matched, as far as later merges are concerned.
+use Rattle.std.specs.Prelude.{ℕ, ◌+◌, Bool, List, [], ◌∷◌, length, map, Option}
+use Rattle.serde_json.specs.Data.{Data}
+use Rattle.sarif_model.specs.declared.kinds.State.{State}
+use Rattle.sarif_model.specs.declared.record.Record.{Record}
+use Rattle.sarif_model.specs.Run.{present, results_of}
+use Rattle.sarif_counts.specs.declared.policy.Policy.{Policy}
+use Rattle.sarif_suppress.specs.File.{File}
+
+pub record Merge : Type 0 where
+  -- the suppression file as it was read, and its bytes if there is one
+  pub file : File
+  pub bytes : Option (List ℕ)
+  -- the policy of the gate
+  pub policy : Policy
+  -- the input runs, the records of all their results in order, and the baseline states of these
+  pub runs : List Data
+  pub records : List Record
+  pub states : List State
+  -- the runs of the baselines, the records of their results that are not already absent, and which of these are the
+  -- match of a current result
+  pub before : List Data
+  pub known : List Record
+  pub taken : List Bool
+
+-- how many results of each run aren't absent already
+abbrev pub present_counts : List Data → List ℕ
+present_counts runs = map (λ run. length (present (results_of run))) runs
+
+-- how many results of these runs aren't absent already
+abbrev pub present_total : List Data → ℕ
+present_total [] = 0
+present_total (run ∷ runs) = length (present (results_of run)) + present_total runs

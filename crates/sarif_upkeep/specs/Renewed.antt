@@ -1,0 +1,106 @@
+-- The new suppression file of a merge.
+use Rattle.std.specs.Prelude.{ℕ, ◌+◌, Bool, not, ◌&&◌, List, [], ◌∷◌, count_by, length, map, nat_lt, if◌then◌else◌}
+use Rattle.serde_json.specs.Data.{Data}
+use Rattle.sarif_model.specs.declared.fault.Fault.TheVariants.{TooMany}
+use Rattle.sarif_model.specs.declared.kinds.State.{State}
+use Rattle.sarif_model.specs.declared.kinds.State.TheVariants.{Absent}
+use Rattle.sarif_model.specs.declared.merge_fault.At.TheVariants.{Whole}
+use Rattle.sarif_model.specs.declared.merge_fault.Cause.TheVariants.{TooLong}
+use Rattle.sarif_model.specs.declared.merge_fault.MergeFault.{MergeFault}
+use Rattle.sarif_model.specs.declared.merge_fault.Source.TheVariants.{Suppress}
+use Rattle.sarif_model.specs.declared.record.Record.{Record}
+use Rattle.sarif_model.specs.Limits.{most_bytes, most_entries}
+use Rattle.sarif_model.specs.MergeFault.{cause_of, fault_at}
+use Rattle.sarif_counts.specs.declared.life.NewFile.{NewFile}
+use Rattle.sarif_counts.specs.declared.upkeep.Renewal.{Renewal}
+use Rattle.sarif_counts.specs.Policy.{count_if}
+use Rattle.sarif_suppress.specs.File.{File}
+use Rattle.sarif_accept.specs.Adding.{accepted_among, added_for, is_hit, may_hit, stays, Counts, How}
+use Rattle.sarif_accept.specs.Entry.{entry_for}
+use Rattle.sarif_accept.specs.Keeping.{is_kept}
+use Rattle.sarif_accept.specs.NewFile.{entries_after, file_object, file_text, new_file}
+use Rattle.sarif_upkeep.specs.Heard.{heard}
+use Rattle.sarif_upkeep.specs.Merge.{Merge}
+
+abbrev pub how_of : Merge → Renewal → How
+how_of m renewal = record { renewal = renewal; heard = heard m.runs }
+
+-- ---- its entries
+
+-- whether each entry of the suppression file is kept
+abbrev pub kept_in : Merge → Renewal → List Bool
+kept_in m renewal =
+    map (is_kept renewal.prune (heard m.runs) m.file m.records) m.file.entries
+
+-- the hits that are accepted, in the order of the merged log
+abbrev pub accepted_in : Merge → List Record
+accepted_in m = accepted_among (may_hit m.policy) m.file m.records m.states
+
+-- the results for which entries are added
+abbrev pub added_in : Merge → Renewal → List Record
+added_in m renewal =
+    added_for (how_of m renewal) (may_hit m.policy) m.file m.records m.states
+
+-- the entries that accept them
+abbrev pub values_added : Merge → Renewal → List Data
+values_added m renewal =
+    map (λ r. entry_for r renewal.reason renewal.until) (added_in m renewal)
+
+-- how many entries the new suppression file has
+abbrev pub entries_count : Merge → Renewal → ℕ
+entries_count m renewal =
+    length (entries_after (file_object m.bytes) (kept_in m renewal) (values_added m renewal))
+
+-- the new suppression file, as a value: the entries that are kept, and then those that accept results
+abbrev pub rules_after : Merge → Renewal → Data
+rules_after m renewal =
+    new_file (file_object m.bytes) (kept_in m renewal) (values_added m renewal)
+
+-- ---- its numbers
+
+-- how many hits among current results stay hits
+abbrev pub staying_among : Counts → File → List Record → List State → ℕ
+staying_among counts file [] states = 0
+staying_among counts file (r ∷ rs) [] = 0
+staying_among counts file (r ∷ rs) (state ∷ states) =
+    count_if (is_hit counts file r state && stays file r) 1
+    + staying_among counts file rs states
+
+-- no entries; an absent result is suppressed by its own suppressions alone
+abbrev pub no_entries : File → File
+no_entries file = record { entries = []; today = file.today }
+
+-- how many results of baselines that no current result matches are hits; an entry suppresses none of them
+abbrev pub absent_hits : Counts → File → List Record → List Bool → ℕ
+absent_hits counts file [] taken = 0
+absent_hits counts file (r ∷ rs) [] = 0
+absent_hits counts file (r ∷ rs) (taken ∷ more) =
+    count_if (not taken && is_hit counts (no_entries file) r Absent) 1
+    + absent_hits counts file rs more
+
+abbrev pub stay_in : Merge → ℕ
+stay_in m =
+    staying_among (may_hit m.policy) m.file m.records m.states
+    + absent_hits (may_hit m.policy) m.file m.known m.taken
+
+-- the new file, as it is given
+abbrev pub renewed : Merge → Renewal → NewFile
+renewed m renewal = record {
+  text = file_text (rules_after m renewal);
+  accepted = count_if renewal.accept (length (accepted_in m));
+  stay = count_if renewal.accept (stay_in m);
+  pruned = count_by (λ kept. not kept) (kept_in m renewal);
+  entries = entries_count m renewal;
+}
+
+-- ---- its errors: one that could not be read again
+
+-- more entries, or otherwise more bytes, than a suppression file may have
+abbrev pub text_faults : ℕ → Data → List MergeFault
+text_faults entries value =
+    if nat_lt most_entries entries then fault_at (Whole Suppress) (cause_of TooMany) ∷ []
+    else (if nat_lt most_bytes (length (file_text value))
+    then fault_at (Whole Suppress) TooLong ∷ [] else [])
+
+abbrev pub renewal_faults : Merge → Renewal → List MergeFault
+renewal_faults m renewal = text_faults (entries_count m renewal) (rules_after m renewal)

@@ -1,0 +1,175 @@
+//! The known log.
+ghost use Rattle.std.specs.Prelude.{◌≡◌, ◌≤◌, ◌⊎◌, [], drop, length, map, take, IfOk, IfErr};
+ghost use Rattle.sarif_model.specs.FirstFault.{first};
+ghost use Rattle.sarif_model.specs.MergeFault.{out_of_memory};
+ghost use Rattle.sarif_model.specs.Limits.{most_results};
+ghost use Rattle.sarif_model.specs.Run.{results_total};
+ghost use Rattle.sarif_runs.specs.Judging.{run_values};
+ghost use Rattle.sarif_runs.specs.Opened.{placed_of};
+ghost use Rattle.sarif_results.specs.Drafts.{applied_of};
+ghost use Rattle.sarif_accept.specs.Heard.{heard_of};
+ghost use Rattle.sarif_known.specs.Chosen.{all_chosen, results_among};
+ghost use Rattle.sarif_upkeep.specs.IsMatched.{IsMatched};
+ghost use Rattle.sarif_upkeep.specs.Known as said;
+ghost use Rattle.sarif_upkeep.specs.Merge.{present_counts, present_total, Merge};
+
+use crate::matched::{Before, Matched};
+use crate::tools::heard_in;
+use sarif_accept::Heard;
+use sarif_counts::{Knowing, KnownLog};
+use sarif_known::{Choice, KnownRun, Results, keep_run, know_run, known_text};
+use sarif_model::{MergeFault, Text};
+use sarif_runs::OpenedRun;
+use std::alloc::{AllocError, Global};
+use std::hash::RandomState;
+
+/// Whether new hits and new suppressed results become known too.
+fn adopts(knowing: Knowing) -> bool
+    ensures { result ≡ said.adopts knowing }
+{
+    match knowing {
+        Knowing::Matched => false,
+        Knowing::Adopted => true,
+    }
+}
+
+/// The first results, and the others.
+fn split_results<'a, 's>(
+    results: Results<'a, 's>,
+    count: usize,
+) -> (Results<'a, 's>, Results<'a, 's>)
+    requires few { count ≤ length results.records.now }
+    requires states { length results.states.now ≡ length results.records.now }
+    requires drafts { length results.drafts.now ≡ length results.records.now }
+    ensures records { result.0.records.now ≡ take count results.entry.records.now }
+    ensures states { result.0.states.now ≡ take count results.entry.states.now }
+    ensures drafts { result.0.drafts.now ≡ take count results.entry.drafts.now }
+    ensures other_records { result.1.records.now ≡ drop count results.entry.records.now }
+    ensures other_states { result.1.states.now ≡ drop count results.entry.states.now }
+    ensures other_drafts { result.1.drafts.now ≡ drop count results.entry.drafts.now }
+{
+    let (records, other_records) = results.records.split_at(count);
+    let (states, other_states) = results.states.split_at(count);
+    let (drafts, other_drafts) = results.drafts.split_at(count);
+    let these = Results {
+        records,
+        states,
+        drafts,
+    };
+    let others = Results {
+        records: other_records,
+        states: other_states,
+        drafts: other_drafts,
+    };
+    (these, others)
+}
+
+/// Of each of these input runs the results that become known; `results` are those of all these runs.
+fn known_now<'m>(
+    alloc: Global,
+    choice: &Choice<'_>,
+    runs: &'m [OpenedRun<'_, '_>],
+    results: Results<'m, '_>,
+) -> Result<Vec<KnownRun<'m>>, AllocError>
+    requires few { length results.records.now ≤ most_results }
+    requires records { length results.records.now ≡ results_total (run_values (map placed_of runs.now)) }
+    requires states { length results.states.now ≡ length results.records.now }
+    requires drafts { map (λ draft. draft.applied) results.drafts.now
+        ≡ map (applied_of choice.now.file.now) results.records.now }
+    ensures { IfOk result (λ chosen. all_chosen chosen.items
+        ≡ said.chosen_now choice.now.file.now choice.now.policy choice.now.adopt
+        (run_values (map placed_of runs.now)) results.entry.records.now results.entry.states.now) }
+{
+    let mut rest = results;
+    let mut chosen = Vec::with_capacity(alloc, runs.len())?;
+    for run in runs {
+        let (these, others) = split_results(rest, run.len() as usize);
+        chosen.push(know_run(alloc, choice, run.tool(), &these)?)?;
+        rest = others;
+    }
+    Ok(chosen)
+}
+
+/// Of each baseline run the results that stay known.
+fn known_before<'m>(
+    alloc: Global,
+    before: &Before<'m, '_, '_>,
+    heard: &Heard,
+) -> Result<Vec<KnownRun<'m>>, AllocError>
+    requires counts { before.now.counts.now
+        ≡ present_counts (run_values (map placed_of before.now.runs.now)) }
+    requires few { length before.now.records.now ≤ most_results }
+    requires records { length before.now.records.now
+        ≡ present_total (run_values (map placed_of before.now.runs.now)) }
+    requires taken { length before.now.taken.now ≡ length before.now.records.now }
+    ensures { IfOk result (λ chosen. all_chosen chosen.items
+        ≡ said.chosen_before (heard_of heard.now) (run_values (map placed_of before.now.runs.now))
+        before.now.records.now before.now.taken.now) }
+{
+    let mut records = before.records;
+    let mut taken = before.taken;
+    let mut chosen = Vec::with_capacity(alloc, before.runs.len())?;
+    for (number, run) in before.runs.iter().enumerate() {
+        let count = before.counts[number] as usize;
+        let (these, others) = records.split_at(count);
+        let (marks, other_marks) = taken.split_at(count);
+        let is_heard = heard.hears(Some(run.tool()));
+        chosen.push(keep_run(alloc, run.tool(), these, marks, is_heard)?)?;
+        records = others;
+        taken = other_marks;
+    }
+    Ok(chosen)
+}
+
+/// How many results these runs have.
+fn count_results(runs: &[KnownRun<'_>]) -> usize
+    requires { results_among (all_chosen runs.now) ≤ most_results }
+    ensures count { result ≡ results_among (all_chosen runs.now) }
+    ensures few { result ≤ most_results }
+{
+    let mut count = 0;
+    for run in runs {
+        count += run.records.len();
+    }
+    count
+}
+
+/// The known log of a merge. It is rejected if it has more bytes than a log may have.
+pub(crate) fn remember(
+    alloc: Global,
+    seed: RandomState,
+    matched: &Matched<'_, '_, '_>,
+    knowing: Knowing,
+) -> Result<KnownLog, MergeFault>
+    requires { (m : Merge) × IsMatched m matched.now }
+    ensures made { (m : Merge) → IsMatched m matched.now
+        → IfOk result (λ log. log ≡ said.remembered m knowing) }
+    ensures sound { (m : Merge) → IsMatched m matched.now
+        → IfOk result (λ _. said.known_faults m knowing ≡ []) }
+    ensures refused { (m : Merge) → IsMatched m matched.now → IfErr result (λ fault.
+        (fault ≡ out_of_memory) ⊎ (first (said.known_faults m knowing) ≡ Some fault)) }
+{
+    let heard = heard_in(alloc, seed, matched.current.runs)?;
+    let choice = Choice {
+        file: matched.file,
+        policy: matched.policy,
+        adopt: adopts(knowing),
+    };
+    let current = &matched.current;
+    let results = Results {
+        records: current.records,
+        states: current.states,
+        drafts: current.drafts,
+    };
+    let now = known_now(alloc, &choice, current.runs, results)?;
+    let before = known_before(alloc, &matched.before, &heard)?;
+    let chosen = count_results(&now);
+    let kept = count_results(&before);
+    let text = known_text(alloc, seed, now, before)?;
+    Ok(KnownLog {
+        text: Text::from_string(text)?,
+        known: (chosen + kept) as u32,
+        left_out: (matched.current.records.len() - chosen) as u32,
+        kept: kept as u32,
+    })
+}

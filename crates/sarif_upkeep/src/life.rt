@@ -1,0 +1,65 @@
+//! What a merge gives for later merges.
+ghost use Rattle.std.specs.Prelude.{◌≡◌, ◌⊎◌, [], Some, option_map, string_bytes, IfOk, IfErr};
+ghost use Rattle.sarif_model.specs.FirstFault.{first};
+ghost use Rattle.sarif_model.specs.MergeFault.{out_of_memory};
+ghost use Rattle.sarif_upkeep.specs.IsMatched.{IsMatched};
+ghost use Rattle.sarif_upkeep.specs.Life as said;
+ghost use Rattle.sarif_upkeep.specs.Merge.{Merge};
+
+use crate::knowing::remember;
+use crate::matched::Matched;
+use crate::renewing::renew;
+use crate::tools::used_by;
+use sarif_accept::unused_lines;
+use sarif_counts::{KnownLog, Life, NewFile, Upkeep};
+use sarif_model::{MergeFault, Text};
+use std::alloc::{AllocError, Global};
+use std::hash::RandomState;
+
+/// A line for each unused entry of the suppression file.
+fn list_unused(alloc: Global, matched: &Matched<'_, '_, '_>) -> Result<Text, AllocError>
+    ensures { (m : Merge) → IsMatched m matched.now → IfOk result (λ text. text ≡ said.unused_in m) }
+{
+    let marks = used_by(alloc, matched.file, matched.current.drafts)?;
+    match matched.bytes {
+        Some(bytes) => Text::from_string(unused_lines(alloc, bytes, matched.file, &marks)?),
+        None => Text::copy_of(alloc, ""),
+    }
+}
+
+/// Returns what a merge gives for later merges: what `upkeep` asks for, and nothing else. Returns `TooMany` or `TooLong`
+/// at the suppression file if the new one could not be read again, then `TooLong` at the known log if this one could not,
+/// and `OutOfMemory` without a place if memory runs out.
+pub fn life_of(
+    alloc: Global,
+    seed: RandomState,
+    matched: &Matched<'_, '_, '_>,
+    upkeep: &Upkeep,
+) -> Result<Life, MergeFault>
+    requires { (m : Merge) × IsMatched m matched.now }
+    ensures made { (m : Merge) → IsMatched m matched.now
+        → IfOk result (λ life. life ≡ said.life_of m (Some upkeep.now)) }
+    ensures sound { (m : Merge) → IsMatched m matched.now
+        → IfOk result (λ _. said.life_faults m (Some upkeep.now) ≡ []) }
+    ensures refused { (m : Merge) → IsMatched m matched.now → IfErr result (λ fault.
+        (fault ≡ out_of_memory) ⊎ (first (said.life_faults m (Some upkeep.now)) ≡ Some fault)) }
+{
+    let suppressions = match &upkeep.renewal {
+        Some(renewal) => Some(renew(alloc, seed, matched, renewal)?),
+        None => None,
+    };
+    let unused = if upkeep.unused {
+        Some(list_unused(alloc, matched)?)
+    } else {
+        None
+    };
+    let known = match upkeep.known {
+        Some(knowing) => Some(remember(alloc, seed, matched, knowing)?),
+        None => None,
+    };
+    Ok(Life {
+        suppressions,
+        unused,
+        known,
+    })
+}

@@ -1,0 +1,47 @@
+//! A merge whose results are matched.
+use sarif_counts::Policy;
+use sarif_model::{Record, State};
+use sarif_results::Draft;
+use sarif_runs::OpenedRun;
+use sarif_suppress::Suppressions;
+
+/// The results of the input runs.
+#[derive(Clone, Copy)]
+pub struct Current<'m, 't: 'm, 'a: 't> {
+    /// The input runs, in order.
+    pub runs: &'m [OpenedRun<'t, 'a>],
+    /// The records of all their results, in the order of runs and results.
+    pub records: &'m [Record],
+    /// Their drafts.
+    pub drafts: &'m [Draft],
+    /// Their baseline states.
+    pub states: &'m [State],
+}
+
+/// The results of the baselines that are not already absent.
+#[derive(Clone, Copy)]
+pub struct Before<'m, 't: 'm, 'a: 't> {
+    /// The runs of the baselines, in order.
+    pub runs: &'m [OpenedRun<'t, 'a>],
+    /// How many of these results each run has.
+    pub counts: &'m [u32],
+    /// Their records, in the order of runs and results.
+    pub records: &'m [Record],
+    /// Whether each is the match of a current result.
+    pub taken: &'m [bool],
+}
+
+/// A merge whose results are matched.
+#[derive(Clone, Copy)]
+pub struct Matched<'m, 't: 'm, 'a: 't> {
+    /// The suppression file.
+    pub file: &'m Suppressions,
+    /// Its bytes, if there is one.
+    pub bytes: Option<&'m [u8]>,
+    /// What the gate fails on.
+    pub policy: Policy,
+    /// The results of the input runs.
+    pub current: Current<'m, 't, 'a>,
+    /// The results of the baselines.
+    pub before: Before<'m, 't, 'a>,
+}

@@ -1,0 +1,176 @@
+//! The new suppression file.
+ghost use Rattle.std.specs.Prelude.{◌≡◌, ◌≤◌, ◌<◌, ◌⊎◌, [], Some, count_by, if◌then◌else◌, length, map, IfOk, IfErr};
+ghost use Rattle.sarif_model.specs.declared.merge_fault.At.TheVariants.{Whole};
+ghost use Rattle.sarif_model.specs.declared.merge_fault.Source.TheVariants.{Suppress};
+ghost use Rattle.sarif_model.specs.FirstFault.{first};
+ghost use Rattle.sarif_model.specs.declared.fault.Fault.TheVariants.{TooMany};
+ghost use Rattle.sarif_model.specs.Limits.{most_entries, most_results};
+ghost use Rattle.sarif_model.specs.MergeFault.{cause_of, fault_at, out_of_memory};
+ghost use Rattle.sarif_accept.specs.Adding.{once_each};
+ghost use Rattle.sarif_accept.specs.NewFile.{file_text};
+ghost use Rattle.sarif_upkeep.specs.Making.{entries_of, file_of, rejected};
+ghost use Rattle.sarif_upkeep.specs.Renewed.{text_faults};
+ghost use Rattle.sarif_counts.specs.Policy.{count_if};
+ghost use Rattle.sarif_upkeep.specs.IsMatched.{IsMatched};
+ghost use Rattle.sarif_upkeep.specs.Merge.{Merge};
+ghost use Rattle.sarif_upkeep.specs.Renewed as said;
+
+use crate::accepting::accepted_among;
+use crate::matched::{Current, Matched};
+use crate::staying::{absent_hits, staying_among};
+use crate::tools::{heard_in, used_by};
+use sarif_accept::{each_once, kept_entries, new_file};
+use sarif_counts::{NewFile, Renewal};
+use sarif_model::{At, Cause, MergeFault, Record, Refusal, Source, Text};
+use std::alloc::{AllocError, Global};
+use std::hash::RandomState;
+
+/// The rejection for a new suppression file that cannot be made.
+fn rejection_of(refusal: Refusal<Cause>) -> MergeFault
+    ensures { result ≡ rejected refusal }
+{
+    match refusal {
+        Refusal::Fault(cause) => MergeFault::found(At::Whole(Source::Suppress), cause),
+        Refusal::OutOfMemory => MergeFault::from(AllocError),
+    }
+}
+
+/// Which entries of the suppression file are kept.
+fn kept_in(
+    alloc: Global,
+    seed: RandomState,
+    matched: &Matched<'_, '_, '_>,
+    renewal: &Renewal,
+) -> Result<Vec<bool>, AllocError>
+    requires { (m : Merge) × IsMatched m matched.now }
+    ensures kept { (m : Merge) → IsMatched m matched.now
+        → IfOk result (λ kept. kept.items ≡ said.kept_in m renewal.now) }
+    ensures count { IfOk result (λ kept. length kept.items ≡ length matched.now.file.now.entries) }
+{
+    let heard = heard_in(alloc, seed, matched.current.runs)?;
+    let marks = used_by(alloc, matched.file, matched.current.drafts)?;
+    kept_entries(alloc, matched.file, &marks, &heard, renewal.prune)
+}
+
+/// The hits that are accepted, if hits are to be accepted.
+fn accepted_if<'m>(
+    alloc: Global,
+    matched: &Matched<'m, '_, '_>,
+    accept: bool,
+) -> Result<Vec<&'m Record>, AllocError>
+    requires { (m : Merge) × IsMatched m matched.now }
+    ensures accepted { (m : Merge) → IsMatched m matched.now → IfOk result (λ accepted.
+        map (λ r. r.now) accepted.items ≡ (if accept then said.accepted_in m else [])) }
+    ensures few { IfOk result (λ accepted. length accepted.items ≤ most_results) }
+{
+    if accept {
+        let Current {
+            records,
+            drafts,
+            states,
+            ..
+        } = matched.current;
+        accepted_among(alloc, matched.policy, records, drafts, states)
+    } else {
+        Ok(Vec::new(alloc))
+    }
+}
+
+/// How many hits stay, if hits are to be accepted.
+fn staying_if(matched: &Matched<'_, '_, '_>, accept: bool) -> u32
+    requires { (m : Merge) × IsMatched m matched.now }
+    ensures { (m : Merge) → IsMatched m matched.now → result ≡ count_if accept (said.stay_in m) }
+{
+    if !accept {
+        return 0;
+    }
+    let Current {
+        records,
+        drafts,
+        states,
+        ..
+    } = matched.current;
+    let current = staying_among(matched.policy, records, drafts, states);
+    let absent = absent_hits(matched.policy, matched.before.records, matched.before.taken);
+    (current + absent) as u32
+}
+
+/// The results for which entries are added, of those that are accepted.
+fn added_of<'m>(
+    alloc: Global,
+    seed: RandomState,
+    accepted: &[&'m Record],
+) -> Result<Vec<&'m Record>, MergeFault>
+    ensures ok { IfOk result (λ added. map (λ r. r.now) added.items
+        ≡ once_each [] (map (λ r. r.now) accepted.now)) }
+    ensures few { IfOk result (λ added. length added.items ≤ most_entries) }
+    ensures err { IfErr result (λ fault. (fault ≡ out_of_memory)
+        ⊎ ((fault ≡ fault_at (Whole Suppress) (cause_of TooMany))
+        × (most_entries < length (once_each [] (map (λ r. r.now) accepted.now))))) }
+{
+    match each_once(alloc, seed, accepted) {
+        Ok(added) => Ok(added),
+        Err(refusal) => Err(rejection_of(refusal)),
+    }
+}
+
+/// The text of the new suppression file with these entries.
+#[tactic(auto, using(crate::proofs::Causes::no_faults, crate::proofs::Causes::some_fault))]
+fn text_of(
+    alloc: Global,
+    bytes: Option<&[u8]>,
+    kept: &[bool],
+    added: &[&Record],
+    renewal: &Renewal,
+) -> Result<Text, MergeFault>
+    ensures text { IfOk result (λ t. t ≡ file_text (file_of bytes.entry kept.now added.now renewal.now)) }
+    ensures sound { IfOk result (λ _.
+        text_faults (entries_of bytes.entry kept.now added.now renewal.now)
+        (file_of bytes.entry kept.now added.now renewal.now) ≡ []) }
+    ensures err { IfErr result (λ fault. (fault ≡ out_of_memory)
+        ⊎ (first (text_faults (entries_of bytes.entry kept.now added.now renewal.now)
+        (file_of bytes.entry kept.now added.now renewal.now)) ≡ Some fault)) }
+{
+    match new_file(alloc, bytes, kept, added, renewal) {
+        Ok(text) => Ok(Text::from_string(text)?),
+        Err(refusal) => Err(rejection_of(refusal)),
+    }
+}
+
+/// How many of these are true.
+fn count_kept(kept: &[bool]) -> usize
+    ensures count { result ≡ count_by (λ one. one) kept.now }
+    ensures few { result ≤ length kept.now }
+{
+    kept.iter().filter(|one| **one).count()
+}
+
+/// The new suppression file of a merge. It is rejected if it has more entries or bytes than a suppression file may have.
+pub(crate) fn renew(
+    alloc: Global,
+    seed: RandomState,
+    matched: &Matched<'_, '_, '_>,
+    renewal: &Renewal,
+) -> Result<NewFile, MergeFault>
+    requires { (m : Merge) × IsMatched m matched.now }
+    ensures made { (m : Merge) → IsMatched m matched.now
+        → IfOk result (λ file. file ≡ said.renewed m renewal.now) }
+    ensures sound { (m : Merge) → IsMatched m matched.now
+        → IfOk result (λ _. said.renewal_faults m renewal.now ≡ []) }
+    ensures refused { (m : Merge) → IsMatched m matched.now → IfErr result (λ fault.
+        (fault ≡ out_of_memory) ⊎ (first (said.renewal_faults m renewal.now) ≡ Some fault)) }
+{
+    let kept = kept_in(alloc, seed, matched, renewal)?;
+    let accepted = accepted_if(alloc, matched, renewal.accept)?;
+    let added = added_of(alloc, seed, &accepted)?;
+    let text = text_of(alloc, matched.bytes, &kept, &added, renewal)?;
+    let all = matched.file.len();
+    let left = count_kept(&kept) as u32;
+    Ok(NewFile {
+        text,
+        accepted: accepted.len() as u32,
+        stay: staying_if(matched, renewal.accept),
+        pruned: all - left,
+        entries: left + added.len() as u32,
+    })
+}

@@ -1,0 +1,210 @@
+"""What a merge of the reference merger writes for later merges: the new suppression file, the lines of unused
+entries, and the known log. It follows the rules sentence by sentence and shares no code with the program."""
+
+from reference_json import compact, quoted, read_json, stripped
+from reference_reports import shown
+
+MOST_ENTRIES = 10_000
+MOST_BYTES = 67_108_864
+LEVELS = ("none", "note", "warning", "error")
+
+
+class PastLimit(Exception):
+    """A new file is past a limit: the place that the error line names, and the cause."""
+
+    def __init__(self, place, cause):
+        super().__init__(f"{place}: {cause}")
+        self.place, self.cause = place, cause
+
+
+# ---- What is known of the tools
+
+
+def tool_of(run):
+    return run["tool"]["driver"]["name"]
+
+
+def failed(run):
+    """Returns whether a run's analysis failed: an invocation says so, or the run has no results."""
+    invocations = run.get("invocations") or []
+    says_so = any(it.get("executionSuccessful") is False for it in invocations)
+    return says_so or run.get("results") is None
+
+
+def heard(merge, tool):
+    """Returns whether some input run has this tool and none with it failed; without a tool, whether there are
+    input runs and none failed."""
+    runs = [run for run in merge.inputs if tool is None or tool_of(run) == tool]
+    return bool(runs) and not any(map(failed, runs))
+
+
+def is_hit(merge, finding):
+    policy = merge.policy
+    is_bad = LEVELS.index(finding.record.level) >= LEVELS.index(policy.fail_on)
+    return finding.state in policy.states and is_bad and not finding.is_suppressed()
+
+
+# ---- JSON for people
+
+
+def pretty(value, indent=""):
+    """The value as serde_json prints it for people: two spaces for each level, members in the order of names."""
+    inner = indent + "  "
+    if isinstance(value, list) and value:
+        items = [inner + pretty(item, inner) for item in value]
+        return "[\n" + ",\n".join(items) + f"\n{indent}]"
+    if isinstance(value, dict) and value:
+        names = sorted(value, key=lambda name: name.encode())
+        items = [f"{inner}{quoted(name)}: {pretty(value[name], inner)}" for name in names]
+        return "{\n" + ",\n".join(items) + f"\n{indent}" + "}"
+    return compact(value)
+
+
+def hyphenated(guid):
+    digits = f"{guid:032x}"
+    return "-".join(digits[a:b] for a, b in ((0, 8), (8, 12), (12, 16), (16, 20), (20, 32)))
+
+
+def there(members):
+    """The members that have a value."""
+    return {name: value for name, value in members.items() if value is not None}
+
+
+# ---- The new suppression file
+
+
+def conditions(record):
+    """What the entry that accepts this record asks of a result."""
+    text, identity, arguments = record.message
+    uri = record.place[0]
+    if record.guid is not None:
+        return {"guid": hyphenated(record.guid)}
+    if record.full:
+        return {"fingerprints": record.full, "uri": uri}
+    if record.partial:
+        return {"partialFingerprints": record.partial, "uri": uri}
+    words = list(arguments) or None
+    return {"uri": uri, "message": text, "messageId": identity, "messageArguments": words}
+
+
+def entry_for(record, reason=None, until=None):
+    own = {"tool": record.tool, "ruleId": record.rule, "justification": reason, "expires": until}
+    return there({**own, **conditions(record)})
+
+
+class Renewed:
+    """The new suppression file of a merge, with its numbers."""
+
+    def __init__(self, merge, accept=False, prune=False, reason=None, until=None):
+        goes = [prune and self.goes(merge, number) for number in range(len(merge.entries))]
+        kept = [it for it, is_gone in zip(merge.file["suppressions"], goes) if not is_gone]
+        hits = [it for it in merge.merged() if accept and is_hit(merge, it)]
+        able = [it for it in hits if it.state != "absent" and not it.statuses]
+        added = []
+        seen = set()
+        for finding in able:
+            entry = entry_for(finding.record, reason, until)
+            if compact(entry) not in seen:
+                seen.add(compact(entry))
+                added.append(entry)
+        self.accepted, self.stay, self.pruned = len(able), len(hits) - len(able), sum(goes)
+        self.entries = len(kept) + len(added)
+        others = stripped(merge.file)
+        self.text = pretty({**others, "suppressions": kept + added, "version": 4}) + "\n"
+        if self.entries > MOST_ENTRIES:
+            raise PastLimit("suppressions", "TooMany")
+        if len(self.text.encode()) > MOST_BYTES:
+            raise PastLimit("suppressions", "TooLong")
+
+    def goes(self, merge, number):
+        entry = merge.entries[number]
+        return entry.is_expired or number not in merge.used and heard(merge, entry.tool)
+
+    def line(self):
+        numbers = f"{self.accepted} accepted, {self.stay} stay, {self.pruned} pruned"
+        return f"sarif_gate: {numbers}, {self.entries} entries\n"
+
+
+def unused(merge):
+    """A line for each entry that matches no current result."""
+    lines = []
+    for number, entry in enumerate(merge.entries):
+        if number not in merge.used:
+            why = "expired" if entry.is_expired else "unmatched"
+            value = stripped(merge.file["suppressions"][number])
+            lines.append(f"entry {number}: {why}: {shown(compact(value))}\n")
+    return "".join(lines)
+
+
+# ---- What is known
+
+
+def left_out(merge, finding, adopt):
+    """Returns whether a current result isn't in the known log."""
+    lasting = [it.status for it in merge.entries if it.expires is None and it.matches(finding.record)]
+    lasting = [*finding.record.held, *lasting]
+    is_lasting = bool(lasting) and all(it == "accepted" for it in lasting)
+    if finding.is_suppressed() and not is_lasting:
+        return True
+    stops = is_hit(merge, finding) or finding.is_suppressed()
+    return not adopt and finding.state == "new" and stops
+
+
+def known_result(record, artifacts):
+    """A record as a result. A base without a URI is added to `artifacts`."""
+    uri, base = record.place
+    place = there({"uri": uri, "uriBaseId": base}) if uri is not None else None
+    if uri is None and base is not None:
+        place = {"index": len(artifacts)}
+        artifacts.append({"location": {"uriBaseId": base}})
+    text, identity, arguments = record.message
+    is_failure = record.kind == "fail"
+    return there(
+        {
+            "kind": None if is_failure else record.kind,
+            "level": record.level if is_failure else None,
+            "ruleId": record.rule or None,
+            "message": there({"text": text, "id": identity, "arguments": list(arguments) or None}),
+            "locations": place and [{"physicalLocation": {"artifactLocation": place}}],
+            "correlationGuid": None if record.guid is None else hyphenated(record.guid),
+            "fingerprints": record.full or None,
+            "partialFingerprints": record.partial or None,
+            "suppressions": [{"kind": "external", "status": it} for it in record.held] or None,
+        }
+    )
+
+
+def known_run(tool, records):
+    artifacts = []
+    results = [known_result(record, artifacts) for record in records]
+    run = {"artifacts": artifacts or None, "results": results, "tool": {"driver": {"name": tool}}}
+    return there(run)
+
+
+class Known:
+    """The known log of a merge, with its numbers."""
+
+    def __init__(self, merge, adopt=False):
+        gone = {id(it) for it in merge.current if left_out(merge, it, adopt)}
+        stay = [it for it in merge.current if id(it) not in gone]
+        kept = [it for it in merge.absent if not heard(merge, tool_of(it.run))]
+        tools = dict.fromkeys(map(tool_of, [*merge.before, *merge.inputs]))
+        runs = []
+        for tool in tools:
+            for sources, findings in ((merge.inputs, stay), (merge.before, kept)):
+                for run in sources:
+                    records = [it.record for it in findings if it.run is run]
+                    if tool_of(run) == tool and records:
+                        runs.append(known_run(tool, records))
+        self.known, self.left, self.kept = len(stay) + len(kept), len(gone), len(kept)
+        self.text = pretty({"runs": runs, "version": "2.1.0"}) + "\n"
+        if len(self.text.encode()) > MOST_BYTES:
+            raise PastLimit("known log", "TooLong")
+
+    def line(self):
+        return f"sarif_gate: {self.known} known, {self.left} left out, {self.kept} kept\n"
+
+
+def file_of(source):
+    """The suppression file as a value; without one, an object without entries."""
+    return {"suppressions": []} if source is None else read_json(source)
