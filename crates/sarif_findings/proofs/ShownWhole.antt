@@ -8,22 +8,22 @@ use Rattle.std.proofs.lemmas.List.{map-append}
 use Rattle.std.proofs.lemmas.Str.{encode_ascii, encodes-append}
 use Rattle.sarif_findings.specs.declared.shown_text.ShownText.{ShownText}
 use Rattle.sarif_findings.specs.Shown.{is_between, is_control, is_unseen_mark, is_blank_letter, is_concealed, kept, parted, parted_signs, plain}
-use Rattle.sarif_findings.specs.ShownSoFar.{stands, Takes}
+use Rattle.sarif_findings.specs.ShownSoFar.{is_verbatim, Takes}
 use Rattle.sarif_findings.proofs.CharsBack.{chars_back}
 use Rattle.sarif_findings.proofs.ShownMore.{kept-cons}
 
 -- ---- one byte
 
-low : (b : ℕ) → stands b ≡ true → b < 128
+low : (b : ℕ) → is_verbatim b ≡ true → b < 128
 low b h = grind (arith, nat_tests, h)
 
-no_sign : (b : ℕ) → stands b ≡ true → (b == 35) ≡ false
+no_sign : (b : ℕ) → is_verbatim b ≡ true → (b == 35) ≡ false
 no_sign b h = grind (arith, nat_tests, h)
 
 beyond : (b first last : ℕ) → b < first → is_between first last b ≡ false
 beyond b first last less = grind (arith, nat_tests, less)
 
-not_control : (b : ℕ) → stands b ≡ true → is_control b ≡ false
+not_control : (b : ℕ) → is_verbatim b ≡ true → is_control b ≡ false
 not_control b h = grind (arith, nat_tests, h)
 
 not_unseen : (b : ℕ) → b < 128 → is_unseen_mark b ≡ false
@@ -52,45 +52,45 @@ not_blank b small =
       ne_eqb b 0xFFA0 (λ e. omega (arith, e, small)),
     ) refl
 
-not_concealed : (b : ℕ) → stands b ≡ true → is_concealed b ≡ false
+not_concealed : (b : ℕ) → is_verbatim b ≡ true → is_concealed b ≡ false
 not_concealed b h = rw (not_control b h, not_unseen b (low b h), not_blank b (low b h)) refl
 
-plain_byte : (b : ℕ) → stands b ≡ true → plain b ≡ b
+plain_byte : (b : ℕ) → is_verbatim b ≡ true → plain b ≡ b
 plain_byte b h = rw (not_concealed b h) refl
 
-parted_byte : (after_sign : Bool) (b : ℕ) → stands b ≡ true → parted after_sign b ≡ b ∷ []
+parted_byte : (after_sign : Bool) (b : ℕ) → is_verbatim b ≡ true → parted after_sign b ≡ b ∷ []
 parted_byte true b h = rw (no_sign b h) refl
 parted_byte false b h = refl
 
 -- ---- all bytes of a string
 
-encodes_whole : (bs : List ℕ) → list_all stands bs ≡ true → encode_utf8_all bs ≡ bs
+encodes_whole : (bs : List ℕ) → list_all is_verbatim bs ≡ true → encode_utf8_all bs ≡ bs
 encodes_whole [] h = refl
 encodes_whole (b ∷ bs) h =
-    let parts = and_parts (stands b) (list_all stands bs) h in
+    let parts = and_parts (is_verbatim b) (list_all is_verbatim bs) h in
     rw (encode_ascii b (low b parts.0)) (ap (λ t. b ∷ t) (encodes_whole bs parts.1))
 
-chars_whole : (bs : List ℕ) → list_all stands bs ≡ true → chars bs ≡ bs
+chars_whole : (bs : List ℕ) → list_all is_verbatim bs ≡ true → chars bs ≡ bs
 chars_whole bs h = ap chars (sym (encodes_whole bs h)) ∙ chars_back bs
 
-plain_whole : (bs : List ℕ) → list_all stands bs ≡ true → map plain bs ≡ bs
+plain_whole : (bs : List ℕ) → list_all is_verbatim bs ≡ true → map plain bs ≡ bs
 plain_whole [] h = refl
 plain_whole (b ∷ bs) h =
-    let parts = and_parts (stands b) (list_all stands bs) h in
+    let parts = and_parts (is_verbatim b) (list_all is_verbatim bs) h in
     rw (plain_byte b parts.0) (ap (λ t. b ∷ t) (plain_whole bs parts.1))
 
 -- after a character that is not `#`
-parted_behind : (bs rest : List ℕ) → list_all stands bs ≡ true → parted_signs false (bs ++ rest) ≡ bs ++ parted_signs false rest
+parted_behind : (bs rest : List ℕ) → list_all is_verbatim bs ≡ true → parted_signs false (bs ++ rest) ≡ bs ++ parted_signs false rest
 parted_behind [] rest h = refl
 parted_behind (b ∷ bs) rest h =
-    let parts = and_parts (stands b) (list_all stands bs) h in
+    let parts = and_parts (is_verbatim b) (list_all is_verbatim bs) h in
     rw (no_sign b parts.0) (ap (λ t. b ∷ t) (parted_behind bs rest parts.1))
 
-parted_whole : (after_sign : Bool) (bs rest : List ℕ) → 0 < length bs → list_all stands bs ≡ true
+parted_whole : (after_sign : Bool) (bs rest : List ℕ) → 0 < length bs → list_all is_verbatim bs ≡ true
     → parted_signs after_sign (bs ++ rest) ≡ bs ++ parted_signs false rest
 parted_whole after_sign [] rest some h = absurd (omega (arith, some))
 parted_whole after_sign (b ∷ bs) rest some h =
-    let parts = and_parts (stands b) (list_all stands bs) h in
+    let parts = and_parts (is_verbatim b) (list_all is_verbatim bs) h in
     rw (parted_byte after_sign b parts.0, no_sign b parts.0) (ap (λ t. b ∷ t) (parted_behind bs rest parts.1))
 
 kept_whole : (bs rest : List ℕ) (room left : ℕ) → room ≡ length bs + left → kept room (bs ++ rest) ≡ bs ++ kept left rest
@@ -102,7 +102,7 @@ kept_whole (b ∷ bs) rest room left e =
 
 -- ---- the string is read
 
-steps_whole : (bs rest : List ℕ) (after_sign : Bool) (room left : ℕ) → 0 < length bs → list_all stands bs ≡ true → room ≡ length bs + left
+steps_whole : (bs rest : List ℕ) (after_sign : Bool) (room left : ℕ) → 0 < length bs → list_all is_verbatim bs ≡ true → room ≡ length bs + left
     → encode_utf8_all (kept room (parted_signs after_sign (map plain (chars bs ++ rest))))
     ≡ bs ++ encode_utf8_all (kept left (parted_signs false (map plain rest)))
 steps_whole bs rest after_sign room left some h e =
@@ -114,7 +114,7 @@ steps_whole bs rest after_sign room left some h e =
     ∙ encodes-append bs (kept left (parted_signs false (map plain rest)))
     ∙ ap (λ t. t ++ encode_utf8_all (kept left (parted_signs false (map plain rest)))) (encodes_whole bs h)
 
-pub takes_whole : (old new : ShownText) (bs : List ℕ) → 0 < length bs → list_all stands bs ≡ true → length bs ≤ old.room → old.full ≡ false
+pub takes_whole : (old new : ShownText) (bs : List ℕ) → 0 < length bs → list_all is_verbatim bs ≡ true → length bs ≤ old.room → old.full ≡ false
     → string_bytes new.text ≡ string_bytes old.text ++ bs → new.room ≡ old.room - length bs → new.full ≡ false → new.after_sign ≡ false
     → Takes old new (chars bs)
 takes_whole old new bs some h within going text room full sign = λ rest.

@@ -4,8 +4,8 @@ use Rattle.sarif_findings.specs.declared.shown_text.ShownText.{ShownText}
 use Rattle.sarif_findings.specs.Shown.{is_between, kept, parted, parted_signs, plain}
 
 -- whether a byte is a character that is shown unchanged, regardless of its neighbours
-abbrev pub stands : ℕ → Bool
-stands b = is_between 32 126 b && not (b == 35)
+abbrev pub is_verbatim : ℕ → Bool
+is_verbatim b = is_between 32 126 b && not (b == 35)
 
 -- the bytes that it will have where these characters follow
 abbrev pub shown_with : ShownText → List ℕ → List ℕ

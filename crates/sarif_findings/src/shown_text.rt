@@ -64,17 +64,17 @@ fn plain(c: char) -> char
 }
 
 /// Returns whether a byte is a character that is shown unchanged, regardless of its neighbours.
-fn stands(byte: u8) -> bool
-    ensures { result ≡ so_far.stands byte }
+fn is_verbatim(byte: u8) -> bool
+    ensures { result ≡ so_far.is_verbatim byte }
 {
     matches!(byte, b' '..=b'~') && byte != b'#'
 }
 
-fn all_stand(bytes: &[u8]) -> bool
-    ensures { result ≡ list_all so_far.stands bytes.now }
+fn all_verbatim(bytes: &[u8]) -> bool
+    ensures { result ≡ list_all so_far.is_verbatim bytes.now }
 {
     for byte in bytes {
-        if !stands(*byte) {
+        if !is_verbatim(*byte) {
             return false;
         }
     }
@@ -94,7 +94,7 @@ impl ShownText {
     ghost use Rattle.std.specs.Prelude.{◌<◌, ◌≤◌, length};
     ghost use Rattle.std.specs.Bool.{OnTrue};
     ghost use Rattle.std.specs.List.{list_all};
-    ghost use Rattle.sarif_findings.specs.ShownSoFar.{shown_with, stands, Takes, Keeps, Parts};
+    ghost use Rattle.sarif_findings.specs.ShownSoFar.{shown_with, is_verbatim, Takes, Keeps, Parts};
 
     pub(crate) fn new(alloc: Global) -> ShownText
         ensures { (cs : List ℕ) → shown_with result cs ≡ said.shown cs }
@@ -168,20 +168,20 @@ impl ShownText {
     /// Returns whether a string is shown unchanged and there is room for it.
     fn has_room(&self, text: &str) -> bool
         ensures some { OnTrue result (0 < length text.now) }
-        ensures stands { OnTrue result (list_all stands text.now ≡ true) }
+        ensures is_verbatim { OnTrue result (list_all is_verbatim text.now ≡ true) }
         ensures room { OnTrue result (length text.now ≤ self.now.room) }
         ensures going { OnTrue result (self.now.full ≡ false) }
     {
         !self.full
             && 0 < text.len()
             && text.len() <= self.room as usize
-            && all_stand(text.as_bytes())
+            && all_verbatim(text.as_bytes())
     }
 
     /// Reads a string that is shown unchanged.
     fn push_whole(&mut self, text: &str) -> Result<(), AllocError>
         requires some { 0 < length text.now }
-        requires stands { list_all stands text.now ≡ true }
+        requires is_verbatim { list_all is_verbatim text.now ≡ true }
         requires room { length text.now ≤ self.old.room }
         requires going { self.old.full ≡ false }
         ensures { OnOk result (Takes self.old self.new (chars text.now)) }

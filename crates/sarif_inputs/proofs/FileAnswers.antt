@@ -3,10 +3,10 @@ use Rattle.std.proofs.Common.{◌≡◌, ◌⊎◌, inr, Some, Result, Err, ap}
 use Rattle.sarif_suppress.specs.File.{File}
 use Rattle.sarif_suppress.specs.declared.fault.FileFault.{FileFault}
 use Rattle.sarif_suppress.specs.FileFault.{fault_of_file}
-use Rattle.sarif_model.specs.FirstFault.{first, IsWanting}
+use Rattle.sarif_model.specs.FirstFault.{first, IsOutOfResources}
 use Rattle.sarif_inputs.specs.Faults.{file_faults}
 
 pub file_refused : (said : Result File FileFault) (fault : FileFault)
     → said ≡ Err fault
-    → IsWanting (fault_of_file fault) ⊎ (first (file_faults said) ≡ Some (fault_of_file fault))
+    → IsOutOfResources (fault_of_file fault) ⊎ (first (file_faults said) ≡ Some (fault_of_file fault))
 file_refused said fault same = inr (ap (λ r. first (file_faults r)) same)

@@ -20,7 +20,7 @@ use Rattle.sarif_model.specs.Refusal.{IfFault}
 use Rattle.sarif_model.specs.declared.fault.Fault.TheVariants.{NotJson}
 use Rattle.sarif_read.proofs.LogText.{log_of_text, log_of_none}
 use Rattle.sarif_model.specs.declared.merge_fault.Source.{Source}
-use Rattle.sarif_model.specs.FirstFault.{first, IsWanting}
+use Rattle.sarif_model.specs.FirstFault.{first, IsOutOfResources}
 use Rattle.sarif_inputs.specs.SourceFaults.{reading_faults, fault_of_reading}
 use Rattle.sarif_inputs.specs.Parsed.{Parsed, IsParsedFrom}
 use Rattle.sarif_model.specs.Limits.{most_results, most_runs}
@@ -65,7 +65,7 @@ read_without_index allow bytes index.OutOfMemory none = record {
 -- the error that reading a source returned is the first of its bytes
 pub reading_refused : (source : Source) (allow : Bool) (bytes : List ℕ) (parsed : Parsed) (fault : ReadFault)
     → parsed ≡ Err (refusal.Fault fault) → IsParsedFrom allow bytes parsed
-    → IsWanting (fault_of_reading source fault) ⊎ (first (reading_faults source (log_of allow bytes)) ≡ Some (fault_of_reading source fault))
+    → IsOutOfResources (fault_of_reading source fault) ⊎ (first (reading_faults source (log_of allow bytes)) ≡ Some (fault_of_reading source fault))
 reading_refused source allow bytes parsed fault is p =
     let told = IfErr-at_err (λ e. (found : ReadFault) → e ≡ refusal.Fault found → log_of allow bytes ≡ Err found) is p.err fault refl in
     inr (ap (λ r. first (reading_faults source r)) told)

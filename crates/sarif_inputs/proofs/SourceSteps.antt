@@ -10,7 +10,7 @@ use Rattle.sarif_inputs.specs.declared.sources.Reading.{Reading}
 use Rattle.sarif_runs.specs.Placed.{Placed}
 use Rattle.sarif_runs.specs.Judging.{run_values}
 use Rattle.sarif_inputs.specs.Inputs.{Sourced, numbered, placed, placed_from, readable, runs_in}
-use Rattle.sarif_model.specs.FirstFault.{first, IsWanting}
+use Rattle.sarif_model.specs.FirstFault.{first, IsOutOfResources}
 use Rattle.sarif_inputs.specs.ReadRun.{placed_read}
 use Rattle.sarif_inputs.specs.ReadSoFar.{IsCounted, faults_with}
 use Rattle.sarif_inputs.specs.SourceFaults.{source_faults, reading_faults, limit_faults}
@@ -87,8 +87,8 @@ module _ (ls bs : List Sourced) (start : Reading) (no_runs : start.runs.items �
 
   -- a rejection by the logs
   pub refused_by_logs : (e : MergeFault)
-      → IsWanting e ⊎ (first (source_faults (length start.runs.items) start.results ls) ≡ Some e)
-      → IsWanting e ⊎ (first (source_faults 0 0 (ls ++ bs)) ≡ Some e)
+      → IsOutOfResources e ⊎ (first (source_faults (length start.runs.items) start.results ls) ≡ Some e)
+      → IsOutOfResources e ⊎ (first (source_faults 0 0 (ls ++ bs)) ≡ Some e)
   refused_by_logs e refused =
       let here = still_first (source_faults 0 0 ls) (source_faults (0 + length (placed ls)) (0 + results_total (run_values (placed ls))) bs) e (rw (at_start ls) at refused) in
       rw (faults_append 0 0 ls bs) here

@@ -1,3 +1,3 @@
 pub mod FirstFaults
 pub mod Shards
-pub mod Wants
+pub mod ResourceFaults

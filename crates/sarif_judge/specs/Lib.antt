@@ -1,2 +1,2 @@
 pub mod Flattened
-pub mod Wanting
+pub mod ResourceFault

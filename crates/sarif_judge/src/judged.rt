@@ -7,7 +7,7 @@ ghost use Rattle.sarif_results.specs.Outcomes.{all_outcomes};
 ghost use Rattle.sarif_model.specs.MergeFault.{IsQuiet};
 ghost use Rattle.sarif_model.specs.FirstFault.{Answers};
 ghost use Rattle.sarif_results.specs.Judged.{placed_in};
-ghost use Rattle.sarif_judge.specs.Wanting.{wanting_of};
+ghost use Rattle.sarif_judge.specs.ResourceFault.{resource_fault_of};
 ghost use Rattle.sarif_model.specs.Limits.{most_results, most_runs, most_workers};
 
 use crate::first_fault::fault_of_runs;
@@ -23,7 +23,7 @@ use std::thread::Threads;
 
 /// The rejection if memory ran out or a thread could not be started.
 fn refusal_of(fault: GatherFault) -> MergeFault
-    ensures { result ≡ wanting_of fault }
+    ensures { result ≡ resource_fault_of fault }
 {
     let cause = match fault {
         GatherFault::NoWorker => Cause::NoWorker,
@@ -34,7 +34,7 @@ fn refusal_of(fault: GatherFault) -> MergeFault
 
 /// Judges the results of runs in `workers` threads. `observer` observes them. A rejection is the first error of
 /// the runs and their results in order, regardless of which worker was first, or `OutOfMemory` or `NoWorker`.
-#[tactic(auto, using(crate::proofs::Wants::wants, crate::proofs::Wants::quiet_want))]
+#[tactic(auto, using(crate::proofs::ResourceFaults::lacks_resources, crate::proofs::ResourceFaults::exits_with_two))]
 pub fn judge_runs<'t, 'a, G: Gate + Sync, R: Threads + Wait + Sync>(
     rt: &R,
     alloc: Global,

@@ -7,7 +7,7 @@ use Rattle.sarif_counts.specs.declared.upkeep.Upkeep.{Upkeep}
 use Rattle.sarif_findings.specs.declared.reporting.Reporting.{Reporting}
 use Rattle.sarif_log.specs.declared.merged.Merged.{Merged}
 use Rattle.sarif_model.specs.declared.merge_fault.MergeFault.{MergeFault}
-use Rattle.sarif_model.specs.FirstFault.{IsWanting}
+use Rattle.sarif_model.specs.FirstFault.{IsOutOfResources}
 use Rattle.sarif_inputs.specs.Faults.{first_fault}
 use Rattle.sarif_inputs.specs.Inputs.{Inputs}
 use Rattle.sarif_merge.specs.Life.{IsRefusal}
@@ -24,7 +24,7 @@ pub refused_alone : {R : Type 0} → (remaining : R → Option (List ℕ)) → (
     → IsRefusedWith remaining old new today checks policy None fault → IsRefused remaining old new today checks fault
 refused_alone remaining old new today checks policy fault refused = elim refused [ inl same ↦ same | inr large ↦ let never : ⊥ = cc large.1.3 in absurd never ]
 
-pub refusal_alone : (inputs : Inputs) (policy : Policy) (fault : MergeFault) → IsRefusal inputs policy None fault → IsWanting fault ⊎ (first_fault inputs ≡ Some fault)
+pub refusal_alone : (inputs : Inputs) (policy : Policy) (fault : MergeFault) → IsRefusal inputs policy None fault → IsOutOfResources fault ⊎ (first_fault inputs ≡ Some fault)
 refusal_alone inputs policy fault (inl same) = same
 refusal_alone inputs policy fault (inr large) = let never : ⊥ = cc large.1 in absurd never
 

@@ -32,7 +32,7 @@ use Rattle.sarif_log.specs.Assembled.{IsMergedBy}
 use Rattle.sarif_log.specs.Prepared.{IsPrepared}
 use Rattle.sarif_results.specs.Judged.{placed_in, IsJudged}
 use Rattle.sarif_log.specs.LogBy.{leftover_runs, runs_by, runs_without_results}
-use Rattle.sarif_model.specs.FirstFault.{IsWanting, first}
+use Rattle.sarif_model.specs.FirstFault.{IsOutOfResources, first}
 use Rattle.sarif_inputs.specs.Faults.{faults_of, file_faults, file_or_none, number_faults}
 use Rattle.sarif_inputs.specs.Indexes.{AreIndexesOf}
 use Rattle.sarif_inputs.specs.Inputs.{Inputs, numbered, placed}
@@ -127,10 +127,10 @@ faults_apart : (xs ys : List Placed) → faults_of_runs (xs ++ ys) ≡ faults_of
 faults_apart xs ys = flat_map-append run_faults xs ys
 
 pub refused_by_first : (xs ys : List Placed) (fault : MergeFault)
-    → IsWanting fault ⊎ (first (faults_of_runs xs) ≡ Some fault)
-    → IsWanting fault ⊎ (first (faults_of_runs (xs ++ ys)) ≡ Some fault)
+    → IsOutOfResources fault ⊎ (first (faults_of_runs xs) ≡ Some fault)
+    → IsOutOfResources fault ⊎ (first (faults_of_runs (xs ++ ys)) ≡ Some fault)
 refused_by_first xs ys fault refused =
-    subst (λ faults. IsWanting fault ⊎ (first faults ≡ Some fault)) (sym (faults_apart xs ys)) (still_first (faults_of_runs xs) (faults_of_runs ys) fault refused)
+    subst (λ faults. IsOutOfResources fault ⊎ (first faults ≡ Some fault)) (sym (faults_apart xs ys)) (still_first (faults_of_runs xs) (faults_of_runs ys) fault refused)
 
 pub left_after_first : (xs ys : List Placed) → faults_of_runs xs ≡ [] → faults_of_runs (xs ++ ys) ≡ faults_of_runs ys
 left_after_first xs ys none = faults_apart xs ys ∙ ap (λ faults. faults ++ faults_of_runs ys) none

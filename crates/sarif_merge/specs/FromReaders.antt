@@ -13,7 +13,7 @@ use Rattle.sarif_counts.specs.declared.upkeep.Upkeep.{Upkeep}
 use Rattle.sarif_findings.specs.declared.reporting.Reporting.{Reporting}
 use Rattle.sarif_log.specs.declared.merged.Merged.{Merged}
 use Rattle.sarif_inputs.specs.Faults.{IsTooMany, faults_of, first_fault}
-use Rattle.sarif_model.specs.FirstFault.{IsWanting}
+use Rattle.sarif_model.specs.FirstFault.{IsOutOfResources}
 use Rattle.sarif_merge.specs.Given.{given_by}
 use Rattle.sarif_merge.specs.Life.{IsLifeOf, IsTooLarge}
 use Rattle.sarif_merge.specs.Merged.{IsMerged}
@@ -33,7 +33,7 @@ abbrev pub IsAtFault : {R : Type 0} → (R → Option (List ℕ)) → Readers R 
     → Option ℕ → Checks → MergeFault → Type 0
 IsAtFault remaining old new today checks fault =
     (contents : SourceContents) × WereRead remaining old new contents
-    × (IsWanting fault ⊎ (first_fault (given_by contents today checks) ≡ Some fault))
+    × (IsOutOfResources fault ⊎ (first_fault (given_by contents today checks) ≡ Some fault))
 
 -- neither logs nor baselines are too many
 abbrev pub AreFew : {R : Type 0} → Readers R → Type 0

@@ -4,7 +4,7 @@ use Rattle.sarif_counts.specs.declared.life.Life.{Life}
 use Rattle.sarif_counts.specs.declared.policy.Policy.{Policy}
 use Rattle.sarif_counts.specs.declared.upkeep.Upkeep.{Upkeep}
 use Rattle.sarif_model.specs.declared.merge_fault.MergeFault.{MergeFault}
-use Rattle.sarif_model.specs.FirstFault.{first, IsWanting}
+use Rattle.sarif_model.specs.FirstFault.{first, IsOutOfResources}
 use Rattle.sarif_upkeep.specs.Life.{life_faults}
 use Rattle.sarif_upkeep.specs.Merge.{Merge}
 use Rattle.sarif_log.specs.Kept.{merge_of, IsKept}
@@ -29,5 +29,5 @@ IsTooLarge inputs policy upkeep fault = first (life_faults (merge_in inputs poli
 -- the inputs; or they have none, and what was requested for later merges is too large
 abbrev pub IsRefusal : Inputs → Policy → Option Upkeep → MergeFault → Type 0
 IsRefusal inputs policy upkeep fault =
-    (IsWanting fault ⊎ (first_fault inputs ≡ Some fault))
+    (IsOutOfResources fault ⊎ (first_fault inputs ≡ Some fault))
     ⊎ ((faults_of inputs ≡ []) × IsTooLarge inputs policy upkeep fault)

@@ -5,7 +5,7 @@ use Rattle.sarif_counts.specs.declared.policy.Policy.{Policy}
 use Rattle.sarif_counts.specs.declared.upkeep.Upkeep.{Upkeep}
 use Rattle.sarif_model.specs.declared.merge_fault.MergeFault.{MergeFault}
 use Rattle.sarif_model.specs.declared.merge_fault.Source.TheVariants.{Log, Baseline}
-use Rattle.sarif_model.specs.FirstFault.{first, IsWanting}
+use Rattle.sarif_model.specs.FirstFault.{first, IsOutOfResources}
 use Rattle.sarif_findings.specs.declared.reporting.Reporting.{Reporting}
 use Rattle.sarif_runs.specs.Judging.{faults_of_runs}
 use Rattle.sarif_runs.specs.Placed.{Placed}
@@ -41,5 +41,5 @@ abbrev pub AnswersFor : List Placed → Merge → Option Upkeep → Result Prepa
 AnswersFor runs m upkeep (Ok prepared) =
     (faults_of_runs runs ≡ []) × IsKept m upkeep prepared.life
 AnswersFor runs m upkeep (Err fault) =
-    (IsWanting fault ⊎ (first (faults_of_runs runs) ≡ Some fault))
+    (IsOutOfResources fault ⊎ (first (faults_of_runs runs) ≡ Some fault))
     ⊎ ((faults_of_runs runs ≡ []) × (first (life_faults m upkeep) ≡ Some fault))

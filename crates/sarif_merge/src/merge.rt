@@ -8,7 +8,7 @@ ghost use Rattle.sarif_log.specs.Beside.{IsMadeBy};
 ghost use Rattle.sarif_log.specs.Assembled.{HasGate, IsMergedBy};
 ghost use Rattle.sarif_log.specs.Prepared.{IsPrepared};
 ghost use Rattle.sarif_log.specs.Told.{reporting_in};
-ghost use Rattle.sarif_model.specs.FirstFault.{IsWanting};
+ghost use Rattle.sarif_model.specs.FirstFault.{IsOutOfResources};
 ghost use Rattle.sarif_inputs.specs.Faults.{faults_of, first_fault};
 ghost use Rattle.sarif_merge.specs.Given.{inputs_of};
 ghost use Rattle.sarif_log.specs.Kept.{upkeep_in};
@@ -55,8 +55,8 @@ fn assemble_beside<R: Threads + Sync, B: Drop, Tell: FnOnce(&Facts<'_>) -> Resul
         ensures life { IfOk result (λ made. made.0.life ≡ prepared.life) }
         ensures told { IfOk result (λ made. IsMadeBy Tell.FnOnce tell made.0 (Ok made.1)) }
     { assemble(rt, alloc, prepared, options, tell) };
-    let let_go = move || drop(scratches);
-    let (_, made) = thread::join(rt, let_go, write);
+    let release = move || drop(scratches);
+    let (_, made) = thread::join(rt, release, write);
     made
 }
 
@@ -129,7 +129,7 @@ pub fn merge_bytes<G: Gate + Sync, R: Threads + Wait + Sync>(
         (unused_in inputs)) }
     // It has no findings.
     ensures untold { IfOk result (λ merged. merged.findings.items ≡ []) }
-    ensures refusals { IfErr result (λ fault. IsWanting fault
+    ensures refusals { IfErr result (λ fault. IsOutOfResources fault
         ⊎ (first_fault (inputs_of sources.now options.now) ≡ Some fault)) }
     ensures quiet { IsQuiet result }
 {

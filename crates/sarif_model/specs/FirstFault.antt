@@ -14,11 +14,11 @@ abbrev pub no_worker : MergeFault
 no_worker = record { at = Nowhere; cause = NoWorker }
 
 -- memory ran out, or a thread could not be started
-abbrev pub IsWanting : MergeFault → Type 0
-IsWanting fault = (fault ≡ out_of_memory) ⊎ (fault ≡ no_worker)
+abbrev pub IsOutOfResources : MergeFault → Type 0
+IsOutOfResources fault = (fault ≡ out_of_memory) ⊎ (fault ≡ no_worker)
 
 -- a result if these are the errors: Ok only if there is none, and a rejection is the first of them, or means that
 -- memory ran out or that a thread could not be started
 abbrev pub Answers : {T : Type 0} → List MergeFault → Result T MergeFault → Type 0
 Answers faults (Ok v) = faults ≡ []
-Answers faults (Err fault) = IsWanting fault ⊎ (first faults ≡ Some fault)
+Answers faults (Err fault) = IsOutOfResources fault ⊎ (first faults ≡ Some fault)

@@ -73,12 +73,12 @@ fn causes_of_faults(rt: HostRuntime) -> Result<(), Fail> {
 
 #[test]
 fn want_of_memory_is_nowhere(rt: HostRuntime) {
-    let wanting = MergeFault {
+    let out_of_memory = MergeFault {
         at: At::Nowhere,
         cause: Cause::OutOfMemory,
     };
-    assert_eq!(rt; MergeFault::from(AllocError), wanting);
-    assert_eq!(rt; rejection_of(Refusal::OutOfMemory), wanting);
+    assert_eq!(rt; MergeFault::from(AllocError), out_of_memory);
+    assert_eq!(rt; rejection_of(Refusal::OutOfMemory), out_of_memory);
 }
 
 #[test]

@@ -4,7 +4,7 @@ use Rattle.sarif_gate.proofs.run_streams.Goals as goal
 pub returns-in-Ok : goal.returns-in-Ok
 returns-in-Ok g c = elim c.serve.ensures [
   | inl run ↦ inl (c.in-Ok.request, c.in-Ok.ensures, run)
-  | inr wanting ↦ inr wanting
+  | inr lacking ↦ inr lacking
 ]
 
 pub returns-in-Err : goal.returns-in-Err

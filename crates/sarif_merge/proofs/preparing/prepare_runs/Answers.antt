@@ -8,7 +8,7 @@ use Rattle.sarif_runs.specs.Opened.{placed_of}
 use Rattle.sarif_results.specs.Judged.{placed_in}
 use Rattle.sarif_log.specs.Kept.{bytes_of, merge_of, upkeep_in}
 use Rattle.sarif_log.specs.Told.{reporting_in}
-use Rattle.sarif_model.specs.FirstFault.{first, IsWanting}
+use Rattle.sarif_model.specs.FirstFault.{first, IsOutOfResources}
 use Rattle.sarif_inputs.specs.Inputs.{numbered, placed}
 use Rattle.sarif_merge.proofs.MergeAnswers.{judged_logs, judged_baselines, left_after_first, refused_by_first, same_kept, same_large, same_runs}
 use Rattle.sarif_merge.proofs.Unkept.{unkept_quiet}
@@ -49,7 +49,7 @@ returns-clause-prepared g c = λ ls bs read.
 pub returns-in_err-now-clause-faults : goal.returns-in_err-now-clause-faults
 returns-in_err-now-clause-faults g c = λ ls bs read.
     let p = err_from_is_err_and c.from_residual.result c.from_residual.ensures.1 in
-    let refused = subst (λ ps. IsWanting c.in_err-now.field-0.0 ⊎ (first (faults_of_runs ps) ≡ Some c.in_err-now.field-0.0)) read.current c.in_err-now.ensures.faults in
+    let refused = subst (λ ps. IsOutOfResources c.in_err-now.field-0.0 ⊎ (first (faults_of_runs ps) ≡ Some c.in_err-now.field-0.0)) read.current c.in_err-now.ensures.faults in
     rw (p.1, p.2) (inl (refused_by_first (placed (numbered c.args.asked.now.options.now.checks Log 0 ls)) (placed (numbered c.args.asked.now.options.now.checks Baseline 0 bs)) c.in_err-now.field-0.0 refused))
 
 pub returns-in_err-before-clause-faults : goal.returns-in_err-before-clause-faults
@@ -57,7 +57,7 @@ returns-in_err-before-clause-faults g c = λ ls bs read.
     let p = err_from_is_err_and c.from_residual-in_err-before.result c.from_residual-in_err-before.ensures.1 in
     let none = ap faults_of_runs (sym read.current) ∙ c.in_ok-now.ensures.faults in
     let left = left_after_first (placed (numbered c.args.asked.now.options.now.checks Log 0 ls)) (placed (numbered c.args.asked.now.options.now.checks Baseline 0 bs)) none in
-    let refused = subst (λ ps. IsWanting c.in_err-before.field-0.0 ⊎ (first (faults_of_runs ps) ≡ Some c.in_err-before.field-0.0)) read.baseline c.in_err-before.ensures.faults in
+    let refused = subst (λ ps. IsOutOfResources c.in_err-before.field-0.0 ⊎ (first (faults_of_runs ps) ≡ Some c.in_err-before.field-0.0)) read.baseline c.in_err-before.ensures.faults in
     rw (p.1, p.2) (inl (rw left refused))
 
 pub returns-in_err-prepared-clause-faults : goal.returns-in_err-prepared-clause-faults

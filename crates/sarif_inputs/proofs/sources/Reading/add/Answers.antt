@@ -3,7 +3,7 @@ use Rattle.std.proofs.lemmas.List.{length-map}
 use Rattle.std.proofs.lemmas.Result.{err_from_is_err_and, IfOk-at_ok}
 use Rattle.sarif_read.specs.Indexed.{run_of}
 use Rattle.sarif_model.specs.Run.{results_total}
-use Rattle.sarif_model.specs.FirstFault.{first, IsWanting}
+use Rattle.sarif_model.specs.FirstFault.{first, IsOutOfResources}
 use Rattle.sarif_inputs.specs.SourceFaults.{limit_faults}
 use Rattle.sarif_inputs.proofs.SourceRuns.{counted_more}
 use Rattle.sarif_inputs.proofs.sources.Reading.add.Goals as goal
@@ -29,8 +29,8 @@ returns-in_err-check_limits-clause-faults c = λ bytes parsed.
     let here : c.len-2.result ≡ length log = search rules in omega (arith, before, here, length-map log run_of) in
     let total : results + c.count_results.result ≡ results + results_total (map run_of log) =
     let here : c.count_results.result ≡ results_total (map run_of log) = search rules in omega (arith, here) in
-    let refused = subst (λ n. IsWanting e ⊎ (first (limit_faults source n (results + c.count_results.result)) ≡ Some e)) long c.in_err-check_limits.ensures.faults in
-    rw (p.1, p.2) (rw is (subst (λ n. IsWanting e ⊎ (first (limit_faults source (runs + length (map run_of log)) n) ≡ Some e)) total refused))
+    let refused = subst (λ n. IsOutOfResources e ⊎ (first (limit_faults source n (results + c.count_results.result)) ≡ Some e)) long c.in_err-check_limits.ensures.faults in
+    rw (p.1, p.2) (rw is (subst (λ n. IsOutOfResources e ⊎ (first (limit_faults source (runs + length (map run_of log)) n) ≡ Some e)) total refused))
 
 pub place_runs-requires-clause-whole : goal.place_runs-requires-clause-whole
 place_runs-requires-clause-whole c =

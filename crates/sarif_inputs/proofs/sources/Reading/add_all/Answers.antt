@@ -5,7 +5,7 @@ use Rattle.sarif_read.specs.Reading.{log_of}
 use Rattle.sarif_model.specs.Run.{results_total}
 use Rattle.sarif_inputs.specs.ReadRun.{placed_read}
 use Rattle.sarif_model.specs.SourceKind.{source_of}
-use Rattle.sarif_model.specs.FirstFault.{first, IsWanting}
+use Rattle.sarif_model.specs.FirstFault.{first, IsOutOfResources}
 use Rattle.sarif_inputs.specs.Inputs.{numbered, placed, placed_from, readable}
 use Rattle.sarif_inputs.specs.Parsed.{AreParsedFrom}
 use Rattle.sarif_inputs.specs.ReadSoFar.{faults_with}
@@ -63,11 +63,11 @@ returns-in_err-add-clause-faults c = λ sources all.
     let here = parsed_first c.args.checks.allow_external w.0 parsed later (subst (λ rs. AreParsedFrom c.args.checks.allow_external w.0 rs) left w.1) in
     let p = err_from_is_err_and c.from_residual.result c.from_residual.ensures.1 in
     let e = c.in_err-add.field-0.0 in
-    let refused = subst (λ s. IsWanting e ⊎ (first (faults_with s (log_of c.args.checks.allow_external here.0) (length old.runs.items) old.results) ≡ Some e)) c.source.ensures (c.in_err-add.ensures.faults here.0 here.3) in
+    let refused = subst (λ s. IsOutOfResources e ⊎ (first (faults_with s (log_of c.args.checks.allow_external here.0) (length old.runs.items) old.results) ≡ Some e)) c.source.ensures (c.in_err-add.ensures.faults here.0 here.3) in
     let runs = readable (log_of c.args.checks.allow_external here.0) in
     let more = still_first (faults_with (name i) (log_of c.args.checks.allow_external here.0) (length old.runs.items) old.results) (source_faults (length old.runs.items + length runs) (old.results + results_total runs) (numbered c.args.checks name (i + 1) here.1)) e refused in
     let same = ap (λ bs. source_faults (length old.runs.items) old.results (numbered c.args.checks name i bs)) (sym here.2) ∙ w.3 in
-    rw (p.1, p.2) (subst (λ faults. IsWanting e ⊎ (first faults ≡ Some e)) same more)
+    rw (p.1, p.2) (subst (λ faults. IsOutOfResources e ⊎ (first faults ≡ Some e)) same more)
 
 pub returns-clause-runs : goal.returns-clause-runs
 returns-clause-runs c = λ sources all.

@@ -7,6 +7,6 @@ use Rattle.sarif_model.specs.MergeFault.{out_of_memory}
 use Rattle.sarif_model.specs.FirstFault.{no_worker}
 
 -- the rejection if results could not be judged
-abbrev pub wanting_of : GatherFault → MergeFault
-wanting_of NoWorker = no_worker
-wanting_of OutOfMemory = out_of_memory
+abbrev pub resource_fault_of : GatherFault → MergeFault
+resource_fault_of NoWorker = no_worker
+resource_fault_of OutOfMemory = out_of_memory
