@@ -46,7 +46,7 @@ fn hits_come_first_in_lines(rt: HostRuntime) -> Result<(), Fail> {
     Ok(())
 }
 
-/// Where a piece is in a text; its length if it is nowhere.
+/// The position of a piece in a string, or the length of the string if the piece is not in it.
 fn place_of(text: &str, piece: &str) -> usize {
     text.find(piece).unwrap_or(text.len())
 }

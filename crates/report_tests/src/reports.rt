@@ -49,7 +49,7 @@ const MARKDOWN: &str = "\
 const GITLAB: &str =
     r#"[{"check_name":"B703","description":"Potential XSS on mark_safe function.","fingerprint":"fd273b5e336360fba395744f1a4977133a2a2978631842434d51f65ae37747db","location":{"lines":{"begin":12},"path":"django/forms/forms.py"},"severity":"major"},{"check_name":"B703","description":"Use of a%b in {x} 1 {01} {2}","fingerprint":"e55a18772619595811ce4cbf0c71dbedef72f3b05e7dce49b8a8d4e78d89e4bc","location":{"lines":{"begin":1},"path":"a b.c"},"severity":"critical"},{"check_name":"unknown","description":"x ::error::y # #[z] {0}","fingerprint":"339cb18f69a2fd290434b7ec3d9b91ea6a6e4fda14dfb132c9711ee8ed83b46a","location":{"lines":{"begin":1},"path":"unknown"},"severity":"minor"}]"#;
 
-/// Three results, of which the first and the last are equal.
+/// Three results. The first and the last are equal.
 const ALIKE: &str = r#"{"runs":[{"results":[
 {"baselineState":"new","level":"error","message":{"text":"same"}},
 {"baselineState":"new","level":"error","message":{"text":"other"}},

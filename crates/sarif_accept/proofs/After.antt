@@ -46,7 +46,7 @@ or_second : (a b : Bool) → b ≡ true → (a || b) ≡ true
 or_second true b e = refl
 or_second false b e = e
 
--- who is among those before stays found
+-- a record that is among the earlier ones is still found
 found_before : (q : Record → Bool) (before rs : List Record) → list_any q before ≡ true → list_any q (before ++ once_each before rs) ≡ true
 found_before q before rs is = list_any-append q before (once_each before rs) ∙ or_left _ _ is
 
@@ -188,7 +188,7 @@ hits_after how counts file rs states r state i within inside is at accepts until
     by_tests true false false m so = rw (so refl) refl
     by_tests false b c m so = refl
 
--- who was suppressed is
+-- a result that was suppressed is suppressed
 pub still_suppressed : (how : How) (counts : Counts) (file : File) (rs : List Record) (states : List State) (r : Record) (i : ℕ) → i < length rs → get_or rs i r ≡ r
     → is_suppressed file r ≡ true → is_suppressed (file_after how counts file rs states) r ≡ true
 still_suppressed how counts file rs states r i within is was = suppressed_after how counts file rs states r i within is ∙ or_left (is_suppressed file r) _ was

@@ -1,4 +1,4 @@
--- What an entry asks for, by what a result has.
+-- The conditions of an entry, by what a result has.
 use Rattle.std.proofs.Common.{◌≡◌, ℕ, true, false, List, [], ◌∷◌, length, Option, Some, None, refl, sym, ◌∙◌, arith, true≢false}
 use Rattle.std.specs.Prelude.{is_some}
 use Rattle.sarif_model.specs.declared.record.Record.{Record}

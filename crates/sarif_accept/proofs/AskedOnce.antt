@@ -1,4 +1,4 @@
--- What the entries of results ask for, each once.
+-- The conditions of the entries of results, each once.
 use Rattle.std.proofs.Common.{◌≡◌, ℕ, ◌+◌, ◌<◌, Bool, true, false, cond, ◌||◌, List, [], ◌∷◌, ◌++◌, length, Option, Some, None, Bor, option_map, map, drop, slice_index_or, bytes_eq, refl, sym, ap, ◌∙◌}
 use Rattle.std.specs.List.{list_any}
 use Rattle.std.specs.Option.{option_eq}
@@ -28,7 +28,7 @@ either true false = refl
 either false true = refl
 either false false = refl
 
--- one more is said
+-- the conditions of one more entry
 pub one_more : {S : Type 0} (old new : IndexSet Asked S) (a : Asked) (r : Record) (records : List Record) → conditions_in a ≡ conditions_for r → Updates same_asked old new a true
     → HasAsked old records → HasAsked new (records ++ r ∷ [])
 one_more old new a r records is updates has = λ q.

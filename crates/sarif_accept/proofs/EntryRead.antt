@@ -122,7 +122,7 @@ module _ (c : Conditions) (reason : Option (List ℕ)) (until : Option ℕ) (wro
 
 -- ---- the whole entry
 
--- it names a tool, and no prefix of a URI
+-- the entry names a tool, and no prefix of a URI
 asked_tool : (r : Record) (g : Option ℕ) (full partial : List (List ℕ × List ℕ)) → ((asked_of r g full partial).tool ≡ Some r.tool) × ((asked_of r g full partial).uri_prefix ≡ None)
 asked_tool r (Some guid) full partial = (refl, refl)
 asked_tool r None (p ∷ ps) partial = (refl, refl)

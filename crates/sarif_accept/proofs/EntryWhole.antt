@@ -27,7 +27,7 @@ use Rattle.sarif_accept.specs.NewFile.{entry_in}
 use Rattle.sarif_accept.proofs.Rows.{and_both}
 use Rattle.sarif_accept.proofs.Kept.{all_known, parts}
 
--- where two steps went well, both did
+-- if two steps together succeeded, both did
 pub record Both {A B : Type 0} (a : Result A FileFault) (f : A → Result B FileFault) (y : B) : Type 0 where
   pub value : A
   pub first : a ≡ Ok value
@@ -86,7 +86,7 @@ module _ (wrong : FileFault) where
   pairs_stay (Some (array ds)) x is = let never : ⊥ = cc in absurd never
   pairs_stay (Some (object ms)) x is = ap (λ ns. Some (object ns)) (members_stay ms (passed (are_texts ms) (pairs_of ms) x is))
 
-  -- an array of texts
+  -- an array of strings
   record AreWhole (ds : Items) : Type 0 where
     plain : Rattle.json_parts.specs.Stripping.any_fractional ds ≡ false
     same : stripped_items ds ≡ ds

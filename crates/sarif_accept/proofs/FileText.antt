@@ -22,7 +22,7 @@ is_text b d whole layout order = layout ∙ ap pretty (tokens_from_order b d ord
 pub text_is : (b : List ℕ) (d : Data) → has_float d ≡ false → b ≡ pretty (tokens b) → IsInOrder b d → b ++ 10 ∷ [] ≡ file_text d
 text_is b d whole layout order = ap (λ l. l ++ 10 ∷ []) (is_text b d whole layout order)
 
--- whatever stands in it, the text of an object begins with its bracket
+-- the JSON of any object begins with its bracket
 begins_brace : (j : json.Json) (ms : Members) → blank j ≡ outline (object ms) → (rest : List ℕ) × (pretty (json_tokens j) ≡ 123 ∷ rest)
 unfolding pretty_from
 begins_brace json.null ms is = let never : ⊥ = cc in absurd never

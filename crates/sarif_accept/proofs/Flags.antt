@@ -35,7 +35,7 @@ flags_end today marks prune heard entries front n past =
     let none : drop n entries ≡ [] = at_drop_all (λ es. es) entries n past in
     rw (none, append-nil) refl
 
--- the mark of an entry behind others
+-- the mark of an entry after others
 mark_here : (g : Entry → Bool) (front : List Entry) (e : Entry) (es : List Entry) → mark_at (map g (front ++ e ∷ es)) (length front) ≡ g e
 mark_here g [] e es = refl
 mark_here g (x ∷ front) e es = mark_here g front e es

@@ -47,12 +47,12 @@ list_ordered (Some (string s)) is = tt
 list_ordered (Some (array ds)) is = elements_ordered ds (is (array ds) refl)
 list_ordered (Some (object ms)) is = tt
 
--- the list that is checked is the one that is taken
+-- the list that is checked is the one that is read
 checked_list : (o : Option Items) (ds : List Data) → list_or o ≡ Ok ds → listed o ≡ ds
 checked_list None ds is = let never : ⊥ = cc in absurd never
 checked_list (Some items) ds is = cc
 
--- of what entries it was read
+-- the entries from which the list was read
 pub record Given (d : Data) (file : File) : Type 0 where
   pub version : Version
   pub read : entries_from version file.today 0 (entries_in d) ≡ Ok file.entries

@@ -44,9 +44,9 @@ all_known version (member name d ms) is =
     let both = and_both (has_member version name) (are_members_of version ms) is in
     and_from _ _ (known_by_fourth version name both.0) (all_known version ms both.1)
 
--- ---- which fault is given where there is one makes no difference where there is none
+-- ---- if there is no error, it makes no difference which error would be returned
 
--- where the first reading gives a value, the second gives it
+-- if the first reading returns a value, the second returns it
 abbrev pub Gives : {X : Type 0} → Result X FileFault → Result X FileFault → Type 0
 Gives (Ok x) r = r ≡ Ok x
 Gives (Err fault) r = ⊤
@@ -238,7 +238,7 @@ kept_read version today keep n m (d ∷ ds) es is =
       | false ↦ later m
     ])
 
--- entries that are read at any place, behind others
+-- entries that are read at any position, after others
 pub read_behind : (today : Option ℕ) (n : ℕ) (ds more : List Data) (es others : List Entry) → entries_from Fourth today n ds ≡ Ok es
     → ((m : ℕ) → entries_from Fourth today m more ≡ Ok others) → entries_from Fourth today n (ds ++ more) ≡ Ok (es ++ others)
 unfolding entries_from

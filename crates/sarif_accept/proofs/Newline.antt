@@ -196,7 +196,7 @@ lex_line [] in_string = refl
 lex_line [] in_escape = refl
 lex_line (x ∷ xs) m = lex_line_at m (class x) x xs (λ n. lex_line xs n)
 
--- a line feed after a text changes nothing of what is read
+-- a line feed after JSON changes nothing of what is read
 pub read_line : (text : List ℕ) → read (text ++ 10 ∷ []) ≡ read text
 read_line text = ap read_tokens (ap (punctuate fresh) (lex_line text between))
   where

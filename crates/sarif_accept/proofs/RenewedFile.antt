@@ -1,4 +1,4 @@
--- A new suppression file has a text that is read again.
+-- The JSON of a new suppression file is read again.
 use Rattle.std.proofs.Common.{◌≡◌, ℕ, ◌<◌, ◌≤◌, Bool, true, false, List, [], ◌∷◌, ◌++◌, length, map, Bor, Option, Some, None, refl, ap, ap₂, ◌∙◌, arith, if◌then◌else◌}
 use Rattle.std.specs.Prelude.{nat_lt, unwrap_or}
 use Rattle.std.specs.Str.{is_utf8}

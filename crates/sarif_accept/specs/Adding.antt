@@ -84,7 +84,7 @@ abbrev pub as_read : Conditions → Conditions
 as_read c =
     record c { full = pairs_of (texts_put c.full); partial = pairs_of (texts_put c.partial) }
 
--- what is read of the entry that accepts a result
+-- the entry that accepts a result, as it is read
 abbrev pub entry_read : Record → Option (List ℕ) → Option ℕ → Entry
 entry_read r reason until = record {
   conditions = as_read (conditions_for r);

@@ -1,4 +1,4 @@
--- What an entry asks for, as it refers to a record, and which records ask for it. Internal: no public contract refers
+-- An entry's conditions, as they refer to a record, and which records have them. Internal: no public contract refers
 -- to this module.
 use Rattle.std.specs.Prelude.{◌≡◌, ℕ, Bool, List, [], ◌∷◌, ◌++◌, Option, Some, None, map, option_map, codes}
 use Rattle.std.specs.List.{list_any}
@@ -36,7 +36,7 @@ members_but_place c =
     ∷ (codes "messageArguments", list_if_any (map string c.message_args))
     ∷ [])
 
--- a tool, a rule, and what else is asked for
+-- a tool, a rule, and the other conditions
 abbrev pub with_place : Record → Option (List ℕ) → Option ℕ → List (List ℕ × List ℕ)
     → List (List ℕ × List ℕ) → Conditions
 with_place r uri guid full partial = record {
@@ -71,7 +71,7 @@ with_message r = record {
 abbrev pub same_asked : Asked → Asked → Bool
 same_asked = derived.ghosts.eq
 
--- the set has what the entries of these records ask for, and nothing else
+-- the set has the conditions of the entries of these records, and nothing else
 abbrev pub HasAsked : {S : Type 0} → IndexSet Asked S → List Record → Type 0
 HasAsked set records =
     (q : Asked) → contains same_asked set q

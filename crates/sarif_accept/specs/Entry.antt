@@ -1,4 +1,4 @@
--- The entry of the suppression file that accepts a result: it asks for what a baseline would take for the same finding
+-- The entry of the suppression file that accepts a result: it names what a baseline would match with the same finding
 -- in the same file.
 use Rattle.std.specs.Prelude.{ℕ, List, [], ◌∷◌, map, Option, Some, None, option_map, codes}
 use Rattle.std.specs.Int.{w128, to_be_bytes}
@@ -8,7 +8,7 @@ use Rattle.serde_json.specs.View.{items_of}
 use Rattle.sarif_model.specs.declared.record.Record.{Record}
 use Rattle.sarif_suppress.specs.declared.conditions.Conditions.{Conditions}
 
--- what is asked of a result besides its tool and its rule, by what it has first: a GUID, fingerprints, partial
+-- the conditions besides the tool and the rule, by what the result has first: a GUID, fingerprints, partial
 -- fingerprints, or its message
 abbrev pub asked_of : Record → Option ℕ → List (List ℕ × List ℕ) → List (List ℕ × List ℕ)
     → Conditions

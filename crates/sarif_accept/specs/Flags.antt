@@ -26,14 +26,14 @@ line_at marks n expired None = []
 line_at marks n expired (Some d) = if mark_at marks n then [] else line_of n expired d
 
 module _ (today : Option ℕ) (marks : List Bool) where
-  -- for each of these entries, of which the first has number n, whether it stays
+  -- for each of these entries, the first with number n, whether it stays
   abbrev pub flags_by : Bool → Heard → ℕ → List Entry → List Bool
   flags_by prune heard n [] = []
   flags_by prune heard n (e ∷ es) =
       not (prune && is_dropped heard today e (mark_at marks n))
       ∷ flags_by prune heard (n + 1) es
 
-  -- the lines of these entries, of which the first has number n
+  -- the lines of these entries, the first with number n
   abbrev pub lines_by : ℕ → List Entry → List Data → List ℕ
   lines_by n [] ds = []
   lines_by n (e ∷ es) [] = []

@@ -3,7 +3,7 @@ use Rattle.std.specs.Prelude.{ℕ, List, [], Option, Some, None, Result, Ok}
 use Rattle.sarif_suppress.specs.declared.fault.FileFault.{FileFault}
 use Rattle.sarif_suppress.specs.File.{File, file_of}
 
--- what is read of its bytes for that date; without a file there are no entries
+-- the file as its bytes are read for that date; without a file there are no entries
 abbrev pub file_given : Option (List ℕ) → Option ℕ → Result File FileFault
 file_given None today = Ok (record { entries = []; today = today })
 file_given (Some bytes) today = file_of bytes today

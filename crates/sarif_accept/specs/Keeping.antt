@@ -18,7 +18,7 @@ goes heard file rs e =
 abbrev pub is_kept : Bool → Heard → File → List Record → Entry → Bool
 is_kept prune heard file rs e = not (prune && goes heard file rs e)
 
--- those of a list that are marked
+-- the marked elements of a list
 abbrev pub chosen : {A : Type 0} → List Bool → List A → List A
 chosen [] xs = []
 chosen (mark ∷ marks) [] = []

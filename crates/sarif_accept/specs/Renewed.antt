@@ -10,7 +10,7 @@ use Rattle.sarif_model.specs.declared.record.Record.{Record}
 use Rattle.sarif_accept.specs.Entry.{entry_for}
 use Rattle.sarif_accept.specs.NewFile.{file_object, entries_after, file_text, new_file}
 
--- of a file, if there is one, the entries that are marked, and then those that accept these results
+-- the marked entries of the file, if there is one, and then the entries that accept these results
 module _ (given : Option (List ℕ)) (kept : List Bool) (added : List Record) (renewal : Renewal)
   where
     abbrev pub added_entries : List Data
@@ -23,7 +23,7 @@ module _ (given : Option (List ℕ)) (kept : List Bool) (added : List Record) (r
     abbrev pub renewed_file : Data
     renewed_file = new_file (file_object given) kept added_entries
 
-    -- why there is none: too many entries, or a text that could not be read again
+    -- why there is none: too many entries, or a file that could not be read again
     abbrev pub renewal_cause : Option Cause
     renewal_cause =
         if nat_lt most_entries (length renewed_entries) then Some (Of TooMany)

@@ -1,4 +1,4 @@
--- What is known of the GUID of a record, and what is required of an expiry date.
+-- The facts about the GUID of a record, and what an expiry date must be.
 use Rattle.std.specs.Prelude.{◌≡◌, ℕ, ◌<◌, ◌≤◌, ◌^◌, true, Option, Some, IfSome}
 use Rattle.sarif_model.specs.declared.record.Record.{Record}
 use Rattle.sarif_suppress.specs.Entries.{is_day}
@@ -12,7 +12,7 @@ abbrev pub IsDated : Option ℕ → Option ℕ → Type 0
 IsDated today until =
     IfSome until (λ last. (is_day last ≡ true) × (day : ℕ) × (today ≡ Some day))
 
--- the same, and it is not before today
+-- the expiry date is a date, and it is not before today
 abbrev pub IsUntil : Option ℕ → Option ℕ → Type 0
 IsUntil today until =
     IfSome until (λ last. (is_day last ≡ true) × (day : ℕ) × (today ≡ Some day) × (day ≤ last))

@@ -22,7 +22,7 @@ head_of n expired =
 abbrev pub line_of : ℕ → Bool → Data → List ℕ
 line_of n expired d = head_of n expired ++ (shown (chars (compact_text d)) ++ 10 ∷ [])
 
--- the lines of the unused ones of these entries, of which the first has number n; they were read of these values
+-- the lines of the unused ones of these entries, the first with number n; they were read from these values
 abbrev pub lines_from : File → List Record → ℕ → List Entry → List Data → List ℕ
 lines_from file rs n [] ds = []
 lines_from file rs n (e ∷ es) [] = []

@@ -1,11 +1,11 @@
-//! What the entry that accepts a result asks for.
+//! The conditions of the entry that accepts a result.
 ghost use Rattle.std.specs.Prelude.{◌≡◌, option_map};
 ghost use Rattle.sarif_accept.specs.Asked.{conditions_in, with_place, with_message};
 ghost use Rattle.sarif_accept.specs.Entry.{conditions_for};
 
 use sarif_model::{Record, Text};
 
-/// The conditions of an entry, as they refer to a record. Strings that are `None`, and empty lists, aren't asked for.
+/// The conditions of an entry, as they refer to a record. Strings that are `None`, and empty lists, aren't conditions.
 #[derive(Clone, Copy, Debug, PartialEq, Eq, Hash)]
 pub(crate) struct Asked<'a> {
     pub(crate) tool: &'a Text,
@@ -19,7 +19,7 @@ pub(crate) struct Asked<'a> {
     pub(crate) message_args: &'a [Text],
 }
 
-/// The tool and the rule of the result are asked for, and these.
+/// Returns the conditions: the tool and the rule of the result, and these.
 fn asked_with<'a>(
     record: &'a Record,
     uri: Option<&'a Text>,
@@ -43,7 +43,7 @@ fn asked_with<'a>(
     }
 }
 
-/// The tool and the rule of the result are asked for, its URI and its message.
+/// Returns the conditions: the tool and the rule of the result, its URI and its message.
 fn asked_by_message(record: &Record) -> Asked<'_>
     ensures { conditions_in result ≡ with_message «record».now }
 {
@@ -60,8 +60,8 @@ fn asked_by_message(record: &Record) -> Asked<'_>
     }
 }
 
-/// What the entry that accepts the result asks for: the result's tool and rule, and its GUID; without one its URI and its
-/// fingerprints; without any its partial fingerprints; without any its message.
+/// Returns the conditions of the entry that accepts the result: its tool, its rule and its GUID; without one its
+/// URI and its fingerprints; without any its partial fingerprints; without any its message.
 #[tactic(auto, using(crate::proofs::AskedOf::by_guid, crate::proofs::AskedOf::by_full, crate::proofs::AskedOf::by_partial, crate::proofs::AskedOf::by_message))]
 pub(crate) fn asked_of(record: &Record) -> Asked<'_>
     ensures { conditions_in result ≡ conditions_for «record».now }

@@ -56,7 +56,7 @@ fn put_guid(
     Ok(())
 }
 
-/// Sets the member `expires`, if there is a last day.
+/// Sets the member `expires`, if there is an expiry date.
 fn put_day(
     alloc: Global,
     members: &mut Map<String, Value>,
@@ -159,8 +159,8 @@ fn members_of(alloc: Global, asked: &Asked) -> Result<Map<String, Value>, AllocE
     Ok(members)
 }
 
-/// Returns the entry that accepts a result: it asks for what a baseline would take for the same finding in the same file,
-/// and has the justification and the expiry date of the renewal, if there are. Returns `AllocError` if memory for it
+/// Returns the entry that accepts a result: it names what a baseline would match with the finding in the same file, and
+/// has the justification and the expiry date of the renewal, if there are. Returns `AllocError` if memory for it
 /// runs out.
 pub fn entry_for(alloc: Global, record: &Record, renewal: &Renewal) -> Result<Value, AllocError>
     ensures { IfOk result (λ v. view v

@@ -11,7 +11,7 @@ use std::alloc::{AllocError, Global};
 use std::hash::{BuildHasher, RandomState};
 use std::marker::Model;
 
-/// An input run, as it tells whether its tool was heard.
+/// What an input run says about whether its tool was heard.
 #[derive(Debug, Drop)]
 pub struct ToolRun {
     /// The driver's `name`.
@@ -63,7 +63,7 @@ fn add_run<S: BuildHasher + Copy>(
 }
 
 impl<S: BuildHasher + Copy> Heard<S> {
-    /// Returns which tools were heard in these runs. Tables of their names hash with `hasher`, on which no answer
+    /// Returns which tools were heard in these runs. Tables of their names hash with `hasher`, on which no result
     /// depends. Returns `AllocError` if memory runs out.
     pub fn new(alloc: Global, hasher: S, runs: Vec<ToolRun>) -> Result<Heard<S>, AllocError>
         ensures { IfOk result (λ heard. heard ≡ runs.items) }

@@ -17,7 +17,7 @@ use std::alloc::{AllocError, Global};
 /// What a new suppression file takes from the old one.
 #[derive(Drop)]
 pub(crate) struct Old {
-    /// Those of its entries that stay.
+    /// The entries that stay.
     pub(crate) entries: Vec<Value>,
     /// Its other members.
     pub(crate) others: Map<String, Value>,
@@ -106,7 +106,7 @@ fn take_from(alloc: Global, file: &Node<'_, '_>, kept: &[bool]) -> Result<Old, A
     Ok(Old { entries, others })
 }
 
-/// What is taken where there is no file.
+/// The contents without a file.
 #[tactic(auto, using(crate::proofs::Taken::none_chosen))]
 fn nothing(alloc: Global, kept: &[bool]) -> Old
     ensures entries { map view result.entries.items

@@ -15,8 +15,8 @@ use sarif_model::{Cause, Fault, MOST_ENTRIES, Record, Refusal};
 use std::alloc::{AllocError, Global};
 use std::hash::BuildHasher;
 
-/// Adds a record to the end of the list, unless the set contains what its entry asks for, and returns whether there was
-/// room for it: a suppression file has at most `MOST_ENTRIES` entries. The set has what the entries of the list ask for.
+/// Adds a record to the end of the list, unless the set has the conditions of its entry, and returns whether there was
+/// room for it: a suppression file has at most `MOST_ENTRIES` entries. The set has the conditions of the list.
 fn add_once<'a, S: BuildHasher + Copy>(
     asked: &mut IndexSet<Asked<'a>, S>,
     added: &mut Vec<&'a Record>,
@@ -44,8 +44,8 @@ fn add_once<'a, S: BuildHasher + Copy>(
     Ok(true)
 }
 
-/// Returns the accepted results for which entries are added: each, in order, unless its entry asks for what the entry of
-/// one before it asks for. The table of what was asked for hashes with `hasher`, on which the result doesn't depend.
+/// Returns the accepted results for which entries are added: each, in order, unless its entry has the conditions of the
+/// entry of an earlier one. The table of conditions hashes with `hasher`, on which the result doesn't depend.
 /// Returns `TooMany` if there are more than `MOST_ENTRIES`, and `OutOfMemory` if memory runs out.
 #[tactic(auto, using(crate::proofs::AskedOnce::goes_past))]
 pub fn each_once<'a, S: BuildHasher + Copy>(

@@ -94,7 +94,7 @@ fn push_unused(
     Ok(())
 }
 
-/// The lines of the unused ones of these entries, which were read of the values at these nodes.
+/// Returns the lines of the unused ones of these entries, which were read from the values at these nodes.
 #[tactic(auto, using(crate::proofs::Flags::lines_go_on, crate::proofs::Flags::lines_end))]
 fn lines_of(
     alloc: Global,
@@ -114,7 +114,7 @@ fn lines_of(
     Ok(text)
 }
 
-/// The lines of the unused entries of the file, which was read of the value at this node.
+/// Returns the lines of the unused entries of the file, which was read from the value at this node.
 fn lines_in<S: BuildHasher + Copy>(
     alloc: Global,
     node: &Node<'_, '_>,

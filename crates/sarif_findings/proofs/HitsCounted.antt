@@ -143,7 +143,7 @@ abbrev pub hits_in : Policy → Option State → Option Level → Bool → ℕ
 hits_in policy None ol side = 0
 hits_in policy (Some s) ol side = count_if (is_listed policy.states s) (count_if (at_least_in policy.fail_on ol && side) 1)
 
--- it is a hit of its state, and none of another
+-- the result is a hit of its state, and not one of another
 hit_in : (policy : Policy) (ol : Option Level) (side : Bool) (s : State)
     → count_if (is_listed policy.states s) (severe_of (λ l. count_if (is_level l ol && same_side false side) 1) policy.fail_on) ≡ hits_in policy (Some s) ol (same_side false side)
 hit_in policy ol side s = ap (count_if (is_listed policy.states s)) (severe_one ol (same_side false side) policy.fail_on)

@@ -13,7 +13,7 @@ use Rattle.sarif_findings.specs.declared.links.Part.TheVariants.{Outside, Outsid
 use Rattle.sarif_findings.specs.Links.{begins_link, begins_pair, is_unbracketed, part_after, stays_between, unlinked, unlinked_from}
 use Rattle.sarif_findings.proofs.LinksMore.{char_stays}
 
--- ---- where no link begins, all characters stay
+-- ---- if no link begins, all characters stay
 
 -- no link begins at any of these characters
 abbrev pub NoneBegins : List Data → List ℕ → Type 0

@@ -88,11 +88,11 @@ filled-none : (args : List Data) (cs : List ℕ) → length args ≡ 0 → fille
 filled-none [] cs none = refl
 filled-none (d ∷ ds) cs none = absurd (omega (arith, none))
 
--- what was read, where there are no arguments
+-- what was read, if there are no arguments
 pub takes_unlinked : (s t : ShownText) (args : List Data) (cs : List ℕ) → length args ≡ 0 → Takes s t cs → Takes s t (filled args cs)
 takes_unlinked s t args cs none takes = λ rest. ap (λ ds. shown_with s (ds ++ rest)) (filled-none args cs none) ∙ takes rest
 
--- a text that is read as itself
+-- a string that is read as itself
 pub takes_plain : (s t : ShownText) (cs ds : List ℕ) → ds ≡ cs → Takes s t cs → Takes s t ds
 takes_plain s t cs ds same takes = λ rest. ap (λ es. shown_with s (es ++ rest)) same ∙ takes rest
 

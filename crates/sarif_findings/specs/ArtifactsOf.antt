@@ -10,7 +10,7 @@ abbrev pub uri_of_artifact : Data → Option (List ℕ)
 uri_of_artifact artifact =
     option_and_then (text_in (codes "uri")) (get (codes "location") artifact)
 
--- the same, with its escapes decoded
+-- the URI of the artifact, with its escapes decoded
 abbrev pub path_of_artifact : Data → Option (List ℕ)
 path_of_artifact artifact = option_map decoded (uri_of_artifact artifact)
 

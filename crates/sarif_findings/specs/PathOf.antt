@@ -21,7 +21,7 @@ is_escaped (b ∷ bs) = (not (b == 37) || begins_with_digits bs) && is_escaped b
 abbrev pub decoded : List ℕ → List ℕ
 decoded uri = if is_escaped uri && is_utf8 (percent_decode uri) then percent_decode uri else uri
 
--- the rest of a path that begins with the root; an empty root counts as none
+-- the rest of a path that begins with the root; an empty root is ignored
 abbrev pub after_root : List ℕ → List ℕ → Option (List ℕ)
 after_root root path =
     if not (length root == 0) && starts_with nat_eq path root

@@ -18,7 +18,7 @@ rule_at table id =
 abbrev pub rules_in : Data → List Data
 rules_in component = elements_in (codes "rules") component
 
--- the same; no rules if there is no such component
+-- the rules of a component; no rules if there is no such component
 abbrev pub rules_of : Option Data → List Data
 rules_of None = []
 rules_of (Some component) = rules_in component

@@ -5,7 +5,7 @@ use Rattle.std.specs.Prelude.{ℕ, zero, suc, Bool, false, ◌&&◌, ◌||◌, �
 abbrev pub is_between : ℕ → ℕ → ℕ → Bool
 is_between first last c = nat_le first c && nat_le c last
 
--- control characters, line and paragraph separators, and the two codes that are no characters in XML
+-- control characters, line and paragraph separators, and the two codes that XML does not allow
 -- (XML 1.0, "Characters")
 abbrev pub is_control : ℕ → Bool
 is_control c =

@@ -18,7 +18,7 @@ shown_with so_far cs =
 abbrev pub Takes : ShownText → ShownText → List ℕ → Type 0
 Takes old new cs = (rest : List ℕ) → shown_with old (cs ++ rest) ≡ shown_with new rest
 
--- the same for characters after the first two steps
+-- what is kept of characters after the first two steps
 abbrev pub kept_with : ShownText → List ℕ → List ℕ
 kept_with so_far cs =
     string_bytes so_far.text ++ (if so_far.full then [] else encode_utf8_all (kept so_far.room cs))

@@ -20,8 +20,8 @@ fn takes_digit(number: u32, count: u32, c: char) -> bool
     c.is_ascii_digit() && number < LEAST_OF_NINE_DIGITS && (count == 0 || number != 0)
 }
 
-/// Reads one more character of an argument's number, of which some digits were read. Returns the number with this
-/// digit, or what was found where this is no further digit: the number and its count of digits before a `}`.
+/// Reads one more character of an argument's number, after some of its digits. Returns the number with this
+/// digit, or what was found if the character is not a digit: the number and its count of digits before a `}`.
 pub(crate) fn read_digit(number: u32, count: u32, c: char) -> Result<u32, Option<(u32, u32)>>
     requires small { number < 1000000000 }
     requires few { count ≤ number + 1 }

@@ -58,7 +58,7 @@ fn stripped<'a>(root: &str, path: &'a str) -> Option<&'a str>
     path.strip_prefix(root)
 }
 
-/// The rest of a path that begins with the root. An empty root counts as none.
+/// The rest of a path that begins with the root. An empty root is ignored.
 fn after_root<'a>(root: &str, path: &'a str) -> Option<&'a str>
     ensures { option_map (λ s. s.now) result ≡ said.after_root root.now path.now }
 {

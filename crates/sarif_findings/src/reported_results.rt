@@ -153,7 +153,7 @@ pub fn finding_of(
     })
 }
 
-/// The finding of a result of a run, if it is reported. Nothing more is read of a result that is not reported.
+/// The finding of a result of a run, if it is reported. Nothing more is read from a result that is not reported.
 fn finding_if(
     alloc: Global,
     reporting: &Reporting,

@@ -5,9 +5,9 @@ use sarif_model::{Sequence, Text};
 /// What reports depend on, besides the merged log.
 #[derive(Debug, Drop)]
 pub struct Reporting {
-    /// The policy of the gate: which results count, and which of them are hits.
+    /// The policy of the gate: which results are reported, and which of them are hits.
     pub policy: Policy,
-    /// The roots. Of those that a path begins with, the first in this order is removed from it, once; an empty one
-    /// counts as none.
+    /// The roots. If a path begins with some of them, the first in this order is removed from it, once. An empty root
+    /// is ignored.
     pub roots: Sequence<Text>,
 }

@@ -11,7 +11,7 @@ use std::alloc::{AllocError, Global};
 /// The maximum number of characters of a shown string.
 pub const MOST_CHARACTERS: u32 = 1_000;
 
-/// A control character, a line or paragraph separator, or one of the two codes that are no characters in XML.
+/// A control character, a line or paragraph separator, or one of the two codes that XML does not allow.
 fn is_control(c: char) -> bool
     ensures { result ≡ said.is_control c }
 {
@@ -52,7 +52,7 @@ fn is_blank_letter(c: char) -> bool
     matches!(c, '\u{115f}'..='\u{1160}' | '\u{17b4}'..='\u{17b5}' | '\u{3164}' | '\u{ffa0}')
 }
 
-/// The character, or a space in place of a character that is not shown.
+/// Returns the character, or a space instead of a character that is not shown.
 fn plain(c: char) -> char
     ensures { result ≡ said.plain c }
 {

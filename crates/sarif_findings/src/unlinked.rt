@@ -7,7 +7,7 @@ ghost use Rattle.sarif_findings.specs.Unlinked.{left};
 use crate::links::{Part, part_after, stays_between};
 use serde_json::Value;
 
-/// What is left to read of a message without its links. It stores none of it.
+/// The rest of a message that is read without its links. It stores none of it.
 #[derive(Clone, Copy)]
 pub(crate) struct Unlinked<'a> {
     args: &'a [Value],
@@ -26,7 +26,7 @@ impl<'a> Unlinked<'a> {
         }
     }
 
-    /// Reads on to the next character that stays, and returns it. After `None` nothing is known of what is left.
+    /// Reads on to the next character that stays, and returns it. After `None` nothing is known about the rest.
     pub(crate) fn next(&mut self) -> Option<char>
         ensures is { MatchOption result (left self.old ≡ []) (λ c. left self.old ≡ c ∷ left self.new) }
         ensures shorter { IfSome result (λ c. length self.new.rest.now < length self.old.rest.now) }

@@ -1,4 +1,4 @@
--- Runs put into the groups of their tools, one after another, are those of each tool in order.
+-- Runs that are put into the groups of their tools, in order, are those of each tool in order.
 use Rattle.std.proofs.Common.{◌≡◌, ℕ, zero, suc, ◌+◌, ◌<◌, ◌≤◌, ◌==◌, Bool, true, false, not, ◌&&◌, ◌||◌, List, [], ◌∷◌, ◌++◌, map, filter, length, replicate, position, Some, None, bytes_eq, refl, sym, ap, ap₂, ◌∙◌, subst, true≢false, append_assoc, append-nil, if◌then◌else◌, arith, Bor, get_or}
 use Rattle.std.specs.Prelude.{slice_set}
 use Rattle.std.specs.List.{flat_map, list_any, position_or_len}
@@ -75,7 +75,7 @@ any_last x y (z ∷ before) is = or_right (bytes_eq x z) _ (any_last x y before 
     or_right true b is = refl
     or_right false b is = is
 
--- what stood before doesn't come again
+-- a tool that came before doesn't come again
 later_differ : (x : List ℕ) (before ys : List (List ℕ)) → list_any (bytes_eq x) before ≡ true → AreApart before ys → list_any (bytes_eq x) ys ≡ false
 later_differ x before [] there apart = refl
 later_differ x before (y ∷ ys) there apart =
@@ -104,7 +104,7 @@ module _ (run : Chosen) (some : is_empty run.records ≡ false) (rest : List Cho
       neither true b is = absurd (true≢false is)
       neither false b is = (refl, is)
 
-  -- a run that is put into its group stands before those that come later
+  -- a run that is put into its group is before those that come later
   pub step_groups : (before tools : List (List ℕ)) (groups : List (List Chosen)) → AreApart before tools
       → side_by_side (spread tools run groups) (map (runs_of_tool rest) tools) ≡ side_by_side groups (map (runs_of_tool (run ∷ rest)) tools)
   step_groups before [] [] apart = refl
@@ -153,7 +153,7 @@ no_key (t ∷ keys) run [] d none same = refl
 no_key (t ∷ keys) run (g ∷ groups) d none same =
     rw (none 0 (omega arith)) (ap (λ l. g ∷ l) (no_key keys run groups d (λ k within. none (suc k) (omega (arith, within))) (omega (arith, same))))
 
--- a run whose tool is none of these is put nowhere
+-- a run whose tool is none of these is not put into a group
 pub no_group : (keys : Keys) (run : Chosen) (groups : List (List Chosen)) → position (λ y. bytes_eq run.tool y.now) keys ≡ None → length groups ≡ length keys → groups ≡ spread (texts_of keys) run groups
 no_group [] run groups none same = refl
 no_group (t ∷ keys) run groups none same =
@@ -278,7 +278,7 @@ both_tools current baseline first tools is are =
 pub tools_apart : (runs : List Chosen) (tools : List (List ℕ)) → tools ≡ tools_of runs → AreApart [] tools
 tools_apart runs tools is = subst (AreApart []) (sym is) (once_apart [] (map (λ run. run.tool) runs))
 
--- the groups of both sides, one after another, are the runs of the known log
+-- the groups of both sides, in order, are the runs of the known log
 pub all_grouped : (current baseline : List Chosen) (tools : List (List ℕ)) (n : ℕ) (empty first groups : List (List Chosen)) → tools ≡ tools_of (baseline ++ current) → n ≡ length tools → empty ≡ replicate n []
     → first ≡ side_by_side empty (map (runs_of_tool current) tools) → groups ≡ side_by_side first (map (runs_of_tool baseline) tools) → flat_map (λ g. g) groups ≡ known_runs current baseline
 all_grouped current baseline tools n empty first groups are count none e1 e2 =

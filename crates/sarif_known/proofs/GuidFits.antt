@@ -1,4 +1,4 @@
--- A guid that is read has 128 bits.
+-- A GUID that is read has 128 bits.
 use Rattle.std.proofs.Common.{◌≡◌, ℕ, zero, suc, ◌==◌, ◌+◌, ◌*◌, ◌<◌, ◌^◌, Bool, true, false, ◌&&◌, List, [], ◌∷◌, length, Option, Some, None, option_map, refl, arith, if◌then◌else◌, take, drop}
 use Rattle.std.specs.Prelude.{IfSome, slice_index}
 use Rattle.std.specs.Int.{w128, from_be_bytes}
@@ -69,7 +69,7 @@ parsed_fits s =
     first false false false true o p q r ho hp hq hr = hr
     first false false false false o p q r ho hp hq hr = tt
 
--- a guid that is read has 128 bits
+-- a GUID that is read has 128 bits
 pub guid_fits : (text : List ℕ) → IfSome (guid_of_text text) (λ guid. guid < 2 ^ 128)
 unfolding guid_of_text
 guid_fits text = mapped (parsed text) (parsed_fits text)

@@ -1,4 +1,4 @@
--- How long a text of tokens is at least.
+-- The least length of the JSON of tokens.
 use Rattle.std.proofs.Common.{◌≡◌, ℕ, ◌+◌, ◌≤◌, ◌<◌, ◌/◌, ◌%◌, nat_lt, Bool, true, false, cond, List, [], ◌∷◌, ◌++◌, length, fold, refl, sym, ap, ◌∙◌, subst, arith, append_assoc, append-nil, length-append}
 use Rattle.std.specs.Char.{digit_char}
 use Rattle.json.specs.Token.{Token}
@@ -62,7 +62,7 @@ grows ts t n m so more =
     let last = one_piece (fold step (nothing, 0) ts) t in
     omega (arith, split, last, so, more)
 
--- a text is no shorter than that of its first tokens
+-- the JSON of tokens is at least as long as that of the first of them
 pub front_is_shorter : (ts us : List Token) → length (pretty ts) ≤ length (pretty (ts ++ us))
 front_is_shorter ts us =
     let split : length (pretty (ts ++ us)) ≡ length (pretty ts) + length (pretty_from (fold step (nothing, 0) ts) us) =

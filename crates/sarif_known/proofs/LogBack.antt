@@ -96,7 +96,7 @@ value_is : (allow : Bool) (runs : List Chosen) → length runs ≤ most_runs →
 unfolding log_of_value
 value_is allow runs few few_results = rw (form_is runs few, runs_are runs, each_is allow 0 0 runs (omega (arith, few_results))) refl
 
--- where a text is the JSON of the known log, its runs are read without an error
+-- from bytes that are the JSON of the known log, its runs are read without an error
 pub log_back : (allow : Bool) (runs : List Chosen) (text : List ℕ) → CanBeRead runs → json_of (without_mark text) ≡ Some (known_log runs) → log_of allow text ≡ Ok (map known_run runs)
 unfolding log_of
 log_back allow runs text can is =

@@ -1,4 +1,4 @@
--- Values of strings and small whole numbers, whose objects' names rise: their tokens are read as themselves.
+-- Values of strings and small integers, whose objects' names rise: their tokens are read as themselves.
 use Rattle.std.proofs.Common.{◌≡◌, ℕ, suc, ◌^◌, ◌<◌, ◌≤◌, false, List, [], Some, option_and_then, Greater, max, refl, sym, ap, ap₂, ◌∙◌, subst, nat_cmp, append-nil}
 use Rattle.std.specs.Prelude.{⊤, option_map}
 use Rattle.std.proofs.lemmas.Cmp.{nat_list_cmp_total}
@@ -34,7 +34,7 @@ abbrev mutual
   AreMembersPlain no_members = ⊤
   AreMembersPlain (member k d ms) = IsBelow k ms × IsPlain d × AreMembersPlain ms
 
--- ---- members that go in one after another
+-- ---- members that are added in order
 
 abbrev joined : Members → Members → Members
 joined no_members ms = ms
@@ -140,7 +140,7 @@ mutual
   members_outline_depth no_members = refl
   members_outline_depth (member k d ms) = ap₂ max (outline_depth d) (members_outline_depth ms)
 
--- a text of its tokens is read as the value
+-- the JSON of its tokens is read as the value
 pub plain_read : (d : Data) (text : List ℕ) → IsPlain d → depth d ≤ max_depth → tokens text ≡ tree.json_tokens (outline d) → read text ≡ Some d
 plain_read d text plain shallow are =
     let deep : tree.depth (outline d) ≤ max_depth = subst (λ n. n ≤ max_depth) (sym (outline_depth d)) shallow in

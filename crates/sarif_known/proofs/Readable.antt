@@ -83,7 +83,7 @@ at_ordered name d ps ordered is =
     let steps = bind_ok (of_kind BadFingerprint as_object (member_at name d)) pairs_of ps is in
     pairs_ordered steps.0 ps (object_ordered (get name d) steps.0 (get_ordered name d ordered) steps.1) steps.2
 
--- what is so of the members that are read of a result
+-- the facts about the members that are read from a result
 record AreSound (parts : Parts) : Type 0 where
   guid : IfSome parts.guid (λ n. n < 2 ^ 128)
   full : AreMembersOrdered (text_members parts.full)

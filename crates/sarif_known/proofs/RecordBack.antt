@@ -16,7 +16,7 @@ use Rattle.sarif_known.specs.KnownRun.{base_alone, base_without}
 use Rattle.sarif_known.specs.Laws.{IsReadable}
 use Rattle.sarif_known.proofs.KnownParts.{level_read, id_read, uri_read, base_read, known_parts}
 
--- a place without a uri
+-- a place without a URI
 abbrev pub base_place : List ℕ → Place
 base_place base = record { uri = None; base = Some base }
 

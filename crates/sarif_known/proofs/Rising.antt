@@ -1,4 +1,4 @@
--- Names that rise: pairs that were read of an object make that object again.
+-- Names that rise: pairs that were read from an object make that object again.
 use Rattle.std.proofs.Common.{◌≡◌, ℕ, true, false, List, [], Option, Some, None, refl, if◌then◌else◌}
 use Rattle.std.specs.Prelude.{Result, Ok, Err}
 use Rattle.serde_json.specs.Data.{Data, null, boolean, number, string, array, object, Items, no_items, item, Members, no_members, member}

@@ -66,7 +66,7 @@ get_row q ((k, Some d) ∷ rows) e =
     let both = and_both (lacks k rows) (are_apart rows) e in
     at_member q k d (members_from rows) ∙ ap (λ o. if bytes_eq q k then Some d else o) (get_row q rows both.1)
 
--- a text is read as itself
+-- a string is read as itself
 pub text_back : {E : Type 0} (wrong : E) (o : Option (List ℕ)) → of_kind wrong as_str (option_and_then unless_null (option_map string o)) ≡ Ok o
 text_back wrong None = refl
 text_back wrong (Some text) = refl

@@ -92,7 +92,7 @@ module _ (run : Chosen) where
 
 -- ---- its results
 
--- an element behind others
+-- an element after others
 behind : {A : Type 0} (before : List A) (x : A) (more : List A) → slice_get (before ++ x ∷ more) (length before) ≡ Some x
 behind [] x more = refl
 behind (b ∷ before) x more = behind before x more
@@ -197,7 +197,7 @@ no_faults run p is_run all few =
 cons_run : (x y : Data) (xs ys : List Data) → x ∷ xs ≡ y ∷ ys → (x ≡ y) × (xs ≡ ys)
 cons_run x y xs ys is = (cc, cc)
 
--- the runs have no errors, and their records are just these
+-- the runs have no errors, and their records are exactly these
 pub known_again : (runs : List Chosen) (placed : List Placed) → run_values placed ≡ map known_run runs → AllByRecursion (λ run. AllByRecursion (IsOfTool run.tool) run.records) runs → results_among runs ≤ most_results → AreKnownAgain runs placed
 known_again [] [] are all few = record { faultless = refl; records = refl }
 known_again [] (p ∷ placed) are all few = let never : ⊥ = cc in absurd never

@@ -1,4 +1,4 @@
--- Matching and states don't look at a result's own suppressions.
+-- Matching and states don't depend on a result's own suppressions.
 use Rattle.std.proofs.Common.{◌≡◌, ℕ, zero, suc, List, [], ◌∷◌, ◌++◌, map, fold, length, Option, Some, None, option_map, refl, sym, ap, ap₂, ◌∙◌}
 use Rattle.std.specs.Prelude.{option_and_then, slice_get}
 use Rattle.sarif_model.specs.declared.record.Record.{Record}
@@ -43,7 +43,7 @@ bare_partners : (cs bs : List Record) → partners_of cs (map without_own bs) �
 bare_partners cs bs =
     ap (fold (after_tier cs (map without_own bs)) (Rattle.std.specs.Prelude.replicate (length cs) None)) (same_tiers cs bs) ∙ same_fold cs bs (Rattle.std.specs.Prelude.replicate (length cs) None) (tiers_of cs bs)
 
--- baselines whose records are the same but for their own suppressions give the same matches
+-- baselines whose records are equal except for their own suppressions give the same matches
 pub same_partners : (cs bs others : List Record) → map without_own bs ≡ map without_own others → partners_of cs bs ≡ partners_of cs others
 same_partners cs bs others are = sym (bare_partners cs bs) ∙ ap (partners_of cs) are ∙ bare_partners cs others
 

@@ -32,7 +32,7 @@ regroup : (v1 v2 v3 v4 v5 w1 w2 w3 w4 e : List Token)
     → (v1 ++ (v2 ++ (v3 ++ (v4 ++ v5)))) ++ ((w1 ++ (w2 ++ (w3 ++ w4))) ++ e) ≡ v1 ++ (v2 ++ (v3 ++ (v4 ++ (v5 ++ (w1 ++ (w2 ++ (w3 ++ (w4 ++ e))))))))
 regroup v1 v2 v3 v4 v5 w1 w2 w3 w4 e = simp append_assoc
 
--- a member whose text is that of a guid
+-- a member whose string is that of a GUID
 pub guid_tokens : (name : List ℕ) (o p : List Token) (text bytes : List ℕ) (guid : ℕ) (found : Option ℕ) → found ≡ Some guid → bytes ≡ to_be_bytes w128 guid → text ≡ hyphenated_text lower bytes
     → p ≡ o ++ value_tokens name (Some (text_data text)) → p ≡ o ++ value_tokens name (option_map (λ n. text_data (guid_text n)) found)
 guid_tokens name o p text bytes guid found is whole written added =
@@ -86,7 +86,7 @@ result_tokens r artifact =
 ending : (a b e f : List Token) → (((a ++ (b ++ e)) ++ e) ++ e) ++ f ≡ a ++ (b ++ (e ++ (e ++ (e ++ f))))
 ending a b e f = simp append_assoc
 
--- the tokens of a place with a uri
+-- the tokens of a place with a URI
 pub uri_tokens : (uri : List ℕ) (base : Option (List ℕ))
     → value_tokens (codes "locations") (Some (one_location (members_from (uri_rows uri base))))
     ≡ opened ++ (value_tokens (codes "uri") (Some (text_data uri)) ++ (value_tokens (codes "uriBaseId") (option_map text_data base) ++ closed))
@@ -120,7 +120,7 @@ run_tokens run =
     grouped : (a r e t : List Token) → begin_object ∷ (a ++ (key (codes "results") ∷ ((begin_array ∷ (r ++ e)) ++ t))) ≡ (begin_object ∷ (a ++ key (codes "results") ∷ begin_array ∷ [])) ++ (r ++ (e ++ t))
     grouped a r e t = simp append_assoc
 
--- the same of the log
+-- the tokens of the log
 pub log_tokens : (runs : List Chosen) → data_tokens (known_log runs) ≡ log_opening ++ (each_tokens (map known_run runs) ++ log_closing)
 log_tokens runs =
     let each : List Token = each_tokens (map known_run runs) in

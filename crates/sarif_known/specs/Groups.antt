@@ -26,7 +26,7 @@ abbrev pub AreApart : List (List ℕ) → List (List ℕ) → Type 0
 AreApart before [] = ⊤
 AreApart before (x ∷ xs) = (list_any (bytes_eq x) before ≡ false) × AreApart (before ++ x ∷ []) xs
 
--- lists, each with one of these behind it
+-- lists, each followed by one of these
 abbrev pub side_by_side : List (List Chosen) → List (List Chosen) → List (List Chosen)
 side_by_side [] more = []
 side_by_side (g ∷ groups) [] = g ∷ groups

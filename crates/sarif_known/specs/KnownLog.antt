@@ -1,4 +1,4 @@
--- The known log: a baseline that holds of each result just what matching and states look at (SARIF 2.1.0, "sarifLog
+-- The known log: a baseline that has exactly what matching and states need of each result (SARIF 2.1.0, "sarifLog
 -- object").
 use Rattle.std.specs.Prelude.{◌≡◌, ◌<◌, ◌⊎◌, ℕ, List, [], ◌∷◌, ◌++◌, map, length, codes}
 use Rattle.json.specs.Layout.{pretty}

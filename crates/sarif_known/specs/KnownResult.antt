@@ -1,4 +1,4 @@
--- A known result: what matching and states look at, written from a record (SARIF 2.1.0, "result object").
+-- A known result: what matching and states need, written from a record (SARIF 2.1.0, "result object").
 use Rattle.std.specs.Prelude.{ℕ, List, [], ◌∷◌, map, Option, Some, None, option_map, codes}
 use Rattle.std.specs.Int.{w128, to_be_bytes}
 use Rattle.uuid.specs.Text.{lower, hyphenated_text}
@@ -63,7 +63,7 @@ kind_unless_fail NotApplicable = Some (string (kind_name NotApplicable))
 kind_unless_fail Review = Some (string (kind_name Review))
 kind_unless_fail Fail = None
 
--- a level counts only where the kind is fail
+-- a level matters only if the kind is fail
 abbrev pub level_if_fail : Kind → Level → Option Data
 level_if_fail Pass level = None
 level_if_fail Undecided level = None
@@ -87,7 +87,7 @@ one_location ms =
 abbrev pub uri_rows : List ℕ → Option (List ℕ) → List Row
 uri_rows uri base = (codes "uri", Some (string uri)) ∷ (codes "uriBaseId", option_map string base) ∷ []
 
--- the place: its uri and its base next to it; a base alone by the number of the artifact that has it
+-- the place: its URI and its base next to it; a base without a URI by the number of the artifact that has it
 abbrev pub locations_for : Place → Option ℕ → Option Data
 locations_for place (Some n) =
     Some (one_location (member (codes "index") (number (unsigned n)) no_members))

@@ -6,7 +6,7 @@ use Rattle.sarif_model.specs.declared.record.Record.{Record}
 use Rattle.sarif_known.specs.Chosen.{Chosen}
 use Rattle.sarif_known.specs.KnownResult.{Row, known_result, list_if_any, object_from}
 
--- the base of a place without a uri, which only an artifact can say
+-- the base of a place without a URI, which only an artifact can describe
 abbrev pub base_without : Option (List ℕ) → Option (List ℕ) → Option (List ℕ)
 base_without None base = base
 base_without (Some uri) base = None
@@ -30,7 +30,7 @@ abbrev pub with_some : {A : Type 0} → Option A → List A → List A
 with_some None xs = xs
 with_some (Some x) xs = x ∷ xs
 
--- the bases that stand alone, in the order of the results
+-- the bases without a URI, in the order of the results
 abbrev pub bases_alone : List Record → List (List ℕ)
 bases_alone [] = []
 bases_alone (r ∷ rs) = with_some (base_alone r) (bases_alone rs)

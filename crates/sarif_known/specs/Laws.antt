@@ -1,4 +1,4 @@
--- What is said of records that can become known, and of a known log that is read again.
+-- The facts about records that can become known, and about a known log that is read again.
 use Rattle.std.specs.Prelude.{◌≡◌, ◌≤◌, ◌<◌, ◌^◌, ℕ, false, List, [], map, length, IfSome}
 use Rattle.std.specs.List.{AllByRecursion, flat_map}
 use Rattle.json_parts.specs.Ordered.{AreMembersOrdered}
@@ -11,7 +11,7 @@ use Rattle.sarif_runs.specs.Placed.{Placed}
 use Rattle.sarif_known.specs.Chosen.{Chosen, results_among}
 use Rattle.sarif_known.specs.KnownResult.{text_members}
 
--- what is so of each record that was read: its GUID has 128 bits; it has a level only where its kind is fail; the names
+-- the facts about each record that was read: its GUID has 128 bits; it has a level only if its kind is fail; the names
 -- of its fingerprints strictly rise
 pub record IsReadable (r : Record) : Type 0 where
   pub guid : IfSome r.guid (λ guid. guid < 2 ^ 128)
@@ -30,7 +30,7 @@ pub record CanBeRead (runs : List Chosen) : Type 0 where
   pub few_runs : length runs ≤ most_runs
   pub few_results : results_among runs ≤ most_results
 
--- the runs of a known log, wherever they are read: none has an error, and the records of their results are just
+-- the runs of a known log in any merge: none has an error, and the records of their results are exactly
 -- these, in this order
 pub record AreKnownAgain (runs : List Chosen) (placed : List Placed) : Type 0 where
   pub faultless : faults_of_runs placed ≡ []
@@ -51,6 +51,6 @@ without_own r = record {
   held = [];
 }
 
--- the records are the same but for those statuses
+-- the records are equal except for those statuses
 abbrev pub AreAlike : List Record → List Record → Type 0
 AreAlike bs others = map without_own bs ≡ map without_own others

@@ -4,7 +4,7 @@ use Rattle.std.specs.List.{flat_map, list_any}
 use Rattle.sarif_suppress.specs.Matching.{is_empty}
 use Rattle.sarif_known.specs.Chosen.{Chosen}
 
--- the texts, each once where it comes first, without those before
+-- the strings, each once at its first position, without the earlier ones
 abbrev pub once_each : List (List ℕ) → List (List ℕ) → List (List ℕ)
 once_each before [] = []
 once_each before (x ∷ xs) =

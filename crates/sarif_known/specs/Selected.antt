@@ -45,14 +45,14 @@ known_of file policy adopt (r ∷ rs) (state ∷ states) =
     keep_unless (is_left_out file policy adopt r state) r
     (known_of file policy adopt rs states)
 
--- those that no current result matches
+-- the results that no current result matches
 abbrev pub unmatched_of : List Record → List Bool → List Record
 unmatched_of [] taken = []
 unmatched_of (r ∷ rs) [] = []
 unmatched_of (r ∷ rs) (t ∷ taken) = keep_unless t r (unmatched_of rs taken)
 
--- the results of a baseline run that stay known: unmatched results of a tool that was not heard, since nobody looked
--- for them
+-- the results of a baseline run that stay known: unmatched results of a tool that was not heard, since no analysis
+-- looked for them
 abbrev pub kept_of : Bool → List Record → List Bool → List Record
 kept_of true rs taken = []
 kept_of false rs taken = unmatched_of rs taken

@@ -32,7 +32,7 @@ pub struct Results<'a, 's> {
     pub records: &'a [Record],
     /// The baseline state of each.
     pub states: &'s [State],
-    /// What is written of each.
+    /// What is written for each of them.
     pub drafts: &'s [Draft],
 }
 

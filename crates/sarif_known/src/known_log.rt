@@ -1,4 +1,4 @@
-//! The known log as a text.
+//! The known log as JSON.
 ghost use Rattle.std.specs.Prelude.{◌≡◌, ◌≤◌, Some, ◌++◌, length, map, IfOk, IfErr, OnOk, string_bytes};
 ghost use Rattle.json.specs.Layout.{pretty};
 ghost use Rattle.json.specs.Lex.{tokens};

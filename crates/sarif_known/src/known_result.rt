@@ -55,7 +55,7 @@ fn close_location(out: &mut Lines) -> Result<(), AllocError>
     Ok(())
 }
 
-/// Adds a place by its uri, and its base next to it if it has one.
+/// Adds a place by its URI, and its base next to it if it has one.
 fn push_uri(out: &mut Lines, uri: &Text, base: &Option<Text>) -> Result<(), AllocError>
     ensures { OnOk result (out.new ≡ out.old ++ value_tokens (codes "locations")
         (Some (one_location (members_from (uri_rows uri.now base.now))))) }
@@ -89,7 +89,7 @@ fn push_artifact(out: &mut Lines, artifact: u32) -> Result<(), AllocError>
     Ok(())
 }
 
-/// Adds the location, if the place has a uri or the number of an artifact (SARIF 2.1.0, "locations property").
+/// Adds the location, if the place has a URI or the number of an artifact (SARIF 2.1.0, "locations property").
 fn push_location(out: &mut Lines, place: &Place, artifact: Option<u32>) -> Result<(), AllocError>
     ensures { OnOk result (out.new ≡ out.old
         ++ value_tokens (codes "locations") (locations_for place.now artifact)) }

@@ -25,7 +25,7 @@ pub(crate) fn too_long() -> MergeFault
     MergeFault::found(At::Whole(Source::Known), Cause::TooLong)
 }
 
-/// The base of a place without a uri.
+/// The base of a place without a URI.
 fn base_alone<'a>(found: &'a Record) -> Option<&'a Text>
     ensures { option_map (λ base. base.now) result ≡ said.base_alone found.now }
 {
@@ -38,7 +38,7 @@ fn base_alone<'a>(found: &'a Record) -> Option<&'a Text>
     }
 }
 
-/// Whether the result's place has a base and no uri.
+/// Returns whether the result's place has a base and no URI.
 fn is_base_alone(found: &Record) -> bool
     ensures { result ≡ is_some (said.base_alone found.now) }
 {

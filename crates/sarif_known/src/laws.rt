@@ -16,7 +16,7 @@ ghost use Rattle.sarif_known.specs.KnownLog.{known_log};
 ghost use Rattle.sarif_known.specs.KnownRun.{known_run};
 ghost use Rattle.sarif_known.specs.Laws.{AreAlike, AreKnownAgain, CanBeRead, IsOfTool};
 
-/// What is known is read again: the known log is read without an error, and the records of its results are just
+/// What is known is read again: the known log is read without an error, and the records of its results are exactly
 /// those that were written, in their order. `known_text` ensures the premise.
 pub fn what_is_known_is_read_again()
     ensures log { (allow : Bool) (runs : List Chosen) (text : List ℕ) → CanBeRead runs
@@ -33,7 +33,7 @@ pub fn what_is_read_can_be_known()
         → IsOfTool (tool_name (slice_index_or runs k null)) r }
 {}
 
-/// Baselines whose records are the same but for their own suppressions give each current result the same match and
+/// Baselines whose records are equal except for their own suppressions give each current result the same match and
 /// the same state.
 pub fn own_suppressions_of_a_baseline_change_no_match()
     ensures partners { (current baseline others : List Record) → AreAlike baseline others

@@ -1,5 +1,5 @@
-//! The known log: a baseline that people can read, review and merge. It has of each result just what matching and
-//! states look at.
+//! The known log: a baseline that people can read, review and merge. It has exactly what matching and states
+//! need of each result.
 #![tactic(auto)]
 
 mod choosing;

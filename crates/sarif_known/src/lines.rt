@@ -11,7 +11,7 @@ use sarif_model::MOST_BYTES;
 use std::alloc::{AllocError, Global};
 use std::marker::Model;
 
-/// A text that grows by tokens. Contracts see the tokens.
+/// JSON that grows by tokens. Contracts see the tokens.
 #[derive(Drop)]
 pub(crate) struct Lines {
     out: Pretty,

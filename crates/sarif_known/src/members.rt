@@ -126,7 +126,7 @@ pub(crate) fn push_rule_id(out: &mut Lines, id: &Text) -> Result<(), AllocError>
     Ok(())
 }
 
-/// Adds the guid, if there is one (SARIF 2.1.0, "correlationGuid property").
+/// Adds the GUID, if there is one (SARIF 2.1.0, "correlationGuid property").
 pub(crate) fn push_guid(out: &mut Lines, guid: Option<u128>) -> Result<(), AllocError>
     ensures { OnOk result (out.new ≡ out.old ++ value_tokens (codes "correlationGuid")
         (option_map (λ guid. string (guid_text guid)) guid)) }

@@ -25,7 +25,7 @@ fn add_tools<'a>(
     Ok(())
 }
 
-/// An empty group for each of so many tools.
+/// Returns an empty group for each of this number of tools.
 fn empty_groups<'a>(alloc: Global, count: usize) -> Result<Vec<Vec<KnownRun<'a>>>, AllocError>
     ensures empty { IfOk result (λ groups. groups_of groups.items ≡ replicate count []) }
     ensures count { IfOk result (λ groups. length groups.items ≡ count) }
@@ -74,7 +74,7 @@ fn add_runs<'a>(
     Ok(())
 }
 
-/// The runs of these groups, one after another.
+/// Returns the runs of these groups, in order.
 fn flatten<'a>(
     alloc: Global,
     groups: Vec<Vec<KnownRun<'a>>>,

@@ -1,4 +1,4 @@
--- The texts that were made for some reports are the texts of these reports.
+-- The contents that were made for some reports are the contents of these reports.
 use Rattle.std.proofs.Common.{◌≡◌, ◌∙◌, ◌<◌, ℕ, List, [], ◌∷◌, map, length, get_or, refl, sym, ap, subst, arith}
 use Rattle.std.specs.Prelude.{Result, Ok, IfOk}
 use Rattle.std.proofs.lemmas.List.{ext_get_or, get_or-map, length-map}
@@ -20,7 +20,7 @@ made_texts {E} told reports made texts long all each =
     let same : get_or texts i [] ≡ told one.0 = subst (λ r. IfOk r (λ text. text ≡ told one.0)) is one.2 in
     same ∙ ap told (sym one.1) ∙ sym (get_or-map told reports i one.0 [] inside))
 
--- the reports of a list, and then what is told of each
+-- the reports of a list, and then the contents of each
 pub map_twice : {A B C : Type 0} (f : A → B) (g : B → C) (xs : List A) → map g (map f xs) ≡ map (λ x. g (f x)) xs
 map_twice f g [] = refl
 map_twice f g (x ∷ xs) = ap (λ ys. g (f x) ∷ ys) (map_twice f g xs)

@@ -10,7 +10,7 @@ use Rattle.sarif_request.specs.declared.request.Request.{Request}
 use Rattle.sarif_program.specs.Notes.{lines_of}
 use Rattle.sarif_program.specs.Reports.{facts_for, facts_with}
 
--- the facts of the merge are those that were told
+-- the facts of the merge are those that the closure received
 pub same_facts : (request : Request) (merged : Merged) (facts : MergeFacts) → AreFactsOf merged facts → facts_with request facts ≡ facts_for request merged
 same_facts request merged facts are = λ i. record {
   count = count_at (are.counts i);

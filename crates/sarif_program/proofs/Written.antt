@@ -11,7 +11,7 @@ use Rattle.sarif_streams.specs.Counted.{inner_of}
 use Rattle.sarif_streams.proofs.ReadersRead.{same_at}
 use Rattle.sarif_program.specs.Reports.{IsWritten, texts_for}
 
--- the first i were written if these are their texts
+-- the first i were written if these are their contents
 abbrev pub AreTakenTo : {W : Type 0} → ℕ → (W → Option (List ℕ)) → List (List ℕ) → List (Wanted (Counted W)) → List (Wanted (Counted W)) → Type 0
 AreTakenTo i contents texts old new = (told : Report → List ℕ) → texts ≡ texts_for old told
     → AllZip (IsWritten contents told) (take i old) (take i new)

@@ -1,4 +1,4 @@
--- What the outputs of a run are beside the merged log, and that they were written.
+-- The outputs of a run besides the merged log, and that they were written.
 use Rattle.std.specs.Prelude.{◌≡◌, ℕ, List, Option, Some, None, map, if◌then◌else◌}
 use Rattle.std.specs.Io.KnownBytes.{Appends}
 use Rattle.std.specs.List.{AllZip, list_any, sum_by}
@@ -57,7 +57,7 @@ report_with request facts one = report_of one (facts_with request facts)
 abbrev pub report_for : Request → Merged → Report → List ℕ
 report_for request merged one = report_of one (facts_for request merged)
 
--- the texts of the outputs that there are writers for
+-- the contents of the outputs that there are writers for
 abbrev pub texts_for : {W : Type 0} → List (Wanted W) → (Report → List ℕ) → List (List ℕ)
 texts_for writers told = map (λ wanted. told wanted.report) writers
 
@@ -68,7 +68,7 @@ pub record IsWritten {W : Type 0} (contents : W → Option (List ℕ)) (told : R
   pub appended : Appends (contents (inner_of old.to)) (contents (inner_of new.to))
       (told old.report)
 
--- each writer received its text: if these are the texts of their outputs, each output was written
+-- each writer received its contents: if these are those of its output, each output was written
 abbrev pub AreTaken : {W : Type 0} → (W → Option (List ℕ)) → List (List ℕ)
     → List (Wanted (Counted W)) → List (Wanted (Counted W)) → Type 0
 AreTaken contents texts old new = (told : Report → List ℕ) → texts ≡ texts_for old told

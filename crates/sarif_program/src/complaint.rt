@@ -45,7 +45,7 @@ impl fmt::Display for Complaint {
 /// Where error messages and notes go, and the last error message.
 #[derive(Debug, Drop)]
 pub struct Complaints<E> {
-    /// Where error messages and notes are written, one line each.
+    /// The writer of error messages and notes, one line each.
     pub out: Counted<E>,
     /// Whether the caller explains the last error message: then its line is the caller's to write too.
     pub is_explained: bool,

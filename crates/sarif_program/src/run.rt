@@ -119,7 +119,7 @@ fn merge_told<
     merge_readers(rt, alloc, readers, &asked, &NoGate, tell)
 }
 
-/// Merges the sources for a request whose other outputs have these writers, and makes the texts of these outputs, the
+/// Merges the sources for a request whose other outputs have these writers, and makes these outputs, the
 /// lines on what is for later merges, and the summary.
 fn merge_for<R: Read, W, T: Threads + Wait + Sync>(
     rt: &T,

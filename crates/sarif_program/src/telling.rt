@@ -1,4 +1,4 @@
-//! The texts of a merge beside its log.
+//! The outputs of a merge besides its log.
 ghost use Rattle.std.specs.Prelude.{◌≡◌, ◌≤◌, IfOk, map};
 ghost use Rattle.sarif_counts.specs.Counts.{count_at};
 ghost use Rattle.sarif_counts.specs.Summary.{summary_of};
@@ -17,10 +17,10 @@ use std::alloc::{AllocError, Global};
 use std::thread;
 use std::thread::Threads;
 
-/// The texts of an accepted merge, except its log.
+/// The outputs of an accepted merge, except its log.
 #[derive(Debug, Drop)]
 pub(crate) struct Texts {
-    /// The outputs beside the log, in the order of their writers.
+    /// The outputs besides the log, in the order of their writers.
     pub(crate) reports: Vec<Text>,
     /// The lines on what is for later merges.
     pub(crate) lines: Text,
@@ -41,7 +41,7 @@ fn text_of<T: Threads + Sync>(
     Text::from_string(report_text(rt, alloc, report, told, threads)?)
 }
 
-/// Returns the texts of these outputs, which are made at the same time. One that shares its work among threads uses at
+/// Returns the contents of these outputs, made at the same time. One that shares its work among threads uses at
 /// most `threads`.
 fn texts_told<T: Threads + Sync>(
     rt: &T,
@@ -62,7 +62,7 @@ fn texts_told<T: Threads + Sync>(
     all_made(alloc, made)
 }
 
-/// Returns the texts that were made, in order, or `AllocError` if one of them was not.
+/// Returns the contents that were made, in order, or `AllocError` if one of them was not.
 fn all_made(alloc: Global, made: Vec<Result<Text, AllocError>>) -> Result<Vec<Text>, AllocError>
     ensures { IfOk result (λ texts. map (λ text. Ok text) texts.items ≡ made.items) }
 {
@@ -84,7 +84,7 @@ fn wanted_reports<W>(alloc: Global, writers: &[Wanted<W>]) -> Result<Vec<Report>
     Ok(reports)
 }
 
-/// Returns the texts of the outputs that there are writers for, of a merge with these facts.
+/// Returns the contents of the outputs that there are writers for, of a merge with these facts.
 fn reports_of<W, T: Threads + Sync>(
     rt: &T,
     alloc: Global,
@@ -108,7 +108,7 @@ fn reports_of<W, T: Threads + Sync>(
     texts_told(rt, alloc, &told, reports, request.options.workers)
 }
 
-/// The summary of a merge with these facts, the lines on what is for later merges, and the texts of the outputs that
+/// The summary of a merge with these facts, the lines on what is for later merges, and the contents of the outputs that
 /// there are writers for. The threads of the options share the work of reports.
 pub(crate) fn texts_of<W, T: Threads + Sync>(
     rt: &T,

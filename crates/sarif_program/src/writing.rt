@@ -1,4 +1,4 @@
-//! Writing the texts of an accepted merge.
+//! Writing the outputs of an accepted merge.
 ghost use Rattle.std.specs.Prelude.{◌≡◌, ◌<◌, ◌≤◌, ◌^◌, OnOk, IfErr, is_err, length};
 ghost use Rattle.std.specs.List.{All};
 ghost use Rattle.std.specs.Io.KnownBytes.{Appends};

@@ -52,7 +52,7 @@ properties_closed text = property_chars (chars text)
 
 -- ---- the properties that a reader finds
 
--- so many more properties are read, whatever follows
+-- these properties are read too, for anything that follows
 record Reads (n : ℕ) (text : List ℕ) : Type 0 where
   told : (more : List ℕ) → properties_read (text ++ more) ≡ properties_read more + n
 

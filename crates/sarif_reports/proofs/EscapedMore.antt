@@ -102,7 +102,7 @@ pub escaped_bytes : (way : Escaping) (text : List ℕ) → IsUtf8 text → escap
 unfolding escaped
 escaped_bytes way text utf8 = text_bytes way (chars text) ∙ ap (flat_map (escaped_byte way)) (encodes-chars text utf8)
 
--- ---- a partly escaped string, of which the bytes from `added` to `i` are unchanged
+-- ---- a partly escaped string, whose bytes from `added` to `i` are unchanged
 
 pub stands_step : (way : Escaping) (bs : List ℕ) (added i : ℕ) (text whole : List ℕ) → added ≤ i → i < length bs
     → escapes way (get_or bs i 0) ≡ false

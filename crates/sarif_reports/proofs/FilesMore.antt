@@ -228,7 +228,7 @@ module _ (fs : List Finding) where
       last true = refl
       last false = refl
 
--- the groups of some of these files, one after the other
+-- the groups of some of these files, in order
 pub grouped_rows : (fs : List Finding) (before files : List (List ℕ))
     → flat_map (λ file. unwrap_or (if has_file (before ++ files) file then Some (filter (is_in file) fs) else None) []) files
     ≡ flat_map (λ file. filter (is_in file) fs) files

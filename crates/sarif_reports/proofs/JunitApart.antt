@@ -211,7 +211,7 @@ counted_piece : (begin : List ℕ) (n : ℕ) → Piece 0 0 0 begin → n < 2 ^ 6
 unfolding counted
 counted_piece begin n first small = as_piece 0 0 0 refl refl refl (then_piece first (number_piece n small))
 
--- ---- seen texts
+-- ---- seen strings
 
 colon_seen : (rule : List ℕ) → IsSeenText rule → IsSeenText (colon_rule rule)
 colon_seen [] is = plain_text [] refl

@@ -63,7 +63,7 @@ others_after reporting log =
     let fs : List Finding = reported_of reporting log in
     ap (λ n. drop n (listed fs)) (sym (hits_counted reporting log)) ∙ drop-append_seam (hits_among fs) (others_among fs)
 
--- what is written of the hits, and then what is written of the others
+-- what is written for the hits, and then what is written for the others
 pub lines_parted : (line : Finding → List ℕ) (fs : List Finding)
     → flat_map line (listed fs) ≡ flat_map line (hits_among fs) ++ flat_map line (others_among fs)
 lines_parted line fs = flat_map-append line (hits_among fs) (others_among fs)

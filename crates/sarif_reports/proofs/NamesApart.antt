@@ -35,7 +35,7 @@ opening_in : (xs ys : List ℕ) → list_all is_not_opening (xs ++ 40 ∷ ys) �
 opening_in [] ys h = h
 opening_in (x ∷ xs) ys h = opening_in xs ys (and_parts (is_not_opening x) (list_all is_not_opening (xs ++ 40 ∷ ys)) h).1
 
--- two texts are equal up to their last `(`, and after it
+-- two strings are equal up to their last `(`, and after it
 cut_last : (xs ys ds es : List ℕ) → list_all is_not_opening ds ≡ true → list_all is_not_opening es ≡ true
     → xs ++ 40 ∷ ds ≡ ys ++ 40 ∷ es → (xs ≡ ys) × (ds ≡ es)
 cut_last [] [] ds es d e h = (refl, ap (drop 1) h)
@@ -53,7 +53,7 @@ cut_last (x ∷ xs) (y ∷ ys) ds es d e h =
 numbered : List ℕ → ℕ → List ℕ
 numbered name n = name ++ (codes " (" ++ (decimal n ++ codes ")"))
 
--- the same, to its last `(` and to its end
+-- two names are equal to their last `(` and to their end
 numbered_parts : (name : List ℕ) (n : ℕ) → numbered name n ≡ ((name ++ 32 ∷ []) ++ 40 ∷ decimal n) ++ 41 ∷ []
 unfolding numbered
 numbered_parts name n = simp append_assoc

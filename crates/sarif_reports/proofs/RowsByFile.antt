@@ -12,7 +12,7 @@ use Rattle.sarif_reports.specs.HtmlRows.{file_of, is_in, files_of, by_file, most
 use Rattle.sarif_reports.specs.Listed.{hits_among, others_among}
 use Rattle.sarif_reports.proofs.FilesMore.{files_seen, others_stay, text_same, text_self, texts_swap}
 
--- ---- what holds of all findings holds of the rows
+-- ---- what is true for all findings is true for the rows
 
 all_filter : (p q : Finding → Bool) (fs : List Finding) → list_all p fs ≡ true → list_all p (filter q fs) ≡ true
 all_filter p q [] h = refl

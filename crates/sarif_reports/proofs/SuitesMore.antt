@@ -13,7 +13,7 @@ use Rattle.sarif_findings.specs.declared.finding.Finding.{Finding}
 use Rattle.sarif_reports.specs.JunitReport.{results_of, tools_of}
 use Rattle.sarif_reports.specs.Suites.{Suite, with_result, suites_of, pointed, seen_suite}
 
--- ---- equal texts
+-- ---- equal strings
 
 pub same_text : (a : List ℕ) → bytes_eq a a ≡ true
 same_text a = (bytes_eq-Decides a a).1 refl

@@ -125,7 +125,7 @@ hits_parted reporting log =
 
 -- ---- one row fits
 
--- a text of at most so many characters
+-- a string of at most this number of characters
 record Short (n : ℕ) (text : List ℕ) : Type 0 where
   cs : List ℕ
   is : encode_utf8_all cs ≡ text

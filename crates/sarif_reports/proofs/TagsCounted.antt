@@ -18,7 +18,7 @@ use Rattle.sarif_reports.specs.HtmlLaws.{tags_in, rule_tags, position_tags, plac
 use Rattle.sarif_reports.specs.HtmlReport.{hit_word, row_class, row_data, row_front, marked, place_of, place_cell, level_cell, linked_to, rule_cell, message_cells, tool_cells, result_row, is_same_file, rows_below}
 use Rattle.sarif_reports.proofs.EscapedApart.{page_apart, page_chars}
 
--- it contains this many tags
+-- the string contains this many tags
 record Tags (count : ℕ) (text : List ℕ) : Type 0 where
   told : tags_in text ≡ count
 

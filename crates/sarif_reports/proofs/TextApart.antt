@@ -117,7 +117,7 @@ line_begins : (n c : ℕ) (cs : List ℕ) → (c == 58) ≡ false → Within n (
 line_begins n c cs e h =
     record { ends = h.ends; seen = h.seen; colons = or_from (true && c == 58) (has_colon_line (c == 10) cs) e h.colons; signs = h.signs }
 
--- ---- the same for their bytes
+-- ---- the bytes of these characters
 
 abbrev WithinText : ℕ → List ℕ → Type 0
 WithinText n text = (cs : List ℕ) × (encode_utf8_all cs ≡ text) × Within n cs

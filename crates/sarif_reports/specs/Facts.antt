@@ -7,7 +7,7 @@ use Rattle.sarif_counts.specs.Policy.{Count}
 use Rattle.sarif_findings.specs.declared.finding.Finding.{Finding}
 use Rattle.sarif_reports.specs.declared.told.Told.{Told}
 
--- what is known of a merged log
+-- the facts about a merged log
 pub record Facts : Type 0 where
   -- how many results it has, by state, level and suppression
   pub count : Count
@@ -22,7 +22,7 @@ pub record Facts : Type 0 where
   -- what is for later merges, if anything is
   pub life : Option Life
 
--- what a report is told
+-- what a report receives
 abbrev pub facts_of : Told → Facts
 facts_of told = record {
   count = count_at told.counts.now;

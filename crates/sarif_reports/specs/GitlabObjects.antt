@@ -16,7 +16,7 @@ objects_after earlier [] = []
 objects_after earlier (f ∷ fs) =
     quality_of f (mark_of f (rank_among earlier f)) ∷ objects_after (earlier ++ f ∷ []) fs
 
--- their texts with commas between them, and one before them if others come first
+-- their JSON with commas between them, and one before them if others come first
 abbrev pub joined_objects : Bool → List Data → List ℕ
 joined_objects later [] = []
 joined_objects later (d ∷ ds) = comma_if later ++ (compact_text d ++ joined_objects true ds)

@@ -34,7 +34,7 @@ identity_of f =
 abbrev pub rank_text : ℕ → List ℕ
 rank_text rank = codes "," ++ (decimal rank ++ codes "]")
 
--- the same, and the hash for the first result with it
+-- the identity, and the hash for the first result with it
 abbrev pub identity_with : Finding → Identity
 identity_with f = record {
   text = identity_of f;

@@ -102,7 +102,7 @@ runs_line without = if without == 0 then [] else mind (runs_text without)
 abbrev pub entries_line : ℕ → List ℕ
 entries_line unused = if unused == 0 then [] else mind (entries_text unused)
 
--- what was not looked at
+-- runs without results and unused entries
 unfoldable pub minds : ℕ → ℕ → List ℕ
 minds without unused = runs_line without ++ entries_line unused
 
@@ -241,7 +241,7 @@ unfoldable pub section_of : List ℕ → List ℕ → List Finding → List ℕ
 section_of name heading rows =
     section_begin name heading ++ (rows_below None rows ++ section_end)
 
--- nothing where there are no rows
+-- nothing if there are no rows
 unfoldable pub section_if : List ℕ → List ℕ → List Finding → List ℕ
 section_if name heading rows = if length rows == 0 then [] else section_of name heading rows
 

@@ -1,5 +1,5 @@
 -- The style of the page: light and dark, on a phone and printed. Rows that a filter excludes are not displayed.
--- Hits, levels and states differ by their words and by weight or slant, not only by color.
+-- Hits, levels and states differ by their names and by weight or slant, not only by color.
 use Rattle.std.specs.Prelude.{ℕ, List, ◌++◌, codes}
 
 -- lines of CSS

@@ -20,7 +20,7 @@ occurrences part [] = 0
 occurrences part (b ∷ bs) =
     if starts_with nat_eq (b ∷ bs) part then occurrences part bs + 1 else occurrences part bs
 
--- how many test cases there are for so many results: at least one
+-- the number of test cases for this number of results: at least one
 abbrev pub cases_of : ℕ → ℕ
 cases_of n = if n == 0 then 1 else n
 

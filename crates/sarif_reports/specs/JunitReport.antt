@@ -1,5 +1,5 @@
 -- The report for services that read JUnit XML: a test case per result, in a test suite per tool. There is a failed
--- test case exactly where the gate fails.
+-- test case exactly if the gate fails.
 use Rattle.std.specs.Prelude.{ℕ, ◌+◌, Bool, not, ◌||◌, ◌==◌, nat_eq, nat_lt, bytes_eq, List, [], ◌∷◌, ◌++◌, length, Option, Some, None, codes, flat_map, filter, unwrap_or, if◌then◌else◌}
 use Rattle.std.specs.Fmt.{decimal}
 use Rattle.std.specs.List.{count_by, ends_with}
@@ -95,7 +95,7 @@ abbrev pub hit_end : Verdict → Finding → List ℕ
 hit_end Fail finding = failure finding
 hit_end Pass finding = skipped finding
 
--- a result that is no hit is a test case that passes
+-- a result that isn't a hit is a test case that passes
 abbrev pub case_end : Verdict → Finding → List ℕ
 case_end verdict finding = if finding.hit then hit_end verdict finding else codes "/>\n"
 

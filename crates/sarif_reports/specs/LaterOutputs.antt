@@ -1,4 +1,4 @@
--- The outputs for later merges, whose texts are made with the merged log.
+-- The outputs for later merges, which are made with the merged log.
 use Rattle.std.specs.Prelude.{ℕ, List, [], Option, option_and_then, unwrap_or}
 use Rattle.std.specs.Option.{option_map_or}
 use Rattle.sarif_counts.specs.declared.life.Life.{Life}

@@ -18,7 +18,7 @@ use Rattle.sarif_reports.specs.Facts.{Facts}
 use Rattle.sarif_reports.specs.Listed.{listed}
 use Rattle.sarif_reports.specs.Sentences.{gate_text, more_text, runs_text, entries_text}
 
--- ---- texts
+-- ---- strings
 
 -- a string as code, without markup; an empty string gives nothing
 abbrev pub code_of : List ℕ → List ℕ
@@ -39,7 +39,7 @@ counts_table count =
     ++ (count_row Updated (count Updated)
     ++ count_row Absent (count Absent))))
 
--- ---- what was not looked at
+-- ---- runs without results and unused entries
 
 -- a line, if there is a number to say something about
 abbrev pub line_if : ℕ → List ℕ → List ℕ

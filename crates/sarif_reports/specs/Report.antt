@@ -1,4 +1,4 @@
--- The outputs beside the merged log: their order, their names and their contents.
+-- The outputs besides the merged log: their order, their names and their contents.
 use Rattle.std.specs.Prelude.{ℕ, Bool, true, false, List, [], ◌∷◌, ◌++◌, codes}
 use Rattle.sarif_reports.specs.declared.report.Report.{Report}
 use Rattle.sarif_reports.specs.declared.report.Report.TheVariants as report

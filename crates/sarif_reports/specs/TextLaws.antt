@@ -8,7 +8,7 @@ abbrev pub has_colon_line : Bool → List ℕ → Bool
 has_colon_line begins [] = false
 has_colon_line begins (c ∷ cs) = (begins && c == 58) || has_colon_line (c == 10) cs
 
--- this many lines of visible characters, none of which begins with a colon or contains two adjacent `#`
+-- this many lines of visible characters; no line begins with a colon or contains two adjacent `#`
 pub record AreLines (count : ℕ) (cs : List ℕ) : Type 0 where
   pub ends : count_by (λ c. c == 10) cs ≡ count
   pub seen : list_all (λ c. c == 10 || is_seen c) cs ≡ true

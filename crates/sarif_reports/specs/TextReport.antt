@@ -25,7 +25,7 @@ result_line finding =
     spot_text finding ++ (level_and_message finding
     ++ (bracketed finding.rule ++ tool_and_state finding))
 
--- the same, with the end of the line
+-- the line of a result, with the end of the line
 abbrev pub text_line : Finding → List ℕ
 text_line finding = result_line finding ++ codes "\n"
 

@@ -135,7 +135,7 @@ fn push_entries(alloc: Global, text: &mut String, unused: u32) -> Result<(), All
     Ok(())
 }
 
-/// Adds what was not looked at.
+/// Adds the sentences on runs without results and on unused entries.
 #[tactic(auto, unfolding(crate::specs::HtmlReport::minds))]
 fn push_minds(alloc: Global, text: &mut String, without: u32, unused: u32) -> Result<(), AllocError>
     ensures { OnOk result

@@ -1,4 +1,4 @@
-//! The outputs for later merges, whose texts are made with the merged log.
+//! The outputs for later merges, which are made with the merged log.
 ghost use Rattle.std.specs.Prelude.{◌≡◌, IfOk, option_map, string_bytes};
 ghost use Rattle.sarif_reports.specs.LaterOutputs as said;
 
@@ -6,7 +6,7 @@ use sarif_counts::Life;
 use sarif_model::Text;
 use std::alloc::{AllocError, Global};
 
-/// Returns the text of the new suppression file, or an empty text if there is none.
+/// Returns the new suppression file, or an empty string if there is none.
 pub(crate) fn suppressions_text(alloc: Global, life: Option<&Life>) -> Result<String, AllocError>
     ensures { IfOk result (λ s. string_bytes s
         ≡ said.suppressions_text (option_map (λ all. all.now) life.entry)) }
@@ -22,7 +22,7 @@ pub(crate) fn suppressions_text(alloc: Global, life: Option<&Life>) -> Result<St
     }
 }
 
-/// Returns the text of the known log, or an empty text if there is none.
+/// Returns the known log, or an empty string if there is none.
 pub(crate) fn known_text(alloc: Global, life: Option<&Life>) -> Result<String, AllocError>
     ensures { IfOk result
         (λ s. string_bytes s ≡ said.known_text (option_map (λ all. all.now) life.entry)) }
@@ -38,7 +38,7 @@ pub(crate) fn known_text(alloc: Global, life: Option<&Life>) -> Result<String, A
     }
 }
 
-/// Returns the list of unused entries, or an empty text if there is none.
+/// Returns the list of unused entries, or an empty string if there is none.
 pub(crate) fn unused_text(alloc: Global, life: Option<&Life>) -> Result<String, AllocError>
     ensures { IfOk result
         (λ s. string_bytes s ≡ said.unused_text (option_map (λ all. all.now) life.entry)) }
@@ -54,7 +54,7 @@ pub(crate) fn unused_text(alloc: Global, life: Option<&Life>) -> Result<String, 
     }
 }
 
-/// Returns a copy of a text.
+/// Returns a copy of a string.
 fn copy_of(alloc: Global, text: &Text) -> Result<String, AllocError>
     ensures { IfOk result (λ s. string_bytes s ≡ text.now) }
 {

@@ -54,7 +54,7 @@ pub fn page_texts_hold_no_markup()
     ensures { (text : List ℕ) → is_element_text (escaped Page text) ≡ true }
 {}
 
-/// The same holds of a path in a page, except that `<wbr>` follows each of its slashes.
+/// A path in a page contains none of these either, except that `<wbr>` follows each of its slashes.
 pub fn page_places_have_only_breaks()
     ensures { (text : List ℕ) → has_breaks [] (escaped Place text) ≡ true }
 {}
@@ -88,7 +88,7 @@ pub fn paths_begin_with_names()
     ensures { (reporting : Reporting) (log : Data) → All IsNamed (reported_of reporting log) }
 {}
 
-/// Of the listed results the first are the hits, as many as the gate counts, and those after them are the others. Both
+/// The first of the listed results are the hits, as many as the gate counts, and those after them are the others. Both
 /// are in the order of the merged log. So each reported result is listed once.
 pub fn listed_results_begin_with_the_hits()
     ensures hits { (reporting : Reporting) (log : Data) →
@@ -193,7 +193,7 @@ pub fn page_rows_have_their_tags()
 {}
 
 /// The report for Azure Pipelines has one line per reported result. Each begins with the command
-/// `##vso[task.logissue type=`, has no other two adjacent `#` and no control character. A reader finds just the
+/// `##vso[task.logissue type=`, has no other two adjacent `#` and no control character. A reader finds only the
 /// properties of its result: no log adds a command or a property, or ends one.
 pub fn azure_lines_are_commands()
     ensures lines { (reporting : Reporting) (log : Data) →

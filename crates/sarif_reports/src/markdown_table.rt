@@ -314,7 +314,7 @@ fn entries_line(alloc: Global, unused: u32) -> Result<String, AllocError>
     format!(in alloc; "{sentence}\n")
 }
 
-/// Adds the lines on what was not looked at, if there are any.
+/// Adds the lines on runs without results and on unused entries, if there are any.
 fn push_notes(alloc: Global, text: &mut String, without: u32, unused: u32) -> Result<(), AllocError>
     ensures { OnOk result (string_bytes text.new
         ≡ string_bytes text.old ++ said.paragraph (said.notes without unused)) }
@@ -326,7 +326,7 @@ fn push_notes(alloc: Global, text: &mut String, without: u32, unused: u32) -> Re
     Ok(())
 }
 
-/// Returns the report for job summaries and comments on a change: the verdict, the counts, what was not looked at,
+/// Returns the report for job summaries and comments on a change: the verdict, the counts, runs without results,
 /// and a table of the first listed results: at most 200, whose rows take at most 60,000 bytes. Returns `AllocError`
 /// if memory for it runs out.
 pub fn markdown_report(alloc: Global, told: &Told<'_>) -> Result<String, AllocError>

@@ -1,4 +1,4 @@
-//! The outputs beside the merged log as rows: a variant for each, with its name, its help and its content.
+//! The outputs besides the merged log as rows: a variant for each, with its name, its help and its content.
 ghost use Rattle.std.specs.Prelude.{◌≡◌, ◌≤◌, IfOk, string_bytes};
 ghost use Rattle.sarif_reports.specs.Facts.{facts_of};
 ghost use Rattle.sarif_reports.specs.Report.{is_for_merges, needs_findings, report_name, report_of};
@@ -9,7 +9,7 @@ use std::alloc::{AllocError, Global};
 use std::fmt;
 use std::thread::Threads;
 
-/// An output beside the merged log: a report on it, or a file for later merges.
+/// An output besides the merged log: a report on it, or a file for later merges.
 #[derive(Clone, Copy, Debug, PartialEq, Eq)]
 pub enum Report {
     /// For later merges: a new suppression file.

@@ -38,7 +38,7 @@ fn an_output_past_a_limit_is_named_and_advised_on(rt: HostRuntime) -> Result<(),
     Ok(())
 }
 
-/// A suppression file with so many entries.
+/// A suppression file with this number of entries.
 fn file_of(rt: &HostRuntime, count: usize) -> Result<String, Fail> {
     let mut text = String::from_str(rt.alloc(), r#"{"version":4,"suppressions":["#)?;
     for number in 0..count {

@@ -1,4 +1,4 @@
-//! Which arguments ask for what.
+//! What arguments request.
 
 use crate::words::seed;
 use sarif_counts::{Checks, Options, States};

@@ -1,4 +1,4 @@
-//! Which arguments ask for what is made for later merges.
+//! Which arguments request what is made for later merges.
 
 use crate::words::asking::{accepted, read};
 use sarif_counts::{Knowing, Renewal};
@@ -96,7 +96,7 @@ fn outputs_stand_in_the_order_of_writing(rt: HostRuntime) -> Result<(), Fail> {
     check_order(&rt, &request)
 }
 
-/// The outputs beside the merged log that the last test asks for, each with the name of its file.
+/// The outputs besides the merged log that the last test requests, each with the name of its file.
 const ORDER: [(Report, &str); 5] = [
     (Report::Suppressions, "n"),
     (Report::Known, "k"),
@@ -115,7 +115,7 @@ fn check_order(rt: &impl Abort, request: &Request) -> Result<(), Fail> {
     Ok(())
 }
 
-/// What is said about wrong arguments; arguments that are not wrong fail the test.
+/// The message about invalid arguments. Valid arguments fail the test.
 fn usage_in(rt: &HostRuntime, line: &str) -> Result<Text, Fail> {
     match read(rt, line)? {
         Err(WordsFault::Usage(text)) => Ok(text),

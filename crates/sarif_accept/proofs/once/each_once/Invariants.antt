@@ -4,7 +4,7 @@ use Rattle.sarif_accept.specs.Adding.{once_each}
 use Rattle.sarif_accept.specs.Asked.{HasAsked}
 use Rattle.sarif_accept.proofs.once.each_once.Given as goal
 
--- the results so far, each once, and then those of the rest; the set has what their entries ask for
+-- the results so far, each once, and then those of the rest; the set has the conditions of their entries
 abbrev pub invariant-loop-record : goal.invariant-loop-record
 invariant-loop-record g l = record {
   asked : HasAsked l.asked (map (λ r. r.now) l.added.items);

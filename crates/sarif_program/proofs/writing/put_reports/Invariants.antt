@@ -5,7 +5,7 @@ use Rattle.sarif_program.specs.Writing.{writers_in}
 use Rattle.sarif_program.proofs.Written.{AreTakenTo}
 use Rattle.sarif_program.proofs.writing.put_reports.Given as goal
 
--- the writers so far accepted their texts, and the others are unchanged
+-- the writers so far accepted their contents, and the others are unchanged
 abbrev pub invariant-loop-number : goal.invariant-loop-number
 invariant-loop-number g l = record {
   left : drop l.number l.writers ≡ drop l.number l.fn.writers;
