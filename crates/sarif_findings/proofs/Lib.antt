@@ -1,6 +1,7 @@
 pub mod ArtifactsMore
 pub mod ByHalves
 pub mod CharsBack
+pub mod EmptiesPassed
 pub mod FirstChar
 pub mod HighBytes
 pub mod HitsCounted

@@ -3,6 +3,7 @@
 
 mod arguments;
 mod artifacts;
+mod empties;
 mod finding;
 mod first_char;
 mod links;
