@@ -3,6 +3,7 @@
 
 mod arguments;
 mod artifacts;
+mod brackets;
 mod empties;
 mod finding;
 mod first_char;
