@@ -69,7 +69,7 @@ by_width false false false c rest e1 e2 e3 =
     begins (240 + c / 262144) 3 (240 + c / 262144 - 240) _ (len-three (240 + c / 262144) (omega arith)) (bits-three (240 + c / 262144) (omega arith))
     ∙ after-three (240 + c / 262144 - 240) (128 + c / 4096 % 64) (128 + c / 64 % 64) (128 + c % 64) c rest (omega arith)
 
-char_back : (c : ℕ) (rest : List ℕ) → chars (encode_utf8 c ++ rest) ≡ c ∷ chars rest
+pub char_back : (c : ℕ) (rest : List ℕ) → chars (encode_utf8 c ++ rest) ≡ c ∷ chars rest
 unfolding encode_utf8
 char_back c rest = by_width (nat_lt c 128) (nat_lt c 2048) (nat_lt c 65536) c rest refl refl refl
 

@@ -1,6 +1,8 @@
 pub mod ArtifactsMore
+pub mod BracketsMore
 pub mod ByHalves
 pub mod CharsBack
+pub mod EmptiesPassed
 pub mod FirstChar
 pub mod HighBytes
 pub mod HitsCounted

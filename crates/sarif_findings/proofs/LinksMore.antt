@@ -4,7 +4,7 @@ use Rattle.std.specs.Char.{is_ascii_digit}
 use Rattle.std.proofs.StrCases.{chars_of_empty}
 use Rattle.serde_json.specs.Data.{Data}
 use Rattle.sarif_findings.specs.declared.links.Part.{Part}
-use Rattle.sarif_findings.specs.Links.{begins_pair, begins_target, ends_link, ends_number, part_after, stays_between, unlinked_from}
+use Rattle.sarif_findings.specs.Links.{ends_number, part_after, stays_between, unlinked_from}
 
 -- ---- the number of a target
 
@@ -16,29 +16,6 @@ number_stops some c cs other digit = rw (ne_eqb c 41 other, digit) refl
 
 pub number_empty : (some : Bool) (text : List ℕ) → length text ≡ 0 → ends_number some (chars text) ≡ false
 number_empty some text none = ap (ends_number some) (chars_of_empty text none)
-
--- ---- the end of a link's text
-
-pub pair_goes : (args : List Data) (c : ℕ) (cs : List ℕ) → begins_pair c cs ≡ true → ends_link args false (c ∷ cs) ≡ ends_link args true cs
-pair_goes args c cs e = rw e refl
-
-pub opening_stops : (args : List Data) (c : ℕ) (cs : List ℕ) → begins_pair c cs ≡ false → c ≡ 91 → ends_link args false (c ∷ cs) ≡ false
-opening_stops args c cs e same = rw (e, same) refl
-
-pub closing_stops : (args : List Data) (c : ℕ) (cs : List ℕ) → begins_pair c cs ≡ false → (c ≡ 91 → ⊥) → c ≡ 93
-    → ends_link args false (c ∷ cs) ≡ begins_target args cs
-closing_stops args c cs e other same = rw (e, ne_eqb c 91 other, same) refl
-
-pub text_goes : (args : List Data) (c : ℕ) (cs : List ℕ) → begins_pair c cs ≡ false → (c ≡ 91 → ⊥) → (c ≡ 93 → ⊥)
-    → ends_link args false (c ∷ cs) ≡ ends_link args false cs
-text_goes args c cs e other another = rw (e, ne_eqb c 91 other, ne_eqb c 93 another) refl
-
-none_left : (args : List Data) (paired : Bool) → ends_link args paired [] ≡ false
-none_left args true = refl
-none_left args false = refl
-
-pub link_empty : (args : List Data) (paired : Bool) (text : List ℕ) → length text ≡ 0 → ends_link args paired (chars text) ≡ false
-link_empty args paired text none = ap (ends_link args paired) (chars_of_empty text none) ∙ none_left args paired
 
 -- ---- the characters that stay
 

@@ -1,4 +1,5 @@
 pub mod ArtifactsOf
+pub mod Brackets
 pub mod Finding
 pub mod Links
 pub mod Lookup

@@ -1,6 +1,8 @@
 -- A partly shown string, character by character. Internal: no public contract refers to this module.
 use Rattle.std.specs.Prelude.{◌≡◌, ℕ, Bool, not, ◌&&◌, ◌==◌, List, [], ◌∷◌, ◌++◌, map, if◌then◌else◌, encode_utf8_all, string_bytes}
+use Rattle.serde_json.specs.Data.{Data}
 use Rattle.sarif_findings.specs.declared.shown_text.ShownText.{ShownText}
+use Rattle.sarif_findings.specs.Placeholders.{filled_from}
 use Rattle.sarif_findings.specs.Shown.{is_between, kept, parted, parted_signs, plain}
 
 -- whether a byte is a character that is shown unchanged, regardless of its neighbours
@@ -34,3 +36,10 @@ Parts old new c cs = kept_with old (parted old.after_sign c ++ cs) ≡ kept_with
 -- these characters were read, together with that many further characters of the string
 abbrev pub Writes : ShownText → ShownText → ℕ → List ℕ × ℕ → Type 0
 Writes old new more piece = (more ≡ piece.1) × Takes old new piece.0
+
+-- a character of a message with placeholders was read, of which the first `skip` characters are read already; of what
+-- follows, the first `next` are read then
+abbrev pub Fills : ShownText → ShownText → List Data → ℕ → ℕ → List ℕ → ℕ → Type 0
+Fills old new args skip c cs next =
+    (more : List ℕ) → shown_with old (filled_from args skip (c ∷ cs) ++ more)
+    ≡ shown_with new (filled_from args next cs ++ more)

@@ -3,6 +3,8 @@
 
 mod arguments;
 mod artifacts;
+mod brackets;
+mod empties;
 mod finding;
 mod first_char;
 mod links;

@@ -2,11 +2,13 @@
 ghost use Rattle.std.specs.Prelude.{◌≡◌, map, chars, false};
 ghost use Rattle.std.specs.List.{list_all};
 ghost use Rattle.serde_json.specs.View.{view};
+ghost use Rattle.sarif_findings.specs.Brackets.{closes_link};
 ghost use Rattle.sarif_findings.specs.Links as said;
 ghost use Rattle.sarif_findings.specs.Placeholders.{index_from};
 ghost use Rattle.std.specs.Char.{is_ascii_digit};
 
 use crate::arguments::{argument_at, index_in};
+use crate::brackets::from_bracket;
 use serde_json::Value;
 
 /// The parts of a message, as far as links are concerned.
@@ -126,24 +128,22 @@ fn begins_target(args: &[Value], text: &str) -> bool
     }
 }
 
+/// Returns whether these begin with a `]` with a target after it.
+fn closes_link(args: &[Value], text: &str) -> bool
+    ensures { result ≡ closes_link (map view args.now) (chars text.now) }
+{
+    let mut rest = text.chars();
+    match rest.next() {
+        Some(c) => c == ']' && begins_target(args, rest.as_str()),
+        None => false,
+    }
+}
+
 /// Returns whether the first bracket that is not in a pair is a `]` with a target after it.
 fn ends_link(args: &[Value], text: &str) -> bool
     ensures { result ≡ said.ends_link (map view args.now) false (chars text.now) }
 {
-    let mut paired = false;
-    let mut rest = text.chars();
-    while let Some(c) = rest.next() {
-        if paired {
-            paired = false;
-        } else if begins_pair(c, rest.as_str()) {
-            paired = true;
-        } else if c == '[' {
-            return false;
-        } else if c == ']' {
-            return begins_target(args, rest.as_str());
-        }
-    }
-    false
+    closes_link(args, from_bracket(text))
 }
 
 /// Returns whether a link begins with this character.

@@ -3,7 +3,7 @@ ghost use Rattle.std.specs.Prelude.{◌≡◌, ◌∷◌, [], OnOk, IfOk, IfSome
 ghost use Rattle.serde_json.specs.View.{view};
 ghost use Rattle.sarif_findings.specs.Links.{unlinked};
 ghost use Rattle.sarif_findings.specs.Placeholders as said;
-ghost use Rattle.sarif_findings.specs.ShownSoFar.{Takes, Writes};
+ghost use Rattle.sarif_findings.specs.ShownSoFar.{Fills, Takes, Writes};
 ghost use Rattle.sarif_findings.specs.Unlinked.{left};
 
 use crate::arguments::{argument_at, read_digit};
@@ -105,6 +105,26 @@ fn push_piece(
     Ok(0)
 }
 
+/// Shows the replacement for a character, unless it is one of `skip` characters of a placeholder that was replaced.
+/// Returns how many of the characters after it are part of the same placeholder.
+fn push_next(
+    alloc: Global,
+    so_far: &mut ShownText,
+    args: &[Value],
+    skip: u32,
+    c: char,
+    rest: &Unlinked<'_>,
+) -> Result<u32, AllocError>
+    ensures { IfOk result
+        (Fills so_far.old so_far.new (map view args.now) skip c (left rest.now)) }
+{
+    if skip > 0 {
+        return Ok(skip - 1);
+    }
+    let more = push_piece(alloc, so_far, args, c, rest)?;
+    Ok(more)
+}
+
 /// Shows a message without its links, with its placeholders replaced.
 pub(crate) fn push_filled(
     alloc: Global,
@@ -117,15 +137,13 @@ pub(crate) fn push_filled(
 {
     let mut skip: u32 = 0;
     let mut rest = Unlinked::new(args, text);
+    rest.pass_empties(args, skip);
     while let Some(c) = rest.next() {
         if so_far.is_full() {
             return Ok(());
         }
-        if skip > 0 {
-            skip -= 1;
-        } else {
-            skip = push_piece(alloc, so_far, args, c, &rest)?;
-        }
+        skip = push_next(alloc, so_far, args, skip, c, &rest)?;
+        rest.pass_empties(args, skip);
     }
     Ok(())
 }

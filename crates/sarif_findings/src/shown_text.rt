@@ -70,15 +70,16 @@ fn is_verbatim(byte: u8) -> bool
     matches!(byte, b' '..=b'~') && byte != b'#'
 }
 
+/// Returns whether each of these bytes is such a character. It doesn't end early, so that many bytes are compared at a
+/// time.
 fn all_verbatim(bytes: &[u8]) -> bool
     ensures { result ≡ list_all so_far.is_verbatim bytes.now }
 {
+    let mut all = true;
     for byte in bytes {
-        if !is_verbatim(*byte) {
-            return false;
-        }
+        all &= is_verbatim(*byte);
     }
-    true
+    all
 }
 
 /// A partly shown string. It reads characters and stores only what it keeps.

@@ -1,9 +1,11 @@
 //! A message without its links to places of the log, read character by character.
-ghost use Rattle.std.specs.Prelude.{◌≡◌, ◌<◌, [], ◌∷◌, MatchOption, IfSome, length, map, chars};
+ghost use Rattle.std.specs.Prelude.{◌≡◌, ◌<◌, ◌≤◌, [], ◌∷◌, MatchOption, IfSome, length, map, chars};
 ghost use Rattle.serde_json.specs.View.{view};
 ghost use Rattle.sarif_findings.specs.Links.{unlinked};
+ghost use Rattle.sarif_findings.specs.Placeholders.{filled_from};
 ghost use Rattle.sarif_findings.specs.Unlinked.{left};
 
+use crate::empties::after_empties;
 use crate::links::{Part, part_after, stays_between};
 use serde_json::Value;
 
@@ -23,6 +25,17 @@ impl<'a> Unlinked<'a> {
             args,
             rest: text,
             part: Part::Outside,
+        }
+    }
+
+    /// Reads past placeholders that are replaced by nothing, outside of links and if no placeholder is read already.
+    pub(crate) fn pass_empties(&mut self, args: &[Value], skip: u32)
+        ensures same { filled_from (map view args.now) skip (left self.new)
+            ≡ filled_from (map view args.now) skip (left self.old) }
+        ensures shorter { length self.new.rest.now ≤ length self.old.rest.now }
+    {
+        if skip == 0 && matches!(self.part, Part::Outside) {
+            self.rest = after_empties(args, self.rest);
         }
     }
 

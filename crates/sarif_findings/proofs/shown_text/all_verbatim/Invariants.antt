@@ -1,7 +1,8 @@
-use Rattle.std.proofs.Common.{◌≡◌, drop}
+use Rattle.std.proofs.Common.{◌≡◌, ◌&&◌, drop}
 use Rattle.std.specs.List.{list_all}
 use Rattle.sarif_findings.specs.ShownSoFar.{is_verbatim}
 use Rattle.sarif_findings.proofs.shown_text.all_verbatim.Given as goal
 
 abbrev pub invariant-loop-byte : goal.invariant-loop-byte
-invariant-loop-byte l = list_all is_verbatim (drop l.byte-index l.bytes) ≡ list_all is_verbatim l.bytes
+invariant-loop-byte l =
+    (l.all && list_all is_verbatim (drop l.byte-index l.bytes)) ≡ list_all is_verbatim l.bytes
