@@ -214,6 +214,35 @@ def accepted(text, uri):
     return make
 
 
+def accepted_by_id(name, arguments):
+    """The same for messages without a text: results of one rule in one file, with a twentieth as many entries that
+    name an id and arguments of other results. Both are made from a number; one of them may be the same for all."""
+
+    def make(count):
+        results = [
+            {"ruleId": "R", "message": {"id": name(f"{i}"), "arguments": arguments(f"{i}")}}
+            | at("src/a.c")
+            for i in range(count)
+        ]
+        merged, many = log(run(results)), range(count // 20)
+        conditions = [
+            {
+                "tool": "t",
+                "ruleId": "R",
+                "messageId": name(f"x{i}"),
+                "messageArguments": arguments(f"x{i}"),
+                "uri": "src/a.c",
+            }
+            for i in many
+        ]
+        yield Input([merged], suppress=entries(conditions, 4))
+        guid = "00000000-0000-0000-0000-{:012}"
+        found = [{"tool": "t", "ruleId": "R", "guid": guid.format(i)} for i in many]
+        yield Input([merged], suppress=entries(found, 4))
+
+    return make
+
+
 def entries_beginning(count):
     """Results at one long URI, with entries that nearly name its prefixes, compared with as many by GUID."""
     results = [placed(index=0)] * count
@@ -519,6 +548,9 @@ SHAPES = {
     # Accepted results without fingerprints: one text in many files, and many texts in one file.
     "accepted_of_one_text": (accepted(lambda n: "m", lambda n: f"src/{n}.c"), 200_000),
     "accepted_of_one_file": (accepted(lambda n: f"m{n}", lambda n: "src/a.c"), 200_000),
+    # The same for messages without a text: many ids, and one id with many arguments.
+    "accepted_of_one_argument": (accepted_by_id(lambda n: f"m{n}", lambda n: ["a"]), 200_000),
+    "accepted_of_one_id": (accepted_by_id(lambda n: "m", lambda n: ["a", n]), 200_000),
     "overrides_of_nothing": (overrides_of_nothing, 20_000),
     "overrides_of_one": (overrides_of_one, 20_000),
     "invocations": (invocations, 20_000),

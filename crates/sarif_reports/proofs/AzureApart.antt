@@ -16,13 +16,21 @@ use Rattle.sarif_findings.specs.Shown.{shown_chars}
 use Rattle.sarif_findings.specs.ShownLaws.{is_seen, are_seen, has_two_signs}
 use Rattle.sarif_findings.proofs.HighBytes.{high_apart, char_kept}
 use Rattle.sarif_findings.proofs.SeenMore.{shown_seen, shown_apart}
-use Rattle.sarif_findings.proofs.ToldFindings.{IsShown, IsPath, IsTold}
+use Rattle.sarif_findings.proofs.ToldFindings.{IsShown, IsPath, IsTold, all_told}
+use Rattle.sarif_findings.specs.Reported.{reported_of}
+use Rattle.sarif_findings.specs.declared.reporting.Reporting.{Reporting}
+use Rattle.sarif_model.specs.Run.{runs_of}
+use Rattle.sarif_counts.specs.CountOf.{count_of}
+use Rattle.sarif_counts.specs.Policy.{hits_of}
+use Rattle.serde_json.specs.Data.{Data}
 use Rattle.sarif_reports.specs.declared.escaping.Escaping.TheVariants.{IssueMessage, IssueProperty}
 use Rattle.sarif_reports.specs.Escaped.{escaped, escaped_char, issue_message_char, issue_property_char}
-use Rattle.sarif_reports.specs.AzureReport.{azure_line, azure_lines_of, issue_begin, issue_code, issue_number, issue_properties, issue_type, level_and_state, message_and_tool, property, source_path}
+use Rattle.sarif_reports.specs.AzureReport.{azure_line, azure_lines_of, azure_of, issue_begin, issue_code, issue_number, issue_properties, issue_type, level_and_state, message_and_tool, property, source_path}
 use Rattle.sarif_reports.specs.AzureLaws.{AreIssues, IsWithinLine, is_within_property, issue_line, one_if_any, one_if_some, properties_of, properties_read}
 use Rattle.sarif_reports.proofs.EscapedApart.{decimal_digits}
+use Rattle.sarif_reports.specs.Listed.{hits_among, listed, others_among}
 use Rattle.sarif_reports.proofs.GithubApart.{escaped_shown}
+use Rattle.sarif_reports.proofs.ListedMore.{filter_told, hits_counted, length_listed, lines_parted, listed_told}
 use Rattle.sarif_reports.proofs.TextApart.{is_plain, plain_bytes, decimal_plain, level_plain, state_plain}
 
 -- ---- no property ends in a string of a log
@@ -329,3 +337,21 @@ all_issues (f ∷ fs) told =
 pub all_counted : (fs : List Finding) → AllByRecursion IsTold fs → AllByRecursion (λ f. properties_read (azure_line f) ≡ properties_of f) fs
 all_counted [] told = tt
 all_counted (f ∷ fs) told = (properties_counted f told.0, all_counted fs told.1)
+
+-- ---- the report
+
+pub issues_listed : (reporting : Reporting) (log : Data) → AreIssues (length (reported_of reporting log)) (azure_of (reported_of reporting log))
+issues_listed reporting log =
+    let fs = reported_of reporting log in
+    subst (λ n. AreIssues n (azure_lines_of (listed fs))) (length_listed fs) (all_issues (listed fs) (listed_told fs (all_told reporting log)))
+
+pub hit_issues : (reporting : Reporting) (log : Data)
+    → AreIssues (hits_of (count_of (runs_of log)) reporting.policy) (flat_map azure_line (hits_among (reported_of reporting log)))
+hit_issues reporting log =
+    let fs = reported_of reporting log in
+    subst (λ n. AreIssues n (azure_lines_of (hits_among fs))) (hits_counted reporting log) (all_issues (hits_among fs) (filter_told (λ f. f.hit) fs (all_told reporting log)))
+
+pub hits_first : (reporting : Reporting) (log : Data)
+    → azure_of (reported_of reporting log)
+    ≡ flat_map azure_line (hits_among (reported_of reporting log)) ++ flat_map azure_line (others_among (reported_of reporting log))
+hits_first reporting log = lines_parted azure_line (reported_of reporting log)

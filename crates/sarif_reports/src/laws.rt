@@ -194,7 +194,7 @@ pub fn page_rows_have_their_tags()
 
 /// The report for Azure Pipelines has one line per reported result. Each begins with the command
 /// `##vso[task.logissue type=`, has no other two adjacent `#` and no control character. A reader finds only the
-/// properties of its result: no log adds a command or a property, or ends one.
+/// properties of its result: no log adds a command or a property, or ends one. Its first lines are those of the hits.
 pub fn azure_lines_are_commands()
     ensures lines { (reporting : Reporting) (log : Data) →
         AreIssues (length (reported_of reporting log))
@@ -202,6 +202,13 @@ pub fn azure_lines_are_commands()
     ensures properties { (reporting : Reporting) (log : Data) →
         AllByRecursion (λ f. properties_read (azure_line f) ≡ properties_of f)
         (listed (reported_of reporting log)) }
+    ensures hits { (reporting : Reporting) (log : Data) →
+        AreIssues (hits_of (count_of (runs_of log)) reporting.policy)
+        (flat_map azure_line (hits_among (reported_of reporting log))) }
+    ensures first { (reporting : Reporting) (log : Data) →
+        azure_of (reported_of reporting log)
+        ≡ flat_map azure_line (hits_among (reported_of reporting log))
+        ++ flat_map azure_line (others_among (reported_of reporting log)) }
 {}
 
 /// A string in a property of a logging command contains no `;` and no `]`, so it ends neither the property nor the

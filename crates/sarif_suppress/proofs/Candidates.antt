@@ -1,6 +1,7 @@
 -- The entries that may match a result: all that match it are among them.
 use Rattle.std.proofs.Common.{◌≡◌, ℕ, Bool, true, false, not, ◌&&◌, ◌||◌, List, [], ◌∷◌, ◌++◌, filter, Option, Some, None, nat_eq, bytes_eq, refl, sym, ap, ◌∙◌, arith}
 use Rattle.std.proofs.lemmas.Bool.{and_from, and_parts, or_left, or_right}
+use Rattle.std.specs.Cmp.Lexicographic.{pointwise}
 use Rattle.std.specs.List.{flat_map, list_any}
 use Rattle.std.specs.Option.{option_map_or}
 use Rattle.std.specs.Prelude.{slice_get}
@@ -9,17 +10,18 @@ use Rattle.std.proofs.lemmas.List.Folds.{list_any-append}
 use Rattle.sarif_model.specs.declared.record.Record.{Record}
 use Rattle.sarif_suppress.specs.declared.conditions.Conditions.{Conditions}
 use Rattle.sarif_suppress.specs.declared.entry.Entry.{Entry}
-use Rattle.sarif_suppress.specs.declared.filing.PairCondition.TheVariants.{Full, Partial, MessageAt}
-use Rattle.sarif_suppress.specs.declared.filing.TextCondition.TheVariants.{Message, Uri, RuleId, Tool}
+use Rattle.sarif_suppress.specs.declared.filing.PairCondition.TheVariants.{Full, Partial}
+use Rattle.sarif_suppress.specs.declared.filing.TextCondition.TheVariants.{Uri, RuleId, Tool}
 use Rattle.sarif_suppress.specs.declared.prefixes.PrefixTable.{PrefixTable}
 use Rattle.sarif_suppress.specs.declared.table.Table.{Table}
-use Rattle.sarif_suppress.specs.Filing.{both, asks_for_guid, asks_for_pair, asks_for_text, asks_for_none, prefix_key, candidates}
-use Rattle.sarif_suppress.specs.Matching.{is_wanted, is_there, begins, is_guid, is_pair, are_among, hold_without_message, message_holds, hold, is_expired, matches}
+use Rattle.sarif_suppress.specs.Filing.{asks_for_guid, asks_for_pair, asks_for_message, asks_for_text, asks_for_none, prefix_key, message_keys, candidates}
+use Rattle.sarif_suppress.specs.Matching.{is_wanted, is_there, begins, is_guid, is_pair, are_among, are_wanted, hold_without_message, message_holds, hold, is_expired, matches}
 use Rattle.sarif_suppress.specs.Numbers.{numbers_from, numbers_at, passes_at, with_numbers}
 use Rattle.sarif_suppress.specs.Prefixes.{IsPrefixTable, found_for}
 use Rattle.sarif_suppress.specs.Table.{IsTable}
 use Rattle.sarif_suppress.proofs.Begun.{found_begun}
 use Rattle.sarif_suppress.proofs.Meaning.{pair_means}
+use Rattle.sarif_suppress.proofs.MessageKeys.{in_message_keys}
 use Rattle.sarif_suppress.proofs.Numbered.{has, has_from}
 use Rattle.sarif_suppress.proofs.Rising.{selected_from}
 
@@ -31,20 +33,20 @@ there_same : {K : Type 0} (f g : K → List ℕ) (o : Option K) → ((k : K) →
 there_same f g None same = refl
 there_same f g (Some k) same = same k
 
-nested : (a b c d e f g h i : List ℕ) → (((((((a ++ b) ++ c) ++ d) ++ e) ++ f) ++ g) ++ h) ++ i ≡ a ++ (b ++ (c ++ (d ++ (e ++ (f ++ (g ++ (h ++ i)))))))
-nested a b c d e f g h i =
-    rw (append_assoc, append_assoc, append_assoc, append_assoc, append_assoc, append_assoc, append_assoc) refl
+nested : (a b c d e f g h : List ℕ) → ((((((a ++ b) ++ c) ++ d) ++ e) ++ f) ++ g) ++ h ≡ a ++ (b ++ (c ++ (d ++ (e ++ (f ++ (g ++ h))))))
+nested a b c d e f g h =
+    rw (append_assoc, append_assoc, append_assoc, append_assoc, append_assoc, append_assoc) refl
 
 -- what the tables have for a result
-pub from_tables : {S H : Type 0} (entries : List Entry) (table : Table S H) (r : Record) → IsTable entries table → (((((((option_map_or (numbers_at nat_eq table.guids) r.guid [] ++ flat_map (numbers_at is_pair table.pairs.full) r.full) ++ flat_map (numbers_at is_pair table.pairs.partial) r.partial) ++ option_map_or (numbers_at is_pair table.pairs.placed) (both r.message.text r.place.uri) []) ++ option_map_or (numbers_at bytes_eq table.texts.messages) r.message.text []) ++ option_map_or (numbers_at bytes_eq table.texts.uris) r.place.uri []) ++ numbers_at bytes_eq table.texts.rules r.rule_id) ++ numbers_at bytes_eq table.texts.tools r.tool) ++ table.others.items ≡ candidates entries r
+pub from_tables : {S H : Type 0} (entries : List Entry) (table : Table S H) (r : Record) → IsTable entries table → ((((((option_map_or (numbers_at nat_eq table.guids) r.guid [] ++ flat_map (numbers_at is_pair table.pairs.full) r.full) ++ flat_map (numbers_at is_pair table.pairs.partial) r.partial) ++ flat_map (numbers_at (pointwise bytes_eq) table.texts.messages) (message_keys r)) ++ option_map_or (numbers_at bytes_eq table.texts.uris) r.place.uri []) ++ numbers_at bytes_eq table.texts.rules r.rule_id) ++ numbers_at bytes_eq table.texts.tools r.tool) ++ table.others.items ≡ candidates entries r
 from_tables entries table r is =
-    nested (option_map_or (numbers_at nat_eq table.guids) r.guid []) (flat_map (numbers_at is_pair table.pairs.full) r.full) (flat_map (numbers_at is_pair table.pairs.partial) r.partial) (option_map_or (numbers_at is_pair table.pairs.placed) (both r.message.text r.place.uri) []) (option_map_or (numbers_at bytes_eq table.texts.messages) r.message.text []) (option_map_or (numbers_at bytes_eq table.texts.uris) r.place.uri []) (numbers_at bytes_eq table.texts.rules r.rule_id) (numbers_at bytes_eq table.texts.tools r.tool) table.others.items
-    ∙ rw (there_same _ _ r.guid is.guids, flat_same _ _ r.full is.pairs.full, flat_same _ _ r.partial is.pairs.partial, there_same _ _ (both r.message.text r.place.uri) is.pairs.placed, there_same _ _ r.message.text is.texts.messages, there_same _ _ r.place.uri is.texts.uris, is.texts.rules r.rule_id, is.texts.tools r.tool, is.rest) refl
+    nested (option_map_or (numbers_at nat_eq table.guids) r.guid []) (flat_map (numbers_at is_pair table.pairs.full) r.full) (flat_map (numbers_at is_pair table.pairs.partial) r.partial) (flat_map (numbers_at (pointwise bytes_eq) table.texts.messages) (message_keys r)) (option_map_or (numbers_at bytes_eq table.texts.uris) r.place.uri []) (numbers_at bytes_eq table.texts.rules r.rule_id) (numbers_at bytes_eq table.texts.tools r.tool) table.others.items
+    ∙ rw (there_same _ _ r.guid is.guids, flat_same _ _ r.full is.pairs.full, flat_same _ _ r.partial is.pairs.partial, flat_same _ _ (message_keys r) is.texts.messages, there_same _ _ r.place.uri is.texts.uris, is.texts.rules r.rule_id, is.texts.tools r.tool, is.rest) refl
 
 -- the result has what the entry is filed under
 abbrev is_asked : Entry → Record → Bool
 is_asked e r =
-    option_map_or (λ guid. asks_for_guid guid e) r.guid false || (list_any (λ pair. asks_for_pair Full pair e) r.full || (list_any (λ pair. asks_for_pair Partial pair e) r.partial || (option_map_or (λ pair. asks_for_pair MessageAt pair e) (both r.message.text r.place.uri) false || (option_map_or (λ text. asks_for_text Message text e) r.message.text false || (option_map_or (λ uri. asks_for_text Uri uri e) r.place.uri false || (asks_for_text RuleId r.rule_id e || (asks_for_text Tool r.tool e || asks_for_none e)))))))
+    option_map_or (λ guid. asks_for_guid guid e) r.guid false || (list_any (λ pair. asks_for_pair Full pair e) r.full || (list_any (λ pair. asks_for_pair Partial pair e) r.partial || (list_any (λ key. asks_for_message key e) (message_keys r) || (option_map_or (λ uri. asks_for_text Uri uri e) r.place.uri false || (asks_for_text RuleId r.rule_id e || (asks_for_text Tool r.tool e || asks_for_none e))))))
 
 has_flat : {K : Type 0} (n : ℕ) (under : K → List ℕ) (test : K → Bool) (ks : List K) → ((k : K) → has n (under k) ≡ test k) → has n (flat_map under ks) ≡ list_any test ks
 has_flat n under test [] is = refl
@@ -58,8 +60,8 @@ has_there n under test (Some k) is = is k
 has_candidates : (es : List Entry) (r : Record) (n : ℕ) (e : Entry) → slice_get es n ≡ Some e → has n (candidates es r) ≡ is_asked e r
 has_candidates es r n e is =
     let at : (test : Entry → Bool) → has n (numbers_from test 0 es) ≡ test e = λ test. has_from test 0 n n es e (omega arith) is in
-    rw (list_any-append, list_any-append, list_any-append, list_any-append, list_any-append, list_any-append, list_any-append, list_any-append)
-    (rw (has_there n (λ guid. numbers_from (asks_for_guid guid) 0 es) (λ guid. asks_for_guid guid e) r.guid (λ guid. at (asks_for_guid guid)), has_flat n (λ pair. numbers_from (asks_for_pair Full pair) 0 es) (λ pair. asks_for_pair Full pair e) r.full (λ pair. at (asks_for_pair Full pair)), has_flat n (λ pair. numbers_from (asks_for_pair Partial pair) 0 es) (λ pair. asks_for_pair Partial pair e) r.partial (λ pair. at (asks_for_pair Partial pair)), has_there n (λ pair. numbers_from (asks_for_pair MessageAt pair) 0 es) (λ pair. asks_for_pair MessageAt pair e) (both r.message.text r.place.uri) (λ pair. at (asks_for_pair MessageAt pair)), has_there n (λ text. numbers_from (asks_for_text Message text) 0 es) (λ text. asks_for_text Message text e) r.message.text (λ text. at (asks_for_text Message text)), has_there n (λ uri. numbers_from (asks_for_text Uri uri) 0 es) (λ uri. asks_for_text Uri uri e) r.place.uri (λ uri. at (asks_for_text Uri uri)), at (asks_for_text RuleId r.rule_id), at (asks_for_text Tool r.tool), at asks_for_none) refl)
+    rw (list_any-append, list_any-append, list_any-append, list_any-append, list_any-append, list_any-append, list_any-append)
+    (rw (has_there n (λ guid. numbers_from (asks_for_guid guid) 0 es) (λ guid. asks_for_guid guid e) r.guid (λ guid. at (asks_for_guid guid)), has_flat n (λ pair. numbers_from (asks_for_pair Full pair) 0 es) (λ pair. asks_for_pair Full pair e) r.full (λ pair. at (asks_for_pair Full pair)), has_flat n (λ pair. numbers_from (asks_for_pair Partial pair) 0 es) (λ pair. asks_for_pair Partial pair e) r.partial (λ pair. at (asks_for_pair Partial pair)), has_flat n (λ key. numbers_from (asks_for_message key) 0 es) (λ key. asks_for_message key e) (message_keys r) (λ key. at (asks_for_message key)), has_there n (λ uri. numbers_from (asks_for_text Uri uri) 0 es) (λ uri. asks_for_text Uri uri e) r.place.uri (λ uri. at (asks_for_text Uri uri)), at (asks_for_text RuleId r.rule_id), at (asks_for_text Tool r.tool), at asks_for_none) refl)
 
 -- ---- an entry that matches is filed under what the result has
 
@@ -70,11 +72,6 @@ its_guid g (Some guid) t = t
 its_text : (u : List ℕ) (found : Option (List ℕ)) → is_there (Some u) found ≡ true → option_map_or (λ text. bytes_eq u text) found false ≡ true
 its_text u None t = t
 its_text u (Some text) t = t
-
-its_both : (m u : List ℕ) (text uri : Option (List ℕ)) → is_there (Some m) text ≡ true → is_there (Some u) uri ≡ true → option_map_or (λ pair. is_pair (m, u) pair) (both text uri) false ≡ true
-its_both m u None uri t s = t
-its_both m u (Some text) None t s = s
-its_both m u (Some text) (Some uri) t s = and_from (bytes_eq m text) (bytes_eq u uri) t s
 
 its_pair : (p : List ℕ × List ℕ) (found : List (List ℕ × List ℕ)) → list_any (λ q. is_pair q p) found ≡ true → list_any (λ q. is_pair p q) found ≡ true
 its_pair p [] t = t
@@ -97,14 +94,16 @@ record Parts (c : Conditions) (r : Record) : Type 0 where
   full : are_among c.full r.full ≡ true
   partial : are_among c.partial r.partial ≡ true
   message : is_there c.message r.message.text ≡ true
+  id : is_there c.message_id r.message.id ≡ true
+  args : are_wanted c.message_args r.message.args ≡ true
 
 parts_of : (c : Conditions) (r : Record) → hold c r ≡ true → Parts c r
 parts_of c r holds =
     split (is_wanted c.rule_id r.rule_id) (is_wanted c.tool r.tool) (is_there c.uri r.place.uri) (begins c.uri_prefix r.place.uri) (is_guid c.guid r.guid) (are_among c.full r.full) (are_among c.partial r.partial) refl refl refl refl refl refl refl
     (and_parts (hold_without_message c r) (message_holds c r) holds).0
-    (and_parts (is_there c.message r.message.text) _ (and_parts (hold_without_message c r) (message_holds c r) holds).1).0
+    (and_parts (is_there c.message r.message.text) (is_there c.message_id r.message.id && are_wanted c.message_args r.message.args) (and_parts (hold_without_message c r) (message_holds c r) holds).1)
   where
-    split : (a b u x g f p : Bool) → is_wanted c.rule_id r.rule_id ≡ a → is_wanted c.tool r.tool ≡ b → is_there c.uri r.place.uri ≡ u → begins c.uri_prefix r.place.uri ≡ x → is_guid c.guid r.guid ≡ g → are_among c.full r.full ≡ f → are_among c.partial r.partial ≡ p → (a && (b && (u && (x && (g && (f && p)))))) ≡ true → is_there c.message r.message.text ≡ true → Parts c r
+    split : (a b u x g f p : Bool) → is_wanted c.rule_id r.rule_id ≡ a → is_wanted c.tool r.tool ≡ b → is_there c.uri r.place.uri ≡ u → begins c.uri_prefix r.place.uri ≡ x → is_guid c.guid r.guid ≡ g → are_among c.full r.full ≡ f → are_among c.partial r.partial ≡ p → (a && (b && (u && (x && (g && (f && p)))))) ≡ true → (is_there c.message r.message.text ≡ true) × ((is_there c.message_id r.message.id && are_wanted c.message_args r.message.args) ≡ true) → Parts c r
     split a b u x g f p ea eb eu ex eg ef ep t message =
         let t1 : (b && (u && (x && (g && (f && p))))) ≡ true = (and_parts a _ t).1 in
         let t2 : (u && (x && (g && (f && p)))) ≡ true = (and_parts b _ t1).1 in
@@ -119,13 +118,15 @@ parts_of c r holds =
           guid = eg ∙ (and_parts g (f && p) t4).0;
           full = ef ∙ (and_parts f p t5).0;
           partial = ep ∙ (and_parts f p t5).1;
-          message = message;
+          message = message.0;
+          id = (and_parts (is_there c.message_id r.message.id) (are_wanted c.message_args r.message.args) message.1).0;
+          args = (and_parts (is_there c.message_id r.message.id) (are_wanted c.message_args r.message.args) message.1).1;
         }
 
 -- a condition that one of these satisfies
-module _ (g f p b m u ru t o : Bool) where
+module _ (g f p m u ru t o : Bool) where
   abbrev one_of : Bool
-  one_of = g || (f || (p || (b || (m || (u || (ru || (t || o)))))))
+  one_of = g || (f || (p || (m || (u || (ru || (t || o))))))
 
   in_full : f ≡ true → one_of ≡ true
   in_full is = or_right g _ (or_left f _ is)
@@ -133,26 +134,23 @@ module _ (g f p b m u ru t o : Bool) where
   in_partial : p ≡ true → one_of ≡ true
   in_partial is = or_right g _ (or_right f _ (or_left p _ is))
 
-  in_both : b ≡ true → one_of ≡ true
-  in_both is = or_right g _ (or_right f _ (or_right p _ (or_left b _ is)))
-
-  behind_both : (m || (u || (ru || (t || o)))) ≡ true → one_of ≡ true
-  behind_both is = or_right g _ (or_right f _ (or_right p _ (or_right b _ is)))
-
   in_message : m ≡ true → one_of ≡ true
-  in_message is = behind_both (or_left m _ is)
+  in_message is = or_right g _ (or_right f _ (or_right p _ (or_left m _ is)))
+
+  behind_message : (u || (ru || (t || o))) ≡ true → one_of ≡ true
+  behind_message is = or_right g _ (or_right f _ (or_right p _ (or_right m _ is)))
 
   in_uri : u ≡ true → one_of ≡ true
-  in_uri is = behind_both (or_right m _ (or_left u _ is))
+  in_uri is = behind_message (or_left u _ is)
 
   in_rule : ru ≡ true → one_of ≡ true
-  in_rule is = behind_both (or_right m _ (or_right u _ (or_left ru _ is)))
+  in_rule is = behind_message (or_right u _ (or_left ru _ is))
 
   in_tool : t ≡ true → one_of ≡ true
-  in_tool is = behind_both (or_right m _ (or_right u _ (or_right ru _ (or_left t _ is))))
+  in_tool is = behind_message (or_right u _ (or_right ru _ (or_left t _ is)))
 
   in_none : o ≡ true → one_of ≡ true
-  in_none is = behind_both (or_right m _ (or_right u _ (or_right ru _ (or_right t _ is))))
+  in_none is = behind_message (or_right u _ (or_right ru _ (or_right t _ is)))
 
 -- the conditions that are these
 abbrev made : Option ℕ → List (List ℕ × List ℕ) → List (List ℕ × List ℕ) → Option (List ℕ) → Option (List ℕ) → Option (List ℕ) → Option (List ℕ) → Option (List ℕ) → Option (List ℕ) → List (List ℕ) → Conditions
@@ -169,11 +167,8 @@ module _ (e : Entry) (r : Record) (begun : Bool) where
   abbrev by_partial : Bool
   by_partial = list_any (λ pair. asks_for_pair Partial pair e) r.partial
 
-  abbrev by_both : Bool
-  by_both = option_map_or (λ pair. asks_for_pair MessageAt pair e) (both r.message.text r.place.uri) false
-
   abbrev by_message : Bool
-  by_message = option_map_or (λ text. asks_for_text Message text e) r.message.text false
+  by_message = list_any (λ key. asks_for_message key e) (message_keys r)
 
   abbrev by_uri : Bool
   by_uri = option_map_or (λ uri. asks_for_text Uri uri e) r.place.uri false
@@ -189,23 +184,25 @@ module _ (e : Entry) (r : Record) (begun : Bool) where
   is_filed (Some g) f p m u ru px t i ws is parts found =
       or_left (is_asked e r) begun (or_left by_guid _ (rw is (its_guid g r.guid parts.guid)))
   is_filed None (q ∷ f) p m u ru px t i ws is parts found =
-      or_left (is_asked e r) begun (in_full by_guid by_full by_partial by_both by_message by_uri by_rule by_tool (asks_for_none e) (rw is (its_pair q r.full (and_parts (list_any (λ o. is_pair o q) r.full) (are_among f r.full) parts.full).0)))
+      or_left (is_asked e r) begun (in_full by_guid by_full by_partial by_message by_uri by_rule by_tool (asks_for_none e) (rw is (its_pair q r.full (and_parts (list_any (λ o. is_pair o q) r.full) (are_among f r.full) parts.full).0)))
   is_filed None [] (q ∷ p) m u ru px t i ws is parts found =
-      or_left (is_asked e r) begun (in_partial by_guid by_full by_partial by_both by_message by_uri by_rule by_tool (asks_for_none e) (rw is (its_pair q r.partial (and_parts (list_any (λ o. is_pair o q) r.partial) (are_among p r.partial) parts.partial).0)))
-  is_filed None [] [] (Some m) (Some u) ru px t i ws is parts found =
-      or_left (is_asked e r) begun (in_both by_guid by_full by_partial by_both by_message by_uri by_rule by_tool (asks_for_none e) (rw is (its_both m u r.message.text r.place.uri parts.message parts.uri)))
-  is_filed None [] [] (Some m) None ru px t i ws is parts found =
-      or_left (is_asked e r) begun (in_message by_guid by_full by_partial by_both by_message by_uri by_rule by_tool (asks_for_none e) (rw is (its_text m r.message.text parts.message)))
-  is_filed None [] [] None (Some u) ru px t i ws is parts found =
-      or_left (is_asked e r) begun (in_uri by_guid by_full by_partial by_both by_message by_uri by_rule by_tool (asks_for_none e) (rw is (its_text u r.place.uri parts.uri)))
-  is_filed None [] [] None None (Some ru) px t i ws is parts found =
-      or_left (is_asked e r) begun (in_rule by_guid by_full by_partial by_both by_message by_uri by_rule by_tool (asks_for_none e) (rw is parts.rule))
-  is_filed None [] [] None None None (Some px) t i ws is parts found =
+      or_left (is_asked e r) begun (in_partial by_guid by_full by_partial by_message by_uri by_rule by_tool (asks_for_none e) (rw is (its_pair q r.partial (and_parts (list_any (λ o. is_pair o q) r.partial) (are_among p r.partial) parts.partial).0)))
+  is_filed None [] [] (Some m) u ru px t i ws is parts found =
+      or_left (is_asked e r) begun (in_message by_guid by_full by_partial by_message by_uri by_rule by_tool (asks_for_none e) (rw is (in_message_keys r u (Some m) i ws parts.uri parts.message parts.id parts.args refl)))
+  is_filed None [] [] None u ru px t (Some i) ws is parts found =
+      or_left (is_asked e r) begun (in_message by_guid by_full by_partial by_message by_uri by_rule by_tool (asks_for_none e) (rw is (in_message_keys r u None (Some i) ws parts.uri parts.message parts.id parts.args refl)))
+  is_filed None [] [] None u ru px t None (w ∷ ws) is parts found =
+      or_left (is_asked e r) begun (in_message by_guid by_full by_partial by_message by_uri by_rule by_tool (asks_for_none e) (rw is (in_message_keys r u None None (w ∷ ws) parts.uri parts.message parts.id parts.args refl)))
+  is_filed None [] [] None (Some u) ru px t None [] is parts found =
+      or_left (is_asked e r) begun (in_uri by_guid by_full by_partial by_message by_uri by_rule by_tool (asks_for_none e) (rw is (its_text u r.place.uri parts.uri)))
+  is_filed None [] [] None None (Some ru) px t None [] is parts found =
+      or_left (is_asked e r) begun (in_rule by_guid by_full by_partial by_message by_uri by_rule by_tool (asks_for_none e) (rw is parts.rule))
+  is_filed None [] [] None None None (Some px) t None [] is parts found =
       or_right (is_asked e r) begun (found px refl parts.prefix)
-  is_filed None [] [] None None None None (Some t) i ws is parts found =
-      or_left (is_asked e r) begun (in_tool by_guid by_full by_partial by_both by_message by_uri by_rule by_tool (asks_for_none e) (rw is parts.tool))
-  is_filed None [] [] None None None None None i ws is parts found =
-      or_left (is_asked e r) begun (in_none by_guid by_full by_partial by_both by_message by_uri by_rule by_tool (asks_for_none e) (rw is refl))
+  is_filed None [] [] None None None None (Some t) None [] is parts found =
+      or_left (is_asked e r) begun (in_tool by_guid by_full by_partial by_message by_uri by_rule by_tool (asks_for_none e) (rw is parts.tool))
+  is_filed None [] [] None None None None None None [] is parts found =
+      or_left (is_asked e r) begun (in_none by_guid by_full by_partial by_message by_uri by_rule by_tool (asks_for_none e) (rw is refl))
 
 -- all entries that match a result are among the candidates and those whose prefix is found
 among : {S H : Type 0} (today : Option ℕ) (r : Record) (es : List Entry) (table : PrefixTable S H) → IsPrefixTable es table → (n : ℕ) (e : Entry) → slice_get es n ≡ Some e → matches today e r ≡ true → has n (candidates es r ++ option_map_or (found_for table) r.place.uri []) ≡ true

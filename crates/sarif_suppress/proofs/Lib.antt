@@ -8,6 +8,7 @@ pub mod Keyed
 pub mod ForGood
 pub mod Marked
 pub mod Meaning
+pub mod MessageKeys
 pub mod Numbered
 pub mod ObjectTest
 pub mod QuietFile

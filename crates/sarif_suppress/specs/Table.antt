@@ -1,13 +1,14 @@
 -- The tables of the numbers of entries, by the condition under which they are filed. Internal: no public contract
 -- of the merge refers to this module.
 use Rattle.std.specs.Prelude.{◌≡◌, ℕ, List, nat_eq, bytes_eq}
+use Rattle.std.specs.Cmp.Lexicographic.{pointwise}
 use Rattle.sarif_suppress.specs.declared.entry.Entry.{Entry}
-use Rattle.sarif_suppress.specs.declared.filing.PairCondition.TheVariants.{Full, Partial, MessageAt}
-use Rattle.sarif_suppress.specs.declared.filing.TextCondition.TheVariants.{Message, Uri, RuleId, Tool}
+use Rattle.sarif_suppress.specs.declared.filing.PairCondition.TheVariants.{Full, Partial}
+use Rattle.sarif_suppress.specs.declared.filing.TextCondition.TheVariants.{Uri, RuleId, Tool}
 use Rattle.sarif_suppress.specs.declared.table.PairTables.{PairTables}
 use Rattle.sarif_suppress.specs.declared.table.Table.{Table}
 use Rattle.sarif_suppress.specs.declared.table.TextTables.{TextTables}
-use Rattle.sarif_suppress.specs.Filing.{asks_for_guid, asks_for_pair, asks_for_text, asks_for_none}
+use Rattle.sarif_suppress.specs.Filing.{asks_for_guid, asks_for_pair, asks_for_message, asks_for_text, asks_for_none}
 use Rattle.sarif_suppress.specs.Matching.{is_pair}
 use Rattle.sarif_suppress.specs.Numbers.{numbers_from, numbers_at}
 
@@ -19,16 +20,13 @@ pub record ArePairTables {S H : Type 0} (entries : List Entry) (tables : PairTab
   pub partial : (pair : List ℕ × List ℕ)
       → numbers_at is_pair tables.partial pair
       ≡ numbers_from (asks_for_pair Partial pair) 0 entries
-  pub placed : (pair : List ℕ × List ℕ)
-      → numbers_at is_pair tables.placed pair
-      ≡ numbers_from (asks_for_pair MessageAt pair) 0 entries
 
--- each table has exactly the entries that are filed under a string of its kind
+-- each table has exactly the entries that are filed under a string of its kind, or under a key of a message
 pub record AreTextTables {S H : Type 0} (entries : List Entry) (tables : TextTables S H)
     : Type 0 where
-  pub messages : (text : List ℕ)
-      → numbers_at bytes_eq tables.messages text
-      ≡ numbers_from (asks_for_text Message text) 0 entries
+  pub messages : (key : List (List ℕ))
+      → numbers_at (pointwise bytes_eq) tables.messages key
+      ≡ numbers_from (asks_for_message key) 0 entries
   pub uris : (uri : List ℕ)
       → numbers_at bytes_eq tables.uris uri ≡ numbers_from (asks_for_text Uri uri) 0 entries
   pub rules : (rule : List ℕ)

@@ -1,26 +1,26 @@
 //! The condition under which an entry is filed: the most specific one.
-ghost use Rattle.std.specs.Prelude.{◌≡◌, option_map, slice_get};
+ghost use Rattle.std.specs.Prelude.{◌≡◌, option_map, slice_get, IfOk};
 ghost use Rattle.std.specs.Option.{option_copied};
 ghost use Rattle.sarif_suppress.specs.Filing as said;
 
 use crate::conditions::Conditions;
-use sarif_model::{Pairs, Text};
+use crate::message_keys::key_of;
+use sarif_model::{Pairs, Sequence, Text};
+use std::alloc::{AllocError, Global};
 
 /// A condition on a string of the result.
 #[derive(Clone, Copy)]
 pub(crate) enum TextCondition {
-    Message,
     Uri,
     RuleId,
     Tool,
 }
 
-/// A condition on fingerprints of the result, or the two on its message's text and its URI.
+/// A condition on fingerprints of the result.
 #[derive(Clone, Copy)]
 pub(crate) enum PairCondition {
     Full,
     Partial,
-    MessageAt,
 }
 
 /// The first pair, if there is one.
@@ -33,16 +33,6 @@ fn first_of(pairs: &Pairs) -> Option<(&Text, &Text)>
     }
 }
 
-/// Both texts, if both are there.
-fn both<'a>(first: &'a Option<Text>, second: &'a Option<Text>) -> Option<(&'a Text, &'a Text)>
-    ensures { option_map (λ p. (p.0.now, p.1.now)) result ≡ said.both first.now second.now }
-{
-    match (first, second) {
-        (Some(first), Some(second)) => Some((first, second)),
-        (Some(_), None) | (None, _) => None,
-    }
-}
-
 impl Conditions {
     /// Returns whether the entry names neither a GUID nor fingerprints.
     fn is_unmarked(&self) -> bool
@@ -51,14 +41,13 @@ impl Conditions {
         self.guid.is_none() && self.full.as_slice().is_empty() && self.partial.as_slice().is_empty()
     }
 
-    /// The first fingerprint that is named, or the text and the URI, where the entry is filed under it.
+    /// The first fingerprint that is named, where the entry is filed under it.
     pub(crate) fn pair_key(&self, which: PairCondition) -> Option<(&Text, &Text)>
         ensures { option_map (λ p. (p.0.now, p.1.now)) result ≡ said.pair_key which self.now }
     {
         match which {
             PairCondition::Full if self.guid.is_none() => first_of(&self.full),
             PairCondition::Partial if self.has_no_guid_or_full() => first_of(&self.partial),
-            PairCondition::MessageAt if self.is_unmarked() => both(&self.message, &self.uri),
             _ => None,
         }
     }
@@ -78,22 +67,52 @@ impl Conditions {
             return None;
         }
         match which {
-            TextCondition::Message if self.uri.is_none() => self.message.as_ref(),
-            TextCondition::Uri if self.message.is_none() => self.uri.as_ref(),
+            TextCondition::Uri if self.has_no_message() => self.uri.as_ref(),
             TextCondition::RuleId if self.has_no_message_or_uri() => self.rule_id.as_ref(),
             TextCondition::Tool if self.has_tool_alone() => self.tool.as_ref(),
             _ => None,
         }
     }
 
-    /// Returns whether the entry names neither a message's text nor a URI.
+    /// What is named of the message, with the URI that is named, where the entry is filed under it.
+    pub(crate) fn message_key(&self, alloc: Global) -> Result<Option<Sequence<Text>>, AllocError>
+        ensures { IfOk result (λ key. key ≡ said.message_key self.now) }
+    {
+        if !self.is_unmarked() || self.has_no_message() {
+            return Ok(None);
+        }
+        let args = self.message_args.as_slice();
+        Ok(Some(key_of(alloc, &self.uri, self.head(), args)?))
+    }
+
+    /// The text of the message that is named, otherwise the id that is.
+    fn head(&self) -> &Option<Text>
+        ensures { result.now ≡ said.head_of self.now }
+    {
+        if self.message.is_some() {
+            &self.message
+        } else {
+            &self.message_id
+        }
+    }
+
+    /// Returns whether the entry names nothing of the message.
+    fn has_no_message(&self) -> bool
+        ensures { result ≡ said.has_no_message self.now }
+    {
+        self.message.is_none()
+            && self.message_id.is_none()
+            && self.message_args.as_slice().is_empty()
+    }
+
+    /// Returns whether the entry names neither a message nor a URI.
     fn has_no_message_or_uri(&self) -> bool
         ensures { result ≡ said.has_no_message_or_uri self.now }
     {
-        self.message.is_none() && self.uri.is_none()
+        self.has_no_message() && self.uri.is_none()
     }
 
-    /// Returns whether the entry names none of a message's text, a URI, a URI prefix and a rule id.
+    /// Returns whether the entry names none of a message, a URI, a URI prefix and a rule id.
     fn has_tool_alone(&self) -> bool
         ensures { result ≡ said.has_tool_alone self.now }
     {

@@ -9,6 +9,7 @@ mod key;
 mod lasting;
 mod laws;
 mod marks;
+mod message_keys;
 mod numbers;
 mod object;
 mod prefixes;

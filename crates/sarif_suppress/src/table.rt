@@ -1,8 +1,10 @@
 //! The numbers of the entries by their conditions, so that a result is compared only with entries that may match
 //! it. Each entry is filed under its most specific condition: its GUID, otherwise its first fingerprint, otherwise
-//! its first partial fingerprint, otherwise its message's text and its URI together, otherwise one of these, otherwise
-//! its rule id, otherwise its URI prefix, otherwise its tool. Entries under a prefix are in a separate table.
+//! its first partial fingerprint, otherwise what it names of a message, together with its URI if it names one,
+//! otherwise its URI, otherwise its rule id, otherwise its URI prefix, otherwise its tool. Entries under a prefix are
+//! in a separate table.
 ghost use Rattle.std.specs.Prelude.{◌≡◌, ◌≤◌, ◌++◌, [], List, ℕ, length, nat_eq, bytes_eq, IfOk, OnOk};
+ghost use Rattle.std.specs.Cmp.Lexicographic.{pointwise};
 ghost use Rattle.std.specs.List.{flat_map};
 ghost use Rattle.std.specs.Option.{option_map_or};
 ghost use Rattle.sarif_suppress.specs.Filing as said;
@@ -13,9 +15,10 @@ ghost use Rattle.sarif_model.specs.Limits.{most_entries};
 
 use crate::entry::Entry;
 use crate::filing::{PairCondition, TextCondition};
+use crate::message_keys::message_keys;
 use crate::numbers::{add_number, numbers_for};
 use indexmap::IndexMap;
-use sarif_model::{Record, Text};
+use sarif_model::{Record, Sequence, Text};
 use std::alloc::{AllocError, Global};
 use std::hash::BuildHasher;
 
@@ -24,7 +27,6 @@ use std::hash::BuildHasher;
 struct PairTables<S: BuildHasher + Copy> {
     full: IndexMap<(Text, Text), Vec<u32>, S>,
     partial: IndexMap<(Text, Text), Vec<u32>, S>,
-    placed: IndexMap<(Text, Text), Vec<u32>, S>,
 }
 
 impl<S: BuildHasher + Copy> PairTables<S> {
@@ -35,19 +37,14 @@ impl<S: BuildHasher + Copy> PairTables<S> {
     {
         let full = numbers_by_pair(alloc, hasher, entries, PairCondition::Full)?;
         let partial = numbers_by_pair(alloc, hasher, entries, PairCondition::Partial)?;
-        let placed = numbers_by_pair(alloc, hasher, entries, PairCondition::MessageAt)?;
-        Ok(PairTables {
-            full,
-            partial,
-            placed,
-        })
+        Ok(PairTables { full, partial })
     }
 }
 
-/// The numbers of the entries, rising, by the text that each is filed under.
+/// The numbers of the entries, rising, by the text that each is filed under, or by the key of a message.
 #[derive(Drop)]
 struct TextTables<S: BuildHasher + Copy> {
-    messages: IndexMap<Text, Vec<u32>, S>,
+    messages: IndexMap<Sequence<Text>, Vec<u32>, S>,
     uris: IndexMap<Text, Vec<u32>, S>,
     rules: IndexMap<Text, Vec<u32>, S>,
     tools: IndexMap<Text, Vec<u32>, S>,
@@ -59,7 +56,7 @@ impl<S: BuildHasher + Copy> TextTables<S> {
         requires { length entries.now ≤ most_entries }
         ensures { IfOk result (AreTextTables entries.now) }
     {
-        let messages = numbers_by_text(alloc, hasher, entries, TextCondition::Message)?;
+        let messages = numbers_by_message(alloc, hasher, entries)?;
         let uris = numbers_by_text(alloc, hasher, entries, TextCondition::Uri)?;
         let rules = numbers_by_text(alloc, hasher, entries, TextCondition::RuleId)?;
         let tools = numbers_by_text(alloc, hasher, entries, TextCondition::Tool)?;
@@ -109,31 +106,12 @@ impl<S: BuildHasher + Copy> Table<S> {
         found.extend_from_slice(numbers_with_guid(&self.guids, record.guid))?;
         add_with_pairs(&mut found, &self.pairs.full, record.full.as_slice())?;
         add_with_pairs(&mut found, &self.pairs.partial, record.partial.as_slice())?;
-        self.add_for_message_and_uri(&mut found, record)?;
+        add_with_message(alloc, &mut found, &self.texts.messages, record)?;
+        found.extend_from_slice(numbers_with_text(&self.texts.uris, &record.place.uri))?;
         found.extend_from_slice(numbers_for(&self.texts.rules, &record.rule_id))?;
         found.extend_from_slice(numbers_for(&self.texts.tools, &record.tool))?;
         found.extend_from_slice(&self.others)?;
         Ok(found)
-    }
-
-    /// Adds the numbers of the entries that are filed under the text of the result's message, its URI, or both.
-    fn add_for_message_and_uri(
-        &self,
-        found: &mut Vec<u32>,
-        record: &Record,
-    ) -> Result<(), AllocError>
-        ensures { OnOk result (found.new.items ≡ ((found.old.items
-            ++ option_map_or (numbers_at is_pair self.now.pairs.placed)
-            (said.both «record».now.message.text «record».now.place.uri) [])
-            ++ option_map_or (numbers_at bytes_eq self.now.texts.messages)
-            «record».now.message.text [])
-            ++ option_map_or (numbers_at bytes_eq self.now.texts.uris) «record».now.place.uri []) }
-    {
-        let (text, uri) = (&record.message.text, &record.place.uri);
-        found.extend_from_slice(numbers_with_both(&self.pairs.placed, text, uri)?)?;
-        found.extend_from_slice(numbers_with_text(&self.texts.messages, text))?;
-        found.extend_from_slice(numbers_with_text(&self.texts.uris, uri))?;
-        Ok(())
     }
 }
 
@@ -150,6 +128,40 @@ fn add_with_pairs<S: BuildHasher + Copy>(
         found.extend_from_slice(numbers_for(table, pair))?;
     }
     Ok(())
+}
+
+/// Adds the numbers of the entries that are filed under one of these keys of a message.
+fn add_with_keys<S: BuildHasher + Copy>(
+    found: &mut Vec<u32>,
+    table: &IndexMap<Sequence<Text>, Vec<u32>, S>,
+    keys: &[Sequence<Text>],
+) -> Result<(), AllocError>
+    ensures { OnOk result (found.new.items
+        ≡ found.old.items ++ flat_map (numbers_at (pointwise bytes_eq) table.now) keys.now) }
+{
+    for key in keys {
+        found.extend_from_slice(numbers_for(table, key))?;
+    }
+    Ok(())
+}
+
+/// Adds the numbers of the entries that are filed under what the result's message has. If none is filed so, no key
+/// is made.
+fn add_with_message<S: BuildHasher + Copy>(
+    alloc: Global,
+    found: &mut Vec<u32>,
+    table: &IndexMap<Sequence<Text>, Vec<u32>, S>,
+    record: &Record,
+) -> Result<(), AllocError>
+    ensures { OnOk result (found.new.items ≡ found.old.items
+        ++ flat_map (numbers_at (pointwise bytes_eq) table.now)
+        (said.message_keys «record».now)) }
+{
+    if table.is_empty() {
+        return Ok(());
+    }
+    let keys = message_keys(alloc, record)?;
+    add_with_keys(found, table, &keys)
 }
 
 /// For each GUID the numbers of the entries that name it, rising.
@@ -186,6 +198,25 @@ fn numbers_by_pair<S: BuildHasher + Copy>(
     for (number, entry) in entries.iter().enumerate() {
         if let Some((name, value)) = entry.conditions.pair_key(which) {
             let key = (name.clone()?, value.clone()?);
+            add_number(alloc, &mut table, key, number as u32)?;
+        }
+    }
+    Ok(table)
+}
+
+/// For each key of a message the numbers of the entries that are filed under it, rising.
+fn numbers_by_message<S: BuildHasher + Copy>(
+    alloc: Global,
+    hasher: S,
+    entries: &[Entry],
+) -> Result<IndexMap<Sequence<Text>, Vec<u32>, S>, AllocError>
+    requires { length entries.now ≤ most_entries }
+    ensures { IfOk result (λ table. (q : List (List ℕ)) → numbers_at (pointwise bytes_eq) table q
+        ≡ numbers_from (said.asks_for_message q) 0 entries.now) }
+{
+    let mut table: IndexMap<Sequence<Text>, Vec<u32>, S> = IndexMap::with_hasher(alloc, hasher);
+    for (number, entry) in entries.iter().enumerate() {
+        if let Some(key) = entry.conditions.message_key(alloc)? {
             add_number(alloc, &mut table, key, number as u32)?;
         }
     }
@@ -237,24 +268,6 @@ fn numbers_with_guid<S: BuildHasher + Copy>(
     match guid {
         Some(guid) => numbers_for(table, &guid),
         None => &[],
-    }
-}
-
-/// The numbers of the entries that are filed under both texts; without them there are none.
-fn numbers_with_both<'a, S: BuildHasher + Copy>(
-    table: &'a IndexMap<(Text, Text), Vec<u32>, S>,
-    first: &Option<Text>,
-    second: &Option<Text>,
-) -> Result<&'a [u32], AllocError>
-    ensures { IfOk result (λ found. found.now ≡ option_map_or (numbers_at is_pair table.now)
-        (said.both first.now second.now) []) }
-{
-    match (first, second) {
-        (Some(first), Some(second)) => {
-            let key = (first.clone()?, second.clone()?);
-            Ok(numbers_for(table, &key))
-        }
-        (Some(_), None) | (None, _) => Ok(&[]),
     }
 }
 
