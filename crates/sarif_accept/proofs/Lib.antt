@@ -22,3 +22,4 @@ pub mod SameConditions
 pub mod Shallow
 pub mod Staying
 pub mod Taken
+pub mod Weight

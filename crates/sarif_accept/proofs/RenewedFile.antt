@@ -1,5 +1,5 @@
 -- The JSON of a new suppression file is read again.
-use Rattle.std.proofs.Common.{◌≡◌, ℕ, ◌<◌, ◌≤◌, Bool, true, false, List, [], ◌∷◌, ◌++◌, length, map, Bor, Option, Some, None, refl, ap, ap₂, ◌∙◌, arith, if◌then◌else◌}
+use Rattle.std.proofs.Common.{◌≡◌, ℕ, ◌<◌, ◌≤◌, Bool, true, false, List, [], ◌∷◌, ◌++◌, length, map, Bor, Option, Some, None, refl, sym, inl, inr, ◌⊎◌, ◌+◌, ap, ap₂, ◌∙◌, arith, length-append, if◌then◌else◌}
 use Rattle.std.specs.Prelude.{nat_lt, unwrap_or}
 use Rattle.std.specs.Str.{is_utf8}
 use Rattle.std.proofs.lemmas.List.{length-map}
@@ -13,14 +13,19 @@ use Rattle.json_parts.specs.Mark.{without_mark}
 use Rattle.sarif_counts.specs.declared.upkeep.Renewal.{Renewal}
 use Rattle.sarif_model.specs.Limits.{most_bytes, most_entries}
 use Rattle.sarif_model.specs.declared.fault.Fault.TheVariants.{TooMany}
+use Rattle.sarif_model.specs.declared.merge_fault.Cause.{Cause}
 use Rattle.sarif_model.specs.declared.merge_fault.Cause.TheVariants.{Of, TooLong}
 use Rattle.sarif_model.specs.declared.record.Record.{Record}
+use Rattle.sarif_model.specs.declared.refusal.Refusal.{Refusal}
+use Rattle.sarif_model.specs.declared.refusal.Refusal.TheVariants as refusal
 use Rattle.sarif_accept.specs.NewFile.{entries_in, file_object, file_text}
 use Rattle.sarif_accept.specs.Entry.{entry_for}
 use Rattle.sarif_accept.specs.Keeping.{chosen}
 use Rattle.sarif_accept.specs.Renewed.{renewed_entries, renewed_file, renewal_cause}
 use Rattle.sarif_accept.proofs.NoFraction.{new_whole}
+use Rattle.sarif_accept.specs.Weighing.{weights_of}
 use Rattle.sarif_accept.proofs.Shallow.{new_within}
+use Rattle.sarif_accept.proofs.Weight.{file_weight}
 
 json_depth : (bytes : List ℕ) (o : Option Data) → json_of bytes ≡ o → depth (unwrap_or o (object no_members)) ≤ max_depth
 json_depth bytes None is = omega arith
@@ -42,8 +47,13 @@ pub all_entries : (given : Option (List ℕ)) (kept : List Bool) (xs : List (Bor
     → new ≡ old ++ map (λ r. entry_for r.now renewal.reason renewal.until) xs → new ≡ renewed_entries given kept (map (λ r. r.now) xs) renewal
 all_entries given kept xs renewal old new is more = more ∙ ap₂ (λ a b. a ++ b) is (entries_made renewal.reason renewal.until xs)
 
-pub few_entries : {A : Type 0} (f : A → Data) (xs : List A) (all : List Data) → map f xs ≡ all → length xs ≤ most_entries → length all ≤ most_entries
-few_entries f xs all is few = rw (← is) (omega (arith, few, length-map xs f))
+-- as many entries as are kept and are added
+pub counted : {A : Type 0} (f : A → Data) (items : List A) (xs : List (Bor Record)) (given : Option (List ℕ)) (kept : List Bool) (renewal : Renewal) → map f items ≡ chosen kept (entries_in (file_object given))
+    → length (renewed_entries given kept (map (λ r. r.now) xs) renewal) ≡ length items + length xs
+counted f items xs given kept renewal is =
+    let same : length (map f items) ≡ length (chosen kept (entries_in (file_object given))) = ap length is in
+    let rs = map (λ r. r.now) xs in
+    omega (arith, length-append (chosen kept (entries_in (file_object given))) (map (λ r. entry_for r renewal.reason renewal.until) rs), length-map items f, length-map rs (λ r. entry_for r renewal.reason renewal.until), length-map xs (λ r. r.now), same)
 
 module _ (given : Option (List ℕ)) (kept : List Bool) (added : List Record) (renewal : Renewal) where
   pub is_shallow : (d : Data) → d ≡ renewed_file given kept added renewal → depth d ≤ max_depth
@@ -68,3 +78,15 @@ module _ (given : Option (List ℕ)) (kept : List Bool) (added : List Record) (r
       let test : nat_lt most_entries (length (renewed_entries given kept added renewal)) ≡ false = grind (arith, nat_tests) in
       let size : nat_lt most_bytes (length (file_text (renewed_file given kept added renewal))) ≡ false = grind (arith, nat_tests) in
       rw (test, size) refl
+
+  -- what is found before entries are made is why there is no file
+  pub room_cause : (kept_count added_count : ℕ) (cause fault : Cause) → length (renewed_entries given kept added renewal) ≡ kept_count + added_count
+      → ◌≡◌ {A = Refusal Cause} (refusal.Fault cause) (refusal.Fault fault)
+      → ((cause ≡ Of TooMany) × (most_entries < kept_count + added_count)) ⊎ ((cause ≡ TooLong) × (kept_count + added_count ≤ most_entries) × (most_bytes < weights_of renewal added))
+      → renewal_cause given kept added renewal ≡ Some fault
+  room_cause kept_count added_count cause fault size same (inl many) =
+      let one : cause ≡ fault = cc in
+      is_too_many (omega (arith, size, many.1)) ∙ ap (λ c. Some c) (sym many.0 ∙ one)
+  room_cause kept_count added_count cause fault size same (inr long) =
+      let one : cause ≡ fault = cc in
+      is_too_long (omega (arith, size, long.1)) (omega (arith, long.2, file_weight given kept added renewal)) ∙ ap (λ c. Some c) (sym long.0 ∙ one)

@@ -10,3 +10,4 @@ pub mod NewFile
 pub mod Renewed
 pub mod Until
 pub mod Unused
+pub mod Weighing

@@ -12,6 +12,7 @@ mod once;
 mod printing;
 mod renewing;
 mod unused;
+mod weighing;
 
 pub use entry::entry_for;
 pub use heard::{Heard, ToolRun};

@@ -1,32 +1,55 @@
 //! The new suppression file.
-ghost use Rattle.std.specs.Prelude.{◌≡◌, ◌≤◌, ◌<◌, ◌++◌, Some, None, map, length, option_map, string_bytes, IfOk, OnOk};
+ghost use Rattle.std.specs.Prelude.{◌≡◌, ◌≤◌, ◌<◌, ◌+◌, ◌⊎◌, ◌++◌, Some, None, map, length, option_map, string_bytes, IfErr, IfOk, OnOk};
 ghost use Rattle.serde_json.specs.View.{view, members_view};
 ghost use Rattle.json_parts.specs.Indexed.{json_of};
 ghost use Rattle.json_parts.specs.Mark.{without_mark as unmarked};
-ghost use Rattle.sarif_model.specs.Limits.{most_entries};
+ghost use Rattle.sarif_model.specs.Limits.{most_bytes, most_entries};
 ghost use Rattle.sarif_model.specs.Refusal.{IfFault};
 ghost use Rattle.sarif_model.specs.declared.fault.Fault.TheVariants.{TooMany};
-ghost use Rattle.sarif_model.specs.declared.merge_fault.Cause.TheVariants.{Of};
+ghost use Rattle.sarif_model.specs.declared.merge_fault.Cause.TheVariants.{Of, TooLong};
 ghost use Rattle.sarif_accept.specs.Entry as made;
 ghost use Rattle.sarif_accept.specs.NewFile as parts;
 ghost use Rattle.sarif_accept.specs.NewFile.{file_text};
 ghost use Rattle.sarif_accept.specs.Renewed as said;
+ghost use Rattle.sarif_accept.specs.Weighing.{weights_of};
 
 use crate::entry::entry_for;
 use crate::old_file::{Old, read_old};
 use crate::printing::print_file;
+use crate::weighing::are_too_long;
 use sarif_counts::Renewal;
 use sarif_model::{Cause, Fault, MOST_BYTES, MOST_ENTRIES, Record, Refusal};
 use serde_json::{Map, Value, put};
 use std::alloc::{AllocError, Global};
 
-/// Adds the entries that accept these results to the end.
+/// Checks, before entries are made, that there are at most `MOST_ENTRIES` with the `count` that are kept, and that the strings
+/// of those that accept these results have at most `MOST_BYTES` bytes.
+fn check_room(count: usize, added: &[&Record], renewal: &Renewal) -> Result<(), Cause>
+    ensures few { OnOk result (count + length added.now ≤ most_entries) }
+    ensures short { OnOk result (weights_of renewal.now (map (λ r. r.now) added.now) ≤ most_bytes) }
+    ensures err { IfErr result (λ cause.
+        ((cause ≡ Of TooMany) × (most_entries < count + length added.now))
+        ⊎ ((cause ≡ TooLong) × (count + length added.now ≤ most_entries)
+        × (most_bytes < weights_of renewal.now (map (λ r. r.now) added.now)))) }
+{
+    if count > MOST_ENTRIES || added.len() > MOST_ENTRIES - count {
+        return Err(Cause::Of(Fault::TooMany));
+    }
+    if are_too_long(added, renewal) {
+        return Err(Cause::TooLong);
+    }
+    Ok(())
+}
+
+/// Adds the entries that accept these results to the end. They are few, and so are the bytes of their strings.
 fn add_entries(
     alloc: Global,
     entries: &mut Vec<Value>,
     added: &[&Record],
     renewal: &Renewal,
 ) -> Result<(), AllocError>
+    requires few { length entries.old.items + length added.now ≤ most_entries }
+    requires short { weights_of renewal.now (map (λ r. r.now) added.now) ≤ most_bytes }
     ensures { OnOk result (map view entries.new.items ≡ map view entries.old.items
         ++ map (λ r. made.entry_for r.now renewal.now.reason renewal.now.until) added.now) }
 {
@@ -52,7 +75,8 @@ fn file_with(
 }
 
 /// The new file: the entries of the old one that are marked, those that accept results, and its other members. Returns
-/// `TooMany` if it had more than `MOST_ENTRIES` entries.
+/// `TooMany` if it had more than `MOST_ENTRIES` entries, and `TooLong` if the strings of those that accept results had more
+/// than `MOST_BYTES` bytes. No entry is made before it is known that there are few of them and that they are short.
 fn renewed_file(
     alloc: Global,
     bytes: Option<&[u8]>,
@@ -65,18 +89,17 @@ fn renewed_file(
     ensures few { IfOk result (λ v. length (said.renewed_entries
         (option_map (λ b. b.now) bytes.entry) kept.now (map (λ r. r.now) added.now) renewal.now)
         ≤ most_entries) }
-    ensures err { IfFault result (λ cause. (cause ≡ Of TooMany)
-        × (most_entries < length (said.renewed_entries (option_map (λ b. b.now) bytes.entry)
-        kept.now (map (λ r. r.now) added.now) renewal.now))) }
+    ensures err { IfFault result (λ cause. said.renewal_cause (option_map (λ b. b.now) bytes.entry)
+        kept.now (map (λ r. r.now) added.now) renewal.now ≡ Some cause) }
 {
     let Old {
         mut entries,
         others,
     } = read_old(alloc, bytes, kept)?;
-    add_entries(alloc, &mut entries, added, renewal)?;
-    if entries.len() > MOST_ENTRIES {
-        return Err(Refusal::Fault(Cause::Of(Fault::TooMany)));
+    if let Err(cause) = check_room(entries.len(), added, renewal) {
+        return Err(Refusal::Fault(cause));
     }
+    add_entries(alloc, &mut entries, added, renewal)?;
     Ok(file_with(alloc, entries, others)?)
 }
 
@@ -85,7 +108,7 @@ fn renewed_file(
 /// fraction. Without a file there are no entries and no other members. Returns `TooMany` if it had more than
 /// `MOST_ENTRIES` entries, `TooLong` if its text had more than `MOST_BYTES` bytes, so that it could not be read again, and
 /// `OutOfMemory` if memory runs out.
-#[tactic(auto, using(crate::proofs::RenewedFile::is_too_many, crate::proofs::RenewedFile::is_too_long, crate::proofs::RenewedFile::is_accepted))]
+#[tactic(auto, using(crate::proofs::RenewedFile::is_too_long, crate::proofs::RenewedFile::is_accepted))]
 pub fn new_file(
     alloc: Global,
     bytes: Option<&[u8]>,

@@ -1,9 +1,9 @@
-use Rattle.std.proofs.Common.{rules, ◌≡◌, ◌≤◌, map, length, option_map, ap₂, ◌∙◌}
+use Rattle.std.proofs.Common.{rules, ◌≡◌, ◌≤◌, ◌+◌, map, length, arith, option_map, ap₂, ◌∙◌}
 use Rattle.serde_json.specs.View.{view, members_view}
 use Rattle.sarif_model.specs.Limits.{most_entries}
 use Rattle.sarif_accept.specs.Keeping.{chosen}
 use Rattle.sarif_accept.specs.NewFile.{entries_in, others_in, file_object, file_with}
-use Rattle.sarif_accept.proofs.RenewedFile.{all_entries, few_entries}
+use Rattle.sarif_accept.proofs.RenewedFile.{all_entries, counted, room_cause}
 use Rattle.sarif_accept.proofs.renewing.renewed_file.Goals as goal
 
 pub returns-clause-value : goal.returns-clause-value
@@ -16,6 +16,13 @@ returns-clause-value c =
 pub returns-clause-few : goal.returns-clause-few
 returns-clause-few c =
     let old : map view c.in_ok-entries.field-0.entries.items ≡ chosen c.args.kept.now (entries_in (file_object (option_map (λ b. b.now) c.args.bytes))) = search rules in
-    let entries = all_entries (option_map (λ b. b.now) c.args.bytes) c.args.kept.now c.args.added.now c.args.renewal.now (map view c.in_ok-entries.field-0.entries.items) (map view c.add_entries.new.entries.items) old c.in_ok-add_entries.ensures in
-    let count : length c.add_entries.new.entries.items ≤ most_entries = search rules in
-    few_entries view c.add_entries.new.entries.items _ entries count
+    let size = counted view c.in_ok-entries.field-0.entries.items c.args.added.now (option_map (λ b. b.now) c.args.bytes) c.args.kept.now c.args.renewal.now old in
+    let room : length c.in_ok-entries.field-0.entries.items + length c.args.added.now ≤ most_entries = search rules in
+    omega (arith, size, room)
+
+pub returns-in-Err-clause-err : goal.returns-in-Err-clause-err
+returns-in-Err-clause-err c = λ fault same.
+    let old : map view c.in_ok-entries.field-0.entries.items ≡ chosen c.args.kept.now (entries_in (file_object (option_map (λ b. b.now) c.args.bytes))) = search rules in
+    let size = counted view c.in_ok-entries.field-0.entries.items c.args.added.now (option_map (λ b. b.now) c.args.bytes) c.args.kept.now c.args.renewal.now old in
+    let here : c.len.result ≡ length c.in_ok-entries.field-0.entries.items = search rules in
+    room_cause (option_map (λ b. b.now) c.args.bytes) c.args.kept.now (map (λ r. r.now) c.args.added.now) c.args.renewal.now c.len.result (length c.args.added.now) c.in-Err.cause fault (omega (arith, size, here)) same c.in-Err.ensures.err
