@@ -8,7 +8,9 @@ use Rattle.std.specs.declared.rt.Stdin.{Stdin}
 use Rattle.std.specs.declared.rt.Stdout.{Stdout}
 use Rattle.sarif_model.specs.declared.merge_fault.Cause.TheVariants.{OutOfMemory}
 use Rattle.sarif_model.specs.MergeFault.{exit_status}
-use Rattle.sarif_program.specs.Run.{IsRun, Streams, Views}
+use Rattle.sarif_program.specs.declared.complaint.Complaints.{Complaints}
+use Rattle.sarif_program.specs.declared.writers.Writers.{Writers}
+use Rattle.sarif_program.specs.Run.{IsRun, Views}
 use Rattle.sarif_program.specs.Writing.{writer_failures}
 use Rattle.sarif_request.specs.declared.request.Request.{Request}
 use Rattle.sarif_request.specs.declared.words.WordsFault.{WordsFault}
@@ -16,8 +18,10 @@ use Rattle.sarif_request.specs.Plain.{IsPlain}
 use Rattle.sarif_request.specs.Words.{Answers, words_status}
 use Rattle.sarif_streams.specs.declared.input.Input.{Input}
 use Rattle.sarif_streams.specs.declared.kept.Kept.{Kept}
+use Rattle.sarif_streams.specs.declared.readers.Readers.{Readers}
 use Rattle.sarif_streams.specs.declared.target.Console.{Console}
 use Rattle.sarif_streams.specs.declared.target.Target.{Target}
+use Rattle.sarif_streams.specs.Counted.{failed_calls}
 use Rattle.sarif_streams.specs.Taken.{console_held}
 use Rattle.sarif_streams.specs.WereRead.{failures}
 use Rattle.sarif_gate.specs.Named.{AreNamed}
@@ -33,23 +37,41 @@ abbrev pub Say : Type 0
 Say = Console Stdout Stderr
 
 -- files and standard streams don't say which bytes they have left or hold
-abbrev pub views : Views Source Output Say Output
+abbrev pub views : Views Source Output Say Output Stderr
 views = record {
   remaining = λ source. None;
-  log = λ output. None;
-  report = λ output. None;
-  summary = console_held (λ output. None) (λ error. None);
+  held = record {
+    log = λ output. None;
+    report = λ output. None;
+    summary = console_held (λ output. None) (λ error. None);
+    messages = λ error. None;
+  };
 }
+
+-- a run over these readers and writers that began with no error message, and whose caller explains it if that is
+-- requested
+pub record HasRun (request : Request) (readers after : Readers Source)
+    (writers done : Writers Output Say Output) (status : ℕ) : Type 0 where
+  pub before : Complaints Stderr
+  pub told : Complaints Stderr
+  pub unsaid : before.last ≡ None
+  pub quiet : failed_calls before.out ≡ 0
+  pub explained : before.is_explained ≡ request.explain
+  pub run : IsRun views request
+      (record { readers = readers; writers = writers; complaints = before })
+      (record { readers = after; writers = done; complaints = told }) status
 
 -- a run from the sources that the request names to the outputs that it names ended with this status; no call of these
 -- had failed before
 pub record IsRunOf (request : Request) (status : ℕ) : Type 0 where
-  pub old : Streams Source Output Say Output
-  pub new : Streams Source Output Say Output
-  pub named : AreNamed request old.readers old.writers
-  pub unread : failures old.readers ≡ 0
-  pub unwritten : writer_failures old.writers ≡ 0
-  pub run : IsRun views request old new status
+  pub readers : Readers Source
+  pub after : Readers Source
+  pub writers : Writers Output Say Output
+  pub done : Writers Output Say Output
+  pub named : AreNamed request readers writers
+  pub unread : failures readers ≡ 0
+  pub unwritten : writer_failures writers ≡ 0
+  pub run : HasRun request readers after writers done status
 
 -- the status if memory runs out before there are sources and outputs
 abbrev pub unmade_status : ℕ

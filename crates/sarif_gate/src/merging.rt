@@ -1,10 +1,9 @@
 //! The merge of streams, with or without an explanation.
-ghost use Rattle.std.specs.Prelude.{◌<◌, ◌^◌};
+ghost use Rattle.std.specs.Prelude.{◌≡◌, ◌<◌, ◌^◌, false, true};
 ghost use Rattle.std.specs.List.{All};
 ghost use Rattle.sarif_streams.specs.Counted.{failed_calls};
 ghost use Rattle.sarif_streams.specs.OptionalReader.{failed_calls_if};
-ghost use Rattle.sarif_program.specs.Run.{IsRun};
-ghost use Rattle.sarif_gate.specs.Served.{views};
+ghost use Rattle.sarif_gate.specs.Served.{HasRun};
 
 use crate::explaining::Ended;
 use crate::outputs::Outputs;
@@ -30,9 +29,7 @@ pub fn merge_streams<'a, T: Threads + Wait + Sync>(
     requires writes { failed_calls writers.old.out < 2 ^ 63 }
     requires reports { All (λ report. failed_calls report.to < 2 ^ 63) writers.old.reports.items }
     requires says { failed_calls writers.old.say < 2 ^ 63 }
-    ensures { IsRun views «request».now
-        (record { readers = readers.old; writers = writers.old })
-        (record { readers = readers.new; writers = writers.new }) result }
+    ensures { HasRun «request».now readers.old readers.new writers.old writers.new result }
 {
     if request.explain {
         merge_explained(rt, threads, request, readers, writers)
@@ -55,9 +52,8 @@ fn merge_unexplained<'a, T: Threads + Wait + Sync>(
     requires writes { failed_calls writers.old.out < 2 ^ 63 }
     requires reports { All (λ report. failed_calls report.to < 2 ^ 63) writers.old.reports.items }
     requires says { failed_calls writers.old.say < 2 ^ 63 }
-    ensures { IsRun views «request».now
-        (record { readers = readers.old; writers = writers.old })
-        (record { readers = readers.new; writers = writers.new }) result }
+    requires unexplained { «request».now.explain ≡ false }
+    ensures { HasRun «request».now readers.old readers.new writers.old writers.new result }
 {
     let mut complaints = Complaints::new(rt.stderr());
     run_request(
@@ -84,9 +80,8 @@ fn merge_explained<'a, T: Threads + Wait + Sync>(
     requires writes { failed_calls writers.old.out < 2 ^ 63 }
     requires reports { All (λ report. failed_calls report.to < 2 ^ 63) writers.old.reports.items }
     requires says { failed_calls writers.old.say < 2 ^ 63 }
-    ensures { IsRun views «request».now
-        (record { readers = readers.old; writers = writers.old })
-        (record { readers = readers.new; writers = writers.new }) result }
+    requires explained { «request».now.explain ≡ true }
+    ensures { HasRun «request».now readers.old readers.new writers.old writers.new result }
 {
     let mut complaints = Complaints::explained(rt.stderr());
     let status = run_request(

@@ -1,5 +1,6 @@
 pub mod Composed
 pub mod Ended
+pub mod Lost
 pub mod Made
 pub mod Quiet
 pub mod Rising

@@ -89,6 +89,10 @@ writer_more old new none (inr (inl report)) =
 writer_more old new none (inr (inr say)) =
     omega (arith, none.out, say, none_less (writers_in old.reports.items) (writers_in new.reports.items) none.reports, sum_to old.reports.items, sum_to new.reports.items)
 
+-- none rises where nothing was written
+pub none_rises : {W S P : Type 0} (writers : Writers W S P) → WriterRises writers writers → ⊥
+none_rises writers rises = omega (arith, writer_more writers writers (no_writer_has_fallen writers) rises)
+
 more_reader : {R : Type 0} (old new : Readers R) → NoNumberFalls old new → failures old < failures new → ReaderRises old new
 more_reader old new none more =
     let logs = none_less old.logs.items new.logs.items none.logs in

@@ -1,6 +1,5 @@
 -- The facts of a merge, as its outputs are made from them, and the lines on what is for later merges.
-use Rattle.std.proofs.Common.{◌≡◌, ◌∙◌, [], Option, Some, None, ap, refl}
-use Rattle.std.specs.Prelude.{option_map}
+use Rattle.std.proofs.Common.{◌≡◌, [], Some, None, refl}
 use Rattle.sarif_counts.specs.declared.life.Life.{Life}
 use Rattle.sarif_counts.specs.Counts.{count_at}
 use Rattle.sarif_log.specs.declared.facts.Facts.{Facts as MergeFacts}

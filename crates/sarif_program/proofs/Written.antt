@@ -1,5 +1,5 @@
 -- One more report was written.
-use Rattle.std.proofs.Common.{◌≡◌, ◌∙◌, ℕ, ◌+◌, ◌<◌, List, [], ◌∷◌, ◌++◌, Option, take, drop, length, set, get_or, sym, subst, ap}
+use Rattle.std.proofs.Common.{◌≡◌, ◌∙◌, ℕ, ◌+◌, ◌<◌, List, Option, take, drop, length, set, get_or, sym, subst, ap}
 use Rattle.std.proofs.lemmas.List.{get_or-map, take_more, take_more_set}
 use Rattle.std.proofs.lemmas.Slice.Zip.{all_zipped_more}
 use Rattle.std.specs.Io.KnownBytes.{Appends}

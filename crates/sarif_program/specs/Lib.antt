@@ -1,4 +1,5 @@
 pub mod Line
+pub mod Lost
 pub mod Notes
 pub mod Rejected
 pub mod Reports

@@ -1,5 +1,5 @@
 -- The lines of error messages.
-use Rattle.std.specs.Prelude.{ℕ, Option, List, [], ◌∷◌, ◌++◌, take, codes}
+use Rattle.std.specs.Prelude.{◌≡◌, true, ℕ, Option, Some, List, [], ◌∷◌, ◌++◌, take, codes}
 use Rattle.std.specs.Io.KnownBytes.{Appends}
 use Rattle.sarif_model.specs.declared.fault.Fault.{Fault}
 use Rattle.sarif_model.specs.declared.fault.Fault.TheVariants as fault
@@ -13,6 +13,7 @@ use Rattle.sarif_streams.specs.declared.counted.Counted.{Counted}
 use Rattle.sarif_streams.specs.Counted.{inner_of}
 use Rattle.sarif_program.specs.declared.complaint.Complaint.{Complaint}
 use Rattle.sarif_program.specs.declared.complaint.Complaint.TheVariants as complaint
+use Rattle.sarif_program.specs.declared.complaint.Complaints.{Complaints}
 
 -- the name of an error in what was read
 abbrev pub fault_name : Fault → List ℕ
@@ -70,3 +71,12 @@ abbrev pub IsTold : {E : Type 0} → (E → Option (List ℕ)) → Complaint
     → Counted E → Counted E → Type 0
 IsTold contents complaint old new = (n : ℕ) × Appends (contents (inner_of old))
     (contents (inner_of new)) (take n (complaint_line complaint))
+
+-- the last error message is this one, and its line or a prefix of it was written, and nothing else; nothing at all if
+-- the caller explains it
+pub record HasComplained {E : Type 0} (contents : E → Option (List ℕ)) (complaint : Complaint)
+    (old new : Complaints E) : Type 0 where
+  pub last : new.last ≡ Some complaint
+  pub line : IsTold contents complaint old.out new.out
+  pub left : old.is_explained ≡ true → new.out ≡ old.out
+  pub explained : new.is_explained ≡ old.is_explained

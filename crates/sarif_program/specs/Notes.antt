@@ -38,4 +38,5 @@ pub record AreNoted {E : Type 0} (contents : E → Option (List ℕ)) (lines : L
   pub prefix : (n : ℕ)
       × Appends (contents (inner_of old.out)) (contents (inner_of new.out)) (take n lines)
   pub last : new.last ≡ old.last
+  pub explained : new.is_explained ≡ old.is_explained
   pub none : lines ≡ [] → new ≡ old

@@ -8,7 +8,7 @@ use Rattle.sarif_request.specs.declared.request.Request.{Request}
 use Rattle.sarif_streams.specs.declared.readers.Readers.{Readers}
 use Rattle.sarif_program.specs.declared.complaint.Complaint.TheVariants.{Fault}
 use Rattle.sarif_program.specs.declared.complaint.Complaints.{Complaints}
-use Rattle.sarif_program.specs.Line.{IsTold}
+use Rattle.sarif_program.specs.Line.{HasComplained}
 
 -- the merge of what was read is rejected for this reason, which its line says and the status follows; out of memory may
 -- be reported before anything is read
@@ -18,5 +18,4 @@ pub record IsRejected {R E : Type 0} (remaining : R → Option (List ℕ)) (writ
   pub refused : (fault.cause ≡ OutOfMemory → ⊥) → IsRefusedWith remaining readers after
       request.options.today request.options.checks request.options.policy (Some request.upkeep) fault
   pub exits : status ≡ exit_status fault.cause
-  pub last : told.last ≡ Some (Fault fault)
-  pub line : IsTold written (Fault fault) complaints.out told.out
+  pub said : HasComplained written (Fault fault) complaints told

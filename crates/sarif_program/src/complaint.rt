@@ -88,6 +88,7 @@ impl<E: Write> Complaints<E> {
         ensures last { self.new.last ≡ Some complaint }
         ensures told { IsTold E.contents complaint self.old.out self.new.out }
         ensures explained { self.old.is_explained ≡ true → self.new.out ≡ self.old.out }
+        ensures same { self.new.is_explained ≡ self.old.is_explained }
     {
         self.last = Some(complaint);
         if self.is_explained {

@@ -1,12 +1,14 @@
 //! How a run ends: the messages and the exit status.
-ghost use Rattle.std.specs.Prelude.{◌≡◌, ◌<◌, ◌≤◌, ◌^◌, Some, nat_eq, length};
+ghost use Rattle.std.specs.Prelude.{◌≡◌, ◌<◌, ◌≤◌, ◌^◌, ℕ, List, nat_eq, length};
 ghost use Rattle.std.specs.List.{All};
 ghost use Rattle.std.specs.Io.KnownBytes.{Appends};
 ghost use Rattle.sarif_streams.specs.Counted.{inner_of, failed_calls, RisesIf};
 ghost use Rattle.sarif_model.specs.MergeFault.{exit_status};
-ghost use Rattle.sarif_program.specs.Line.{IsTold};
+ghost use Rattle.sarif_reports.specs.declared.report.Report.{Report};
+ghost use Rattle.sarif_program.specs.Line.{HasComplained};
+ghost use Rattle.sarif_program.specs.Lost.{HasLost, complaint_of};
 ghost use Rattle.sarif_program.specs.Notes.{AreNoted};
-ghost use Rattle.sarif_program.specs.Reports.{AreTaken};
+ghost use Rattle.sarif_program.specs.Reports.{AreTaken, texts_for};
 ghost use Rattle.sarif_program.specs.Status.{verdict_status};
 ghost use Rattle.sarif_program.specs.Writing.{NoWriterFalls, writer_failures};
 ghost use Rattle.sarif_program.specs.declared.complaint.Complaint.TheVariants.{Fault};
@@ -34,8 +36,7 @@ fn status_of_verdict(verdict: Verdict) -> u8
 pub(crate) fn refuse<E: Write>(complaints: &mut Complaints<E>, fault: MergeFault) -> u8
     requires { failed_calls complaints.old.out < 2 ^ 63 }
     ensures status { result ≡ exit_status fault.cause }
-    ensures told { complaints.new.last ≡ Some (Fault fault) }
-    ensures line { IsTold E.contents (Fault fault) complaints.old.out complaints.new.out }
+    ensures told { HasComplained E.contents (Fault fault) complaints.old complaints.new }
 {
     complaints.complain(Complaint::Fault(fault));
     fault.cause.status()
@@ -44,7 +45,8 @@ pub(crate) fn refuse<E: Write>(complaints: &mut Complaints<E>, fault: MergeFault
 /// Reports which output was not written. Returns the exit status.
 fn tell_lost<E: Write>(complaints: &mut Complaints<E>, lost: Lost) -> u8
     requires { failed_calls complaints.old.out < 2 ^ 63 }
-    ensures { result ≡ 3 }
+    ensures status { result ≡ 3 }
+    ensures told { HasComplained E.contents (complaint_of lost) complaints.old complaints.new }
 {
     match lost {
         Lost::Log => {
@@ -86,6 +88,19 @@ pub(crate) fn accept<W: Write, S: Write, P: Write, E: Write>(
     ensures risen { NoWriterFalls writers.old writers.new }
     ensures noted { result < 2
         → AreNoted E.contents texts.now.lines complaints.old complaints.new }
+    ensures lost { result ≡ 3 → (report : Report → List ℕ)
+        → texts.now.reports.items ≡ texts_for writers.old.reports.items report
+        → HasLost (record {
+          log = W.contents;
+          report = P.contents;
+          summary = S.contents;
+          messages = E.contents;
+        }) (record {
+          log = merged.now.log;
+          report = report;
+          lines = texts.now.lines;
+          summary = texts.now.summary;
+        }) writers.old writers.new complaints.old complaints.new }
     ensures known { result ≤ 3 }
 {
     if let Err(lost) = put_outputs(writers, &merged.log, texts) {

@@ -15,6 +15,8 @@ ghost use Rattle.sarif_counts.specs.Summary.{summary_of};
 ghost use Rattle.sarif_merge.specs.FromReaders.{IsMergedWith, IsRefusedWith};
 ghost use Rattle.sarif_merge.specs.Given.{given_by};
 ghost use Rattle.sarif_streams.specs.WereRead.{failures, AllTell, NoNumberFalls, SourceContents, WereRead};
+ghost use Rattle.sarif_merge.specs.Life.{IsTooLarge};
+ghost use Rattle.sarif_program.specs.Lost.{HasLost, texts_of_merge};
 ghost use Rattle.sarif_program.specs.Notes.{AreNoted, lines_of};
 ghost use Rattle.sarif_program.specs.Rejected.{IsRejected};
 ghost use Rattle.sarif_program.specs.Reports.{IsWritten, report_for, report_with, reporting_for, texts_for};
@@ -207,6 +209,19 @@ pub fn run_request<R: Read, W: Write, S: Write, P: Write, E: Write, T: Threads +
     ensures rejected { (result ≡ 2) ⊎ (failures readers.new ≡ failures readers.old + 1)
         → (fault : Rejection) × IsRejected R.remaining E.contents «request».now
         readers.old readers.new complaints.old complaints.new result fault }
+    // If the number of a writer rose, the outputs before it were written, and those after it and the summary are
+    // unchanged; the line on this output is reported. A lost summary is not reported.
+    ensures lost { WriterRises writers.old writers.new → (merged : Outcome)
+        × IsMergedWith R.remaining readers.old readers.new
+        «request».now.options.today «request».now.options.checks «request».now.options.policy
+        (reporting_for «request».now writers.old.reports.items) (Some «request».now.upkeep) merged
+        × HasLost (record {
+          log = W.contents;
+          report = P.contents;
+          summary = S.contents;
+          messages = E.contents;
+        }) (texts_of_merge «request».now merged) writers.old writers.new
+        complaints.old complaints.new }
     // An accepted merge reports no error, and writes nothing to `complaints` if nothing is for later merges.
     ensures quiet { result < 2 → complaints.new.last ≡ complaints.old.last }
     ensures silent { result < 2 → «request».now.upkeep.renewal ≡ None
@@ -219,6 +234,11 @@ pub fn run_request<R: Read, W: Write, S: Write, P: Write, E: Write, T: Threads +
         → WereRead R.remaining readers.old readers.new contents
         → (faults_of (given_by contents «request».now.options.today
         «request».now.options.checks) ≡ [] → ⊥) → result ≡ 2 }
+    // Nor is anything written if something that is for later merges would be too large for them.
+    ensures too_large { (contents : SourceContents) → AllTell R.remaining readers.old
+        → WereRead R.remaining readers.old readers.new contents → (fault : Rejection)
+        → IsTooLarge (given_by contents «request».now.options.today «request».now.options.checks)
+        «request».now.options.policy (Some «request».now.upkeep) fault → result ≡ 2 }
     ensures known { result ≤ 3 }
 {
     sources_are_read_in_one_way::<R>();

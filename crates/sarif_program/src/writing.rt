@@ -1,10 +1,12 @@
 //! Writing the outputs of an accepted merge.
-ghost use Rattle.std.specs.Prelude.{◌≡◌, ◌<◌, ◌≤◌, ◌^◌, OnOk, IfErr, is_err, length};
+ghost use Rattle.std.specs.Prelude.{◌≡◌, ◌<◌, ◌≤◌, ◌^◌, ℕ, List, OnErr, OnOk, IfErr, is_err, length};
 ghost use Rattle.std.specs.List.{All};
 ghost use Rattle.std.specs.Io.KnownBytes.{Appends};
 ghost use Rattle.sarif_streams.specs.Counted.{inner_of, failed_calls, RisesIf};
+ghost use Rattle.sarif_reports.specs.declared.report.Report.{Report as Output};
 ghost use Rattle.sarif_streams.specs.Failing.{NoneFalls};
-ghost use Rattle.sarif_program.specs.Reports.{AreTaken, report_failures};
+ghost use Rattle.sarif_program.specs.Lost.{IsCut, IsLostAt, IsLostIn};
+ghost use Rattle.sarif_program.specs.Reports.{AreTaken, report_failures, texts_for};
 ghost use Rattle.sarif_program.specs.Writing.{NoWriterFalls, writer_failures, writers_in};
 
 use crate::telling::Texts;
@@ -30,6 +32,7 @@ fn put_out<W: Write>(out: &mut Counted<W>, text: &[u8]) -> Result<(), Failed>
     requires { failed_calls out.old < 2 ^ 63 }
     ensures whole { OnOk result (Appends (W.contents (inner_of out.old))
         (W.contents (inner_of out.new)) text.now) }
+    ensures cut { OnErr result (IsCut W.contents text.now out.old out.new) }
     ensures counted { RisesIf (is_err result) (failed_calls out.old) (failed_calls out.new) }
 {
     match write_out(out, text) {
@@ -48,6 +51,7 @@ fn put_report<P: Write>(writer: &mut Wanted<Counted<P>>, text: &Text) -> Result<
     ensures taken { OnOk result (Appends (P.contents (inner_of writer.old.to))
         (P.contents (inner_of writer.new.to)) text.now) }
     ensures lost { IfErr result (λ lost. lost ≡ writer.old.report) }
+    ensures cut { OnErr result (IsCut P.contents text.now writer.old.to writer.new.to) }
     ensures counted { RisesIf (is_err result)
         (failed_calls writer.old.to) (failed_calls writer.new.to) }
 {
@@ -63,6 +67,9 @@ fn put_reports<P: Write>(writers: &mut [Wanted<Counted<P>>], texts: &[Text]) -> 
     requires room { All (λ wanted. failed_calls wanted.to < 2 ^ 63) writers.old }
     requires number { length texts.now ≡ length writers.old }
     ensures taken { OnOk result (AreTaken P.contents texts.now writers.old writers.new) }
+    ensures lost { IfErr result (λ lost. (told : Output → List ℕ)
+        → texts.now ≡ texts_for writers.old told
+        → IsLostIn P.contents told writers.old writers.new lost) }
     ensures counted { RisesIf (is_err result)
         (report_failures writers.old) (report_failures writers.new) }
     ensures risen { NoneFalls (writers_in writers.old) (writers_in writers.new) }
@@ -87,6 +94,9 @@ pub(crate) fn put_outputs<W: Write, S, P: Write>(
         (W.contents (inner_of writers.new.out)) log.now) }
     ensures reports { OnOk result (AreTaken P.contents texts.now.reports.items
         writers.old.reports.items writers.new.reports.items) }
+    ensures lost { IfErr result (λ lost. (told : Output → List ℕ)
+        → texts.now.reports.items ≡ texts_for writers.old.reports.items told
+        → IsLostAt W.contents P.contents log.now told writers.old writers.new lost) }
     ensures counted { RisesIf (is_err result)
         (writer_failures writers.old) (writer_failures writers.new) }
     ensures risen { NoWriterFalls writers.old writers.new }
@@ -110,6 +120,8 @@ pub(crate) fn put_summary<W, S: Write, P>(
     requires { failed_calls writers.old.say < 2 ^ 63 }
     ensures summary { OnOk result (Appends (S.contents (inner_of writers.old.say))
         (S.contents (inner_of writers.new.say)) texts.now.summary) }
+    ensures cut { OnErr result (IsCut S.contents texts.now.summary
+        writers.old.say writers.new.say) }
     ensures out { writers.new.out ≡ writers.old.out }
     ensures reports { writers.new.reports ≡ writers.old.reports }
     ensures counted { RisesIf (is_err result)

@@ -1,4 +1,4 @@
-use Rattle.std.proofs.Common.{◌≡◌, ◌∙◌, List, ℕ, Ok, ap, arith, refl, rules, subst}
+use Rattle.std.proofs.Common.{◌≡◌, arith, refl, rules, subst}
 use Rattle.std.proofs.lemmas.Result.{IfErr-weaker, IfOk-weaker, err_from_is_err_and}
 use Rattle.sarif_counts.specs.declared.counts.Counts.{Counts}
 use Rattle.sarif_counts.specs.Counts.{count_at}

@@ -6,15 +6,19 @@ use Rattle.sarif_inputs.specs.Faults.{faults_of}
 use Rattle.sarif_merge.specs.Given.{given_by}
 use Rattle.sarif_streams.proofs.ReadersRead.{were_read_quiet}
 use Rattle.sarif_merge.specs.FromReaders.{IsMergedWith}
+use Rattle.sarif_merge.specs.Life.{IsTooLarge}
+use Rattle.sarif_model.specs.FirstFault.{first}
 use Rattle.sarif_request.specs.declared.wanted.Wanted.{Wanted}
 use Rattle.sarif_streams.specs.declared.counted.Counted.{Counted}
 use Rattle.sarif_streams.specs.Counted.{inner_of, RisesIf}
 use Rattle.sarif_streams.specs.WereRead.{failures}
+use Rattle.sarif_program.specs.Lost.{Held}
 use Rattle.sarif_program.specs.Notes.{AreNoted}
 use Rattle.sarif_program.specs.Reports.{report_for, reporting_for, texts_for}
 use Rattle.sarif_program.specs.Writing.{writer_failures}
 use Rattle.sarif_program.proofs.Quiet.{low_status, quiet_status, no_rise, refused_rise}
-use Rattle.sarif_program.proofs.Rising.{exactly, no_writer_has_fallen}
+use Rattle.sarif_program.proofs.Lost.{lost_with, none_found}
+use Rattle.sarif_program.proofs.Rising.{exactly, no_writer_has_fallen, none_rises}
 use Rattle.sarif_program.proofs.SameFacts.{no_lines}
 use Rattle.sarif_program.proofs.run.run_request.Goals as goal
 
@@ -96,8 +100,7 @@ returns-in-Err-clause-rejected g c = λ which. (
   record {
     refused = c.in-Err.ensures.refused;
     exits = c.refuse.ensures.status;
-    last = c.refuse.ensures.told;
-    line = c.refuse.ensures.line;
+    said = c.refuse.ensures.told;
   },
 )
 
@@ -119,3 +122,42 @@ returns-in-Err-clause-silent g c = λ low. absurd (low_status c.in-Err.fault.cau
 
 pub returns-in-Err-clause-risen : goal.returns-in-Err-clause-risen
 returns-in-Err-clause-risen g c = (c.in-Err.ensures.risen, no_writer_has_fallen c.args.writers.now)
+
+pub returns-in-Ok-clause-lost : goal.returns-in-Ok-clause-lost
+returns-in-Ok-clause-lost g c = λ rises.
+    let merged = c.in-Ok.merged in
+    let request = c.args.request.now in
+    let old = c.args.writers.now in
+    let new = c.accept.new.writers in
+    let before = failures c.args.readers.now in
+    let after = failures c.merge_for.new.readers in
+    let rise : RisesIf (nat_eq c.accept.result 3) (before + writer_failures old) (after + writer_failures new) =
+    omega (arith, c.in-Ok.ensures.read_failed, c.accept.ensures.failed) in
+    let one = exactly c.accept.result c.args.readers.now c.merge_for.new.readers old new rise c.in-Ok.ensures.risen c.accept.ensures.risen in
+    let same = c.as_slice.ensures.value in
+    let texts = subst (λ (writers : List (Wanted (Counted g.row.P.Denot))). c.in-Ok.texts.reports.items ≡ texts_for writers (report_for request merged)) same c.in-Ok.ensures.reports in
+    let held : Held g.row.W.Denot g.row.S.Denot g.row.P.Denot g.row.E.Denot = record { log = g.W.Write.contents; report = g.P.Write.contents; summary = g.S.Write.contents; messages = g.E.Write.contents } in
+    let said = c.accept.ensures.lost (one.1 (inr rises)) (report_for request merged) texts in (
+      merged,
+      subst (λ (writers : List (Wanted (Counted g.row.P.Denot))). IsMergedWith g.R.Read.remaining c.args.readers.now c.merge_for.new.readers
+          request.options.today request.options.checks request.options.policy (reporting_for request writers) (Some request.upkeep) merged) same c.in-Ok.ensures.merged,
+      lost_with held merged.log (report_for request merged) old new c.args.complaints.now c.accept.new.complaints _ _ _ _ c.in-Ok.ensures.lines c.in-Ok.ensures.summary said,
+    )
+
+pub returns-in-Err-clause-lost : goal.returns-in-Err-clause-lost
+returns-in-Err-clause-lost g c = λ rises. absurd (none_rises c.args.writers.now rises)
+
+pub returns-in-Ok-clause-too_large : goal.returns-in-Ok-clause-too_large
+returns-in-Ok-clause-too_large g c = λ contents tell read fault large.
+    let request = c.args.request.now in
+    let from = c.in-Ok.ensures.merged in
+    let same = c.sources_are_read_in_one_way.ensures _ _ contents from.0 tell read from.1 in
+    let is : IsTooLarge (given_by from.0 request.options.today request.options.checks) request.options.policy (Some request.upkeep) fault =
+    subst (λ x. IsTooLarge (given_by x request.options.today request.options.checks) request.options.policy (Some request.upkeep) fault) same large in
+    absurd (none_found fault (sym (ap first from.3.faultless) ∙ is))
+
+pub returns-in-Err-clause-too_large : goal.returns-in-Err-clause-too_large
+returns-in-Err-clause-too_large g c = λ contents tell read fault large.
+    let calm = were_read_quiet g.R.Read.remaining _ _ contents read in
+    c.refuse.ensures.status
+    ∙ quiet_status c.in-Err.fault.cause (no_rise _ _ _ c.in-Err.ensures.read_failed calm) c.in-Err.ensures.unwritten

@@ -1,4 +1,4 @@
-use Rattle.std.proofs.Common.{◌≡◌, List, [], ℕ, map, rules}
+use Rattle.std.proofs.Common.{◌≡◌, [], map, rules}
 use Rattle.std.specs.Prelude.{Ok}
 use Rattle.std.proofs.lemmas.Result.{IfOk-weaker}
 use Rattle.sarif_reports.specs.declared.report.Report.{Report}

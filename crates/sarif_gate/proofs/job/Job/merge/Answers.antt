@@ -6,8 +6,10 @@ pub returns : goal.returns
 returns g c =
     let job = c.args.self in
     record {
-      old = record { readers = job.readers; writers = job.writers };
-      new = record { readers = c.merge_streams.new.readers; writers = c.merge_streams.new.writers };
+      readers = job.readers;
+      after = c.merge_streams.new.readers;
+      writers = job.writers;
+      done = c.merge_streams.new.writers;
       named = record {
         logs = job.logs;
         baselines = job.baselines;

@@ -19,6 +19,7 @@ returns-then-not-is_empty g c =
       whole = λ quiet. whole lines result _ _ before after all c.write_out.ensures.counted quiet;
       prefix = told lines result before after all part;
       last = refl;
+      explained = refl;
       none = λ empty.
           let full : (length lines == 0) ≡ false = search rules in
           let not : (length lines == 0) ≡ true = ap (λ (text : List ℕ). length text == 0) empty in
