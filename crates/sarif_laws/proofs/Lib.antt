@@ -1,0 +1,10 @@
+pub mod Counted
+pub mod Lists
+pub mod Read
+pub mod Places
+pub mod FileAfter
+pub mod Left
+pub mod Absent
+pub mod Accepted
+pub mod Pruned
+pub mod LineFeeds
