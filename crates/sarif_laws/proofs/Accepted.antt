@@ -1,6 +1,6 @@
 -- The law of accepting.
-use Rattle.std.proofs.Common.{◌≡◌, ◌+◌, ◌-◌, ◌<◌, ◌≤◌, ◌++◌, ℕ, Bool, true, false, List, [], length, get_or, length-append, Option, Some, None, Ok, Result, codes, bytes_eq, refl, sym, ap, subst, ◌∙◌, arith, if◌then◌else◌}
-use Rattle.std.specs.Prelude.{IfSome, count_by, flat_map, nat_lt}
+use Rattle.std.proofs.Common.{◌≡◌, ◌+◌, ◌-◌, ◌<◌, ◌≤◌, ℕ, Bool, true, false, List, [], length, get_or, length-append, Option, Some, None, Ok, Result, codes, bytes_eq, refl, sym, ap, subst, ◌∙◌, arith, if◌then◌else◌}
+use Rattle.std.specs.Prelude.{count_by, flat_map, nat_lt}
 use Rattle.std.specs.List.{AllByRecursion}
 use Rattle.std.proofs.lemmas.Bool.{ltb-true, ltb-false}
 use Rattle.std.proofs.lemmas.List.{get_or_append_left, get_or-append_right, get_or_past}
@@ -13,12 +13,11 @@ use Rattle.sarif_counts.specs.declared.policy.Policy.{Policy}
 use Rattle.sarif_counts.specs.declared.policy.Verdict.TheVariants.{Pass, Fail}
 use Rattle.sarif_counts.specs.declared.upkeep.Renewal.{Renewal}
 use Rattle.sarif_counts.specs.CountOf.{count_of}
-use Rattle.sarif_counts.specs.Policy.{hits_of, verdict_of}
+use Rattle.sarif_counts.specs.Policy.{hits_of}
 use Rattle.sarif_match.specs.State.{is_unchanged, state_of}
 use Rattle.sarif_model.specs.declared.kinds.State.TheVariants.{Unchanged, Updated}
 use Rattle.sarif_runs.specs.Judging.{records_of, run_values}
 use Rattle.sarif_runs.specs.Record.{record_of}
-use Rattle.sarif_suppress.specs.Entries.{is_day}
 use Rattle.sarif_inputs.specs.Faults.{faults_of}
 use Rattle.sarif_inputs.specs.Inputs.{Inputs, baseline_runs, input_runs}
 use Rattle.sarif_log.specs.LogBy.{listing_of, states_of, taken_of}
@@ -39,7 +38,7 @@ use Rattle.sarif_laws.proofs.Counted.{hits_counted}
 use Rattle.sarif_laws.proofs.FileAfter.{faultless_later, later_file, later_is, same_today}
 use Rattle.sarif_laws.proofs.Left.{left_by, left_same}
 use Rattle.sarif_laws.proofs.Lists.{all_at, same_counts}
-use Rattle.sarif_laws.proofs.Places.{HasPlace, has_place}
+use Rattle.sarif_laws.proofs.Places.{has_place}
 use Rattle.sarif_laws.proofs.Read.{record_read}
 
 one_record : (a b : Record) → ◌≡◌ {A = Result Record Fault} (Ok a) (Ok b) → a ≡ b

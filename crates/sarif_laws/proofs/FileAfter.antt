@@ -1,9 +1,8 @@
 -- The new suppression file of inputs without errors is read as the file that was meant.
-use Rattle.std.proofs.Common.{◌≡◌, ℕ, ◌≤◌, ◌<◌, ◌++◌, Bool, true, false, ◌&&◌, not, List, [], ◌∷◌, length, map, Option, Some, None, Result, Ok, Err, refl, sym, ap, ◌∙◌, subst, if◌then◌else◌}
+use Rattle.std.proofs.Common.{◌≡◌, ℕ, ◌≤◌, ◌++◌, Bool, true, false, ◌&&◌, not, List, [], ◌∷◌, Option, Some, None, Result, Ok, Err, refl, ap, ◌∙◌, if◌then◌else◌}
 use Rattle.std.specs.Prelude.{nat_lt}
 use Rattle.std.specs.List.{AllByRecursion, list_any}
 use Rattle.std.proofs.lemmas.Bool.{ltb-false}
-use Rattle.serde_json.specs.Data.{Data}
 use Rattle.sarif_model.specs.declared.kinds.State.{State}
 use Rattle.sarif_model.specs.declared.merge_fault.MergeFault.{MergeFault}
 use Rattle.sarif_model.specs.declared.merge_fault.Source.TheVariants.{Log, Baseline}
@@ -22,8 +21,8 @@ use Rattle.sarif_runs.specs.Judging.{faults_of_runs}
 use Rattle.sarif_merge.specs.Life.{merge_in}
 use Rattle.sarif_merge.specs.MergedLog.{current_of, file_given, file_in}
 use Rattle.sarif_merge.specs.OwnResult.{baseline_of}
-use Rattle.sarif_upkeep.specs.Renewed.{added_in, entries_count, how_of, renewal_faults, rules_after}
-use Rattle.sarif_accept.specs.Adding.{Counts, accepted_among, added_for, file_after, is_hit, is_said, may_hit, once_each, stays}
+use Rattle.sarif_upkeep.specs.Renewed.{entries_count, how_of, renewal_faults}
+use Rattle.sarif_accept.specs.Adding.{Counts, accepted_among, file_after, is_hit, is_said, may_hit, once_each, stays}
 use Rattle.sarif_accept.specs.Given as accept
 use Rattle.sarif_accept.specs.Until.{HasGuid, IsDated}
 use Rattle.sarif_accept.proofs.GivenFile.{today_given}

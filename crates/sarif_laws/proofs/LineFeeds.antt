@@ -1,7 +1,6 @@
 -- The list of unused entries has a line for each of them.
-use Rattle.std.proofs.Common.{◌≡◌, ◌<◌, ◌≤◌, ◌==◌, ◌^◌, ◌+◌, ◌%◌, ℕ, suc, Bool, true, false, not, cond, List, [], ◌∷◌, ◌++◌, length, Option, Some, None, Result, Ok, Err, codes, chars, decimal, encode_utf8, if◌then◌else◌, refl, ap, sym, subst, ◌∙◌, arith, true≢false}
+use Rattle.std.proofs.Common.{◌≡◌, ◌<◌, ◌≤◌, ◌==◌, ◌^◌, ◌+◌, ◌%◌, ℕ, suc, Bool, true, false, cond, List, [], ◌∷◌, ◌++◌, length, Option, Some, None, Ok, codes, chars, decimal, if◌then◌else◌, refl, ap, sym, subst, ◌∙◌, arith, true≢false}
 use Rattle.std.specs.Prelude.{⊤, count_by, encode_utf8_all, nat_le}
-use Rattle.std.specs.List.{list_all}
 use Rattle.std.proofs.lemmas.Bool.{and_parts, eqb-true, leb-true, ne_eqb}
 use Rattle.std.proofs.lemmas.Fmt.{decimal_by_steps}
 use Rattle.std.proofs.lemmas.List.Sums.{sum_by-append, sum_by-cons}
@@ -21,14 +20,14 @@ use Rattle.sarif_suppress.specs.Entries.{entry_of, unless_fault}
 use Rattle.sarif_suppress.specs.FileFault.{whole}
 use Rattle.sarif_suppress.specs.File.{File, check_count, check_list, check_version, entries_from, file_of, file_of_value, value_or}
 use Rattle.sarif_suppress.specs.Matching.{is_expired}
-use Rattle.sarif_suppress.specs.Suppressing.{is_unused, unused_of}
+use Rattle.sarif_suppress.specs.Suppressing.{is_unused}
 use Rattle.sarif_findings.specs.Shown.{shown, shown_chars}
 use Rattle.sarif_findings.specs.ShownLaws.{are_seen, is_seen}
 use Rattle.sarif_findings.proofs.HighBytes.{char_kept, high_apart}
 use Rattle.sarif_findings.proofs.SeenMore.{shown_seen}
 use Rattle.sarif_accept.specs.NewFile.{entries_in, file_object}
-use Rattle.sarif_accept.specs.Unused.{head_of, line_of, lines_from, reason_of, unused_text}
-use Rattle.sarif_inputs.specs.Faults.{faults_of, file_or_none}
+use Rattle.sarif_accept.specs.Unused.{head_of, line_of, lines_from, reason_of}
+use Rattle.sarif_inputs.specs.Faults.{faults_of}
 use Rattle.sarif_inputs.specs.Inputs.{Inputs}
 use Rattle.sarif_merge.specs.Life.{merge_in}
 use Rattle.sarif_merge.specs.MergedLog as log

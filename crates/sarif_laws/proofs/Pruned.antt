@@ -1,9 +1,9 @@
 -- The law of pruning.
-use Rattle.std.proofs.Common.{◌≡◌, ◌+◌, ◌<◌, ◌++◌, ℕ, zero, suc, Bool, true, false, not, ◌&&◌, cond, List, [], ◌∷◌, length, map, take, drop, get_or, Option, None, refl, sym, ap, ap₂, subst, ◌∙◌, arith, append-nil, if◌then◌else◌, true≢false}
-use Rattle.std.specs.Prelude.{Contains, Some, count_by, filter}
+use Rattle.std.proofs.Common.{◌≡◌, ◌+◌, ◌<◌, ◌++◌, ℕ, zero, suc, Bool, true, false, cond, List, [], ◌∷◌, length, take, drop, get_or, Option, None, refl, sym, ap, ap₂, subst, ◌∙◌, arith, append-nil, if◌then◌else◌, true≢false}
+use Rattle.std.specs.Prelude.{Some, count_by, filter}
 use Rattle.std.specs.List.{AllByRecursion}
 use Rattle.std.proofs.lemmas.List.Sums.{sum_by-cons}
-use Rattle.serde_json.specs.Data.{Data, null, boolean, number, string, array, object, Items, Members}
+use Rattle.serde_json.specs.Data.{Data, null, boolean, number, string, array, object, Items}
 use Rattle.serde_json.specs.View.{items_of}
 use Rattle.sarif_model.specs.declared.kinds.State.{State}
 use Rattle.sarif_model.specs.declared.record.Record.{Record}
@@ -17,25 +17,23 @@ use Rattle.sarif_runs.specs.Judging.{run_values}
 use Rattle.sarif_results.specs.Annotated.{annotated_members, own_suppressions}
 use Rattle.sarif_results.specs.Drafts.{Listing}
 use Rattle.sarif_suppress.specs.declared.entry.Entry.{Entry}
-use Rattle.sarif_suppress.specs.File.{File}
 use Rattle.sarif_suppress.specs.Matching.{is_expired}
-use Rattle.sarif_suppress.specs.Suppressing.{is_unused, unused_of}
-use Rattle.sarif_suppress.specs.Written.{suppressions_of}
+use Rattle.sarif_suppress.specs.Suppressing.{is_unused}
 use Rattle.sarif_inputs.specs.Faults.{faults_of}
 use Rattle.sarif_inputs.specs.Inputs.{Inputs, input_runs}
 use Rattle.sarif_log.specs.LogBy.{listing_of, states_of}
 use Rattle.sarif_log.specs.MergedRuns.{annotated_items, bare, merged_run, merged_runs, own_results, with_results, written, written_all}
 use Rattle.sarif_merge.specs.Life.{merge_in}
-use Rattle.sarif_merge.specs.MergedLog.{current_of, file_given, runs_written, unused_in, written_inputs}
+use Rattle.sarif_merge.specs.MergedLog.{current_of, file_given, runs_written, written_inputs}
 use Rattle.sarif_merge.specs.OwnResult.{baseline_of}
 use Rattle.sarif_upkeep.specs.Heard.{heard}
 use Rattle.sarif_upkeep.specs.Renewed.{how_of, kept_in, renewal_faults, rules_after, text_faults, values_added}
-use Rattle.sarif_accept.specs.Adding.{How, file_after, may_hit}
+use Rattle.sarif_accept.specs.Adding.{How, may_hit}
 use Rattle.sarif_accept.specs.Keeping.{is_kept}
 use Rattle.sarif_accept.specs.NewFile.{entries_after, file_object, new_file}
 use Rattle.sarif_accept.proofs.After.{same_list, unused_stays}
 use Rattle.sarif_laws.specs.NextMerge.{IsNewFile, absent_written, with_file}
-use Rattle.sarif_laws.specs.Pruning.{ChangesNoResult, IsUnusedIn}
+use Rattle.sarif_laws.specs.Pruning.{ChangesNoResult}
 use Rattle.sarif_laws.proofs.FileAfter.{faultless_later, later_file, later_is, same_today}
 use Rattle.sarif_laws.proofs.Lists.{all_drop, all_placed, all_take}
 
@@ -167,5 +165,5 @@ module _ (inputs : Inputs) (policy : Policy) (renewal : Renewal) (text : List �
     verdict = λ any. ap (λ runs. verdict_of (count_of runs) any) same_log;
     unused = λ e unused. unused_now e unused.0.0 unused.0.1 unused.0.2 unused.1;
     none_unused = λ all. none_counted (is_unused (file_given (with_file inputs text)) (current_of inputs)) (file_given (with_file inputs text)).entries
-    (λ e i within at. used_by (is_unused (file_given (with_file inputs text)) (current_of inputs) e) e i within at (all e (i, within, at)) refl);
+        (λ e i within at. used_by (is_unused (file_given (with_file inputs text)) (current_of inputs) e) e i within at (all e (i, within, at)) refl);
   }

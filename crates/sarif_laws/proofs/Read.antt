@@ -1,8 +1,8 @@
 -- What is known of the record of a result that was read: its GUID, and the statuses of its own suppressions.
-use Rattle.std.proofs.Common.{◌≡◌, ℕ, ◌<◌, ◌^◌, Bool, true, false, ◌&&◌, ◌++◌, List, [], ◌∷◌, map, Option, Some, None, codes, refl, sym, subst, if◌then◌else◌}
+use Rattle.std.proofs.Common.{◌≡◌, ℕ, ◌<◌, ◌^◌, Bool, true, false, ◌&&◌, List, [], ◌∷◌, map, Option, Some, None, codes, refl, subst, if◌then◌else◌}
 use Rattle.std.specs.Prelude.{Result, Ok, Err, IfSome, option_and_then}
 use Rattle.std.specs.List.{AllByRecursion, range_with_len}
-use Rattle.serde_json.specs.Data.{Data, null, boolean, number, string, array, object, Items, Members}
+use Rattle.serde_json.specs.Data.{Data, null, boolean, number, string, array, object, Members}
 use Rattle.serde_json.specs.Find.{as_array, as_str, get_member}
 use Rattle.sarif_model.specs.declared.fault.Fault.{Fault}
 use Rattle.sarif_model.specs.declared.fault.Fault.TheVariants.{BadGuid, BadSuppression}
@@ -10,12 +10,11 @@ use Rattle.sarif_model.specs.declared.kinds.Status.{Status}
 use Rattle.sarif_model.specs.declared.record.Record.{Record}
 use Rattle.sarif_model.specs.Guid.{guid_of_text}
 use Rattle.sarif_model.specs.Members.{◌>>=◌, are_objects, elements, elements_of, if_objects, member_at, of_kind, or_wrong, read_each, unless_null}
-use Rattle.sarif_model.specs.Run.{is_absent_result, result_at, results_of}
+use Rattle.sarif_model.specs.Run.{is_absent_result, result_at}
 use Rattle.sarif_model.specs.Suppression.{status_of}
 use Rattle.sarif_counts.specs.CountOf.{items_in}
 use Rattle.sarif_read.proofs.WholeRuns.{bind_ok}
 use Rattle.sarif_runs.specs.declared.head.RunHead.{RunHead}
-use Rattle.sarif_runs.specs.declared.item.Item.{Item}
 use Rattle.sarif_runs.specs.declared.item.Item.TheVariants.{Skipped}
 use Rattle.sarif_runs.specs.declared.parts.Parts.{Parts}
 use Rattle.sarif_runs.specs.Descriptor.{descriptor_of, reference_of}
