@@ -1,14 +1,15 @@
 //! Laws of whole merges, each the contract of a function that does nothing.
 ghost use Rattle.std.specs.Prelude.{◌≡◌, ℕ, List, [], true, false, count_by, flat_map};
+ghost use Rattle.std.specs.Str.{IsUtf8};
 ghost use Rattle.serde_json.specs.Data.{Data};
 ghost use Rattle.sarif_model.specs.Run.{results_of};
 ghost use Rattle.sarif_counts.specs.declared.policy.Policy.{Policy};
 ghost use Rattle.sarif_counts.specs.declared.upkeep.Renewal.{Renewal};
 ghost use Rattle.sarif_counts.specs.CountOf.{count_of};
 ghost use Rattle.sarif_counts.specs.Policy.{hits_of};
-ghost use Rattle.sarif_accept.specs.Until.{IsUntil};
+ghost use Rattle.sarif_accept.specs.Until.{IsDated, IsUntil};
 ghost use Rattle.sarif_upkeep.specs.Life as life;
-ghost use Rattle.sarif_upkeep.specs.Renewed.{renewal_faults};
+ghost use Rattle.sarif_upkeep.specs.Renewed.{renewal_faults, renewed};
 ghost use Rattle.sarif_inputs.specs.Faults.{faults_of};
 ghost use Rattle.sarif_inputs.specs.Inputs.{Inputs};
 ghost use Rattle.sarif_merge.specs.Life.{merge_in};
@@ -23,6 +24,15 @@ ghost use Rattle.sarif_laws.specs.Pruning.{ChangesNoResult};
 pub fn the_gate_counts_the_hits()
     ensures { (policy : Policy) (runs : List Data)
         → hits_of (count_of runs) policy ≡ count_by (is_hit_in policy) (flat_map results_of runs) }
+{}
+
+/// The text that a merge gives as its new suppression file is read as the new file, if it is UTF-8, as each string is. An
+/// expiry date must be a date, if there is one, and today's date be known then.
+pub fn the_new_file_is_read_as_itself()
+    ensures { (inputs : Inputs) (policy : Policy) (renewal : Renewal)
+        → IsDated inputs.today renewal.until
+        → IsUtf8 (renewed (merge_in inputs policy) renewal).text
+        → IsNewFile inputs policy renewal (renewed (merge_in inputs policy) renewal).text }
 {}
 
 /// The law of accepting. Let inputs have no errors, and let their new suppression file have none, with accepting, with
