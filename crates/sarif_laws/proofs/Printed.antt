@@ -7,7 +7,7 @@ use Rattle.json.specs.Print.{ArePrintable, begins, ends, separator, token_text}
 use Rattle.json.specs.Spaced.{AreGaps, IsGap, print_spaced}
 use Rattle.json.proofs.Printed.Tokens.{tokens-print_spaced}
 
--- each token with what stands before it
+-- each token with the gap before it
 abbrev spaced : Last × ℕ → List Token → List (List ℕ × Token)
 spaced s [] = []
 spaced s (t ∷ ts) = (gap s.0 (begins t) (depth_at s.1 t), t) ∷ spaced (step s t) ts
