@@ -36,6 +36,7 @@ def results(word):
 
 NOW = log({**RUN, "results": results("now")}, run("b", plain()), run("lint"))
 NO_RESULTS = {"tool": {"driver": {"name": "c"}}}
+NO_TOOL = log({"tool": {"driver": {"name": "b"}}})
 BEFORE = log({**RUN, "results": results("before")[::-1]}, run("b"), NO_RESULTS)
 ENTRIES = rules(
     {"ruleId": "R2", "justification": "checked by hand"},
@@ -115,6 +116,22 @@ def outputs():
     yield Case("memory", "standard input and output", stdin=NOW, status=1)
 
 
+def later_merges():
+    """What is made for later merges: the new suppression file and the unused entries, or the known log."""
+    accept = ["--accept", "--prune", "--reason", "ticket 17", "--until", "20270101"]
+    renew = [*accept, "--suppress-out", "n", "--unused", "u", "--fail-on", "note", *DAY]
+    know = ["--known", "k", *DAY]
+    old = {**OLD_OUTPUT, "n": OLD, "u": OLD, "k": OLD}
+    given = {"suppress": ENTRIES, "old": old}
+    unheard = log(run("b", ruled(), plain()))
+    renewed = {"status": 1, "stderr": b"sarif_gate: 1 accepted, 2 stay, 1 pruned, 8 entries\n"}
+    known = {"stderr": b"sarif_gate: 7 known, 1 left out, 1 kept\n"}
+    for workers in (1, 4):
+        yield memory("accepting", [NOW, ONE], workers, more=renew, **renewed, **given)
+        baselines = {"baselines": [BEFORE, unheard], **known, **given}
+        yield memory("a known log", [NOW, NO_TOOL], workers, more=know, **baselines)
+
+
 def cases():
-    for part in (merges, refusals, words, outputs):
+    for part in (merges, refusals, words, outputs, later_merges):
         yield from part()

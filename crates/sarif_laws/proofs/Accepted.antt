@@ -1,0 +1,184 @@
+-- The law of accepting.
+use Rattle.std.proofs.Common.{◌≡◌, ◌+◌, ◌-◌, ◌<◌, ◌≤◌, ℕ, Bool, true, false, List, [], length, get_or, length-append, Option, Some, None, Ok, Result, codes, bytes_eq, refl, sym, ap, subst, ◌∙◌, arith, if◌then◌else◌}
+use Rattle.std.specs.Prelude.{count_by, flat_map, nat_lt}
+use Rattle.std.specs.List.{AllByRecursion}
+use Rattle.std.proofs.lemmas.Bool.{ltb-true, ltb-false}
+use Rattle.std.proofs.lemmas.List.{get_or_append_left, get_or-append_right, get_or_past}
+use Rattle.serde_json.specs.Data.{Data, null}
+use Rattle.sarif_model.specs.declared.fault.Fault.{Fault}
+use Rattle.sarif_model.specs.declared.record.Record.{Record}
+use Rattle.sarif_model.specs.Run.{result_at, results_of}
+use Rattle.sarif_model.specs.State.{state_name}
+use Rattle.sarif_counts.specs.declared.policy.Policy.{Policy}
+use Rattle.sarif_counts.specs.declared.policy.Verdict.TheVariants.{Pass, Fail}
+use Rattle.sarif_counts.specs.declared.upkeep.Renewal.{Renewal}
+use Rattle.sarif_counts.specs.CountOf.{count_of}
+use Rattle.sarif_counts.specs.Policy.{hits_of}
+use Rattle.sarif_match.specs.State.{is_unchanged, state_of}
+use Rattle.sarif_model.specs.declared.kinds.State.TheVariants.{Unchanged, Updated}
+use Rattle.sarif_runs.specs.Judging.{records_of, run_values}
+use Rattle.sarif_runs.specs.Record.{record_of}
+use Rattle.sarif_inputs.specs.Faults.{faults_of}
+use Rattle.sarif_inputs.specs.Inputs.{Inputs, baseline_runs, input_runs}
+use Rattle.sarif_log.specs.LogBy.{listing_of, states_of, taken_of}
+use Rattle.sarif_log.specs.MergedRuns.{written}
+use Rattle.sarif_merge.specs.Life.{merge_in}
+use Rattle.sarif_merge.specs.MergedLog.{current_of, file_given, runs_written, written_inputs}
+use Rattle.sarif_merge.specs.OwnResult.{IsResult, baseline_of, number_among_all, partner_at, run_at, written_by, written_run}
+use Rattle.sarif_merge.proofs.OwnResult.{own_result, results_same, runs_same}
+use Rattle.sarif_upkeep.specs.Renewed.{how_of, renewal_faults}
+use Rattle.sarif_accept.specs.Adding.{may_hit}
+use Rattle.sarif_accept.specs.Until.{IsDated, IsUntil}
+use Rattle.sarif_accept.proofs.After.{hits_after, list_begins, still_suppressed}
+use Rattle.sarif_laws.specs.Accepting.{IsLeft, LeavesWhatStays}
+use Rattle.sarif_laws.specs.Hits.{is_hit_in, stays_in}
+use Rattle.sarif_laws.specs.NextMerge.{IsNewFile, absent_written, merged_result, merged_run_at, with_file}
+use Rattle.sarif_laws.proofs.Absent.{StaysIfHit, absent_stay}
+use Rattle.sarif_laws.proofs.Counted.{hits_counted}
+use Rattle.sarif_laws.proofs.FileAfter.{faultless_later, later_file, later_is, same_today}
+use Rattle.sarif_laws.proofs.Left.{left_by, left_same}
+use Rattle.sarif_laws.proofs.Lists.{all_at, same_counts}
+use Rattle.sarif_laws.proofs.Places.{has_place}
+use Rattle.sarif_laws.proofs.Read.{record_read}
+
+one_record : (a b : Record) → ◌≡◌ {A = Result Record Fault} (Ok a) (Ok b) → a ≡ b
+one_record a b is = cc
+
+-- a current result isn't absent
+current_state : (r : Record) (partner : Option Record) → bytes_eq (codes "absent") (state_name (state_of r partner)) ≡ false
+current_state r None = refl
+current_state r (Some other) =
+    elim (is_unchanged r other) as (λ b. bytes_eq (codes "absent") (state_name (if b then Unchanged else Updated)) ≡ false) [ true ↦ refl | false ↦ refl ]
+
+dated_until : (today until : Option ℕ) → IsUntil today until → IsDated today until
+dated_until today None is = tt
+dated_until today (Some last) is = (is.0, is.1, is.2)
+
+-- ---- the runs of a merged log
+
+-- an input run
+pub input_run : (inputs : Inputs) (k : ℕ) → k < length (input_runs inputs) → merged_run_at inputs k ≡ written_run inputs k
+input_run inputs k there = get_or_append_left (written_inputs inputs) (absent_written inputs) null k (omega (arith, there, runs_same inputs))
+
+-- a run of absent results
+pub absent_run : (inputs : Inputs) (k : ℕ) → length (input_runs inputs) ≤ k → merged_run_at inputs k ≡ get_or (absent_written inputs) (k - length (input_runs inputs)) null
+absent_run inputs k past = get_or-append_right (written_inputs inputs) (absent_written inputs) (length (input_runs inputs)) k null (runs_same inputs) past
+
+pub runs_long : (inputs : Inputs) → length (runs_written inputs) ≡ length (input_runs inputs) + length (absent_written inputs)
+runs_long inputs = length-append (written_inputs inputs) (absent_written inputs) ∙ ap (λ n. n + length (absent_written inputs)) (runs_same inputs)
+
+-- past the results of an input run
+no_result : (inputs : Inputs) (k seq : ℕ) → k < length (input_runs inputs) → length (results_of (run_at inputs k)) ≤ seq → result_at (written_run inputs k) seq ≡ null
+no_result inputs k seq there past = get_or_past (results_of (written_run inputs k)) seq null (omega (arith, past, results_same inputs k there))
+
+module _ (inputs : Inputs) (text : List ℕ) where
+  -- another suppression file changes neither how many runs there are, nor how many results they have
+  pub same_runs : length (runs_written (with_file inputs text)) ≡ length (runs_written inputs)
+  same_runs = runs_long (with_file inputs text) ∙ sym (runs_long inputs)
+
+  pub same_results : (k : ℕ) → length (results_of (merged_run_at (with_file inputs text) k)) ≡ length (results_of (merged_run_at inputs k))
+  same_results k = by_place (nat_lt k (length (input_runs inputs))) refl
+    where
+      by_place : (b : Bool) → nat_lt k (length (input_runs inputs)) ≡ b → length (results_of (merged_run_at (with_file inputs text) k)) ≡ length (results_of (merged_run_at inputs k))
+      by_place true is =
+          let there = ltb-true k (length (input_runs inputs)) is in
+          ap (λ run. length (results_of run)) (input_run (with_file inputs text) k there) ∙ results_same (with_file inputs text) k there
+          ∙ sym (results_same inputs k there) ∙ ap (λ run. length (results_of run)) (sym (input_run inputs k there))
+      by_place false is =
+          let past = ltb-false k (length (input_runs inputs)) is in
+          ap (λ run. length (results_of run)) (absent_run (with_file inputs text) k past) ∙ ap (λ run. length (results_of run)) (sym (absent_run inputs k past))
+
+module _ (inputs : Inputs) (policy : Policy) (renewal : Renewal) (text : List ℕ) (none : faults_of inputs ≡ []) (small : renewal_faults (merge_in inputs policy) renewal ≡ [])
+    (accepts : renewal.accept ≡ true) (until : IsUntil inputs.today renewal.until) (is : IsNewFile inputs policy renewal text) where
+  dated : IsDated inputs.today renewal.until
+  dated = dated_until inputs.today renewal.until until
+
+  later_none : faults_of (with_file inputs text) ≡ []
+  later_none = faultless_later inputs policy renewal text none small dated is
+
+  -- the same result in the next merge
+  later_result : (k seq : ℕ) (r : Record) → IsResult inputs k seq → record_of (run_at inputs k) seq ≡ Ok r
+      → result_at (written_run (with_file inputs text) k) seq
+      ≡ written (listing_of (later_file inputs policy renewal)) r (state_of r (partner_at inputs (number_among_all inputs k seq))) (result_at (run_at inputs k) seq)
+  later_result k seq r there read =
+      let own = own_result (with_file inputs text) k seq later_none there in
+      let place = number_among_all inputs k seq in
+      let d = result_at (run_at inputs k) seq in
+      own.2
+      ∙ ap (λ x. written (listing_of (file_given (with_file inputs text))) x (state_of x (partner_at inputs place)) d) (one_record own.0 r (sym own.1 ∙ read))
+      ∙ ap (λ file. written (listing_of file) r (state_of r (partner_at inputs place)) d) (later_is inputs policy renewal text none small dated is)
+
+  left_current : (k seq : ℕ) → IsResult inputs k seq → IsLeft policy (result_at (written_run inputs k) seq) (result_at (written_run (with_file inputs text) k) seq)
+  left_current k seq there =
+      let own = own_result inputs k seq none there in
+      let r = own.0 in
+      let file = file_given inputs in
+      let rs = current_of inputs in
+      let states = states_of rs (baseline_of inputs) in
+      let place = number_among_all inputs k seq in
+      let state = state_of r (partner_at inputs place) in
+      let at = has_place inputs k seq r none there own.1 in
+      let how = how_of (merge_in inputs policy) renewal in
+      let until_file : IsUntil file.today renewal.until = subst (λ today. IsUntil today renewal.until) (sym (same_today inputs none)) until in
+      let left =
+      left_by policy r state file (later_file inputs policy renewal) (hits_after how (may_hit policy) file rs states r state place at.in_records at.in_states at.record_is at.state_is accepts until_file)
+      (still_suppressed how (may_hit policy) file rs states r place at.in_records at.record_is) (λ given. list_begins how (may_hit policy) file rs states r place given at.in_records at.record_is)
+      (current_state r (partner_at inputs place)) (result_at (run_at inputs k) seq) (record_read (run_at inputs k) seq r own.1) in
+      subst (λ before. IsLeft policy before (result_at (written_run (with_file inputs text) k) seq)) (sym own.2)
+      (subst (IsLeft policy (written_by inputs r place (result_at (run_at inputs k) seq))) (sym (later_result k seq r there own.1)) left)
+
+  left_in_run : (k seq : ℕ) → k < length (input_runs inputs) → IsLeft policy (result_at (written_run inputs k) seq) (result_at (written_run (with_file inputs text) k) seq)
+  left_in_run k seq there = by_place (nat_lt seq (length (results_of (run_at inputs k)))) refl
+    where
+      by_place : (b : Bool) → nat_lt seq (length (results_of (run_at inputs k))) ≡ b → IsLeft policy (result_at (written_run inputs k) seq) (result_at (written_run (with_file inputs text) k) seq)
+      by_place true inside = left_current k seq (there, ltb-true seq (length (results_of (run_at inputs k))) inside)
+      by_place false outside =
+          let past = ltb-false seq (length (results_of (run_at inputs k))) outside in
+          subst (λ before. IsLeft policy before (result_at (written_run (with_file inputs text) k) seq)) (sym (no_result inputs k seq there past))
+          (subst (IsLeft policy null) (sym (no_result (with_file inputs text) k seq there past)) (left_same policy null refl))
+
+  left_absent : (k seq : ℕ) → IsLeft policy (result_at (get_or (absent_written inputs) k null) seq) (result_at (get_or (absent_written inputs) k null) seq)
+  left_absent k seq =
+      let all = absent_stay policy (records_of (baseline_runs inputs)) (taken_of (current_of inputs) (baseline_of inputs)) (run_values (baseline_runs inputs)) in
+      let run = all_at (λ x. AllByRecursion (StaysIfHit policy) (results_of x)) (absent_written inputs) k null all tt in
+      left_same policy (result_at (get_or (absent_written inputs) k null) seq) (all_at (StaysIfHit policy) (results_of (get_or (absent_written inputs) k null)) seq null run refl)
+
+  left_at : (k seq : ℕ) → IsLeft policy (merged_result inputs k seq) (merged_result (with_file inputs text) k seq)
+  left_at k seq = by_place (nat_lt k (length (input_runs inputs))) refl
+    where
+      by_runs : (a b : Data) → merged_run_at inputs k ≡ a → merged_run_at (with_file inputs text) k ≡ b → IsLeft policy (result_at a seq) (result_at b seq) → IsLeft policy (merged_result inputs k seq) (merged_result (with_file inputs text) k seq)
+      by_runs a b first second left =
+          subst (λ x. IsLeft policy (result_at x seq) (merged_result (with_file inputs text) k seq)) (sym first)
+          (subst (λ y. IsLeft policy (result_at a seq) (result_at y seq)) (sym second) left)
+
+      by_place : (b : Bool) → nat_lt k (length (input_runs inputs)) ≡ b → IsLeft policy (merged_result inputs k seq) (merged_result (with_file inputs text) k seq)
+      by_place true inside =
+          let there = ltb-true k (length (input_runs inputs)) inside in
+          by_runs (written_run inputs k) (written_run (with_file inputs text) k) (input_run inputs k there) (input_run (with_file inputs text) k there) (left_in_run k seq there)
+      by_place false outside =
+          let past = ltb-false k (length (input_runs inputs)) outside in
+          let run = get_or (absent_written inputs) (k - length (input_runs inputs)) null in
+          by_runs run run (absent_run inputs k past) (absent_run (with_file inputs text) k past) (left_absent (k - length (input_runs inputs)) seq)
+
+  later_hits : hits_of (count_of (runs_written (with_file inputs text))) policy ≡ count_by (stays_in policy) (flat_map results_of (runs_written inputs))
+  later_hits =
+      hits_counted policy (runs_written (with_file inputs text))
+      ∙ same_counts (is_hit_in policy) (stays_in policy) (runs_written (with_file inputs text)) (runs_written inputs) (same_runs inputs text) (same_results inputs text) (λ k seq. (left_at k seq).hit)
+
+  none_fails : (hits : ℕ) → hits ≡ 0 → (if nat_lt policy.max hits then Fail else Pass) ≡ Pass
+  none_fails hits zero_hits = by_test (nat_lt policy.max hits) refl
+    where
+      by_test : (b : Bool) → nat_lt policy.max hits ≡ b → (if b then Fail else Pass) ≡ Pass
+      by_test true over = absurd (omega (arith, ltb-true policy.max hits over, zero_hits))
+      by_test false over = refl
+
+  pub law_of_accepting : LeavesWhatStays inputs policy text
+  law_of_accepting = record {
+    faultless = later_none;
+    runs = same_runs inputs text;
+    counts = same_results inputs text;
+    results = left_at;
+    absent = refl;
+    hits = later_hits;
+    verdict = λ nothing. none_fails (hits_of (count_of (runs_written (with_file inputs text))) policy) (later_hits ∙ nothing);
+  }

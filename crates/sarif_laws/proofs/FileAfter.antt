@@ -1,0 +1,118 @@
+-- The new suppression file of inputs without errors is read as the file that was meant.
+use Rattle.std.proofs.Common.{◌≡◌, ℕ, ◌≤◌, ◌++◌, Bool, true, false, ◌&&◌, not, List, [], ◌∷◌, Option, Some, None, Result, Ok, Err, refl, ap, ◌∙◌, if◌then◌else◌}
+use Rattle.std.specs.Prelude.{nat_lt}
+use Rattle.std.specs.List.{AllByRecursion, list_any}
+use Rattle.std.proofs.lemmas.Bool.{ltb-false}
+use Rattle.sarif_model.specs.declared.kinds.State.{State}
+use Rattle.sarif_model.specs.declared.merge_fault.MergeFault.{MergeFault}
+use Rattle.sarif_model.specs.declared.merge_fault.Source.TheVariants.{Log, Baseline}
+use Rattle.sarif_model.specs.declared.record.Record.{Record}
+use Rattle.sarif_model.specs.Limits.{most_entries}
+use Rattle.sarif_counts.specs.declared.policy.Policy.{Policy}
+use Rattle.sarif_counts.specs.declared.upkeep.Renewal.{Renewal}
+use Rattle.sarif_suppress.specs.declared.fault.FileFault.{FileFault}
+use Rattle.sarif_suppress.specs.File.{File, file_of}
+use Rattle.sarif_results.proofs.JudgedCounts.{no_faults_here, no_faults_left}
+use Rattle.sarif_log.specs.LogBy.{states_of}
+use Rattle.sarif_inputs.specs.Faults.{faults_of, file_faults, file_or_none, number_faults}
+use Rattle.sarif_inputs.specs.Inputs.{Inputs, all_runs, all_sources, input_runs}
+use Rattle.sarif_inputs.specs.SourceFaults.{source_faults}
+use Rattle.sarif_runs.specs.Judging.{faults_of_runs}
+use Rattle.sarif_merge.specs.Life.{merge_in}
+use Rattle.sarif_merge.specs.MergedLog.{current_of, file_given, file_in}
+use Rattle.sarif_merge.specs.OwnResult.{baseline_of}
+use Rattle.sarif_upkeep.specs.Renewed.{entries_count, how_of, renewal_faults}
+use Rattle.sarif_accept.specs.Adding.{Counts, accepted_among, file_after, is_hit, is_said, may_hit, once_each, stays}
+use Rattle.sarif_accept.specs.Given as accept
+use Rattle.sarif_accept.specs.Until.{HasGuid, IsDated}
+use Rattle.sarif_accept.proofs.GivenFile.{today_given}
+use Rattle.sarif_accept.proofs.NewFileRead.{new_file_read}
+use Rattle.sarif_laws.specs.NextMerge.{IsNewFile, with_file}
+use Rattle.sarif_laws.proofs.Read.{guids_fit}
+
+-- ---- the file of the inputs
+
+file_is : (read : Result File FileFault) → file_faults read ≡ [] → read ≡ Ok (file_in read)
+file_is (Ok file) none = refl
+file_is (Err fault) none = let never : ⊥ = cc in absurd never
+
+same_given : (given : Option (List ℕ)) (today : Option ℕ) → accept.file_given given today ≡ file_or_none given today
+same_given None today = refl
+same_given (Some bytes) today = refl
+
+-- it is read without an error
+pub input_file : (inputs : Inputs) → faults_of inputs ≡ [] → file_or_none inputs.suppressions inputs.today ≡ Ok (file_given inputs)
+input_file inputs none =
+    let runs = faults_of_runs (all_runs inputs) in
+    let files = file_faults (file_or_none inputs.suppressions inputs.today) in
+    let sources = source_faults 0 0 (all_sources inputs) in
+    let after_logs = no_faults_left (number_faults Log inputs.logs) (number_faults Baseline inputs.baselines ++ (sources ++ (files ++ runs))) none in
+    let after_baselines = no_faults_left (number_faults Baseline inputs.baselines) (sources ++ (files ++ runs)) after_logs in
+    let after_sources = no_faults_left sources (files ++ runs) after_baselines in
+    file_is (file_or_none inputs.suppressions inputs.today) (no_faults_here files runs after_sources)
+
+file_read : (inputs : Inputs) → faults_of inputs ≡ [] → accept.file_given inputs.suppressions inputs.today ≡ Ok (file_given inputs)
+file_read inputs none = same_given inputs.suppressions inputs.today ∙ input_file inputs none
+
+-- it was read for the date of the inputs
+pub same_today : (inputs : Inputs) → faults_of inputs ≡ [] → (file_given inputs).today ≡ inputs.today
+same_today inputs none = today_given inputs.suppressions inputs.today (file_given inputs) (file_read inputs none)
+
+-- ---- the results for which entries are added
+
+accepted_fit : (counts : Counts) (file : File) (rs : List Record) (states : List State) → AllByRecursion HasGuid rs → AllByRecursion HasGuid (accepted_among counts file rs states)
+accepted_fit counts file [] states fit = tt
+accepted_fit counts file (r ∷ rs) [] fit = tt
+accepted_fit counts file (r ∷ rs) (state ∷ states) fit =
+    let rest = accepted_fit counts file rs states fit.1 in
+    elim (is_hit counts file r state && not (stays file r)) as (λ b. AllByRecursion HasGuid (if b then r ∷ accepted_among counts file rs states else accepted_among counts file rs states))
+    [ true ↦ (fit.0, rest) | false ↦ rest ]
+
+once_fit : (before rs : List Record) → AllByRecursion HasGuid rs → AllByRecursion HasGuid (once_each before rs)
+once_fit before [] fit = tt
+once_fit before (r ∷ rs) fit =
+    elim (list_any (is_said r) before) as (λ b. AllByRecursion HasGuid (if b then once_each before rs else r ∷ once_each (before ++ r ∷ []) rs))
+    [ true ↦ once_fit before rs fit.1 | false ↦ (fit.0, once_fit (before ++ r ∷ []) rs fit.1) ]
+
+added_fit : (accepts : Bool) (rs : List Record) → AllByRecursion HasGuid rs → AllByRecursion HasGuid (if accepts then once_each [] rs else [])
+added_fit true rs fit = once_fit [] rs fit
+added_fit false rs fit = tt
+
+-- ---- the new file
+
+few_by : (n : ℕ) (fault : MergeFault) (rest : List MergeFault) → (if nat_lt most_entries n then fault ∷ [] else rest) ≡ [] → n ≤ most_entries
+few_by n fault rest none = by_test (nat_lt most_entries n) refl none
+  where
+    by_test : (b : Bool) → nat_lt most_entries n ≡ b → (if b then fault ∷ [] else rest) ≡ [] → n ≤ most_entries
+    by_test true is none = let never : ⊥ = cc in absurd never
+    by_test false is none = ltb-false most_entries n is
+
+another_file : (a b c d e more : List MergeFault) → a ++ (b ++ (c ++ (d ++ e))) ≡ [] → more ≡ [] → a ++ (b ++ (c ++ (more ++ e))) ≡ []
+another_file [] [] [] [] e more none new = ap (λ l. l ++ e) new ∙ none
+another_file [] [] [] (x ∷ d) e more none new = let never : ⊥ = cc in absurd never
+another_file [] [] (x ∷ c) d e more none new = let never : ⊥ = cc in absurd never
+another_file [] (x ∷ b) c d e more none new = let never : ⊥ = cc in absurd never
+another_file (x ∷ a) b c d e more none new = let never : ⊥ = cc in absurd never
+
+-- the suppression file of the next merge, as it is meant
+abbrev pub later_file : Inputs → Policy → Renewal → File
+later_file inputs policy renewal =
+    file_after (how_of (merge_in inputs policy) renewal) (may_hit policy) (file_given inputs) (current_of inputs) (states_of (current_of inputs) (baseline_of inputs))
+
+module _ (inputs : Inputs) (policy : Policy) (renewal : Renewal) (text : List ℕ) (none : faults_of inputs ≡ []) (small : renewal_faults (merge_in inputs policy) renewal ≡ [])
+    (dated : IsDated inputs.today renewal.until) (is : IsNewFile inputs policy renewal text) where
+  later_read : file_of text inputs.today ≡ Ok (later_file inputs policy renewal)
+  later_read =
+      let rs = current_of inputs in
+      let states = states_of rs (baseline_of inputs) in
+      new_file_read (how_of (merge_in inputs policy) renewal) (may_hit policy) inputs.suppressions inputs.today (file_given inputs) rs states text (file_read inputs none)
+      (added_fit renewal.accept (accepted_among (may_hit policy) (file_given inputs) rs states) (accepted_fit (may_hit policy) (file_given inputs) rs states (guids_fit (input_runs inputs))))
+      dated (few_by (entries_count (merge_in inputs policy) renewal) _ _ small) is
+
+  pub later_is : file_given (with_file inputs text) ≡ later_file inputs policy renewal
+  later_is = ap file_in later_read
+
+  pub faultless_later : faults_of (with_file inputs text) ≡ []
+  faultless_later =
+      another_file (number_faults Log inputs.logs) (number_faults Baseline inputs.baselines) (source_faults 0 0 (all_sources inputs)) (file_faults (file_or_none inputs.suppressions inputs.today))
+      (faults_of_runs (all_runs inputs)) (file_faults (file_of text inputs.today)) none (ap file_faults later_read)

@@ -1,0 +1,15 @@
+pub mod Absent
+pub mod Accepted
+pub mod Counted
+pub mod FileAfter
+pub mod Left
+pub mod LineFeeds
+pub mod Lists
+pub mod NewFile
+pub mod Places
+pub mod Printed
+pub mod Pruned
+pub mod Ranged
+pub mod Read
+pub mod Reread
+pub mod Sound

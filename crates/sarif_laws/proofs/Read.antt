@@ -1,0 +1,129 @@
+-- What is known of the record of a result that was read: its GUID, and the statuses of its own suppressions.
+use Rattle.std.proofs.Common.{◌≡◌, ℕ, ◌<◌, ◌^◌, Bool, true, false, ◌&&◌, List, [], ◌∷◌, map, Option, Some, None, codes, refl, subst, if◌then◌else◌}
+use Rattle.std.specs.Prelude.{Result, Ok, Err, IfSome, option_and_then}
+use Rattle.std.specs.List.{AllByRecursion, range_with_len}
+use Rattle.serde_json.specs.Data.{Data, null, boolean, number, string, array, object, Members}
+use Rattle.serde_json.specs.Find.{as_array, as_str, get_member}
+use Rattle.sarif_model.specs.declared.fault.Fault.{Fault}
+use Rattle.sarif_model.specs.declared.fault.Fault.TheVariants.{BadGuid, BadSuppression}
+use Rattle.sarif_model.specs.declared.kinds.Status.{Status}
+use Rattle.sarif_model.specs.declared.record.Record.{Record}
+use Rattle.sarif_model.specs.Guid.{guid_of_text}
+use Rattle.sarif_model.specs.Members.{◌>>=◌, are_objects, elements, elements_of, if_objects, member_at, of_kind, or_wrong, read_each, unless_null}
+use Rattle.sarif_model.specs.Run.{is_absent_result, result_at}
+use Rattle.sarif_model.specs.Suppression.{status_of}
+use Rattle.sarif_counts.specs.CountOf.{items_in}
+use Rattle.sarif_read.proofs.WholeRuns.{bind_ok}
+use Rattle.sarif_runs.specs.declared.head.RunHead.{RunHead}
+use Rattle.sarif_runs.specs.declared.item.Item.TheVariants.{Skipped}
+use Rattle.sarif_runs.specs.declared.parts.Parts.{Parts}
+use Rattle.sarif_runs.specs.Descriptor.{descriptor_of, reference_of}
+use Rattle.sarif_runs.specs.Head.{head_of}
+use Rattle.sarif_runs.specs.Judging.{item_by, item_of, items_of, records_in, records_of, skips, with_record}
+use Rattle.sarif_runs.specs.Level.{level_of}
+use Rattle.sarif_runs.specs.OwnMembers.{as_guid, check_present, own_fingerprints, own_guid, own_indexes, own_kind, own_level, own_location, own_message_and_rule, own_statuses, parts_of}
+use Rattle.sarif_runs.specs.Place.{place_of}
+use Rattle.sarif_runs.specs.Placed.{Placed}
+use Rattle.sarif_runs.specs.Record.{record_by, record_in, record_of, tool_name}
+use Rattle.sarif_results.specs.Annotated.{own_suppressions}
+use Rattle.sarif_accept.specs.Until.{HasGuid}
+use Rattle.sarif_accept.proofs.GuidFits.{guid_fits}
+use Rattle.sarif_laws.proofs.Lists.{all_append}
+
+ok_is : {A E : Type 0} (x y : A) → ◌≡◌ {A = Result A E} (Ok x) (Ok y) → x ≡ y
+ok_is x y is = cc
+
+-- ---- its GUID
+
+guid_is_small : (o : Option Data) (g : Option ℕ) → of_kind BadGuid as_guid o ≡ Ok g → IfSome g (λ n. n < 2 ^ 128)
+guid_is_small None g is = subst (λ o. IfSome o (λ n. n < 2 ^ 128)) (ok_is None g is) tt
+guid_is_small (Some d) g is = by_text (as_str d) is
+  where
+    by_guid : (o : Option ℕ) → IfSome o (λ n. n < 2 ^ 128) → or_wrong BadGuid o ≡ Ok g → IfSome g (λ n. n < 2 ^ 128)
+    by_guid None small is = let never : ⊥ = cc in absurd never
+    by_guid (Some n) small is = subst (λ o. IfSome o (λ n. n < 2 ^ 128)) (ok_is (Some n) g is) small
+
+    by_text : (o : Option (List ℕ)) → or_wrong BadGuid (option_and_then guid_of_text o) ≡ Ok g → IfSome g (λ n. n < 2 ^ 128)
+    by_text None is = let never : ⊥ = cc in absurd never
+    by_text (Some text) is = by_guid (guid_of_text text) (guid_fits text) is
+
+-- ---- the statuses of its own suppressions
+
+held_read : (o : Option Data) (held : List Status) → ((elements_of (of_kind BadSuppression as_array (option_and_then unless_null o)) >>= if_objects BadSuppression) >>= read_each status_of) ≡ Ok held
+    → read_each status_of (elements (items_in o)) ≡ Ok held
+held_read None held is = is
+held_read (Some null) held is = is
+held_read (Some (boolean b)) held is = let never : ⊥ = cc in absurd never
+held_read (Some (number n)) held is = let never : ⊥ = cc in absurd never
+held_read (Some (string s)) held is = let never : ⊥ = cc in absurd never
+held_read (Some (object ms)) held is = let never : ⊥ = cc in absurd never
+held_read (Some (array ds)) held is = by_objects (are_objects (elements ds)) is
+  where
+    by_objects : (b : Bool) → ((if b then Ok (elements ds) else Err BadSuppression) >>= read_each status_of) ≡ Ok held → read_each status_of (elements ds) ≡ Ok held
+    by_objects true is = is
+    by_objects false is = let never : ⊥ = cc in absurd never
+
+-- ---- the record
+
+record ArePartsOf (d : Data) (parts : Parts) : Type 0 where
+  guid : IfSome parts.guid (λ n. n < 2 ^ 128)
+  held : own_statuses d ≡ Ok parts.held
+
+parts_are : (d : Data) (parts : Parts) → parts_of d ≡ Ok parts → ArePartsOf d parts
+unfolding parts_of
+parts_are d parts is =
+    let present = bind_ok (check_present d) _ parts is in
+    let kind = bind_ok (own_kind d) _ parts present.2 in
+    let level = bind_ok (own_level d) _ parts kind.2 in
+    let guid = bind_ok (own_guid d) _ parts level.2 in
+    let fingerprints = bind_ok (own_fingerprints d) _ parts guid.2 in
+    let held = bind_ok (own_statuses d) _ parts fingerprints.2 in
+    let said = bind_ok (own_message_and_rule d) _ parts held.2 in
+    let indexes = bind_ok (own_indexes d) _ parts said.2 in
+    let location = bind_ok (own_location d) _ parts indexes.2 in
+    let whole = ok_is _ parts location.2 in
+    record {
+      guid = subst (λ p. IfSome p.guid (λ n. n < 2 ^ 128)) whole (guid_is_small (member_at (codes "correlationGuid") d) guid.0 guid.1);
+      held = subst (λ p. own_statuses d ≡ Ok p.held) whole held.1;
+    }
+
+pub record IsRead (d : Data) (r : Record) : Type 0 where
+  pub guid : HasGuid r
+  pub held : own_statuses d ≡ Ok r.held
+
+by_parts : (d : Data) (head : RunHead) (tool : List ℕ) (parts : Parts) (r : Record) → ArePartsOf d parts → record_by head tool parts ≡ Ok r → IsRead d r
+unfolding record_by
+by_parts d head tool parts r are is =
+    let descriptor = bind_ok (descriptor_of head.components (reference_of parts)) _ r is in
+    let level = bind_ok (level_of head parts) _ r descriptor.2 in
+    let place = bind_ok (place_of head.artifacts parts) _ r level.2 in
+    subst (IsRead d) (ok_is _ r place.2) (record { guid = are.guid; held = are.held })
+
+pub record_read : (run : Data) (seq : ℕ) (r : Record) → record_of run seq ≡ Ok r → IsRead (result_at run seq) r
+unfolding record_of record_in
+record_read run seq r is =
+    let head = bind_ok (head_of run) _ r is in
+    let parts = bind_ok (parts_of (result_at run seq)) (record_by head.0 (tool_name run)) r head.2 in
+    by_parts (result_at run seq) head.0 (tool_name run) parts.0 r (parts_are (result_at run seq) parts.0 parts.1) parts.2
+
+-- the statuses are those of the suppressions that are written unchanged
+pub statuses_read : (ms : Members) (r : Record) → IsRead (object ms) r → read_each status_of (elements (own_suppressions ms)) ≡ Ok r.held
+unfolding own_statuses
+statuses_read ms r read = held_read (get_member (codes "suppressions") ms) r.held read.held
+
+-- ---- all records
+
+with_guid : (skipped : Bool) (found : Result Record Fault) (rs : List Record) → ((r : Record) → found ≡ Ok r → HasGuid r) → AllByRecursion HasGuid rs
+    → AllByRecursion HasGuid (with_record (if skipped then Skipped else item_by found) rs)
+with_guid true found rs here rest = rest
+with_guid false (Ok r) rs here rest = (here r refl, rest)
+with_guid false (Err fault) rs here rest = rest
+
+in_run : (p : Placed) (seqs : List ℕ) → AllByRecursion HasGuid (records_in (map (item_of p) seqs))
+in_run p [] = tt
+in_run p (seq ∷ seqs) =
+    with_guid (skips p.source && is_absent_result (result_at p.run seq)) (record_of p.run seq) (records_in (map (item_of p) seqs)) (λ r is. (record_read p.run seq r is).guid) (in_run p seqs)
+
+pub guids_fit : (ps : List Placed) → AllByRecursion HasGuid (records_of ps)
+guids_fit [] = tt
+guids_fit (p ∷ ps) = all_append HasGuid (records_in (items_of p)) (records_of ps) (in_run p (range_with_len 0 _)) (guids_fit ps)

@@ -1,0 +1,36 @@
+-- What pruning the suppression file leaves in the next merge.
+use Rattle.std.specs.Prelude.{◌≡◌, ℕ, true, false, List, [], Contains}
+use Rattle.sarif_counts.specs.declared.policy.Policy.{Policy}
+use Rattle.sarif_counts.specs.CountOf.{count_of}
+use Rattle.sarif_counts.specs.Policy.{verdict_of}
+use Rattle.sarif_inputs.specs.Faults.{faults_of}
+use Rattle.sarif_inputs.specs.Inputs.{Inputs, input_runs}
+use Rattle.sarif_merge.specs.MergedLog.{current_of, file_given, runs_written, unused_in}
+use Rattle.sarif_runs.specs.Judging.{run_values}
+use Rattle.sarif_suppress.specs.declared.entry.Entry.{Entry}
+use Rattle.sarif_suppress.specs.Matching.{is_expired}
+use Rattle.sarif_suppress.specs.Suppressing.{is_unused}
+use Rattle.sarif_upkeep.specs.Heard.{heard}
+use Rattle.sarif_laws.specs.NextMerge.{with_file}
+
+-- the entry is one of the file of these inputs, and matches no current result
+abbrev pub IsUnusedIn : Inputs → Entry → Type 0
+IsUnusedIn inputs e =
+    Contains (file_given inputs).entries e
+    × (is_unused (file_given inputs) (current_of inputs) e ≡ true)
+
+-- with this suppression file the merge of the same inputs has no errors, and the same runs, counts and verdict; an entry
+-- that is unused in it isn't expired, and its tool wasn't heard
+pub record ChangesNoResult (inputs : Inputs) (text : List ℕ) : Type 0 where
+  pub faultless : faults_of (with_file inputs text) ≡ []
+  pub runs : runs_written (with_file inputs text) ≡ runs_written inputs
+  pub counts : count_of (runs_written (with_file inputs text)) ≡ count_of (runs_written inputs)
+  pub verdict : (policy : Policy) → verdict_of (count_of (runs_written (with_file inputs text))) policy
+      ≡ verdict_of (count_of (runs_written inputs)) policy
+  pub unused : (e : Entry) → IsUnusedIn (with_file inputs text) e
+      → (is_expired inputs.today e ≡ false)
+      × (heard (run_values (input_runs inputs)) e.conditions.tool ≡ false)
+  -- so no entry is unused if the tool of each was heard
+  pub none_unused : ((e : Entry) → Contains (file_given (with_file inputs text)).entries e
+      → heard (run_values (input_runs inputs)) e.conditions.tool ≡ true)
+      → unused_in (with_file inputs text) ≡ 0

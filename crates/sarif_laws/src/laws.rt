@@ -1,0 +1,65 @@
+//! Laws of whole merges, each the contract of a function that does nothing.
+ghost use Rattle.std.specs.Prelude.{◌≡◌, ℕ, List, [], true, false, count_by, flat_map};
+ghost use Rattle.std.specs.Str.{IsUtf8};
+ghost use Rattle.serde_json.specs.Data.{Data};
+ghost use Rattle.sarif_model.specs.Run.{results_of};
+ghost use Rattle.sarif_counts.specs.declared.policy.Policy.{Policy};
+ghost use Rattle.sarif_counts.specs.declared.upkeep.Renewal.{Renewal};
+ghost use Rattle.sarif_counts.specs.CountOf.{count_of};
+ghost use Rattle.sarif_counts.specs.Policy.{hits_of};
+ghost use Rattle.sarif_accept.specs.Until.{IsDated, IsUntil};
+ghost use Rattle.sarif_upkeep.specs.Life as life;
+ghost use Rattle.sarif_upkeep.specs.Renewed.{renewal_faults, renewed};
+ghost use Rattle.sarif_inputs.specs.Faults.{faults_of};
+ghost use Rattle.sarif_inputs.specs.Inputs.{Inputs};
+ghost use Rattle.sarif_merge.specs.Life.{merge_in};
+ghost use Rattle.sarif_merge.specs.MergedLog as log;
+ghost use Rattle.sarif_laws.specs.Accepting.{LeavesWhatStays};
+ghost use Rattle.sarif_laws.specs.Hits.{is_hit_in};
+ghost use Rattle.sarif_laws.specs.Lines.{lines_in};
+ghost use Rattle.sarif_laws.specs.NextMerge.{IsNewFile};
+ghost use Rattle.sarif_laws.specs.Pruning.{ChangesNoResult};
+
+/// The gate counts the hits of a merged log: its number of hits is how many results of the runs are hits.
+pub fn the_gate_counts_the_hits()
+    ensures { (policy : Policy) (runs : List Data)
+        → hits_of (count_of runs) policy ≡ count_by (is_hit_in policy) (flat_map results_of runs) }
+{}
+
+/// The text that a merge gives as its new suppression file is read as the new file, if it is UTF-8, as each string is. An
+/// expiry date must be a date, if there is one, and today's date be known then.
+pub fn the_new_file_is_read_as_itself()
+    ensures { (inputs : Inputs) (policy : Policy) (renewal : Renewal)
+        → IsDated inputs.today renewal.until
+        → IsUtf8 (renewed (merge_in inputs policy) renewal).text
+        → IsNewFile inputs policy renewal (renewed (merge_in inputs policy) renewal).text }
+{}
+
+/// The law of accepting. Let inputs have no errors, and let their new suppression file have none, with accepting, with
+/// or without pruning, and an expiry date not before today if there is one. Then the merge of the same inputs with the
+/// new file has no errors. Its hits are exactly those of before that stay, each at its place; so the gate passes if none
+/// stays. Each result that was suppressed is suppressed; each has its level, its state and its suppressions of before,
+/// possibly followed by others; absent results are written as before.
+pub fn accepting_leaves_the_hits_that_stay()
+    ensures { (inputs : Inputs) (policy : Policy) (renewal : Renewal) (text : List ℕ)
+        → faults_of inputs ≡ [] → renewal_faults (merge_in inputs policy) renewal ≡ []
+        → renewal.accept ≡ true → IsUntil inputs.today renewal.until
+        → IsNewFile inputs policy renewal text → LeavesWhatStays inputs policy text }
+{}
+
+/// The law of pruning. Let inputs have no errors, and let their new suppression file have none, with pruning and without
+/// accepting. Then the merge of the same inputs with the new file has no errors, and the same runs, counts and verdict.
+/// An entry that is unused in it isn't expired, and names a tool that wasn't heard; or it names none, and an input run
+/// failed or there is none. So no entry is unused if the tool of each was heard.
+pub fn pruning_changes_no_run()
+    ensures { (inputs : Inputs) (policy : Policy) (renewal : Renewal) (text : List ℕ)
+        → faults_of inputs ≡ [] → renewal_faults (merge_in inputs policy) renewal ≡ []
+        → renewal.prune ≡ true → renewal.accept ≡ false
+        → IsNewFile inputs policy renewal text → ChangesNoResult inputs text }
+{}
+
+/// The list of unused entries has a line for each entry that the gate counts as unused.
+pub fn each_unused_entry_has_a_line()
+    ensures { (inputs : Inputs) (policy : Policy) → faults_of inputs ≡ []
+        → lines_in (life.unused_in (merge_in inputs policy)) ≡ log.unused_in inputs }
+{}

@@ -1,0 +1,9 @@
+//! Laws of whole merges: what accepting results and pruning the suppression file change in the next merge.
+#![tactic(auto)]
+
+mod laws;
+
+pub use laws::{
+    accepting_leaves_the_hits_that_stay, each_unused_entry_has_a_line, pruning_changes_no_run,
+    the_gate_counts_the_hits, the_new_file_is_read_as_itself,
+};
