@@ -4,7 +4,7 @@
 complete -c sarif_gate -l baseline -r -F -d 'SARIF log of known results, for example an earlier merged log'
 complete -c sarif_gate -l suppress -r -F -d 'JSON file of accepted findings (suppressions), each with a reason and an optional expiry date'
 complete -c sarif_gate -l today -x -d 'Today\'s date, for example 20250131'
-complete -c sarif_gate -l require-success -d 'Reject a log if the analysis of a run failed: an invocation was not successful, or the run has no results'
+complete -c sarif_gate -l require-success -d 'Reject a log if the analysis of a run failed: an invocation was not successful, or the run\'s results are missing or null'
 complete -c sarif_gate -l allow-external-properties -d 'Allow runs to name external property files, except for results, artifacts, invocations, driver and extensions'
 complete -c sarif_gate -l fail-on -x -a 'error warning note none' -d 'Minimum level of a hit'
 complete -c sarif_gate -l states -x -d 'States of hits and reported results, joined by commas'

@@ -65,12 +65,12 @@ have_one_name (name ∷ others) = is_among name others || have_one_name others
 abbrev pub replaces_log : Names → Bool
 replaces_log names = not (bytes_eq names.out standard) && is_among names.out names.logs
 
--- the known log may replace the baseline if there is just one
+-- the known log may replace the baseline if there is only one
 abbrev pub may_replace_baseline : Names → Report → Bool
 may_replace_baseline names report.Known = nat_eq (length names.baselines) 1
 may_replace_baseline names _ = false
 
--- an output beside the merged log has the name of a log, or of a baseline that it may not replace; standard output has
+-- an output besides the merged log has the name of a log, or of a baseline that it may not replace; standard output has
 -- no name
 abbrev pub replaces_input : Names → Wanted Text → Bool
 replaces_input names wanted = not (bytes_eq wanted.to standard)

@@ -84,7 +84,7 @@ abbrev pub wanted_if : Report → Option Text → List (Wanted Text)
 wanted_if report None = []
 wanted_if report (Some name) = record { report = report; to = name } ∷ []
 
--- the outputs that are requested beside the merged log, in the order in which they are written
+-- the outputs that are requested besides the merged log, in the order in which they are written
 abbrev pub reports_in : List Row → List (Wanted Text)
 reports_in rows =
     flat_map (λ report. wanted_if report (first_of (report_name report) rows)) all_reports
@@ -185,7 +185,7 @@ IsUsageOrOutOfMemory (Help text) = ⊥
 IsUsageOrOutOfMemory OutOfMemory = ⊤
 
 -- an error says what is wrong with the arguments, or what they request instead of a merge; memory may run out for
--- any of its texts
+-- any of its strings
 abbrev pub IsFaultOf : List Text → WordsFault → Type 0
 IsFaultOf words (Usage text) = (levels : Bor (List (Bor Text))) × AreLevels levels
     × (((k : ErrorKind) × IsAmong k (fault_of (program levels) words) × (¬ IsAsked k))

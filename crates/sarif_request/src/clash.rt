@@ -266,7 +266,7 @@ fn replaces_input(request: &Request, wanted: &Wanted<Text>) -> bool
     wanted.to.as_str() != STANDARD && (is_log || (is_baseline && !may))
 }
 
-/// Whether this output may replace the baseline: the known log may if there is just one.
+/// Whether this output may replace the baseline: the known log may if there is only one.
 fn may_replace_baseline(request: &Request, report: Report) -> bool
     ensures { result ≡ said.may_replace_baseline (said.names_of request.now) report }
 {

@@ -28,13 +28,13 @@ standard output and the summary to standard error.
 
 At most one output is standard output. If it is that of --out, --suppress-out or --known, the
 summary goes to standard error. No two outputs may have the same name. No output may have the name
-of the suppression file, of a log or of a baseline, with three exceptions: --suppress-out may have
-the name of --suppress, --known that of the only --baseline, and --out that of a --baseline.
+of the suppression file, of a log or of a baseline. There are three exceptions: --suppress-out may
+have the name of --suppress, --known that of the only --baseline, and --out that of a --baseline.
 
 Exit status:
   0  the gate passes
   1  the gate fails: there are more hits than --max allows
-  2  rejected: invalid arguments, or an error in an input
+  2  rejected: invalid arguments, an error in an input, or no memory or thread is left
   3  a file could not be read or written
 
 Examples:
@@ -51,7 +51,7 @@ pub fn command<'a>(alloc: Global) -> Result<Command<'a>, AllocError>
     with_reports(alloc, of_rows(alloc, ValueParser::from(LEVELS.as_slice()))?)
 }
 
-/// Returns the command with its options but those of the outputs beside the merged log.
+/// Returns the command with its options but those of the outputs besides the merged log.
 fn of_rows<'a>(alloc: Global, levels: ValueParser<'a>) -> Result<Command<'a>, AllocError>
     ensures { IfOk result (λ c. app_of c ≡ with_arguments levels.entry start arguments) }
 {
@@ -76,7 +76,7 @@ fn named<'a>(alloc: Global) -> Command<'a>
         .next_display_order(1)
 }
 
-/// Adds an option for each output beside the merged log.
+/// Adds an option for each output besides the merged log.
 fn with_reports<'a>(alloc: Global, command: Command<'a>) -> Result<Command<'a>, AllocError>
     ensures { IfOk result (λ c. app_of c ≡ with_reports (app_of command.entry) all_reports) }
 {

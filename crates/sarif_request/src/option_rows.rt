@@ -72,7 +72,7 @@ pub struct OptionRow {
     pub default: Option<&'static str>,
 }
 
-/// A date as YYYYMMDD, of which only the range is checked here.
+/// A date as YYYYMMDD. Only its range is checked here.
 const DATE: Kind = Kind::Number(FIRST_DAY as i64, LAST_DAY as i64);
 
 static ROWS: [OptionRow; 20] = [
@@ -116,7 +116,7 @@ static ROWS: [OptionRow; 20] = [
         id: "require-success",
         value: "",
         help: "Reject a log if the analysis of a run failed: an invocation was\n\
-            not successful, or the run has no results",
+            not successful, or the run's results are missing or null",
         group: Group::Inputs,
         kind: Kind::Flag,
         default: None,

@@ -1,7 +1,7 @@
-//! An output that was requested beside the merged log.
+//! An output that was requested besides the merged log.
 use sarif_reports::Report;
 
-/// An output that was requested beside the merged log, with its destination: the name of its file, or its writer.
+/// An output that was requested besides the merged log, with its destination: the name of its file, or its writer.
 #[derive(Debug, Drop)]
 pub struct Wanted<T> {
     /// The output.
