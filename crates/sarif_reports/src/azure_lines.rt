@@ -4,6 +4,7 @@ ghost use Rattle.sarif_reports.specs.AzureReport as said;
 
 use crate::escaping::Escaping;
 use crate::listed::listed;
+use itoa::Buffer;
 use sarif_findings::Finding;
 use sarif_model::{Level, Text};
 use std::alloc::{AllocError, Global};
@@ -47,18 +48,15 @@ fn push_path(alloc: Global, text: &mut String, path: &Option<Text>) -> Result<()
 }
 
 /// Adds a number under a name, if there is one.
-fn push_number(
-    alloc: Global,
-    text: &mut String,
-    name: &str,
-    number: Option<u32>,
-) -> Result<(), AllocError>
+fn push_number(text: &mut String, name: &str, number: Option<u32>) -> Result<(), AllocError>
     ensures { OnOk result
         (string_bytes text.new ≡ string_bytes text.old ++ said.issue_number name.now number) }
 {
     if let Some(number) = number {
-        let written = format!(in alloc; "{name}{number};")?;
-        text.push_str(written.as_str())?;
+        let mut digits = Buffer::new();
+        text.push_str(name)?;
+        text.push_str(digits.format(number))?;
+        text.push_str(";")?;
     }
     Ok(())
 }
@@ -82,8 +80,8 @@ fn push_properties(alloc: Global, text: &mut String, finding: &Finding) -> Resul
 {
     text.push_str(issue_type(finding.level))?;
     push_path(alloc, text, &finding.path)?;
-    push_number(alloc, text, "linenumber=", finding.line)?;
-    push_number(alloc, text, "columnnumber=", finding.column)?;
+    push_number(text, "linenumber=", finding.line)?;
+    push_number(text, "columnnumber=", finding.column)?;
     push_code(alloc, text, finding.rule.as_str())?;
     Ok(())
 }

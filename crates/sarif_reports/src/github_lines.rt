@@ -4,6 +4,7 @@ ghost use Rattle.sarif_reports.specs.GithubReport as said;
 
 use crate::escaping::Escaping;
 use crate::listed::listed;
+use itoa::Buffer;
 use sarif_findings::Finding;
 use sarif_model::{Level, Text};
 use std::alloc::{AllocError, Global};
@@ -33,18 +34,15 @@ fn push_file(alloc: Global, text: &mut String, path: &Option<Text>) -> Result<()
 }
 
 /// Adds a number under a name, if there is one.
-fn push_number(
-    alloc: Global,
-    text: &mut String,
-    name: &str,
-    number: Option<u32>,
-) -> Result<(), AllocError>
+fn push_number(text: &mut String, name: &str, number: Option<u32>) -> Result<(), AllocError>
     ensures { OnOk result (string_bytes text.new
         ≡ string_bytes text.old ++ said.number_property name.now number) }
 {
     if let Some(number) = number {
-        let written = format!(in alloc; "{name}{number},")?;
-        text.push_str(written.as_str())?;
+        let mut digits = Buffer::new();
+        text.push_str(name)?;
+        text.push_str(digits.format(number))?;
+        text.push_str(",")?;
     }
     Ok(())
 }
@@ -71,8 +69,8 @@ fn push_position(alloc: Global, text: &mut String, finding: &Finding) -> Result<
         (string_bytes text.new ≡ string_bytes text.old ++ said.position_of finding.now) }
 {
     push_file(alloc, text, &finding.path)?;
-    push_number(alloc, text, "line=", finding.line)?;
-    push_number(alloc, text, "col=", finding.column)?;
+    push_number(text, "line=", finding.line)?;
+    push_number(text, "col=", finding.column)?;
     Ok(())
 }
 

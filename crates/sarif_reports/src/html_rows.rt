@@ -55,8 +55,8 @@ fn position(alloc: Global, finding: &Finding) -> Result<String, AllocError>
         ≡ numbered finding.now.line ++ numbered finding.now.column) }
 {
     let mut text = String::new(alloc);
-    push_numbered(alloc, &mut text, finding.line)?;
-    push_numbered(alloc, &mut text, finding.column)?;
+    push_numbered(&mut text, finding.line)?;
+    push_numbered(&mut text, finding.column)?;
     Ok(text)
 }
 

@@ -69,7 +69,7 @@ fn push_shown_line(alloc: Global, text: &mut String, finding: &Finding) -> Resul
         ≡ string_bytes text.old ++ said.shown_line finding.now) }
 {
     let mut line = String::new(alloc);
-    push_result_line(alloc, &mut line, finding)?;
+    push_result_line(&mut line, finding)?;
     push_attribute(alloc, text, "\">", line.as_str())?;
     Ok(())
 }

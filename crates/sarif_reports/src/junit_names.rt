@@ -16,7 +16,7 @@ pub(crate) fn plain_name(alloc: Global, finding: &Finding) -> Result<String, All
     ensures { IfOk result (λ s. string_bytes s ≡ said.plain_name finding.now) }
 {
     let mut name = String::new(alloc);
-    push_place(alloc, &mut name, finding)?;
+    push_place(&mut name, finding)?;
     if !finding.rule.as_str().is_empty() {
         name.push_str(": ")?;
         name.push_str(finding.rule.as_str())?;

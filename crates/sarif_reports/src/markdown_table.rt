@@ -108,7 +108,7 @@ fn push_place_cell(alloc: Global, text: &mut String, finding: &Finding) -> Resul
         (string_bytes text.new ≡ string_bytes text.old ++ said.code_of (spot_text finding.now)) }
 {
     let mut place = String::new(alloc);
-    push_place(alloc, &mut place, finding)?;
+    push_place(&mut place, finding)?;
     push_code(alloc, text, place.as_str())?;
     Ok(())
 }

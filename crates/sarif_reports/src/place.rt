@@ -2,8 +2,9 @@
 ghost use Rattle.std.specs.Prelude.{◌≡◌, ◌++◌, OnOk, string_bytes};
 ghost use Rattle.sarif_findings.specs.Finding as said;
 
+use itoa::Buffer;
 use sarif_findings::Finding;
-use std::alloc::{AllocError, Global};
+use std::alloc::AllocError;
 
 /// Returns whether the first character that is not a space is a colon.
 fn begins_with_colon(path: &str) -> bool
@@ -18,16 +19,13 @@ fn begins_with_colon(path: &str) -> bool
 }
 
 /// Adds a colon and the number, if there is one.
-pub(crate) fn push_numbered(
-    alloc: Global,
-    text: &mut String,
-    number: Option<u32>,
-) -> Result<(), AllocError>
+pub(crate) fn push_numbered(text: &mut String, number: Option<u32>) -> Result<(), AllocError>
     ensures { OnOk result (string_bytes text.new ≡ string_bytes text.old ++ said.numbered number) }
 {
     if let Some(number) = number {
-        let written = format!(in alloc; ":{number}")?;
-        text.push_str(written.as_str())?;
+        let mut digits = Buffer::new();
+        text.push_str(":")?;
+        text.push_str(digits.format(number))?;
     }
     Ok(())
 }
@@ -45,11 +43,7 @@ pub(crate) fn push_path(text: &mut String, path: &str) -> Result<(), AllocError>
 }
 
 /// Adds the place of the result: its path, line and column, as far as they are known, or `-`.
-pub(crate) fn push_place(
-    alloc: Global,
-    text: &mut String,
-    finding: &Finding,
-) -> Result<(), AllocError>
+pub(crate) fn push_place(text: &mut String, finding: &Finding) -> Result<(), AllocError>
     ensures { OnOk result
         (string_bytes text.new ≡ string_bytes text.old ++ said.spot_text finding.now) }
 {
@@ -57,8 +51,8 @@ pub(crate) fn push_place(
         None => text.push_str("-")?,
         Some(path) => {
             push_path(text, path.as_str())?;
-            push_numbered(alloc, text, finding.line)?;
-            push_numbered(alloc, text, finding.column)?;
+            push_numbered(text, finding.line)?;
+            push_numbered(text, finding.column)?;
         }
     }
     Ok(())

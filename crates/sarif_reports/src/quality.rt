@@ -5,6 +5,7 @@ ghost use Rattle.sarif_reports.specs.GitlabReport as said;
 ghost use Rattle.sarif_reports.specs.GitlabParts.{quoted_text, rule_text, location_text, severity_text};
 
 use crate::quoted::push_quoted;
+use itoa::Buffer;
 use sarif_findings::Finding;
 use sarif_model::Level;
 use std::alloc::{AllocError, Global};
@@ -66,8 +67,10 @@ fn push_location(alloc: Global, text: &mut String, finding: &Finding) -> Result<
         Some(path) => path.as_str(),
         None => "unknown",
     };
-    let begin = format!(in alloc; ",\"location\":{{\"lines\":{{\"begin\":{line}}},\"path\":")?;
-    text.push_str(begin.as_str())?;
+    let mut digits = Buffer::new();
+    text.push_str(",\"location\":{\"lines\":{\"begin\":")?;
+    text.push_str(digits.format(line))?;
+    text.push_str("},\"path\":")?;
     push_quoted(alloc, text, path)?;
     text.push_str("}")?;
     Ok(())

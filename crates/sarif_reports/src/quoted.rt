@@ -7,16 +7,23 @@ use json_parts::push_value;
 use serde_json::Value;
 use std::alloc::{AllocError, Global};
 
-/// Returns whether each of these bytes is written unchanged in a JSON string.
+/// Returns whether a byte is written unchanged in a JSON string.
+fn stands(byte: u8) -> bool
+    ensures { result ≡ stands_in_string byte }
+{
+    byte >= b' ' && !(byte == b'"' || byte == b'\\')
+}
+
+/// Returns whether each of these bytes is written unchanged in a JSON string. It doesn't end early, so that many bytes
+/// are compared at a time.
 fn all_stand(bytes: &[u8]) -> bool
     ensures { result ≡ list_all stands_in_string bytes.now }
 {
+    let mut all = true;
     for byte in bytes {
-        if *byte < b' ' || *byte == b'"' || *byte == b'\\' {
-            return false;
-        }
+        all &= stands(*byte);
     }
-    true
+    all
 }
 
 /// Adds a string in which nothing is escaped.

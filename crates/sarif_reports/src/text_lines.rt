@@ -46,15 +46,11 @@ fn push_source(text: &mut String, finding: &Finding) -> Result<(), AllocError>
 }
 
 /// Adds the line of a result, without its end.
-pub(crate) fn push_result_line(
-    alloc: Global,
-    text: &mut String,
-    finding: &Finding,
-) -> Result<(), AllocError>
+pub(crate) fn push_result_line(text: &mut String, finding: &Finding) -> Result<(), AllocError>
     ensures { OnOk result
         (string_bytes text.new ≡ string_bytes text.old ++ said.result_line finding.now) }
 {
-    push_place(alloc, text, finding)?;
+    push_place(text, finding)?;
     push_said(text, finding)?;
     push_bracketed(text, finding.rule.as_str())?;
     push_source(text, finding)?;
@@ -62,22 +58,22 @@ pub(crate) fn push_result_line(
 }
 
 /// Adds the line of a result.
-fn push_line(alloc: Global, text: &mut String, finding: &Finding) -> Result<(), AllocError>
+fn push_line(text: &mut String, finding: &Finding) -> Result<(), AllocError>
     ensures { OnOk result
         (string_bytes text.new ≡ string_bytes text.old ++ said.text_line finding.now) }
 {
-    push_result_line(alloc, text, finding)?;
+    push_result_line(text, finding)?;
     text.push_str("\n")?;
     Ok(())
 }
 
 /// Adds the lines of these results.
-fn push_lines(alloc: Global, text: &mut String, listed: &[&Finding]) -> Result<(), AllocError>
+fn push_lines(text: &mut String, listed: &[&Finding]) -> Result<(), AllocError>
     ensures { OnOk result (string_bytes text.new
         ≡ string_bytes text.old ++ flat_map said.text_line (map (λ f. f.now) listed.now)) }
 {
     for finding in listed {
-        push_line(alloc, text, finding)?;
+        push_line(text, finding)?;
     }
     Ok(())
 }
@@ -89,6 +85,6 @@ pub fn text_report(alloc: Global, findings: &[Finding]) -> Result<String, AllocE
 {
     let listed = listed(alloc, findings)?;
     let mut text = String::new(alloc);
-    push_lines(alloc, &mut text, listed.as_slice())?;
+    push_lines(&mut text, listed.as_slice())?;
     Ok(text)
 }
