@@ -213,7 +213,8 @@ def says_what_is_wrong(answer):
 
 
 def tells(gate, states=None, levels=None):
-    """The gate object, and the states or the levels of all results in order."""
+    """The gate object, the last line of the summary, and the states or the levels of all results in order."""
+    last = f"gate: {gate['verdict']}, hits {gate['hits']}, max {gate['max']}"
 
     def check(answer):
         whole = answer.stdout if answer.out is None else answer.out
@@ -222,6 +223,8 @@ def tells(gate, states=None, levels=None):
         except ValueError:
             return [f"the merged log isn't JSON: {whole[:60]!r}"]
         wrong = [f"the gate is {log['properties']['gate']}"] * (log["properties"]["gate"] != gate)
+        summary = (answer.stderr if answer.out is None else answer.stdout).decode(errors="replace").splitlines()
+        wrong += [f"the summary ends with {summary[-1:]}, and not {last!r}"] * (summary[-1:] != [last])
         results = [it for run in log["runs"] for it in run.get("results", [])]
         for name, wanted in (("baselineState", states), ("level", levels)):
             found = [it[name] for it in results]

@@ -578,6 +578,14 @@ def good_names():
         stdin=log(),
         stdout=pretty(known()),
     )
+    yield Case(
+        "life",
+        "standard input is a log, and standard output the merged log",
+        ["--out", "-", "--known", "k", "-"],
+        stdin=log(),
+        out_name="k",
+        out=pretty(known()),
+    )
     numbers = b"sarif_gate: 0 accepted, 0 stay, 0 pruned, 0 entries\n"
     table = HEADING + b"".join(
         f"{state:<10}".encode() + ZERO for state in ("new", "unchanged", "updated", "absent")
@@ -602,6 +610,7 @@ def lost():
         said=["sarif_gate: known log: WriteFailed"],
         made={"n": pretty(entries())},
         gone=["k", "t", "g", "u"],
+        holds=['"baselineState":"new"', '"hits":1'],
     )
 
 

@@ -213,7 +213,30 @@ def drawn(seed, count):
         yield Reporting("drawn", name, logs=logs, baselines=before, policy=policy)
 
 
+def of_rows():
+    """What a report holds, in this order, worked out by hand."""
+
+    def shows(name, results, option, pieces, status=0):
+        def look(folder, kept):
+            report = (folder / "r").read_text()
+            found = sorted(pieces, key=report.find)
+            wrong = [f"it has no {it}" for it in pieces if it not in report]
+            return wrong or [f"the order is {found}"] * (found != pieces)
+
+        words = [option, "r", "--out", "o", "log0"]
+        files = {"log0": log(run("lint", *results))}
+        return Case("examples", name, words, files=files, status=status, look=look)
+
+    line = {"physicalLocation": {"artifactLocation": {"uri": "./:x"}, "region": {"startLine": 2}}}
+    result = plain(level="note", locations=[line])
+    yield shows("JUnit's file has no ./", [result], "--junit", ['classname=":x"', 'file=":x"', 'line="2"'])
+    said = lambda word, **more: {"level": "error", "message": {"text": word}, **more}
+    results = [said("one"), said("two", **at("a")), said("three")]
+    pieces = ["3 hits stop this change", "one</td>", "three</td>", "two</td>"]
+    yield shows("hits without a place are together on the page", results, "--html", pieces, status=1)
+
+
 def cases(seed=1, count=200):
-    for part in (examples, hostile_logs, many, scattered):
+    for part in (of_rows, examples, hostile_logs, many, scattered):
         yield from part()
     yield from drawn(seed, count)

@@ -331,3 +331,25 @@ class Inputs:
             b"\xef\xbb\xbf" + text,
         ]
         return self.any(change)
+
+    # ---- what was there before
+
+    def aged(self, log):
+        """The log as it may have been before: its runs and results in another order, some changed."""
+        rng = self.rng
+        runs = log["runs"] if isinstance(log["runs"], list) else []
+        found = []
+        for run in rng.sample(runs, len(runs)):
+            results = run.get("results") if isinstance(run, dict) else None
+            if isinstance(results, list):
+                kept = rng.sample(results, rng.randint(0, len(results)))
+                run = {**run, "results": [self.changed(it) for it in kept]}
+            found.append(run)
+        return {**log, "runs": found}
+
+    def changed(self, result):
+        if self.chance(0.6) or not isinstance(result, dict):
+            return result
+        other = self.result(True)
+        names = [it for it in {**result, **other} if self.chance(0.8)]
+        return {name: result.get(name, other.get(name)) for name in names}

@@ -1,5 +1,5 @@
 //! The page.
-use crate::samples::{findings_with, told_of};
+use crate::samples::{counts_of, findings_with, told_of};
 use sarif_counts::{Counts, Policy, States};
 use sarif_findings::Finding;
 use sarif_model::{Level, State, Text};
@@ -87,10 +87,7 @@ fn page_of<R: AllocGlobal + RandomSource>(
     policy: &Policy,
     findings: &[Finding],
 ) -> Result<String, Fail> {
-    let mut counts = Counts::new();
-    for finding in findings {
-        counts.add(finding.state, finding.level, false);
-    }
+    let counts = counts_of(findings);
     let told = told_of(rt, &counts, policy, findings)?;
     Ok(html_report(rt.alloc(), &told)?)
 }

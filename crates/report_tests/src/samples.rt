@@ -57,3 +57,17 @@ pub(crate) fn told_of<'a, R: RandomSource>(
         seed: RandomState::new(rt)?,
     })
 }
+
+/// The numbers of the first 100,000 of these findings, none of them suppressed.
+pub(crate) fn counts_of(findings: &[Finding]) -> Counts {
+    let many = if findings.len() < 100_000 {
+        findings.len()
+    } else {
+        100_000
+    };
+    let mut counts = Counts::new();
+    for at in 0..many {
+        counts.add(findings[at].state, findings[at].level, false);
+    }
+    counts
+}

@@ -1,6 +1,6 @@
 //! The reports for build services: JUnit XML and logging commands of Azure Pipelines.
-use crate::samples::{findings_with, told_of};
-use sarif_counts::{Counts, Policy};
+use crate::samples::{counts_of, findings_with, told_of};
+use sarif_counts::Policy;
 use sarif_findings::Finding;
 use sarif_model::{Level, State, Text};
 use sarif_reports::{azure_report, junit_report};
@@ -81,22 +81,13 @@ fn findings_of(alloc: Global, rows: &[Row]) -> Result<Vec<Finding>, AllocError> 
     Ok(findings)
 }
 
-/// The numbers of new results of these findings.
-fn counted(findings: &[Finding]) -> Counts {
-    let mut counts = Counts::new();
-    for finding in findings {
-        counts.add(State::New, finding.level, false);
-    }
-    counts
-}
-
 /// The report in JUnit XML of these findings, where this many hits pass.
 fn junit_of<R: AllocGlobal + RandomSource>(
     rt: &R,
     findings: &[Finding],
     max: u32,
 ) -> Result<String, Fail> {
-    let counts = counted(findings);
+    let counts = counts_of(findings);
     let mut policy = Policy::default();
     policy.max = max;
     let told = told_of(rt, &counts, &policy, findings)?;
@@ -186,8 +177,9 @@ fn names_of_a_suite_differ(rt: HostRuntime) -> Result<(), Fail> {
     let report = junit_of_rows(&rt, &rows, 0)?;
     let mut found = Vec::new(rt.alloc());
     for piece in report.split("<testcase name=\"") {
-        let end = piece.find("\"").unwrap_or(0);
-        found.push(&piece[..end])?;
+        if let Some((name, _)) = piece.split_once("\"") {
+            found.push(name)?;
+        }
     }
     let wanted = [
         "<?xml version=",

@@ -48,6 +48,51 @@ impl<'c> Case<'c> {
     }
 }
 
+/// A merge without reports.
+fn asked_of<'o>(options: &'o Options, upkeep: &'o Upkeep) -> Asked<'o> {
+    Asked {
+        options,
+        reporting: None,
+        upkeep: Some(upkeep),
+    }
+}
+
+/// What is for later merges, of a merge of these JSON texts under this policy.
+fn life_of_texts<'c, R: Abort + AllocGlobal + Threads + Wait + Sync>(
+    rt: &R,
+    texts: Case<'c>,
+    policy: Policy,
+    upkeep: &Upkeep,
+) -> Result<Life, Fail> {
+    let alloc = rt.alloc();
+    let log: &'c [u8] = texts.runs.as_bytes();
+    let baseline: &'c [u8] = texts.baseline.as_bytes();
+    let file: &'c [u8] = texts.file.as_bytes();
+    let mut readers = Readers {
+        logs: vec![in alloc; Counted::new(log)]?,
+        baselines: if baseline.is_empty() {
+            Vec::new(alloc)
+        } else {
+            vec![in alloc; Counted::new(baseline)]?
+        },
+        suppressions: if file.is_empty() {
+            None
+        } else {
+            Some(Counted::new(file))
+        },
+    };
+    let options = Options {
+        policy,
+        checks: Checks::default(),
+        today: texts.today,
+        workers: 1,
+        seed: seed_of(ZEROS)?,
+    };
+    let asked = asked_of(&options, upkeep);
+    let (merged, ()) = merge_readers(rt, alloc, &mut readers, &asked, &NoGate, |_| Ok(()))?;
+    Ok(merged.life)
+}
+
 /// What is for later merges, of a merge under this policy.
 fn life_by<R: Abort + AllocGlobal + Threads + Wait + Sync>(
     rt: &R,
@@ -62,31 +107,13 @@ fn life_by<R: Abort + AllocGlobal + Threads + Wait + Sync>(
     } else {
         log_of(alloc, case.baseline)?
     };
-    let mut readers = Readers {
-        logs: vec![in alloc; Counted::new(log.as_bytes())]?,
-        baselines: Vec::new(alloc),
-        suppressions: None,
-    };
-    if !case.baseline.is_empty() {
-        readers.baselines.push(Counted::new(before.as_bytes()))?;
-    }
-    if !case.file.is_empty() {
-        readers.suppressions = Some(Counted::new(case.file.as_bytes()));
-    }
-    let options = Options {
-        policy,
-        checks: Checks::default(),
+    let texts = Case {
+        runs: log.as_str(),
+        baseline: before.as_str(),
+        file: case.file,
         today: case.today,
-        workers: 1,
-        seed: seed_of(ZEROS)?,
     };
-    let asked = Asked {
-        options: &options,
-        reporting: None,
-        upkeep: Some(upkeep),
-    };
-    let (merged, ()) = merge_readers(rt, alloc, &mut readers, &asked, &NoGate, |_| Ok(()))?;
-    Ok(merged.life)
+    life_of_texts(rt, texts, policy, upkeep)
 }
 
 /// A new suppression file alone.
