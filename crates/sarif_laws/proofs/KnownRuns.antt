@@ -1,5 +1,5 @@
 -- The runs that become known can be read again.
-use Rattle.std.proofs.Common.{◌≡◌, ◌+◌, ◌≤◌, ◌&&◌, ◌++◌, ℕ, zero, suc, Bool, true, false, not, List, [], ◌∷◌, length, take, drop, Option, Some, refl, sym, ap, subst, ◌∙◌, arith, if◌then◌else◌}
+use Rattle.std.proofs.Common.{◌≡◌, ◌≤◌, ◌&&◌, ◌++◌, ℕ, zero, suc, Bool, true, false, not, List, [], ◌∷◌, length, take, drop, Option, Some, refl, sym, ap, subst, ◌∙◌, arith, if◌then◌else◌}
 use Rattle.std.specs.Prelude.{filter, bytes_eq}
 use Rattle.std.specs.List.{AllByRecursion, flat_map}
 use Rattle.std.proofs.Math.Seq.{take-append_seam, drop-append_seam}
@@ -62,9 +62,9 @@ now_sound file policy adopt (p ∷ ps) states sound logs all =
     let rest = records_of ps in
     let long = records_of_log p logs.0 (no_faults_here (run_faults p) (faults_of_runs ps) sound) in (
       subst (λ rs. AllByRecursion (IsOfTool (tool_name p.run)) (known_of file policy adopt rs (take n states))) (sym (take_own here rest n long))
-      (known_sound (IsOfTool (tool_name p.run)) file policy adopt here (take n states) (own_records p all.0)),
+          (known_sound (IsOfTool (tool_name p.run)) file policy adopt here (take n states) (own_records p all.0)),
       subst (λ rs. AllByRecursion IsChosenSound (chosen_now file policy adopt (run_values ps) rs (drop n states))) (sym (drop_own here rest n long))
-      (now_sound file policy adopt ps (drop n states) (no_faults_left (run_faults p) (faults_of_runs ps) sound) logs.1 all.1),
+          (now_sound file policy adopt ps (drop n states) (no_faults_left (run_faults p) (faults_of_runs ps) sound) logs.1 all.1),
     )
 
 pub before_sound : (heard : Option (List ℕ) → Bool) (ps : List Placed) (taken : List Bool) → faults_of_runs ps ≡ [] → AllByRecursion (λ p. skips p.source ≡ true) ps → AllByRecursion (λ p. IsSoundRun p.run) ps
@@ -76,9 +76,9 @@ before_sound heard (p ∷ ps) taken sound logs all =
     let rest = records_of ps in
     let long = records_of_baseline p logs.0 (no_faults_here (run_faults p) (faults_of_runs ps) sound) in (
       subst (λ rs. AllByRecursion (IsOfTool (tool_name p.run)) (kept_of (heard (Some (tool_name p.run))) rs (take n taken))) (sym (take_own here rest n long))
-      (kept_sound (IsOfTool (tool_name p.run)) (heard (Some (tool_name p.run))) here (take n taken) (own_records p all.0)),
+          (kept_sound (IsOfTool (tool_name p.run)) (heard (Some (tool_name p.run))) here (take n taken) (own_records p all.0)),
       subst (λ rs. AllByRecursion IsChosenSound (chosen_before heard (run_values ps) rs (drop n taken))) (sym (drop_own here rest n long))
-      (before_sound heard ps (drop n taken) (no_faults_left (run_faults p) (faults_of_runs ps) sound) logs.1 all.1),
+          (before_sound heard ps (drop n taken) (no_faults_left (run_faults p) (faults_of_runs ps) sound) logs.1 all.1),
     )
 
 -- ---- tool by tool

@@ -1,33 +1,28 @@
 -- The known log of a merge is read as its runs.
-use Rattle.std.proofs.Common.{◌≡◌, ◌+◌, ◌≤◌, ◌++◌, ◌||◌, ℕ, Bool, true, false, List, [], ◌∷◌, length, map, refl, sym, ap, subst, ◌∙◌, arith, append-nil, length-append, pos, negsuc, if◌then◌else◌, true≢false}
-use Rattle.std.specs.Prelude.{⊤, nat_lt}
-use Rattle.std.specs.List.{AllByRecursion, flat_map}
+use Rattle.std.proofs.Common.{◌≡◌, ◌+◌, ◌≤◌, ◌++◌, ℕ, Bool, true, false, List, [], ◌∷◌, length, refl, sym, ap, ◌∙◌, arith, length-append}
+use Rattle.std.specs.Prelude.{nat_lt}
 use Rattle.std.specs.Str.{IsUtf8}
 use Rattle.std.proofs.lemmas.Bool.{ltb-false}
 use Rattle.std.proofs.lemmas.List.{length-map, map-append}
 use Rattle.std.proofs.lemmas.List.Concat.{flat_map-append}
-use Rattle.json.specs.Layout.{pretty}
 use Rattle.json.specs.Tree as tree
 use Rattle.json.proofs.Printed.Decimals.{IsNumber-decimal}
 use Rattle.json.proofs.Printed.Trees.{ArePrintable-json_tokens}
 use Rattle.serde_json.specs.Data.{Data, null, boolean, number, unsigned, negative, float, string, array, object, Items, no_items, item, Members, no_members, member}
 use Rattle.serde_json.specs.Written.{items_outline, members_outline, outline}
-use Rattle.sarif_model.specs.declared.merge_fault.MergeFault.{MergeFault}
 use Rattle.sarif_model.specs.declared.merge_fault.Source.TheVariants.{Log, Baseline}
 use Rattle.sarif_model.specs.Limits.{most_results, most_runs}
-use Rattle.sarif_model.specs.Run.{results_of, results_total}
+use Rattle.sarif_model.specs.Run.{results_total}
 use Rattle.sarif_counts.specs.declared.policy.Policy.{Policy}
 use Rattle.sarif_counts.specs.declared.upkeep.Knowing.{Knowing}
 use Rattle.sarif_runs.specs.Judging.{faults_of_runs, run_faults, run_values}
-use Rattle.sarif_runs.specs.Placed.{Placed}
 use Rattle.sarif_read.specs.Reading.{log_of}
 use Rattle.sarif_results.proofs.JudgedCounts.{no_faults_here, no_faults_left}
 use Rattle.sarif_inputs.specs.Faults.{faults_of, file_faults, file_or_none, number_faults}
 use Rattle.sarif_inputs.specs.Inputs.{Inputs, Sourced, all_runs, all_sources, baseline_runs, baseline_sources, input_runs, log_sources, placed, placed_from, runs_in}
-use Rattle.sarif_inputs.specs.SourceFaults.{is_past_limits, limit_faults, reading_faults, source_faults}
+use Rattle.sarif_inputs.specs.SourceFaults.{limit_faults, reading_faults, source_faults}
 use Rattle.sarif_inputs.proofs.ReadFacts.{baseline_sides, log_sides, placed-append}
 use Rattle.sarif_inputs.proofs.SourceRuns.{data_placed}
-use Rattle.sarif_known.specs.Chosen.{Chosen, results_among}
 use Rattle.sarif_known.specs.KnownLog.{known_log, known_text, pretty_text}
 use Rattle.sarif_known.specs.Laws.{CanBeRead}
 use Rattle.sarif_known.proofs.KnownPlain.{log_plain}
