@@ -1,10 +1,8 @@
 -- The text of the new suppression file is read as the file.
-use Rattle.std.proofs.Common.{◌≡◌, ℕ, ◌≤◌, ◌<◌, ◌^◌, ◌/◌, ◌%◌, Bool, true, false, ◌&&◌, List, [], Option, Some, None, refl, sym, ap, ◌∙◌, subst, arith}
+use Rattle.std.proofs.Common.{◌≡◌, ℕ, ◌<◌, ◌^◌, ◌/◌, ◌%◌, true, ◌&&◌, Option, Some, None, refl, arith}
 use Rattle.std.specs.Prelude.{nat_le}
 use Rattle.std.specs.Str.{IsUtf8}
 use Rattle.std.proofs.lemmas.Bool.{and_parts, leb-true}
-use Rattle.serde_json.specs.Data.{Data, array, number, unsigned, put}
-use Rattle.serde_json.specs.View.{items_of}
 use Rattle.sarif_counts.specs.declared.policy.Policy.{Policy}
 use Rattle.sarif_counts.specs.declared.upkeep.Renewal.{Renewal}
 use Rattle.json_parts.specs.Indexed.{json_of}
@@ -12,7 +10,6 @@ use Rattle.json_parts.specs.Mark.{without_mark}
 use Rattle.sarif_model.specs.Limits.{first_day, last_day}
 use Rattle.sarif_suppress.specs.Entries.{is_day, is_within}
 use Rattle.sarif_accept.specs.NewFile.{file_text}
-use Rattle.sarif_accept.specs.Renewed.{renewed_file}
 use Rattle.sarif_accept.specs.Until.{IsDated}
 use Rattle.sarif_accept.proofs.RenewedFile.{is_shallow, is_whole}
 use Rattle.sarif_inputs.specs.Inputs.{Inputs}

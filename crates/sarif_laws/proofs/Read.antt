@@ -1,5 +1,5 @@
 -- What is known of the record of a result that was read: its GUID, and the statuses of its own suppressions.
-use Rattle.std.proofs.Common.{◌≡◌, ℕ, ◌<◌, ◌^◌, Bool, true, false, ◌&&◌, List, [], ◌∷◌, map, Option, Some, None, codes, refl, subst, if◌then◌else◌}
+use Rattle.std.proofs.Common.{◌≡◌, ℕ, ◌<◌, ◌^◌, Bool, true, false, ◌&&◌, List, [], ◌∷◌, map, length, Option, Some, None, codes, refl, subst, if◌then◌else◌}
 use Rattle.std.specs.Prelude.{Result, Ok, Err, IfSome, option_and_then}
 use Rattle.std.specs.List.{AllByRecursion, range_with_len}
 use Rattle.serde_json.specs.Data.{Data, null, boolean, number, string, array, object, Members}
@@ -10,7 +10,7 @@ use Rattle.sarif_model.specs.declared.kinds.Status.{Status}
 use Rattle.sarif_model.specs.declared.record.Record.{Record}
 use Rattle.sarif_model.specs.Guid.{guid_of_text}
 use Rattle.sarif_model.specs.Members.{◌>>=◌, are_objects, elements, elements_of, if_objects, member_at, of_kind, or_wrong, read_each, unless_null}
-use Rattle.sarif_model.specs.Run.{is_absent_result, result_at}
+use Rattle.sarif_model.specs.Run.{is_absent_result, result_at, results_of}
 use Rattle.sarif_model.specs.Suppression.{status_of}
 use Rattle.sarif_counts.specs.CountOf.{items_in}
 use Rattle.sarif_read.proofs.WholeRuns.{bind_ok}
@@ -113,17 +113,19 @@ statuses_read ms r read = held_read (get_member (codes "suppressions") ms) r.hel
 
 -- ---- all records
 
-with_guid : (skipped : Bool) (found : Result Record Fault) (rs : List Record) → ((r : Record) → found ≡ Ok r → HasGuid r) → AllByRecursion HasGuid rs
-    → AllByRecursion HasGuid (with_record (if skipped then Skipped else item_by found) rs)
-with_guid true found rs here rest = rest
-with_guid false (Ok r) rs here rest = (here r refl, rest)
-with_guid false (Err fault) rs here rest = rest
+module _ (P : Record → Type 0) where
+  with_each : (skipped : Bool) (found : Result Record Fault) (rs : List Record) → ((r : Record) → found ≡ Ok r → P r) → AllByRecursion P rs → AllByRecursion P (with_record (if skipped then Skipped else item_by found) rs)
+  with_each true found rs here rest = rest
+  with_each false (Ok r) rs here rest = (here r refl, rest)
+  with_each false (Err fault) rs here rest = rest
 
-in_run : (p : Placed) (seqs : List ℕ) → AllByRecursion HasGuid (records_in (map (item_of p) seqs))
-in_run p [] = tt
-in_run p (seq ∷ seqs) =
-    with_guid (skips p.source && is_absent_result (result_at p.run seq)) (record_of p.run seq) (records_in (map (item_of p) seqs)) (λ r is. (record_read p.run seq r is).guid) (in_run p seqs)
+  -- what is so of each record that is read of a run
+  pub in_run : (p : Placed) → ((seq : ℕ) (r : Record) → record_of p.run seq ≡ Ok r → P r) → (seqs : List ℕ) → AllByRecursion P (records_in (map (item_of p) seqs))
+  in_run p each [] = tt
+  in_run p each (seq ∷ seqs) =
+      with_each (skips p.source && is_absent_result (result_at p.run seq)) (record_of p.run seq) (records_in (map (item_of p) seqs)) (each seq) (in_run p each seqs)
 
 pub guids_fit : (ps : List Placed) → AllByRecursion HasGuid (records_of ps)
 guids_fit [] = tt
-guids_fit (p ∷ ps) = all_append HasGuid (records_in (items_of p)) (records_of ps) (in_run p (range_with_len 0 _)) (guids_fit ps)
+guids_fit (p ∷ ps) =
+    all_append HasGuid (records_in (items_of p)) (records_of ps) (in_run HasGuid p (λ seq r is. (record_read p.run seq r is).guid) (range_with_len 0 (length (results_of p.run)))) (guids_fit ps)

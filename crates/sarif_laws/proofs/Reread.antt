@@ -1,5 +1,5 @@
--- A value is read from its text, if the names of its objects rise and its numbers are integers in range.
-use Rattle.std.proofs.Common.{◌≡◌, ℕ, suc, ◌<◌, ◌≤◌, Bool, true, false, ◌||◌, pos, negsuc, List, [], ◌∷◌, ◌++◌, Option, Some, None, option_map, option_and_then, max, Greater, nat_cmp, refl, sym, ap, ap₂, subst, ◌∙◌, append-nil, true≢false}
+-- A value is read of its text, if the names of its objects rise and its numbers are integers in range.
+use Rattle.std.proofs.Common.{◌≡◌, ℕ, suc, ◌≤◌, true, false, pos, negsuc, List, [], ◌∷◌, ◌++◌, Some, option_map, option_and_then, max, Greater, nat_cmp, refl, sym, ap, ap₂, subst, ◌∙◌, append-nil, true≢false}
 use Rattle.std.specs.Prelude.{⊤}
 use Rattle.std.specs.Cmp.Lexicographic.{slice_cmp}
 use Rattle.std.specs.Ordering.{ordering_reverse}
@@ -25,7 +25,7 @@ use Rattle.sarif_accept.proofs.Newline.{read_line}
 use Rattle.sarif_laws.proofs.Printed.{pretty_tokens}
 use Rattle.sarif_laws.proofs.Ranged.{AreItemsRanged, AreMembersRanged, IsRanged}
 
--- ---- members that are put in order
+-- ---- members that go in one after another
 
 abbrev joined : Members → Members → Members
 joined no_members ms = ms

@@ -1,18 +1,17 @@
 -- In the new suppression file the names of objects rise, and numbers are in range.
-use Rattle.std.proofs.Common.{◌≡◌, ℕ, ◌<◌, ◌≤◌, ◌^◌, ◌&&◌, Bool, true, false, List, [], ◌∷◌, ◌++◌, map, Option, Some, None, option_map, option_and_then, bytes_eq, codes, refl, sym, ap, subst, ◌∙◌, arith, if◌then◌else◌}
+use Rattle.std.proofs.Common.{◌≡◌, ℕ, ◌<◌, ◌^◌, Bool, true, false, List, [], ◌∷◌, map, Option, Some, None, option_map, option_and_then, bytes_eq, codes, refl, arith, if◌then◌else◌}
 use Rattle.std.specs.Prelude.{⊤, unwrap_or}
 use Rattle.std.specs.Str.{is_utf8}
 use Rattle.std.specs.List.{AllByRecursion}
 use Rattle.json.specs.Json as json
 use Rattle.json.specs.Lex.{tokens}
 use Rattle.serde_json.specs.Data.{Data, null, boolean, number, unsigned, string, array, object, Items, no_items, item, Members, no_members, member, put}
-use Rattle.serde_json.specs.Find.{as_array, as_object, get, get_member}
+use Rattle.serde_json.specs.Find.{as_array, get, get_member}
 use Rattle.serde_json.specs.Read.{max_depth, of_json, read}
 use Rattle.serde_json.specs.View.{items_of}
 use Rattle.json_parts.specs.Indexed.{json_of}
 use Rattle.json_parts.specs.Mark.{without_mark}
 use Rattle.json_parts.specs.Ordered.{AreItemsOrdered, AreMembersOrdered, IsBelow, IsOrdered}
-use Rattle.json_parts.specs.Stripping.{stripped, stripped_members}
 use Rattle.json_parts.specs.Without.{without, without_member}
 use Rattle.json_parts.proofs.Order.{ordered_put, read_ordered}
 use Rattle.json_parts.proofs.Readings.{and_then_some}
@@ -26,7 +25,7 @@ use Rattle.sarif_accept.specs.Keeping.{chosen}
 use Rattle.sarif_accept.specs.NewFile.{entries_after, entries_in, entry_in, file_object, listed, new_file, others_in, stripped_in}
 use Rattle.sarif_known.proofs.Rising.{stripped_ordered}
 use Rattle.sarif_laws.proofs.Lists.{all_append}
-use Rattle.sarif_laws.proofs.Ranged.{AreItemsRanged, AreMembersRanged, IsRanged, elements_ranged, list_ranged, member_ranged, put_ranged, read_ranged, stripped_ranged, without_ranged}
+use Rattle.sarif_laws.proofs.Ranged.{AreItemsRanged, AreMembersRanged, IsRanged, list_ranged, member_ranged, put_ranged, read_ranged, stripped_ranged, without_ranged}
 
 -- names rise, and numbers are in range
 pub record IsSound (d : Data) : Type 0 where

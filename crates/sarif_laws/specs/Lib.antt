@@ -1,5 +1,6 @@
-pub mod Hits
-pub mod NextMerge
 pub mod Accepting
-pub mod Pruning
+pub mod Hits
+pub mod KnownAgain
 pub mod Lines
+pub mod NextMerge
+pub mod Pruning

@@ -4,10 +4,12 @@ ghost use Rattle.std.specs.Str.{IsUtf8};
 ghost use Rattle.serde_json.specs.Data.{Data};
 ghost use Rattle.sarif_model.specs.Run.{results_of};
 ghost use Rattle.sarif_counts.specs.declared.policy.Policy.{Policy};
+ghost use Rattle.sarif_counts.specs.declared.upkeep.Knowing.{Knowing};
 ghost use Rattle.sarif_counts.specs.declared.upkeep.Renewal.{Renewal};
 ghost use Rattle.sarif_counts.specs.CountOf.{count_of};
 ghost use Rattle.sarif_counts.specs.Policy.{hits_of};
 ghost use Rattle.sarif_accept.specs.Until.{IsDated, IsUntil};
+ghost use Rattle.sarif_upkeep.specs.Known.{remembered, runs_known};
 ghost use Rattle.sarif_upkeep.specs.Life as life;
 ghost use Rattle.sarif_upkeep.specs.Renewed.{renewal_faults, renewed};
 ghost use Rattle.sarif_inputs.specs.Faults.{faults_of};
@@ -16,6 +18,7 @@ ghost use Rattle.sarif_merge.specs.Life.{merge_in};
 ghost use Rattle.sarif_merge.specs.MergedLog as log;
 ghost use Rattle.sarif_laws.specs.Accepting.{LeavesWhatStays};
 ghost use Rattle.sarif_laws.specs.Hits.{is_hit_in};
+ghost use Rattle.sarif_laws.specs.KnownAgain.{IsKnownAgain};
 ghost use Rattle.sarif_laws.specs.Lines.{lines_in};
 ghost use Rattle.sarif_laws.specs.NextMerge.{IsNewFile};
 ghost use Rattle.sarif_laws.specs.Pruning.{ChangesNoResult};
@@ -56,6 +59,16 @@ pub fn pruning_changes_no_run()
         → faults_of inputs ≡ [] → renewal_faults (merge_in inputs policy) renewal ≡ []
         → renewal.prune ≡ true → renewal.accept ≡ false
         → IsNewFile inputs policy renewal text → ChangesNoResult inputs text }
+{}
+
+/// The bytes that a merge gives as its known log are read without an error, if they are UTF-8, as each string is. Wherever
+/// its runs are read, none has an error, and the records of their results are just those of the results that become or
+/// stay known, in order.
+pub fn the_known_log_is_read_again()
+    ensures { (inputs : Inputs) (policy : Policy) (knowing : Knowing) → faults_of inputs ≡ []
+        → IsUtf8 (remembered (merge_in inputs policy) knowing).text
+        → IsKnownAgain (runs_known (merge_in inputs policy) knowing)
+        (remembered (merge_in inputs policy) knowing).text }
 {}
 
 /// The list of unused entries has a line for each entry that the gate counts as unused.

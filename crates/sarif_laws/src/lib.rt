@@ -5,5 +5,5 @@ mod laws;
 
 pub use laws::{
     accepting_leaves_the_hits_that_stay, each_unused_entry_has_a_line, pruning_changes_no_run,
-    the_gate_counts_the_hits, the_new_file_is_read_as_itself,
+    the_gate_counts_the_hits, the_known_log_is_read_again, the_new_file_is_read_as_itself,
 };

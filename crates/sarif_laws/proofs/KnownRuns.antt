@@ -1,0 +1,154 @@
+-- The runs that become known can be read again.
+use Rattle.std.proofs.Common.{◌≡◌, ◌≤◌, ◌&&◌, ◌++◌, ℕ, zero, suc, Bool, true, false, not, List, [], ◌∷◌, length, take, drop, Option, Some, refl, sym, ap, subst, ◌∙◌, arith, if◌then◌else◌}
+use Rattle.std.specs.Prelude.{filter, bytes_eq}
+use Rattle.std.specs.List.{AllByRecursion, flat_map}
+use Rattle.std.proofs.Math.Seq.{take-append_seam, drop-append_seam}
+use Rattle.serde_json.specs.Data.{Data}
+use Rattle.sarif_model.specs.declared.kinds.State.{State}
+use Rattle.sarif_model.specs.declared.record.Record.{Record}
+use Rattle.sarif_model.specs.Run.{is_absent_result, present, results_of, results_total}
+use Rattle.sarif_counts.specs.declared.policy.Policy.{Policy}
+use Rattle.sarif_suppress.specs.File.{File}
+use Rattle.sarif_suppress.specs.Matching.{is_empty}
+use Rattle.sarif_runs.specs.Judging.{faults_of_runs, items_of, records_in, records_of, run_faults, run_values, skips}
+use Rattle.sarif_runs.specs.Placed.{Placed}
+use Rattle.sarif_runs.specs.Record.{tool_name}
+use Rattle.sarif_results.proofs.JudgedCounts.{no_faults_here, no_faults_left, records_of_baseline, records_of_log}
+use Rattle.sarif_known.specs.Chosen.{Chosen, results_among}
+use Rattle.sarif_known.specs.Laws.{IsOfTool}
+use Rattle.sarif_known.specs.Order.{known_runs, runs_of_tool, tools_of}
+use Rattle.sarif_known.specs.Selected.{is_left_out, keep_unless, kept_of, known_of, unmatched_of}
+use Rattle.sarif_upkeep.specs.Known.{chosen_before, chosen_now}
+use Rattle.sarif_laws.proofs.Lists.{all_append}
+use Rattle.sarif_laws.proofs.OfTool.{IsSoundRun, own_records}
+
+abbrev pub IsChosenSound : Chosen → Type 0
+IsChosenSound run = AllByRecursion (IsOfTool run.tool) run.records
+
+-- ---- of which tools
+
+module _ (P : Record → Type 0) where
+  kept_unless : (gone : Bool) (r : Record) (rs : List Record) → P r → AllByRecursion P rs → AllByRecursion P (keep_unless gone r rs)
+  kept_unless true r rs here rest = rest
+  kept_unless false r rs here rest = (here, rest)
+
+  known_sound : (file : File) (policy : Policy) (adopt : Bool) (rs : List Record) (states : List State) → AllByRecursion P rs → AllByRecursion P (known_of file policy adopt rs states)
+  known_sound file policy adopt [] states all = tt
+  known_sound file policy adopt (r ∷ rs) [] all = tt
+  known_sound file policy adopt (r ∷ rs) (state ∷ states) all =
+      kept_unless (is_left_out file policy adopt r state) r (known_of file policy adopt rs states) all.0 (known_sound file policy adopt rs states all.1)
+
+  unmatched_sound : (rs : List Record) (taken : List Bool) → AllByRecursion P rs → AllByRecursion P (unmatched_of rs taken)
+  unmatched_sound [] taken all = tt
+  unmatched_sound (r ∷ rs) [] all = tt
+  unmatched_sound (r ∷ rs) (t ∷ taken) all = kept_unless t r (unmatched_of rs taken) all.0 (unmatched_sound rs taken all.1)
+
+  kept_sound : (heard : Bool) (rs : List Record) (taken : List Bool) → AllByRecursion P rs → AllByRecursion P (kept_of heard rs taken)
+  kept_sound true rs taken all = tt
+  kept_sound false rs taken all = unmatched_sound rs taken all
+
+take_own : (xs ys : List Record) (n : ℕ) → length xs ≡ n → take n (xs ++ ys) ≡ xs
+take_own xs ys n long = ap (λ m. take m (xs ++ ys)) (sym long) ∙ take-append_seam xs ys
+
+drop_own : (xs ys : List Record) (n : ℕ) → length xs ≡ n → drop n (xs ++ ys) ≡ ys
+drop_own xs ys n long = ap (λ m. drop m (xs ++ ys)) (sym long) ∙ drop-append_seam xs ys
+
+pub now_sound : (file : File) (policy : Policy) (adopt : Bool) (ps : List Placed) (states : List State) → faults_of_runs ps ≡ [] → AllByRecursion (λ p. skips p.source ≡ false) ps → AllByRecursion (λ p. IsSoundRun p.run) ps
+    → AllByRecursion IsChosenSound (chosen_now file policy adopt (run_values ps) (records_of ps) states)
+now_sound file policy adopt [] states sound logs all = tt
+now_sound file policy adopt (p ∷ ps) states sound logs all =
+    let n = length (results_of p.run) in
+    let here = records_in (items_of p) in
+    let rest = records_of ps in
+    let long = records_of_log p logs.0 (no_faults_here (run_faults p) (faults_of_runs ps) sound) in (
+      subst (λ rs. AllByRecursion (IsOfTool (tool_name p.run)) (known_of file policy adopt rs (take n states))) (sym (take_own here rest n long))
+          (known_sound (IsOfTool (tool_name p.run)) file policy adopt here (take n states) (own_records p all.0)),
+      subst (λ rs. AllByRecursion IsChosenSound (chosen_now file policy adopt (run_values ps) rs (drop n states))) (sym (drop_own here rest n long))
+          (now_sound file policy adopt ps (drop n states) (no_faults_left (run_faults p) (faults_of_runs ps) sound) logs.1 all.1),
+    )
+
+pub before_sound : (heard : Option (List ℕ) → Bool) (ps : List Placed) (taken : List Bool) → faults_of_runs ps ≡ [] → AllByRecursion (λ p. skips p.source ≡ true) ps → AllByRecursion (λ p. IsSoundRun p.run) ps
+    → AllByRecursion IsChosenSound (chosen_before heard (run_values ps) (records_of ps) taken)
+before_sound heard [] taken sound logs all = tt
+before_sound heard (p ∷ ps) taken sound logs all =
+    let n = length (present (results_of p.run)) in
+    let here = records_in (items_of p) in
+    let rest = records_of ps in
+    let long = records_of_baseline p logs.0 (no_faults_here (run_faults p) (faults_of_runs ps) sound) in (
+      subst (λ rs. AllByRecursion (IsOfTool (tool_name p.run)) (kept_of (heard (Some (tool_name p.run))) rs (take n taken))) (sym (take_own here rest n long))
+          (kept_sound (IsOfTool (tool_name p.run)) (heard (Some (tool_name p.run))) here (take n taken) (own_records p all.0)),
+      subst (λ rs. AllByRecursion IsChosenSound (chosen_before heard (run_values ps) rs (drop n taken))) (sym (drop_own here rest n long))
+          (before_sound heard ps (drop n taken) (no_faults_left (run_faults p) (faults_of_runs ps) sound) logs.1 all.1),
+    )
+
+-- ---- tool by tool
+
+of_tool_sound : (runs : List Chosen) (tool : List ℕ) → AllByRecursion IsChosenSound runs → AllByRecursion IsChosenSound (runs_of_tool runs tool)
+of_tool_sound [] tool all = tt
+of_tool_sound (run ∷ runs) tool all =
+    elim (bytes_eq run.tool tool && not (is_empty run.records)) as (λ b. AllByRecursion IsChosenSound (if b then run ∷ runs_of_tool runs tool else runs_of_tool runs tool))
+    [ true ↦ (all.0, of_tool_sound runs tool all.1) | false ↦ of_tool_sound runs tool all.1 ]
+
+of_tools_sound : (runs : List Chosen) (tools : List (List ℕ)) → AllByRecursion IsChosenSound runs → AllByRecursion IsChosenSound (flat_map (runs_of_tool runs) tools)
+of_tools_sound runs [] all = tt
+of_tools_sound runs (t ∷ ts) all = all_append IsChosenSound (runs_of_tool runs t) (flat_map (runs_of_tool runs) ts) (of_tool_sound runs t all) (of_tools_sound runs ts all)
+
+pub grouped_sound : (current baseline : List Chosen) → AllByRecursion IsChosenSound current → AllByRecursion IsChosenSound baseline → AllByRecursion IsChosenSound (known_runs current baseline)
+grouped_sound current baseline now before =
+    of_tools_sound (current ++ baseline) (tools_of (baseline ++ current)) (all_append IsChosenSound current baseline now before)
+
+-- ---- how many
+
+fewer_unless : (gone : Bool) (r : Record) (rs : List Record) (n : ℕ) → length rs ≤ n → length (keep_unless gone r rs) ≤ suc n
+fewer_unless true r rs n few = omega (arith, few)
+fewer_unless false r rs n few = omega (arith, few)
+
+fewer_known : (file : File) (policy : Policy) (adopt : Bool) (rs : List Record) (states : List State) → length (known_of file policy adopt rs states) ≤ length rs
+fewer_known file policy adopt [] states = omega arith
+fewer_known file policy adopt (r ∷ rs) [] = omega arith
+fewer_known file policy adopt (r ∷ rs) (state ∷ states) = fewer_unless (is_left_out file policy adopt r state) r (known_of file policy adopt rs states) (length rs) (fewer_known file policy adopt rs states)
+
+fewer_unmatched : (rs : List Record) (taken : List Bool) → length (unmatched_of rs taken) ≤ length rs
+fewer_unmatched [] taken = omega arith
+fewer_unmatched (r ∷ rs) [] = omega arith
+fewer_unmatched (r ∷ rs) (t ∷ taken) = fewer_unless t r (unmatched_of rs taken) (length rs) (fewer_unmatched rs taken)
+
+fewer_kept : (heard : Bool) (rs : List Record) (taken : List Bool) → length (kept_of heard rs taken) ≤ length rs
+fewer_kept true rs taken = omega arith
+fewer_kept false rs taken = fewer_unmatched rs taken
+
+part_few : (n : ℕ) (rs : List Record) → length (take n rs) ≤ n
+part_few zero rs = omega arith
+part_few (suc n) [] = omega arith
+part_few (suc n) (r ∷ rs) = omega (arith, part_few n rs)
+
+fewer_chosen : (keep : Data → Bool) (ds : List Data) → length (filter keep ds) ≤ length ds
+fewer_chosen keep [] = omega arith
+fewer_chosen keep (d ∷ ds) = one (keep d) (fewer_chosen keep ds)
+  where
+    one : (b : Bool) → length (filter keep ds) ≤ length ds → length (if b then d ∷ filter keep ds else filter keep ds) ≤ suc (length ds)
+    one true few = omega (arith, few)
+    one false few = omega (arith, few)
+
+fewer_present : (ds : List Data) → length (present ds) ≤ length ds
+fewer_present ds = fewer_chosen (λ d. not (is_absent_result d)) ds
+
+pub now_few : (file : File) (policy : Policy) (adopt : Bool) (runs : List Data) (rs : List Record) (states : List State) → results_among (chosen_now file policy adopt runs rs states) ≤ results_total runs
+now_few file policy adopt [] rs states = omega arith
+now_few file policy adopt (run ∷ runs) rs states =
+    let n = length (results_of run) in
+    omega (arith, fewer_known file policy adopt (take n rs) (take n states), part_few n rs, now_few file policy adopt runs (drop n rs) (drop n states))
+
+pub before_few : (heard : Option (List ℕ) → Bool) (runs : List Data) (rs : List Record) (taken : List Bool) → results_among (chosen_before heard runs rs taken) ≤ results_total runs
+before_few heard [] rs taken = omega arith
+before_few heard (run ∷ runs) rs taken =
+    let n = length (present (results_of run)) in
+    omega (arith, fewer_kept (heard (Some (tool_name run))) (take n rs) (take n taken), part_few n rs, fewer_present (results_of run), before_few heard runs (drop n rs) (drop n taken))
+
+pub now_long : (file : File) (policy : Policy) (adopt : Bool) (runs : List Data) (rs : List Record) (states : List State) → length (chosen_now file policy adopt runs rs states) ≡ length runs
+now_long file policy adopt [] rs states = refl
+now_long file policy adopt (run ∷ runs) rs states = ap suc (now_long file policy adopt runs (drop (length (results_of run)) rs) (drop (length (results_of run)) states))
+
+pub before_long : (heard : Option (List ℕ) → Bool) (runs : List Data) (rs : List Record) (taken : List Bool) → length (chosen_before heard runs rs taken) ≡ length runs
+before_long heard [] rs taken = refl
+before_long heard (run ∷ runs) rs taken = ap suc (before_long heard runs (drop (length (present (results_of run))) rs) (drop (length (present (results_of run))) taken))

@@ -1,0 +1,173 @@
+-- The known log of a merge is read as its runs.
+use Rattle.std.proofs.Common.{◌≡◌, ◌+◌, ◌≤◌, ◌++◌, ℕ, Bool, true, false, List, [], ◌∷◌, length, refl, sym, ap, ◌∙◌, arith, length-append}
+use Rattle.std.specs.Prelude.{nat_lt}
+use Rattle.std.specs.Str.{IsUtf8}
+use Rattle.std.proofs.lemmas.Bool.{ltb-false}
+use Rattle.std.proofs.lemmas.List.{length-map, map-append}
+use Rattle.std.proofs.lemmas.List.Concat.{flat_map-append}
+use Rattle.json.specs.Tree as tree
+use Rattle.json.proofs.Printed.Decimals.{IsNumber-decimal}
+use Rattle.json.proofs.Printed.Trees.{ArePrintable-json_tokens}
+use Rattle.serde_json.specs.Data.{Data, null, boolean, number, unsigned, negative, float, string, array, object, Items, no_items, item, Members, no_members, member}
+use Rattle.serde_json.specs.Written.{items_outline, members_outline, outline}
+use Rattle.sarif_model.specs.declared.merge_fault.Source.TheVariants.{Log, Baseline}
+use Rattle.sarif_model.specs.Limits.{most_results, most_runs}
+use Rattle.sarif_model.specs.Run.{results_total}
+use Rattle.sarif_counts.specs.declared.policy.Policy.{Policy}
+use Rattle.sarif_counts.specs.declared.upkeep.Knowing.{Knowing}
+use Rattle.sarif_runs.specs.Judging.{faults_of_runs, run_faults, run_values}
+use Rattle.sarif_read.specs.Reading.{log_of}
+use Rattle.sarif_results.proofs.JudgedCounts.{no_faults_here, no_faults_left}
+use Rattle.sarif_inputs.specs.Faults.{faults_of, file_faults, file_or_none, number_faults}
+use Rattle.sarif_inputs.specs.Inputs.{Inputs, Sourced, all_runs, all_sources, baseline_runs, baseline_sources, input_runs, log_sources, placed, placed_from, runs_in}
+use Rattle.sarif_inputs.specs.SourceFaults.{limit_faults, reading_faults, source_faults}
+use Rattle.sarif_inputs.proofs.ReadFacts.{baseline_sides, log_sides, placed-append}
+use Rattle.sarif_inputs.proofs.SourceRuns.{data_placed}
+use Rattle.sarif_known.specs.KnownLog.{known_log, known_text, pretty_text}
+use Rattle.sarif_known.specs.Laws.{CanBeRead}
+use Rattle.sarif_known.proofs.KnownPlain.{log_plain}
+use Rattle.sarif_known.proofs.LogBack.{log_back, text_read}
+use Rattle.sarif_known.proofs.Plain.{AreItemsPlain, AreMembersPlain, IsPlain}
+use Rattle.sarif_known.proofs.RunBack.{known_again}
+use Rattle.sarif_merge.specs.Life.{merge_in}
+use Rattle.sarif_upkeep.specs.Heard.{heard}
+use Rattle.sarif_upkeep.specs.Known.{adopts, known_before, known_now, runs_known}
+use Rattle.sarif_laws.specs.KnownAgain.{IsKnownAgain}
+use Rattle.sarif_laws.proofs.Grouping.{known_total, total_results, total_runs}
+use Rattle.sarif_laws.proofs.KnownRuns.{before_few, before_long, before_sound, grouped_sound, now_few, now_long, now_sound}
+use Rattle.sarif_laws.proofs.OfTool.{sources_sound}
+use Rattle.sarif_laws.proofs.Places.{faultless_runs}
+use Rattle.sarif_laws.proofs.Printed.{pretty_tokens}
+
+-- ---- the limits of what is read
+
+within_limits : (source : _) (runs results : ℕ) → limit_faults source runs results ≡ [] → (runs ≤ most_runs) × (results ≤ most_results)
+within_limits source runs results none = by_tests (nat_lt most_runs runs) (nat_lt most_results results) refl refl none
+  where
+    by_tests : (a b : Bool) → nat_lt most_runs runs ≡ a → nat_lt most_results results ≡ b → limit_faults source runs results ≡ [] → (runs ≤ most_runs) × (results ≤ most_results)
+    by_tests true b first second none = let never : ⊥ = cc in absurd never
+    by_tests false true first second none = let never : ⊥ = cc in absurd never
+    by_tests false false first second none = (ltb-false most_runs runs first, ltb-false most_results results second)
+
+total-append : (xs ys : List Data) → results_total (xs ++ ys) ≡ results_total xs + results_total ys
+total-append [] ys = omega arith
+total-append (x ∷ xs) ys = omega (arith, total-append xs ys)
+
+record AreWithin (runs results : ℕ) (sources : List Sourced) : Type 0 where
+  runs_fit : runs + length (placed sources) ≤ most_runs
+  results_fit : results + results_total (run_values (placed sources)) ≤ most_results
+
+all_within : (runs results : ℕ) (sources : List Sourced) → runs ≤ most_runs → results ≤ most_results → source_faults runs results sources ≡ [] → AreWithin runs results sources
+all_within runs results [] few few_results none = record { runs_fit = omega (arith, few); results_fit = omega (arith, few_results) }
+all_within runs results (s ∷ rest) few few_results none =
+    let here = runs_in s in
+    let now = runs + length here in
+    let all = results + results_total here in
+    let reading = reading_faults s.source (log_of s.checks.allow_external s.bytes) in
+    let first = no_faults_here (reading ++ limit_faults s.source now all) (source_faults now all rest) none in
+    let limits = within_limits s.source now all (no_faults_left reading (limit_faults s.source now all) first) in
+    let later = all_within now all rest limits.0 limits.1 (no_faults_left (reading ++ limit_faults s.source now all) (source_faults now all rest) none) in
+    let own = placed_from s.checks s.source 0 here in
+    let values : run_values own ≡ here = data_placed s.checks s.source 0 here in
+    let long : length own ≡ length here = sym (length-map own (λ p. p.run)) ∙ ap length values in
+    let joined = ap results_total (map-append (λ p. p.run) own (placed rest)) ∙ total-append (run_values own) (run_values (placed rest)) in
+    let own_total = ap results_total values in
+    record {
+      runs_fit = omega (arith, later.runs_fit, long, length-append own (placed rest));
+      results_fit = omega (arith, later.results_fit, joined, own_total);
+    }
+
+-- ---- the runs without errors
+
+all_faultless : (inputs : Inputs) → faults_of inputs ≡ [] → (source_faults 0 0 (all_sources inputs) ≡ []) × (faults_of_runs (all_runs inputs) ≡ [])
+all_faultless inputs none =
+    let runs = faults_of_runs (all_runs inputs) in
+    let files = file_faults (file_or_none inputs.suppressions inputs.today) in
+    let sources = source_faults 0 0 (all_sources inputs) in
+    let after_logs = no_faults_left (number_faults Log inputs.logs) (number_faults Baseline inputs.baselines ++ (sources ++ (files ++ runs))) none in
+    let after_baselines = no_faults_left (number_faults Baseline inputs.baselines) (sources ++ (files ++ runs)) after_logs in
+    (no_faults_here sources (files ++ runs) after_baselines, no_faults_left files runs (no_faults_left sources (files ++ runs) after_baselines))
+
+faultless_before : (inputs : Inputs) → faults_of inputs ≡ [] → faults_of_runs (baseline_runs inputs) ≡ []
+faultless_before inputs none =
+    no_faults_left (faults_of_runs (input_runs inputs)) (faults_of_runs (baseline_runs inputs)) (sym (flat_map-append run_faults (input_runs inputs) (baseline_runs inputs)) ∙ (all_faultless inputs none).1)
+
+-- ---- the known log can be read
+
+module _ (inputs : Inputs) (policy : Policy) (knowing : Knowing) (none : faults_of inputs ≡ []) where
+  can_be_read : CanBeRead (runs_known (merge_in inputs policy) knowing)
+  can_be_read =
+      let m = merge_in inputs policy in
+      let adopt = adopts knowing in
+      let now = known_now m adopt in
+      let before = known_before m in
+      let limits = all_within 0 0 (all_sources inputs) (omega arith) (omega arith) (all_faultless inputs none).0 in
+      let split = placed-append (log_sources inputs) (baseline_sources inputs) in
+      let runs_split = ap length split ∙ length-append (input_runs inputs) (baseline_runs inputs) in
+      let results_split = ap (λ ps. results_total (run_values ps)) split ∙ ap results_total (map-append (λ p. p.run) (input_runs inputs) (baseline_runs inputs)) ∙ total-append (run_values (input_runs inputs)) (run_values (baseline_runs inputs)) in
+      let now_is = now_long m.file m.policy adopt m.runs m.records m.states in
+      let before_is = before_long (heard m.runs) m.before m.known m.taken in
+      let now_fits = now_few m.file m.policy adopt m.runs m.records m.states in
+      let before_fits = before_few (heard m.runs) m.before m.known m.taken in
+      record {
+        each = grouped_sound now before (now_sound m.file m.policy adopt (input_runs inputs) m.states (faultless_runs inputs none) (log_sides inputs.checks 0 inputs.logs) (sources_sound (log_sources inputs)))
+            (before_sound (heard m.runs) (baseline_runs inputs) m.taken (faultless_before inputs none) (baseline_sides inputs.checks 0 inputs.baselines) (sources_sound (baseline_sources inputs)));
+        few_runs = omega (
+          arith,
+          known_total (λ _. 1) now before,
+          total_runs (runs_known m knowing),
+          total_runs now,
+          total_runs before,
+          now_is,
+          before_is,
+          length-map (input_runs inputs) (λ p. p.run),
+          length-map (baseline_runs inputs) (λ p. p.run),
+          runs_split,
+          limits.runs_fit,
+        );
+        few_results = omega (
+          arith,
+          known_total (λ run. length run.records) now before,
+          total_results (runs_known m knowing),
+          total_results now,
+          total_results before,
+          now_fits,
+          before_fits,
+          results_split,
+          limits.results_fit,
+        );
+      }
+
+-- ---- its text
+
+mutual
+  plain_numbers : (d : Data) → IsPlain d → tree.HasNumbers (outline d)
+  plain_numbers null plain = tt
+  plain_numbers (boolean b) plain = tt
+  plain_numbers (number (unsigned n)) plain = IsNumber-decimal n plain
+  plain_numbers (number (negative z)) plain = absurd plain
+  plain_numbers (number (float x)) plain = absurd plain
+  plain_numbers (string s) plain = tt
+  plain_numbers (array ds) plain = items_numbers ds plain
+  plain_numbers (object ms) plain = members_numbers ms plain
+
+  items_numbers : (ds : Items) → AreItemsPlain ds → tree.ItemsHaveNumbers (items_outline ds)
+  items_numbers no_items plain = tt
+  items_numbers (item d ds) plain = (plain_numbers d plain.0, items_numbers ds plain.1)
+
+  members_numbers : (ms : Members) → AreMembersPlain ms → tree.MembersHaveNumbers (members_outline ms)
+  members_numbers no_members plain = tt
+  members_numbers (member k d ms) plain = (plain_numbers d plain.1, members_numbers ms plain.2)
+
+pub known_read : (inputs : Inputs) (policy : Policy) (knowing : Knowing) → faults_of inputs ≡ [] → IsUtf8 (known_text (runs_known (merge_in inputs policy) knowing))
+    → IsKnownAgain (runs_known (merge_in inputs policy) knowing) (known_text (runs_known (merge_in inputs policy) knowing))
+known_read inputs policy knowing none utf8 =
+    let runs = runs_known (merge_in inputs policy) knowing in
+    let can = can_be_read inputs policy knowing none in
+    let d = known_log runs in
+    let same = pretty_tokens (tree.json_tokens (outline d)) (ArePrintable-json_tokens (outline d) (plain_numbers d (log_plain runs can.each can.few_results))) in
+    let value = text_read runs (pretty_text d) can refl same utf8 in
+    record {
+      log = λ allow. log_back allow runs (known_text runs) can value;
+      again = λ placed are. known_again runs placed are can.each can.few_results;
+    }
