@@ -4,4 +4,5 @@ pub mod Known
 pub mod Life
 pub mod Making
 pub mod Merge
+pub mod ReadBack
 pub mod Renewed

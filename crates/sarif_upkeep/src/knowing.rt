@@ -12,6 +12,7 @@ ghost use Rattle.sarif_known.specs.Chosen.{all_chosen, results_among};
 ghost use Rattle.sarif_upkeep.specs.IsMatched.{IsMatched};
 ghost use Rattle.sarif_upkeep.specs.Known as said;
 ghost use Rattle.sarif_upkeep.specs.Merge.{present_counts, present_total, Merge};
+ghost use Rattle.sarif_upkeep.specs.ReadBack.{IsKnownLog};
 
 use crate::matched::{Before, Matched};
 use crate::tools::heard_in;
@@ -134,7 +135,8 @@ fn count_results(runs: &[KnownRun<'_>]) -> usize
     count
 }
 
-/// The known log of a merge. It is rejected if it has more bytes than a log may have.
+/// The known log of a merge, which is read as it is defined if its records are those of results that were read. It is
+/// rejected if it has more bytes than a log may have.
 pub(crate) fn remember(
     alloc: Global,
     seed: RandomState,
@@ -144,6 +146,8 @@ pub(crate) fn remember(
     requires { (m : Merge) × IsMatched m matched.now }
     ensures made { (m : Merge) → IsMatched m matched.now
         → IfOk result (λ log. log ≡ said.remembered m knowing) }
+    ensures reads { (m : Merge) → IsMatched m matched.now
+        → IfOk result (λ log. IsKnownLog m knowing log.text) }
     ensures sound { (m : Merge) → IsMatched m matched.now
         → IfOk result (λ _. said.known_faults m knowing ≡ []) }
     ensures refused { (m : Merge) → IsMatched m matched.now → IfErr result (λ fault.

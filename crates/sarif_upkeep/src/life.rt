@@ -5,6 +5,7 @@ ghost use Rattle.sarif_model.specs.MergeFault.{out_of_memory};
 ghost use Rattle.sarif_upkeep.specs.IsMatched.{IsMatched};
 ghost use Rattle.sarif_upkeep.specs.Life as said;
 ghost use Rattle.sarif_upkeep.specs.Merge.{Merge};
+ghost use Rattle.sarif_upkeep.specs.ReadBack.{IsReadAgain};
 
 use crate::knowing::remember;
 use crate::matched::Matched;
@@ -27,7 +28,8 @@ fn list_unused(alloc: Global, matched: &Matched<'_, '_, '_>) -> Result<Text, All
     }
 }
 
-/// Returns what a merge gives for later merges: what `upkeep` asks for, and nothing else. Returns `TooMany` or `TooLong`
+/// Returns what a merge gives for later merges: what `upkeep` requests, and nothing else. Each file of it is read as it is
+/// defined; the known log is if its records are those of results that were read. Returns `TooMany` or `TooLong`
 /// at the suppression file if the new one could not be read again, then `TooLong` at the known log if this one could not,
 /// and `OutOfMemory` without a place if memory runs out.
 pub fn life_of(
@@ -39,6 +41,8 @@ pub fn life_of(
     requires { (m : Merge) × IsMatched m matched.now }
     ensures made { (m : Merge) → IsMatched m matched.now
         → IfOk result (λ life. life ≡ said.life_of m (Some upkeep.now)) }
+    ensures read { (m : Merge) → IsMatched m matched.now
+        → IfOk result (IsReadAgain m upkeep.now) }
     ensures sound { (m : Merge) → IsMatched m matched.now
         → IfOk result (λ _. said.life_faults m (Some upkeep.now) ≡ []) }
     ensures refused { (m : Merge) → IsMatched m matched.now → IfErr result (λ fault.

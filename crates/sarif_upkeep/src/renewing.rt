@@ -1,5 +1,7 @@
 //! The new suppression file.
 ghost use Rattle.std.specs.Prelude.{◌≡◌, ◌≤◌, ◌<◌, ◌⊎◌, [], Some, count_by, if◌then◌else◌, length, map, IfOk, IfErr};
+ghost use Rattle.json_parts.specs.Indexed.{json_of};
+ghost use Rattle.json_parts.specs.Mark.{without_mark};
 ghost use Rattle.sarif_model.specs.declared.merge_fault.At.TheVariants.{Whole};
 ghost use Rattle.sarif_model.specs.declared.merge_fault.Source.TheVariants.{Suppress};
 ghost use Rattle.sarif_model.specs.FirstFault.{first};
@@ -13,6 +15,7 @@ ghost use Rattle.sarif_upkeep.specs.Renewed.{text_faults};
 ghost use Rattle.sarif_counts.specs.Policy.{count_if};
 ghost use Rattle.sarif_upkeep.specs.IsMatched.{IsMatched};
 ghost use Rattle.sarif_upkeep.specs.Merge.{Merge};
+ghost use Rattle.sarif_upkeep.specs.ReadBack.{IsNewFile};
 ghost use Rattle.sarif_upkeep.specs.Renewed as said;
 
 use crate::accepting::accepted_among;
@@ -127,6 +130,8 @@ fn text_of(
     ensures sound { IfOk result (λ _.
         text_faults (entries_of bytes.entry kept.now added.now renewal.now)
         (file_of bytes.entry kept.now added.now renewal.now) ≡ []) }
+    ensures reads { IfOk result (λ t. json_of (without_mark t)
+        ≡ Some (file_of bytes.entry kept.now added.now renewal.now)) }
     ensures err { IfErr result (λ fault. (fault ≡ out_of_memory)
         ⊎ (first (text_faults (entries_of bytes.entry kept.now added.now renewal.now)
         (file_of bytes.entry kept.now added.now renewal.now)) ≡ Some fault)) }
@@ -145,7 +150,8 @@ fn count_kept(kept: &[bool]) -> usize
     kept.iter().filter(|one| **one).count()
 }
 
-/// The new suppression file of a merge. It is rejected if it has more entries or bytes than a suppression file may have.
+/// The new suppression file of a merge, which is read as it is defined. It is rejected if it has more entries or bytes than
+/// a suppression file may have.
 pub(crate) fn renew(
     alloc: Global,
     seed: RandomState,
@@ -155,6 +161,8 @@ pub(crate) fn renew(
     requires { (m : Merge) × IsMatched m matched.now }
     ensures made { (m : Merge) → IsMatched m matched.now
         → IfOk result (λ file. file ≡ said.renewed m renewal.now) }
+    ensures reads { (m : Merge) → IsMatched m matched.now
+        → IfOk result (λ file. IsNewFile m renewal.now file.text) }
     ensures sound { (m : Merge) → IsMatched m matched.now
         → IfOk result (λ _. said.renewal_faults m renewal.now ≡ []) }
     ensures refused { (m : Merge) → IsMatched m matched.now → IfErr result (λ fault.

@@ -1,4 +1,4 @@
-use Rattle.std.proofs.Common.{◌≡◌, ◌≤◌, ◌+◌, ◌-◌, inl, inr, Some, length, map, sym, ap, ◌∙◌, subst, arith}
+use Rattle.std.proofs.Common.{◌≡◌, ◌≤◌, ◌+◌, ◌-◌, inl, inr, Some, length, map, sym, ap, ◌∙◌, subst, string_bytes, arith}
 use Rattle.std.proofs.lemmas.Result.{err_from_is_err_and}
 use Rattle.std.specs.Prelude.{◌<◌}
 use Rattle.sarif_model.specs.Limits.{most_bytes, most_results}
@@ -6,7 +6,10 @@ use Rattle.sarif_runs.specs.Judging.{run_values}
 use Rattle.sarif_runs.specs.Opened.{placed_of}
 use Rattle.sarif_accept.specs.Heard.{heard_of}
 use Rattle.sarif_known.specs.Chosen.{all_chosen, results_among}
-use Rattle.sarif_known.specs.KnownLog.{known_text}
+use Rattle.json_parts.specs.Indexed.{json_of}
+use Rattle.json_parts.specs.Mark.{without_mark}
+use Rattle.sarif_known.specs.KnownLog.{known_log, known_text}
+use Rattle.sarif_known.specs.Laws.{CanBeRead}
 use Rattle.sarif_known.specs.Order.{known_runs}
 use Rattle.sarif_upkeep.specs.Heard.{tool_run}
 use Rattle.sarif_upkeep.specs.Known.{adopts, known_before, known_now, remembered}
@@ -68,3 +71,13 @@ overflow_sub-result c =
     let same = ap (λ runs. results_among (all_chosen runs)) c.deref.ensures.value ∙ ap results_among c.in_ok-now.ensures in
     let fewer = now_fewer c.args.matched.now.file.now c.args.matched.now.policy c.adopts.result (run_values (map placed_of c.args.matched.now.current.runs.now)) c.args.matched.now.current.records.now c.args.matched.now.current.states.now in
     omega (arith, same, fewer, c.count_results-chosen.ensures.count)
+
+pub returns-clause-reads : goal.returns-clause-reads
+returns-clause-reads c = λ m is.
+    let now_all = c.in_ok-now.ensures ∙ now_same m (adopts c.args.knowing) _ _ _ _ _ _ is.file is.policy c.adopts.ensures is.current.runs is.current.records is.current.states in
+    let before_all = c.in_ok-before.ensures ∙ before_same m _ _ _ _ (c.in_ok-heard.ensures ∙ ap (map tool_run) is.current.runs) is.before.runs is.before.records is.before.taken in
+    let runs = ap (λ runs. known_runs runs (all_chosen c.in_ok-before.before.items)) now_all ∙ ap (λ runs. known_runs (known_now m (adopts c.args.knowing)) runs) before_all in
+    let text = c.in_ok-from_string.ensures in
+    let reads =
+    subst (λ rs. CanBeRead rs → json_of (without_mark (string_bytes c.in_ok-text.text)) ≡ Some (known_log rs)) runs c.in_ok-text.ensures.reads in
+    λ can. ap (λ t. json_of (without_mark t)) text ∙ reads can

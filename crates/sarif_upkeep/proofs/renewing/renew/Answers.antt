@@ -1,6 +1,6 @@
 use Rattle.std.proofs.Common.{◌≡◌, ◌+◌, ◌-◌, not, inl, inr, length, map, sym, ap, ◌∙◌, arith}
 use Rattle.std.proofs.lemmas.Result.{err_from_is_err_and}
-use Rattle.std.specs.Prelude.{count_by}
+use Rattle.std.specs.Prelude.{Some, count_by}
 use Rattle.sarif_model.specs.FirstFault.{first}
 use Rattle.sarif_accept.specs.NewFile.{file_text}
 use Rattle.sarif_upkeep.specs.Renewed.{entries_count, kept_in}
@@ -55,3 +55,12 @@ returns-clause-made c = λ m is.
       pruned = gone i;
       entries = count i;
     }
+
+pub returns-clause-reads : goal.returns-clause-reads
+returns-clause-reads c = λ m is.
+    c.in_ok-text.ensures.reads
+    ∙ ap Some
+    (file_is m c.args.renewal.now c.args.matched.now.bytes c.deref-2.result.now c.deref.result.now c.deref-3.result.now is.bytes
+    (c.deref-2.ensures.value ∙ c.in_ok-kept.ensures.kept m is)
+    (ap (map (λ r. r.now)) c.deref.ensures.value ∙ c.in_ok-accepted.ensures.accepted m is)
+    (ap (map (λ r. r.now)) c.deref-3.ensures.value ∙ c.in_ok-added.ensures.ok))
