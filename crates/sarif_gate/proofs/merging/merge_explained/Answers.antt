@@ -1,4 +1,4 @@
-use Rattle.std.proofs.Common.{◌≡◌, ◌∙◌, sym}
+use Rattle.std.proofs.Common.{◌∙◌, sym}
 use Rattle.sarif_gate.proofs.merging.merge_explained.Goals as goal
 
 -- the clauses of the run, as one fact
