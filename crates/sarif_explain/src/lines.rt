@@ -40,7 +40,8 @@ pub(crate) fn push_number(
 
 /// The first 80 characters of a string, then `...` if there are more.
 pub(crate) fn shortened(alloc: Global, text: &str) -> Result<String, AllocError>
-    ensures { IfOk result (λ s. string_bytes s ≡ said.shortened said.most_of_a_value (chars text.now)) }
+    ensures { IfOk result
+        (λ s. string_bytes s ≡ said.shortened said.most_of_a_value (chars text.now)) }
 {
     let mut kept = String::new(alloc);
     let mut room = MOST_OF_A_VALUE;

@@ -56,7 +56,8 @@ pub(crate) fn accepted_among<'m>(
 ) -> Result<Vec<&'m Record>, AllocError>
     requires drafts { length drafts.now ≡ length records.now }
     requires states { length states.now ≡ length records.now }
-    ensures accepted { (file : File) → map (λ draft. draft.applied) drafts.now ≡ map (applied_of file) records.now
+    ensures accepted { (file : File)
+        → map (λ draft. draft.applied) drafts.now ≡ map (applied_of file) records.now
         → IfOk result (λ accepted. map (λ r. r.now) accepted.items
         ≡ accepted_among (may_hit policy) file records.now states.now) }
     ensures few { IfOk result (λ accepted. length accepted.items ≤ length records.now) }

@@ -73,7 +73,8 @@ fn known_now<'m>(
     results: Results<'m, '_>,
 ) -> Result<Vec<KnownRun<'m>>, AllocError>
     requires few { length results.records.now ≤ most_results }
-    requires records { length results.records.now ≡ results_total (run_values (map placed_of runs.now)) }
+    requires records { length results.records.now
+        ≡ results_total (run_values (map placed_of runs.now)) }
     requires states { length results.states.now ≡ length results.records.now }
     requires drafts { map (λ draft. draft.applied) results.drafts.now
         ≡ map (applied_of choice.now.file.now) results.records.now }

@@ -19,7 +19,8 @@ use std::hash::RandomState;
 
 /// A line for each unused entry of the suppression file.
 fn list_unused(alloc: Global, matched: &Matched<'_, '_, '_>) -> Result<Text, AllocError>
-    ensures { (m : Merge) → IsMatched m matched.now → IfOk result (λ text. text ≡ said.unused_in m) }
+    ensures { (m : Merge) → IsMatched m matched.now
+        → IfOk result (λ text. text ≡ said.unused_in m) }
 {
     let marks = used_by(alloc, matched.file, matched.current.drafts)?;
     match matched.bytes {

@@ -126,7 +126,8 @@ fn text_of(
     added: &[&Record],
     renewal: &Renewal,
 ) -> Result<Text, MergeFault>
-    ensures text { IfOk result (λ t. t ≡ file_text (file_of bytes.entry kept.now added.now renewal.now)) }
+    ensures text { IfOk result
+        (λ t. t ≡ file_text (file_of bytes.entry kept.now added.now renewal.now)) }
     ensures sound { IfOk result (λ _.
         text_faults (entries_of bytes.entry kept.now added.now renewal.now)
         (file_of bytes.entry kept.now added.now renewal.now) ≡ []) }

@@ -16,7 +16,8 @@ use std::hash::RandomState;
 
 /// What each of these runs says of its tool.
 fn tool_runs(alloc: Global, runs: &[OpenedRun<'_, '_>]) -> Result<Vec<ToolRun>, AllocError>
-    ensures { IfOk result (λ made. made.items ≡ map tool_run (run_values (map placed_of runs.now))) }
+    ensures { IfOk result
+        (λ made. made.items ≡ map tool_run (run_values (map placed_of runs.now))) }
 {
     let mut made = Vec::with_capacity(alloc, runs.len())?;
     for run in runs {
