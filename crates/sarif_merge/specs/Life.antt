@@ -17,7 +17,7 @@ abbrev pub merge_in : Inputs → Policy → Merge
 merge_in inputs policy =
     merge_of (file_given inputs) inputs.suppressions policy (input_runs inputs) (baseline_runs inputs)
 
--- what is for later merges is what was requested and nothing else, and each file of it can be read again
+-- what is for later merges is what was requested and nothing else, and each file of it is read as it is defined
 abbrev pub IsLifeOf : Inputs → Policy → Option Upkeep → Life → Type 0
 IsLifeOf inputs policy upkeep life = IsKept (merge_in inputs policy) upkeep life
 

@@ -41,4 +41,5 @@ returns-clause-kept c = λ now before h.
     c.deref-6.ensures.value c.deref-7.ensures.value c.deref-8.ensures.value c.deref-9.ensures.value in record {
       faultless = c.in_ok-life.ensures.sound m is;
       is = c.in_ok-life.ensures.made m is;
+      read = c.in_ok-life.ensures.read m is;
     }
