@@ -1,15 +1,16 @@
 -- Runs and the log, from their parts.
-use Rattle.std.proofs.Common.{◌≡◌, List, [], ◌∷◌, ◌++◌, map, sym, ap, ◌∙◌, append_assoc}
+use Rattle.std.proofs.Common.{◌≡◌, ◌==◌, false, length, ℕ, List, [], ◌∷◌, ◌++◌, map, Some, codes, refl, sym, ap, ◌∙◌, append_assoc}
 use Rattle.json.specs.Layout.{pretty}
-use Rattle.json.specs.Token.{Token}
+use Rattle.json.specs.Token.{Token, begin_array, begin_object, end_array, key}
 use Rattle.sarif_model.specs.declared.merge_fault.MergeFault.{MergeFault}
 use Rattle.sarif_model.specs.declared.record.Record.{Record}
 use Rattle.sarif_known.specs.Chosen.{Chosen}
 use Rattle.sarif_known.specs.KnownLog.{known_log, pretty_text, IsLost}
-use Rattle.sarif_known.specs.KnownRun.{known_run, results_from}
-use Rattle.sarif_known.specs.Tokens.{data_tokens, each_tokens, log_closing, log_opening, run_closing, run_opening}
+use Rattle.sarif_known.specs.KnownResult.{list_if_any}
+use Rattle.sarif_known.specs.KnownRun.{artifact_at, base_alone, bases_alone, known_run, results_from, with_some}
+use Rattle.sarif_known.specs.Tokens.{data_tokens, each_tokens, log_closing, log_opening, run_closing, run_opening, value_tokens}
 use Rattle.sarif_known.proofs.Lost.{part_lost}
-use Rattle.sarif_known.proofs.TokensOf.{three, run_tokens, log_tokens}
+use Rattle.sarif_known.proofs.TokensOf.{three, four, list_tokens, run_tokens, log_tokens}
 
 -- a run is added by its opening, its results and its closing
 pub run_added : (o o1 o2 o3 : List Token) (run : Chosen) (first again : List Record) → first ≡ run.records → again ≡ run.records
@@ -21,6 +22,42 @@ run_added o o1 o2 o3 run first again same too e1 e2 e3 =
 
 regrouped : (o a b c : List Token) → ((o ++ a) ++ b) ++ c ≡ o ++ (a ++ (b ++ c))
 regrouped o a b c = simp append_assoc
+
+-- one artifact more
+pub step_artifacts : (o whole : List Token) (r : Record) (rs : List Record) (base : List ℕ) → base_alone r ≡ Some base → o ++ each_tokens (map artifact_at (bases_alone (r ∷ rs))) ≡ whole
+    → (o ++ data_tokens (artifact_at base)) ++ each_tokens (map artifact_at (bases_alone rs)) ≡ whole
+step_artifacts o whole r rs base alone so_far =
+    append_assoc o (data_tokens (artifact_at base)) (each_tokens (map artifact_at (bases_alone rs)))
+    ∙ ap (λ b. o ++ each_tokens (map artifact_at (with_some b (bases_alone rs)))) (sym alone)
+    ∙ so_far
+
+-- the artifacts of a run are lost where those are that come one by one
+pub artifacts_lost : (o o1 o2 : List Token) (bases : List (List ℕ)) (fault : MergeFault) → (length bases == 0) ≡ false → o1 ≡ o ++ key (codes "artifacts") ∷ [] → o2 ≡ o1 ++ begin_array ∷ []
+    → IsLost (pretty (o2 ++ each_tokens (map artifact_at bases))) fault → IsLost (pretty (o ++ value_tokens (codes "artifacts") (list_if_any (map artifact_at bases)))) fault
+artifacts_lost o o1 o2 bases fault some e1 e2 lost =
+    let each : List Token = each_tokens (map artifact_at bases) in
+    part_lost (o2 ++ each) (end_array ∷ []) (o ++ value_tokens (codes "artifacts") (list_if_any (map artifact_at bases))) fault
+    (four o (key (codes "artifacts") ∷ []) (begin_array ∷ []) each (end_array ∷ []) o1 o2 (o2 ++ each) ((o2 ++ each) ++ end_array ∷ []) e1 e2 refl refl
+    ∙ ap (λ ts. o ++ ts) (sym (list_tokens (codes "artifacts") artifact_at bases some)))
+    lost
+
+-- the opening of a run is lost where its artifacts are
+pub opening_lost : (o o1 : List Token) (rs : List Record) (fault : MergeFault) → o1 ≡ o ++ begin_object ∷ []
+    → IsLost (pretty (o1 ++ value_tokens (codes "artifacts") (list_if_any (map artifact_at (bases_alone rs))))) fault → IsLost (pretty (o ++ run_opening rs)) fault
+opening_lost o o1 rs fault e1 lost =
+    let artifacts : List Token = value_tokens (codes "artifacts") (list_if_any (map artifact_at (bases_alone rs))) in
+    let rest : List Token = key (codes "results") ∷ begin_array ∷ [] in
+    part_lost (o1 ++ artifacts) rest (o ++ run_opening rs) fault
+    (three o (begin_object ∷ []) artifacts rest o1 (o1 ++ artifacts) ((o1 ++ artifacts) ++ rest) e1 refl refl) lost
+
+-- a run is lost where its opening is
+pub run_unopened : (o : List Token) (run : Chosen) (first : List Record) (fault : MergeFault) → first ≡ run.records
+    → IsLost (pretty (o ++ run_opening first)) fault → IsLost (pretty (o ++ data_tokens (known_run run))) fault
+run_unopened o run first fault same lost =
+    let rest : List Token = each_tokens (results_from 0 run.records) ++ run_closing run.tool in
+    part_lost (o ++ run_opening first) rest (o ++ data_tokens (known_run run)) fault
+    (ap (λ rs. (o ++ run_opening rs) ++ rest) same ∙ append_assoc o (run_opening run.records) rest ∙ ap (λ ts. o ++ ts) (sym (run_tokens run)))
+    lost
 
 -- a run is lost where its results are
 pub run_lost : (o o1 : List Token) (run : Chosen) (first again : List Record) (fault : MergeFault) → first ≡ run.records → again ≡ run.records

@@ -92,14 +92,30 @@ fn push_artifact_at(out: &mut Lines, base: &Text) -> Result<(), AllocError>
     Ok(())
 }
 
-/// Adds an artifact for each of these results that has a base alone.
-fn push_artifacts(out: &mut Lines, records: &[&Record]) -> Result<(), AllocError>
-    ensures { OnOk result (out.new ≡ out.old
+/// Adds an artifact with this base, unless the text gets too long.
+fn push_artifact(out: &mut Lines, base: &Text) -> Result<(), MergeFault>
+    ensures added { OnOk result (out.new ≡ out.old ++ data_tokens (artifact_at base.now)) }
+    ensures lost { IfErr result (IsLost (pretty (out.old ++ data_tokens (artifact_at base.now)))) }
+{
+    push_artifact_at(out, base)?;
+    if out.is_long() {
+        return Err(too_long());
+    }
+    Ok(())
+}
+
+/// Adds an artifact for each of these results that has a base alone, until the text is too long.
+fn push_artifacts(out: &mut Lines, records: &[&Record]) -> Result<(), MergeFault>
+    ensures added { OnOk result (out.new ≡ out.old
         ++ each_tokens (map artifact_at (bases_alone (map (λ r. r.now) records.now)))) }
+    ensures lost { IfErr result (IsLost (pretty (out.old
+        ++ each_tokens (map artifact_at (bases_alone (map (λ r. r.now) records.now)))))) }
 {
     for found in records {
         if let Some(base) = base_alone(found) {
-            push_artifact_at(out, base)?;
+            if let Err(fault) = push_artifact(out, base) {
+                return Err(fault);
+            }
         }
     }
     Ok(())
@@ -117,17 +133,22 @@ fn none_alone(records: &[&Record]) -> bool
     true
 }
 
-/// Adds the artifacts of these results, unless there are none (SARIF 2.1.0, "artifacts property").
-fn push_artifacts_if(out: &mut Lines, records: &[&Record]) -> Result<(), AllocError>
-    ensures { OnOk result (out.new ≡ out.old ++ value_tokens (codes "artifacts")
+/// Adds the artifacts of these results, unless there are none (SARIF 2.1.0, "artifacts property"), until the text is too
+/// long.
+fn push_artifacts_if(out: &mut Lines, records: &[&Record]) -> Result<(), MergeFault>
+    ensures added { OnOk result (out.new ≡ out.old ++ value_tokens (codes "artifacts")
         (list_if_any (map artifact_at (bases_alone (map (λ r. r.now) records.now))))) }
+    ensures lost { IfErr result (IsLost (pretty (out.old ++ value_tokens (codes "artifacts")
+        (list_if_any (map artifact_at (bases_alone (map (λ r. r.now) records.now))))))) }
 {
     if none_alone(records) {
         return Ok(());
     }
     out.token(Token::Key("artifacts"))?;
     out.token(Token::BeginArray)?;
-    push_artifacts(out, records)?;
+    if let Err(fault) = push_artifacts(out, records) {
+        return Err(fault);
+    }
     out.token(Token::EndArray)?;
     Ok(())
 }
@@ -151,12 +172,16 @@ fn push_results(out: &mut Lines, records: &[&Record]) -> Result<(), MergeFault>
     Ok(())
 }
 
-/// Opens a run with these results, up to the first of them.
-fn open_run(out: &mut Lines, records: &[&Record]) -> Result<(), AllocError>
-    ensures { OnOk result (out.new ≡ out.old ++ run_opening (map (λ r. r.now) records.now)) }
+/// Opens a run with these results, up to the first of them, unless the text gets too long.
+fn open_run(out: &mut Lines, records: &[&Record]) -> Result<(), MergeFault>
+    ensures added { OnOk result (out.new ≡ out.old ++ run_opening (map (λ r. r.now) records.now)) }
+    ensures lost { IfErr result
+        (IsLost (pretty (out.old ++ run_opening (map (λ r. r.now) records.now)))) }
 {
     out.token(Token::BeginObject)?;
-    push_artifacts_if(out, records)?;
+    if let Err(fault) = push_artifacts_if(out, records) {
+        return Err(fault);
+    }
     out.token(Token::Key("results"))?;
     out.token(Token::BeginArray)?;
     Ok(())
@@ -192,7 +217,9 @@ pub(crate) fn push_run(out: &mut Lines, run: &KnownRun<'_>) -> Result<(), MergeF
     ensures lost { IfErr result
         (IsLost (pretty (out.old ++ data_tokens (known_run (chosen_of run.now))))) }
 {
-    open_run(out, &run.records)?;
+    if let Err(fault) = open_run(out, &run.records) {
+        return Err(fault);
+    }
     if let Err(fault) = push_results(out, &run.records) {
         return Err(fault);
     }
