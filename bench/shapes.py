@@ -14,7 +14,7 @@ LONG = "n" * 100_000
 # if the tables have their default seed.
 SAME_HASH = "p9zdi529cnqp5de7tP_z'E{$", "/v1/v1/v1/v1/v1/"
 OTHER_HASH = "another-beginning-of-it_", "/v1/v1/v1/v1/v1/"
-REPORTS = "text", "github", "markdown", "gitlab", "html"
+REPORTS = "text", "github", "markdown", "gitlab", "html", "junit", "azure"
 
 
 @dataclass

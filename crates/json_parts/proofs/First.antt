@@ -1,5 +1,5 @@
 -- The first of a map's members, and its text after another member.
-use Rattle.std.proofs.Common.{◌≡◌, ◌<◌, ◌≤◌, ℕ, true, false, List, [], ◌∷◌, ◌++◌, length, get_or, Some, Ordering, Less, Equal, Greater, nat_cmp, string_bytes, refl, ap, ◌∙◌, arith, true≢false}
+use Rattle.std.proofs.Common.{◌≡◌, ◌<◌, ℕ, true, false, List, [], ◌∷◌, length, get_or, Some, Ordering, Less, Equal, Greater, nat_cmp, string_bytes, refl, ap, ◌∙◌, arith}
 use Rattle.std.specs.Prelude.{slice_get, drop}
 use Rattle.std.proofs.lemmas.Str.{IsCharBoundary-after_ascii}
 use Rattle.std.specs.Str.{IsCharBoundary, IsUtf8}

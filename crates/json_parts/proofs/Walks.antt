@@ -1,17 +1,17 @@
 -- A pass over an array or an object, from the tokens to the data.
 use Rattle.std.proofs.Common.{◌≡◌, ℕ, suc, ◌≤◌, max, List, [], ◌∷◌, ◌++◌, map, Option, Some, None, option_map, is_some, Bool, refl, sym, ap, ◌∙◌, subst, arith}
-use Rattle.std.specs.Prelude.{MatchOption}
+use Rattle.std.specs.Prelude.{MatchOption, option_and_then}
 use Rattle.json.specs.Token.{Token}
 use Rattle.json.specs.Json as json
 use Rattle.json.specs.Json.{Json}
 use Rattle.json.specs.Find as look
 use Rattle.json.specs.Find.{BeginsWith, InItems, InMembers, NextItem, Finds}
 use Rattle.json.specs.Tree.{depth, items_depth, members_depth}
-use Rattle.serde_json.specs.Data.{Data, Items, no_items, item, Members, no_members, member}
+use Rattle.serde_json.specs.Data.{Data, Items, no_items, item, Members, no_members, member, array}
 use Rattle.serde_json.specs.Find.{get, as_null, as_array, as_object}
 use Rattle.serde_json.specs.Read.{max_depth, of_json, of_items}
 use Rattle.serde_json.specs.View.{items_of}
-use Rattle.json_parts.specs.Indexed.{data_of, IsReadable}
+use Rattle.json_parts.specs.Indexed.{data_of, IsReadable, first_element}
 use Rattle.json_parts.specs.Walking.{depth_of, named_of, ElementsAre, MembersAre, OpensArray, OpensObject, NextElement, NextMember}
 use Rattle.json_parts.proofs.Readings.{not_found, Some_inj, mapped_some, and_then_some, known, found, Kind, kind, Found, get_found}
 
@@ -115,6 +115,16 @@ member_at n old new ms (Some m) (js, within, of, le, most) h =
 pub next_member_is : (old new : List Token) (r : Option (List ℕ × List Token)) → look.NextMember old r new → NextMember old r new
 next_member_is old new None h n ms are = member_at n old new ms None are h
 next_member_is old new (Some m) h n ms are = (member_at n old new ms (Some m) are h).1
+
+-- ---- the first element
+
+pub first_found : (n : ℕ) (d : Data) (ds : Items) (r : Option (List Token)) (new : List Token) → d ≡ array ds
+    → MatchOption r (ds ≡ no_items)
+    (λ ts. (rest : Items) × (ds ≡ item (data_of ts) rest) × (depth_of ts ≤ n) × ElementsAre n new rest)
+    → option_map data_of r ≡ option_and_then first_element (as_array d)
+first_found n d ds None new is none = sym (ap (λ x. option_and_then first_element (as_array x)) is ∙ ap first_element none)
+first_found n d ds (Some ts) new is found =
+    sym (ap (λ x. option_and_then first_element (as_array x)) is ∙ ap first_element found.1)
 
 -- ---- elements that were found, before the others
 

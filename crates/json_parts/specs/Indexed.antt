@@ -3,7 +3,7 @@ use Rattle.std.specs.Prelude.{◌≡◌, ℕ, List, Option, Some, None, option_a
 use Rattle.std.specs.Str.{is_utf8}
 use Rattle.json.specs.Token.{Token}
 use Rattle.json.specs.Json.{Json, value}
-use Rattle.serde_json.specs.Data.{Data, null}
+use Rattle.serde_json.specs.Data.{Data, null, Items, no_items, item}
 use Rattle.serde_json.specs.Read.{of_json, max_depth, read}
 
 -- the JSON value of UTF-8 bytes, nested at most `max_depth` deep
@@ -20,3 +20,8 @@ IsReadable ts =
     (j : Json) × (rest : List Token) × (d : Data)
     × (value max_depth ts ≡ Some (j, rest))
     × (of_json j ≡ Some d)
+
+-- the first element of an array, if it has one
+abbrev pub first_element : Items → Option Data
+first_element no_items = None
+first_element (item d ds) = Some d

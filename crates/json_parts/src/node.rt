@@ -1,8 +1,8 @@
 //! A value of an indexed text.
-ghost use Rattle.std.specs.Prelude.{◌≡◌, map, is_some, option_map, IfOk};
-ghost use Rattle.serde_json.specs.Find.{as_null, as_bool, as_number, as_str, as_array, as_object, get};
+ghost use Rattle.std.specs.Prelude.{◌≡◌, map, is_some, option_map, option_and_then, IfOk};
+ghost use Rattle.serde_json.specs.Find.{as_null, as_bool, as_number, as_str, as_array, as_object, as_u64, get};
 ghost use Rattle.serde_json.specs.View.{items_of, number_view};
-ghost use Rattle.json_parts.specs.Indexed.{IsReadable, data_of};
+ghost use Rattle.json_parts.specs.Indexed.{IsReadable, data_of, first_element};
 ghost use Rattle.json_parts.specs.Ordered.{IsOrdered};
 ghost use Rattle.json_parts.specs.Stripping.{is_fractional as fractional};
 ghost use Rattle.json_parts.specs.Walking.{OpensArray, OpensObject};
@@ -92,6 +92,22 @@ impl<'t, 'a> Node<'t, 'a> {
             found.push(element)?;
         }
         Ok(Some(found))
+    }
+
+    /// The first element, if this is an array that has one.
+    pub fn first_item(&self) -> Option<Node<'t, 'a>>
+        ensures { option_map data_of result
+            ≡ option_and_then first_element (as_array (data_of self.now)) }
+    {
+        let mut elements = self.elements()?;
+        next_element(&mut elements)
+    }
+
+    /// The number, if this is an integer from 0 to 2^64 - 1.
+    pub fn as_u64(&self) -> Option<u64>
+        ensures { result ≡ option_and_then as_u64 (as_number (data_of self.now)) }
+    {
+        self.number()?.as_u64()
     }
 
     /// Whether this is a number that isn't whole, or an array that holds one directly or within

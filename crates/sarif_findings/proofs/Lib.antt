@@ -1,4 +1,5 @@
 pub mod ArtifactsMore
+pub mod AtLocation
 pub mod BracketsMore
 pub mod ByHalves
 pub mod CharsBack

@@ -2,6 +2,7 @@ pub mod ArtifactsOf
 pub mod Brackets
 pub mod Finding
 pub mod Links
+pub mod Located
 pub mod Lookup
 pub mod Message
 pub mod PathOf

@@ -19,6 +19,7 @@ mod rules;
 mod shown_text;
 mod spot;
 mod subject;
+mod told_result;
 mod unlinked;
 
 pub use finding::Finding;
@@ -26,3 +27,4 @@ pub use named_run::NamedRun;
 pub use reported_results::{TOLD_MEMBERS, finding_of, reported};
 pub use reporting::Reporting;
 pub use shown_text::{MOST_CHARACTERS, shown};
+pub use told_result::ToldResult;

@@ -1,6 +1,7 @@
 //! The finding of a result of a merged log, if it is reported.
 ghost use Rattle.std.specs.Prelude.{◌≡◌, ◌++◌, Some, IfOk, OnOk, chars, map, string_bytes};
 ghost use Rattle.std.specs.List.{filter_map};
+ghost use Rattle.sarif_findings.specs.Located.{finding_at};
 ghost use Rattle.sarif_findings.specs.Message.{message_of};
 ghost use Rattle.serde_json.specs.View.{view};
 ghost use Rattle.sarif_counts.specs.CountOf.{suppresses, items_in};
@@ -17,6 +18,7 @@ use crate::reporting::Reporting;
 use crate::shown_text::{ShownText, shown, shown_copy};
 use crate::spot::{Spot, spot_of};
 use crate::subject::Subject;
+use crate::told_result::{ToldResult, first_location};
 use sarif_counts::is_suppressing;
 use sarif_model::{Level, State, Text};
 use serde_json::Value;
@@ -115,29 +117,29 @@ fn message_in(alloc: Global, subject: &Subject<'_>) -> Result<Text, AllocError>
     Text::from_string(message)
 }
 
-/// The members of a result that a finding depends on, besides its level and its state.
-pub const TOLD_MEMBERS: [&str; 5] = ["ruleId", "rule", "ruleIndex", "message", "locations"];
+/// The members of a result that a finding depends on, besides its first location, its level and its state.
+pub const TOLD_MEMBERS: [&str; 4] = ["ruleId", "rule", "ruleIndex", "message"];
 
-/// Returns the finding of a result of a run that has this level and this baseline state. It reads neither the
-/// run's results nor members of the result outside `TOLD_MEMBERS`. Returns `AllocError` if memory runs out.
-#[tactic(auto, unfolding(crate::specs::Reported::finding_of))]
+/// Returns the finding of a result of a run that has this level and this baseline state. It doesn't read the run's
+/// results. Returns `AllocError` if memory runs out.
+#[tactic(auto, unfolding(crate::specs::Located::finding_at))]
 pub fn finding_of(
     alloc: Global,
     reporting: &Reporting,
     run: &NamedRun<'_>,
-    found: &Value,
+    told: &ToldResult<'_>,
     level: Level,
     state: State,
 ) -> Result<Finding, AllocError>
-    ensures { IfOk result (λ finding. finding
-        ≡ said.finding_of reporting.now (view run.now) (view found.now) level state) }
+    ensures { IfOk result (λ finding. finding ≡ finding_at reporting.now (view run.now)
+        (view told.now.members.now) told.now.location level state) }
 {
-    let subject = run.subject(found);
+    let subject = run.subject(told.members);
     let tool = run.tool().clone()?;
     let rule = shown_copy(alloc, rule_id(&subject))?;
     let message = message_in(alloc, &subject)?;
     let help = help_in(alloc, &subject)?;
-    let Spot { path, line, column } = spot_of(alloc, reporting, run, found)?;
+    let Spot { path, line, column } = spot_of(alloc, reporting, run, &told.location)?;
     let hit = severity(reporting.policy.fail_on) <= severity(level);
     Ok(Finding {
         tool,
@@ -151,6 +153,25 @@ pub fn finding_of(
         help,
         hit,
     })
+}
+
+/// The finding of a whole result of a run.
+fn finding_of_whole(
+    alloc: Global,
+    reporting: &Reporting,
+    run: &NamedRun<'_>,
+    found: &Value,
+    level: Level,
+    state: State,
+) -> Result<Finding, AllocError>
+    ensures { IfOk result (λ finding. finding
+        ≡ said.finding_of reporting.now (view run.now) (view found.now) level state) }
+{
+    let told = ToldResult {
+        members: found,
+        location: first_location(found),
+    };
+    finding_of(alloc, reporting, run, &told, level, state)
 }
 
 /// The finding of a result of a run, if it is reported. Nothing more is read from a result that is not reported.
@@ -171,7 +192,7 @@ fn finding_if(
     if !reporting.policy.states.lists(state) || !is_active(found) {
         return Ok(None);
     }
-    let finding = finding_of(alloc, reporting, run, found, level, state)?;
+    let finding = finding_of_whole(alloc, reporting, run, found, level, state)?;
     Ok(Some(finding))
 }
 

@@ -1,20 +1,18 @@
 //! Where a reported result is.
-ghost use Rattle.std.specs.Prelude.{◌≡◌, option_map, option_and_then, codes, chars, string_bytes, IfOk};
-ghost use Rattle.serde_json.specs.Find.{get};
+ghost use Rattle.std.specs.Prelude.{◌≡◌, option_map, option_and_then, chars, string_bytes, IfOk};
 ghost use Rattle.serde_json.specs.View.{view};
-ghost use Rattle.sarif_findings.specs.Lookup as lookup;
+ghost use Rattle.sarif_findings.specs.Located as located;
+ghost use Rattle.sarif_findings.specs.Lookup.{artifact_uri, position_number};
 ghost use Rattle.sarif_findings.specs.PathOf as path_of;
 ghost use Rattle.sarif_findings.specs.PathOf.{without_here, without_root};
 ghost use Rattle.sarif_findings.specs.Reported as said;
 ghost use Rattle.sarif_findings.specs.Shown.{shown as text_shown};
 
-use crate::lookup::{elements_in, number_in, text_in};
 use crate::named_run::NamedRun;
 use crate::path::{decoded, push_path};
 use crate::reporting::Reporting;
 use crate::shown_text::ShownText;
-use sarif_model::Text;
-use serde_json::Value;
+use sarif_model::{FirstLocation, Text};
 use std::alloc::{AllocError, Global};
 
 /// What a report says about the place of a result.
@@ -23,16 +21,6 @@ pub(crate) struct Spot {
     pub(crate) path: Option<Text>,
     pub(crate) line: Option<u32>,
     pub(crate) column: Option<u32>,
-}
-
-/// `locations[0].physicalLocation` of a result.
-fn physical_location(found: &Value) -> Option<&Value>
-    ensures { option_map (λ v. view v.now) result ≡ lookup.physical_location (view found.now) }
-{
-    match elements_in(found, "locations") {
-        [] => None,
-        [first, ..] => first.get("physicalLocation"),
-    }
 }
 
 /// A path as it is shown.
@@ -64,13 +52,12 @@ fn shown_uri(alloc: Global, roots: &[Text], uri: &str) -> Result<Option<Text>, A
     shown_path(alloc, roots, path.as_str())
 }
 
-/// The path of the artifact whose index an artifact location has.
-fn artifact_path<'r>(run: &'r NamedRun<'_>, location: &Value) -> Option<&'r Text>
+/// The path of the artifact with that index.
+fn artifact_path<'r>(run: &'r NamedRun<'_>, index: Option<u64>) -> Option<&'r Text>
     ensures { option_map (λ path. path.now) result
-        ≡ option_map path_of.decoded (option_and_then (lookup.artifact_uri (view run.now))
-        (lookup.number_in (codes "index") (view location.now))) }
+        ≡ option_map path_of.decoded (option_and_then (artifact_uri (view run.now)) index) }
 {
-    run.artifact_path(number_in(location, "index")?)
+    run.artifact_path(index?)
 }
 
 /// What is shown as a path of that artifact.
@@ -78,58 +65,37 @@ fn shown_artifact(
     alloc: Global,
     roots: &[Text],
     run: &NamedRun<'_>,
-    location: &Value,
+    index: Option<u64>,
 ) -> Result<Option<Text>, AllocError>
     ensures { IfOk result (λ o. o ≡ option_and_then (said.shown_path roots.now)
-        (option_and_then (lookup.artifact_uri (view run.now))
-        (lookup.number_in (codes "index") (view location.now)))) }
+        (option_and_then (artifact_uri (view run.now)) index)) }
 {
-    match artifact_path(run, location) {
+    match artifact_path(run, index) {
         None => Ok(None),
         Some(path) => shown_path(alloc, roots, path.as_str()),
     }
 }
 
-/// The shown path of the URI of an artifact location, otherwise of the URI of the artifact whose index it has.
-fn shown_location(
+/// The shown path of the URI of a location, otherwise of the URI of the artifact whose index it has.
+fn path_of_location(
     alloc: Global,
     roots: &[Text],
     run: &NamedRun<'_>,
-    location: &Value,
+    location: &FirstLocation<'_>,
 ) -> Result<Option<Text>, AllocError>
     ensures { IfOk result (λ o. o ≡ option_and_then (said.shown_path roots.now)
-        (lookup.location_uri (view run.now) (view location.now))) }
+        (located.uri_at (view run.now) location.now)) }
 {
-    match text_in(location, "uri") {
+    match location.uri {
         Some(uri) => shown_uri(alloc, roots, uri),
-        None => shown_artifact(alloc, roots, run, location),
+        None => shown_artifact(alloc, roots, run, location.artifact),
     }
 }
 
-/// The shown path of the URI of a physical location.
-fn path_in(
-    alloc: Global,
-    roots: &[Text],
-    run: &NamedRun<'_>,
-    physical: &Value,
-) -> Result<Option<Text>, AllocError>
-    ensures { IfOk result (λ o. o ≡ option_and_then (said.shown_path roots.now)
-        (option_and_then (lookup.location_uri (view run.now))
-        (get (codes "artifactLocation") (view physical.now)))) }
+/// A line or a column: an integer from 1 to 2^32 - 1.
+fn position(number: u64) -> Option<u32>
+    ensures { result ≡ position_number number }
 {
-    match physical.get("artifactLocation") {
-        None => Ok(None),
-        Some(location) => shown_location(alloc, roots, run, location),
-    }
-}
-
-/// A member of the region, as a line or a column: an integer from 1 to 2^32 - 1.
-fn position_in(physical: &Value, name: &str) -> Option<u32>
-    ensures { result ≡ option_and_then lookup.position_number
-        (option_and_then (lookup.number_in name.now)
-        (get (codes "region") (view physical.now))) }
-{
-    let number = number_in(physical.get("region")?, name)?;
     if 1 <= number && number <= u32::MAX as u64 {
         Some(number as u32)
     } else {
@@ -137,15 +103,14 @@ fn position_in(physical: &Value, name: &str) -> Option<u32>
     }
 }
 
-/// A member of the region, if the value that it is reported with is there.
-fn position_with<T>(beside: &Option<T>, physical: &Value, name: &str) -> Option<u32>
-    ensures { result ≡ said.only_with beside.now (option_and_then lookup.position_number
-        (option_and_then (lookup.number_in name.now)
-        (get (codes "region") (view physical.now)))) }
+/// A line or a column, if the value that it is reported with is there.
+fn position_with<T>(beside: &Option<T>, number: Option<u64>) -> Option<u32>
+    ensures { result
+        ≡ said.only_with beside.now (option_and_then position_number number) }
 {
     match beside {
         None => None,
-        Some(_) => position_in(physical, name),
+        Some(_) => position(number?),
     }
 }
 
@@ -154,24 +119,17 @@ pub(crate) fn spot_of(
     alloc: Global,
     reporting: &Reporting,
     run: &NamedRun<'_>,
-    found: &Value,
+    location: &FirstLocation<'_>,
 ) -> Result<Spot, AllocError>
     ensures path { IfOk result (λ spot. spot.path
-        ≡ said.path_in reporting.now (view run.now) (view found.now)) }
+        ≡ located.path_at reporting.now (view run.now) location.now) }
     ensures line { IfOk result (λ spot. spot.line
-        ≡ said.line_in reporting.now (view run.now) (view found.now)) }
+        ≡ located.line_at reporting.now (view run.now) location.now) }
     ensures column { IfOk result (λ spot. spot.column
-        ≡ said.column_in reporting.now (view run.now) (view found.now)) }
+        ≡ located.column_at reporting.now (view run.now) location.now) }
 {
-    let Some(physical) = physical_location(found) else {
-        return Ok(Spot {
-            path: None,
-            line: None,
-            column: None,
-        });
-    };
-    let path = path_in(alloc, reporting.roots.as_slice(), run, physical)?;
-    let line = position_with(&path, physical, "startLine");
-    let column = position_with(&line, physical, "startColumn");
+    let path = path_of_location(alloc, reporting.roots.as_slice(), run, location)?;
+    let line = position_with(&path, location.line);
+    let column = position_with(&line, location.column);
     Ok(Spot { path, line, column })
 }

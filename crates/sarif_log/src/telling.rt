@@ -15,7 +15,7 @@ use crate::baselines::Baselines;
 use crate::halves::Half;
 use crate::left::absent_states;
 use crate::told::{Told, ToldRun};
-use sarif_findings::{Finding, NamedRun, Reporting, TOLD_MEMBERS, finding_of};
+use sarif_findings::{Finding, NamedRun, Reporting, TOLD_MEMBERS, ToldResult, finding_of};
 use sarif_model::State;
 use sarif_results::Draft;
 use sarif_runs::{OpenedRun, Spot, list_spots};
@@ -111,8 +111,13 @@ fn tell(
     ensures { IfOk result (λ finding. finding ≡ told_by reporting.now told.now) }
 {
     let run = told.run;
-    let found = run.opened.picked(alloc, told.seq, &TOLD_MEMBERS)?;
-    finding_of(alloc, reporting, &run.named, &found, told.level, told.state)
+    let members = run.opened.picked(alloc, told.seq, &TOLD_MEMBERS)?;
+    let result = ToldResult {
+        members: &members,
+        location: run.opened.first_location(told.seq),
+    };
+    let named = &run.named;
+    finding_of(alloc, reporting, named, &result, told.level, told.state)
 }
 
 /// Returns the findings of these, in order.

@@ -1,5 +1,5 @@
 -- The values of the elements of an array and of the members of an object.
-use Rattle.std.proofs.Common.{◌≡◌, ◌↔◌, suc, List, [], ◌∷◌, map, length, refl, ap}
+use Rattle.std.proofs.Common.{◌≡◌, suc, List, [], ◌∷◌, map, length, refl, ap}
 use Rattle.serde_json.specs.declared.value.Value.{Value}
 use Rattle.serde_json.specs.View.{view, items_view}
 use Rattle.sarif_model.specs.Members.{elements}

@@ -1,6 +1,5 @@
--- Reading a log: its stripped runs, or the first error with its run (SARIF 2.1.0, "sarifLog object", "run object",
--- "tool object", "toolComponent object").
-use Rattle.std.specs.Prelude.{◌+◌, ℕ, List, ◌∷◌, Option, codes, option_and_then, if◌then◌else◌}
+-- The driver of the tool of a run (SARIF 2.1.0, "run object", "tool object", "toolComponent object").
+use Rattle.std.specs.Prelude.{ℕ, List, Option, codes, option_and_then}
 use Rattle.serde_json.specs.Data.{Data}
 use Rattle.serde_json.specs.Find.{get, as_str}
 

@@ -1,5 +1,5 @@
 -- The errors of the inputs of a merge, in the order of the checks, and the meaning of a rejection.
-use Rattle.std.specs.Prelude.{◌≡◌, ◌≤◌, ◌<◌, List, [], ◌∷◌, ◌++◌, ◌⊎◌, Option, Some, None, Result, Ok, Err, if◌then◌else◌}
+use Rattle.std.specs.Prelude.{◌≡◌, List, [], ◌∷◌, ◌⊎◌, Option, Some, None, Result, Ok, Err}
 use Rattle.sarif_model.specs.declared.merge_fault.At.TheVariants.{Nowhere}
 use Rattle.sarif_model.specs.declared.merge_fault.Cause.TheVariants.{NoWorker}
 use Rattle.sarif_model.specs.declared.merge_fault.MergeFault.{MergeFault}

@@ -1,6 +1,7 @@
 pub mod Driver
 pub mod FaultText
 pub mod FirstFault
+pub mod FirstLocation
 pub mod Guid
 pub mod Hashed
 pub mod Kind

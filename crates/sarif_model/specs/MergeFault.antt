@@ -1,6 +1,6 @@
 -- Why a merge is rejected: the causes for the errors of the lower crates, and the program's exit status.
 use Rattle.std.specs.Prelude.{ℕ}
-use Rattle.std.specs.Prelude.{◌≡◌, ◌≤◌, ◌∷◌, Bool, true, false, Result, Ok, Err, IfErr}
+use Rattle.std.specs.Prelude.{◌≡◌, Bool, true, false, Result, Ok, Err, IfErr}
 use Rattle.sarif_model.specs.declared.fault.Fault.{Fault}
 use Rattle.sarif_model.specs.declared.merge_fault.At.{At}
 use Rattle.sarif_model.specs.declared.merge_fault.At.TheVariants.{Nowhere}

@@ -3,7 +3,6 @@ use Rattle.std.specs.Prelude.{ℕ, ◌+◌, length, Bool, false, List, [], ◌�
 use Rattle.serde_json.specs.Data.{Data, null, Items}
 use Rattle.serde_json.specs.Find.{get, as_str, as_array}
 use Rattle.sarif_model.specs.Members.{elements}
-use Rattle.std.specs.Prelude.{if◌then◌else◌}
 use Rattle.std.specs.Prelude.{not, filter}
 
 -- the array of results, if there is one

@@ -3,6 +3,7 @@
 
 mod driver;
 mod fault;
+mod first_location;
 mod guid;
 mod kinds;
 mod limits;
@@ -18,6 +19,7 @@ mod text;
 
 pub use driver::driver_name;
 pub use fault::Fault;
+pub use first_location::FirstLocation;
 pub use guid::read_guid;
 pub use kinds::{Kind, Level, State, Status};
 pub use limits::{

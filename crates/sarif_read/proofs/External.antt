@@ -1,5 +1,5 @@
 -- A log whose runs name no external property files is read the same, whether they are allowed or not.
-use Rattle.std.proofs.Common.{◌≡◌, ℕ, ◌+◌, List, [], ◌∷◌, Bool, true, false, Option, Some, None, Ok, Err, refl, ap, ◌∙◌, sym, codes, unwrap_or, option_map}
+use Rattle.std.proofs.Common.{◌≡◌, ℕ, ◌+◌, List, [], ◌∷◌, true, false, Option, Some, None, Ok, refl, ap, ◌∙◌, sym, codes, unwrap_or, option_map}
 use Rattle.std.specs.List.{AllByRecursion}
 use Rattle.serde_json.specs.Data.{Data, null, boolean, number, string, array, object, no_members, member}
 use Rattle.sarif_model.specs.declared.fault.Fault.TheVariants.{ExternalProperties}

@@ -1,13 +1,16 @@
 -- What stripping leaves of a value's kind.
-use Rattle.std.proofs.Common.{◌≡◌, ℕ, List, [], ◌∷◌, map, true, false, Some, None, is_some, option_map, refl, sym, ap, ◌∙◌}
+use Rattle.std.proofs.Common.{◌≡◌, ℕ, List, [], ◌∷◌, map, true, false, Option, Some, None, is_some, option_map, refl, sym, ap, ◌∙◌}
 use Rattle.json.specs.Token.{Token}
-use Rattle.serde_json.specs.Data.{Data, null, boolean, number, string, array, object, item}
-use Rattle.serde_json.specs.Find.{get, as_null, as_str, as_array, as_object}
+use Rattle.serde_json.specs.Data.{Data, null, boolean, number, string, array, object, Items, no_items, item}
+use Rattle.serde_json.specs.Find.{get, as_null, as_str, as_number, as_array, as_object}
 use Rattle.serde_json.specs.View.{items_of}
-use Rattle.json_parts.specs.Indexed.{data_of}
+use Rattle.std.specs.Prelude.{option_and_then}
+use Rattle.json_parts.specs.Indexed.{data_of, first_element}
 use Rattle.json_parts.specs.Ordered.{IsOrdered, AreItemsOrdered}
 use Rattle.json_parts.specs.Stripping.{is_fractional, stripped, stripped_items}
 use Rattle.json_parts.proofs.Stripped.{get-stripped, get-IsOrdered}
+use Rattle.sarif_model.specs.Members.{first_of, elements}
+use Rattle.sarif_model.specs.Run.{elements_or_none}
 use Rattle.sarif_read.specs.Listed.{value_at, AreOrdered}
 
 pub same_null : (d : Data) → is_some (as_null (stripped d)) ≡ is_some (as_null d)
@@ -34,6 +37,14 @@ same_object (string s) = refl
 same_object (array ds) = refl
 same_object (object ms) = refl
 
+pub same_number : (d : Data) → as_number (stripped d) ≡ as_number d
+same_number null = refl
+same_number (boolean b) = refl
+same_number (number n) = refl
+same_number (string s) = refl
+same_number (array ds) = refl
+same_number (object ms) = refl
+
 pub same_array : (d : Data) → as_array (stripped d) ≡ option_map stripped_items (as_array d)
 same_array null = refl
 same_array (boolean b) = refl
@@ -41,6 +52,27 @@ same_array (number n) = refl
 same_array (string s) = refl
 same_array (array ds) = refl
 same_array (object ms) = refl
+
+first_item_stripped : (ds : Items) → option_map stripped (first_element ds) ≡ first_of (elements (stripped_items ds))
+first_item_stripped no_items = refl
+first_item_stripped (item d ds) = refl
+
+first_found : (o : Option Items) → option_map stripped (option_and_then first_element o) ≡ first_of (elements_or_none (option_map stripped_items o))
+first_found None = refl
+first_found (Some ds) = first_item_stripped ds
+
+first_in_array : (d : Data) → option_map stripped (option_and_then first_element (as_array d)) ≡ first_of (elements_or_none (as_array (stripped d)))
+first_in_array d = first_found (as_array d) ∙ ap (λ o. first_of (elements_or_none o)) (sym (same_array d))
+
+value_map : (found : Option (List Token)) → option_map value_at found ≡ option_map stripped (option_map data_of found)
+value_map None = refl
+value_map (Some tokens) = refl
+
+-- the first element of a value, and of what stripping leaves of it
+pub first_stripped : (tokens : List Token) (found : Option (List Token))
+    → option_map data_of found ≡ option_and_then first_element (as_array (data_of tokens))
+    → option_map value_at found ≡ first_of (elements_or_none (as_array (value_at tokens)))
+first_stripped tokens found is = value_map found ∙ ap (option_map stripped) is ∙ first_in_array (data_of tokens)
 
 pub stripped_each : (nodes : List (List Token)) → stripped_items (items_of (map data_of nodes)) ≡ items_of (map value_at nodes)
 stripped_each [] = refl
@@ -65,4 +97,4 @@ kept_ordered k d e ordered is = get-IsOrdered k d e ordered (sym is)
 
 pub ruleset kept_steps = (kept_none, kept_out, kept_in, kept_ordered)
 
-pub ruleset node_steps = (same_null, same_text, same_object, same_array, stripped_each, items_apart)
+pub ruleset node_steps = (same_null, same_text, same_number, same_object, same_array, stripped_each, items_apart)

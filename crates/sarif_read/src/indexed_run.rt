@@ -7,9 +7,11 @@ ghost use Rattle.sarif_model.specs.Limits.{most_results};
 
 use crate::filling::{values_of, with_results};
 use crate::listed::Listed;
+use crate::location::location_in;
 use crate::picking::pick_members;
 use crate::success::has_unsuccessful;
 use crate::whole::RawRun;
+use sarif_model::FirstLocation;
 use serde_json::Value;
 use std::alloc::{AllocError, Global};
 
@@ -26,6 +28,7 @@ pub struct IndexedRun<'t, 'a> {
 impl<'t, 'a> IndexedRun<'t, 'a> {
     ghost use Rattle.std.specs.Prelude.{◌≡◌, ◌<◌, ◌≤◌, length, map, is_some, IfOk, IsTrue};
     ghost use Rattle.serde_json.specs.View.{view};
+    ghost use Rattle.sarif_model.specs.FirstLocation.{IsFirstLocation};
     ghost use Rattle.sarif_model.specs.Run.{results_of, results_array, result_at};
     ghost use Rattle.sarif_read.specs.Bare.{bare, is_bare};
     ghost use Rattle.sarif_read.specs.Failed.{failed};
@@ -114,6 +117,23 @@ impl<'t, 'a> IndexedRun<'t, 'a> {
         match &self.results {
             Listed::Array(nodes) => pick_members(alloc, &nodes[seq as usize], names),
             Listed::Missing | Listed::Null => Ok(Value::Null),
+        }
+    }
+
+    /// What reports show of the first location of result `seq` of the run. No value is made of it.
+    #[tactic(auto, using(crate::proofs::RunOf::count_results, crate::proofs::RunOf::nth_result))]
+    pub fn first_location(&self, seq: u32) -> FirstLocation<'a>
+        requires { seq < length (results_of (run_of self.now)) }
+        ensures { IsFirstLocation result (result_at (run_of self.now) seq) }
+    {
+        match &self.results {
+            Listed::Array(nodes) => location_in(&nodes[seq as usize]),
+            Listed::Missing | Listed::Null => FirstLocation {
+                uri: None,
+                artifact: None,
+                line: None,
+                column: None,
+            },
         }
     }
 

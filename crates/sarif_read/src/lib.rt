@@ -8,6 +8,7 @@ mod indexed_run;
 mod indexing;
 mod laws;
 mod listed;
+mod location;
 mod nodes;
 mod picking;
 mod read_fault;

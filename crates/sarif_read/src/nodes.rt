@@ -1,11 +1,12 @@
 //! Reading a value of an indexed document as it is after stripping.
-ghost use Rattle.std.specs.Prelude.{◌≡◌, map, is_some, option_map, IfOk, IfSome};
-ghost use Rattle.serde_json.specs.Find.{get, as_null, as_str, as_array};
+ghost use Rattle.std.specs.Prelude.{◌≡◌, map, is_some, option_map, option_and_then, IfOk, IfSome};
+ghost use Rattle.serde_json.specs.Find.{get, as_null, as_str, as_array, as_number, as_u64};
 ghost use Rattle.serde_json.specs.View.{items_of};
 ghost use Rattle.json_parts.specs.Indexed.{data_of};
 ghost use Rattle.json_parts.specs.Ordered.{IsOrdered};
 ghost use Rattle.sarif_read.specs.Listed.{value_at, AreOrdered};
-ghost use Rattle.sarif_model.specs.Members.{is_object, are_objects};
+ghost use Rattle.sarif_model.specs.Members.{is_object, are_objects, first_of};
+ghost use Rattle.sarif_model.specs.Run.{elements_or_none};
 
 use json_parts::Node;
 use std::alloc::{AllocError, Global};
@@ -35,6 +36,23 @@ pub(crate) fn text_of<'a>(node: &Node<'_, 'a>) -> Option<&'a str>
     ensures { option_map (λ s. s.now) result ≡ as_str (value_at node.now) }
 {
     node.as_str()
+}
+
+/// The integer, where this is one that is at least 0.
+#[tactic(auto, using(crate::proofs::NodeValues::node_steps))]
+pub(crate) fn number_of(node: &Node<'_, '_>) -> Option<u64>
+    ensures { result ≡ option_and_then as_u64 (as_number (value_at node.now)) }
+{
+    node.as_u64()
+}
+
+/// The first element, where this is an array that has one.
+#[tactic(auto, using(crate::proofs::NodeValues::first_stripped))]
+pub(crate) fn first_element<'t, 'a>(node: &Node<'t, 'a>) -> Option<Node<'t, 'a>>
+    ensures { option_map value_at result
+        ≡ first_of (elements_or_none (as_array (value_at node.now))) }
+{
+    node.first_item()
 }
 
 /// Whether this is `null`.

@@ -11,7 +11,7 @@ use crate::head::RunHead;
 use crate::item::Item;
 use crate::making::{copy_tool_name, make_record_of};
 use crate::open::open_value;
-use sarif_model::{Fault, Refusal, Source, Text};
+use sarif_model::{Fault, FirstLocation, Refusal, Source, Text};
 use sarif_read::IndexedRun;
 use serde_json::Value;
 use std::alloc::{AllocError, Global};
@@ -57,6 +57,7 @@ impl<'t, 'a> OpenedRun<'t, 'a> {
     ghost use Rattle.sarif_read.specs.Bare.{bare};
     ghost use Rattle.sarif_read.specs.Failed.{failed};
     ghost use Rattle.sarif_read.specs.Picked.{picked};
+    ghost use Rattle.sarif_model.specs.FirstLocation.{IsFirstLocation};
     ghost use Rattle.sarif_model.specs.Run.{result_at, results_array, results_of};
 
     /// Opens run `number` of a source, which holds no number with a fraction. The tables of its head hash with
@@ -181,6 +182,14 @@ impl<'t, 'a> OpenedRun<'t, 'a> {
             (result_at (placed_of self.now).run seq)) }
     {
         self.run.picked(alloc, seq, names)
+    }
+
+    /// What reports show of the first location of result `seq` of the run, numbered from 0.
+    pub fn first_location(&self, seq: u32) -> FirstLocation<'a>
+        requires { seq < length (results_of (placed_of self.now).run) }
+        ensures { IsFirstLocation result (result_at (placed_of self.now).run seq) }
+    {
+        self.run.first_location(seq)
     }
 
     /// The run without its results, taken out.

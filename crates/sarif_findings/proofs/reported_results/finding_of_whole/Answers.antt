@@ -1,0 +1,10 @@
+use Rattle.std.proofs.Common.{◌≡◌, subst}
+use Rattle.std.specs.Prelude.{IfOk}
+use Rattle.serde_json.specs.View.{view}
+use Rattle.sarif_findings.proofs.AtLocation.{whole_at}
+use Rattle.sarif_findings.proofs.reported_results.finding_of_whole.Goals as goal
+
+pub returns : goal.returns
+returns c =
+    let same = whole_at c.args.reporting.now (view c.args.run.now) (view c.args.found.now) c.first_location.result c.args.level c.args.state c.first_location.ensures in
+    subst (λ it. IfOk c.finding_of.result (λ finding. finding ≡ it)) same c.finding_of.ensures
