@@ -1,9 +1,7 @@
-//! Tests of the reports, of the explanations of errors, and of the command line, through what these crates make
-//! public. They are in a separate crate, so that none of these is proved a second time for its tests.
+//! Tests of the reports, through what their crate makes public. They are in a separate crate, so that the library
+//! isn't proved a second time for its tests.
 #![tactic(auto)]
 
-#[cfg(test)]
-mod explanations;
 #[cfg(test)]
 mod listing;
 #[cfg(test)]
@@ -18,5 +16,3 @@ mod reports;
 mod samples;
 #[cfg(test)]
 mod services;
-#[cfg(test)]
-mod words;

@@ -1,5 +1,5 @@
 use Rattle.sarif_gather.specs.Hands.{IsHandOf}
-use Rattle.match_tests.proofs.work.dealing.draw_out.Given as goal
+use Rattle.gather_tests.proofs.work.dealing.draw_out.Given as goal
 
 abbrev pub invariant-loop : goal.invariant-loop
 invariant-loop l = IsHandOf l.deal l.hand

@@ -1,6 +1,6 @@
 use Rattle.std.proofs.Common.{◌∙◌}
-use Rattle.match_tests.proofs.Posts.{first_two}
-use Rattle.match_tests.proofs.work.mailing.settle_gives_what_is_left_front_first.Goals as goal
+use Rattle.gather_tests.proofs.Posts.{first_two}
+use Rattle.gather_tests.proofs.work.mailing.settle_gives_what_is_left_front_first.Goals as goal
 
 pub both-requires-clause-first : goal.both-requires-clause-first
 both-requires-clause-first g c =
