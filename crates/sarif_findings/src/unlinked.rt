@@ -41,7 +41,8 @@ impl<'a> Unlinked<'a> {
 
     /// Reads on to the next character that stays, and returns it. After `None` nothing is known about the rest.
     pub(crate) fn next(&mut self) -> Option<char>
-        ensures is { MatchOption result (left self.old ≡ []) (λ c. left self.old ≡ c ∷ left self.new) }
+        ensures is { MatchOption result (left self.old ≡ [])
+            (λ c. left self.old ≡ c ∷ left self.new) }
         ensures shorter { IfSome result (λ c. length self.new.rest.now < length self.old.rest.now) }
     {
         let mut part = self.part;

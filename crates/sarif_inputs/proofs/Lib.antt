@@ -1,5 +1,6 @@
 pub mod AllowedAlike
 pub mod FileAnswers
+pub mod IndexedTexts
 pub mod OpenedParts
 pub mod ReadFacts
 pub mod ReadIndexes

@@ -1,12 +1,54 @@
 //! Indexing the sources of a merge, some of them at the same time.
 ghost use Rattle.std.specs.Prelude.{◌≡◌, ◌≤◌, ◌+◌, ◌++◌, IfOk, map, length};
-ghost use Rattle.json_parts.specs.Together.{AreIndexed};
+ghost use Rattle.json_parts.specs.Together.{AreIndexed, IsIndexed};
 ghost use Rattle.json_parts.specs.Mark as said;
 
 use json::Scratch;
-use json_parts::{Index, IndexFault, Job, index_texts, without_mark};
+use json_parts::{Index, IndexFault, index_text, without_mark};
+use sarif_gather::{Sharing, share_jobs};
 use std::alloc::{AllocError, Global};
 use std::thread::Threads;
+
+/// A document to index, and the memory for its strings.
+#[derive(Drop)]
+struct Job<'a> {
+    /// The text.
+    bytes: &'a [u8],
+    /// Keeps its strings with escapes.
+    scratch: &'a mut Scratch,
+}
+
+/// Returns the index of a document, or why it has none.
+fn index_one<'a>(alloc: Global, job: Job<'a>) -> Result<Index<'a>, IndexFault>
+    ensures { IsIndexed job.entry.bytes.now result }
+{
+    let Job { bytes, scratch } = job;
+    index_text(alloc, bytes, scratch)
+}
+
+/// Indexes documents in at most `threads` threads, including this one. Returns the result for each document in
+/// order: its index, or its own error. Returns `AllocError` if memory for the list runs out.
+fn index_texts<'a, R: Threads + Sync>(
+    rt: &R,
+    alloc: Global,
+    jobs: Vec<Job<'a>>,
+    threads: u32,
+) -> Result<Vec<Result<Index<'a>, IndexFault>>, AllocError>
+    ensures { IfOk result
+        (λ found. AreIndexed (map (λ job. job.bytes.now) jobs.entry.items) found.items) }
+{
+    let sharing = Sharing {
+        rt,
+        alloc,
+        threads,
+        least: 1,
+    };
+    let one = move |job|
+        ensures { IfOk result (λ found. IsIndexed job.entry.bytes.now found) }
+    { Ok(index_one(alloc, job)) };
+    let found = share_jobs(&sharing, jobs, &one)?;
+    Ok(found)
+}
 
 /// Adds a job for each of these sources, with a separate scratch.
 fn add_jobs<'a>(

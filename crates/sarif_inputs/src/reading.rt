@@ -1,12 +1,12 @@
 //! Reading the runs of sources that were indexed, some of them at the same time.
-ghost use Rattle.std.specs.Prelude.{◌≡◌, ◌≤◌, ℕ, List, IfOk, map};
+ghost use Rattle.std.specs.Prelude.{◌≡◌, ◌≤◌, ℕ, List, IfOk};
 ghost use Rattle.json_parts.specs.Together.{IsIndexed};
 ghost use Rattle.json_parts.specs.Mark.{without_mark};
 ghost use Rattle.sarif_inputs.specs.Indexes.{AreIndexesOf};
 ghost use Rattle.sarif_inputs.specs.Parsed.{AreParsedFrom, AreReadFrom, IsParsedFrom, IsReadFrom};
 
 use json_parts::{Index, IndexFault};
-use sarif_gather::{Sharing, share_jobs};
+use sarif_gather::{Sharing, each_of, share_jobs};
 use sarif_model::Refusal;
 use sarif_read::{IndexedRun, ReadFault, index_log, refused_text};
 use std::alloc::{AllocError, Global};
@@ -28,17 +28,6 @@ fn read_index<'t, 'a>(
         Ok(found) => index_log(alloc, found, allow_external),
         Err(fault) => Err(refused_text(*fault)),
     }
-}
-
-/// References to these, in their order.
-fn each_of<'t, T>(alloc: Global, items: &'t [T]) -> Result<Vec<&'t T>, AllocError>
-    ensures { IfOk result (λ each. map (λ one. one.now) each.items ≡ items.now) }
-{
-    let mut each = Vec::with_capacity(alloc, items.len())?;
-    for item in items {
-        each.push(item)?;
-    }
-    Ok(each)
 }
 
 /// What each index gives, in their order: the runs of its log, or why it is none. They are read in at most `threads`

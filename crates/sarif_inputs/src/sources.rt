@@ -156,7 +156,8 @@ fn place_runs<'t, 'a>(
     requires few { length runs.items ≤ most_runs }
     requires whole { list_any has_float (map run_of runs.items) ≡ false }
     ensures { OnOk result (map placed_read all.new.items
-        ≡ map placed_read all.old.items ++ placed_from checks source 0 (map run_of runs.entry.items)) }
+        ≡ map placed_read all.old.items
+        ++ placed_from checks source 0 (map run_of runs.entry.items)) }
 {
     let mut number = 0;
     for run in runs {
@@ -227,13 +228,16 @@ impl<'t, 'a> Reading<'t, 'a> {
     ) -> Result<(), MergeFault>
         requires few { length logs.items ≤ most_sources }
         requires counted { IsCounted self.old }
-        requires parsed { (sources : List (List ℕ)) × AreParsedFrom checks.allow_external sources logs.items }
-        ensures runs { (sources : List (List ℕ)) → AreParsedFrom checks.allow_external sources logs.entry.items
+        requires parsed { (sources : List (List ℕ))
+            × AreParsedFrom checks.allow_external sources logs.items }
+        ensures runs { (sources : List (List ℕ))
+            → AreParsedFrom checks.allow_external sources logs.entry.items
             → OnOk result (map placed_read self.new.runs.items
             ≡ map placed_read self.old.runs.items
             ++ placed (numbered checks (source_of kind) 0 sources)) }
         ensures counted { OnOk result (IsCounted self.new) }
-        ensures faults { (sources : List (List ℕ)) → AreParsedFrom checks.allow_external sources logs.entry.items
+        ensures faults { (sources : List (List ℕ))
+            → AreParsedFrom checks.allow_external sources logs.entry.items
             → Answers (source_faults (length self.old.runs.items) self.old.results
             (numbered checks (source_of kind) 0 sources)) result }
         ensures quiet { IsQuiet result }

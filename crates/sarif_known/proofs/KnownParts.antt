@@ -27,7 +27,8 @@ use Rattle.sarif_model.specs.Suppression.{status_of}
 use Rattle.sarif_runs.specs.OwnMembers.{check_present, as_kind, own_kind, as_level, own_level, as_guid, own_guid, own_fingerprints, own_statuses, text_of, own_message, own_rule_id, own_message_and_rule, own_indexes, own_location, parts_of}
 use Rattle.std.specs.Option.{option_or}
 use Rattle.sarif_known.specs.KnownResult.{members_from, message_rows, guid_text, text_members, texts_if_any, list_if_any, kind_unless_fail, level_if_fail, suppression_for, unless_empty, result_rows, known_result}
-use Rattle.sarif_known.proofs.Rows.{found, get_row, text_back}
+use Rattle.sarif_accept.proofs.Rows.{found, text_back}
+use Rattle.sarif_known.proofs.Rows.{get_row}
 
 abbrev pub level_read : Kind → Level → Option Level
 level_read Pass level = None

@@ -1,11 +1,9 @@
 pub mod Grouped
-pub mod GuidFits
 pub mod KnownParts
 pub mod KnownPlain
 pub mod Lengths
 pub mod LogBack
 pub mod Lost
-pub mod Newline
 pub mod Plain
 pub mod Readable
 pub mod RecordBack

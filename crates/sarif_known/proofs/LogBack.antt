@@ -20,7 +20,7 @@ use Rattle.sarif_known.specs.Laws.{CanBeRead}
 use Rattle.sarif_known.specs.Tokens.{data_tokens}
 use Rattle.sarif_known.proofs.KnownParts.{items_back}
 use Rattle.sarif_known.proofs.KnownPlain.{log_plain}
-use Rattle.sarif_known.proofs.Newline.{read_line}
+use Rattle.sarif_accept.proofs.Newline.{read_line}
 use Rattle.sarif_known.proofs.Plain.{plain_read, plain_stripped}
 use Rattle.sarif_known.proofs.RunBack.{at, driver_is, results_are, count_is}
 use Rattle.sarif_known.proofs.Shallow.{log_within}

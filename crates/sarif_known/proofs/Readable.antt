@@ -33,7 +33,7 @@ use Rattle.sarif_runs.specs.Place.{place_of}
 use Rattle.sarif_runs.specs.Record.{record_by, record_in, record_of, tool_name}
 use Rattle.sarif_known.specs.KnownResult.{text_members}
 use Rattle.sarif_known.specs.Laws.{IsOfTool}
-use Rattle.sarif_known.proofs.GuidFits.{guid_fits}
+use Rattle.sarif_accept.proofs.GuidFits.{guid_fits}
 use Rattle.sarif_known.proofs.Rising.{rises, stripped_ordered}
 
 -- both steps went well

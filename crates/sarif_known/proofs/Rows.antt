@@ -1,33 +1,13 @@
 -- What is found under a name among rows.
-use Rattle.std.proofs.Common.{◌≡◌, ℕ, Bool, true, false, ◌&&◌, not, List, [], ◌∷◌, Option, Some, None, option_map, bytes_eq, refl, sym, ap, ◌∙◌, Ordering, Less, Equal, Greater, is_eq, nat_cmp, true≢false, if◌then◌else◌}
+use Rattle.std.proofs.Common.{◌≡◌, ℕ, Bool, true, false, not, List, [], ◌∷◌, Option, Some, None, bytes_eq, refl, sym, ap, ◌∙◌, Ordering, Less, Equal, Greater, is_eq, nat_cmp, true≢false, if◌then◌else◌}
 use Rattle.std.specs.Cmp.Lexicographic.{slice_cmp}
 use Rattle.std.specs.Ordering.{match_ordering}
 use Rattle.std.proofs.lemmas.Map.Text.{is_eq-slice_cmp}
 use Rattle.std.proofs.lemmas.Slice.Eq.{bytes_eq-Decides}
-use Rattle.std.specs.Prelude.{Ok, option_and_then}
-use Rattle.serde_json.specs.Data.{Data, Members, member, string}
-use Rattle.serde_json.specs.Find.{get_member, as_str}
-use Rattle.sarif_model.specs.Members.{of_kind, unless_null}
+use Rattle.serde_json.specs.Data.{Data, Members, member}
+use Rattle.serde_json.specs.Find.{get_member}
+use Rattle.sarif_accept.proofs.Rows.{found, lacks, are_apart, and_both}
 use Rattle.sarif_known.specs.KnownResult.{Row, members_from}
-
--- the value of the first row of that name
-abbrev pub found : List ℕ → List Row → Option Data
-found name [] = None
-found name (row ∷ rows) = if bytes_eq name row.0 then row.1 else found name rows
-
--- no later row has the name of an earlier one
-abbrev pub lacks : List ℕ → List Row → Bool
-lacks name [] = true
-lacks name (row ∷ rows) = not (bytes_eq name row.0) && lacks name rows
-
-abbrev pub are_apart : List Row → Bool
-are_apart [] = true
-are_apart (row ∷ rows) = lacks row.0 rows && are_apart rows
-
-pub and_both : (a b : Bool) → (a && b) ≡ true → (a ≡ true) × (b ≡ true)
-and_both true true e = (refl, refl)
-and_both true false e = absurd (true≢false (sym e))
-and_both false b e = absurd (true≢false (sym e))
 
 by_ordering : (o : Ordering) (b : Bool) (x y : Option Data) → is_eq o ≡ b → match_ordering o y x y ≡ (if b then x else y)
 by_ordering Less true x y e = absurd (true≢false (sym e))
@@ -65,8 +45,3 @@ get_row q ((k, None) ∷ rows) e =
 get_row q ((k, Some d) ∷ rows) e =
     let both = and_both (lacks k rows) (are_apart rows) e in
     at_member q k d (members_from rows) ∙ ap (λ o. if bytes_eq q k then Some d else o) (get_row q rows both.1)
-
--- a string is read as itself
-pub text_back : {E : Type 0} (wrong : E) (o : Option (List ℕ)) → of_kind wrong as_str (option_and_then unless_null (option_map string o)) ≡ Ok o
-text_back wrong None = refl
-text_back wrong (Some text) = refl

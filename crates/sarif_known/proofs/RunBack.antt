@@ -30,7 +30,8 @@ use Rattle.sarif_known.specs.KnownRun.{base_alone, next_number, results_from, wi
 use Rattle.sarif_known.specs.Laws.{IsOfTool, AreKnownAgain}
 use Rattle.sarif_known.proofs.KnownParts.{items_back, known_parts, parts_is, present_is}
 use Rattle.sarif_known.proofs.RecordBack.{HasArtifact, base_place, known_head, number_for, record_back}
-use Rattle.sarif_known.proofs.Rows.{found, get_row}
+use Rattle.sarif_accept.proofs.Rows.{found}
+use Rattle.sarif_known.proofs.Rows.{get_row}
 
 -- ---- its head
 

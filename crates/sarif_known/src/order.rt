@@ -62,7 +62,8 @@ fn add_runs<'a>(
 ) -> Result<(), AllocError>
     requires apart { AreApart [] (texts_of tools.now.keys) }
     requires count { length groups.old.items ≡ length tools.now.keys }
-    ensures added { OnOk result (groups_of groups.new.items ≡ side_by_side (groups_of groups.old.items)
+    ensures added { OnOk result (groups_of groups.new.items
+        ≡ side_by_side (groups_of groups.old.items)
         (map (runs_of_tool (all_chosen runs.entry.items)) (texts_of tools.now.keys))) }
     ensures count { OnOk result (length groups.new.items ≡ length tools.now.keys) }
 {

@@ -13,6 +13,7 @@ pub mod RunPartsOf
 pub mod RunResults
 pub mod RunTexts
 pub mod RunsAlike
+pub mod Shared
 pub mod Sides
 pub mod StatesMore
 pub mod ToldResults

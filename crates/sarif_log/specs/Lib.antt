@@ -2,6 +2,7 @@ pub mod Assembled
 pub mod Baselines
 pub mod Beside
 pub mod Halves
+pub mod Keeping
 pub mod Kept
 pub mod Leftover
 pub mod Log

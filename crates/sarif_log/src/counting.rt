@@ -83,7 +83,8 @@ pub(crate) fn count_sides<R: Threads + Sync>(
 ) -> Counts
     requires current { length current.now.states.items ≡ length current.now.drafts.items }
     requires baseline { length baseline.now.states.items ≡ length baseline.now.drafts.items }
-    requires few { length current.now.drafts.items + length baseline.now.drafts.items ≤ 2 * most_results }
+    requires few { length current.now.drafts.items + length baseline.now.drafts.items
+        ≤ 2 * most_results }
     requires threads { 1 ≤ threads }
     ensures { (s : Stand) (l : Grade) (b : Bool) → count_at result s l b
         ≡ tallied current.now.drafts.items current.now.states.items s l b

@@ -1,10 +1,11 @@
 //! What is for later merges.
-ghost use Rattle.std.specs.Prelude.{◌≡◌, List, Some, map, unwrap_or, IfOk, IfErr};
+ghost use Rattle.std.specs.Prelude.{◌≡◌, List, Some, map, unwrap_or, IfOk};
 ghost use Rattle.sarif_model.specs.declared.kinds.State.TheVariants.{New};
 ghost use Rattle.sarif_runs.specs.Placed.{Placed};
 ghost use Rattle.sarif_upkeep.specs.IsMatched.{IsFileOf};
-ghost use Rattle.sarif_log.specs.Kept.{bytes_of, merge_of, upkeep_in, IsKept, IsUnkept};
-ghost use Rattle.sarif_log.specs.Together.{AreTogether, IsPaired};
+ghost use Rattle.sarif_log.specs.Keeping.{AreOfRuns, KeepsIfOk, RejectsIfErr};
+ghost use Rattle.sarif_log.specs.Kept.{bytes_of, upkeep_in};
+ghost use Rattle.sarif_log.specs.Together.{IsPaired};
 
 use crate::asked::Asked;
 use crate::baselines::Baselines;
@@ -45,18 +46,10 @@ fn keep(
 ) -> Result<Life, MergeFault>
     requires read { IsFileOf (bytes_of rules.now) rules.now.file.now }
     requires together { (current_runs : List Placed) × (baseline_runs : List Placed)
-        × AreTogether rules.now.file.now current_runs baseline_runs sides.now.current.now sides.now.baselines.now }
+        × AreOfRuns rules.now sides.now current_runs baseline_runs }
     requires paired { IsPaired sides.now.current.now sides.now.baselines.now sides.now.paired.now }
-    ensures kept { (current_runs baseline_runs : List Placed)
-        → AreTogether rules.now.file.now current_runs baseline_runs sides.now.current.now
-        sides.now.baselines.now
-        → IfOk result (IsKept (merge_of rules.now.file.now (bytes_of rules.now)
-        asked.now.options.now.policy current_runs baseline_runs) (Some upkeep.now)) }
-    ensures unkept { (current_runs baseline_runs : List Placed)
-        → AreTogether rules.now.file.now current_runs baseline_runs sides.now.current.now
-        sides.now.baselines.now
-        → IfErr result (IsUnkept (merge_of rules.now.file.now (bytes_of rules.now)
-        asked.now.options.now.policy current_runs baseline_runs) (Some upkeep.now)) }
+    ensures kept { KeepsIfOk rules.now asked.now sides.now (Some upkeep.now) result }
+    ensures unkept { RejectsIfErr rules.now asked.now sides.now (Some upkeep.now) result }
 {
     let states = list_there(alloc, &sides.paired.states)?;
     let matched = Matched {
@@ -89,18 +82,10 @@ pub(crate) fn keep_if_asked(
 ) -> Result<Life, MergeFault>
     requires read { IsFileOf (bytes_of rules.now) rules.now.file.now }
     requires together { (current_runs : List Placed) × (baseline_runs : List Placed)
-        × AreTogether rules.now.file.now current_runs baseline_runs sides.now.current.now sides.now.baselines.now }
+        × AreOfRuns rules.now sides.now current_runs baseline_runs }
     requires paired { IsPaired sides.now.current.now sides.now.baselines.now sides.now.paired.now }
-    ensures kept { (current_runs baseline_runs : List Placed)
-        → AreTogether rules.now.file.now current_runs baseline_runs sides.now.current.now
-        sides.now.baselines.now
-        → IfOk result (IsKept (merge_of rules.now.file.now (bytes_of rules.now)
-        asked.now.options.now.policy current_runs baseline_runs) (upkeep_in asked.now)) }
-    ensures unkept { (current_runs baseline_runs : List Placed)
-        → AreTogether rules.now.file.now current_runs baseline_runs sides.now.current.now
-        sides.now.baselines.now
-        → IfErr result (IsUnkept (merge_of rules.now.file.now (bytes_of rules.now)
-        asked.now.options.now.policy current_runs baseline_runs) (upkeep_in asked.now)) }
+    ensures kept { KeepsIfOk rules.now asked.now sides.now (upkeep_in asked.now) result }
+    ensures unkept { RejectsIfErr rules.now asked.now sides.now (upkeep_in asked.now) result }
 {
     match asked.upkeep {
         Some(upkeep) => keep(alloc, sides, rules, asked, upkeep),

@@ -8,11 +8,11 @@ ghost use Rattle.sarif_runs.specs.Opened.{placed_of};
 ghost use Rattle.sarif_runs.specs.Spots.{IsSpotOf};
 
 use crate::leftover::Leftover;
+use sarif_gather::{Sharing, each_of, share_jobs};
 use sarif_model::Record;
 use sarif_results::{Draft, draft_absent};
 use sarif_runs::{OpenedRun, Spot};
 use std::alloc::{AllocError, Global};
-use std::thread;
 use std::thread::Threads;
 
 /// Adds a result, unless it is taken.
@@ -69,46 +69,27 @@ fn draft_leftover(alloc: Global, left: &Leftover<'_, '_, '_>) -> Result<Draft, A
     Ok(draft)
 }
 
-/// Returns the drafts of these, in order.
-fn draft_in_turn(alloc: Global, left: &[Leftover<'_, '_, '_>]) -> Result<Vec<Draft>, AllocError>
-    ensures { IfOk result (λ drafts. drafts.items ≡ map leftover_draft left.now) }
-{
-    let mut drafts = Vec::with_capacity(alloc, left.len())?;
-    for one in left {
-        drafts.push(draft_leftover(alloc, one)?)?;
-    }
-    Ok(drafts)
-}
-
 /// Returns the drafts of unmatched baseline results. At most `threads` threads make them, including this one.
 /// Returns `AllocError` if memory for one runs out.
-#[cycle(leftovers)]
-pub fn draft_leftovers<R: Threads + Sync>(
+pub fn draft_leftovers<'l, 'w, 't, 'a, R: Threads + Sync>(
     rt: &R,
     alloc: Global,
-    left: &[Leftover<'_, '_, '_>],
+    left: &'l [Leftover<'w, 't, 'a>],
     threads: u32,
 ) -> Result<Vec<Draft>, AllocError>
     requires { 1 ≤ threads }
     ensures { IfOk result (λ drafts. drafts.items ≡ map leftover_draft left.now) }
 {
-    if threads < 2 || left.len() < 2 {
-        return draft_in_turn(alloc, left);
-    }
-    let few = threads / 2;
-    let others = threads - few;
-    let (low, high) = left.split_at(left.len() / 2);
-    let front = move || -> Result<Vec<Draft>, AllocError>
-        requires { 1 ≤ few }
-        ensures { IfOk result (λ drafts. drafts.items ≡ map leftover_draft low.entry.now) }
-    { draft_leftovers(rt, alloc, low, few) };
-    let back = move || -> Result<Vec<Draft>, AllocError>
-        requires { 1 ≤ others }
-        ensures { IfOk result (λ drafts. drafts.items ≡ map leftover_draft high.entry.now) }
-    { draft_leftovers(rt, alloc, high, others) };
-    let (first, second) = thread::join(rt, front, back);
-    let mut drafts = first?;
-    let mut rest = second?;
-    drafts.append(&mut rest)?;
+    let sharing = Sharing {
+        rt,
+        alloc,
+        threads,
+        least: 1,
+    };
+    let one = move |found|
+        ensures { IfOk result (λ draft. draft ≡ leftover_draft found.now) }
+    { draft_leftover(alloc, found) };
+    let each = each_of(alloc, left)?;
+    let drafts = share_jobs(&sharing, each, &one)?;
     Ok(drafts)
 }

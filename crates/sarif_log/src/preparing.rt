@@ -215,7 +215,8 @@ fn prepare_sides<R: Threads + Sync>(
         × AreTogether rules.now.file.now current_runs baseline_runs current baselines }
     ensures prepared { IfOk result (λ prepared. (current_runs baseline_runs : List Placed)
         → AreTogether rules.now.file.now current_runs baseline_runs current.entry baselines.entry
-        → IsPrepared rules.now.file.now current_runs baseline_runs (reporting_in asked.now) prepared) }
+        → IsPrepared rules.now.file.now current_runs baseline_runs
+        (reporting_in asked.now) prepared) }
     ensures kept { (current_runs baseline_runs : List Placed)
         → AreTogether rules.now.file.now current_runs baseline_runs current.entry baselines.entry
         → IfOk result (λ prepared. IsKept (merge_of rules.now.file.now (bytes_of rules.now)

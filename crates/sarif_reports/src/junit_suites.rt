@@ -19,7 +19,8 @@ fn add_result<'f>(
     finding: &'f Finding,
 ) -> Result<(), AllocError>
     requires { tool.now ≡ finding.now.tool }
-    ensures { OnOk result (seen_suites suites.new ≡ with_result finding.now (seen_suites suites.old)) }
+    ensures { OnOk result (seen_suites suites.new
+        ≡ with_result finding.now (seen_suites suites.old)) }
 {
     if let Some(results) = suites.get_mut(&tool) {
         results.push(finding)?;

@@ -221,14 +221,17 @@ pub fn azure_properties_hold_no_end()
 /// the skipped ones are the hits. One fails exactly if the verdict is fail. So no log adds, hides or changes a test
 /// case.
 pub fn junit_cases_are_results()
-    ensures cases { (reporting : Reporting) (log : Data) → length (reported_of reporting log) < 2 ^ 64
+    ensures cases { (reporting : Reporting) (log : Data)
+        → length (reported_of reporting log) < 2 ^ 64
         → occurrences (codes "<testcase ") (document_of reporting log)
         ≡ cases_of (length (reported_of reporting log)) }
-    ensures hits { (reporting : Reporting) (log : Data) → length (reported_of reporting log) < 2 ^ 64
+    ensures hits { (reporting : Reporting) (log : Data)
+        → length (reported_of reporting log) < 2 ^ 64
         → occurrences (codes "<failure ") (document_of reporting log)
         + occurrences (codes "<skipped ") (document_of reporting log)
         ≡ hits_of (count_of (runs_of log)) reporting.policy }
-    ensures verdict { (reporting : Reporting) (log : Data) → length (reported_of reporting log) < 2 ^ 64
+    ensures verdict { (reporting : Reporting) (log : Data)
+        → length (reported_of reporting log) < 2 ^ 64
         → nat_lt 0 (occurrences (codes "<failure ") (document_of reporting log))
         ≡ fails (verdict_of (count_of (runs_of log)) reporting.policy) }
 {}
@@ -242,6 +245,7 @@ pub fn junit_names_differ()
 /// Each character of the report in JUnit XML is one of those that XML 1.0 allows. A report that was written is UTF-8,
 /// as each `String` is.
 pub fn junit_characters_are_allowed()
-    ensures { (reporting : Reporting) (log : Data) → length (reported_of reporting log) < 2 ^ 64
+    ensures { (reporting : Reporting) (log : Data)
+        → length (reported_of reporting log) < 2 ^ 64
         → IsUtf8 (document_of reporting log) → IsXmlText (document_of reporting log) }
 {}

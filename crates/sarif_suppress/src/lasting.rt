@@ -50,7 +50,8 @@ fn are_passing(entries: &[Entry], numbers: &[u32]) -> bool
 /// Whether suppressions of these statuses, and then of those of the entries with these numbers that have no expiry
 /// date, suppress.
 pub(crate) fn do_suppress_for_good(held: &[Status], entries: &[Entry], numbers: &[u32]) -> bool
-    ensures { result ≡ ((not (is_empty held.now) || list_any (passes_at is_lasting entries.now) numbers.now)
+    ensures { result ≡ ((not (is_empty held.now)
+        || list_any (passes_at is_lasting entries.now) numbers.now)
         && (list_all said.is_accepted held.now
         && list_all (passes_at (λ e. not (is_lasting e) || said.is_accepted e.status) entries.now)
         numbers.now)) }

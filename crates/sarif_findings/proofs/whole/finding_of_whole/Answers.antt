@@ -2,7 +2,7 @@ use Rattle.std.proofs.Common.{◌≡◌, subst}
 use Rattle.std.specs.Prelude.{IfOk}
 use Rattle.serde_json.specs.View.{view}
 use Rattle.sarif_findings.proofs.AtLocation.{whole_at}
-use Rattle.sarif_findings.proofs.reported_results.finding_of_whole.Goals as goal
+use Rattle.sarif_findings.proofs.whole.finding_of_whole.Goals as goal
 
 pub returns : goal.returns
 returns c =
