@@ -40,7 +40,8 @@ def costs_of(gate, row, times):
         runs = [[] for _ in plan]
         for _ in range(times):
             for found, given in zip(runs, plan):
-                found.append(measure([gate, *given["words"]], None, os.devnull))
+                words = [gate, *given["words"]]
+                found.append(measure(words, None, os.devnull, given["statuses"]))
     return [
         Cost(min(it.processor for it in found), min(it.peak for it in found), given["bytes"])
         for found, given in zip(runs, plan)

@@ -4,8 +4,8 @@
 make_shape.py costs|growth NAME COUNT FOLDER
 
 For costs, the inputs are the costly one and its twin. For growth, they are half the number of a thing and the
-full number. FOLDER gets the files and plan.json, which has the arguments and the size of each input. This is a
-separate program, so that the memory for making the inputs isn't measured.
+full number. FOLDER gets the files and plan.json, which has the arguments, the size and the allowed exit statuses
+of each input. This is a separate program, so that the memory for making the inputs isn't measured.
 """
 
 import json
@@ -32,7 +32,7 @@ def main(table, name, count, folder):
         room = Path(folder, str(number))
         room.mkdir()
         words = [*given.files(room), "--out", str(room / "merged")]
-        plan.append({"words": words, "bytes": given.bytes()})
+        plan.append({"words": words, "bytes": given.bytes(), "statuses": given.statuses()})
     Path(folder, "plan.json").write_text(json.dumps(plan))
 
 

@@ -18,11 +18,11 @@ class Run:
     peak: int
 
 
-def measure(words, given, out):
-    """Runs a command with the file `given` as standard input and the file `out` as output."""
+def measure(words, given, out, statuses=(0, 1)):
+    """Runs a command with the file `given` as standard input and the file `out` as output. It may end with these statuses."""
     with tempfile.TemporaryFile() as said:
         ran, status = spawned(words, given or os.devnull, out, said.fileno())
-        if os.waitstatus_to_exitcode(status) not in (0, 1):
+        if os.waitstatus_to_exitcode(status) not in statuses:
             said.seek(0)
             text = said.read(300).decode(errors="replace").strip()
             raise SystemExit(f"{' '.join(words)[:200]} ended badly: {text}")

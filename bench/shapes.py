@@ -28,6 +28,8 @@ class Input:
     are_reported: bool = False
     # Which files for later merges are requested: `accept`, `known` or none.
     kept: str = ""
+    # Whether the merge is rejected, since a file for later merges would be too long.
+    is_too_long: bool = False
 
     def files(self, folder):
         """Writes the files. Returns the arguments that merge them."""
@@ -43,6 +45,10 @@ class Input:
         if self.kept == "known":
             words += ["--known", str(folder / "known"), "--adopt"]
         return [*words, *(put(folder / f"log{n}", text) for n, text in enumerate(self.logs))]
+
+    def statuses(self):
+        """How the merge may end."""
+        return [2] if self.is_too_long else [0, 1]
 
     def bytes(self):
         return sum(map(len, [*self.logs, *self.baselines, self.suppress or ""]))
@@ -501,7 +507,18 @@ def accepted_of_long_tool(count):
     """Hits whose entries are too long together, since each has the long name of their tool."""
     for name in (LONG, "t"):
         results = [message(f"m{n}", level="error", ruleId="R1") for n in range(count)]
-        yield Input([log(run(results, {"name": name, "fullName": LONG if name == "t" else ""}))], kept="accept")
+        made = log(run(results, {"name": name, "fullName": LONG if name == "t" else ""}))
+        yield Input([made], kept="accept", is_too_long=name == LONG)
+
+
+def deep_file(count):
+    """A suppression file with numbers in 120 arrays, so that the new file would be too long: each number is on its own
+    line. The twin has them in one array."""
+    for depth in (120, 1):
+        value = "[" * depth + ",".join(["1"] * count) + "]" * depth
+        file = entries([]).replace('"version"', f'"x":{value},"version"', 1)
+        made = log(run([message(level="error")]))
+        yield Input([made], suppress=file, kept="accept", is_too_long=depth > 1)
 
 
 def known_tools(count):
@@ -516,7 +533,7 @@ def known_long_rule(count):
     for identity in (LONG, "R"):
         rule = {"id": identity, "name": LONG if identity == "R" else ""}
         results = [message(f"m{n}", ruleIndex=0) for n in range(count)]
-        yield Input([log(run(results, {"rules": [rule]}))], kept="known")
+        yield Input([log(run(results, {"rules": [rule]}))], kept="known", is_too_long=identity == LONG)
 
 
 SHAPES = {
@@ -579,6 +596,7 @@ SHAPES = {
     # The new suppression file and the known log.
     "accepted_alike": (accepted_alike, 200_000),
     "accepted_of_long_tool": (accepted_of_long_tool, 9_000),
+    "deep_file": (deep_file, 2_000_000),
     "known_tools": (known_tools, 10_000),
     "known_long_rule": (known_long_rule, 20_000),
 }

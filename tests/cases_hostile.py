@@ -131,6 +131,18 @@ def long():
     )
 
 
+def indented():
+    """A new suppression file that is too long because its values are deep."""
+    deep = b'{"suppressions":[],"version":2,"x":' + b"[" * 120 + b"1," * 300_000 + b"1" + b"]" * 120 + b"}"
+    yield hostile(
+        "numbers in 120 arrays of the suppression file",
+        ["--suppress", "a", "--suppress-out", "n", "--accept", "--out", "o", "b"],
+        files={"a": deep, "b": ONE},
+        out=OLD,
+        **refused("suppressions: TooLong"),
+    )
+
+
 def many():
     """The maximum number of results, in one log and in all."""
     counted = MOST_RESULTS
@@ -242,5 +254,5 @@ def permissions():
 
 
 def cases():
-    for part in (prefixes, not_utf8, deep, long, many, permissions):
+    for part in (prefixes, not_utf8, deep, long, indented, many, permissions):
         yield from part()

@@ -10,6 +10,7 @@ pub mod GivenFile
 pub mod GuidFits
 pub mod HeardMore
 pub mod Kept
+pub mod LineWidths
 pub mod Lines
 pub mod NewFileRead
 pub mod Newline

@@ -1,5 +1,5 @@
 -- The JSON of a new suppression file is read again.
-use Rattle.std.proofs.Common.{◌≡◌, ℕ, ◌<◌, ◌≤◌, Bool, true, false, List, [], ◌∷◌, ◌++◌, length, map, Bor, Option, Some, None, refl, sym, inl, inr, ◌⊎◌, ◌+◌, ap, ap₂, ◌∙◌, arith, length-append, if◌then◌else◌}
+use Rattle.std.proofs.Common.{◌≡◌, ℕ, ◌<◌, ◌≤◌, Bool, true, false, List, [], ◌∷◌, ◌++◌, length, map, Bor, Option, Some, None, refl, sym, subst, inl, inr, ◌⊎◌, ◌+◌, ap, ap₂, ◌∙◌, arith, length-append, if◌then◌else◌}
 use Rattle.std.specs.Prelude.{nat_lt, unwrap_or}
 use Rattle.std.specs.Str.{is_utf8}
 use Rattle.std.proofs.lemmas.List.{length-map}
@@ -23,7 +23,8 @@ use Rattle.sarif_accept.specs.Entry.{entry_for}
 use Rattle.sarif_accept.specs.Keeping.{chosen}
 use Rattle.sarif_accept.specs.Renewed.{renewed_entries, renewed_file, renewal_cause}
 use Rattle.sarif_accept.proofs.NoFraction.{new_whole}
-use Rattle.sarif_accept.specs.Weighing.{weights_of}
+use Rattle.sarif_accept.specs.Weighing.{lines_in, weights_of}
+use Rattle.sarif_accept.proofs.LineWidths.{file_lines}
 use Rattle.sarif_accept.proofs.Shallow.{new_within}
 use Rattle.sarif_accept.proofs.Weight.{file_weight}
 
@@ -72,6 +73,14 @@ module _ (given : Option (List ℕ)) (kept : List Bool) (added : List Record) (r
       let test : nat_lt most_entries (length (renewed_entries given kept added renewal)) ≡ false = grind (arith, nat_tests) in
       let size : nat_lt most_bytes (length (file_text (renewed_file given kept added renewal))) ≡ true = grind (arith, nat_tests) in
       rw (test, size) refl
+
+  -- lines that are too long are found before the text is made
+  pub is_too_indented : (d : Data) → d ≡ renewed_file given kept added renewal → (length (renewed_entries given kept added renewal) ≤ most_entries) → nat_lt most_bytes (lines_in 1 d) ≡ true
+      → renewal_cause given kept added renewal ≡ Some TooLong
+  is_too_indented d is few long =
+      let whole : lines_in 1 d ≤ length (file_text (renewed_file given kept added renewal)) = subst (λ e. lines_in 1 d ≤ length (file_text e)) is (file_lines d (is_shallow d is)) in
+      let over : most_bytes < lines_in 1 d = grind (arith, nat_tests) in
+      is_too_long few (omega (arith, whole, over))
 
   pub is_accepted : (length (renewed_entries given kept added renewal) ≤ most_entries) → length (file_text (renewed_file given kept added renewal)) ≤ most_bytes → renewal_cause given kept added renewal ≡ None
   is_accepted few short =

@@ -4,6 +4,7 @@
 mod asked;
 mod entry;
 mod heard;
+mod indentation;
 mod keep;
 mod laws;
 mod marked;

@@ -14,6 +14,7 @@ ghost use Rattle.sarif_accept.specs.Renewed as said;
 ghost use Rattle.sarif_accept.specs.Weighing.{weights_of};
 
 use crate::entry::entry_for;
+use crate::indentation::is_too_indented;
 use crate::old_file::{Old, read_old};
 use crate::printing::print_file;
 use crate::weighing::are_too_long;
@@ -107,7 +108,7 @@ fn renewed_file(
 /// the entries that accept the results `added`, version 4, and the file's other members without numbers that have a
 /// fraction. Without a file there are no entries and no other members. Returns `TooMany` if it had more than
 /// `MOST_ENTRIES` entries, `TooLong` if its text had more than `MOST_BYTES` bytes, so that it could not be read again, and
-/// `OutOfMemory` if memory runs out.
+/// `OutOfMemory` if memory runs out. Checks the indentation before it makes the text, since deep values need a lot of it.
 #[tactic(auto, using(crate::proofs::RenewedFile::is_too_long, crate::proofs::RenewedFile::is_accepted))]
 pub fn new_file(
     alloc: Global,
@@ -126,6 +127,9 @@ pub fn new_file(
         kept.now (map (λ r. r.now) added.now) renewal.now ≡ Some cause) }
 {
     let file = renewed_file(alloc, bytes, kept, added, renewal)?;
+    if is_too_indented(&file) {
+        return Err(Refusal::Fault(Cause::TooLong));
+    }
     let text = print_file(alloc, &file)?;
     if text.len() > MOST_BYTES {
         return Err(Refusal::Fault(Cause::TooLong));
