@@ -1,4 +1,5 @@
-//! The suppression file of `sarif_gate`: which entries match a result, and the suppressions that they add.
+//! The suppression file of `sarif_gate`: which entries match a result, and the suppressions that they add. `whole.rt`
+//! has the calls that the merge doesn't make.
 #![tactic(auto)]
 
 mod conditions;
@@ -20,6 +21,7 @@ mod suppressions;
 mod table;
 mod unseen;
 mod version;
+mod whole;
 
 pub use conditions::Conditions;
 pub use entry::Entry;
@@ -30,6 +32,7 @@ pub use laws::{
 };
 pub use marks::Marks;
 pub use read_entry::is_day;
-pub use read_file::{read_rules, read_rules_with};
+pub use read_file::read_rules_with;
 pub use suppressions::{Applied, Suppressions};
 pub use version::Version;
+pub use whole::read_rules;

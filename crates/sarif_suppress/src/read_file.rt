@@ -17,7 +17,7 @@ use json_parts::without_mark;
 use sarif_model::{Fault, MOST_ENTRIES, Refusal};
 use serde_json::Value;
 use std::alloc::Global;
-use std::hash::{BuildHasher, BuildHasherDefault, FoldHasher};
+use std::hash::BuildHasher;
 
 /// Passes an object with an array `suppressions`, and gives its elements.
 #[tactic(auto, using(sarif_model::proofs::Elements::elements_items_view))]
@@ -114,26 +114,10 @@ fn read_value<S: BuildHasher + Copy>(
 }
 
 /// Reads a suppression file, an object with `version` and `suppressions`; `docs/formats.md` describes it. `today`
-/// is the date as the number YYYYMMDD, if one is known: no clock is read. The tables use the seed of the standard
-/// hasher, which the author of a log may know: see [`read_rules_with`]. It makes the checks in this order and
-/// returns the first error: `NotJson`, `NotList`, `WrongVersion`, `TooMany`, and then for each entry `BadEntry`,
-/// `EmptyMatch` and `NeedsToday`. Returns `OutOfMemory` if memory runs out.
-pub fn read_rules(
-    alloc: Global,
-    bytes: &[u8],
-    today: Option<u32>,
-) -> Result<Suppressions<BuildHasherDefault<FoldHasher>>, Refusal<FileFault>>
-    ensures ok { IfOk result (λ file. said.file_of bytes.now today ≡ Ok file) }
-    ensures err { IfFault result (λ fault. said.file_of bytes.now today ≡ Err fault) }
-{
-    let hasher = BuildHasherDefault::<FoldHasher>::new();
-    read_rules_with(alloc, hasher, bytes, today)
-}
-
-/// Reads a suppression file for the date `today`, as [`read_rules`] does. The tables of the entries hash with
-/// `hasher`, for example a `RandomState` whose seed no log can know. The result does not depend on the hasher: it
-/// is the first error of `NotJson`, `NotList`, `WrongVersion` and `TooMany`, then of `BadEntry`, `EmptyMatch` and
-/// `NeedsToday` for each entry, or `OutOfMemory` if memory runs out.
+/// is the date as the number YYYYMMDD, if one is known: no clock is read. The tables of the entries hash with
+/// `hasher`, for example a `RandomState` whose seed no log can know. The result does not depend on the hasher. It
+/// makes the checks in this order and returns the first error: `NotJson`, `NotList`, `WrongVersion`, `TooMany`, and
+/// then for each entry `BadEntry`, `EmptyMatch` and `NeedsToday`. Returns `OutOfMemory` if memory runs out.
 #[tactic(auto, unfolding(crate::specs::File::file_of))]
 pub fn read_rules_with<S: BuildHasher + Copy>(
     alloc: Global,

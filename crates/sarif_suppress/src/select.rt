@@ -1,8 +1,8 @@
 //! Which entries match a result, among those whose numbers the tables give.
-ghost use Rattle.std.specs.Prelude.{◌≡◌, ◌≤◌, ◌&&◌, [], count_by, false, filter, length, not, IfOk, OnOk, if◌then◌else◌};
+ghost use Rattle.std.specs.Prelude.{◌≡◌, ◌&&◌, [], false, filter, IfOk, OnOk, if◌then◌else◌};
 ghost use Rattle.std.specs.BTreeSet.{insert_key, keys};
 ghost use Rattle.std.specs.Ordering.{nat_cmp};
-ghost use Rattle.std.specs.List.{list_all, list_any};
+ghost use Rattle.std.specs.List.{list_all};
 ghost use Rattle.sarif_suppress.specs.Matching.{is_empty, matches};
 ghost use Rattle.sarif_suppress.specs.Numbers.{passes_at, with_numbers};
 ghost use Rattle.sarif_suppress.specs.Suppressing as said;
@@ -131,23 +131,4 @@ pub(crate) fn do_suppress(held: &[Status], entries: &[Entry], numbers: &[u32]) -
         return false;
     }
     all_accepted(held) && are_accepted(entries, numbers)
-}
-
-/// Whether the entry matches one of the results on that day.
-fn is_used(entry: &Entry, today: Option<u32>, records: &[Record]) -> bool
-    ensures { result ≡ list_any (λ r. matches today entry.now r) records.now }
-{
-    records.iter().any(|record| entry.matches(today, record))
-}
-
-/// How many entries match none of the results on that day.
-pub(crate) fn count_unused(entries: &[Entry], today: Option<u32>, records: &[Record]) -> usize
-    ensures few { result ≤ length entries.now }
-    ensures count { result ≡ count_by
-        (λ e. not (list_any (λ r. matches today e r) records.now)) entries.now }
-{
-    entries
-        .iter()
-        .filter(|entry| !is_used(entry, today, records))
-        .count()
 }

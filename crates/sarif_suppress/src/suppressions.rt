@@ -1,18 +1,18 @@
 //! A suppression file that was read, and what it makes of the results.
-ghost use Rattle.std.specs.Prelude.{◌≡◌, ◌==◌, ◌<◌, ◌≤◌, [], length, map, option_map, slice_get, IfOk};
+ghost use Rattle.std.specs.Prelude.{◌≡◌, ◌≤◌, [], length, map, IfOk};
 ghost use Rattle.serde_json.specs.View.{view};
 ghost use Rattle.sarif_model.specs.declared.record.Record.{Record};
 ghost use Rattle.sarif_suppress.specs.Marks.{marks_of};
 ghost use Rattle.sarif_suppress.specs.Written as said;
-ghost use Rattle.sarif_suppress.specs.Suppressing.{lasting, matching_numbers, is_suppressed, unused_of};
+ghost use Rattle.sarif_suppress.specs.Suppressing.{lasting, matching_numbers, is_suppressed};
 ghost use Rattle.sarif_model.specs.Limits.{most_entries};
 
 use crate::entry::Entry;
 use crate::lasting::do_suppress_for_good;
 use crate::marks::Marks;
-use crate::object::{object_of, with_objects};
+use crate::object::with_objects;
 use crate::prefixes::PrefixTable;
-use crate::select::{count_unused, do_suppress, select};
+use crate::select::{do_suppress, select};
 use crate::table::Table;
 use sarif_model::{Record, Sequence};
 use serde_json::Value;
@@ -108,13 +108,6 @@ impl<S: BuildHasher + Copy> Suppressions<S> {
         self.today
     }
 
-    /// Whether the file has no entries.
-    pub fn is_empty(&self) -> bool
-        ensures { result ≡ (length self.now.entries == 0) }
-    {
-        self.entries.is_empty()
-    }
-
     /// Returns which entries match the result, and whether it is then suppressed (SARIF 2.1.0, result object,
     /// "suppressions property"). Returns `AllocError` if memory runs out.
     pub fn apply(&self, alloc: Global, record: &Record) -> Result<Applied, AllocError>
@@ -141,24 +134,6 @@ impl<S: BuildHasher + Copy> Suppressions<S> {
     {
         let numbers = applied.entries.as_slice();
         do_suppress_for_good(found.held.as_slice(), &self.entries, numbers)
-    }
-
-    /// Returns how many entries match none of the results. Does not allocate.
-    pub fn unused(&self, records: &[Record]) -> u32
-        ensures { result ≡ unused_of self.now records.now }
-    {
-        count_unused(&self.entries, self.today, records) as u32
-    }
-
-    /// Returns the object that is written for entry `n`, numbered from 0: its `kind`, which is `external`, its
-    /// `status`, and its `justification` if it has one (SARIF 2.1.0, suppression object). Returns `AllocError` if
-    /// memory for it runs out.
-    pub fn object(&self, alloc: Global, n: u32) -> Result<Value, AllocError>
-        requires { n < length self.now.entries }
-        ensures { IfOk result
-            (λ v. option_map said.object_of (slice_get self.now.entries n) ≡ Some (view v)) }
-    {
-        object_of(alloc, &self.entries[n as usize])
     }
 
     /// Returns the suppressions of a result to which the file was applied: its `own` suppressions, unchanged, and

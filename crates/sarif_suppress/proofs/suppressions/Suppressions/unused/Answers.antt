@@ -2,4 +2,4 @@ use Rattle.std.proofs.Common.{refl, ◌∙◌}
 use Rattle.sarif_suppress.proofs.suppressions.Suppressions.unused.Goals as goal
 
 pub returns : goal.returns
-returns g c = rw (← c.self.view_is) (c.count_unused.ensures.count ∙ rw c.deref.ensures.value refl)
+returns g c = c.count_unused.ensures.count ∙ rw (c.today.ensures, c.entries.ensures) refl
