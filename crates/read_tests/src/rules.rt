@@ -2,7 +2,7 @@
 //! and a run, whose first result gives its descriptor, its level and its place, or an error.
 use sarif_model::{Fault, Kind, Level, Place, Record, Refusal};
 use sarif_read::{Log, RawRun, read_log};
-use sarif_runs::{Parts, RunHead, make_record, open_run, read_parts};
+use sarif_runs::{Descriptor, Parts, RunHead, make_record, open_run, read_parts};
 use std::alloc::{AllocError, Global};
 use std::hash::RandomState;
 use std::io;
@@ -12,7 +12,7 @@ use std::test::Fail;
 
 #[derive(Drop)]
 struct Answer {
-    descriptor: Option<(usize, usize)>,
+    descriptor: Option<Descriptor>,
     level: Level,
     place: Place,
 }
@@ -54,7 +54,9 @@ fn words_of(alloc: Global, answer: &Answer) -> Result<String, AllocError> {
     let uri = answer.place.uri.as_ref().map_or("-", |text| text.as_str());
     let base = answer.place.base.as_ref().map_or("-", |text| text.as_str());
     match answer.descriptor {
-        Some((component, rule)) => format!(in alloc; "{component}.{rule} {level} {uri} {base}"),
+        Some(Descriptor { component, rule }) => {
+            format!(in alloc; "{component}.{rule} {level} {uri} {base}")
+        }
         None => format!(in alloc; "none {level} {uri} {base}"),
     }
 }

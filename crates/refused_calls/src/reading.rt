@@ -1,7 +1,7 @@
 //! Logs, runs and results.
 use sarif_model::{Fault, Level, Place, Record, Refusal};
 use sarif_read::{Log, ReadFault, read_log, strip};
-use sarif_runs::{Parts, make_record, open_run, read_parts};
+use sarif_runs::{Descriptor, Parts, make_record, open_run, read_parts};
 use serde_json::Value;
 use std::alloc::{AllocError, Global};
 use std::hash::RandomState;
@@ -75,7 +75,7 @@ pub fn head_in_words(alloc: Global, seed: RandomState, log: &str) -> Result<Stri
 
 #[derive(Debug, Drop)]
 struct Given {
-    descriptor: Option<(usize, usize)>,
+    descriptor: Option<Descriptor>,
     level: Level,
     place: Place,
 }

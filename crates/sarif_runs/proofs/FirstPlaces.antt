@@ -10,6 +10,7 @@ use Rattle.std.proofs.lemmas.Option.{slice_get_past, slice_get_read}
 use Rattle.sarif_runs.specs.Reading.{first_or}
 use Rattle.sarif_runs.specs.Overrides.{is_same_descriptor, is_descriptor, specifies, first_for}
 use Rattle.sarif_runs.specs.Level.{overriding_level}
+use Rattle.sarif_runs.specs.declared.component.Descriptor.{Descriptor}
 use Rattle.sarif_runs.specs.declared.invocation.Override.{Override}
 
 pub first_or-not_here : (o : Option ℕ) (i : ℕ) → first_or o false i ≡ o
@@ -59,24 +60,26 @@ eqb_symmetric a b = grind (arith, nat_tests)
 both_equal : (a b a' b' : ℕ) → eqb a a' && eqb b b' ≡ true → (a ≡ a') × (b ≡ b')
 both_equal a b a' b' e = grind (arith, nat_tests)
 
-pub is_same_descriptor-equal : (d e : ℕ × ℕ) → is_same_descriptor d e ≡ true → d ≡ e
+pub is_same_descriptor-equal : (d e : Descriptor) → is_same_descriptor d e ≡ true → d ≡ e
 is_same_descriptor-equal d e same =
-    let parts = both_equal d.0 d.1 e.0 e.1 same in
-    ap (λ n. let p : ℕ × ℕ = (n, d.1) in p) parts.0 ∙ ap (λ n. let p : ℕ × ℕ = (e.0, n) in p) parts.1
+    let parts = both_equal d.component d.rule e.component e.rule same in
+    ap (λ n. let p : Descriptor = record { component = n; rule = d.rule } in p) parts.0
+    ∙ ap (λ n. let p : Descriptor = record { component = e.component; rule = n } in p) parts.1
 
-pub is_same_descriptor-symmetric : (d e : ℕ × ℕ) → is_same_descriptor d e ≡ is_same_descriptor e d
+pub is_same_descriptor-symmetric : (d e : Descriptor) → is_same_descriptor d e ≡ is_same_descriptor e d
 is_same_descriptor-symmetric d e =
-    ap (λ b. b && eqb d.1 e.1) (eqb_symmetric d.0 e.0) ∙ ap (λ b. eqb e.0 d.0 && b) (eqb_symmetric d.1 e.1)
+    ap (λ b. b && eqb d.rule e.rule) (eqb_symmetric d.component e.component)
+    ∙ ap (λ b. eqb e.component d.component && b) (eqb_symmetric d.rule e.rule)
 
 -- after a new key is put at a descriptor that had none, each descriptor keeps its first place
-pub kept_first : (old new : ℕ × ℕ → Option ℕ) (d : ℕ × ℕ) (i : ℕ) → ((q : ℕ × ℕ) → new q ≡ cond (is_same_descriptor d q) (Some i) (old q)) → old d ≡ None → (q : ℕ × ℕ) → new q ≡ first_or (old q) (is_same_descriptor q d) i
+pub kept_first : (old new : Descriptor → Option ℕ) (d : Descriptor) (i : ℕ) → ((q : Descriptor) → new q ≡ cond (is_same_descriptor d q) (Some i) (old q)) → old d ≡ None → (q : Descriptor) → new q ≡ first_or (old q) (is_same_descriptor q d) i
 kept_first old new d i updated none q =
     updated q
     ∙ put_at (is_same_descriptor d q) (old q) i (λ same. subst (λ e. old e ≡ None) (is_same_descriptor-equal d q same) none)
     ∙ ap (λ b. first_or (old q) b i) (is_same_descriptor-symmetric d q)
 
 -- how the first places go on with an override that specifies a descriptor, and with one that specifies none
-pub first_for-some : (q d : ℕ × ℕ) (os : List Override) (i : ℕ) (o : Override) → i < length os → (get_or os i o).descriptor ≡ Some d → first_for q (take (i + 1) os) ≡ first_or (first_for q (take i os)) (is_same_descriptor q d) i
+pub first_for-some : (q d : Descriptor) (os : List Override) (i : ℕ) (o : Override) → i < length os → (get_or os i o).descriptor ≡ Some d → first_for q (take (i + 1) os) ≡ first_or (first_for q (take i os)) (is_same_descriptor q d) i
 first_for-some q d os i o h s =
     position-take (specifies q) os i o h
     ∙ ap (λ named. first_or (first_for q (take i os)) (is_descriptor q named) i) s
@@ -85,18 +88,18 @@ none_from_not_some : {X : Type 0} (o : Option X) → ((x : X) → o ≡ Some x �
 none_from_not_some None h = refl
 none_from_not_some (Some x) h = absurd (h x refl)
 
-pub first_for-none : (q : ℕ × ℕ) (os : List Override) (i : ℕ) (o : Override) → i < length os → ((d : ℕ × ℕ) → (get_or os i o).descriptor ≡ Some d → ⊥) → first_for q (take (i + 1) os) ≡ first_for q (take i os)
+pub first_for-none : (q : Descriptor) (os : List Override) (i : ℕ) (o : Override) → i < length os → ((d : Descriptor) → (get_or os i o).descriptor ≡ Some d → ⊥) → first_for q (take (i + 1) os) ≡ first_for q (take i os)
 first_for-none q os i o h s =
     position-take (specifies q) os i o h
     ∙ ap (λ named. first_or (first_for q (take i os)) (is_descriptor q named) i) (none_from_not_some (get_or os i o).descriptor s)
     ∙ first_or-not_here (first_for q (take i os)) i
 
 -- the level of the first override that specifies the descriptor, by its place
-pub level_at_place : (d : ℕ × ℕ) (os : List Override) (i : ℕ) (o : Override) → first_for d os ≡ Some i → o ≡ get_or os i o → o.level ≡ overriding_level os (Some d)
+pub level_at_place : (d : Descriptor) (os : List Override) (i : ℕ) (o : Override) → first_for d os ≡ Some i → o ≡ get_or os i o → o.level ≡ overriding_level os (Some d)
 level_at_place d os i o found e =
     let at = found_at (specifies d) os i found in
     sym (ap (λ f. option_and_then (λ o. o.level) f) (at.1 ∙ slice_get_read os (length os) i o refl at.0 e))
 
-pub no_level_at_place : (d : ℕ × ℕ) (os : List Override) → first_for d os ≡ None → None ≡ overriding_level os (Some d)
+pub no_level_at_place : (d : Descriptor) (os : List Override) → first_for d os ≡ None → None ≡ overriding_level os (Some d)
 no_level_at_place d os missing =
     sym (ap (λ f. option_and_then (λ o. o.level) f) (found_nowhere (specifies d) os missing))

@@ -7,6 +7,7 @@ use Rattle.sarif_model.specs.declared.fault.Fault.{Fault}
 use Rattle.sarif_model.specs.declared.fault.Fault.TheVariants.{BadIndex}
 use Rattle.sarif_runs.specs.declared.parts.Parts.{Parts}
 use Rattle.sarif_model.specs.Members.{◌>>=◌, result_map}
+use Rattle.sarif_runs.specs.declared.component.Descriptor.{Descriptor}
 use Rattle.sarif_runs.specs.declared.component.Rule.{Rule}
 use Rattle.sarif_runs.specs.Rules.{first_with_id}
 
@@ -33,8 +34,8 @@ rule_number rules None (Some id) = Ok (first_with_id id rules)
 rule_number rules None None = Ok None
 
 -- the descriptor that a reference names, if it names one; a component past the end is an error
-abbrev pub descriptor_of : List (List Rule) → Reference → Result (Option (ℕ × ℕ)) Fault
+abbrev pub descriptor_of : List (List Rule) → Reference → Result (Option Descriptor) Fault
 descriptor_of components named = do
   let number = component_number named.component
   rules ← ok_or (slice_get components number) BadIndex
-  result_map (option_map (λ i. (number, i))) (rule_number rules named.index named.id)
+  result_map (option_map (λ i. record { component = number; rule = i })) (rule_number rules named.index named.id)

@@ -9,6 +9,7 @@ use Rattle.sarif_model.specs.declared.fault.Fault.{Fault}
 use Rattle.sarif_model.specs.declared.fault.Fault.TheVariants.{BadIndex}
 use Rattle.sarif_runs.specs.declared.parts.Parts.{Parts}
 use Rattle.sarif_model.specs.Members.{◌>>=◌, result_map}
+use Rattle.sarif_runs.specs.declared.component.Descriptor.{Descriptor}
 use Rattle.sarif_runs.specs.declared.component.Rule.{Rule}
 use Rattle.sarif_runs.specs.declared.invocation.Override.{Override}
 use Rattle.sarif_runs.specs.declared.head.RunHead.{RunHead}
@@ -38,27 +39,27 @@ overrides_at invocations None = Ok []
 overrides_at invocations (Some i) = ok_or (slice_get invocations i) BadIndex
 
 -- the level of the first override that specifies the descriptor; later ones are ignored
-abbrev pub overriding_level : List Override → Option (ℕ × ℕ) → Option Level
+abbrev pub overriding_level : List Override → Option Descriptor → Option Level
 overriding_level overrides None = None
 overriding_level overrides (Some d) = option_and_then (λ o. o.level) (find (specifies d) overrides)
 
-abbrev pub overriding_level_at : List (List Override) → Option ℕ → Option (ℕ × ℕ)
+abbrev pub overriding_level_at : List (List Override) → Option ℕ → Option Descriptor
     → Result (Option Level) Fault
 overriding_level_at invocations invocation descriptor =
     result_map (λ overrides. overriding_level overrides descriptor)
     (overrides_at invocations invocation)
 
 -- the rule of a descriptor
-abbrev pub rule_at : List (List Rule) → ℕ × ℕ → Option Rule
-rule_at components d = option_and_then (λ rules. slice_get rules d.1) (slice_get components d.0)
+abbrev pub rule_at : List (List Rule) → Descriptor → Option Rule
+rule_at components d = option_and_then (λ rules. slice_get rules d.rule) (slice_get components d.component)
 
-abbrev pub default_level : List (List Rule) → Option (ℕ × ℕ) → Option Level
+abbrev pub default_level : List (List Rule) → Option Descriptor → Option Level
 default_level components None = None
 default_level components (Some d) = option_and_then (λ rule. rule.level) (rule_at components d)
 
 -- the effective level of a result with that descriptor; an invocation past the end is an error even if it is not
 -- needed
-abbrev pub level_with : RunHead → Parts → Option (ℕ × ℕ) → Result Level Fault
+abbrev pub level_with : RunHead → Parts → Option Descriptor → Result Level Fault
 level_with head parts descriptor = do
   overriding ← overriding_level_at head.invocations parts.invocation descriptor
   let default = default_level head.components descriptor

@@ -4,6 +4,7 @@ use Rattle.serde_json.specs.Data.{Data}
 use Rattle.sarif_model.specs.declared.fault.Fault.{Fault}
 use Rattle.sarif_model.specs.declared.fault.Fault.TheVariants.{BadMember, BadIndex}
 use Rattle.sarif_model.specs.Members.{◌>>=◌, text_at, object_at, objects_at, index_at, read_each, if_there}
+use Rattle.sarif_runs.specs.declared.component.Descriptor.{Descriptor}
 use Rattle.sarif_runs.specs.declared.component.Rule.{Rule}
 use Rattle.sarif_runs.specs.declared.invocation.Override.{Override}
 use Rattle.sarif_runs.specs.Reading.{level_at}
@@ -34,16 +35,16 @@ invocations_of components run = do
   lists ← override_lists invocations
   read_each (read_each (override_of components)) lists
 
-abbrev pub is_same_descriptor : ℕ × ℕ → ℕ × ℕ → Bool
-is_same_descriptor a b = nat_eq a.0 b.0 && nat_eq a.1 b.1
+abbrev pub is_same_descriptor : Descriptor → Descriptor → Bool
+is_same_descriptor a b = nat_eq a.component b.component && nat_eq a.rule b.rule
 
-abbrev pub is_descriptor : ℕ × ℕ → Option (ℕ × ℕ) → Bool
+abbrev pub is_descriptor : Descriptor → Option Descriptor → Bool
 is_descriptor d None = false
 is_descriptor d (Some e) = is_same_descriptor d e
 
-abbrev pub specifies : ℕ × ℕ → Override → Bool
+abbrev pub specifies : Descriptor → Override → Bool
 specifies d o = is_descriptor d o.descriptor
 
 -- the place of the first override that specifies the descriptor
-abbrev pub first_for : ℕ × ℕ → List Override → Option ℕ
+abbrev pub first_for : Descriptor → List Override → Option ℕ
 first_for d overrides = position (specifies d) overrides

@@ -8,6 +8,7 @@ use Rattle.sarif_model.specs.Members.{◌>>=◌}
 use Rattle.sarif_runs.specs.OwnMembers.{parts_of}
 use Rattle.sarif_model.specs.Driver.{driver_name}
 use Rattle.sarif_model.specs.Run.{result_at}
+use Rattle.sarif_runs.specs.declared.component.Descriptor.{Descriptor}
 use Rattle.sarif_runs.specs.declared.component.Rule.{Rule}
 use Rattle.sarif_runs.specs.declared.head.RunHead.{RunHead}
 use Rattle.sarif_runs.specs.Descriptor.{reference_of, descriptor_of}
@@ -20,12 +21,12 @@ abbrev pub tool_name : Data → List ℕ
 tool_name run = unwrap_or (driver_name run) []
 
 -- the id of a descriptor's rule
-abbrev pub descriptor_id : List (List Rule) → Option (ℕ × ℕ) → Option (List ℕ)
+abbrev pub descriptor_id : List (List Rule) → Option Descriptor → Option (List ℕ)
 descriptor_id components None = None
 descriptor_id components (Some d) = option_map (λ rule. rule.id) (rule_at components d)
 
 -- the result's own id, otherwise its descriptor's id, otherwise the empty string
-abbrev pub rule_id_of : List (List Rule) → Option (List ℕ) → Option (ℕ × ℕ) → List ℕ
+abbrev pub rule_id_of : List (List Rule) → Option (List ℕ) → Option Descriptor → List ℕ
 rule_id_of components (Some id) descriptor = id
 rule_id_of components None descriptor = unwrap_or (descriptor_id components descriptor) []
 

@@ -19,6 +19,15 @@ pub struct Rule {
     pub level: Option<Level>,
 }
 
+/// The place of a rule in a tool (SARIF 2.1.0, "reportingDescriptorReference object").
+#[derive(Clone, Copy, Debug, PartialEq, Eq, Hash)]
+pub struct Descriptor {
+    /// The component: 0 is the driver, `k + 1` the extension `k`.
+    pub component: usize,
+    /// The index of the rule in that component.
+    pub rule: usize,
+}
+
 /// The rules of a tool component, in order (SARIF 2.1.0, "toolComponent object"). Contracts see
 /// their list.
 #[derive(Drop)]

@@ -8,7 +8,7 @@ ghost use Rattle.sarif_runs.specs.Level as effective;
 ghost use Rattle.sarif_runs.specs.Record.{rule_id_of};
 ghost use Rattle.sarif_runs.specs.Place.{place_of, place_by};
 
-use crate::component::{Component, Rule};
+use crate::component::{Component, Descriptor, Rule};
 use crate::invocation::Invocation;
 use crate::parts::Parts;
 use sarif_model::{Fault, Kind, Level, Place, Refusal, Sequence, Text};
@@ -23,10 +23,9 @@ pub struct RunHead {
 }
 
 impl RunHead {
-    /// The component and the index of the result's rule, if it has one (SARIF 2.1.0, "rule property"). Component 0
-    /// is the driver, `k + 1` the extension `k`. Does not allocate. Returns `BadIndex` if the component or the
-    /// rule is past the end of its table.
-    pub fn descriptor(&self, parts: &Parts) -> Result<Option<(usize, usize)>, Fault>
+    /// The place of the result's rule, if it has one (SARIF 2.1.0, "rule property"). Does not allocate. Returns
+    /// `BadIndex` if the component or the rule is past the end of its table.
+    pub fn descriptor(&self, parts: &Parts) -> Result<Option<Descriptor>, Fault>
         ensures { result ≡ descriptor_of self.now.components (reference_of parts.now) }
     {
         let id = parts.rule_id.as_ref().map(Text::as_str);
@@ -51,7 +50,7 @@ impl RunHead {
     pub(crate) fn level_with(
         &self,
         parts: &Parts,
-        descriptor: Option<(usize, usize)>,
+        descriptor: Option<Descriptor>,
     ) -> Result<Level, Fault>
         ensures { result ≡ effective.level_with self.now parts.now descriptor }
     {
@@ -64,7 +63,7 @@ impl RunHead {
     fn overriding_level(
         &self,
         invocation: Option<u32>,
-        descriptor: Option<(usize, usize)>,
+        descriptor: Option<Descriptor>,
     ) -> Result<Option<Level>, Fault>
         ensures { result
             ≡ effective.overriding_level_at self.now.invocations invocation descriptor }
@@ -87,7 +86,7 @@ impl RunHead {
         &self,
         alloc: Global,
         own: Option<Text>,
-        descriptor: Option<(usize, usize)>,
+        descriptor: Option<Descriptor>,
     ) -> Result<Text, AllocError>
         ensures { IfOk result (λ id. id ≡ rule_id_of self.now.components own descriptor) }
     {
@@ -100,20 +99,20 @@ impl RunHead {
     }
 
     /// The rule of a descriptor.
-    fn rule(&self, descriptor: Option<(usize, usize)>) -> Option<&Rule>
+    fn rule(&self, descriptor: Option<Descriptor>) -> Option<&Rule>
         ensures { option_copied result
             ≡ option_and_then (effective.rule_at self.now.components) descriptor }
     {
-        let (component, place) = descriptor?;
+        let descriptor = descriptor?;
         self.components
             .as_slice()
-            .get(component)?
+            .get(descriptor.component)?
             .rules()
-            .get(place)
+            .get(descriptor.rule)
     }
 
     /// The default level of the descriptor's rule.
-    fn default_level(&self, descriptor: Option<(usize, usize)>) -> Option<Level>
+    fn default_level(&self, descriptor: Option<Descriptor>) -> Option<Level>
         ensures { result ≡ effective.default_level self.now.components descriptor }
     {
         self.rule(descriptor)?.level
@@ -216,15 +215,14 @@ fn copied(text: &Option<Text>) -> Result<Option<Text>, AllocError>
     }
 }
 
-/// The component and the place of the rule that is named by its extension, its index and its id.
-///
-/// `BadIndex` where the component or the index is past its table.
+/// The place of the rule that is named by its extension, its index and its id. Returns `BadIndex` if the component
+/// or the index is past the end of its table.
 pub(crate) fn find_descriptor(
     components: &[Component],
     component: Option<u32>,
     index: Option<u32>,
     id: Option<&str>,
-) -> Result<Option<(usize, usize)>, Fault>
+) -> Result<Option<Descriptor>, Fault>
     ensures { result ≡ descriptor_of components.now
         (record { component = component; index = index; id = option_map (λ s. s.now) id.entry }) }
 {
@@ -236,7 +234,10 @@ pub(crate) fn find_descriptor(
         return Err(Fault::BadIndex);
     };
     match find_rule(chosen, index, id)? {
-        Some(place) => Ok(Some((number, place))),
+        Some(rule) => Ok(Some(Descriptor {
+            component: number,
+            rule,
+        })),
         None => Ok(None),
     }
 }

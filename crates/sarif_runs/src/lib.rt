@@ -16,7 +16,7 @@ mod reading;
 mod spots;
 mod whole;
 
-pub use component::{Component, Rule};
+pub use component::{Component, Descriptor, Rule};
 pub use head::RunHead;
 pub use invocation::{Invocation, Override};
 pub use item::Item;
