@@ -1,4 +1,5 @@
-//! What reports say about a result: its rule, message and place, made safe to show.
+//! What reports say about a result: its rule, message and place, made safe to show. `whole.rt` has the call that the
+//! merge doesn't make.
 #![tactic(auto)]
 
 mod arguments;
@@ -20,9 +21,11 @@ mod shown_text;
 mod spot;
 mod subject;
 mod unlinked;
+mod whole;
 
 pub use finding::Finding;
 pub use named_run::NamedRun;
-pub use reported_results::{TOLD_MEMBERS, finding_of, reported};
+pub use reported_results::{TOLD_MEMBERS, finding_of};
 pub use reporting::Reporting;
 pub use shown_text::{MOST_CHARACTERS, shown};
+pub use whole::reported;

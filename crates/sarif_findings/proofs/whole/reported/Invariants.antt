@@ -1,7 +1,7 @@
 use Rattle.std.proofs.Common.{◌≡◌, ◌++◌, map, drop, flat_map}
 use Rattle.serde_json.specs.View.{view}
 use Rattle.sarif_findings.specs.Reported.{reported_in, reported_of}
-use Rattle.sarif_findings.proofs.reported_results.reported.Given as goal
+use Rattle.sarif_findings.proofs.whole.reported.Given as goal
 
 abbrev pub invariant-loop-run : goal.invariant-loop-run
 invariant-loop-run l =

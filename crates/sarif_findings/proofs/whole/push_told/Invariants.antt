@@ -2,7 +2,7 @@ use Rattle.std.proofs.Common.{◌≡◌, ◌++◌, map, drop}
 use Rattle.std.specs.List.{filter_map}
 use Rattle.serde_json.specs.View.{view}
 use Rattle.sarif_findings.specs.Reported.{finding_if}
-use Rattle.sarif_findings.proofs.reported_results.push_told.Given as goal
+use Rattle.sarif_findings.proofs.whole.push_told.Given as goal
 
 abbrev pub invariant-loop-found : goal.invariant-loop-found
 invariant-loop-found l =
