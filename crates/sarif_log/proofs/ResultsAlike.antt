@@ -36,7 +36,7 @@ pub record AreToldAlike (x y : Data) : Type 0 where
   pub locations : get (codes "locations") x ≡ get (codes "locations") y
 
 named_alike : (x y : Data) → AreToldAlike x y → AreNamedAlike x y
-named_alike x y same = record { rule_id = same.rule_id; rule = same.rule; rule_index = same.rule_index; message = same.message; }
+named_alike x y same = record { rule_id = same.rule_id; rule = same.rule; rule_index = same.rule_index; message = same.message }
 
 -- ---- the rule
 
