@@ -158,7 +158,7 @@ fn run<T: Threads + Wait + Sync + AllocGlobal>(
     drop(writers);
     drop(complaints);
     Ok(Ended {
-        status,
+        status: status.code(),
         out: out.into_inner(),
         later: later.into_inner(),
         say: say.into_inner(),

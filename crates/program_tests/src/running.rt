@@ -212,7 +212,7 @@ fn run<T: Threads + Wait + Sync>(
     drop(writers);
     drop(complaints);
     Ok(Ended {
-        status,
+        status: status.code(),
         out: out.into_inner(),
         say: say.into_inner(),
         complain: complain.into_inner(),
@@ -253,7 +253,7 @@ fn run_all<T: Threads + Wait + Sync>(
     drop(writers);
     drop(complaints);
     Ok(Ended {
-        status,
+        status: status.code(),
         out: out.into_inner(),
         say: say.into_inner(),
         complain: complain.into_inner(),

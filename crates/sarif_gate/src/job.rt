@@ -10,6 +10,7 @@ ghost use Rattle.sarif_gate.specs.Named.{source_channel, output_channel, report_
 use crate::merging::merge_streams;
 use crate::outputs::{Outputs, outputs_of};
 use crate::sources::{Source, sources_of};
+use sarif_program::ExitStatus;
 use sarif_request::Request;
 use sarif_streams::Readers;
 use std::alloc::AllocError;
@@ -59,7 +60,7 @@ impl<'a> Job<'a> {
     }
 
     /// Merges the sources into the outputs, and returns the exit status.
-    pub fn merge<T: Threads + Wait + Sync>(self, rt: &'a HostRuntime, threads: &T) -> u8
+    pub fn merge<T: Threads + Wait + Sync>(self, rt: &'a HostRuntime, threads: &T) -> ExitStatus
         ensures { IsRunOf self.entry.request.now result }
     {
         let Job {

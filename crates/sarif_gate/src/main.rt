@@ -12,7 +12,7 @@ mod sources;
 
 use job::Job;
 use sarif_model::MergeFault;
-use sarif_program::{Complaint, Complaints, seed_of};
+use sarif_program::{Complaint, Complaints, ExitStatus, seed_of};
 use sarif_request::{Request, WordsFault, read_words};
 use std::alloc::AllocError;
 use std::hash::RandomState;
@@ -27,10 +27,10 @@ fn main(rt: HostRuntime) -> ExitCode {
         Ok((words, seed)) => run(&rt, &rt, seed, words.as_slice()),
         Err(error) => {
             tell_unread(&rt, &error);
-            2
+            ExitStatus::unread()
         }
     };
-    ExitCode::from(status)
+    ExitCode::from(status.code())
 }
 
 /// The arguments after the program's name, and the seed of the hash tables.
@@ -47,7 +47,7 @@ fn run<T: Threads + Wait + Sync>(
     threads: &T,
     seed: RandomState,
     words: &[String],
-) -> u8
+) -> ExitStatus
     ensures plain { words.now ≡ [] → IsServedPlain result }
     ensures asked { (words.now ≡ [] → ⊥) → AreServed (map string_bytes words.now) result }
 {
@@ -60,7 +60,11 @@ fn run<T: Threads + Wait + Sync>(
 }
 
 /// Merges one log from standard input to standard output, and writes the summary or the error to standard error.
-fn run_streams<T: Threads + Wait + Sync>(rt: &HostRuntime, threads: &T, seed: RandomState) -> u8
+fn run_streams<T: Threads + Wait + Sync>(
+    rt: &HostRuntime,
+    threads: &T,
+    seed: RandomState,
+) -> ExitStatus
     ensures { IsServedPlain result }
 {
     match Request::of_standard_streams(rt.alloc(), seed) {
@@ -75,20 +79,20 @@ fn run_words<T: Threads + Wait + Sync>(
     threads: &T,
     seed: RandomState,
     words: &[String],
-) -> u8
+) -> ExitStatus
     ensures { AreServed (map string_bytes words.now) result }
 {
     match read_words(rt.alloc(), seed, words) {
         Ok(asked) => serve(rt, threads, &asked),
         Err(fault) => {
             tell(rt, &fault);
-            fault.status()
+            ExitStatus::of_words(&fault)
         }
     }
 }
 
 /// Merges the sources that a request names into the outputs that it names.
-fn serve<T: Threads + Wait + Sync>(rt: &HostRuntime, threads: &T, request: &Request) -> u8
+fn serve<T: Threads + Wait + Sync>(rt: &HostRuntime, threads: &T, request: &Request) -> ExitStatus
     ensures { IsServed «request».now result }
 {
     match Job::of(rt, request) {
@@ -98,12 +102,12 @@ fn serve<T: Threads + Wait + Sync>(rt: &HostRuntime, threads: &T, request: &Requ
 }
 
 /// Reports that memory for a request, its sources and its outputs ran out. Returns the exit status.
-fn tell_unmade(rt: &HostRuntime, error: AllocError) -> u8
+fn tell_unmade(rt: &HostRuntime, error: AllocError) -> ExitStatus
     ensures { result ≡ unmade_status }
 {
     let fault = MergeFault::from(error);
     Complaints::new(rt.stderr()).complain(Complaint::Fault(fault));
-    fault.cause.status()
+    ExitStatus::of_cause(fault.cause)
 }
 
 /// Says on standard error that the program waits for a log, if standard input is a terminal.

@@ -8,7 +8,7 @@ ghost use Rattle.sarif_gate.specs.Served.{HasRun};
 use crate::explaining::Ended;
 use crate::outputs::Outputs;
 use crate::sources::Source;
-use sarif_program::{Complaint, Complaints, run_request};
+use sarif_program::{Complaint, Complaints, ExitStatus, run_request};
 use sarif_request::Request;
 use sarif_streams::Readers;
 use std::sync::Wait;
@@ -22,7 +22,7 @@ pub fn merge_streams<'a, T: Threads + Wait + Sync>(
     request: &Request,
     readers: &mut Readers<Source<'a>>,
     writers: &mut Outputs<'a>,
-) -> u8
+) -> ExitStatus
     requires logs { All (λ reader. failed_calls reader < 2 ^ 63) readers.old.logs.items }
     requires baselines { All (λ reader. failed_calls reader < 2 ^ 63) readers.old.baselines.items }
     requires suppressions { failed_calls_if readers.old.suppressions < 2 ^ 63 }
@@ -45,7 +45,7 @@ fn merge_unexplained<'a, T: Threads + Wait + Sync>(
     request: &Request,
     readers: &mut Readers<Source<'a>>,
     writers: &mut Outputs<'a>,
-) -> u8
+) -> ExitStatus
     requires logs { All (λ reader. failed_calls reader < 2 ^ 63) readers.old.logs.items }
     requires baselines { All (λ reader. failed_calls reader < 2 ^ 63) readers.old.baselines.items }
     requires suppressions { failed_calls_if readers.old.suppressions < 2 ^ 63 }
@@ -73,7 +73,7 @@ fn merge_explained<'a, T: Threads + Wait + Sync>(
     request: &Request,
     readers: &mut Readers<Source<'a>>,
     writers: &mut Outputs<'a>,
-) -> u8
+) -> ExitStatus
     requires logs { All (λ reader. failed_calls reader < 2 ^ 63) readers.old.logs.items }
     requires baselines { All (λ reader. failed_calls reader < 2 ^ 63) readers.old.baselines.items }
     requires suppressions { failed_calls_if readers.old.suppressions < 2 ^ 63 }

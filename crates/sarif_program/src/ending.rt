@@ -14,36 +14,26 @@ ghost use Rattle.sarif_program.specs.Writing.{NoWriterFalls, writer_failures};
 ghost use Rattle.sarif_program.specs.declared.complaint.Complaint.TheVariants.{Fault};
 
 use crate::complaint::{Complaint, Complaints};
+use crate::status::ExitStatus;
 use crate::telling::Texts;
 use crate::writers::Writers;
 use crate::writing::{Lost, put_outputs, put_summary};
-use sarif_counts::Verdict;
 use sarif_log::Merged;
 use sarif_model::{At, Cause, MergeFault, Source};
 use std::io::Write;
 
-/// The status of an accepted merge.
-fn status_of_verdict(verdict: Verdict) -> u8
-    ensures { result ≡ verdict_status verdict }
-{
-    match verdict {
-        Verdict::Pass => 0,
-        Verdict::Fail => 1,
-    }
-}
-
 /// Reports why the merge was rejected. Returns the exit status.
-pub(crate) fn refuse<E: Write>(complaints: &mut Complaints<E>, fault: MergeFault) -> u8
+pub(crate) fn refuse<E: Write>(complaints: &mut Complaints<E>, fault: MergeFault) -> ExitStatus
     requires { failed_calls complaints.old.out < 2 ^ 63 }
     ensures status { result ≡ exit_status fault.cause }
     ensures told { HasComplained E.contents (Fault fault) complaints.old complaints.new }
 {
     complaints.complain(Complaint::Fault(fault));
-    fault.cause.status()
+    ExitStatus::of_cause(fault.cause)
 }
 
 /// Reports which output was not written. Returns the exit status.
-fn tell_lost<E: Write>(complaints: &mut Complaints<E>, lost: Lost) -> u8
+fn tell_lost<E: Write>(complaints: &mut Complaints<E>, lost: Lost) -> ExitStatus
     requires { failed_calls complaints.old.out < 2 ^ 63 }
     ensures status { result ≡ 3 }
     ensures told { HasComplained E.contents (complaint_of lost) complaints.old complaints.new }
@@ -58,7 +48,7 @@ fn tell_lost<E: Write>(complaints: &mut Complaints<E>, lost: Lost) -> u8
         }
         Lost::Report(report) => complaints.complain(Complaint::Lost(report)),
     }
-    3
+    ExitStatus::lost()
 }
 
 /// Writes an accepted merge: its log, then the other outputs that there are writers for, then the lines on what is for
@@ -69,7 +59,7 @@ pub(crate) fn accept<W: Write, S: Write, P: Write, E: Write>(
     texts: &Texts,
     writers: &mut Writers<W, S, P>,
     complaints: &mut Complaints<E>,
-) -> u8
+) -> ExitStatus
     requires out { failed_calls writers.old.out < 2 ^ 63 }
     requires reports { All (λ wanted. failed_calls wanted.to < 2 ^ 63) writers.old.reports.items }
     requires number { length texts.now.reports.items ≡ length writers.old.reports.items }
@@ -108,7 +98,7 @@ pub(crate) fn accept<W: Write, S: Write, P: Write, E: Write>(
     }
     complaints.note(texts.lines.as_str());
     match put_summary(writers, texts) {
-        Ok(()) => status_of_verdict(merged.verdict),
-        Err(_) => 3,
+        Ok(()) => ExitStatus::of_verdict(merged.verdict),
+        Err(_) => ExitStatus::lost(),
     }
 }

@@ -27,6 +27,7 @@ ghost use Rattle.sarif_program.specs.Writing.{NoWriterFalls, ReaderRises, Writer
 
 use crate::complaint::Complaints;
 use crate::ending::{accept, refuse};
+use crate::status::ExitStatus;
 use crate::telling::{Texts, texts_of};
 use crate::writers::Writers;
 use sarif_findings::Reporting;
@@ -173,7 +174,7 @@ pub fn run_request<R: Read, W: Write, S: Write, P: Write, E: Write, T: Threads +
     readers: &mut Readers<R>,
     writers: &mut Writers<W, S, P>,
     complaints: &mut Complaints<E>,
-) -> u8
+) -> ExitStatus
     requires logs { All (λ reader. failed_calls reader < 2 ^ 63) readers.old.logs.items }
     requires baselines { All (λ reader. failed_calls reader < 2 ^ 63) readers.old.baselines.items }
     requires suppressions { failed_calls_if readers.old.suppressions < 2 ^ 63 }
