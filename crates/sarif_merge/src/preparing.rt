@@ -15,7 +15,7 @@ ghost use Rattle.sarif_model.specs.Limits.{most_sources};
 use json::Scratch;
 use sarif_gather::Gate;
 use sarif_inputs::{Opening, Runs, index_sources, open_sources, read_file};
-use sarif_judge::judge_runs;
+use sarif_judge::{Team, judge_runs};
 use sarif_log::{Asked, FileRead, Prepared, prepare};
 use sarif_model::MergeFault;
 use sarif_streams::SourceBytes;
@@ -53,8 +53,9 @@ fn prepare_runs<G: Gate + Sync, R: Threads + Wait + Sync>(
 {
     let Runs { current, baseline } = runs;
     let file = rules.file;
-    let now = judge_runs(rt, alloc, current, file, asked.options.workers, observer)?;
-    let before = judge_runs(rt, alloc, baseline, file, asked.options.workers, observer)?;
+    let team = Team::in_merge(asked.options.workers);
+    let now = judge_runs(rt, alloc, current, file, team, observer)?;
+    let before = judge_runs(rt, alloc, baseline, file, team, observer)?;
     let prepared = prepare(rt, alloc, now, before, rules, asked)?;
     Ok(prepared)
 }

@@ -1,0 +1,117 @@
+//! That the room of a team bounds what waits for the calling thread.
+ghost use Rattle.std.specs.Prelude.{◌≡◌, ◌≤◌, [], length};
+
+use json::Scratch;
+use sarif_counts::Checks;
+use sarif_gather::Gate;
+use sarif_inputs::{Opening, index_sources, open_sources};
+use sarif_judge::{Team, judge};
+use sarif_suppress::Suppressions;
+use std::alloc::{AllocError, AllocGlobal, Global};
+use std::hash::RandomState;
+use std::random::RandomSource;
+use std::sync::Wait;
+use std::sync::atomic::{AtomicU64, Ordering};
+use std::test::Fail;
+use std::thread::Threads;
+
+const WORKERS: u32 = 7;
+
+const ROOM: u32 = 1;
+
+/// A log of one run with 1,000 results.
+fn log_of_many(alloc: Global) -> Result<String, AllocError> {
+    let mut log = String::from_str(alloc, r#"{"version":"2.1.0","runs":[{"results":["#)?;
+    for number in 0..1_000 {
+        let comma = if number == 0 { "" } else { "," };
+        log.push_str(comma)?;
+        log.push_str(r#"{"message":{"text":"m"}}"#)?;
+    }
+    log.push_str(r#"],"tool":{"driver":{"name":"lint"}}}]}"#)?;
+    Ok(log)
+}
+
+/// How often a test looks at a flag before it takes it for unset.
+const TURNS: u32 = 50_000_000;
+
+/// Notes a shard that is made while more than the room's parcels wait. It keeps the first shard that was taken until then,
+/// or for a while.
+#[derive(Drop)]
+struct Watch {
+    made: AtomicU64,
+    taken: AtomicU64,
+    misses: AtomicU64,
+}
+
+impl Watch {
+    fn new() -> Watch {
+        Watch {
+            made: AtomicU64::new(0),
+            taken: AtomicU64::new(0),
+            misses: AtomicU64::new(0),
+        }
+    }
+
+    fn waits_for_a_miss(&self) {
+        for _ in 0..TURNS {
+            if self.misses.load(Ordering::SeqCst) != 0 {
+                return;
+            }
+        }
+    }
+}
+
+impl Gate for Watch {
+    // Each worker has at most one shard that isn't in the mailbox, and the calling thread one that it doesn't count yet.
+    fn making(&self, _run: u32, _seq: u32) {
+        let made = self.made.fetch_add(1, Ordering::SeqCst).wrapping_add(1);
+        let taken = self.taken.load(Ordering::SeqCst);
+        if made > taken.wrapping_add((WORKERS + ROOM + 1) as u64) {
+            self.misses.store(1, Ordering::SeqCst);
+        }
+    }
+
+    fn taken(&self, _run: u32, _seq: u32) {
+        if self.taken.load(Ordering::SeqCst) == 0 {
+            self.waits_for_a_miss();
+        }
+        self.taken.fetch_add(1, Ordering::SeqCst);
+    }
+}
+
+/// How many results a team judges.
+fn count_judged<G: Gate + Sync, R: AllocGlobal + RandomSource + Threads + Wait + Sync>(
+    rt: &R,
+    team: Team,
+    observer: &G,
+) -> Result<usize, Fail>
+    requires workers { (1 ≤ team.workers) × (team.workers ≤ 64) }
+    requires room { (1 ≤ team.room) × (team.room ≤ 4096) }
+{
+    let alloc = rt.alloc();
+    let seed = RandomState::new(rt)?;
+    let log = log_of_many(alloc)?;
+    let logs = vec![in alloc; log.as_str().as_bytes().to_vec(alloc)?]?;
+    let mut scratches = vec![in alloc; Scratch::new(alloc)]?;
+    let indexes = index_sources(rt, alloc, &logs, &[], &mut scratches, 1)?;
+    let checks = Checks::default();
+    let runs = open_sources(rt, alloc, Opening { checks, seed }, &indexes, 1, 1).map_err(|_| "not opened")?;
+    let file = Suppressions::none(alloc, seed, None)?;
+    let outcomes = judge(rt, alloc, &runs.current, &file, team, observer).map_err(|_| "not judged")?;
+    Ok(outcomes.len())
+}
+
+/// 1,000 results are 112 shards to seven workers: nine results each, and one in the last.
+#[test]
+fn room_bounds_what_waits(rt: HostRuntime) -> Result<(), Fail> {
+    let team = Team {
+        workers: WORKERS,
+        room: ROOM,
+    };
+    let observer = Watch::new();
+    assert_eq!(rt; count_judged(&rt, team, &observer)?, 1_000);
+    assert_eq!(rt; observer.misses.load(Ordering::SeqCst), 0);
+    assert_eq!(rt; observer.made.load(Ordering::SeqCst), 112);
+    assert_eq!(rt; observer.taken.load(Ordering::SeqCst), 112);
+    Ok(())
+}
