@@ -31,11 +31,11 @@ fn log_of_many(alloc: Global) -> Result<String, AllocError> {
     Ok(log)
 }
 
-/// How often a test looks at a flag before it takes it for unset.
+/// How often a test checks a flag before it treats it as unset.
 const TURNS: u32 = 50_000_000;
 
-/// Notes a shard that is made while more than the room's parcels wait. It keeps the first shard that was taken until then,
-/// or for a while.
+/// Notes a shard that is made while more than the room's parcels wait. The first call of `taken` returns once it noted one,
+/// or after a while.
 #[derive(Drop)]
 struct Watch {
     made: AtomicU64,
@@ -95,9 +95,13 @@ fn count_judged<G: Gate + Sync, R: AllocGlobal + RandomSource + Threads + Wait +
     let mut scratches = vec![in alloc; Scratch::new(alloc)]?;
     let indexes = index_sources(rt, alloc, &logs, &[], &mut scratches, 1)?;
     let checks = Checks::default();
-    let runs = open_sources(rt, alloc, Opening { checks, seed }, &indexes, 1, 1).map_err(|_| "not opened")?;
+    let runs = open_sources(rt, alloc, Opening { checks, seed }, &indexes, 1, 1).map_err(
+        |_| "not opened",
+    )?;
     let file = Suppressions::none(alloc, seed, None)?;
-    let outcomes = judge(rt, alloc, &runs.current, &file, team, observer).map_err(|_| "not judged")?;
+    let outcomes = judge(rt, alloc, &runs.current, &file, team, observer).map_err(
+        |_| "not judged",
+    )?;
     Ok(outcomes.len())
 }
 

@@ -35,7 +35,7 @@ fn refusal_of(fault: GatherFault) -> MergeFault
 }
 
 /// Has a team judge the results of runs, as [`judge`](crate::judge) does. `observer` observes them. A rejection is the
-/// first error of the runs and their results in order, regardless of which worker was first, or `OutOfMemory` or
+/// first error of the runs and their results in order, whichever worker was first, or `OutOfMemory` or
 /// `NoWorker`.
 #[tactic(auto, using(crate::proofs::ResourceFaults::lacks_resources, crate::proofs::ResourceFaults::exits_with_two))]
 pub fn judge_runs<'t, 'a, G: Gate + Sync, R: Threads + Wait + Sync>(

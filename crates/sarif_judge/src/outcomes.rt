@@ -56,7 +56,7 @@ fn flatten(alloc: Global, mut stack: Vec<Vec<Shard>>) -> Result<Vec<Outcome>, Al
 }
 
 /// Has a team of 1 to `MOST_WORKERS` workers judge all results of these runs: the item and the draft of each, in the
-/// order of runs and results, regardless of which worker was first. No result depends on the team's room, which is 1
+/// order of runs and results, whichever worker was first. No result depends on the team's room, which is 1
 /// to `most_room` parcels. `observer` observes the judging of shards. Returns `OutOfMemory` if memory runs out, or
 /// `NoWorker` if a thread cannot be started.
 pub fn judge<G: Gate + Sync, R: Threads + Wait + Sync>(

@@ -1,4 +1,4 @@
-//! Who judges, and how much may wait for the calling thread.
+//! A team of workers, and how much may wait for the calling thread.
 ghost use Rattle.std.specs.Prelude.{◌≡◌};
 ghost use Rattle.sarif_judge.specs.Limits.{merge_room};
 
