@@ -1,15 +1,21 @@
 //! That the room of a team bounds what waits for the calling thread.
-ghost use Rattle.std.specs.Prelude.{◌≡◌, ◌≤◌, [], length};
+ghost use Rattle.std.specs.Prelude.{◌≤◌, ℕ, List, length, map};
+ghost use Rattle.sarif_inputs.specs.Indexes.{AreIndexesOf};
+ghost use Rattle.sarif_model.specs.Limits.{most_results, most_runs};
+ghost use Rattle.sarif_model.specs.Run.{results_total};
+ghost use Rattle.sarif_runs.specs.Judging.{run_values};
+ghost use Rattle.sarif_runs.specs.Opened.{placed_of};
 
 use json::Scratch;
+use json_parts::{Index, IndexFault};
 use sarif_counts::Checks;
 use sarif_gather::Gate;
 use sarif_inputs::{Opening, index_sources, open_sources};
 use sarif_judge::{Team, judge};
+use sarif_runs::OpenedRun;
 use sarif_suppress::Suppressions;
-use std::alloc::{AllocError, AllocGlobal, Global};
+use std::alloc::{AllocError, Global};
 use std::hash::RandomState;
-use std::random::RandomSource;
 use std::sync::Wait;
 use std::sync::atomic::{AtomicU64, Ordering};
 use std::test::Fail;
@@ -79,41 +85,68 @@ impl Gate for Watch {
     }
 }
 
-/// How many results a team judges.
-fn count_judged<G: Gate + Sync, R: AllocGlobal + RandomSource + Threads + Wait + Sync>(
+/// How many results of these runs the team judges.
+fn count_judged<G: Gate + Sync, R: Threads + Wait + Sync>(
     rt: &R,
-    team: Team,
+    alloc: Global,
+    seed: RandomState,
+    runs: &[OpenedRun<'_, '_>],
     observer: &G,
 ) -> Result<usize, Fail>
-    requires workers { (1 ≤ team.workers) × (team.workers ≤ 64) }
-    requires room { (1 ≤ team.room) × (team.room ≤ 4096) }
+    requires few { length runs.now ≤ most_runs }
+    requires few_results { results_total (run_values (map placed_of runs.now)) ≤ most_results }
 {
-    let alloc = rt.alloc();
-    let seed = RandomState::new(rt)?;
-    let log = log_of_many(alloc)?;
-    let logs = vec![in alloc; log.as_str().as_bytes().to_vec(alloc)?]?;
+    let file = Suppressions::none(alloc, seed, None)?;
+    let team = Team {
+        workers: WORKERS,
+        room: ROOM,
+    };
+    match judge(rt, alloc, runs, &file, team, observer) {
+        Ok(outcomes) => Ok(outcomes.len()),
+        Err(_) => Err(Fail::from("not judged")),
+    }
+}
+
+/// How many results of the log with this index the team judges.
+fn count_indexed<G: Gate + Sync, R: Threads + Wait + Sync>(
+    rt: &R,
+    alloc: Global,
+    seed: RandomState,
+    indexes: &[Result<Index<'_>, IndexFault>],
+    observer: &G,
+) -> Result<usize, Fail>
+    requires { (logs : List (List ℕ)) × (baselines : List (List ℕ))
+        × AreIndexesOf logs baselines indexes.now 1 }
+{
+    let checks = Checks::default();
+    match open_sources(rt, alloc, Opening { checks, seed }, indexes, 1, 1) {
+        Ok(runs) => count_judged(rt, alloc, seed, &runs.current, observer),
+        Err(_) => Err(Fail::from("not opened")),
+    }
+}
+
+/// How many results of a log the team judges.
+fn count_read<G: Gate + Sync, R: Threads + Wait + Sync>(
+    rt: &R,
+    alloc: Global,
+    seed: RandomState,
+    log: &str,
+    observer: &G,
+) -> Result<usize, Fail> {
+    let logs = vec![in alloc; log.as_bytes().to_vec(alloc)?]?;
     let mut scratches = vec![in alloc; Scratch::new(alloc)]?;
     let indexes = index_sources(rt, alloc, &logs, &[], &mut scratches, 1)?;
-    let checks = Checks::default();
-    let runs = open_sources(rt, alloc, Opening { checks, seed }, &indexes, 1, 1).map_err(
-        |_| "not opened",
-    )?;
-    let file = Suppressions::none(alloc, seed, None)?;
-    let outcomes = judge(rt, alloc, &runs.current, &file, team, observer).map_err(
-        |_| "not judged",
-    )?;
-    Ok(outcomes.len())
+    count_indexed(rt, alloc, seed, &indexes, observer)
 }
 
 /// 1,000 results are 112 shards to seven workers: nine results each, and one in the last.
 #[test]
 fn room_bounds_what_waits(rt: HostRuntime) -> Result<(), Fail> {
-    let team = Team {
-        workers: WORKERS,
-        room: ROOM,
-    };
+    let log = log_of_many(rt.alloc())?;
+    let seed = RandomState::new(&rt)?;
     let observer = Watch::new();
-    assert_eq!(rt; count_judged(&rt, team, &observer)?, 1_000);
+    let judged = count_read(&rt, rt.alloc(), seed, log.as_str(), &observer)?;
+    assert_eq!(rt; judged, 1_000);
     assert_eq!(rt; observer.misses.load(Ordering::SeqCst), 0);
     assert_eq!(rt; observer.made.load(Ordering::SeqCst), 112);
     assert_eq!(rt; observer.taken.load(Ordering::SeqCst), 112);
