@@ -1,2 +1,3 @@
 pub mod Flattened
+pub mod Limits
 pub mod ResourceFault

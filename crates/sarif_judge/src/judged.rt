@@ -7,11 +7,13 @@ ghost use Rattle.sarif_results.specs.Outcomes.{all_outcomes};
 ghost use Rattle.sarif_model.specs.MergeFault.{IsQuiet};
 ghost use Rattle.sarif_model.specs.FirstFault.{Answers};
 ghost use Rattle.sarif_results.specs.Judged.{placed_in};
+ghost use Rattle.sarif_gather.specs.Limits.{most_room};
 ghost use Rattle.sarif_judge.specs.ResourceFault.{resource_fault_of};
 ghost use Rattle.sarif_model.specs.Limits.{most_results, most_runs, most_workers};
 
 use crate::first_fault::fault_of_runs;
 use crate::outcomes::judge;
+use crate::team::Team;
 use sarif_gather::{Gate, GatherFault};
 use sarif_model::{At, Cause, MergeFault};
 use sarif_results::Judged;
@@ -32,18 +34,20 @@ fn refusal_of(fault: GatherFault) -> MergeFault
     MergeFault::found(At::Nowhere, cause)
 }
 
-/// Judges the results of runs in `workers` threads. `observer` observes them. A rejection is the first error of
-/// the runs and their results in order, regardless of which worker was first, or `OutOfMemory` or `NoWorker`.
+/// Has a team judge the results of runs, as [`judge`](crate::judge) does. `observer` observes them. A rejection is the
+/// first error of the runs and their results in order, whichever worker was first, or `OutOfMemory` or
+/// `NoWorker`.
 #[tactic(auto, using(crate::proofs::ResourceFaults::lacks_resources, crate::proofs::ResourceFaults::exits_with_two))]
 pub fn judge_runs<'t, 'a, G: Gate + Sync, R: Threads + Wait + Sync>(
     rt: &R,
     alloc: Global,
     runs: Vec<OpenedRun<'t, 'a>>,
     file: &Suppressions,
-    workers: u32,
+    team: Team,
     observer: &G,
 ) -> Result<Judged<'t, 'a>, MergeFault>
-    requires workers { (1 ≤ workers) × (workers ≤ most_workers) }
+    requires workers { (1 ≤ team.workers) × (team.workers ≤ most_workers) }
+    requires room { (1 ≤ team.room) × (team.room ≤ most_room) }
     requires few { length runs.items ≤ most_runs }
     requires few_results { results_total (run_values (map placed_of runs.items)) ≤ most_results }
     ensures runs { IfOk result (λ judged. placed_in judged ≡ map placed_of runs.entry.items) }
@@ -52,7 +56,7 @@ pub fn judge_runs<'t, 'a, G: Gate + Sync, R: Threads + Wait + Sync>(
     ensures faults { Answers (faults_of_runs (map placed_of runs.entry.items)) result }
     ensures quiet { IsQuiet result }
 {
-    let outcomes = match judge(rt, alloc, &runs, file, workers, observer) {
+    let outcomes = match judge(rt, alloc, &runs, file, team, observer) {
         Ok(outcomes) => outcomes,
         Err(fault) => return Err(refusal_of(fault)),
     };

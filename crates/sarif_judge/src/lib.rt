@@ -8,7 +8,9 @@ mod judged_result;
 mod judging;
 mod outcomes;
 mod shard;
+mod team;
 
 pub use judged::judge_runs;
 pub use outcomes::judge;
 pub use sarif_gather::{Gate, NoGate};
+pub use team::Team;

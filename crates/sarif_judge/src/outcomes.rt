@@ -4,11 +4,13 @@ ghost use Rattle.std.specs.List.{flat_map};
 ghost use Rattle.sarif_model.specs.Run.{results_total};
 ghost use Rattle.sarif_runs.specs.Opened.{placed_of};
 ghost use Rattle.sarif_results.specs.Outcomes.{all_outcomes};
+ghost use Rattle.sarif_gather.specs.Limits.{most_room};
 ghost use Rattle.sarif_judge.specs.Flattened.{flattened, flattened_from, within_shards};
 ghost use Rattle.sarif_model.specs.Limits.{most_results, most_runs, most_workers};
 
 use crate::judging::Judging;
 use crate::shard::Shard;
+use crate::team::Team;
 use sarif_gather::{Gate, GatherFault, Lists, gather};
 use sarif_results::Outcome;
 use sarif_runs::{OpenedRun, list_spots};
@@ -16,9 +18,6 @@ use sarif_suppress::Suppressions;
 use std::alloc::{AllocError, Global};
 use std::sync::Wait;
 use std::thread::Threads;
-
-/// How many parcels wait at most for the calling thread.
-const ROOM: u32 = 256;
 
 /// How many shards there are for each worker: enough that all of them end at about the same time.
 const SHARDS_A_WORKER: usize = 16;
@@ -56,18 +55,20 @@ fn flatten(alloc: Global, mut stack: Vec<Vec<Shard>>) -> Result<Vec<Outcome>, Al
     Ok(all)
 }
 
-/// Judges all results of these runs in `workers` threads, 1 to `MOST_WORKERS`: the item and the draft of each, in the
-/// order of runs and results, regardless of which worker was first. `observer` observes the judging of shards. Returns
-/// `OutOfMemory` if memory runs out, or `NoWorker` if a thread cannot be started.
+/// Has a team of 1 to `MOST_WORKERS` workers judge all results of these runs: the item and the draft of each, in the
+/// order of runs and results, whichever worker was first. No result depends on the team's room, which is 1
+/// to `most_room` parcels. `observer` observes the judging of shards. Returns `OutOfMemory` if memory runs out, or
+/// `NoWorker` if a thread cannot be started.
 pub fn judge<G: Gate + Sync, R: Threads + Wait + Sync>(
     rt: &R,
     alloc: Global,
     runs: &[OpenedRun<'_, '_>],
     file: &Suppressions,
-    workers: u32,
+    team: Team,
     observer: &G,
 ) -> Result<Vec<Outcome>, GatherFault>
-    requires workers { (1 ≤ workers) × (workers ≤ most_workers) }
+    requires workers { (1 ≤ team.workers) × (team.workers ≤ most_workers) }
+    requires room { (1 ≤ team.room) × (team.room ≤ most_room) }
     requires few { length runs.now ≤ most_runs }
     requires few_results { results_total (map (λ p. p.run) (map placed_of runs.now)) ≤ most_results }
     ensures { IfOk result (λ outcomes. outcomes.items
@@ -77,7 +78,7 @@ pub fn judge<G: Gate + Sync, R: Threads + Wait + Sync>(
     if spots.is_empty() {
         return Ok(Vec::new(alloc));
     }
-    let parts = workers as usize * SHARDS_A_WORKER;
+    let parts = team.workers as usize * SHARDS_A_WORKER;
     let size = spots.len() / parts + 1;
     let work = Judging {
         runs,
@@ -86,7 +87,7 @@ pub fn judge<G: Gate + Sync, R: Threads + Wait + Sync>(
         size,
         shards: (spots.len() / size + 1) as u32,
     };
-    let lists = gather(rt, alloc, &work, workers, ROOM, observer)?;
+    let lists = gather(rt, alloc, &work, team.workers, team.room, observer)?;
     let stack = stacked(alloc, lists)?;
     let all = flatten(alloc, stack)?;
     Ok(all)

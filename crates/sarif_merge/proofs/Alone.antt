@@ -2,6 +2,7 @@
 use Rattle.std.proofs.Common.{◌≡◌, ◌⊎◌, ℕ, List, Option, Some, inl, inr}
 use Rattle.std.specs.Prelude.{None}
 use Rattle.sarif_counts.specs.declared.checks.Checks.{Checks}
+use Rattle.sarif_counts.specs.declared.life.Life.{Life}
 use Rattle.sarif_counts.specs.declared.policy.Policy.{Policy}
 use Rattle.sarif_counts.specs.declared.upkeep.Upkeep.{Upkeep}
 use Rattle.sarif_findings.specs.declared.reporting.Reporting.{Reporting}
@@ -10,7 +11,7 @@ use Rattle.sarif_model.specs.declared.merge_fault.MergeFault.{MergeFault}
 use Rattle.sarif_model.specs.FirstFault.{IsOutOfResources}
 use Rattle.sarif_inputs.specs.Faults.{first_fault}
 use Rattle.sarif_inputs.specs.Inputs.{Inputs}
-use Rattle.sarif_merge.specs.Life.{IsRefusal}
+use Rattle.sarif_merge.specs.Life.{IsLifeOf, IsRefusal, no_life}
 use Rattle.sarif_streams.specs.declared.readers.Readers.{Readers}
 use Rattle.sarif_merge.specs.FromReaders.{IsMergedFrom, IsMergedWith, IsRefused, IsRefusedWith}
 
@@ -18,6 +19,14 @@ use Rattle.sarif_merge.specs.FromReaders.{IsMergedFrom, IsMergedWith, IsRefused,
 pub merged_alone : {R : Type 0} → (remaining : R → Option (List ℕ)) → (old new : Readers R) → (today : Option ℕ) → (checks : Checks) → (policy : Policy) → (asked : Option Reporting) → (upkeep : Option Upkeep) → (merged : Merged)
     → IsMergedWith remaining old new today checks policy asked upkeep merged → IsMergedFrom remaining old new today checks policy asked merged
 merged_alone remaining old new today checks policy asked upkeep merged with_life = (with_life.0, with_life.1, with_life.2)
+
+-- there is nothing for later merges
+pub life_alone : (inputs : Inputs) (policy : Policy) (life : Life) → IsLifeOf inputs policy None life → life ≡ no_life
+life_alone inputs policy life kept = kept.is
+
+pub kept_alone : {R : Type 0} → (remaining : R → Option (List ℕ)) → (old new : Readers R) → (today : Option ℕ) → (checks : Checks) → (policy : Policy) → (asked : Option Reporting) → (merged : Merged)
+    → IsMergedWith remaining old new today checks policy asked None merged → merged.life ≡ no_life
+kept_alone remaining old new today checks policy asked merged with_life = with_life.3.is
 
 -- and it is rejected for no other reason
 pub refused_alone : {R : Type 0} → (remaining : R → Option (List ℕ)) → (old new : Readers R) → (today : Option ℕ) → (checks : Checks) → (policy : Policy) → (fault : MergeFault)

@@ -123,14 +123,8 @@ assembled_is inputs policy asked upkeep prepared merged ready assembled =
 
 -- ---- the errors of the runs of logs, and then of those of baselines
 
-faults_apart : (xs ys : List Placed) → faults_of_runs (xs ++ ys) ≡ faults_of_runs xs ++ faults_of_runs ys
+pub faults_apart : (xs ys : List Placed) → faults_of_runs (xs ++ ys) ≡ faults_of_runs xs ++ faults_of_runs ys
 faults_apart xs ys = flat_map-append run_faults xs ys
-
-pub refused_by_first : (xs ys : List Placed) (fault : MergeFault)
-    → IsOutOfResources fault ⊎ (first (faults_of_runs xs) ≡ Some fault)
-    → IsOutOfResources fault ⊎ (first (faults_of_runs (xs ++ ys)) ≡ Some fault)
-refused_by_first xs ys fault refused =
-    subst (λ faults. IsOutOfResources fault ⊎ (first faults ≡ Some fault)) (sym (faults_apart xs ys)) (still_first (faults_of_runs xs) (faults_of_runs ys) fault refused)
 
 pub left_after_first : (xs ys : List Placed) → faults_of_runs xs ≡ [] → faults_of_runs (xs ++ ys) ≡ faults_of_runs ys
 left_after_first xs ys none = faults_apart xs ys ∙ ap (λ faults. faults ++ faults_of_runs ys) none
@@ -144,41 +138,9 @@ few_sources ls few = let within : nat_lt most_sources (length ls) ≡ false = gr
 few_baselines : (bs : List (List ℕ)) → length bs ≤ most_sources → number_faults Baseline bs ≡ []
 few_baselines bs few = let within : nat_lt most_sources (length bs) ≡ false = grind (arith, nat_tests) in rw within refl
 
-first_of : (xs ys : List MergeFault) (fault : MergeFault) → first xs ≡ Some fault → first (xs ++ ys) ≡ Some fault
-first_of [] ys fault h = cc
-first_of (x ∷ xs) ys fault h = h
-
-module _ (ls bs : List (List ℕ)) (few_ls : length ls ≤ most_sources) (few_bs : length bs ≤ most_sources) (file : Option (List ℕ)) (today : Option ℕ) (checks : Checks) where
-  within : number_faults Log ls ++ number_faults Baseline bs ≡ []
-  within = ap (λ x. x ++ number_faults Baseline bs) (few_sources ls few_ls) ∙ few_baselines bs few_bs
-
-  module _ (sources : source_faults 0 0 (sources_of checks ls bs) ≡ []) where
-    -- if reading has no error, the first error is that of the suppression file
-    pub file_first : (fault : MergeFault) → first (file_faults (file_or_none file today)) ≡ Some fault → first (faults_of (given ls bs file today checks)) ≡ Some fault
-    file_first fault is =
-        let runs = faults_of_runs (placed (numbered checks Log 0 ls) ++ placed (numbered checks Baseline 0 bs)) in
-        let files = file_faults (file_or_none file today) in
-        ap first (nothing_before (number_faults Log ls) (number_faults Baseline bs) (source_faults 0 0 (sources_of checks ls bs)) [] (files ++ runs) within sources refl)
-        ∙ first_of files runs fault is
-
-    -- if reading and the suppression file have no error, the errors are those of the runs
-    pub faults_are : file_faults (file_or_none file today) ≡ [] → faults_of (given ls bs file today checks) ≡ faults_of_runs (placed (numbered checks Log 0 ls) ++ placed (numbered checks Baseline 0 bs))
-    faults_are sound =
-        nothing_before (number_faults Log ls) (number_faults Baseline bs) (source_faults 0 0 (sources_of checks ls bs)) (file_faults (file_or_none file today)) (faults_of_runs (placed (numbered checks Log 0 ls) ++ placed (numbered checks Baseline 0 bs)))
-        within sources sound
-
-    pub prepared_is : (entries : File) (policy : Policy) (asked : Option Reporting) (upkeep : Option Upkeep) (prepared : Prepared) → file_or_none file today ≡ Ok entries
-        → IsPrepared entries (placed (numbered checks Log 0 ls)) (placed (numbered checks Baseline 0 bs)) asked prepared
-        → faults_of_runs (placed (numbered checks Log 0 ls) ++ placed (numbered checks Baseline 0 bs)) ≡ []
-        → IsKept (merge_of entries file policy (placed (numbered checks Log 0 ls)) (placed (numbered checks Baseline 0 bs))) upkeep prepared.life
-        → IsPreparedFor (given ls bs file today checks) policy asked upkeep prepared
-    prepared_is entries policy asked upkeep prepared is h none kept =
-        let logs = placed (numbered checks Log 0 ls) in
-        let baselines = placed (numbered checks Baseline 0 bs) in record {
-          faultless = faults_are (ap file_faults is) ∙ none;
-          written = subst (λ f. IsPrepared f logs baselines asked prepared) (sym (ap file_in is)) h;
-          kept = subst (λ f. IsKept (merge_of f file policy logs baselines) upkeep prepared.life) (sym (ap file_in is)) kept;
-        }
+pub number_is_no_fault : (ls bs : List (List ℕ)) → length ls ≤ most_sources → length bs ≤ most_sources → (rest : List MergeFault) → number_faults Log ls ++ (number_faults Baseline bs ++ rest) ≡ rest
+number_is_no_fault ls bs few_ls few_bs rest =
+    ap (λ x. x ++ (number_faults Baseline bs ++ rest)) (few_sources ls few_ls) ∙ ap (λ x. x ++ rest) (few_baselines bs few_bs)
 
 -- ---- indexes
 

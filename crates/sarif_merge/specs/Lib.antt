@@ -5,3 +5,4 @@ pub mod Merged
 pub mod MergedLog
 pub mod OwnResult
 pub mod Prepared
+pub mod Steps

@@ -1,5 +1,5 @@
 -- What a merge gives for later merges.
-use Rattle.std.specs.Prelude.{◌≡◌, ◌⊎◌, [], Option, Some}
+use Rattle.std.specs.Prelude.{◌≡◌, ◌⊎◌, [], Option, Some, None}
 use Rattle.sarif_counts.specs.declared.life.Life.{Life}
 use Rattle.sarif_counts.specs.declared.policy.Policy.{Policy}
 use Rattle.sarif_counts.specs.declared.upkeep.Upkeep.{Upkeep}
@@ -16,6 +16,10 @@ use Rattle.sarif_merge.specs.MergedLog.{file_given}
 abbrev pub merge_in : Inputs → Policy → Merge
 merge_in inputs policy =
     merge_of (file_given inputs) inputs.suppressions policy (input_runs inputs) (baseline_runs inputs)
+
+-- nothing for later merges
+abbrev pub no_life : Life
+no_life = record { suppressions = None; unused = None; known = None }
 
 -- what is for later merges is what was requested and nothing else, and each file of it is read as it is defined
 abbrev pub IsLifeOf : Inputs → Policy → Option Upkeep → Life → Type 0

@@ -1,10 +1,11 @@
 //! The merge of SARIF 2.1.0 logs, from bytes or from readers into a writer.
 #![tactic(auto)]
 
+mod assembling;
 mod laws;
 mod merge;
 mod merge_sources;
-mod preparing;
+mod steps;
 
 pub use laws::{each_result_is_written_as_its_own, merged_runs_hold_no_fraction};
 pub use merge::merge_bytes;

@@ -1,66 +1,56 @@
 //! The merge of logs.
-ghost use Rattle.std.specs.Prelude.{◌≡◌, ◌≤◌, ◌⊎◌, [], List, Ok, Option, Some, length, IfOk, IfErr};
-ghost use Rattle.sarif_suppress.specs.File.{File};
-ghost use Rattle.sarif_runs.specs.Placed.{Placed};
-ghost use Rattle.sarif_findings.specs.declared.reporting.Reporting.{Reporting};
+ghost use Rattle.std.specs.Prelude.{◌≡◌, ◌≤◌, ◌+◌, ◌⊎◌, [], Ok, Some, length, IfOk, IfErr};
 ghost use Rattle.sarif_model.specs.MergeFault.{IsQuiet};
 ghost use Rattle.sarif_log.specs.Beside.{IsMadeBy};
-ghost use Rattle.sarif_log.specs.Assembled.{HasGate, IsMergedBy};
-ghost use Rattle.sarif_log.specs.Prepared.{IsPrepared};
+ghost use Rattle.sarif_log.specs.Assembled.{HasGate};
 ghost use Rattle.sarif_log.specs.Told.{reporting_in};
 ghost use Rattle.sarif_model.specs.FirstFault.{IsOutOfResources};
 ghost use Rattle.sarif_inputs.specs.Faults.{faults_of, first_fault};
 ghost use Rattle.sarif_merge.specs.Given.{inputs_of};
 ghost use Rattle.sarif_log.specs.Kept.{upkeep_in};
-ghost use Rattle.sarif_merge.specs.Life.{IsLifeOf, IsRefusal};
+ghost use Rattle.sarif_merge.specs.Life.{IsLifeOf, IsRefusal, no_life};
 ghost use Rattle.sarif_merge.specs.Merged.{HoldsFirst, IsMerged};
 ghost use Rattle.sarif_merge.specs.MergedLog.{output_text, runs_written, without_of, unused_in, written_inputs};
+ghost use Rattle.sarif_merge.specs.Steps.{IsReady, IsRejection};
 ghost use Rattle.sarif_model.specs.Limits.{most_sources};
 
-use crate::preparing::{make_scratches, prepare_few};
+use crate::steps::Merging;
 use json::Scratch;
 use sarif_counts::Options;
 use sarif_gather::Gate;
-use sarif_inputs::check_numbers;
-use sarif_log::{Asked, Facts, Merged, Prepared, assemble};
+use sarif_inputs::{Runs, check_numbers};
+use sarif_log::{Asked, Facts, Merged, Prepared};
 use sarif_model::MergeFault;
 use sarif_streams::SourceBytes;
 use std::alloc::{AllocError, Global};
 use std::sync::Wait;
-use std::thread;
 use std::thread::Threads;
 
-/// The merged log of what was prepared, and what `tell` returns for it, made while the scratches are released.
-fn assemble_beside<R: Threads + Sync, B: Drop, Tell: FnOnce(&Facts<'_>) -> Result<B, AllocError>>(
+/// Everything that is written for a merge, step by step. The indexes and the suppression file are released at its end.
+fn prepare_few<G: Gate + Sync, R: Threads + Wait + Sync>(
     rt: &R,
     alloc: Global,
-    prepared: Prepared,
-    options: &Options,
-    scratches: Vec<Scratch>,
-    tell: Tell,
-) -> Result<(Merged, B), AllocError>
-    requires tells { Tell.IsAlwaysCallable tell }
-    ensures merged { IfOk result (λ made. (file : File) (current_runs baseline_runs : List Placed)
-        (asked : Option Reporting) → IsPrepared file current_runs baseline_runs asked prepared
-        → IsMergedBy file current_runs baseline_runs options.now.policy asked made.0) }
-    ensures life { IfOk result (λ made. made.0.life ≡ prepared.life) }
-    ensures told { IfOk result (λ made. IsMadeBy Tell.FnOnce tell made.0 (Ok made.1)) }
+    merging: &Merging<'_, '_>,
+    scratches: &mut [Scratch],
+    observer: &G,
+) -> Result<Prepared, MergeFault>
+    requires scratches { length scratches.old
+        ≡ length merging.now.sources.now.logs.items + length merging.now.sources.now.baselines.items }
+    requires few_logs { length merging.now.sources.now.logs.items ≤ most_sources }
+    requires few_baselines { length merging.now.sources.now.baselines.items ≤ most_sources }
+    ensures prepared { IfOk result (IsReady merging.now) }
+    ensures refused { IfErr result (IsRejection merging.now) }
 {
-    let write = move || -> Result<(Merged, B), AllocError>
-        requires { Tell.IsAlwaysCallable tell }
-        ensures merged { IfOk result (λ made. (file : File)
-            (current_runs baseline_runs : List Placed) (asked : Option Reporting)
-            → IsPrepared file current_runs baseline_runs asked prepared
-            → IsMergedBy file current_runs baseline_runs options.entry.now.policy asked made.0) }
-        ensures life { IfOk result (λ made. made.0.life ≡ prepared.life) }
-        ensures told { IfOk result (λ made. IsMadeBy Tell.FnOnce tell made.0 (Ok made.1)) }
-    { assemble(rt, alloc, prepared, options, tell) };
-    let release = move || drop(scratches);
-    let (_, made) = thread::join(rt, release, write);
-    made
+    let indexes = (&*merging).index(rt, alloc, scratches)?;
+    let Runs { current, baseline } = merging.open(rt, alloc, &indexes)?;
+    let file = merging.read_file(alloc)?;
+    let logs = merging.judge_logs(rt, alloc, current, &file, observer)?;
+    let baselines = merging.judge_baselines(rt, alloc, baseline, &file, observer)?;
+    merging.prepare(rt, alloc, logs, baselines, &file)
 }
 
 /// Merges at most `MOST_SOURCES` logs and as many baselines. Returns the merge and what `tell` computed from it.
+#[tactic(auto, using(crate::proofs::StepFacts::merge_is, crate::proofs::StepFacts::life_is, crate::proofs::StepFacts::refusal_is, crate::proofs::StepFacts::refusal_exits))]
 pub(crate) fn merge_few<
     G: Gate + Sync,
     R: Threads + Wait + Sync,
@@ -86,10 +76,10 @@ pub(crate) fn merge_few<
         asked.now.options.now.policy (upkeep_in asked.now)) }
     ensures quiet { IsQuiet result }
 {
-    let count = sources.logs.len() + sources.baselines.len();
-    let mut scratches = make_scratches(alloc, count)?;
-    let prepared = prepare_few(rt, alloc, sources, &mut scratches, asked, observer)?;
-    let made = assemble_beside(rt, alloc, prepared, asked.options, scratches, tell)?;
+    let merging = Merging { sources, asked };
+    let mut scratches = merging.make_scratches(alloc)?;
+    let prepared = prepare_few(rt, alloc, &merging, &mut scratches, observer)?;
+    let made = merging.assemble(rt, alloc, prepared, scratches, tell)?;
     Ok(made)
 }
 
@@ -106,7 +96,7 @@ pub(crate) fn tell_nothing(_facts: &Facts<'_>) -> Result<(), AllocError> {
 /// logs and the baselines, of the suppression file, of the logs' runs and results, and of the baselines' runs and
 /// results. Its cause is any except `TooLong`, `ReadFailed` and `WriteFailed`. `OutOfMemory`, if memory runs out,
 /// and `NoWorker`, if a thread cannot be started, have no place, and may be returned instead of any of these.
-#[tactic(auto, using(crate::proofs::Alone::refusal_alone))]
+#[tactic(auto, using(crate::proofs::Alone::life_alone, crate::proofs::Alone::refusal_alone))]
 pub fn merge_bytes<G: Gate + Sync, R: Threads + Wait + Sync>(
     rt: &R,
     alloc: Global,
@@ -129,6 +119,8 @@ pub fn merge_bytes<G: Gate + Sync, R: Threads + Wait + Sync>(
         (unused_in inputs)) }
     // It has no findings.
     ensures untold { IfOk result (λ merged. merged.findings.items ≡ []) }
+    // Nothing is for later merges.
+    ensures life { IfOk result (λ merged. merged.life ≡ no_life) }
     ensures refusals { IfErr result (λ fault. IsOutOfResources fault
         ⊎ (first_fault (inputs_of sources.now options.now) ≡ Some fault)) }
     ensures quiet { IsQuiet result }

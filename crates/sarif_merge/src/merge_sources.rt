@@ -9,6 +9,7 @@ ghost use Rattle.sarif_log.specs.Beside.{IsMadeBy};
 ghost use Rattle.sarif_log.specs.Told.{reporting_in};
 ghost use Rattle.sarif_merge.specs.FromReaders.{IsMergedFrom, IsMergedWith, IsPartlyWritten, IsRefused, IsRefusedWith, IsStopped};
 ghost use Rattle.sarif_log.specs.Kept.{upkeep_in};
+ghost use Rattle.sarif_merge.specs.Life.{no_life};
 ghost use Rattle.sarif_model.specs.Limits.{most_sources};
 ghost use Rattle.sarif_streams.specs.WereRead.{contents_of, failures, NoNumberFalls, WereRead};
 ghost use Rattle.sarif_model.specs.declared.merge_fault.At.TheVariants.{Whole};
@@ -104,7 +105,7 @@ pub fn merge_readers<
 /// Merges logs and baselines from readers into a writer: reads and merges as [`merge_readers`] does, then writes
 /// the text of the log. The rejections are those of [`merge_readers`], which have written nothing, and
 /// `WriteFailed` at the output, if a write failed: a part of the text may have been written then.
-#[tactic(auto, using(crate::proofs::Alone::merged_alone, crate::proofs::Alone::refused_alone))]
+#[tactic(auto, using(crate::proofs::Alone::merged_alone, crate::proofs::Alone::kept_alone, crate::proofs::Alone::refused_alone))]
 pub fn merge_to<R: Read, W: Write, G: Gate + Sync, T: Threads + Wait + Sync>(
     rt: &T,
     alloc: Global,
@@ -121,6 +122,8 @@ pub fn merge_to<R: Read, W: Write, G: Gate + Sync, T: Threads + Wait + Sync>(
     ensures merged { IfOk result
         (IsMergedFrom R.remaining readers.old readers.new options.now.today options.now.checks
         options.now.policy None) }
+    // Nothing is for later merges.
+    ensures life { IfOk result (λ merged. merged.life ≡ no_life) }
     // The text was written, and nothing else.
     ensures written { IfOk result (λ merged. Appends (W.contents (inner_of out.old))
         (W.contents (inner_of out.new)) merged.log) }

@@ -16,7 +16,7 @@ invariant_of-work g c =
     let spots = c.deref.result.now in
     let are : spots ≡ spots_from 0 ps = c.deref.ensures.value ∙ c.in_ok-spots.ensures in
     let n = c.len.result in
-    let parts = c.args.workers * 16 in
+    let parts = c.args.team.workers * 16 in
     let size = n / parts + 1 in
     let same : c.len-2.result ≡ n = search rules in
     let long : n ≡ length c.in_ok-spots.spots.items = search rules in
@@ -33,7 +33,7 @@ pub returns : goal.returns
 returns g c =
     let ps = map placed_of c.args.runs.now in
     let n = c.len.result in
-    let size = n / (c.args.workers * 16) + 1 in
+    let size = n / (c.args.team.workers * 16) + 1 in
     let shards = c.len-2.result / size + 1 in
     let same : c.len-2.result ≡ n = search rules in
     let long : length c.deref.result.now ≡ n = search rules in

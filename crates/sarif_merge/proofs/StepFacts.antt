@@ -1,0 +1,270 @@
+-- What each step of a merge makes, from what its calls give.
+use Rattle.std.proofs.Common.{◌≡◌, ℕ, ◌≤◌, ◌+◌, ◌++◌, ◌⊎◌, List, [], true, false, Option, Some, Result, Ok, Vec, Global, inl, inr, length, map, arith, refl, sym, ap, subst, ◌∙◌, append-nil}
+use Rattle.std.proofs.lemmas.List.{length-map}
+use Rattle.std.specs.Prelude.{option_map}
+use Rattle.json.specs.Token.{Token}
+use Rattle.json_parts.specs.Mark.{without_mark}
+use Rattle.json_parts.specs.Together.{AreIndexed}
+use Rattle.json_parts.specs.declared.indexing.IndexFault.{IndexFault}
+use Rattle.sarif_model.specs.FirstFault.{first, IsOutOfResources}
+use Rattle.sarif_model.specs.Limits.{most_results, most_runs, most_sources}
+use Rattle.sarif_model.specs.MergeFault.{exit_status, out_of_memory}
+use Rattle.sarif_model.specs.Run.{results_total}
+use Rattle.sarif_model.specs.declared.merge_fault.MergeFault.{MergeFault}
+use Rattle.sarif_model.proofs.SourceAnswers.{still_first}
+use Rattle.sarif_suppress.specs.File.{File}
+use Rattle.sarif_runs.specs.Judging.{faults_of_runs, run_values}
+use Rattle.sarif_runs.specs.Opened.{placed_of}
+use Rattle.sarif_runs.specs.Placed.{Placed}
+use Rattle.sarif_runs.specs.declared.opened.OpenedRun.{OpenedRun}
+use Rattle.sarif_results.specs.Judged.{IsJudged, placed_in}
+use Rattle.sarif_results.specs.Outcomes.{all_outcomes}
+use Rattle.sarif_results.specs.declared.judged.Judged.{Judged}
+use Rattle.sarif_inputs.specs.Faults.{faults_of, file_faults, file_or_none}
+use Rattle.sarif_inputs.specs.Indexes.{AreIndexesOf}
+use Rattle.sarif_inputs.specs.Inputs.{Inputs, all_runs, all_sources, baseline_runs, input_runs, numbered, placed}
+use Rattle.sarif_inputs.specs.Runs.{AreRunsOf}
+use Rattle.sarif_inputs.specs.SourceFaults.{source_faults}
+use Rattle.sarif_inputs.specs.declared.sources.Runs.{Runs}
+use Rattle.sarif_log.specs.Assembled.{IsMergedBy}
+use Rattle.sarif_log.specs.Kept.{merge_of, upkeep_in, IsKept, IsUnkept}
+use Rattle.sarif_log.specs.Prepared.{IsPrepared}
+use Rattle.sarif_log.specs.Told.{reporting_in}
+use Rattle.sarif_log.specs.declared.merged.Merged.{Merged}
+use Rattle.sarif_log.specs.declared.prepared.Prepared.{Prepared}
+use Rattle.sarif_findings.specs.declared.reporting.Reporting.{Reporting}
+use Rattle.sarif_upkeep.specs.IsMatched.{IsFileOf}
+use Rattle.sarif_upkeep.specs.Life.{life_faults}
+use Rattle.sarif_counts.specs.declared.life.Life.{Life}
+use Rattle.sarif_merge.specs.Given.{inputs_of}
+use Rattle.sarif_merge.specs.Life.{IsLifeOf, IsRefusal, merge_in}
+use Rattle.sarif_merge.specs.Merged.{IsMerged}
+use Rattle.sarif_merge.specs.MergedLog.{file_given, file_in}
+use Rattle.sarif_merge.specs.Prepared.{IsPreparedFor}
+use Rattle.sarif_merge.specs.Steps.{AreBaselinesJudged, AreBaselinesOpened, AreIndexesIn, AreLogsJudged, AreLogsOpened, AreLogsSound, AreOpened, IsFileIn, IsMergeOf, IsReady, IsRead, IsRejection, inputs_in, policy_in}
+use Rattle.sarif_merge.specs.declared.steps.Merging.{Merging}
+use Rattle.sarif_merge.proofs.MergeAnswers.{are_indexes, assembled_is, faults_apart, judged_baselines, judged_logs, left_after_first, number_is_no_fault, same_kept, same_large, same_runs}
+use Rattle.sarif_merge.proofs.Unkept.{file_was_read, unkept_quiet}
+
+-- ---- rejections
+
+pub lacks_memory : (m : Merging) → IsRejection m out_of_memory
+unfolding IsRejection
+lacks_memory m = (inl (inl (inl refl)), refl)
+
+-- the first of these errors, if they are those of the inputs, or begin them
+rejected_by : (m : Merging) (these others : List MergeFault) (fault : MergeFault) → faults_of (inputs_in m) ≡ these ++ others
+    → IsOutOfResources fault ⊎ (first these ≡ Some fault) → exit_status fault.cause ≡ 2 → IsRejection m fault
+unfolding IsRejection
+rejected_by m these others fault are found quiet =
+    (inl (subst (λ faults. IsOutOfResources fault ⊎ (first faults ≡ Some fault)) (sym are) (still_first these others fault found)), quiet)
+
+-- ---- index
+
+pub indexed_in : (m : Merging) (ls bs : List (Vec ℕ Global)) (indexes : List (Result (List Token) IndexFault)) → ls ≡ m.sources.now.logs.items → bs ≡ m.sources.now.baselines.items
+    → length m.sources.now.logs.items ≤ most_sources → length m.sources.now.baselines.items ≤ most_sources
+    → AreIndexed (map without_mark (map (λ v. v.items) ls ++ map (λ v. v.items) bs)) indexes → AreIndexesIn m indexes
+unfolding AreIndexesIn
+indexed_in m ls bs indexes is_ls is_bs few_ls few_bs indexed =
+    let logs = m.sources.now.logs.items in
+    let baselines = m.sources.now.baselines.items in
+    are_indexes logs baselines indexes (length logs) refl few_ls few_bs
+    (subst (λ (xs : List (Vec ℕ Global)). AreIndexed (map without_mark (map (λ v. v.items) xs ++ map (λ v. v.items) baselines)) indexes) is_ls
+    (subst (λ (ys : List (Vec ℕ Global)). AreIndexed (map without_mark (map (λ v. v.items) ls ++ map (λ v. v.items) ys)) indexes) is_bs indexed))
+
+-- ---- open
+
+pub are_indexes_in : (m : Merging) (indexes : List (Result (List Token) IndexFault)) → AreIndexesIn m indexes
+    → AreIndexesOf (inputs_in m).logs (inputs_in m).baselines indexes (length m.sources.now.logs.items)
+unfolding AreIndexesIn
+are_indexes_in m indexes are = are
+
+pub logs_opened : (m : Merging) (runs : Runs) → AreRunsOf (inputs_in m).checks (inputs_in m).logs (inputs_in m).baselines runs → AreLogsOpened m runs.current.items
+unfolding AreLogsOpened
+logs_opened m runs read = record { are = read.current; few = omega (arith, read.few); few_results = omega (arith, read.few_results) }
+
+pub baselines_opened : (m : Merging) (runs : Runs) → AreRunsOf (inputs_in m).checks (inputs_in m).logs (inputs_in m).baselines runs → AreBaselinesOpened m runs.baseline.items
+unfolding AreBaselinesOpened
+baselines_opened m runs read = record { are = read.baseline; few = omega (arith, read.few); few_results = omega (arith, read.few_results) }
+
+-- what is left of the errors once the sources are read
+after_sources : (m : Merging) → length (inputs_in m).logs ≤ most_sources → length (inputs_in m).baselines ≤ most_sources
+    → faults_of (inputs_in m)
+    ≡ source_faults 0 0 (all_sources (inputs_in m))
+    ++ (file_faults (file_or_none (inputs_in m).suppressions (inputs_in m).today) ++ faults_of_runs (all_runs (inputs_in m)))
+after_sources m few_logs few_baselines =
+    let inputs = inputs_in m in
+    number_is_no_fault inputs.logs inputs.baselines few_logs few_baselines
+    (source_faults 0 0 (all_sources inputs) ++ (file_faults (file_or_none inputs.suppressions inputs.today) ++ faults_of_runs (all_runs inputs)))
+
+pub sources_read : (m : Merging) (runs : Runs) → AreRunsOf (inputs_in m).checks (inputs_in m).logs (inputs_in m).baselines runs → IsRead m
+unfolding IsRead
+sources_read m runs read =
+    let rest = file_faults (file_or_none (inputs_in m).suppressions (inputs_in m).today) ++ faults_of_runs (all_runs (inputs_in m)) in
+    after_sources m read.few_logs read.few_baselines ∙ ap (λ faults. faults ++ rest) read.faultless
+
+pub rejected_sources : (m : Merging) (indexes : List (Result (List Token) IndexFault)) (fault : MergeFault) → AreIndexesIn m indexes
+    → IsOutOfResources fault ⊎ (first (source_faults 0 0 (all_sources (inputs_in m))) ≡ Some fault) → exit_status fault.cause ≡ 2 → IsRejection m fault
+unfolding AreIndexesIn
+rejected_sources m indexes fault are found quiet =
+    rejected_by m (source_faults 0 0 (all_sources (inputs_in m))) (file_faults (file_or_none (inputs_in m).suppressions (inputs_in m).today) ++ faults_of_runs (all_runs (inputs_in m))) fault
+    (after_sources m are.few_logs are.few_baselines) found quiet
+
+-- ---- read the suppression file
+
+pub file_read : (m : Merging) (bytes : Option (List ℕ)) (file : File) → IsRead m → bytes ≡ (inputs_in m).suppressions → file_or_none bytes (inputs_in m).today ≡ Ok file → IsFileIn m file
+unfolding IsRead IsFileIn
+file_read m bytes file read is_bytes is_file =
+    let is : file_or_none (inputs_in m).suppressions (inputs_in m).today ≡ Ok file = subst (λ b. file_or_none b (inputs_in m).today ≡ Ok file) is_bytes is_file in
+    (is, read ∙ ap (λ r. file_faults r ++ faults_of_runs (all_runs (inputs_in m))) is)
+
+pub rejected_file : (m : Merging) (bytes : Option (List ℕ)) (fault : MergeFault) → IsRead m → bytes ≡ (inputs_in m).suppressions
+    → IsOutOfResources fault ⊎ (first (file_faults (file_or_none bytes (inputs_in m).today)) ≡ Some fault) → exit_status fault.cause ≡ 2 → IsRejection m fault
+unfolding IsRead
+rejected_file m bytes fault read is_bytes found quiet =
+    rejected_by m (file_faults (file_or_none (inputs_in m).suppressions (inputs_in m).today)) (faults_of_runs (all_runs (inputs_in m))) fault read
+    (subst (λ b. IsOutOfResources fault ⊎ (first (file_faults (file_or_none b (inputs_in m).today)) ≡ Some fault)) is_bytes found) quiet
+
+-- ---- judge
+
+pub are_opened_logs : (m : Merging) (runs : List OpenedRun) → AreLogsOpened m runs → AreOpened (input_runs (inputs_in m)) runs
+unfolding AreLogsOpened
+are_opened_logs m runs opened = opened
+
+pub are_opened_baselines : (m : Merging) (runs : List OpenedRun) → AreBaselinesOpened m runs → AreOpened (baseline_runs (inputs_in m)) runs
+unfolding AreBaselinesOpened
+are_opened_baselines m runs opened = opened
+
+-- the suppression file is the one that the definitions read
+same_file : (m : Merging) (file : File) → IsFileIn m file → file ≡ file_given (inputs_in m)
+unfolding IsFileIn
+same_file m file read = sym (ap file_in read.0)
+
+few_placed : (runs : List OpenedRun) (judged : List Placed) → judged ≡ map placed_of runs → length runs ≤ most_runs → length judged ≤ most_runs
+few_placed runs judged same few = let long : length judged ≡ length runs = ap length same ∙ length-map runs placed_of in omega (arith, long, few)
+
+pub logs_judged : (m : Merging) (runs : List OpenedRun) (file : File) (judged : Judged) → AreLogsOpened m runs → IsFileIn m file → placed_in judged ≡ map placed_of runs
+    → judged.outcomes.items ≡ all_outcomes file (placed_in judged) → faults_of_runs (map placed_of runs) ≡ [] → AreLogsJudged m judged
+unfolding AreLogsOpened AreLogsJudged
+logs_judged m runs file judged opened read same outcomes none = (
+  same ∙ opened.are,
+  subst (λ f. IsJudged f false judged) (same_file m file read)
+      (judged_logs (inputs_in m).checks file (inputs_in m).logs judged (same ∙ opened.are) outcomes (ap faults_of_runs same ∙ none)
+      (few_placed runs (placed_in judged) same opened.few) (subst (λ ps. results_total (run_values ps) ≤ most_results) (sym same) opened.few_results)),
+)
+
+pub logs_sound : (m : Merging) (runs : List OpenedRun) → AreLogsOpened m runs → faults_of_runs (map placed_of runs) ≡ [] → AreLogsSound m
+unfolding AreLogsOpened AreLogsSound
+logs_sound m runs opened none = ap faults_of_runs (sym opened.are) ∙ none
+
+pub rejected_logs : (m : Merging) (runs : List OpenedRun) (file : File) (fault : MergeFault) → AreLogsOpened m runs → IsFileIn m file
+    → IsOutOfResources fault ⊎ (first (faults_of_runs (map placed_of runs)) ≡ Some fault) → exit_status fault.cause ≡ 2 → IsRejection m fault
+unfolding AreLogsOpened IsFileIn
+rejected_logs m runs file fault opened read found quiet =
+    rejected_by m (faults_of_runs (input_runs (inputs_in m))) (faults_of_runs (baseline_runs (inputs_in m))) fault (read.1 ∙ faults_apart (input_runs (inputs_in m)) (baseline_runs (inputs_in m)))
+    (subst (λ ps. IsOutOfResources fault ⊎ (first (faults_of_runs ps) ≡ Some fault)) opened.are found) quiet
+
+pub baselines_judged : (m : Merging) (runs : List OpenedRun) (file : File) (judged : Judged) → AreBaselinesOpened m runs → IsFileIn m file → placed_in judged ≡ map placed_of runs
+    → judged.outcomes.items ≡ all_outcomes file (placed_in judged) → faults_of_runs (map placed_of runs) ≡ [] → AreBaselinesJudged m judged
+unfolding AreBaselinesOpened AreBaselinesJudged
+baselines_judged m runs file judged opened read same outcomes none = (
+  same ∙ opened.are,
+  subst (λ f. IsJudged f true judged) (same_file m file read)
+      (judged_baselines (inputs_in m).checks file (inputs_in m).baselines judged (same ∙ opened.are) outcomes (ap faults_of_runs same ∙ none)
+      (few_placed runs (placed_in judged) same opened.few) (subst (λ ps. results_total (run_values ps) ≤ most_results) (sym same) opened.few_results)),
+)
+
+pub rejected_baselines : (m : Merging) (runs : List OpenedRun) (file : File) (fault : MergeFault) → AreBaselinesOpened m runs → IsFileIn m file → AreLogsSound m
+    → IsOutOfResources fault ⊎ (first (faults_of_runs (map placed_of runs)) ≡ Some fault) → exit_status fault.cause ≡ 2 → IsRejection m fault
+unfolding AreBaselinesOpened AreLogsSound IsFileIn
+rejected_baselines m runs file fault opened read sound found quiet =
+    rejected_by m (faults_of_runs (baseline_runs (inputs_in m))) [] fault
+    (read.1 ∙ left_after_first (input_runs (inputs_in m)) (baseline_runs (inputs_in m)) sound ∙ sym (append-nil _))
+    (subst (λ ps. IsOutOfResources fault ⊎ (first (faults_of_runs ps) ≡ Some fault)) opened.are found) quiet
+
+-- ---- prepare
+
+pub file_was_given : (m : Merging) (bytes : Option (List ℕ)) (file : File) → IsFileIn m file → bytes ≡ (inputs_in m).suppressions → IsFileOf bytes file
+unfolding IsFileIn
+file_was_given m bytes file read is = subst (λ b. IsFileOf b file) (sym is) (file_was_read (inputs_in m).suppressions (inputs_in m).today file read.0)
+
+pub judged_first : (m : Merging) (file : File) (judged : Judged) → IsFileIn m file → AreLogsJudged m judged → IsJudged file false judged
+unfolding AreLogsJudged
+judged_first m file judged read logs = subst (λ f. IsJudged f false judged) (sym (same_file m file read)) logs.1
+
+pub judged_second : (m : Merging) (file : File) (judged : Judged) → IsFileIn m file → AreBaselinesJudged m judged → IsJudged file true judged
+unfolding AreBaselinesJudged
+judged_second m file judged read baselines = subst (λ f. IsJudged f true judged) (sym (same_file m file read)) baselines.1
+
+-- no input has an error
+none_left : (m : Merging) (file : File) (now before : Judged) → IsFileIn m file → AreLogsJudged m now → AreBaselinesJudged m before → faults_of (inputs_in m) ≡ []
+unfolding IsFileIn AreLogsJudged AreBaselinesJudged
+none_left m file now before read logs baselines =
+    read.1 ∙ left_after_first (input_runs (inputs_in m)) (baseline_runs (inputs_in m)) (ap faults_of_runs (sym logs.0) ∙ logs.1.faultless)
+    ∙ ap faults_of_runs (sym baselines.0) ∙ baselines.1.faultless
+
+pub is_ready : (m : Merging) (bytes : Option (List ℕ)) (file : File) (now before : Judged) (prepared : Prepared) → IsFileIn m file → AreLogsJudged m now → AreBaselinesJudged m before
+    → bytes ≡ (inputs_in m).suppressions → IsPrepared file (placed_in now) (placed_in before) (reporting_in m.asked.now) prepared
+    → IsKept (merge_of file bytes (policy_in m) (placed_in now) (placed_in before)) (upkeep_in m.asked.now) prepared.life → IsReady m prepared
+unfolding IsReady AreLogsJudged AreBaselinesJudged
+is_ready m bytes file now before prepared read logs baselines is ready kept =
+    let inputs = inputs_in m in
+    let asked = reporting_in m.asked.now in
+    let upkeep = upkeep_in m.asked.now in
+    let xs = input_runs inputs in
+    let ys = baseline_runs inputs in record {
+      faultless = none_left m file now before read logs baselines;
+      written = subst (λ f. IsPrepared f xs ys asked prepared) (same_file m file read) (same_runs file (placed_in now) (placed_in before) xs ys asked prepared ready logs.0 baselines.0);
+      kept = subst (λ f. IsKept (merge_of f inputs.suppressions (policy_in m) xs ys) upkeep prepared.life) (same_file m file read)
+          (subst (λ b. IsKept (merge_of file b (policy_in m) xs ys) upkeep prepared.life) is
+          (same_kept file bytes (policy_in m) (placed_in now) (placed_in before) xs ys upkeep prepared.life kept logs.0 baselines.0));
+    }
+
+pub rejected_life : (m : Merging) (bytes : Option (List ℕ)) (file : File) (now before : Judged) (fault : MergeFault) → IsFileIn m file → AreLogsJudged m now → AreBaselinesJudged m before
+    → bytes ≡ (inputs_in m).suppressions → IsUnkept (merge_of file bytes (policy_in m) (placed_in now) (placed_in before)) (upkeep_in m.asked.now) fault → IsRejection m fault
+unfolding IsRejection AreLogsJudged AreBaselinesJudged
+rejected_life m bytes file now before fault read logs baselines is unkept =
+    let inputs = inputs_in m in
+    let upkeep = upkeep_in m.asked.now in
+    let xs = input_runs inputs in
+    let ys = baseline_runs inputs in (
+      elim unkept [
+        | inl out ↦ inl (inl (inl out))
+        | inr found ↦ inr (
+          none_left m file now before read logs baselines,
+          subst (λ f. first (life_faults (merge_of f inputs.suppressions (policy_in m) xs ys) upkeep) ≡ Some fault) (same_file m file read)
+              (subst (λ b. first (life_faults (merge_of file b (policy_in m) xs ys) upkeep) ≡ Some fault) is
+              (same_large file bytes (policy_in m) (placed_in now) (placed_in before) xs ys upkeep fault found logs.0 baselines.0)),
+        )
+      ],
+      unkept_quiet (merge_of file bytes (policy_in m) (placed_in now) (placed_in before)) upkeep fault unkept,
+    )
+
+-- ---- assemble
+
+pub is_merge_of : (m : Merging) (prepared : Prepared) (merged : Merged) → IsReady m prepared
+    → ((file : File) (now before : List Placed) (told : Option Reporting) → IsPrepared file now before told prepared → IsMergedBy file now before (policy_in m) told merged)
+    → merged.life ≡ prepared.life → IsMergeOf m merged
+unfolding IsReady IsMergeOf
+is_merge_of m prepared merged ready assembled same = (
+  assembled_is (inputs_in m) (policy_in m) (reporting_in m.asked.now) (upkeep_in m.asked.now) prepared merged ready assembled,
+  subst (IsLifeOf (inputs_in m) (policy_in m) (upkeep_in m.asked.now)) (sym same) ready.kept,
+)
+
+-- ---- the merge
+
+pub merge_is : (m : Merging) (merged : Merged) → IsMergeOf m merged → IsMerged (inputs_in m) (policy_in m) (reporting_in m.asked.now) merged
+unfolding IsMergeOf
+merge_is m merged is = is.0
+
+pub life_is : (m : Merging) (merged : Merged) → IsMergeOf m merged → IsLifeOf (inputs_in m) (policy_in m) (upkeep_in m.asked.now) merged.life
+unfolding IsMergeOf
+life_is m merged is = is.1
+
+pub refusal_is : (m : Merging) (fault : MergeFault) → IsRejection m fault → IsRefusal (inputs_in m) (policy_in m) (upkeep_in m.asked.now) fault
+unfolding IsRejection
+refusal_is m fault is = is.0
+
+pub refusal_exits : (m : Merging) (fault : MergeFault) → IsRejection m fault → exit_status fault.cause ≡ 2
+unfolding IsRejection
+refusal_exits m fault is = is.1

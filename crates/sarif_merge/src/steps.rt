@@ -1,0 +1,210 @@
+//! The steps of a merge. Each step requires what the steps before it made, and each of its rejections is
+//! one of the merge. One definition states what a step makes, and only the proof of this step opens it.
+ghost use Rattle.std.specs.Prelude.{◌≡◌, ◌≤◌, ◌+◌, Ok, length, option_map, IfOk, IfErr, OnOk};
+ghost use Rattle.sarif_log.specs.Beside.{IsMadeBy};
+ghost use Rattle.sarif_model.specs.Limits.{most_sources};
+
+use crate::assembling::assemble_beside;
+use json::Scratch;
+use json_parts::{Index, IndexFault};
+use sarif_gather::Gate;
+use sarif_inputs::{Opening, Runs, index_sources, open_sources, read_file};
+use sarif_judge::{Team, judge_runs};
+use sarif_log::{Asked, Facts, FileRead, Merged, Prepared, prepare};
+use sarif_model::MergeFault;
+use sarif_results::Judged;
+use sarif_runs::OpenedRun;
+use sarif_streams::SourceBytes;
+use sarif_suppress::Suppressions;
+use std::alloc::{AllocError, Global};
+use std::sync::Wait;
+use std::thread::Threads;
+
+/// The bytes that may be there.
+fn slice_of(bytes: &Option<Vec<u8>>) -> Option<&[u8]>
+    ensures { option_map (λ b. b.now) result ≡ option_map (λ v. v.items) bytes.now }
+{
+    bytes.as_ref().map(Vec::as_slice)
+}
+
+/// A number of scratches.
+fn make_scratches(alloc: Global, count: usize) -> Result<Vec<Scratch>, AllocError>
+    ensures { IfOk result (λ scratches. length scratches.items ≡ count) }
+{
+    let mut scratches = Vec::with_capacity(alloc, count)?;
+    for _source in 0..count {
+        scratches.push(Scratch::new(alloc))?;
+    }
+    Ok(scratches)
+}
+
+/// A merge: its sources, and what is requested.
+#[derive(Clone, Copy)]
+pub(crate) struct Merging<'m, 'o: 'm> {
+    pub(crate) sources: &'m SourceBytes,
+    pub(crate) asked: &'m Asked<'o>,
+}
+
+impl<'m, 'o: 'm> Merging<'m, 'o> {
+    ghost use Rattle.std.specs.Prelude.{◌≡◌, ◌≤◌, ◌+◌, Ok, length, IfOk, IfErr, OnOk};
+    ghost use Rattle.sarif_log.specs.Beside.{IsMadeBy};
+    ghost use Rattle.sarif_merge.specs.Steps.{AreBaselinesJudged, AreBaselinesOpened, AreIndexesIn, AreLogsJudged, AreLogsOpened, AreLogsSound, IsFileIn, IsMergeOf, IsReady, IsRead, IsRejection};
+    ghost use Rattle.sarif_model.specs.Limits.{most_sources};
+
+    /// A scratch for each source, in which it is indexed.
+    #[tactic(auto, using(crate::proofs::StepFacts::lacks_memory))]
+    pub(crate) fn make_scratches(&self, alloc: Global) -> Result<Vec<Scratch>, MergeFault>
+        ensures scratches { IfOk result (λ scratches. length scratches.items
+            ≡ length self.now.sources.now.logs.items + length self.now.sources.now.baselines.items) }
+        ensures refused { IfErr result (IsRejection self.now) }
+    {
+        let count = self.sources.logs.len() + self.sources.baselines.len();
+        let scratches = make_scratches(alloc, count)?;
+        Ok(scratches)
+    }
+
+    /// Indexes the sources, the logs first.
+    #[tactic(auto, using(crate::proofs::StepFacts::lacks_memory))]
+    pub(crate) fn index<'a, R: Threads + Sync>(
+        &'a self,
+        rt: &R,
+        alloc: Global,
+        scratches: &'a mut [Scratch],
+    ) -> Result<Vec<Result<Index<'a>, IndexFault>>, MergeFault>
+        requires scratches { length scratches.old
+            ≡ length self.now.sources.now.logs.items + length self.now.sources.now.baselines.items }
+        requires few_logs { length self.now.sources.now.logs.items ≤ most_sources }
+        requires few_baselines { length self.now.sources.now.baselines.items ≤ most_sources }
+        ensures indexes { IfOk result (λ indexes. AreIndexesIn self.now indexes.items) }
+        ensures refused { IfErr result (IsRejection self.now) }
+    {
+        let logs = self.sources.logs.as_slice();
+        let baselines = self.sources.baselines.as_slice();
+        let threads = self.asked.options.workers + 1;
+        let indexes = index_sources(rt, alloc, logs, baselines, scratches, threads)?;
+        Ok(indexes)
+    }
+
+    /// Opens the runs of the sources.
+    pub(crate) fn open<'t, 'a, R: Threads + Sync>(
+        &self,
+        rt: &R,
+        alloc: Global,
+        indexes: &'t [Result<Index<'a>, IndexFault>],
+    ) -> Result<Runs<'t, 'a>, MergeFault>
+        requires indexes { AreIndexesIn self.now indexes.now }
+        ensures logs { IfOk result (λ runs. AreLogsOpened self.now runs.current.items) }
+        ensures baselines { IfOk result (λ runs. AreBaselinesOpened self.now runs.baseline.items) }
+        ensures read { OnOk result (IsRead self.now) }
+        ensures refused { IfErr result (IsRejection self.now) }
+    {
+        let options = self.asked.options;
+        let opening = Opening {
+            checks: options.checks,
+            seed: options.seed,
+        };
+        let logs = self.sources.logs.len();
+        let runs = open_sources(rt, alloc, opening, indexes, logs, options.workers + 1)?;
+        Ok(runs)
+    }
+
+    /// Reads the suppression file, if there is one.
+    pub(crate) fn read_file(&self, alloc: Global) -> Result<Suppressions, MergeFault>
+        requires { IsRead self.now }
+        ensures file { IfOk result (IsFileIn self.now) }
+        ensures refused { IfErr result (IsRejection self.now) }
+    {
+        let options = self.asked.options;
+        let bytes = slice_of(&self.sources.suppressions);
+        let file = read_file(alloc, options.seed, bytes, options.today)?;
+        Ok(file)
+    }
+
+    /// Has workers judge the results of the logs.
+    pub(crate) fn judge_logs<'t, 'a, G: Gate + Sync, R: Threads + Wait + Sync>(
+        &self,
+        rt: &R,
+        alloc: Global,
+        runs: Vec<OpenedRun<'t, 'a>>,
+        file: &Suppressions,
+        observer: &G,
+    ) -> Result<Judged<'t, 'a>, MergeFault>
+        requires runs { AreLogsOpened self.now runs.items }
+        requires file { IsFileIn self.now file.now }
+        ensures judged { IfOk result (AreLogsJudged self.now) }
+        ensures sound { OnOk result (AreLogsSound self.now) }
+        ensures refused { IfErr result (IsRejection self.now) }
+    {
+        let team = Team::in_merge(self.asked.options.workers);
+        let judged = judge_runs(rt, alloc, runs, file, team, observer)?;
+        Ok(judged)
+    }
+
+    /// Has workers judge the results of the baselines.
+    pub(crate) fn judge_baselines<'t, 'a, G: Gate + Sync, R: Threads + Wait + Sync>(
+        &self,
+        rt: &R,
+        alloc: Global,
+        runs: Vec<OpenedRun<'t, 'a>>,
+        file: &Suppressions,
+        observer: &G,
+    ) -> Result<Judged<'t, 'a>, MergeFault>
+        requires runs { AreBaselinesOpened self.now runs.items }
+        requires file { IsFileIn self.now file.now }
+        requires logs { AreLogsSound self.now }
+        ensures judged { IfOk result (AreBaselinesJudged self.now) }
+        ensures refused { IfErr result (IsRejection self.now) }
+    {
+        let team = Team::in_merge(self.asked.options.workers);
+        let judged = judge_runs(rt, alloc, runs, file, team, observer)?;
+        Ok(judged)
+    }
+
+    /// Matches the results of the logs with those of the baselines, and takes out of them what is written.
+    pub(crate) fn prepare<R: Threads + Sync>(
+        &self,
+        rt: &R,
+        alloc: Global,
+        logs: Judged<'_, '_>,
+        baselines: Judged<'_, '_>,
+        file: &Suppressions,
+    ) -> Result<Prepared, MergeFault>
+        requires file { IsFileIn self.now file.now }
+        requires logs { AreLogsJudged self.now logs }
+        requires baselines { AreBaselinesJudged self.now baselines }
+        ensures prepared { IfOk result (IsReady self.now) }
+        ensures refused { IfErr result (IsRejection self.now) }
+    {
+        let rules = FileRead {
+            file,
+            bytes: slice_of(&self.sources.suppressions),
+        };
+        let prepared = prepare(rt, alloc, logs, baselines, &rules, self.asked)?;
+        Ok(prepared)
+    }
+
+    /// Assembles the merged log, and releases the scratches meanwhile.
+    #[tactic(auto, using(crate::proofs::StepFacts::lacks_memory))]
+    pub(crate) fn assemble<
+        R: Threads + Sync,
+        B: Drop,
+        Tell: FnOnce(&Facts<'_>) -> Result<B, AllocError>,
+    >(
+        &self,
+        rt: &R,
+        alloc: Global,
+        prepared: Prepared,
+        scratches: Vec<Scratch>,
+        tell: Tell,
+    ) -> Result<(Merged, B), MergeFault>
+        requires prepared { IsReady self.now prepared }
+        requires tells { Tell.IsAlwaysCallable tell }
+        ensures merged { IfOk result (λ made. IsMergeOf self.now made.0) }
+        ensures told { IfOk result (λ made. IsMadeBy Tell.FnOnce tell made.0 (Ok made.1)) }
+        ensures refused { IfErr result (IsRejection self.now) }
+    {
+        let options = self.asked.options;
+        let made = assemble_beside(rt, alloc, prepared, options, scratches, tell)?;
+        Ok(made)
+    }
+}
