@@ -1,5 +1,5 @@
 -- The lines of error messages.
-use Rattle.std.specs.Prelude.{◌≡◌, true, ℕ, Option, Some, List, [], ◌∷◌, ◌++◌, take, codes}
+use Rattle.std.specs.Prelude.{◌≡◌, ◌⊎◌, true, ℕ, Option, Some, List, [], ◌∷◌, ◌++◌, take, codes}
 use Rattle.std.specs.Io.KnownBytes.{Appends}
 use Rattle.sarif_model.specs.declared.fault.Fault.{Fault}
 use Rattle.sarif_model.specs.declared.fault.Fault.TheVariants as fault
@@ -10,7 +10,7 @@ use Rattle.sarif_model.specs.declared.merge_fault.Cause.TheVariants as cause
 use Rattle.sarif_model.specs.FaultText.{at_text}
 use Rattle.sarif_reports.specs.Report.{output_name}
 use Rattle.sarif_streams.specs.declared.counted.Counted.{Counted}
-use Rattle.sarif_streams.specs.Counted.{inner_of}
+use Rattle.sarif_streams.specs.Counted.{failed_calls, inner_of}
 use Rattle.sarif_program.specs.declared.complaint.Complaint.{Complaint}
 use Rattle.sarif_program.specs.declared.complaint.Complaint.TheVariants as complaint
 use Rattle.sarif_program.specs.declared.complaint.Complaints.{Complaints}
@@ -66,14 +66,17 @@ complaint_text (complaint.Lost report) = output_name report ++ codes ": WriteFai
 abbrev pub complaint_line : Complaint → List ℕ
 complaint_line complaint = (codes "sarif_gate: " ++ complaint_text complaint) ++ 10 ∷ []
 
--- a prefix of its line was written, and nothing else; all of it if the prefix is that long
-abbrev pub IsTold : {E : Type 0} → (E → Option (List ℕ)) → Complaint
-    → Counted E → Counted E → Type 0
-IsTold contents complaint old new = (n : ℕ) × Appends (contents (inner_of old))
-    (contents (inner_of new)) (take n (complaint_line complaint))
+-- its line was written, or nothing; a prefix of it was written only if a write failed
+pub record IsTold {E : Type 0} (contents : E → Option (List ℕ)) (complaint : Complaint)
+    (old new : Counted E) : Type 0 where
+  pub whole : failed_calls new ≡ failed_calls old
+      → Appends (contents (inner_of old)) (contents (inner_of new)) (complaint_line complaint)
+      ⊎ (new ≡ old)
+  pub prefix : (n : ℕ)
+      × Appends (contents (inner_of old)) (contents (inner_of new)) (take n (complaint_line complaint))
 
--- the last error message is this one, and its line or a prefix of it was written, and nothing else; nothing at all if
--- the caller explains it
+-- the last error message is this one, and its line was written, a prefix of it if a write failed, or nothing; nothing
+-- if the caller explains it
 pub record HasComplained {E : Type 0} (contents : E → Option (List ℕ)) (complaint : Complaint)
     (old new : Complaints E) : Type 0 where
   pub last : new.last ≡ Some complaint

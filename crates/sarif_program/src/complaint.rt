@@ -80,9 +80,8 @@ impl<E> Complaints<E> {
 }
 
 impl<E: Write> Complaints<E> {
-    /// Writes `sarif_gate: ` and the message as one line, without allocating. If the line cannot be written
-    /// completely, a prefix of it is written, and nothing more can be reported. Writes nothing if the caller explains
-    /// the message.
+    /// Writes `sarif_gate: ` and the message as one line, without allocating. If a write fails, a prefix of it is
+    /// written, and nothing more can be reported. Writes nothing if the caller explains the message.
     pub fn complain(&mut self, complaint: Complaint)
         requires { failed_calls self.old.out < 2 ^ 63 }
         ensures last { self.new.last ≡ Some complaint }
