@@ -1,7 +1,7 @@
 -- Escaping a string, byte by byte.
 use Rattle.std.proofs.Common.{◌≡◌, ◌<◌, ◌≤◌, ◌==◌, ◌||◌, ◌+◌, ℕ, Bool, true, false, List, [], ◌∷◌, ◌++◌, length, drop, get_or, codes, encode_utf8, chars, IsUtf8, refl, sym, ap, ◌∙◌, append-nil, append_assoc, flat_map, if◌then◌else◌, arith}
 use Rattle.std.specs.Prelude.{encode_utf8_all}
-use Rattle.std.specs.List.{slice_range}
+use Rattle.std.specs.List.{list_any, slice_range}
 use Rattle.std.proofs.lemmas.Bool.Decides.{nat_tests}
 use Rattle.std.proofs.lemmas.List.{drop_all, drop_more}
 use Rattle.std.proofs.lemmas.List.Edits.{between_more, between_none}
@@ -138,3 +138,22 @@ all_added way bs added i old text new front end utf8 held e =
     e ∙ ap (λ t. text ++ t) (drop_split bs added i front)
     ∙ ap (λ t. text ++ (slice_range bs added i ++ t)) (none ∙ sym (ap (flat_map (escaped_byte way)) none)) ∙ held
     ∙ ap (λ t. old ++ t) (sym (escaped_bytes way bs utf8))
+
+-- ---- a string in which nothing is replaced
+
+or_false : (a b : Bool) → (a || b) ≡ false → (a ≡ false) × (b ≡ false)
+or_false true b none = cc
+or_false false b none = (refl, none)
+
+none_here : (way : Escaping) (b : ℕ) (bs : List ℕ) → (escapes way b || list_any (escapes way) bs) ≡ false
+    → (escapes way b ≡ false) × (list_any (escapes way) bs ≡ false)
+none_here way b bs none = or_false (escapes way b) (list_any (escapes way) bs) none
+
+none_in : (way : Escaping) (bs : List ℕ) → list_any (escapes way) bs ≡ false → flat_map (escaped_byte way) bs ≡ bs
+none_in way [] none = refl
+none_in way (b ∷ bs) none =
+    let here = none_here way b bs none in
+    byte_stands way b bs here.0 ∙ ap (λ t. b ∷ t) (none_in way bs here.1)
+
+pub none_replaced : (way : Escaping) (text : List ℕ) → IsUtf8 text → list_any (escapes way) text ≡ false → escaped way text ≡ text
+none_replaced way text utf8 none = escaped_bytes way text utf8 ∙ none_in way text none

@@ -1,7 +1,55 @@
 //! Strings in which some characters are replaced.
 ghost use Rattle.std.specs.Prelude.{◌≡◌, ◌++◌, OnOk, string_bytes};
+ghost use Rattle.std.specs.List.{list_any};
+ghost use Rattle.sarif_reports.specs.declared.escaping.Escaping.TheVariants as way;
+ghost use Rattle.sarif_reports.specs.EscapedBytes.{escapes};
 
 use std::alloc::{AllocError, Global};
+
+/// Whether one of these bytes is a percent sign. It doesn't end early, so that many bytes are compared at a time.
+fn has_percent(bytes: &[u8]) -> bool
+    ensures { result ≡ list_any (escapes way.Message) bytes.now }
+{
+    let mut any = false;
+    for byte in bytes {
+        any |= *byte == b'%';
+    }
+    any
+}
+
+fn is_replaced_in_property(byte: u8) -> bool
+    ensures { result ≡ escapes way.Property byte }
+{
+    byte == b'%' || byte == b':' || byte == b','
+}
+
+/// Whether one of these bytes is replaced in a property of a workflow command. It doesn't end early either.
+fn is_any_replaced_in_property(bytes: &[u8]) -> bool
+    ensures { result ≡ list_any (escapes way.Property) bytes.now }
+{
+    let mut any = false;
+    for byte in bytes {
+        any |= is_replaced_in_property(*byte);
+    }
+    any
+}
+
+fn is_replaced_in_page(byte: u8) -> bool
+    ensures { result ≡ escapes way.Page byte }
+{
+    byte == b'&' || byte == b'<' || byte == b'>' || byte == b'"' || byte == b'\''
+}
+
+/// Whether one of these bytes is replaced in a page. It doesn't end early either.
+fn is_any_replaced_in_page(bytes: &[u8]) -> bool
+    ensures { result ≡ list_any (escapes way.Page) bytes.now }
+{
+    let mut any = false;
+    for byte in bytes {
+        any |= is_replaced_in_page(*byte);
+    }
+    any
+}
 
 /// The format for which a string is escaped.
 #[derive(Clone, Copy, Debug, PartialEq, Eq)]
@@ -27,6 +75,7 @@ impl Escaping {
     ghost use Rattle.sarif_reports.specs.Escaped.{markdown_char, is_mark, page_char, place_char};
     ghost use Rattle.sarif_reports.specs.Escaped.{issue_message_char, issue_property_char};
     ghost use Rattle.sarif_reports.specs.EscapedBytes.{escapes};
+    ghost use Rattle.std.specs.List.{list_any};
 
     fn push_message(text: &mut String, c: char) -> Result<(), AllocError>
         ensures { OnOk result (string_bytes text.new ≡ string_bytes text.old ++ message_char c) }
@@ -148,13 +197,32 @@ impl Escaping {
         }
     }
 
+    /// Whether one of these bytes is replaced.
+    fn replaces_one(self, bytes: &[u8]) -> bool
+        ensures { result ≡ list_any (escapes self) bytes.now }
+    {
+        for byte in bytes {
+            if self.escapes(*byte) {
+                return true;
+            }
+        }
+        false
+    }
+
+    /// Whether one of these bytes is replaced.
+    fn replaces_any(self, bytes: &[u8]) -> bool
+        ensures { result ≡ list_any (escapes self) bytes.now }
+    {
+        match self {
+            Escaping::Message => has_percent(bytes),
+            Escaping::Property => is_any_replaced_in_property(bytes),
+            Escaping::Page => is_any_replaced_in_page(bytes),
+            _ => self.replaces_one(bytes),
+        }
+    }
+
     /// Adds the escaped string. Text between two replaced characters is added at once.
-    pub(crate) fn push_str(
-        self,
-        alloc: Global,
-        text: &mut String,
-        plain: &str,
-    ) -> Result<(), AllocError>
+    fn push_replaced(self, alloc: Global, text: &mut String, plain: &str) -> Result<(), AllocError>
         ensures { OnOk result
             (string_bytes text.new ≡ string_bytes text.old ++ escaped self plain.now) }
     {
@@ -169,6 +237,23 @@ impl Escaping {
             }
         }
         text.push_str(&plain[added..])?;
+        Ok(())
+    }
+    /// Adds the escaped string.
+    #[tactic(auto, using(crate::proofs::EscapedMore::none_replaced))]
+    pub(crate) fn push_str(
+        self,
+        alloc: Global,
+        text: &mut String,
+        plain: &str,
+    ) -> Result<(), AllocError>
+        ensures { OnOk result
+            (string_bytes text.new ≡ string_bytes text.old ++ escaped self plain.now) }
+    {
+        if self.replaces_any(plain.as_bytes()) {
+            return self.push_replaced(alloc, text, plain);
+        }
+        text.push_str(plain)?;
         Ok(())
     }
 }

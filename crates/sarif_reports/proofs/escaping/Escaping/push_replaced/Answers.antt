@@ -4,8 +4,8 @@ use Rattle.std.proofs.lemmas.Str.{IsCharBoundary-start, IsCharBoundary-after_asc
 use Rattle.sarif_reports.specs.Escaped.{escaped_char}
 use Rattle.sarif_reports.specs.EscapedBytes.{escapes}
 use Rattle.sarif_reports.proofs.EscapedMore.{escapes_low, stands_step, escaped_step, all_added}
-use Rattle.sarif_reports.proofs.escaping.Escaping.push_str.Goals as goal
-use Rattle.sarif_reports.proofs.escaping.Escaping.push_str.Goals.{then-escapes+in_ok-push_str+in_ok-push_char, else-escapes}
+use Rattle.sarif_reports.proofs.escaping.Escaping.push_replaced.Goals as goal
+use Rattle.sarif_reports.proofs.escaping.Escaping.push_replaced.Goals.{then-escapes+in_ok-push_str+in_ok-push_char, else-escapes}
 
 pub loop-i-init : goal.loop-i-init
 loop-i-init c = record {

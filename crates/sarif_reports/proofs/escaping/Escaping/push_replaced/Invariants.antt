@@ -2,7 +2,7 @@ use Rattle.std.proofs.Common.{◌≡◌, ◌≤◌, ◌++◌, drop, flat_map, st
 use Rattle.std.specs.List.{slice_range}
 use Rattle.std.specs.Str.{IsCharBoundary}
 use Rattle.sarif_reports.specs.EscapedBytes.{escaped_byte}
-use Rattle.sarif_reports.proofs.escaping.Escaping.push_str.Given as goal
+use Rattle.sarif_reports.proofs.escaping.Escaping.push_replaced.Given as goal
 
 abbrev pub invariant-loop-i : goal.invariant-loop-i
 invariant-loop-i l = record {
