@@ -12,7 +12,6 @@ pub mod SameMembers
 pub mod Scanned
 pub mod Stripped
 pub mod Texts
-pub mod TogetherParts
 pub mod Turns
 pub mod Utf8
 pub mod Walks

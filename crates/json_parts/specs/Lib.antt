@@ -4,7 +4,6 @@ pub mod Laws
 pub mod Mark
 pub mod Ordered
 pub mod Stripping
-pub mod Together
 pub mod Walking
 pub mod Whole
 pub mod Without

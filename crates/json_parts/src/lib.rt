@@ -12,7 +12,6 @@ mod number;
 mod readable;
 mod tape;
 mod text;
-mod together;
 mod walking;
 
 pub use around::{Around, text_around};
@@ -23,4 +22,3 @@ pub use laws::{
 pub use mark::without_mark;
 pub use node::Node;
 pub use text::push_value;
-pub use together::{Job, index_texts};

@@ -64,7 +64,7 @@ fn shown_message(alloc: Global, subject: &Subject<'_>) -> Result<String, AllocEr
     ensures { IfOk result (λ s. string_bytes s
         ≡ text_shown (message_of (view subject.now.run.now) (view subject.now.found.now))) }
 {
-    let mut so_far = ShownText::new(alloc);
+    let mut so_far = ShownText::new(alloc)?;
     push_message(alloc, &mut so_far, subject)?;
     Ok(so_far.finish())
 }

@@ -11,6 +11,9 @@ use std::alloc::{AllocError, Global};
 /// The maximum number of characters of a shown string.
 pub const MOST_CHARACTERS: u32 = 1_000;
 
+/// The room for a shown string at first, in bytes. Most need no more.
+const FIRST_ROOM: usize = 128;
+
 /// A control character, a line or paragraph separator, or one of the two codes that XML does not allow.
 fn is_control(c: char) -> bool
     ensures { result ≡ said.is_control c }
@@ -97,15 +100,16 @@ impl ShownText {
     ghost use Rattle.std.specs.List.{list_all};
     ghost use Rattle.sarif_findings.specs.ShownSoFar.{shown_with, is_verbatim, Takes, Keeps, Parts};
 
-    pub(crate) fn new(alloc: Global) -> ShownText
-        ensures { (cs : List ℕ) → shown_with result cs ≡ said.shown cs }
+    pub(crate) fn new(alloc: Global) -> Result<ShownText, AllocError>
+        ensures { IfOk result (λ made. (cs : List ℕ) → shown_with made cs ≡ said.shown cs) }
     {
-        ShownText {
-            text: String::new(alloc),
+        let text = String::with_capacity(alloc, FIRST_ROOM)?;
+        Ok(ShownText {
+            text,
             room: MOST_CHARACTERS,
             after_sign: false,
             full: false,
-        }
+        })
     }
 
     /// Returns whether no further character is read.
@@ -217,7 +221,7 @@ impl ShownText {
 pub fn shown(alloc: Global, text: &str) -> Result<String, AllocError>
     ensures { IfOk result (λ s. string_bytes s ≡ said.shown (chars text.now)) }
 {
-    let mut so_far = ShownText::new(alloc);
+    let mut so_far = ShownText::new(alloc)?;
     so_far.push_str(text)?;
     Ok(so_far.finish())
 }

@@ -28,7 +28,7 @@ fn text_of_path(alloc: Global, roots: &[Text], path: &str) -> Result<String, All
     ensures { IfOk result
         (λ s. string_bytes s ≡ text_shown (without_here (chars (without_root roots.now path.now)))) }
 {
-    let mut so_far = ShownText::new(alloc);
+    let mut so_far = ShownText::new(alloc)?;
     push_path(&mut so_far, roots, path)?;
     Ok(so_far.finish())
 }

@@ -1,8 +1,8 @@
 -- What stripping leaves of a value's kind.
-use Rattle.std.proofs.Common.{◌≡◌, ℕ, List, [], ◌∷◌, map, true, false, Option, Some, None, is_some, option_map, refl, sym, ap, ◌∙◌}
+use Rattle.std.proofs.Common.{◌≡◌, ℕ, Bool, if◌then◌else◌, List, [], ◌∷◌, map, true, false, Option, Some, None, is_some, option_map, refl, sym, ap, ◌∙◌}
 use Rattle.json.specs.Token.{Token}
-use Rattle.serde_json.specs.Data.{Data, null, boolean, number, string, array, object, Items, no_items, item}
-use Rattle.serde_json.specs.Find.{get, as_null, as_str, as_number, as_array, as_object}
+use Rattle.serde_json.specs.Data.{Data, Num, unsigned, negative, float, null, boolean, number, string, array, object, Items, no_items, item}
+use Rattle.serde_json.specs.Find.{get, as_null, as_str, as_number, as_u64, as_array, as_object}
 use Rattle.serde_json.specs.View.{items_of}
 use Rattle.std.specs.Prelude.{option_and_then}
 use Rattle.json_parts.specs.Indexed.{data_of, first_element}
@@ -94,6 +94,34 @@ kept_in k d e ordered is fraction = sym (get-stripped k d ordered ∙ rw (← is
 
 pub kept_ordered : (k : List ℕ) (d e : Data) → IsOrdered d → Some e ≡ get k d → IsOrdered e
 kept_ordered k d e ordered is = get-IsOrdered k d e ordered (sym is)
+
+-- ---- an integer member: a number that stripping leaves out is none, so that nobody asks whether it is whole
+
+abbrev pub integer_at : Option Data → Option ℕ
+integer_at found = option_and_then as_u64 (option_and_then as_number found)
+
+no_integer : (b : Bool) (ds : Items) → integer_at (if b then None else Some (array ds)) ≡ None
+no_integer true ds = refl
+no_integer false ds = refl
+
+same_integer : (d : Data) → integer_at (if is_fractional d then None else Some (stripped d)) ≡ integer_at (Some d)
+same_integer null = refl
+same_integer (boolean b) = refl
+same_integer (number (unsigned n)) = refl
+same_integer (number (negative z)) = refl
+same_integer (number (float x)) = refl
+same_integer (string s) = refl
+same_integer (array ds) = no_integer (is_fractional (array ds)) (stripped_items ds)
+same_integer (object ms) = refl
+
+pub integer_none : (k : List ℕ) (d : Data) → IsOrdered d → None ≡ get k d → None ≡ integer_at (get k (stripped d))
+integer_none k d ordered none = sym (ap integer_at (get-stripped k d ordered) ∙ rw (← none) refl)
+
+pub integer_some : (k : List ℕ) (d e : Data) → IsOrdered d → Some e ≡ get k d
+    → integer_at (Some e) ≡ integer_at (get k (stripped d))
+integer_some k d e ordered is = sym (ap integer_at (get-stripped k d ordered) ∙ rw (← is) (same_integer e))
+
+pub ruleset integer_steps = (integer_none, integer_some)
 
 pub ruleset kept_steps = (kept_none, kept_out, kept_in, kept_ordered)
 

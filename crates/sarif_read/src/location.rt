@@ -5,7 +5,7 @@ ghost use Rattle.sarif_model.specs.FirstLocation as said;
 ghost use Rattle.sarif_model.specs.FirstLocation.{IsFirstLocation};
 ghost use Rattle.sarif_read.specs.Listed.{value_at};
 
-use crate::nodes::{first_element, kept_member, number_of, text_of};
+use crate::nodes::{first_element, integer_member, kept_member, text_of};
 use json_parts::Node;
 use sarif_model::FirstLocation;
 
@@ -40,11 +40,15 @@ fn text_in<'a>(found: &Option<Node<'_, 'a>>, name: &str) -> Option<&'a str>
 }
 
 /// The integer of that name, which is at least 0.
+#[tactic(auto, using(crate::proofs::PickedMembers::data_ordered))]
 fn number_in(found: &Option<Node<'_, '_>>, name: &str) -> Option<u64>
     ensures { result
         ≡ said.integer_in name.now (option_map value_at found.now) }
 {
-    number_of(&member_in(found, name)?)
+    match found {
+        Some(node) => integer_member(node, name),
+        None => None,
+    }
 }
 
 /// What reports show of the first location of a result.

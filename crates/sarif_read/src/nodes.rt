@@ -38,12 +38,14 @@ pub(crate) fn text_of<'a>(node: &Node<'_, 'a>) -> Option<&'a str>
     node.as_str()
 }
 
-/// The integer, where this is one that is at least 0.
-#[tactic(auto, using(crate::proofs::NodeValues::node_steps))]
-pub(crate) fn number_of(node: &Node<'_, '_>) -> Option<u64>
-    ensures { result ≡ option_and_then as_u64 (as_number (value_at node.now)) }
+/// The member `name`, where stripping leaves it and it is an integer that is at least 0. Its number is parsed once.
+#[tactic(auto, using(crate::proofs::NodeValues::integer_steps))]
+pub(crate) fn integer_member(node: &Node<'_, '_>, name: &str) -> Option<u64>
+    requires { IsOrdered (data_of node.now) }
+    ensures { result ≡ option_and_then as_u64
+        (option_and_then as_number (get name.now (value_at node.now))) }
 {
-    node.as_u64()
+    node.get(name)?.as_u64()
 }
 
 /// The first element, where this is an array that has one.
