@@ -9,11 +9,12 @@ use Rattle.serde_json.specs.Data.{Data}
 use Rattle.sarif_model.specs.declared.kinds.State.{State}
 use Rattle.sarif_model.specs.declared.kinds.Status.{Status}
 use Rattle.sarif_model.specs.declared.record.Record.{Record}
-use Rattle.sarif_suppress.specs.declared.entry.Entry.{Entry}
-use Rattle.sarif_suppress.specs.File.{File}
-use Rattle.sarif_suppress.specs.Matching.{is_empty, matches, is_expired, hold}
+use Rattle.sarif_entries.specs.declared.entry.Entry.{Entry}
+use Rattle.sarif_entries.specs.File.{File}
+use Rattle.sarif_entries.specs.Matching.{is_empty, matches, is_expired, hold}
 use Rattle.sarif_suppress.specs.Suppressing.{matching, is_accepted, statuses_suppress, statuses_of, is_suppressed, is_unused}
-use Rattle.sarif_suppress.specs.Written.{is_object_of, object_of, with_object, with_objects, suppressions_of}
+use Rattle.sarif_entries.specs.Object.{is_object_of, object_of}
+use Rattle.sarif_suppress.specs.Written.{with_object, with_objects, suppressions_of}
 use Rattle.sarif_accept.specs.Entry.{conditions_for}
 use Rattle.sarif_accept.specs.Keeping.{Heard, is_kept}
 use Rattle.sarif_accept.specs.Adding.{How, Counts, is_hit, stays, is_said, once_each, entry_read, accepted_among, added_for, file_after}

@@ -2,7 +2,7 @@
 use Rattle.std.proofs.Common.{◌≡◌, ℕ, true, false, List, [], ◌∷◌, length, Option, Some, None, refl, sym, ◌∙◌, arith, true≢false}
 use Rattle.std.specs.Prelude.{is_some}
 use Rattle.sarif_model.specs.declared.record.Record.{Record}
-use Rattle.sarif_suppress.specs.declared.conditions.Conditions.{Conditions}
+use Rattle.sarif_entries.specs.declared.conditions.Conditions.{Conditions}
 use Rattle.sarif_accept.specs.Asked.{with_place, with_message}
 use Rattle.sarif_accept.specs.Entry.{asked_of, conditions_for}
 

@@ -11,8 +11,8 @@ use Rattle.std.proofs.lemmas.Slice.Eq.{bytes_eq-Decides, slice_eq-Decides}
 use Rattle.serde_json.specs.Data.{Data, string, Members, no_members, member, put}
 use Rattle.serde_json.specs.Find.{as_str}
 use Rattle.sarif_model.specs.declared.record.Record.{Record}
-use Rattle.sarif_suppress.specs.Entries.{with_pair, pairs_of}
-use Rattle.sarif_suppress.specs.Matching.{is_there, are_wanted, is_pair, are_among, hold, is_past, matches}
+use Rattle.sarif_entries.specs.Entries.{with_pair, pairs_of}
+use Rattle.sarif_entries.specs.Matching.{is_there, are_wanted, is_pair, are_among, hold, is_past, matches}
 use Rattle.sarif_accept.specs.Entry.{asked_of, texts_into, texts_put}
 use Rattle.sarif_accept.specs.Adding.{as_read, entry_read}
 use Rattle.sarif_accept.specs.Until.{IsUntil}

@@ -17,11 +17,11 @@ use Rattle.sarif_model.specs.Members.{◌>>=◌, of_kind, unless_null, text_at, 
 use Rattle.sarif_model.specs.declared.kinds.Status.TheVariants.{Accepted}
 use Rattle.sarif_model.specs.declared.fault.Fault.TheVariants.{BadEntry}
 use Rattle.sarif_model.specs.declared.record.Record.{Record}
-use Rattle.sarif_suppress.specs.declared.conditions.Conditions.{Conditions}
-use Rattle.sarif_suppress.specs.declared.fault.FileFault.{FileFault}
-use Rattle.sarif_suppress.specs.declared.version.Version.TheVariants.{Fourth}
-use Rattle.sarif_suppress.specs.Entries.{unless_fault, text_or, texts_at, pairs_of, pairs_at, pairs_of_member, are_texts, day_at, day_of_member, is_day, guid_at, guid_or, check_members, conditions_of, members_of, entry_of}
-use Rattle.sarif_suppress.specs.FileFault.{in_entry}
+use Rattle.sarif_entries.specs.declared.conditions.Conditions.{Conditions}
+use Rattle.sarif_entries.specs.declared.fault.FileFault.{FileFault}
+use Rattle.sarif_entries.specs.declared.version.Version.TheVariants.{Fourth}
+use Rattle.sarif_entries.specs.Entries.{unless_fault, text_or, texts_at, pairs_of, pairs_at, pairs_of_member, are_texts, day_at, day_of_member, is_day, guid_at, guid_or, check_members, conditions_of, members_of, entry_of}
+use Rattle.sarif_entries.specs.FileFault.{in_entry}
 use Rattle.sarif_accept.specs.Entry.{asked_of, list_if_any, texts_into, texts_put, texts_if_any, guid_text, conditions_for, members_from, entry_rows, entry_for}
 use Rattle.sarif_accept.specs.Adding.{as_read, entry_read}
 use Rattle.sarif_accept.specs.Until.{HasGuid, IsDated}

@@ -15,14 +15,14 @@ use Rattle.json_parts.proofs.Stripped.{get-stripped, unless_fractional}
 use Rattle.sarif_read.proofs.RunOf.{stripped_ordered}
 use Rattle.sarif_model.specs.Members.{◌>>=◌, of_kind, text_at, unless_null, elements, elements_of, read_each, result_map}
 use Rattle.sarif_model.specs.declared.fault.Fault.TheVariants.{BadEntry}
-use Rattle.sarif_suppress.specs.declared.conditions.Conditions.{Conditions}
-use Rattle.sarif_suppress.specs.declared.entry.Entry.{Entry}
-use Rattle.sarif_suppress.specs.declared.fault.FileFault.{FileFault}
-use Rattle.sarif_suppress.specs.declared.version.Version.{Version}
-use Rattle.sarif_suppress.specs.declared.version.Version.TheVariants.{Fourth}
-use Rattle.sarif_suppress.specs.Entries.{is_first_member, is_second_member, has_member, are_members_of, check_members, unless_fault, conditions_of, members_of, entry_of, guid_at, pairs_at, pairs_of_member, are_texts, pairs_of, texts_at, text_or, day_at, day_of_member, status_at}
-use Rattle.sarif_suppress.specs.File.{entries_from}
-use Rattle.sarif_suppress.specs.FileFault.{in_entry}
+use Rattle.sarif_entries.specs.declared.conditions.Conditions.{Conditions}
+use Rattle.sarif_entries.specs.declared.entry.Entry.{Entry}
+use Rattle.sarif_entries.specs.declared.fault.FileFault.{FileFault}
+use Rattle.sarif_entries.specs.declared.version.Version.{Version}
+use Rattle.sarif_entries.specs.declared.version.Version.TheVariants.{Fourth}
+use Rattle.sarif_entries.specs.Entries.{is_first_member, is_second_member, has_member, are_members_of, check_members, unless_fault, conditions_of, members_of, entry_of, guid_at, pairs_at, pairs_of_member, are_texts, pairs_of, texts_at, text_or, day_at, day_of_member, status_at}
+use Rattle.sarif_entries.specs.File.{entries_from}
+use Rattle.sarif_entries.specs.FileFault.{in_entry}
 use Rattle.sarif_accept.specs.NewFile.{entry_in}
 use Rattle.sarif_accept.proofs.Rows.{and_both}
 use Rattle.sarif_accept.proofs.Kept.{all_known, parts}

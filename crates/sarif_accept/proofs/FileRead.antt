@@ -13,10 +13,10 @@ use Rattle.sarif_model.specs.declared.kinds.State.{State}
 use Rattle.sarif_model.specs.declared.record.Record.{Record}
 use Rattle.json_parts.specs.Indexed.{json_of}
 use Rattle.json_parts.specs.Mark.{without_mark}
-use Rattle.sarif_suppress.specs.declared.entry.Entry.{Entry}
-use Rattle.sarif_suppress.specs.declared.version.Version.{Version}
-use Rattle.sarif_suppress.specs.declared.version.Version.TheVariants.{Fourth}
-use Rattle.sarif_suppress.specs.File.{File, entries_from, file_of, file_of_value}
+use Rattle.sarif_entries.specs.declared.entry.Entry.{Entry}
+use Rattle.sarif_entries.specs.declared.version.Version.{Version}
+use Rattle.sarif_entries.specs.declared.version.Version.TheVariants.{Fourth}
+use Rattle.sarif_entries.specs.File.{File, entries_from, file_of, file_of_value}
 use Rattle.sarif_accept.specs.Entry.{entry_for}
 use Rattle.sarif_accept.specs.Keeping.{chosen, is_kept}
 use Rattle.sarif_accept.specs.Adding.{How, Counts, entry_read, file_after, added_for}

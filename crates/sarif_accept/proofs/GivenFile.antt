@@ -15,11 +15,11 @@ use Rattle.json_parts.proofs.Order.{read_ordered}
 use Rattle.json_parts.proofs.Readings.{and_then_some}
 use Rattle.json_parts.proofs.Stripped.{get-IsOrdered}
 use Rattle.sarif_model.specs.Members.{elements}
-use Rattle.sarif_suppress.specs.declared.entry.Entry.{Entry}
-use Rattle.sarif_suppress.specs.declared.fault.FileFault.{FileFault}
-use Rattle.sarif_suppress.specs.declared.version.Version.{Version}
-use Rattle.sarif_suppress.specs.declared.version.Version.TheVariants.{First}
-use Rattle.sarif_suppress.specs.File.{File, entries_from, file_of, file_of_value, value_or, check_list, list_or, check_version, check_count}
+use Rattle.sarif_entries.specs.declared.entry.Entry.{Entry}
+use Rattle.sarif_entries.specs.declared.fault.FileFault.{FileFault}
+use Rattle.sarif_entries.specs.declared.version.Version.{Version}
+use Rattle.sarif_entries.specs.declared.version.Version.TheVariants.{First}
+use Rattle.sarif_entries.specs.File.{File, entries_from, file_of, file_of_value, value_or, check_list, list_or, check_version, check_count}
 use Rattle.sarif_accept.specs.NewFile.{file_object, entries_in, entry_in, listed}
 use Rattle.sarif_accept.specs.Given.{file_given}
 use Rattle.sarif_accept.proofs.EntryWhole.{both, entries_whole}

@@ -12,14 +12,14 @@ use Rattle.sarif_model.specs.Status.{status_named}
 use Rattle.sarif_model.specs.declared.fault.Fault.TheVariants.{BadEntry, EmptyMatch, NeedsToday}
 use Rattle.sarif_model.specs.declared.kinds.Status.{Status}
 use Rattle.sarif_model.specs.declared.record.Record.{Record}
-use Rattle.sarif_suppress.specs.declared.entry.Entry.{Entry}
-use Rattle.sarif_suppress.specs.declared.fault.FileFault.{FileFault}
-use Rattle.sarif_suppress.specs.declared.version.Version.{Version}
-use Rattle.sarif_suppress.specs.declared.version.Version.TheVariants.{First, Second, Fourth}
-use Rattle.sarif_suppress.specs.Entries.{unless_fault, check_object, check_members, has_member, is_first_member, is_second_member, are_members_of, conditions_of, members_of, entry_of, guid_at, guid_or, text_if, text_or, texts_at, pairs_at, pairs_of_member, pairs_or, are_texts, pairs_of, day_at, day_of_member, day_or, is_day, status_at, status_or, status_of_name}
-use Rattle.sarif_suppress.specs.File.{entries_from}
-use Rattle.sarif_suppress.specs.FileFault.{in_entry}
-use Rattle.sarif_suppress.specs.Matching.{is_any}
+use Rattle.sarif_entries.specs.declared.entry.Entry.{Entry}
+use Rattle.sarif_entries.specs.declared.fault.FileFault.{FileFault}
+use Rattle.sarif_entries.specs.declared.version.Version.{Version}
+use Rattle.sarif_entries.specs.declared.version.Version.TheVariants.{First, Second, Fourth}
+use Rattle.sarif_entries.specs.Entries.{unless_fault, check_object, check_members, has_member, is_first_member, is_second_member, are_members_of, conditions_of, members_of, entry_of, guid_at, guid_or, text_if, text_or, texts_at, pairs_at, pairs_of_member, pairs_or, are_texts, pairs_of, day_at, day_of_member, day_or, is_day, status_at, status_or, status_of_name}
+use Rattle.sarif_entries.specs.File.{entries_from}
+use Rattle.sarif_entries.specs.FileFault.{in_entry}
+use Rattle.sarif_entries.specs.Matching.{is_any}
 use Rattle.sarif_accept.specs.Entry.{entry_for}
 use Rattle.sarif_accept.specs.Adding.{entry_read}
 use Rattle.sarif_accept.specs.Keeping.{chosen}

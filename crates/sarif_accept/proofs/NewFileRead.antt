@@ -7,7 +7,7 @@ use Rattle.json_parts.specs.Mark.{without_mark}
 use Rattle.sarif_model.specs.Limits.{most_entries}
 use Rattle.sarif_model.specs.declared.kinds.State.{State}
 use Rattle.sarif_model.specs.declared.record.Record.{Record}
-use Rattle.sarif_suppress.specs.File.{File, file_of}
+use Rattle.sarif_entries.specs.File.{File, file_of}
 use Rattle.sarif_accept.specs.Adding.{How, Counts, added_for, file_after}
 use Rattle.sarif_accept.specs.Given.{file_given}
 use Rattle.sarif_accept.specs.Keeping.{is_kept}

@@ -12,7 +12,7 @@ use Rattle.serde_json.specs.Written.{has_float, items_have_float, members_have_f
 use Rattle.json_parts.specs.Without.{without_member}
 use Rattle.sarif_read.proofs.NoFraction.{no_fraction_members}
 use Rattle.sarif_model.specs.declared.record.Record.{Record}
-use Rattle.sarif_suppress.specs.declared.conditions.Conditions.{Conditions}
+use Rattle.sarif_entries.specs.declared.conditions.Conditions.{Conditions}
 use Rattle.sarif_accept.specs.Entry.{Row, with_value, members_from, texts_into, texts_put, texts_if_any, list_if_any, guid_text, entry_rows, entry_for, conditions_for}
 use Rattle.sarif_accept.specs.Keeping.{chosen}
 use Rattle.sarif_accept.specs.NewFile.{stripped_in, entry_in, listed, entries_in, others_in, entries_after, new_file}

@@ -9,8 +9,8 @@ use Rattle.serde_json.specs.Data.{Data, Members, no_members, member, string, put
 use Rattle.serde_json.specs.Find.{get_member, as_str}
 use Rattle.serde_json.proofs.Views.{get_member-put, get_member-put_other}
 use Rattle.sarif_model.specs.Members.{of_kind, unless_null}
-use Rattle.sarif_suppress.specs.declared.version.Version.{Version}
-use Rattle.sarif_suppress.specs.Entries.{has_member, are_members_of}
+use Rattle.sarif_entries.specs.declared.version.Version.{Version}
+use Rattle.sarif_entries.specs.Entries.{has_member, are_members_of}
 use Rattle.sarif_accept.specs.Entry.{Row, members_from}
 
 -- the value of the first row with that name

@@ -12,7 +12,7 @@ use Rattle.json_parts.specs.Stripping.{is_fractional, stripped, stripped_items, 
 use Rattle.json_parts.specs.Without.{without, without_member}
 use Rattle.sarif_model.specs.Members.{elements}
 use Rattle.sarif_model.specs.declared.record.Record.{Record}
-use Rattle.sarif_suppress.specs.declared.conditions.Conditions.{Conditions}
+use Rattle.sarif_entries.specs.declared.conditions.Conditions.{Conditions}
 use Rattle.sarif_accept.specs.Entry.{Row, with_value, members_from, texts_into, texts_put, texts_if_any, list_if_any, guid_text, entry_rows, entry_for, conditions_for}
 use Rattle.sarif_accept.specs.Keeping.{chosen}
 use Rattle.sarif_accept.specs.NewFile.{stripped_in, entry_in, listed, entries_in, others_in, file_with, new_file}

@@ -9,11 +9,11 @@ use Rattle.sarif_model.specs.declared.record.Record.{Record}
 use Rattle.sarif_counts.specs.declared.policy.Policy.{Policy}
 use Rattle.sarif_counts.specs.declared.upkeep.Renewal.{Renewal}
 use Rattle.sarif_counts.specs.Policy.{is_listed, is_at_least}
-use Rattle.sarif_suppress.specs.declared.conditions.Conditions.{Conditions}
-use Rattle.sarif_suppress.specs.declared.entry.Entry.{Entry}
-use Rattle.sarif_suppress.specs.Entries.{pairs_of}
-use Rattle.sarif_suppress.specs.File.{File}
-use Rattle.sarif_suppress.specs.Matching.{is_pair}
+use Rattle.sarif_entries.specs.declared.conditions.Conditions.{Conditions}
+use Rattle.sarif_entries.specs.declared.entry.Entry.{Entry}
+use Rattle.sarif_entries.specs.Entries.{pairs_of}
+use Rattle.sarif_entries.specs.File.{File}
+use Rattle.sarif_entries.specs.Matching.{is_pair}
 use Rattle.sarif_suppress.specs.Suppressing.{statuses_of, is_accepted, is_suppressed}
 use Rattle.sarif_accept.specs.Entry.{texts_put, conditions_for}
 use Rattle.sarif_accept.specs.Keeping.{Heard, is_kept}

@@ -5,7 +5,7 @@ use Rattle.std.specs.List.{list_any}
 use Rattle.indexmap.specs.IndexSet.{IndexSet, contains}
 use Rattle.serde_json.specs.Data.{string, Members}
 use Rattle.sarif_model.specs.declared.record.Record.{Record}
-use Rattle.sarif_suppress.specs.declared.conditions.Conditions.{Conditions}
+use Rattle.sarif_entries.specs.declared.conditions.Conditions.{Conditions}
 use Rattle.sarif_accept.specs.contracts.asked.AskedPartialEq.TheImpl as derived
 use Rattle.sarif_accept.specs.declared.asked.Asked.{Asked}
 use Rattle.sarif_accept.specs.Entry.{conditions_for, members_from, texts_if_any, list_if_any}

@@ -6,7 +6,7 @@ use Rattle.uuid.specs.Text.{lower, hyphenated_text}
 use Rattle.serde_json.specs.Data.{Data, number, unsigned, string, array, object, Members, no_members, put}
 use Rattle.serde_json.specs.View.{items_of}
 use Rattle.sarif_model.specs.declared.record.Record.{Record}
-use Rattle.sarif_suppress.specs.declared.conditions.Conditions.{Conditions}
+use Rattle.sarif_entries.specs.declared.conditions.Conditions.{Conditions}
 
 -- the conditions besides the tool and the rule, by what the result has first: a GUID, fingerprints, partial
 -- fingerprints, or its message

@@ -1,7 +1,7 @@
 -- The suppression file of a merge, if it has one.
 use Rattle.std.specs.Prelude.{ℕ, List, [], Option, Some, None, Result, Ok}
-use Rattle.sarif_suppress.specs.declared.fault.FileFault.{FileFault}
-use Rattle.sarif_suppress.specs.File.{File, file_of}
+use Rattle.sarif_entries.specs.declared.fault.FileFault.{FileFault}
+use Rattle.sarif_entries.specs.File.{File, file_of}
 
 -- the file as its bytes are read for that date; without a file there are no entries
 abbrev pub file_given : Option (List ℕ) → Option ℕ → Result File FileFault

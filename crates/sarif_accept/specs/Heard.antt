@@ -1,7 +1,7 @@
 -- Which tools were heard: only of these it is known what they no longer find.
 use Rattle.std.specs.Prelude.{ℕ, Bool, not, ◌&&◌, List, Option, Some, None, bytes_eq}
 use Rattle.std.specs.List.{list_any}
-use Rattle.sarif_suppress.specs.Matching.{is_empty}
+use Rattle.sarif_entries.specs.Matching.{is_empty}
 use Rattle.sarif_accept.specs.declared.heard.ToolRun.{ToolRun}
 
 abbrev pub is_of : List ℕ → ToolRun → Bool

@@ -1,9 +1,9 @@
 -- Which entries stay in a new suppression file.
 use Rattle.std.specs.Prelude.{ℕ, Bool, true, false, not, ◌&&◌, ◌||◌, List, [], ◌∷◌, Option}
 use Rattle.sarif_model.specs.declared.record.Record.{Record}
-use Rattle.sarif_suppress.specs.declared.entry.Entry.{Entry}
-use Rattle.sarif_suppress.specs.File.{File}
-use Rattle.sarif_suppress.specs.Matching.{is_expired}
+use Rattle.sarif_entries.specs.declared.entry.Entry.{Entry}
+use Rattle.sarif_entries.specs.File.{File}
+use Rattle.sarif_entries.specs.Matching.{is_expired}
 use Rattle.sarif_suppress.specs.Suppressing.{is_unused}
 
 -- whether the tool that an entry names was heard, if it names one

@@ -1,7 +1,7 @@
 -- The facts about the GUID of a record, and what an expiry date must be.
 use Rattle.std.specs.Prelude.{◌≡◌, ℕ, ◌<◌, ◌≤◌, ◌^◌, true, Option, Some, IfSome}
 use Rattle.sarif_model.specs.declared.record.Record.{Record}
-use Rattle.sarif_suppress.specs.Entries.{is_day}
+use Rattle.sarif_entries.specs.Entries.{is_day}
 
 -- a GUID has 128 bits (RFC 9562)
 abbrev pub HasGuid : Record → Type 0

@@ -8,7 +8,8 @@ ghost use Rattle.sarif_accept.specs.Keeping.{is_kept};
 
 use crate::heard::Heard;
 use crate::marked::is_marked;
-use sarif_suppress::{Entry, Marks, Suppressions};
+use sarif_entries::Entry;
+use sarif_suppress::{Marks, Suppressions};
 use std::alloc::{AllocError, Global};
 use std::hash::BuildHasher;
 

@@ -14,7 +14,8 @@ use crate::old_file::{entry_nodes, entry_value};
 use json::Scratch;
 use json_parts::{IndexFault, Node, index_text, without_mark};
 use sarif_findings::shown;
-use sarif_suppress::{Entry, Marks, Suppressions};
+use sarif_entries::Entry;
+use sarif_suppress::{Marks, Suppressions};
 use std::alloc::{AllocError, Global};
 use std::hash::BuildHasher;
 

@@ -1,8 +1,8 @@
 -- An error of the suppression file is the first one.
 use Rattle.std.proofs.Common.{◌≡◌, ◌⊎◌, inr, Some, Result, Err, ap}
-use Rattle.sarif_suppress.specs.File.{File}
-use Rattle.sarif_suppress.specs.declared.fault.FileFault.{FileFault}
-use Rattle.sarif_suppress.specs.FileFault.{fault_of_file}
+use Rattle.sarif_entries.specs.File.{File}
+use Rattle.sarif_entries.specs.declared.fault.FileFault.{FileFault}
+use Rattle.sarif_entries.specs.FileFault.{fault_of_file}
 use Rattle.sarif_model.specs.FirstFault.{first, IsOutOfResources}
 use Rattle.sarif_inputs.specs.Faults.{file_faults}
 

@@ -1,14 +1,14 @@
 -- The errors of the inputs of a merge, in the order of the checks, and the meaning of a rejection.
 use Rattle.std.specs.Prelude.{◌≡◌, ◌≤◌, ◌<◌, ℕ, nat_lt, List, [], ◌∷◌, ◌++◌, ◌⊎◌, length, Option, Some, None, Result, Ok, Err, if◌then◌else◌}
-use Rattle.sarif_suppress.specs.File.{File, file_of}
-use Rattle.sarif_suppress.specs.declared.fault.FileFault.{FileFault}
+use Rattle.sarif_entries.specs.File.{File, file_of}
+use Rattle.sarif_entries.specs.declared.fault.FileFault.{FileFault}
 use Rattle.sarif_model.specs.declared.merge_fault.Source.{Source}
 use Rattle.sarif_model.specs.declared.merge_fault.Source.TheVariants.{Log, Baseline}
 use Rattle.sarif_model.specs.declared.merge_fault.At.TheVariants.{Whole}
 use Rattle.sarif_model.specs.declared.fault.Fault.TheVariants.{TooMany}
 use Rattle.sarif_model.specs.declared.merge_fault.MergeFault.{MergeFault}
 use Rattle.sarif_model.specs.MergeFault.{cause_of, fault_at}
-use Rattle.sarif_suppress.specs.FileFault.{fault_of_file}
+use Rattle.sarif_entries.specs.FileFault.{fault_of_file}
 use Rattle.sarif_inputs.specs.Inputs.{Inputs, all_sources, all_runs}
 use Rattle.sarif_inputs.specs.SourceFaults.{source_faults}
 use Rattle.sarif_runs.specs.Judging.{faults_of_runs}

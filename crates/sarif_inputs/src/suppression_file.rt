@@ -13,7 +13,7 @@ use std::hash::RandomState;
 /// are none. Their tables hash with `seed`, on which no result depends. A rejection is the first error of the
 /// file: `NotJson`, `NotList`, `WrongVersion` or `TooMany` at the file, or `BadEntry`, `EmptyMatch` or
 /// `NeedsToday` at an entry. `OutOfMemory` has no place.
-#[tactic(auto, using(sarif_suppress::proofs::QuietFile::quiet_file, crate::proofs::FileAnswers::file_refused))]
+#[tactic(auto, using(sarif_entries::proofs::QuietFile::quiet_file, crate::proofs::FileAnswers::file_refused))]
 pub fn read_file(
     alloc: Global,
     seed: RandomState,

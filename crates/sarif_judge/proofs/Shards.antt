@@ -7,7 +7,7 @@ use Rattle.std.proofs.Math.Seq.{take-add}
 use Rattle.std.specs.List.{range_with_len, flat_map}
 use Rattle.sarif_gather.specs.Held.{Whole}
 use Rattle.sarif_gather.specs.Pieces.{lists_of, whole_run}
-use Rattle.sarif_suppress.specs.File.{File}
+use Rattle.sarif_entries.specs.File.{File}
 use Rattle.sarif_results.specs.declared.outcome.Outcome.{Outcome}
 use Rattle.sarif_runs.specs.declared.spots.Spot.{Spot}
 use Rattle.sarif_judge.specs.Flattened.{flattened}

@@ -9,7 +9,7 @@ use Rattle.std.proofs.lemmas.List.Quantifiers.{position-Some}
 use Rattle.std.proofs.lemmas.List.Sums.{fails_before_first}
 use Rattle.std.proofs.lemmas.Slice.Eq.{bytes_eq-Decides}
 use Rattle.sarif_model.specs.declared.record.Record.{Record}
-use Rattle.sarif_suppress.specs.Matching.{is_empty}
+use Rattle.sarif_entries.specs.Matching.{is_empty}
 use Rattle.sarif_known.specs.declared.chosen.KnownRun.{KnownRun}
 use Rattle.sarif_known.specs.Chosen.{Chosen, all_chosen, chosen_of}
 use Rattle.sarif_known.specs.Groups.{AreApart, groups_of, side_by_side, spread, texts_of}

@@ -1,7 +1,7 @@
 -- The runs of the known log, tool by tool.
 use Rattle.std.specs.Prelude.{ℕ, not, if◌then◌else◌, ◌&&◌, List, [], ◌∷◌, ◌++◌, map, filter, bytes_eq}
 use Rattle.std.specs.List.{flat_map, list_any}
-use Rattle.sarif_suppress.specs.Matching.{is_empty}
+use Rattle.sarif_entries.specs.Matching.{is_empty}
 use Rattle.sarif_known.specs.Chosen.{Chosen}
 
 -- the strings, each once at its first position, without the earlier ones

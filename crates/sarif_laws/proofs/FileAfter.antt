@@ -10,8 +10,8 @@ use Rattle.sarif_model.specs.declared.record.Record.{Record}
 use Rattle.sarif_model.specs.Limits.{most_entries}
 use Rattle.sarif_counts.specs.declared.policy.Policy.{Policy}
 use Rattle.sarif_counts.specs.declared.upkeep.Renewal.{Renewal}
-use Rattle.sarif_suppress.specs.declared.fault.FileFault.{FileFault}
-use Rattle.sarif_suppress.specs.File.{File, file_of}
+use Rattle.sarif_entries.specs.declared.fault.FileFault.{FileFault}
+use Rattle.sarif_entries.specs.File.{File, file_of}
 use Rattle.sarif_results.proofs.JudgedCounts.{no_faults_here, no_faults_left}
 use Rattle.sarif_log.specs.LogBy.{states_of}
 use Rattle.sarif_inputs.specs.Faults.{faults_of, file_faults, file_or_none, number_faults}

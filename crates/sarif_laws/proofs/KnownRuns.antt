@@ -8,8 +8,8 @@ use Rattle.sarif_model.specs.declared.kinds.State.{State}
 use Rattle.sarif_model.specs.declared.record.Record.{Record}
 use Rattle.sarif_model.specs.Run.{is_absent_result, present, results_of, results_total}
 use Rattle.sarif_counts.specs.declared.policy.Policy.{Policy}
-use Rattle.sarif_suppress.specs.File.{File}
-use Rattle.sarif_suppress.specs.Matching.{is_empty}
+use Rattle.sarif_entries.specs.File.{File}
+use Rattle.sarif_entries.specs.Matching.{is_empty}
 use Rattle.sarif_runs.specs.Judging.{faults_of_runs, items_of, records_in, records_of, run_faults, run_values, skips}
 use Rattle.sarif_runs.specs.Placed.{Placed}
 use Rattle.sarif_runs.specs.Record.{tool_name}

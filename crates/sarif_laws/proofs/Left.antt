@@ -21,13 +21,13 @@ use Rattle.sarif_counts.specs.declared.policy.Policy.{Policy}
 use Rattle.sarif_counts.specs.CountOf.{items_in, suppresses}
 use Rattle.sarif_counts.specs.Policy.{is_at_least, is_listed}
 use Rattle.sarif_findings.specs.Reported.{is_active, level_in, state_in}
-use Rattle.sarif_suppress.specs.declared.entry.Entry.{Entry}
-use Rattle.sarif_suppress.specs.File.{File}
-use Rattle.sarif_suppress.specs.Matching.{is_empty}
+use Rattle.sarif_entries.specs.declared.entry.Entry.{Entry}
+use Rattle.sarif_entries.specs.File.{File}
+use Rattle.sarif_entries.specs.Matching.{is_empty}
 use Rattle.sarif_suppress.specs.Suppressing.{is_accepted, is_suppressed, matching, statuses_of, statuses_suppress}
 use Rattle.sarif_suppress.specs.Written.{suppressions_of}
 use Rattle.sarif_suppress.proofs.Numbered.{is_empty-append}
-use Rattle.sarif_suppress.proofs.ObjectTest.{written_empty}
+use Rattle.sarif_suppress.proofs.WrittenList.{written_empty}
 use Rattle.sarif_suppress.proofs.ReadBack.{read_back}
 use Rattle.sarif_read.proofs.RunOf.{elements_items_of}
 use Rattle.sarif_results.specs.Annotated.{annotated_members, own_suppressions}

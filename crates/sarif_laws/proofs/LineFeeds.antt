@@ -13,13 +13,13 @@ use Rattle.sarif_model.specs.declared.record.Record.{Record}
 use Rattle.sarif_model.specs.Limits.{most_entries}
 use Rattle.sarif_read.proofs.WholeRuns.{bind_ok}
 use Rattle.sarif_counts.specs.declared.policy.Policy.{Policy}
-use Rattle.sarif_suppress.specs.declared.entry.Entry.{Entry}
-use Rattle.sarif_suppress.specs.declared.fault.FileFault.{FileFault}
-use Rattle.sarif_suppress.specs.declared.version.Version.{Version}
-use Rattle.sarif_suppress.specs.Entries.{entry_of, unless_fault}
-use Rattle.sarif_suppress.specs.FileFault.{whole}
-use Rattle.sarif_suppress.specs.File.{File, check_count, check_list, check_version, entries_from, file_of, file_of_value, value_or}
-use Rattle.sarif_suppress.specs.Matching.{is_expired}
+use Rattle.sarif_entries.specs.declared.entry.Entry.{Entry}
+use Rattle.sarif_entries.specs.declared.fault.FileFault.{FileFault}
+use Rattle.sarif_entries.specs.declared.version.Version.{Version}
+use Rattle.sarif_entries.specs.Entries.{entry_of, unless_fault}
+use Rattle.sarif_entries.specs.FileFault.{whole}
+use Rattle.sarif_entries.specs.File.{File, check_count, check_list, check_version, entries_from, file_of, file_of_value, value_or}
+use Rattle.sarif_entries.specs.Matching.{is_expired}
 use Rattle.sarif_suppress.specs.Suppressing.{is_unused}
 use Rattle.sarif_findings.specs.Shown.{shown, shown_chars}
 use Rattle.sarif_findings.specs.ShownLaws.{are_seen, is_seen}

@@ -8,7 +8,7 @@ use Rattle.sarif_counts.specs.declared.upkeep.Renewal.{Renewal}
 use Rattle.json_parts.specs.Indexed.{json_of}
 use Rattle.json_parts.specs.Mark.{without_mark}
 use Rattle.sarif_model.specs.Limits.{first_day, last_day}
-use Rattle.sarif_suppress.specs.Entries.{is_day, is_within}
+use Rattle.sarif_entries.specs.Entries.{is_day, is_within}
 use Rattle.sarif_accept.specs.NewFile.{file_text}
 use Rattle.sarif_accept.specs.Until.{IsDated}
 use Rattle.sarif_accept.proofs.RenewedFile.{is_shallow, is_whole}

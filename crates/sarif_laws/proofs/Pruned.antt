@@ -16,8 +16,8 @@ use Rattle.sarif_counts.specs.Policy.{verdict_of}
 use Rattle.sarif_runs.specs.Judging.{run_values}
 use Rattle.sarif_results.specs.Annotated.{annotated_members, own_suppressions}
 use Rattle.sarif_results.specs.Drafts.{Listing}
-use Rattle.sarif_suppress.specs.declared.entry.Entry.{Entry}
-use Rattle.sarif_suppress.specs.Matching.{is_expired}
+use Rattle.sarif_entries.specs.declared.entry.Entry.{Entry}
+use Rattle.sarif_entries.specs.Matching.{is_expired}
 use Rattle.sarif_suppress.specs.Suppressing.{is_unused}
 use Rattle.sarif_inputs.specs.Faults.{faults_of}
 use Rattle.sarif_inputs.specs.Inputs.{Inputs, input_runs}

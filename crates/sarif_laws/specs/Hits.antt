@@ -8,7 +8,7 @@ use Rattle.sarif_model.specs.Run.{is_absent_result}
 use Rattle.sarif_counts.specs.declared.policy.Policy.{Policy}
 use Rattle.sarif_counts.specs.CountOf.{suppressions_in}
 use Rattle.sarif_counts.specs.Policy.{is_at_least, is_listed}
-use Rattle.sarif_suppress.specs.Matching.{is_empty}
+use Rattle.sarif_entries.specs.Matching.{is_empty}
 use Rattle.sarif_findings.specs.Reported.{is_active, level_in, state_in}
 
 -- the policy lists the state

@@ -7,8 +7,8 @@ use Rattle.sarif_inputs.specs.Faults.{faults_of}
 use Rattle.sarif_inputs.specs.Inputs.{Inputs, input_runs}
 use Rattle.sarif_merge.specs.MergedLog.{current_of, file_given, runs_written, unused_in}
 use Rattle.sarif_runs.specs.Judging.{run_values}
-use Rattle.sarif_suppress.specs.declared.entry.Entry.{Entry}
-use Rattle.sarif_suppress.specs.Matching.{is_expired}
+use Rattle.sarif_entries.specs.declared.entry.Entry.{Entry}
+use Rattle.sarif_entries.specs.Matching.{is_expired}
 use Rattle.sarif_suppress.specs.Suppressing.{is_unused}
 use Rattle.sarif_upkeep.specs.Heard.{heard}
 use Rattle.sarif_laws.specs.NextMerge.{with_file}

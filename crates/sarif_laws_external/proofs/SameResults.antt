@@ -17,7 +17,7 @@ use Rattle.sarif_counts.specs.Gate.{gate_of}
 use Rattle.sarif_counts.specs.Policy.{Count}
 use Rattle.sarif_counts.specs.declared.policy.Policy.{Policy}
 use Rattle.sarif_read.proofs.Beside.{member_beside}
-use Rattle.sarif_suppress.specs.File.{File}
+use Rattle.sarif_entries.specs.File.{File}
 use Rattle.sarif_suppress.specs.Suppressing.{unused_of}
 use Rattle.sarif_results.specs.Drafts.{Listing}
 use Rattle.sarif_runs.specs.Judging.{records_of, run_values}

@@ -6,7 +6,7 @@ ghost use Rattle.sarif_counts.specs.declared.policy.Policy.{Policy};
 ghost use Rattle.sarif_counts.specs.CountOf.{count_of};
 ghost use Rattle.sarif_counts.specs.Policy.{verdict_of};
 ghost use Rattle.sarif_match.specs.Partners.{partners_of};
-ghost use Rattle.sarif_suppress.specs.File.{File};
+ghost use Rattle.sarif_entries.specs.File.{File};
 ghost use Rattle.sarif_suppress.specs.Suppressing.{is_suppressed, matching_numbers};
 ghost use Rattle.sarif_read.specs.Reading.{check_external, check_run};
 ghost use Rattle.sarif_runs.specs.Judging.{faults_of_runs, records_of};

@@ -7,7 +7,7 @@ use Rattle.sarif_model.specs.declared.fault.Fault.{Fault}
 use Rattle.sarif_model.specs.declared.record.Record.{Record}
 use Rattle.sarif_model.specs.Run.{results_of, result_at, is_absent_result, present}
 use Rattle.sarif_runs.specs.Record.{record_of}
-use Rattle.sarif_suppress.specs.File.{File}
+use Rattle.sarif_entries.specs.File.{File}
 use Rattle.sarif_suppress.specs.declared.suppressions.Applied.{Applied}
 use Rattle.sarif_model.specs.declared.merge_fault.At.{At}
 use Rattle.sarif_model.specs.declared.merge_fault.At.TheVariants.{Single}

@@ -8,7 +8,7 @@ use Rattle.std.specs.Prelude.{flat_map, option_map, unwrap_or}
 use Rattle.sarif_model.specs.declared.kinds.State.{State}
 use Rattle.sarif_model.specs.declared.kinds.State.TheVariants.{New}
 use Rattle.sarif_counts.specs.declared.policy.Policy.{Policy}
-use Rattle.sarif_suppress.specs.File.{File}
+use Rattle.sarif_entries.specs.File.{File}
 use Rattle.sarif_runs.specs.Opened.{placed_of}
 use Rattle.sarif_runs.specs.Judging.{records_of, run_values}
 use Rattle.sarif_runs.specs.Placed.{Placed}

@@ -7,7 +7,7 @@ use Rattle.serde_json.specs.Data.{Data}
 use Rattle.sarif_model.specs.declared.kinds.State.TheVariants.{Absent}
 use Rattle.sarif_model.specs.Run.{results_of}
 use Rattle.sarif_match.specs.Partners.{partners_of}
-use Rattle.sarif_suppress.specs.File.{File}
+use Rattle.sarif_entries.specs.File.{File}
 use Rattle.sarif_runs.specs.Judging.{records_of, run_values}
 use Rattle.sarif_log.specs.Leftover.{not_taken}
 use Rattle.sarif_runs.specs.Placed.{Placed}

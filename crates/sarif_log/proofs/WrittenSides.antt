@@ -8,7 +8,7 @@ use Rattle.sarif_model.specs.declared.kinds.State.{State}
 use Rattle.sarif_model.specs.declared.kinds.State.TheVariants.{Absent}
 use Rattle.sarif_model.specs.Run.{results_of}
 use Rattle.sarif_match.specs.Partners.{partners_of}
-use Rattle.sarif_suppress.specs.File.{File}
+use Rattle.sarif_entries.specs.File.{File}
 use Rattle.sarif_counts.specs.CountOf.{count_of}
 use Rattle.sarif_counts.proofs.CountAppend.{count_of-append}
 use Rattle.sarif_runs.specs.Judging.{records_of, run_values}

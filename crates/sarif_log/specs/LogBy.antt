@@ -7,7 +7,7 @@ use Rattle.sarif_model.specs.declared.record.Record.{Record}
 use Rattle.sarif_model.specs.Run.{results_array}
 use Rattle.sarif_match.specs.Partners.{partners_of, is_taken}
 use Rattle.sarif_match.specs.State.{state_of}
-use Rattle.sarif_suppress.specs.File.{File}
+use Rattle.sarif_entries.specs.File.{File}
 use Rattle.sarif_suppress.specs.Suppressing.{unused_of}
 use Rattle.sarif_suppress.specs.Written.{suppressions_of}
 use Rattle.sarif_counts.specs.declared.policy.Policy.{Policy}

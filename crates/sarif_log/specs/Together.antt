@@ -3,7 +3,7 @@
 use Rattle.std.specs.Prelude.{◌≡◌, ◌≤◌, List, Some, length, map}
 use Rattle.std.specs.List.{AllByRecursion}
 use Rattle.sarif_model.specs.Run.{results_total}
-use Rattle.sarif_suppress.specs.File.{File}
+use Rattle.sarif_entries.specs.File.{File}
 use Rattle.sarif_runs.specs.Judging.{records_of, run_values}
 use Rattle.sarif_log.specs.Leftover.{not_taken}
 use Rattle.sarif_runs.specs.Placed.{Placed}

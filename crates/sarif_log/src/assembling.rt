@@ -1,6 +1,6 @@
 //! Assembling the merged log.
 ghost use Rattle.std.specs.Prelude.{◌≡◌, List, Ok, Option, IfOk};
-ghost use Rattle.sarif_suppress.specs.File.{File};
+ghost use Rattle.sarif_entries.specs.File.{File};
 ghost use Rattle.sarif_runs.specs.Placed.{Placed};
 ghost use Rattle.sarif_findings.specs.declared.reporting.Reporting.{Reporting};
 ghost use Rattle.sarif_log.specs.Beside.{IsMadeBy};

@@ -1,7 +1,7 @@
 //! The runs of all logs, with what was judged of their results.
 ghost use Rattle.std.specs.Prelude.{◌≡◌, ◌++◌, ◌∷◌, [], false, IfOk, OnOk, map};
 ghost use Rattle.std.specs.List.{AllByRecursion};
-ghost use Rattle.sarif_suppress.specs.File.{File};
+ghost use Rattle.sarif_entries.specs.File.{File};
 ghost use Rattle.sarif_runs.specs.Judging.{records_in, run_values};
 ghost use Rattle.sarif_runs.specs.Opened.{placed_of};
 ghost use Rattle.serde_json.specs.View.{members_view};

@@ -6,7 +6,7 @@ ghost use Rattle.sarif_counts.specs.CountOf.{suppresses};
 ghost use Rattle.sarif_model.specs.Members.{read_each};
 ghost use Rattle.sarif_model.specs.Suppression.{status_of};
 ghost use Rattle.sarif_model.specs.declared.record.Record.{Record};
-ghost use Rattle.sarif_suppress.specs.File.{File};
+ghost use Rattle.sarif_entries.specs.File.{File};
 ghost use Rattle.sarif_suppress.specs.Suppressing.{is_suppressed};
 ghost use Rattle.sarif_suppress.specs.Written.{suppressions_of};
 

@@ -3,7 +3,7 @@ ghost use Rattle.std.specs.Prelude.{◌≡◌, ◌≤◌, false, true, not, is_s
 ghost use Rattle.std.specs.List.{AllByRecursion};
 ghost use Rattle.serde_json.specs.Data.{Data};
 ghost use Rattle.sarif_model.specs.declared.record.Record.{Record};
-ghost use Rattle.sarif_suppress.specs.File.{File};
+ghost use Rattle.sarif_entries.specs.File.{File};
 ghost use Rattle.sarif_suppress.specs.Suppressing.{unused_of};
 ghost use Rattle.sarif_runs.specs.Judging.{run_values};
 ghost use Rattle.sarif_runs.specs.Opened.{placed_of};

@@ -12,7 +12,7 @@ use Rattle.sarif_model.specs.MergeFault.{exit_status, out_of_memory}
 use Rattle.sarif_model.specs.Run.{results_total}
 use Rattle.sarif_model.specs.declared.merge_fault.MergeFault.{MergeFault}
 use Rattle.sarif_model.proofs.SourceAnswers.{still_first}
-use Rattle.sarif_suppress.specs.File.{File}
+use Rattle.sarif_entries.specs.File.{File}
 use Rattle.sarif_runs.specs.Judging.{faults_of_runs, run_values}
 use Rattle.sarif_runs.specs.Opened.{placed_of}
 use Rattle.sarif_runs.specs.Placed.{Placed}

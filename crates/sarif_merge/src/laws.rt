@@ -7,7 +7,7 @@ ghost use Rattle.sarif_model.specs.declared.kinds.State.{State};
 ghost use Rattle.sarif_model.specs.declared.record.Record.{Record};
 ghost use Rattle.sarif_model.specs.Run.{result_at, results_of};
 ghost use Rattle.sarif_runs.specs.Record.{record_of};
-ghost use Rattle.sarif_suppress.specs.File.{File};
+ghost use Rattle.sarif_entries.specs.File.{File};
 ghost use Rattle.sarif_log.specs.MergedRuns.{absent_runs, merged_runs};
 ghost use Rattle.sarif_log.specs.LogBy.{listing_of};
 ghost use Rattle.sarif_inputs.specs.Faults.{faults_of};
@@ -16,7 +16,8 @@ ghost use Rattle.sarif_merge.specs.MergedLog.{runs_written, written_inputs};
 ghost use Rattle.sarif_merge.specs.OwnResult.{IsResult, number_among_all, run_at, written_by, written_run};
 
 use sarif_read::read_runs_hold_no_fraction;
-use sarif_suppress::{object_holds_no_fraction, written_passes_where_its_parts_do};
+use sarif_entries::object_holds_no_fraction;
+use sarif_suppress::written_passes_where_its_parts_do;
 
 /// No number with a fraction comes in by writing runs.
 fn written_runs_hold_no_fraction()

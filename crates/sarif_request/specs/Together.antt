@@ -1,7 +1,7 @@
 -- Which options go together.
 use Rattle.std.specs.Prelude.{ℕ, Bool, Option, Some, None, ◌&&◌, ◌||◌, is_some, not, nat_lt, if◌then◌else◌}
 use Rattle.std.specs.Option.{option_or}
-use Rattle.sarif_suppress.specs.Entries.{is_day}
+use Rattle.sarif_entries.specs.Entries.{is_day}
 use Rattle.sarif_request.specs.declared.together.Given.{Given}
 use Rattle.sarif_request.specs.declared.together.Misfit.{Misfit}
 use Rattle.sarif_request.specs.declared.together.Misfit.TheVariants.{AcceptNeedsFile, PruneNeedsFile, FileNeedsChange, PruneNeedsEntries, ReasonNeedsAccept, UnusedNeedsEntries, KnownWithAccept, AdoptNeedsKnown, UntilNeedsAccept, UntilNeedsToday, UntilIsNoDate, UntilIsPast}

@@ -2,7 +2,7 @@
 ghost use Rattle.std.specs.Prelude.{◌≡◌};
 ghost use Rattle.sarif_request.specs.Together as said;
 
-use sarif_suppress::is_day;
+use sarif_entries::is_day;
 
 /// Which options are given of those that need each other, and the dates among their values.
 #[derive(Clone, Copy, Debug)]

@@ -13,7 +13,7 @@ use Rattle.sarif_model.specs.declared.fault.Fault.TheVariants.{BadSuppression}
 use Rattle.sarif_model.specs.declared.kinds.Status.{Status}
 use Rattle.sarif_model.specs.declared.kinds.Status.TheVariants.{Accepted, UnderReview, Rejected}
 use Rattle.sarif_model.specs.declared.record.Record.{Record}
-use Rattle.sarif_suppress.specs.File.{File}
+use Rattle.sarif_entries.specs.File.{File}
 use Rattle.sarif_suppress.specs.Suppressing.{is_accepted, is_suppressed, statuses_suppress}
 use Rattle.sarif_suppress.specs.Written.{suppressions_of}
 

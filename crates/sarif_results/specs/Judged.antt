@@ -3,7 +3,7 @@
 use Rattle.std.specs.Prelude.{◌≡◌, ◌≤◌, Bool, List, [], map, length}
 use Rattle.std.specs.List.{AllByRecursion}
 use Rattle.sarif_model.specs.Run.{results_total}
-use Rattle.sarif_suppress.specs.File.{File}
+use Rattle.sarif_entries.specs.File.{File}
 use Rattle.sarif_runs.specs.Judging.{faults_of_runs, skips, run_values}
 use Rattle.sarif_runs.specs.Opened.{placed_of}
 use Rattle.sarif_results.specs.Outcomes.{all_outcomes}

@@ -8,20 +8,21 @@ use Rattle.std.specs.Prelude.{slice_get}
 use Rattle.std.proofs.lemmas.List.{append_assoc}
 use Rattle.std.proofs.lemmas.List.Folds.{list_any-append}
 use Rattle.sarif_model.specs.declared.record.Record.{Record}
-use Rattle.sarif_suppress.specs.declared.conditions.Conditions.{Conditions}
-use Rattle.sarif_suppress.specs.declared.entry.Entry.{Entry}
-use Rattle.sarif_suppress.specs.declared.filing.PairCondition.TheVariants.{Full, Partial}
-use Rattle.sarif_suppress.specs.declared.filing.TextCondition.TheVariants.{Uri, RuleId, Tool}
+use Rattle.sarif_entries.specs.declared.conditions.Conditions.{Conditions}
+use Rattle.sarif_entries.specs.declared.entry.Entry.{Entry}
+use Rattle.sarif_entries.specs.declared.filing.PairCondition.TheVariants.{Full, Partial}
+use Rattle.sarif_entries.specs.declared.filing.TextCondition.TheVariants.{Uri, RuleId, Tool}
 use Rattle.sarif_suppress.specs.declared.prefixes.PrefixTable.{PrefixTable}
 use Rattle.sarif_suppress.specs.declared.table.Table.{Table}
-use Rattle.sarif_suppress.specs.Filing.{asks_for_guid, asks_for_pair, asks_for_message, asks_for_text, asks_for_none, prefix_key, message_keys, candidates}
-use Rattle.sarif_suppress.specs.Matching.{is_wanted, is_there, begins, is_guid, is_pair, are_among, are_wanted, hold_without_message, message_holds, hold, is_expired, matches}
+use Rattle.sarif_entries.specs.Filing.{asks_for_guid, asks_for_pair, asks_for_message, asks_for_text, asks_for_none, prefix_key, message_keys}
+use Rattle.sarif_suppress.specs.Table.{candidates}
+use Rattle.sarif_entries.specs.Matching.{is_wanted, is_there, begins, is_guid, is_pair, are_among, are_wanted, hold_without_message, message_holds, hold, is_expired, matches}
 use Rattle.sarif_suppress.specs.Numbers.{numbers_from, numbers_at, passes_at, with_numbers}
 use Rattle.sarif_suppress.specs.Prefixes.{IsPrefixTable, found_for}
 use Rattle.sarif_suppress.specs.Table.{IsTable}
 use Rattle.sarif_suppress.proofs.Begun.{found_begun}
-use Rattle.sarif_suppress.proofs.Meaning.{pair_means}
-use Rattle.sarif_suppress.proofs.MessageKeys.{in_message_keys}
+use Rattle.sarif_entries.proofs.Meaning.{pair_means}
+use Rattle.sarif_entries.proofs.MessageKeys.{in_message_keys}
 use Rattle.sarif_suppress.proofs.Numbered.{has, has_from}
 use Rattle.sarif_suppress.proofs.Rising.{selected_from}
 

@@ -4,8 +4,8 @@ use Rattle.std.specs.Prelude.{slice_get}
 use Rattle.std.specs.List.{list_all, list_any}
 use Rattle.std.proofs.lemmas.List.Folds.{list_all-append}
 use Rattle.sarif_model.specs.declared.kinds.Status.{Status}
-use Rattle.sarif_suppress.specs.declared.entry.Entry.{Entry}
-use Rattle.sarif_suppress.specs.Matching.{is_empty}
+use Rattle.sarif_entries.specs.declared.entry.Entry.{Entry}
+use Rattle.sarif_entries.specs.Matching.{is_empty}
 use Rattle.sarif_suppress.specs.Numbers.{numbers_from, passes_at}
 use Rattle.sarif_suppress.specs.Suppressing.{is_accepted, statuses_suppress}
 use Rattle.sarif_suppress.proofs.Numbered.{IsPart, whole_is_part, all_numbers, list_all-map, is_empty-append}

@@ -8,9 +8,9 @@ use Rattle.std.proofs.lemmas.Bool.{lt-ltb}
 use Rattle.std.proofs.lemmas.List.{append_assoc, length-append}
 use Rattle.std.proofs.lemmas.List.Folds.{list_any-append}
 use Rattle.sarif_model.specs.declared.record.Record.{Record}
-use Rattle.sarif_suppress.specs.declared.entry.Entry.{Entry}
-use Rattle.sarif_suppress.specs.File.{File}
-use Rattle.sarif_suppress.specs.Matching.{matches}
+use Rattle.sarif_entries.specs.declared.entry.Entry.{Entry}
+use Rattle.sarif_entries.specs.File.{File}
+use Rattle.sarif_entries.specs.Matching.{matches}
 use Rattle.sarif_suppress.specs.Numbers.{numbers_from}
 use Rattle.sarif_suppress.specs.Suppressing.{matching_numbers}
 use Rattle.sarif_suppress.specs.Marks.{marks_of, with_mark, with_marks}

@@ -8,8 +8,8 @@ use Rattle.std.proofs.lemmas.List.{append_assoc, append-nil, drop_more, length-a
 use Rattle.std.proofs.lemmas.List.Folds.{list_all-append}
 use Rattle.std.proofs.lemmas.Option.{slice_get-get_or, same_Some}
 use Rattle.sarif_model.specs.declared.kinds.Status.{Status}
-use Rattle.sarif_suppress.specs.declared.entry.Entry.{Entry}
-use Rattle.sarif_suppress.specs.Matching.{is_empty}
+use Rattle.sarif_entries.specs.declared.entry.Entry.{Entry}
+use Rattle.sarif_entries.specs.Matching.{is_empty}
 use Rattle.sarif_suppress.specs.Numbers.{numbers_from, passes_at}
 use Rattle.sarif_suppress.specs.Suppressing.{is_accepted, statuses_suppress}
 use Rattle.sarif_suppress.specs.Written.{with_object, with_object_if, with_objects, with_objects_at}

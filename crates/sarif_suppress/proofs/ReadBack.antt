@@ -10,13 +10,14 @@ use Rattle.sarif_model.specs.declared.fault.Fault.{Fault}
 use Rattle.sarif_model.specs.declared.kinds.Status.{Status}
 use Rattle.sarif_model.specs.declared.kinds.Status.TheVariants.{Accepted, UnderReview, Rejected}
 use Rattle.sarif_model.specs.declared.record.Record.{Record}
-use Rattle.sarif_suppress.specs.declared.entry.Entry.{Entry}
-use Rattle.sarif_suppress.specs.File.{File}
-use Rattle.sarif_suppress.specs.Matching.{is_empty}
+use Rattle.sarif_entries.specs.declared.entry.Entry.{Entry}
+use Rattle.sarif_entries.specs.File.{File}
+use Rattle.sarif_entries.specs.Matching.{is_empty}
 use Rattle.sarif_suppress.specs.Suppressing.{matching, is_accepted, statuses_suppress, is_suppressed}
-use Rattle.sarif_suppress.specs.Written.{object_of, with_objects, suppressions_of}
+use Rattle.sarif_entries.specs.Object.{object_of}
+use Rattle.sarif_suppress.specs.Written.{with_objects, suppressions_of}
 use Rattle.sarif_suppress.proofs.Numbered.{is_empty-append}
-use Rattle.sarif_suppress.proofs.ObjectTest.{written_passes, written_empty}
+use Rattle.sarif_suppress.proofs.WrittenList.{written_passes, written_empty}
 
 -- a status is read from it, and passes the test
 abbrev passes : (Status → Bool) → Result Status Fault → Bool

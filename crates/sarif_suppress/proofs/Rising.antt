@@ -10,7 +10,7 @@ use Rattle.std.specs.Prelude.{slice_get}
 use Rattle.std.proofs.lemmas.List.{append_assoc, drop_more}
 use Rattle.std.proofs.lemmas.Bool.{cases_lt}
 use Rattle.std.proofs.lemmas.Bool.Decides.{nat_tests}
-use Rattle.sarif_suppress.specs.declared.entry.Entry.{Entry}
+use Rattle.sarif_entries.specs.declared.entry.Entry.{Entry}
 use Rattle.sarif_suppress.specs.Numbers.{numbers_from, passes_at, with_numbers}
 use Rattle.sarif_suppress.proofs.Numbered.{IsPart, whole_is_part, has}
 

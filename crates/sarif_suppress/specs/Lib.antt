@@ -1,12 +1,7 @@
-pub mod Entries
-pub mod File
-pub mod FileFault
-pub mod Filing
-pub mod Keys
 pub mod Marks
-pub mod Matching
 pub mod Numbers
 pub mod Prefixes
 pub mod Suppressing
 pub mod Table
+pub mod Unseen
 pub mod Written

@@ -3,8 +3,8 @@
 use Rattle.std.specs.Prelude.{ℕ, Bool, true, List, [], ◌∷◌, length, map, nat_lt, slice_set, if◌then◌else◌}
 use Rattle.std.specs.List.{list_any}
 use Rattle.sarif_model.specs.declared.record.Record.{Record}
-use Rattle.sarif_suppress.specs.Matching.{matches}
-use Rattle.sarif_suppress.specs.File.{File}
+use Rattle.sarif_entries.specs.Matching.{matches}
+use Rattle.sarif_entries.specs.File.{File}
 
 -- for each entry whether it matches one of the results
 abbrev pub marks_of : File → List Record → List Bool

@@ -6,7 +6,7 @@ use Rattle.std.specs.Ordering.{nat_cmp}
 use Rattle.std.specs.declared.alloc.Global.{Global}
 use Rattle.std.specs.declared.vec.Vec.{Vec}
 use Rattle.indexmap.specs.IndexMap.{IndexMap, get}
-use Rattle.sarif_suppress.specs.declared.entry.Entry.{Entry}
+use Rattle.sarif_entries.specs.declared.entry.Entry.{Entry}
 
 -- the numbers of those that pass the test, where the first has number n
 abbrev pub numbers_from : {A : Type 0} → (A → Bool) → ℕ → List A → List ℕ

@@ -4,9 +4,9 @@
 use Rattle.std.specs.Prelude.{◌≡◌, ℕ, ◌+◌, ◌*◌, ◌%◌, Bool, false, List, [], ◌∷◌, length, map, take, nat_eq, slice_get, if◌then◌else◌}
 use Rattle.std.specs.List.{flat_map, fold, list_any}
 use Rattle.std.specs.Option.{option_map_or}
-use Rattle.sarif_suppress.specs.declared.entry.Entry.{Entry}
+use Rattle.sarif_entries.specs.declared.entry.Entry.{Entry}
 use Rattle.sarif_suppress.specs.declared.prefixes.PrefixTable.{PrefixTable}
-use Rattle.sarif_suppress.specs.Filing.{prefix_key}
+use Rattle.sarif_entries.specs.Filing.{prefix_key}
 use Rattle.sarif_suppress.specs.Numbers.{numbers_from, numbers_at}
 
 -- the hash of a string with one more byte, from the hash of the string

@@ -1,44 +1,12 @@
 -- The suppressions that are written for the matching entries of a result (SARIF 2.1.0, suppression object).
-use Rattle.std.specs.Prelude.{ℕ, Bool, true, false, ◌&&◌, List, [], ◌∷◌, ◌++◌, Option, Some, None, bytes_eq, codes, slice_get, if◌then◌else◌}
-use Rattle.std.specs.Option.{option_map_or}
+use Rattle.std.specs.Prelude.{ℕ, List, [], ◌∷◌, ◌++◌, Option, Some, None, slice_get, if◌then◌else◌}
 use Rattle.std.specs.List.{list_any}
-use Rattle.serde_json.specs.Data.{Data, string, object, Members, no_members, member}
-use Rattle.serde_json.specs.Find.{as_str, as_object}
-use Rattle.sarif_model.specs.Status.{status_name}
+use Rattle.serde_json.specs.Data.{Data}
 use Rattle.sarif_model.specs.declared.record.Record.{Record}
-use Rattle.sarif_suppress.specs.declared.entry.Entry.{Entry}
-use Rattle.sarif_suppress.specs.Entries.{with_pair}
-use Rattle.sarif_suppress.specs.File.{File}
+use Rattle.sarif_entries.specs.declared.entry.Entry.{Entry}
+use Rattle.sarif_entries.specs.File.{File}
+use Rattle.sarif_entries.specs.Object.{object_of, is_object_of}
 use Rattle.sarif_suppress.specs.Suppressing.{matching}
-
--- the members of an entry's object, each a string, in the order of their names
-abbrev pub texts_of : Entry → List (List ℕ × List ℕ)
-texts_of e =
-    with_pair (codes "justification") e.justification
-    ((codes "kind", codes "external") ∷ (codes "status", status_name e.status) ∷ [])
-
-abbrev pub text_members : List (List ℕ × List ℕ) → Members
-text_members [] = no_members
-text_members (p ∷ ps) = member p.0 (string p.1) (text_members ps)
-
--- the object that is written for an entry: `kind`, which is `external`, `status`, and `justification` if there is
--- one
-abbrev pub object_of : Entry → Data
-object_of e = object (text_members (texts_of e))
-
-abbrev pub is_string : List ℕ → Data → Bool
-is_string text d = option_map_or (bytes_eq text) (as_str d) false
-
--- the members are exactly these strings
-abbrev pub are_just : List (List ℕ × List ℕ) → Members → Bool
-are_just [] no_members = true
-are_just [] (member name d ms) = false
-are_just (p ∷ ps) no_members = false
-are_just (p ∷ ps) (member name d ms) = bytes_eq p.0 name && (is_string p.1 d && are_just ps ms)
-
--- the value is the entry's object
-abbrev pub is_object_of : Entry → Data → Bool
-is_object_of e d = option_map_or (are_just (texts_of e)) (as_object d) false
 
 -- the list with the entry's object, unless it already contains an equal one
 abbrev pub with_object : List Data → Entry → List Data

@@ -1,13 +1,13 @@
 //! What the entries without an expiry date suppress.
 ghost use Rattle.std.specs.Prelude.{◌≡◌, ◌&&◌, ◌||◌, not, is_some};
 ghost use Rattle.std.specs.List.{list_all, list_any};
-ghost use Rattle.sarif_suppress.specs.Matching.{is_empty};
+ghost use Rattle.sarif_entries.specs.Matching.{is_empty};
 ghost use Rattle.sarif_suppress.specs.Numbers.{passes_at};
 ghost use Rattle.sarif_suppress.specs.Suppressing as said;
 ghost use Rattle.sarif_suppress.specs.Suppressing.{is_lasting};
 
-use crate::entry::Entry;
 use crate::select::{all_accepted, is_accepted};
+use sarif_entries::Entry;
 use sarif_model::Status;
 
 /// Whether there is an entry with this number and it has no expiry date.

@@ -1,20 +1,19 @@
 //! Laws of what is written, each the contract of a function that does nothing.
-ghost use Rattle.std.specs.Prelude.{◌≡◌, ◌↔◌, ◌&&◌, Bool, List, Ok, IsTrue, false};
+ghost use Rattle.std.specs.Prelude.{◌≡◌, ◌&&◌, Bool, List, Ok};
 ghost use Rattle.std.specs.List.{list_all};
 ghost use Rattle.serde_json.specs.Data.{Data};
-ghost use Rattle.serde_json.specs.Written.{has_float};
 ghost use Rattle.sarif_model.specs.Members.{read_each, result_map};
 ghost use Rattle.sarif_model.specs.Suppression.{status_of};
 ghost use Rattle.sarif_model.specs.declared.record.Record.{Record};
-ghost use Rattle.sarif_suppress.specs.declared.entry.Entry.{Entry};
-ghost use Rattle.sarif_suppress.specs.File.{File};
-ghost use Rattle.sarif_suppress.specs.Matching.{is_empty};
+ghost use Rattle.sarif_entries.specs.File.{File};
+ghost use Rattle.sarif_entries.specs.Matching.{is_empty};
 ghost use Rattle.sarif_suppress.specs.Suppressing.{matching, statuses_suppress, is_suppressed};
-ghost use Rattle.sarif_suppress.specs.Written.{is_object_of, object_of, suppressions_of};
+ghost use Rattle.sarif_entries.specs.Object.{object_of};
+ghost use Rattle.sarif_suppress.specs.Written.{suppressions_of};
 
 /// A test is true for every written suppression if and only if it is true for every own one and for the object of
 /// every matching entry. So leaving out repeated objects changes no such test.
-#[tactic(auto, using(crate::proofs::ObjectTest::written_passes))]
+#[tactic(auto, using(crate::proofs::WrittenList::written_passes))]
 pub fn written_passes_where_its_parts_do()
     ensures { (accepts : Data → Bool) (own : List Data) (file : File) (r : Record)
         → list_all accepts (suppressions_of own file r)
@@ -22,22 +21,10 @@ pub fn written_passes_where_its_parts_do()
 {}
 
 /// Nothing is written if and only if there is no own suppression and no matching entry.
-#[tactic(auto, using(crate::proofs::ObjectTest::written_empty))]
+#[tactic(auto, using(crate::proofs::WrittenList::written_empty))]
 pub fn nothing_is_written_of_nothing()
     ensures { (own : List Data) (file : File) (r : Record)
         → is_empty (suppressions_of own file r) ≡ (is_empty own && is_empty (matching file r)) }
-{}
-
-/// The object of an entry holds no number with a fraction.
-#[tactic(auto, using(crate::proofs::ObjectTest::object_float))]
-pub fn object_holds_no_fraction()
-    ensures { (e : Entry) → has_float (object_of e) ≡ false }
-{}
-
-/// The test that finds an entry's object among suppressions is true for that object and for no other value.
-#[tactic(auto, using(crate::proofs::ObjectTest::object_means))]
-pub fn just_its_object_is_an_entrys()
-    ensures { (e : Entry) (d : Data) → IsTrue (is_object_of e d) ↔ (d ≡ object_of e) }
 {}
 
 /// What a merged log says about a result: if its own suppressions have the statuses of its record, the statuses in

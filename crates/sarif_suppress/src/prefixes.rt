@@ -8,9 +8,9 @@ ghost use Rattle.sarif_suppress.specs.Numbers.{numbers_from, numbers_at};
 ghost use Rattle.sarif_suppress.specs.Prefixes as said;
 ghost use Rattle.sarif_model.specs.Limits.{most_entries};
 
-use crate::entry::Entry;
 use crate::numbers::{add_number, numbers_for};
 use indexmap::IndexMap;
+use sarif_entries::Entry;
 use sarif_model::Text;
 use std::alloc::{AllocError, Global};
 use std::hash::BuildHasher;

@@ -3,11 +3,11 @@ ghost use Rattle.std.specs.Prelude.{◌≡◌, ◌&&◌, [], false, filter, IfOk
 ghost use Rattle.std.specs.BTreeSet.{insert_key, keys};
 ghost use Rattle.std.specs.Ordering.{nat_cmp};
 ghost use Rattle.std.specs.List.{list_all};
-ghost use Rattle.sarif_suppress.specs.Matching.{is_empty, matches};
+ghost use Rattle.sarif_entries.specs.Matching.{is_empty, matches};
 ghost use Rattle.sarif_suppress.specs.Numbers.{passes_at, with_numbers};
 ghost use Rattle.sarif_suppress.specs.Suppressing as said;
 
-use crate::entry::Entry;
+use sarif_entries::Entry;
 use sarif_model::{Record, Sequence, Status};
 use std::alloc::{AllocError, Global};
 use std::collections::BTreeSet;

@@ -7,13 +7,13 @@ ghost use Rattle.sarif_suppress.specs.Written as said;
 ghost use Rattle.sarif_suppress.specs.Suppressing.{lasting, matching_numbers, is_suppressed};
 ghost use Rattle.sarif_model.specs.Limits.{most_entries};
 
-use crate::entry::Entry;
 use crate::lasting::do_suppress_for_good;
 use crate::marks::Marks;
-use crate::object::with_objects;
+use crate::objects::with_objects;
 use crate::prefixes::PrefixTable;
 use crate::select::{do_suppress, select};
 use crate::table::Table;
+use sarif_entries::Entry;
 use sarif_model::{Record, Sequence};
 use serde_json::Value;
 use std::alloc::{AllocError, Global};
@@ -34,7 +34,7 @@ pub struct Suppressions<S: BuildHasher + Copy = RandomState> {
 
 impl<S: BuildHasher + Copy> Model for Suppressions<S> {
     ghost use Rattle.std.specs.Prelude.{◌≤◌, length};
-    ghost use Rattle.sarif_suppress.specs.File.{File};
+    ghost use Rattle.sarif_entries.specs.File.{File};
     ghost use Rattle.sarif_suppress.specs.Prefixes.{IsPrefixTable};
     ghost use Rattle.sarif_suppress.specs.Table.{IsTable};
     ghost use Rattle.sarif_model.specs.Limits.{most_entries};

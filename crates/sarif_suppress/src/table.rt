@@ -7,17 +7,16 @@ ghost use Rattle.std.specs.Prelude.{◌≡◌, ◌≤◌, ◌++◌, [], List, �
 ghost use Rattle.std.specs.Cmp.Lexicographic.{pointwise};
 ghost use Rattle.std.specs.List.{flat_map};
 ghost use Rattle.std.specs.Option.{option_map_or};
-ghost use Rattle.sarif_suppress.specs.Filing as said;
-ghost use Rattle.sarif_suppress.specs.Matching.{is_pair};
+ghost use Rattle.sarif_entries.specs.Filing as said;
+ghost use Rattle.sarif_entries.specs.Matching.{is_pair};
 ghost use Rattle.sarif_suppress.specs.Numbers.{numbers_from, numbers_at};
-ghost use Rattle.sarif_suppress.specs.Table.{ArePairTables, AreTextTables, IsTable};
+ghost use Rattle.sarif_suppress.specs.Table.{ArePairTables, AreTextTables, IsTable, candidates};
 ghost use Rattle.sarif_model.specs.Limits.{most_entries};
 
-use crate::entry::Entry;
-use crate::filing::{PairCondition, TextCondition};
-use crate::message_keys::message_keys;
 use crate::numbers::{add_number, numbers_for};
 use indexmap::IndexMap;
+use sarif_entries::message_keys::message_keys;
+use sarif_entries::{Entry, PairCondition, TextCondition};
 use sarif_model::{Record, Sequence, Text};
 use std::alloc::{AllocError, Global};
 use std::hash::BuildHasher;
@@ -100,7 +99,7 @@ impl<S: BuildHasher + Copy> Table<S> {
     /// filed under a prefix.
     pub(crate) fn candidates(&self, alloc: Global, record: &Record) -> Result<Vec<u32>, AllocError>
         ensures { IfOk result (λ found. (entries : List Entry) → IsTable entries self.now
-            → found.items ≡ said.candidates entries «record».now) }
+            → found.items ≡ candidates entries «record».now) }
     {
         let mut found = Vec::new(alloc);
         found.extend_from_slice(numbers_with_guid(&self.guids, record.guid))?;

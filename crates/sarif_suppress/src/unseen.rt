@@ -3,13 +3,12 @@
 ghost use Rattle.std.specs.Prelude.{◌≡◌, ◌++◌, ◌∷◌, [], List, map, slice_get, IfOk, OnOk};
 ghost use Rattle.serde_json.specs.Data.{Data};
 ghost use Rattle.serde_json.specs.View.{view};
-ghost use Rattle.sarif_suppress.specs.Keys.{HasKeysOf};
+ghost use Rattle.sarif_suppress.specs.Unseen.{HasKeysOf};
 ghost use Rattle.sarif_suppress.specs.Written as said;
 
-use crate::entry::Entry;
-use crate::key::{Key, key_in, key_of};
-use crate::object::object_of;
 use indexmap::IndexSet;
+use sarif_entries::key::{Key, key_in, key_of};
+use sarif_entries::{Entry, object_of};
 use serde_json::Value;
 use std::alloc::{AllocError, Global};
 use std::hash::BuildHasher;

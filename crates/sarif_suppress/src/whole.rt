@@ -4,16 +4,14 @@ ghost use Rattle.std.specs.Prelude.{◌≡◌, ◌==◌, ◌<◌, ◌≤◌, cou
 ghost use Rattle.std.specs.List.{list_any};
 ghost use Rattle.serde_json.specs.View.{view};
 ghost use Rattle.sarif_model.specs.Refusal.{IfFault};
-ghost use Rattle.sarif_suppress.specs.File as said;
-ghost use Rattle.sarif_suppress.specs.Matching.{matches};
+ghost use Rattle.sarif_entries.specs.File as said;
+ghost use Rattle.sarif_entries.specs.Matching.{matches};
 ghost use Rattle.sarif_suppress.specs.Suppressing.{unused_of};
-ghost use Rattle.sarif_suppress.specs.Written as written;
+ghost use Rattle.sarif_entries.specs.Object as written;
 
-use crate::entry::Entry;
-use crate::fault::FileFault;
-use crate::object::object_of;
 use crate::read_file::read_rules_with;
 use crate::suppressions::Suppressions;
+use sarif_entries::{Entry, FileFault, object_of};
 use sarif_model::{Record, Refusal};
 use serde_json::Value;
 use std::alloc::{AllocError, Global};

@@ -12,11 +12,11 @@ use Rattle.sarif_model.specs.declared.record.Record.{Record}
 use Rattle.sarif_model.specs.Members.{elements}
 use Rattle.sarif_counts.specs.declared.upkeep.Renewal.{Renewal}
 use Rattle.sarif_counts.specs.Policy.{count_if}
-use Rattle.sarif_suppress.specs.declared.entry.Entry.{Entry}
-use Rattle.sarif_suppress.specs.declared.fault.FileFault.{FileFault}
-use Rattle.sarif_suppress.specs.declared.version.Version.{Version}
-use Rattle.sarif_suppress.specs.Entries.{entry_of}
-use Rattle.sarif_suppress.specs.File.{check_count, check_list, check_version, entries_from, file_of, file_of_value, list_or, value_or, File}
+use Rattle.sarif_entries.specs.declared.entry.Entry.{Entry}
+use Rattle.sarif_entries.specs.declared.fault.FileFault.{FileFault}
+use Rattle.sarif_entries.specs.declared.version.Version.{Version}
+use Rattle.sarif_entries.specs.Entries.{entry_of}
+use Rattle.sarif_entries.specs.File.{check_count, check_list, check_version, entries_from, file_of, file_of_value, list_or, value_or, File}
 use Rattle.sarif_read.proofs.WholeRuns.{bind_ok}
 use Rattle.sarif_accept.specs.Adding.{once_each}
 use Rattle.sarif_accept.specs.Entry.{entry_for}

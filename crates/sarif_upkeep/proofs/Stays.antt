@@ -4,10 +4,10 @@ use Rattle.std.proofs.Math.Dec.{eqb-suc-zero}
 use Rattle.std.specs.List.{list_all}
 use Rattle.sarif_model.specs.declared.kinds.Status.{Status}
 use Rattle.sarif_model.specs.declared.record.Record.{Record}
-use Rattle.sarif_suppress.specs.declared.entry.Entry.{Entry}
+use Rattle.sarif_entries.specs.declared.entry.Entry.{Entry}
 use Rattle.sarif_suppress.specs.declared.suppressions.Applied.{Applied}
-use Rattle.sarif_suppress.specs.File.{File}
-use Rattle.sarif_suppress.specs.Matching.{is_empty, matches}
+use Rattle.sarif_entries.specs.File.{File}
+use Rattle.sarif_entries.specs.Matching.{is_empty, matches}
 use Rattle.sarif_suppress.specs.Numbers.{numbers_from}
 use Rattle.sarif_suppress.specs.Suppressing.{is_accepted, is_suppressed, matching, matching_numbers, statuses_of, statuses_suppress}
 use Rattle.sarif_results.specs.Drafts.{applied_of}

@@ -13,7 +13,7 @@ use Rattle.sarif_model.specs.Limits.{most_bytes}
 use Rattle.sarif_counts.specs.declared.upkeep.Knowing.{Knowing}
 use Rattle.sarif_accept.specs.declared.heard.ToolRun.{ToolRun}
 use Rattle.sarif_accept.specs.Heard.{heard_of}
-use Rattle.sarif_suppress.specs.File.{File}
+use Rattle.sarif_entries.specs.File.{File}
 use Rattle.sarif_suppress.specs.Suppressing.{matching_numbers}
 use Rattle.sarif_runs.specs.declared.opened.OpenedRun.{OpenedRun}
 use Rattle.sarif_runs.specs.Judging.{run_values}

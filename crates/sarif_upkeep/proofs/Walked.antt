@@ -6,7 +6,7 @@ use Rattle.sarif_model.specs.declared.kinds.State.TheVariants.{Absent}
 use Rattle.sarif_model.specs.declared.record.Record.{Record}
 use Rattle.sarif_counts.specs.Policy.{count_if}
 use Rattle.sarif_suppress.specs.declared.suppressions.Applied.{Applied}
-use Rattle.sarif_suppress.specs.File.{File}
+use Rattle.sarif_entries.specs.File.{File}
 use Rattle.sarif_results.specs.declared.draft.Draft.{Draft}
 use Rattle.sarif_results.specs.Drafts.{applied_of}
 use Rattle.sarif_accept.specs.Adding.{accepted_among, is_hit, stays, Counts}

@@ -3,7 +3,7 @@
 use Rattle.std.specs.Prelude.{◌≡◌, ◌≤◌, ℕ, List, [], Option, Some, None, Ok, map, length, option_map}
 use Rattle.sarif_model.specs.Limits.{most_results}
 use Rattle.sarif_model.specs.Run.{results_total}
-use Rattle.sarif_suppress.specs.File.{file_of, File}
+use Rattle.sarif_entries.specs.File.{file_of, File}
 use Rattle.sarif_runs.specs.Judging.{run_values}
 use Rattle.sarif_runs.specs.Opened.{placed_of}
 use Rattle.sarif_results.specs.Drafts.{applied_of}

@@ -15,7 +15,7 @@ use Rattle.sarif_counts.specs.declared.policy.Policy.{Policy}
 use Rattle.sarif_counts.specs.declared.upkeep.Knowing.{Knowing}
 use Rattle.sarif_counts.specs.declared.upkeep.Knowing.TheVariants.{Matched, Adopted}
 use Rattle.sarif_runs.specs.Record.{tool_name}
-use Rattle.sarif_suppress.specs.File.{File}
+use Rattle.sarif_entries.specs.File.{File}
 use Rattle.sarif_known.specs.Chosen.{results_among, Chosen}
 use Rattle.sarif_known.specs.KnownLog.{known_text}
 use Rattle.sarif_known.specs.Order.{known_runs}

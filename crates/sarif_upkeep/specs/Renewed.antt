@@ -14,7 +14,7 @@ use Rattle.sarif_model.specs.MergeFault.{cause_of, fault_at}
 use Rattle.sarif_counts.specs.declared.life.NewFile.{NewFile}
 use Rattle.sarif_counts.specs.declared.upkeep.Renewal.{Renewal}
 use Rattle.sarif_counts.specs.Policy.{count_if}
-use Rattle.sarif_suppress.specs.File.{File}
+use Rattle.sarif_entries.specs.File.{File}
 use Rattle.sarif_accept.specs.Adding.{accepted_among, added_for, is_hit, may_hit, stays, Counts, How}
 use Rattle.sarif_accept.specs.Entry.{entry_for}
 use Rattle.sarif_accept.specs.Keeping.{is_kept}

@@ -1,6 +1,6 @@
 //! The hits that are accepted.
 ghost use Rattle.std.specs.Prelude.{◌≡◌, ◌≤◌, ◌+◌, ◌++◌, ◌∷◌, [], ◌&&◌, false, not, if◌then◌else◌, length, map, IfOk, OnOk};
-ghost use Rattle.sarif_suppress.specs.File.{File};
+ghost use Rattle.sarif_entries.specs.File.{File};
 ghost use Rattle.sarif_results.specs.Drafts.{applied_of};
 ghost use Rattle.sarif_accept.specs.Adding.{accepted_among, is_hit, may_hit, stays};
 

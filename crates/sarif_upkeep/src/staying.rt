@@ -3,7 +3,7 @@ ghost use Rattle.std.specs.Prelude.{◌≡◌, ◌≤◌, ◌&&◌, not, length,
 ghost use Rattle.std.specs.List.{list_all};
 ghost use Rattle.sarif_model.specs.declared.kinds.State.TheVariants.{Absent};
 ghost use Rattle.sarif_counts.specs.Policy.{count_if};
-ghost use Rattle.sarif_suppress.specs.File.{File};
+ghost use Rattle.sarif_entries.specs.File.{File};
 ghost use Rattle.sarif_suppress.specs.Suppressing as suppressing;
 ghost use Rattle.sarif_results.specs.Drafts.{applied_of};
 ghost use Rattle.sarif_accept.specs.Adding.{is_hit, may_hit, stays};

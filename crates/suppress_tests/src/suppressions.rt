@@ -9,7 +9,8 @@ mod objects;
 mod prefixes;
 
 use sarif_model::{Fault, Kind, Level, Message, Place, Record, Refusal, Sequence, Status, Text};
-use sarif_suppress::{FileFault, Suppressions, read_rules};
+use sarif_entries::FileFault;
+use sarif_suppress::{Suppressions, read_rules};
 use serde_json::Value;
 use std::alloc::{AllocError, Global};
 use std::hash::{BuildHasherDefault, FoldHasher};

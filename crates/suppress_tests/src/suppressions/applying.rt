@@ -4,7 +4,8 @@ use super::{
     second_version, unused_of, with_own,
 };
 use sarif_model::{Refusal, Sequence, Status, Text};
-use sarif_suppress::{FileFault, Marks, Suppressions};
+use sarif_entries::FileFault;
+use sarif_suppress::{Marks, Suppressions};
 use std::alloc::{AllocError, Global};
 use std::hash::{BuildHasherDefault, FoldHasher};
 use std::process::Abort;

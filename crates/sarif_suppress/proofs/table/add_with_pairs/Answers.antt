@@ -1,5 +1,5 @@
 use Rattle.std.proofs.Common.{rules, ◌≡◌, ◌++◌, ◌∙◌}
-use Rattle.sarif_suppress.specs.Matching.{is_pair}
+use Rattle.sarif_entries.specs.Matching.{is_pair}
 use Rattle.sarif_suppress.specs.Numbers.{numbers_at}
 use Rattle.sarif_suppress.proofs.Rising.{under_step}
 use Rattle.sarif_suppress.proofs.table.add_with_pairs.Goals as goal

@@ -1,6 +1,6 @@
 use Rattle.std.proofs.Common.{◌≡◌, ◌++◌, ℕ, List, drop}
-use Rattle.sarif_suppress.specs.Filing.{asks_for_pair}
-use Rattle.sarif_suppress.specs.Matching.{is_pair}
+use Rattle.sarif_entries.specs.Filing.{asks_for_pair}
+use Rattle.sarif_entries.specs.Matching.{is_pair}
 use Rattle.sarif_suppress.specs.Numbers.{numbers_from}
 use Rattle.sarif_suppress.specs.Numbers.{numbers_at}
 use Rattle.sarif_suppress.proofs.table.numbers_by_pair.Given as goal

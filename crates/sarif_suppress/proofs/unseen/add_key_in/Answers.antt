@@ -1,8 +1,8 @@
 use Rattle.std.proofs.Common.{rules, ◌≡◌, None, false}
 use Rattle.serde_json.specs.View.{view}
-use Rattle.sarif_suppress.specs.Keys.{has_key}
-use Rattle.sarif_suppress.specs.declared.key.Key.{Key}
-use Rattle.sarif_suppress.proofs.Keyed.{without_key}
+use Rattle.sarif_entries.specs.Keys.{has_key}
+use Rattle.sarif_entries.specs.declared.key.Key.{Key}
+use Rattle.sarif_suppress.proofs.KeySet.{without_key}
 use Rattle.sarif_suppress.proofs.unseen.add_key_in.Goals as goal
 
 pub returns-in_default : goal.returns-in_default

@@ -1,6 +1,6 @@
 use Rattle.std.proofs.Common.{◌++◌, map, ◌∙◌}
 use Rattle.serde_json.specs.View.{view}
-use Rattle.sarif_suppress.proofs.Keyed.{next_object}
+use Rattle.sarif_suppress.proofs.KeySet.{next_object}
 use Rattle.sarif_suppress.proofs.unseen.unseen_objects.Goals as goal
 
 pub loop-number-preserved : goal.loop-number-preserved

@@ -1,5 +1,5 @@
 use Rattle.std.proofs.Common.{◌≡◌, ◌≤◌, ◌++◌, map, drop, length}
-use Rattle.sarif_suppress.specs.File.{File}
+use Rattle.sarif_entries.specs.File.{File}
 use Rattle.sarif_results.specs.Drafts.{applied_of}
 use Rattle.sarif_accept.specs.Adding.{accepted_among, may_hit}
 use Rattle.sarif_upkeep.proofs.accepting.accepted_among.Given as goal

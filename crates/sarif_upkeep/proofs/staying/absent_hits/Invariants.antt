@@ -1,5 +1,5 @@
 use Rattle.std.proofs.Common.{◌≡◌, ◌≤◌, ◌+◌, drop}
-use Rattle.sarif_suppress.specs.File.{File}
+use Rattle.sarif_entries.specs.File.{File}
 use Rattle.sarif_accept.specs.Adding.{may_hit}
 use Rattle.sarif_upkeep.specs.Renewed.{absent_hits}
 use Rattle.sarif_upkeep.proofs.staying.absent_hits.Given as goal

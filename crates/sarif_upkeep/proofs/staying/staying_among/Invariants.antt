@@ -1,5 +1,5 @@
 use Rattle.std.proofs.Common.{◌≡◌, ◌≤◌, ◌+◌, map, drop}
-use Rattle.sarif_suppress.specs.File.{File}
+use Rattle.sarif_entries.specs.File.{File}
 use Rattle.sarif_results.specs.Drafts.{applied_of}
 use Rattle.sarif_accept.specs.Adding.{may_hit}
 use Rattle.sarif_upkeep.specs.Renewed.{staying_among}

@@ -1,6 +1,6 @@
 use Rattle.std.proofs.Common.{◌≡◌, ◌∙◌, map, refl}
 use Rattle.serde_json.specs.View.{view}
-use Rattle.sarif_suppress.specs.Matching.{matches}
+use Rattle.sarif_entries.specs.Matching.{matches}
 use Rattle.sarif_suppress.specs.Suppressing.{matching_numbers}
 use Rattle.sarif_suppress.specs.Written.{with_objects_at}
 use Rattle.sarif_suppress.proofs.Numbered.{written}

@@ -1,0 +1,41 @@
+//! An entry of the suppression file.
+ghost use Rattle.std.specs.Prelude.{◌≡◌, ◌↔◌, IsTrue};
+ghost use Rattle.sarif_entries.specs.Matching as said;
+
+use crate::conditions::Conditions;
+use sarif_model::{Record, Status, Text};
+
+/// An entry of the suppression file: which results it suppresses, until when, and the suppression that it adds.
+#[derive(Debug, Drop)]
+pub struct Entry {
+    /// What the entry requires of a result.
+    pub conditions: Conditions,
+    /// `expires`: the last date on which it suppresses, as the number YYYYMMDD.
+    pub expires: Option<u32>,
+    /// `status`; absent it is `accepted`.
+    pub status: Status,
+    /// `justification`.
+    pub justification: Option<Text>,
+}
+
+impl Entry {
+    /// Returns whether the expiry date of the entry is before `today`.
+    pub fn is_expired(&self, today: Option<u32>) -> bool
+        ensures { result ≡ said.is_expired today self.now }
+    {
+        match (self.expires, today) {
+            (Some(last), Some(today)) => last < today,
+            _ => false,
+        }
+    }
+
+    /// Whether the entry matches the result on that day: it isn't expired, and the result meets
+    /// every condition that it names.
+    #[tactic(auto, using(crate::proofs::Meaning::means))]
+    pub fn matches(&self, today: Option<u32>, record: &Record) -> bool
+        ensures means { IsTrue result ↔ said.Matches today self.now «record».now }
+        ensures test { result ≡ said.matches today self.now «record».now }
+    {
+        !self.is_expired(today) && self.conditions.hold(record)
+    }
+}

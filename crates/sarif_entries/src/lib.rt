@@ -1,0 +1,25 @@
+//! The entries of the suppression file of `sarif_gate`: reading them, whether an entry matches a result, under which
+//! of its conditions it is filed, and the suppression that it adds.
+#![tactic(auto)]
+
+mod conditions;
+mod entry;
+mod fault;
+mod filing;
+pub mod key;
+mod laws;
+pub mod message_keys;
+mod object;
+mod read_entry;
+mod read_file;
+mod version;
+
+pub use conditions::Conditions;
+pub use entry::Entry;
+pub use fault::FileFault;
+pub use filing::{PairCondition, TextCondition};
+pub use laws::{just_its_object_is_an_entrys, object_holds_no_fraction};
+pub use object::{is_object_of, object_of};
+pub use read_entry::is_day;
+pub use read_file::entries_of_file;
+pub use version::Version;

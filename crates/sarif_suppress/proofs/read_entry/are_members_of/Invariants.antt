@@ -1,9 +1,0 @@
-use Rattle.std.proofs.Common.{◌≡◌}
-use Rattle.serde_json.specs.View.{members_view}
-use Rattle.sarif_suppress.specs.Entries.{are_members_of}
-use Rattle.sarif_suppress.proofs.read_entry.are_members_of.Given as goal
-
--- the members gone through are known
-abbrev pub invariant-loop-name : goal.invariant-loop-name
-invariant-loop-name l =
-    are_members_of l.version (members_view l.name-iterator) ≡ are_members_of l.version (members_view l.members.entries)
