@@ -1,5 +1,5 @@
--- The parts of runs of baselines, of which some results are taken. Internal: no public contract of the merge refers to
--- this module.
+-- The parts of baseline runs, each with the number of its unmatched results. Internal: no public contract of the merge
+-- refers to this module.
 use Rattle.std.specs.Prelude.{◌≡◌, ℕ, Bool, List, [], ◌∷◌, Some, map, take, drop, length, ⊤}
 use Rattle.serde_json.specs.Data.{Data}
 use Rattle.serde_json.specs.View.{members_view}

@@ -1,4 +1,4 @@
-//! The parts of the runs of logs, and of the runs of baselines with what is left of them.
+//! The parts of the runs of logs, and of the runs of baselines with their unmatched results.
 ghost use Rattle.std.specs.Prelude.{◌≡◌, ◌≤◌, Some, IfOk, length, map};
 ghost use Rattle.std.specs.List.{AllByRecursion};
 ghost use Rattle.serde_json.specs.View.{members_view};
@@ -75,8 +75,9 @@ fn left_run(alloc: Global, run: OpenedRun<'_, '_>, count: u32) -> RunParts
     make_parts(alloc, run.into_bare(), Some(count))
 }
 
-/// Returns the parts of baseline runs with these numbers of results that are not already absent, of which some are
-/// taken. Returns `AllocError` if memory for the list runs out.
+/// Returns the parts of baseline runs, each with the number of its unmatched results. For each run, `counts` has the
+/// number of its results that are not already absent. For each of these results, `taken` says whether a current result
+/// matches it. Returns `AllocError` if memory for the list runs out.
 pub fn left_parts(
     alloc: Global,
     runs: Vec<OpenedRun<'_, '_>>,

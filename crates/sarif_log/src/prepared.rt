@@ -12,9 +12,9 @@ use sarif_model::Record;
 /// The records of results that were matched. Nothing is made of them any more.
 #[derive(Drop)]
 pub struct Spent {
-    /// Those of the results of logs.
+    /// The records of the results of logs.
     pub current: Vec<Record>,
-    /// Those of the results of baselines.
+    /// The records of the results of baselines.
     pub baseline: Vec<Record>,
 }
 

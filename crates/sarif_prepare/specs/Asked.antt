@@ -1,4 +1,4 @@
--- What a merge is asked for besides its log.
+-- What a caller requests besides the merged log.
 use Rattle.std.specs.Prelude.{Option, option_map}
 use Rattle.sarif_counts.specs.declared.upkeep.Upkeep.{Upkeep}
 use Rattle.sarif_findings.specs.declared.reporting.Reporting.{Reporting}
