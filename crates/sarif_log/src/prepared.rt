@@ -37,5 +37,6 @@ pub struct Prepared {
     pub spent: Spent,
     pub ghost current_is: { IsSide current } by { Prim.hlevel props },
     pub ghost baseline_is: { IsSide baseline } by { Prim.hlevel props },
-    pub ghost few: { length current.drafts.items + length baseline.drafts.items ≤ 2 * most_results },
+    pub ghost few: { length current.drafts.items + length baseline.drafts.items
+        ≤ 2 * most_results },
 }
