@@ -2,8 +2,9 @@
 ghost use Rattle.std.specs.Prelude.{◌≡◌, []};
 
 use sarif_counts::{Checks, Options, Policy, Verdict};
-use sarif_log::{Asked, FileRead, Merged, assemble, prepare};
+use sarif_log::{Merged, assemble};
 use sarif_model::{Level, MergeFault, State};
+use sarif_prepare::{Asked, FileRead, prepare};
 use sarif_results::Judged;
 use sarif_suppress::Suppressions;
 use std::alloc::Global;

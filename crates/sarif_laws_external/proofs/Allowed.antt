@@ -13,7 +13,7 @@ use Rattle.sarif_inputs.specs.Allowing.{IsReadAlike, allowing}
 use Rattle.sarif_inputs.specs.Faults.{faults_of}
 use Rattle.sarif_inputs.specs.Inputs.{Inputs, baseline_runs, input_runs}
 use Rattle.sarif_inputs.proofs.AllowedAlike.{all_alike, baseline_alike, current_alike}
-use Rattle.sarif_log.specs.Kept.{merge_of}
+use Rattle.sarif_prepare.specs.Kept.{merge_of}
 use Rattle.sarif_log.specs.LogBy.{merged_by}
 use Rattle.sarif_merge.specs.Life.{merge_in}
 use Rattle.sarif_merge.specs.MergedLog.{file_given, merged_log, output_text}

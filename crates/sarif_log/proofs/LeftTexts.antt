@@ -19,7 +19,7 @@ use Rattle.sarif_results.specs.Drafts.{drafts_by, unapplied, IsRun}
 use Rattle.sarif_log.specs.MergedRuns.{absent_runs}
 use Rattle.sarif_model.specs.Run.{present}
 use Rattle.sarif_log.proofs.RunTexts.{runs_left}
-use Rattle.sarif_log.specs.Baselines.{left_count, AreLeftParts}
+use Rattle.sarif_log.specs.LeftParts.{left_count, AreLeftParts}
 
 abbrev absent : Draft → Option State
 absent draft = Some Absent

@@ -13,7 +13,6 @@ use Rattle.sarif_model.specs.declared.kinds.State.{State}
 use Rattle.sarif_model.specs.declared.kinds.State.TheVariants.{Absent}
 use Rattle.sarif_model.specs.Members.{elements}
 use Rattle.sarif_model.specs.State.{state_name}
-use Rattle.sarif_suppress.specs.Marks.{with_marks}
 use Rattle.sarif_results.specs.declared.draft.Draft.{Draft}
 use Rattle.sarif_log.specs.declared.run_parts.RunParts.{RunParts}
 use Rattle.sarif_model.specs.Run.{results_array, results_of, present}
@@ -131,8 +130,3 @@ ArePartsOf count (parts ∷ more) (run ∷ runs) =
 -- the results of these runs that aren't marked as absent
 abbrev pub present_results : List Data → List Data
 present_results runs = flat_map (λ run. present (results_of run)) runs
-
--- marks with those of the entries that these results' drafts name
-abbrev pub marked : List Bool → List Draft → List Bool
-marked marks [] = marks
-marked marks (draft ∷ drafts) = marked (with_marks marks draft.applied.entries) drafts

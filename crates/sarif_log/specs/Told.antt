@@ -1,14 +1,9 @@
 -- The findings of the results of a merged log, if they are requested.
-use Rattle.std.specs.Prelude.{List, [], flat_map, Option, Some, None, option_map}
+use Rattle.std.specs.Prelude.{List, [], flat_map, Option, Some, None}
 use Rattle.serde_json.specs.Data.{Data}
 use Rattle.sarif_findings.specs.declared.finding.Finding.{Finding}
 use Rattle.sarif_findings.specs.declared.reporting.Reporting.{Reporting}
 use Rattle.sarif_findings.specs.Reported.{reported_in}
-use Rattle.sarif_log.specs.declared.asked.Asked.{Asked}
-
--- what reports depend on, if a report is requested
-abbrev pub reporting_in : Asked → Option Reporting
-reporting_in asked = option_map (λ reporting. reporting.now) asked.reporting
 
 -- if no report is requested, there are no findings
 abbrev pub if_asked : Option Reporting → (Reporting → List Finding) → List Finding

@@ -1,24 +1,17 @@
 //! Counting what is written.
-ghost use Rattle.std.specs.Prelude.{◌≡◌, ◌+◌, ◌*◌, ◌≤◌, Bool, List, IfOk, length};
-ghost use Rattle.serde_json.specs.Data.{Data};
+ghost use Rattle.std.specs.Prelude.{◌≡◌, ◌+◌, ◌*◌, ◌≤◌, Bool, length};
 ghost use Rattle.sarif_model.specs.declared.kinds.Level.{Level as Grade};
 ghost use Rattle.sarif_model.specs.declared.kinds.State.{State as Stand};
-ghost use Rattle.sarif_model.specs.declared.record.Record.{Record};
-ghost use Rattle.sarif_suppress.specs.Suppressing.{unused_of};
 ghost use Rattle.sarif_counts.specs.Counts.{count_at};
-ghost use Rattle.sarif_results.specs.Drafts.{applied_of, drafts_by};
 ghost use Rattle.sarif_log.specs.Texts.{tallied};
-ghost use Rattle.sarif_log.specs.LogBy.{listing_of};
 ghost use Rattle.sarif_log.specs.Written.{AreCounted};
 ghost use Rattle.sarif_model.specs.Limits.{most_results};
 
 use crate::merged_text::Side;
-use crate::tally::{count_results, mark_entries};
+use crate::tally::count_results;
 use sarif_counts::Counts;
 use sarif_model::State;
 use sarif_results::Draft;
-use sarif_suppress::Suppressions;
-use std::alloc::{AllocError, Global};
 use std::thread;
 use std::thread::Threads;
 
@@ -93,20 +86,4 @@ pub(crate) fn count_sides<R: Threads + Sync>(
     let here = count_all(rt, &current.drafts, &current.states, threads);
     let there = count_all(rt, &baseline.drafts, &baseline.states, threads);
     here.plus(there)
-}
-
-/// How many entries of the suppression file match none of the results with these drafts.
-pub(crate) fn count_unused(
-    alloc: Global,
-    file: &Suppressions,
-    drafts: &[Draft],
-) -> Result<u32, AllocError>
-    ensures { IfOk result (λ unused. (rs : List Record) (ds : List Data)
-        → length rs ≡ length ds
-        → drafts.now ≡ drafts_by (listing_of file.now) (applied_of file.now) rs ds
-        → unused ≡ unused_of file.now rs) }
-{
-    let mut marks = file.marks(alloc)?;
-    mark_entries(&mut marks, drafts);
-    Ok(marks.unused())
 }

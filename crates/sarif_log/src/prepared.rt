@@ -11,27 +11,32 @@ use sarif_model::Record;
 
 /// The records of results that were matched. Nothing is made of them any more.
 #[derive(Drop)]
-pub(crate) struct Spent {
-    pub(crate) current: Vec<Record>,
-    pub(crate) baseline: Vec<Record>,
+pub struct Spent {
+    /// The records of the results of logs.
+    pub current: Vec<Record>,
+    /// The records of the results of baselines.
+    pub baseline: Vec<Record>,
 }
 
 /// Everything that a merged log contains. Its sources are no longer needed.
 #[derive(Drop)]
 pub struct Prepared {
-    pub(crate) current: Side,
-    pub(crate) baseline: Side,
+    /// The runs of logs, with all their results.
+    pub current: Side,
+    /// The runs of baselines, with the results that no current result matches.
+    pub baseline: Side,
     /// How many input runs have no results.
-    pub(crate) without: u32,
+    pub without: u32,
     /// How many entries of the suppression file match no current result.
-    pub(crate) unused: u32,
+    pub unused: u32,
     /// The findings of its results, in order.
-    pub(crate) findings: Vec<Finding>,
+    pub findings: Vec<Finding>,
     /// What is for later merges.
-    pub(crate) life: Life,
+    pub life: Life,
     /// What only has to be released.
-    pub(crate) spent: Spent,
-    ghost current_is: { IsSide current } by { Prim.hlevel props },
-    ghost baseline_is: { IsSide baseline } by { Prim.hlevel props },
-    ghost few: { length current.drafts.items + length baseline.drafts.items ≤ 2 * most_results },
+    pub spent: Spent,
+    pub ghost current_is: { IsSide current } by { Prim.hlevel props },
+    pub ghost baseline_is: { IsSide baseline } by { Prim.hlevel props },
+    pub ghost few: { length current.drafts.items + length baseline.drafts.items
+        ≤ 2 * most_results },
 }

@@ -3,12 +3,11 @@ ghost use Rattle.std.specs.Prelude.{◌≡◌, ◌+◌, ◌<◌, ◌≤◌, ◌^
 ghost use Rattle.sarif_model.specs.declared.kinds.Level.{Level as Grade};
 ghost use Rattle.sarif_model.specs.declared.kinds.State.{State as Stand};
 ghost use Rattle.sarif_counts.specs.Counts.{count_at, total_of};
-ghost use Rattle.sarif_log.specs.Texts.{marked, tallied};
+ghost use Rattle.sarif_log.specs.Texts.{tallied};
 
 use sarif_counts::Counts;
 use sarif_model::State;
 use sarif_results::Draft;
-use sarif_suppress::Marks;
 
 /// Counts the results that have a state by state, level and whether they are suppressed. There is a state, or
 /// none, for each result. Does not allocate.
@@ -23,14 +22,5 @@ pub fn count_results(counts: &mut Counts, drafts: &[Draft], states: &[Option<Sta
         if let Some(state) = states[at] {
             counts.add(state, draft.level, draft.suppressed);
         }
-    }
-}
-
-/// Marks the entries of the suppression file that match these results. Does not allocate.
-pub fn mark_entries(marks: &mut Marks, drafts: &[Draft])
-    ensures { marks.new ≡ marked marks.old drafts.now }
-{
-    for draft in drafts {
-        marks.set(&draft.applied);
     }
 }

@@ -43,7 +43,7 @@ use Rattle.sarif_model.proofs.SourceAnswers.{still_first}
 use Rattle.sarif_counts.specs.declared.life.Life.{Life}
 use Rattle.sarif_counts.specs.declared.upkeep.Upkeep.{Upkeep}
 use Rattle.sarif_upkeep.specs.Life.{life_faults}
-use Rattle.sarif_log.specs.Kept.{merge_of, IsKept}
+use Rattle.sarif_prepare.specs.Kept.{merge_of, IsKept}
 use Rattle.sarif_merge.specs.Given.{given}
 use Rattle.sarif_merge.specs.Merged.{IsMerged}
 use Rattle.sarif_merge.specs.MergedLog.{file_in}

@@ -25,7 +25,7 @@ use Rattle.sarif_upkeep.specs.Known.{known_faults, runs_known}
 use Rattle.sarif_upkeep.specs.Life.{if_known, if_renewed, life_faults}
 use Rattle.sarif_upkeep.specs.Merge.{Merge}
 use Rattle.sarif_upkeep.specs.Renewed.{entries_count, rules_after, text_faults}
-use Rattle.sarif_log.specs.Kept.{IsUnkept}
+use Rattle.sarif_prepare.specs.Kept.{IsUnkept}
 use Rattle.sarif_inputs.specs.Faults.{file_or_none}
 
 abbrev IsQuietFault : MergeFault → Type 0

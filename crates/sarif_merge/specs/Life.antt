@@ -7,7 +7,7 @@ use Rattle.sarif_model.specs.declared.merge_fault.MergeFault.{MergeFault}
 use Rattle.sarif_model.specs.FirstFault.{first, IsOutOfResources}
 use Rattle.sarif_upkeep.specs.Life.{life_faults}
 use Rattle.sarif_upkeep.specs.Merge.{Merge}
-use Rattle.sarif_log.specs.Kept.{merge_of, IsKept}
+use Rattle.sarif_prepare.specs.Kept.{merge_of, IsKept}
 use Rattle.sarif_inputs.specs.Faults.{faults_of, first_fault}
 use Rattle.sarif_inputs.specs.Inputs.{Inputs, input_runs, baseline_runs}
 use Rattle.sarif_merge.specs.MergedLog.{file_given}

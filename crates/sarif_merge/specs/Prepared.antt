@@ -6,7 +6,7 @@ use Rattle.sarif_counts.specs.declared.upkeep.Upkeep.{Upkeep}
 use Rattle.sarif_model.specs.declared.merge_fault.Source.TheVariants.{Log, Baseline}
 use Rattle.sarif_findings.specs.declared.reporting.Reporting.{Reporting}
 use Rattle.sarif_log.specs.declared.prepared.Prepared.{Prepared}
-use Rattle.sarif_log.specs.Kept.{IsKept}
+use Rattle.sarif_prepare.specs.Kept.{IsKept}
 use Rattle.sarif_log.specs.Prepared.{IsPrepared}
 use Rattle.sarif_inputs.specs.Faults.{faults_of, file_or_none}
 use Rattle.sarif_inputs.specs.Inputs.{Inputs, numbered, placed}

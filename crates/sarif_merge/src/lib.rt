@@ -15,8 +15,9 @@ pub use sarif_counts::{
     hits, summary, verdict,
 };
 pub use sarif_gather::{Gate, NoGate};
-pub use sarif_log::{Asked, Facts, Merged};
+pub use sarif_log::{Facts, Merged};
 pub use sarif_model::{At, Cause, MergeFault, Refusal, Source};
+pub use sarif_prepare::Asked;
 pub use sarif_streams::{
     Counted, Failed, Readers, ReadersFault, SourceBytes, SourceFault, read_source,
     sources_are_read_in_one_way, write_out,

@@ -4,9 +4,9 @@ use sarif_counts::{
     Checks, Knowing, KnownLog, Life, NewFile, Options, Policy, Renewal, States, Upkeep,
 };
 use sarif_gather::NoGate;
-use sarif_log::Asked;
 use sarif_merge::merge_readers;
 use sarif_model::{MergeFault, Text};
+use sarif_prepare::Asked;
 use sarif_streams::{Counted, Readers};
 use serde_json::Value;
 use std::alloc::{AllocError, AllocGlobal, Global};

@@ -6,9 +6,9 @@ use crate::merge::merging::{
 };
 use sarif_counts::{Checks, Options, Policy, Verdict};
 use sarif_gather::NoGate;
-use sarif_log::Asked;
 use sarif_merge::merge_readers;
 use sarif_model::{Level, State};
+use sarif_prepare::Asked;
 use sarif_streams::{Counted, Readers};
 use std::alloc::{AllocError, Global};
 use std::test::Fail;

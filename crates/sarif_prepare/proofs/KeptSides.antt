@@ -1,0 +1,89 @@
+-- The matched merge, as what is made for later merges sees it.
+use Rattle.std.proofs.Common.{◌≡◌, ◌≤◌, ◌+◌, ℕ, List, [], ◌∷◌, Option, Some, map, length, length-append, refl, sym, ap, ap₂, ◌∙◌, arith}
+use Rattle.serde_json.specs.Data.{Data}
+use Rattle.sarif_model.specs.declared.record.Record.{Record}
+use Rattle.sarif_model.specs.Run.{present, results_of, results_total}
+use Rattle.sarif_match.specs.Partners.{partners_of}
+use Rattle.std.specs.Prelude.{flat_map, option_map, unwrap_or}
+use Rattle.sarif_model.specs.declared.kinds.State.{State}
+use Rattle.sarif_model.specs.declared.kinds.State.TheVariants.{New}
+use Rattle.sarif_counts.specs.declared.policy.Policy.{Policy}
+use Rattle.sarif_entries.specs.File.{File}
+use Rattle.sarif_runs.specs.Opened.{placed_of}
+use Rattle.sarif_runs.specs.Judging.{records_of, run_values}
+use Rattle.sarif_runs.specs.Placed.{Placed}
+use Rattle.sarif_results.specs.declared.draft.Draft.{Draft}
+use Rattle.sarif_results.specs.Drafts.{applied_of, drafts_by, Listing}
+use Rattle.sarif_upkeep.specs.IsMatched.{IsFileOf, IsMatched}
+use Rattle.sarif_upkeep.specs.Merge.{present_counts, present_total}
+use Rattle.sarif_upkeep.specs.declared.matched.Matched.{Matched}
+use Rattle.sarif_prepare.specs.declared.baselines.Baselines.{Baselines}
+use Rattle.sarif_prepare.specs.declared.halves.Half.{Half}
+use Rattle.sarif_prepare.specs.declared.preparing.Paired.{Paired}
+use Rattle.sarif_log.specs.LeftParts.{present_counts as placed_counts}
+use Rattle.sarif_prepare.specs.Kept.{merge_of}
+use Rattle.sarif_log.specs.LogBy.{listing_of, states_of, taken_of}
+use Rattle.sarif_log.specs.Texts.{present_results}
+use Rattle.sarif_prepare.specs.Together.{AreTogether, IsPaired}
+use Rattle.sarif_log.proofs.Sides.{results_long, states_long, taken_long}
+
+-- the drafts of results know what the file makes of each
+pub applied_are : (listed : Listing) (file : File) (rs : List Record) (ds : List Data) → length rs ≡ length ds
+    → map (λ draft. draft.applied) (drafts_by listed (applied_of file) rs ds) ≡ map (applied_of file) rs
+applied_are listed file [] ds same = refl
+applied_are listed file (r ∷ rs) [] same = absurd (omega (arith, same))
+applied_are listed file (r ∷ rs) (d ∷ ds) same = ap (λ l. applied_of file r ∷ l) (applied_are listed file rs ds (omega (arith, same)))
+
+pub present_sum : (runs : List Data) → length (present_results runs) ≡ present_total runs
+present_sum [] = refl
+present_sum (run ∷ runs) = length-append (present (results_of run)) (present_results runs) ∙ ap (λ n. length (present (results_of run)) + n) (present_sum runs)
+
+pub counts_are : (runs : List Placed) → placed_counts runs ≡ present_counts (run_values runs)
+counts_are [] = refl
+counts_are (p ∷ ps) = ap (λ l. length (present (results_of p.run)) ∷ l) (counts_are ps)
+
+-- what is handed on is the merge
+pub matched_is : (file : File) (bytes : Option (List ℕ)) (policy : Policy) (now before : List Placed) (c : Half) (b : Baselines) (p : Paired) (matched : Matched)
+    → AreTogether file now before c b → IsPaired c b p → IsFileOf bytes file
+    → matched.file.now ≡ file → option_map (λ x. x.now) matched.bytes ≡ bytes → matched.policy ≡ policy
+    → matched.current.runs.now ≡ c.runs.items → matched.current.records.now ≡ c.records.items → matched.current.drafts.now ≡ c.drafts.items
+    → matched.current.states.now ≡ states_of c.records.items b.records.items
+    → matched.before.runs.now ≡ b.runs.items → matched.before.counts.now ≡ b.counts.items → matched.before.records.now ≡ b.records.items
+    → matched.before.taken.now ≡ p.taken.items
+    → IsMatched (merge_of file bytes policy now before) matched
+matched_is file bytes policy now before c b p matched h q read file_is bytes_are policy_is runs_are records_are drafts_are states_are old_runs_are counts_is known_are taken_is =
+    let rs = records_of now in
+    let bs = records_of before in
+    let long : length rs ≡ length (flat_map results_of (run_values now)) = h.current_records ∙ sym (results_long (run_values now)) in record {
+      file = file_is;
+      bytes = bytes_are;
+      read = read;
+      policy = policy_is;
+      current = record {
+        runs = ap (λ all. run_values (map placed_of all)) runs_are ∙ ap run_values h.is_current.opened;
+        records = records_are ∙ h.is_current.records;
+        drafts =
+            ap (map (λ (draft : Draft). draft.applied)) (drafts_are ∙ h.is_current.drafts)
+            ∙ applied_are (listing_of file) file rs (flat_map results_of (run_values now)) long;
+        states = states_are ∙ ap (λ l. states_of l b.records.items) h.is_current.records ∙ ap (states_of rs) h.are_baselines.records;
+        records_long = h.current_records;
+        states_long = states_long bs (partners_of rs bs) 0 rs;
+        few = h.few_current;
+      };
+      before = record {
+        runs = ap (λ all. run_values (map placed_of all)) old_runs_are ∙ ap run_values h.are_baselines.opened;
+        counts = counts_is ∙ h.are_baselines.counts ∙ counts_are before;
+        records = known_are ∙ h.are_baselines.records;
+        taken = taken_is ∙ q.taken ∙ ap (λ l. taken_of l b.records.items) h.is_current.records ∙ ap (taken_of rs) h.are_baselines.records;
+        records_long = h.are_baselines.count ∙ present_sum (run_values before);
+        taken_long = taken_long rs bs;
+        few = h.few_baseline;
+      };
+    }
+
+pub states_there : (found : List (Option State)) (all : List State) → found ≡ map Some all → map (λ state. unwrap_or state New) found ≡ all
+states_there found all is = ap (map (λ state. unwrap_or state New)) is ∙ each all
+  where
+    each : (all : List State) → map (λ state. unwrap_or state New) (map Some all) ≡ all
+    each [] = refl
+    each (state ∷ states) = ap (λ l. state ∷ l) (each states)

@@ -1,0 +1,12 @@
+pub mod BaselineSpots
+pub mod FoundDrafts
+pub mod KeptSides
+pub mod ListedTold
+pub mod Marked
+pub mod ResultsAlike
+pub mod RunsAlike
+pub mod StatesMore
+pub mod ToldResults
+pub mod ToldRuns
+pub mod ToldSides
+pub mod WrittenSides

@@ -1,0 +1,170 @@
+-- A finding depends on four members of its result and on its first location, besides its level and its state.
+use Rattle.std.proofs.Common.{◌≡◌, ℕ, List, [], ◌∷◌, Option, Some, None, codes, refl, ap, ◌∙◌}
+use Rattle.std.specs.Prelude.{chars, is_some, option_and_then, unwrap_or, if◌then◌else◌}
+use Rattle.std.specs.Option.{option_or}
+use Rattle.serde_json.specs.Data.{Data}
+use Rattle.serde_json.specs.Find.{get, as_str, as_array, as_number, as_u64}
+use Rattle.sarif_model.specs.declared.kinds.Level.{Level}
+use Rattle.sarif_model.specs.declared.kinds.State.{State}
+use Rattle.sarif_model.specs.declared.first_location.FirstLocation.{FirstLocation}
+use Rattle.sarif_model.specs.FirstLocation.{IsFirstLocation}
+use Rattle.sarif_model.specs.Members.{first_of}
+use Rattle.sarif_read.specs.Picked.{picked}
+use Rattle.sarif_model.specs.Run.{elements_or_none}
+use Rattle.sarif_read.proofs.PickedMembers.{picked_get}
+use Rattle.sarif_findings.specs.declared.reporting.Reporting.{Reporting}
+use Rattle.sarif_findings.specs.Lookup.{text_in, number_in, own_rule_id, index_of_rule, rule_index, component_by, component_of, driver_of, rule_by, rule_in, descriptor_of, descriptor_id, rule_id, elements_in, location_uri, physical_location, position_in, position_number}
+use Rattle.sarif_findings.specs.Message.{string_named, strings_of, own_string, shared_string, looked_up, text_by, message_of, arguments_in, arguments_of}
+use Rattle.sarif_findings.proofs.AtLocation as AtLocation
+use Rattle.sarif_findings.specs.Links.{unlinked}
+use Rattle.sarif_findings.specs.Located.{finding_at}
+use Rattle.sarif_findings.specs.Placeholders.{filled}
+use Rattle.sarif_findings.specs.Reported.{help_in, link_of, path_in, shown_path, finding_of}
+use Rattle.sarif_prepare.proofs.RunsAlike.{run_same, AreAlike}
+
+pub record AreNamedAlike (x y : Data) : Type 0 where
+  pub rule_id : get (codes "ruleId") x ≡ get (codes "ruleId") y
+  pub rule : get (codes "rule") x ≡ get (codes "rule") y
+  pub rule_index : get (codes "ruleIndex") x ≡ get (codes "ruleIndex") y
+  pub message : get (codes "message") x ≡ get (codes "message") y
+
+pub record AreToldAlike (x y : Data) : Type 0 where
+  pub rule_id : get (codes "ruleId") x ≡ get (codes "ruleId") y
+  pub rule : get (codes "rule") x ≡ get (codes "rule") y
+  pub rule_index : get (codes "ruleIndex") x ≡ get (codes "ruleIndex") y
+  pub message : get (codes "message") x ≡ get (codes "message") y
+  pub locations : get (codes "locations") x ≡ get (codes "locations") y
+
+named_alike : (x y : Data) → AreToldAlike x y → AreNamedAlike x y
+named_alike x y same = record { rule_id = same.rule_id; rule = same.rule; rule_index = same.rule_index; message = same.message }
+
+-- ---- the rule
+
+own_id_same : (x y : Data) → AreNamedAlike x y → own_rule_id x ≡ own_rule_id y
+own_id_same x y same =
+    ap (λ o. option_or (option_and_then as_str o) (option_and_then (text_in (codes "id")) (get (codes "rule") x))) same.rule_id
+    ∙ ap (λ o. option_or (text_in (codes "ruleId") y) (option_and_then (text_in (codes "id")) o)) same.rule
+
+index_same : (x y : Data) → AreNamedAlike x y → rule_index x ≡ rule_index y
+index_same x y same =
+    ap (λ o. option_or (option_and_then (number_in (codes "index")) o) (number_in (codes "ruleIndex") x)) same.rule
+    ∙ ap (λ o. option_or (index_of_rule y) (option_and_then as_u64 (option_and_then as_number o))) same.rule_index
+
+component_same : (run x y : Data) → AreNamedAlike x y → component_of run x ≡ component_of run y
+component_same run x y same =
+    ap (λ o. component_by run (option_and_then (number_in (codes "index")) (option_and_then (get (codes "toolComponent")) o))) same.rule
+
+rule_same : (x y : Data) (o : Option Data) → AreNamedAlike x y → option_and_then (rule_in x) o ≡ option_and_then (rule_in y) o
+rule_same x y None same = refl
+rule_same x y (Some component) same =
+    ap (λ i. rule_by i (own_rule_id x) (elements_in (codes "rules") component)) (index_same x y same)
+    ∙ ap (λ id. rule_by (rule_index y) id (elements_in (codes "rules") component)) (own_id_same x y same)
+
+descriptor_same : (run x y : Data) → AreNamedAlike x y → descriptor_of run x ≡ descriptor_of run y
+descriptor_same run x y same =
+    ap (option_and_then (rule_in x)) (component_same run x y same) ∙ rule_same x y (component_of run y) same
+
+id_same : (run x y : Data) → AreNamedAlike x y → rule_id run x ≡ rule_id run y
+id_same run x y same =
+    ap (λ o. unwrap_or (option_or o (descriptor_id run x)) []) (own_id_same x y same)
+    ∙ ap (λ d. unwrap_or (option_or (own_rule_id y) (option_and_then (text_in (codes "id")) d)) []) (descriptor_same run x y same)
+
+help_same : (run x y : Data) → AreNamedAlike x y → help_in run x ≡ help_in run y
+help_same run x y same =
+    ap (λ d. option_and_then link_of (option_and_then (text_in (codes "helpUri")) d)) (descriptor_same run x y same)
+
+-- ---- the message
+
+strings_same : (run x y : Data) → AreNamedAlike x y → strings_of run x ≡ strings_of run y
+strings_same run x y same =
+    ap (λ d. if is_some d then component_of run x else driver_of run) (descriptor_same run x y same)
+    ∙ ap (λ d. if is_some (descriptor_of run y) then d else driver_of run) (component_same run x y same)
+
+string_same : (run x y : Data) (name : List ℕ) → AreNamedAlike x y → looked_up run x name ≡ looked_up run y name
+string_same run x y name same =
+    ap (λ d. option_or (option_and_then (string_named (codes "messageStrings") name) d) (shared_string run x name)) (descriptor_same run x y same)
+    ∙ ap (λ d. option_or (own_string run y name) (option_and_then (string_named (codes "globalMessageStrings") name) d)) (strings_same run x y same)
+
+named_same : (run x y : Data) (o : Option (List ℕ)) → AreNamedAlike x y → option_and_then (looked_up run x) o ≡ option_and_then (looked_up run y) o
+named_same run x y None same = refl
+named_same run x y (Some name) same = string_same run x y name same
+
+text_same : (run x y : Data) (o : Option Data) → AreNamedAlike x y → option_and_then (text_by run x) o ≡ option_and_then (text_by run y) o
+text_same run x y None same = refl
+text_same run x y (Some message) same =
+    ap (option_or (text_in (codes "text") message)) (named_same run x y (text_in (codes "id") message) same)
+
+message_same : (run x y : Data) → AreNamedAlike x y → message_of run x ≡ message_of run y
+message_same run x y same =
+    ap (λ o. filled (arguments_in o) (unlinked (arguments_in o) (chars (unwrap_or (option_and_then (text_by run x) o) [])))) same.message
+    ∙ ap (λ text. filled (arguments_of y) (unlinked (arguments_of y) (chars (unwrap_or text [])))) (text_same run x y (get (codes "message") y) same)
+
+-- ---- the place
+
+physical_same : (x y : Data) → AreToldAlike x y → physical_location x ≡ physical_location y
+physical_same x y same =
+    ap (λ o. option_and_then (get (codes "physicalLocation")) (first_of (elements_or_none (option_and_then as_array o)))) same.locations
+
+path_same : (reporting : Reporting) (run x y : Data) → AreToldAlike x y → path_in reporting run x ≡ path_in reporting run y
+path_same reporting run x y same =
+    ap (λ p. option_and_then (shown_path reporting.roots) (option_and_then (location_uri run) (option_and_then (get (codes "artifactLocation")) p))) (physical_same x y same)
+
+position_same : (name : List ℕ) (x y : Data) → AreToldAlike x y → position_in name x ≡ position_in name y
+position_same name x y same =
+    ap (λ p. option_and_then position_number (option_and_then (number_in name) (option_and_then (get (codes "region")) p))) (physical_same x y same)
+
+-- ---- the whole
+
+result_same : (reporting : Reporting) (run x y : Data) (level : Level) (state : State) → AreToldAlike x y
+    → finding_of reporting run x level state ≡ finding_of reporting run y level state
+unfolding finding_of
+result_same reporting run x y level state same =
+    let named = named_alike x y same in
+    rw (
+      id_same run x y named,
+      message_same run x y named,
+      path_same reporting run x y same,
+      position_same (codes "startLine") x y same,
+      position_same (codes "startColumn") x y same,
+      help_same run x y named,
+    ) refl
+
+-- equal findings for results that are alike, in runs that are alike
+pub same_told : (reporting : Reporting) (a b x y : Data) (level : Level) (state : State) → AreAlike a b → AreToldAlike x y
+    → finding_of reporting a x level state ≡ finding_of reporting b y level state
+same_told reporting a b x y level state runs results =
+    run_same reporting a b x level state runs ∙ result_same reporting b x y level state results
+
+-- ---- the part of a result that a finding uses
+
+abbrev pub told_names : List (List ℕ)
+told_names = codes "ruleId" ∷ codes "rule" ∷ codes "ruleIndex" ∷ codes "message" ∷ []
+
+picked_alike : (x : Data) → AreNamedAlike (picked told_names x) x
+picked_alike x = record {
+  rule_id = picked_get (codes "ruleId") told_names x refl;
+  rule = picked_get (codes "rule") told_names x refl;
+  rule_index = picked_get (codes "ruleIndex") told_names x refl;
+  message = picked_get (codes "message") told_names x refl;
+}
+
+located_same : (reporting : Reporting) (run x y : Data) (location : FirstLocation) (level : Level) (state : State)
+    → AreNamedAlike x y → IsFirstLocation location y
+    → finding_at reporting run x location level state ≡ finding_of reporting run y level state
+unfolding finding_at finding_of
+located_same reporting run x y location level state same is =
+    rw (
+      id_same run x y same,
+      message_same run x y same,
+      AtLocation.column_same reporting run y location is,
+      AtLocation.line_same reporting run y location is,
+      AtLocation.path_same reporting run y location is,
+      help_same run x y same,
+    ) refl
+
+-- a finding depends only on these members and on the first location
+pub told_members : (reporting : Reporting) (run x : Data) (location : FirstLocation) (level : Level) (state : State)
+    → IsFirstLocation location x
+    → finding_at reporting run (picked told_names x) location level state ≡ finding_of reporting run x level state
+told_members reporting run x location level state is =
+    located_same reporting run (picked told_names x) x location level state (picked_alike x) is

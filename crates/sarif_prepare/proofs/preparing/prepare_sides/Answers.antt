@@ -1,0 +1,70 @@
+use Rattle.std.proofs.Common.{length, sym, ap, ◌∙◌, subst, arith}
+use Rattle.std.proofs.lemmas.Result.{err_from_is_err_and}
+use Rattle.std.specs.List.{flat_map}
+use Rattle.sarif_model.specs.Run.{results_of}
+use Rattle.sarif_runs.specs.Judging.{records_of, run_values}
+use Rattle.sarif_log.specs.Leftover.{not_taken}
+use Rattle.sarif_log.specs.Texts.{own_count, ArePartsOf}
+use Rattle.sarif_prepare.specs.Baselines.{baseline_drafts, IsLeft}
+use Rattle.sarif_log.specs.LogBy.{taken_of}
+use Rattle.sarif_log.proofs.Sides.{results_long, taken_long, without_results}
+use Rattle.sarif_prepare.proofs.WrittenSides.{current_long, current_side, left_few, left_is_side, written}
+use Rattle.sarif_prepare.proofs.preparing.prepare_sides.Goals as goal
+
+pub left_side-requires-clause-taken : goal.left_side-requires-clause-taken
+left_side-requires-clause-taken g c =
+    ap length (c.deref.ensures.value ∙ c.in_ok-paired.ensures.paired.taken) ∙ taken_long c.args.current.records.items c.args.baselines.records.items
+
+pub invariant_of-result : goal.invariant_of-result
+invariant_of-result g c =
+    let h = c.requires.together.2 in
+    let file = c.args.rules.now.file.now in
+    let now = c.requires.together.0 in
+    let before = c.requires.together.1 in
+    let q = c.in_ok-paired.ensures.paired in
+    let s = c.in_ok-side.field-0.side in
+    let t = c.in_ok-unmatched.unmatched.side in
+    let taken = c.deref.result.now in
+    let left =
+    c.in_ok-unmatched.ensures before h.are_baselines (q.left before h.are_baselines ∙ ap (λ ts. not_taken ts (baseline_drafts before)) (sym c.deref.ensures.value)) in
+    let taken_all =
+    ap length (c.deref.ensures.value ∙ q.taken) ∙ taken_long c.args.current.records.items c.args.baselines.records.items ∙ ap length h.are_baselines.records in
+    let many = current_long file now before c.args.current c.args.baselines h in
+    let drafts = ap length c.in_ok-side.ensures.drafts in
+    let fewer = left_few before c.args.baselines taken t h.are_baselines left in record {
+      current_is =
+          current_side file now before c.args.current c.args.baselines s h
+          (subst (λ ps. ArePartsOf own_count s.runs.items (run_values ps)) h.is_current.opened c.in_ok-side.ensures.parts)
+          c.in_ok-side.ensures.whole c.in_ok-side.ensures.drafts (c.in_ok-side.ensures.states ∙ q.states);
+      baseline_is = left_is_side before c.args.baselines taken t h.are_baselines left taken_all;
+      few = omega (arith, many, drafts, fewer, h.few_current, h.few_baseline);
+    }
+
+pub returns-clause-prepared : goal.returns-clause-prepared
+returns-clause-prepared g c = λ now before h.
+    let file = c.args.rules.now.file.now in
+    let q = c.in_ok-paired.ensures.paired in
+    let s = c.in_ok-side.field-0.side in
+    let t = c.in_ok-unmatched.unmatched.side in
+    let parts = subst (λ ps. ArePartsOf own_count s.runs.items (run_values ps)) h.is_current.opened c.in_ok-side.ensures.parts in
+    let left =
+    c.in_ok-unmatched.ensures before h.are_baselines (q.left before h.are_baselines ∙ ap (λ ts. not_taken ts (baseline_drafts before)) (sym c.deref.ensures.value)) in
+    let taken =
+    c.deref.ensures.value ∙ q.taken ∙ ap (λ rs. taken_of rs c.args.baselines.records.items) h.is_current.records
+    ∙ ap (taken_of (records_of now)) h.are_baselines.records in record {
+      written =
+          written file now before c.args.current c.args.baselines s t h parts c.in_ok-side.ensures.drafts (c.in_ok-side.ensures.states ∙ q.states)
+          (subst (λ ts. IsLeft before ts t) taken left);
+      without = without_results s.runs.items (run_values now) c.in_ok-side.field-0.without parts c.in_ok-side.ensures.without;
+      unused =
+          c.in_ok-side.ensures.unused (records_of now) (flat_map results_of (run_values now)) (h.current_records ∙ sym (results_long (run_values now))) h.is_current.drafts;
+      told = c.in_ok-paired.ensures.findings file now before h;
+    }
+
+pub returns-clause-kept : goal.returns-clause-kept
+returns-clause-kept g c = λ now before h. c.in_ok-paired.ensures.kept now before h
+
+pub returns-in_err-paired-clause-unkept : goal.returns-in_err-paired-clause-unkept
+returns-in_err-paired-clause-unkept g c = λ now before h.
+    let p = err_from_is_err_and c.from_residual.result c.from_residual.ensures.1 in
+    rw (p.1, p.2) (c.in_err-paired.ensures.unkept now before h)

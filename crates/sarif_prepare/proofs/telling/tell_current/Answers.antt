@@ -1,0 +1,16 @@
+use Rattle.std.proofs.Common.{◌≡◌, map, sym, ap, subst, ◌∙◌}
+use Rattle.std.specs.List.{All}
+use Rattle.sarif_runs.specs.Opened.{placed_of}
+use Rattle.sarif_runs.specs.Spots.{spots_from, IsSpotOf}
+use Rattle.sarif_runs.proofs.SpotsWithin.{spots_within}
+use Rattle.sarif_prepare.specs.Telling.{placed_told}
+use Rattle.sarif_prepare.proofs.telling.tell_current.Goals as goal
+
+pub list_told-requires-clause-within : goal.list_told-requires-clause-within
+list_told-requires-clause-within g c =
+    let runs = map placed_of c.args.current.now.runs.items in
+    let named : map placed_told c.deref-3.result.now ≡ runs =
+    ap (map placed_told) c.deref-3.ensures.value ∙ c.in_ok-runs.ensures ∙ ap (map placed_of) c.deref-2.ensures.value in
+    let places =
+    c.deref-4.ensures.value ∙ c.in_ok-spots.ensures ∙ ap (λ rs. spots_from 0 (map placed_of rs)) c.deref.ensures.value in
+    subst (λ ps. All (IsSpotOf ps) c.deref-4.result.now) (sym named) (subst (All (IsSpotOf runs)) (sym places) (spots_within runs))

@@ -1,0 +1,43 @@
+-- What a merge gives for later merges, by its runs and its suppression file.
+use Rattle.std.specs.Prelude.{◌≡◌, ◌⊎◌, ℕ, List, [], Option, Some, option_map, IfSome}
+use Rattle.sarif_model.specs.declared.merge_fault.MergeFault.{MergeFault}
+use Rattle.sarif_model.specs.FirstFault.{first}
+use Rattle.sarif_model.specs.MergeFault.{out_of_memory}
+use Rattle.sarif_counts.specs.declared.life.Life.{Life}
+use Rattle.sarif_counts.specs.declared.policy.Policy.{Policy}
+use Rattle.sarif_counts.specs.declared.upkeep.Upkeep.{Upkeep}
+use Rattle.sarif_entries.specs.File.{File}
+use Rattle.sarif_runs.specs.Judging.{records_of, run_values}
+use Rattle.sarif_runs.specs.Placed.{Placed}
+use Rattle.sarif_upkeep.specs.Life.{life_faults, life_of}
+use Rattle.sarif_upkeep.specs.Merge.{Merge}
+use Rattle.sarif_upkeep.specs.ReadBack.{IsReadAgain}
+use Rattle.sarif_prepare.specs.declared.file_read.FileRead.{FileRead}
+use Rattle.sarif_log.specs.LogBy.{states_of, taken_of}
+
+-- the merge of these input runs and baseline runs with this suppression file, read from these bytes, under this policy
+abbrev pub merge_of : File → Option (List ℕ) → Policy → List Placed → List Placed → Merge
+merge_of file bytes policy current baseline = record {
+  file = file;
+  bytes = bytes;
+  policy = policy;
+  runs = run_values current;
+  records = records_of current;
+  states = states_of (records_of current) (records_of baseline);
+  before = run_values baseline;
+  known = records_of baseline;
+  taken = taken_of (records_of current) (records_of baseline);
+}
+
+abbrev pub bytes_of : FileRead → Option (List ℕ)
+bytes_of rules = option_map (λ bytes. bytes.now) rules.bytes
+
+-- what is for later merges has no errors, and is the defined one; each file of it is read as it is defined
+pub record IsKept (m : Merge) (upkeep : Option Upkeep) (life : Life) : Type 0 where
+  pub faultless : life_faults m upkeep ≡ []
+  pub is : life ≡ life_of m upkeep
+  pub read : IfSome upkeep (λ requested. IsReadAgain m requested life)
+
+-- why there is none: memory ran out, or this is the first error of it
+abbrev pub IsUnkept : Merge → Option Upkeep → MergeFault → Type 0
+IsUnkept m upkeep fault = (fault ≡ out_of_memory) ⊎ (first (life_faults m upkeep) ≡ Some fault)

@@ -1,0 +1,95 @@
+//! What is for later merges.
+ghost use Rattle.std.specs.Prelude.{◌≡◌, List, Some, map, unwrap_or, IfOk};
+ghost use Rattle.sarif_model.specs.declared.kinds.State.TheVariants.{New};
+ghost use Rattle.sarif_runs.specs.Placed.{Placed};
+ghost use Rattle.sarif_upkeep.specs.IsMatched.{IsFileOf};
+ghost use Rattle.sarif_prepare.specs.Keeping.{AreOfRuns, KeepsIfOk, RejectsIfErr};
+ghost use Rattle.sarif_prepare.specs.Kept.{bytes_of};
+ghost use Rattle.sarif_prepare.specs.Asked.{upkeep_in};
+ghost use Rattle.sarif_prepare.specs.Together.{IsPaired};
+
+use crate::asked::Asked;
+use crate::baselines::Baselines;
+use crate::file_read::FileRead;
+use crate::halves::Half;
+use crate::preparing::Paired;
+use sarif_counts::{Life, Upkeep};
+use sarif_model::{MergeFault, State};
+use sarif_upkeep::{Before, Current, Matched, life_of};
+use std::alloc::{AllocError, Global};
+
+/// The runs of logs and of baselines, and how their results were matched.
+#[derive(Clone, Copy)]
+pub(crate) struct Sides<'s, 't: 's, 'a: 't> {
+    pub(crate) current: &'s Half<'t, 'a>,
+    pub(crate) baselines: &'s Baselines<'t, 'a>,
+    pub(crate) paired: &'s Paired,
+}
+
+/// The state of each current result; each has one.
+fn list_there(alloc: Global, states: &[Option<State>]) -> Result<Vec<State>, AllocError>
+    ensures { IfOk result (λ there. there.items ≡ map (λ state. unwrap_or state New) states.now) }
+{
+    let mut there = Vec::with_capacity(alloc, states.len())?;
+    for state in states {
+        there.push(state.unwrap_or(State::New))?;
+    }
+    Ok(there)
+}
+
+/// What a merge gives for later merges, where something is requested.
+fn keep(
+    alloc: Global,
+    sides: &Sides<'_, '_, '_>,
+    rules: &FileRead<'_>,
+    asked: &Asked<'_>,
+    upkeep: &Upkeep,
+) -> Result<Life, MergeFault>
+    requires read { IsFileOf (bytes_of rules.now) rules.now.file.now }
+    requires together { (current_runs : List Placed) × (baseline_runs : List Placed)
+        × AreOfRuns rules.now sides.now current_runs baseline_runs }
+    requires paired { IsPaired sides.now.current.now sides.now.baselines.now sides.now.paired.now }
+    ensures kept { KeepsIfOk rules.now asked.now sides.now (Some upkeep.now) result }
+    ensures unkept { RejectsIfErr rules.now asked.now sides.now (Some upkeep.now) result }
+{
+    let states = list_there(alloc, &sides.paired.states)?;
+    let matched = Matched {
+        file: rules.file,
+        bytes: rules.bytes,
+        policy: asked.options.policy,
+        current: Current {
+            runs: &sides.current.runs,
+            records: &sides.current.records,
+            drafts: &sides.current.drafts,
+            states: &states,
+        },
+        before: Before {
+            runs: &sides.baselines.runs,
+            counts: &sides.baselines.counts,
+            records: &sides.baselines.records,
+            taken: &sides.paired.taken,
+        },
+    };
+    let life = life_of(alloc, asked.options.seed, &matched, upkeep)?;
+    Ok(life)
+}
+
+/// What a merge gives for later merges: what is requested, and nothing else.
+pub(crate) fn keep_if_asked(
+    alloc: Global,
+    sides: &Sides<'_, '_, '_>,
+    rules: &FileRead<'_>,
+    asked: &Asked<'_>,
+) -> Result<Life, MergeFault>
+    requires read { IsFileOf (bytes_of rules.now) rules.now.file.now }
+    requires together { (current_runs : List Placed) × (baseline_runs : List Placed)
+        × AreOfRuns rules.now sides.now current_runs baseline_runs }
+    requires paired { IsPaired sides.now.current.now sides.now.baselines.now sides.now.paired.now }
+    ensures kept { KeepsIfOk rules.now asked.now sides.now (upkeep_in asked.now) result }
+    ensures unkept { RejectsIfErr rules.now asked.now sides.now (upkeep_in asked.now) result }
+{
+    match asked.upkeep {
+        Some(upkeep) => keep(alloc, sides, rules, asked, upkeep),
+        None => Ok(Life::none()),
+    }
+}

@@ -1,0 +1,20 @@
+//! What the merged log is made of: results matched, with their states, what is reported of them and what is kept for
+//! later merges.
+#![tactic(auto)]
+
+mod asked;
+mod baselines;
+mod file_read;
+mod halves;
+mod keeping;
+mod left;
+mod matched;
+mod preparing;
+mod telling;
+mod told;
+mod unused;
+
+pub use asked::Asked;
+pub use file_read::FileRead;
+pub use preparing::prepare;
+pub use unused::mark_entries;

@@ -1,0 +1,293 @@
+//! Matching the results of logs with those of baselines.
+ghost use Rattle.std.specs.Prelude.{◌≡◌, ◌≤◌, false, true, not, is_some, count_by, length, map, List, IfOk, IfErr};
+ghost use Rattle.std.specs.List.{AllByRecursion};
+ghost use Rattle.serde_json.specs.Data.{Data};
+ghost use Rattle.sarif_model.specs.declared.record.Record.{Record};
+ghost use Rattle.sarif_entries.specs.File.{File};
+ghost use Rattle.sarif_suppress.specs.Suppressing.{unused_of};
+ghost use Rattle.sarif_runs.specs.Judging.{run_values};
+ghost use Rattle.sarif_runs.specs.Opened.{placed_of};
+ghost use Rattle.sarif_runs.specs.Placed.{Placed};
+ghost use Rattle.sarif_results.specs.Drafts.{applied_of, drafts_by};
+ghost use Rattle.sarif_log.specs.Texts.{own_count, ArePartsOf, IsWholeRun};
+ghost use Rattle.sarif_log.specs.LogBy.{listing_of, runs_by};
+ghost use Rattle.sarif_log.specs.Prepared.{IsPrepared};
+ghost use Rattle.sarif_results.specs.Judged.{placed_in, IsJudged};
+ghost use Rattle.sarif_upkeep.specs.IsMatched.{IsFileOf};
+ghost use Rattle.sarif_prepare.specs.Kept.{bytes_of, merge_of, IsKept, IsUnkept};
+ghost use Rattle.sarif_prepare.specs.Asked.{upkeep_in};
+ghost use Rattle.sarif_prepare.specs.Together.{AreTogether, IsPaired};
+ghost use Rattle.sarif_prepare.specs.Asked.{reporting_in};
+ghost use Rattle.sarif_log.specs.Told.{told_of};
+ghost use Rattle.sarif_model.specs.Limits.{most_runs};
+
+use crate::asked::Asked;
+use crate::baselines::{Baselines, gather_baselines};
+use crate::file_read::FileRead;
+use crate::halves::{Half, current_half};
+use crate::keeping::{Sides, keep_if_asked};
+use crate::left::{left_drafts, left_side};
+use crate::matched::{Matched, match_records};
+use crate::telling::{tell_current, tell_left};
+use crate::unused::count_unused;
+use sarif_counts::{Life, Options};
+use sarif_findings::Finding;
+use sarif_log::{Prepared, Side, Spent, count_without, current_parts};
+use sarif_model::{MergeFault, Record, State};
+use sarif_results::{Draft, Judged};
+use sarif_suppress::Suppressions;
+use std::alloc::{AllocError, Global};
+use std::thread::Threads;
+
+/// How the results of logs and of baselines were matched.
+#[derive(Drop)]
+pub(crate) struct Paired {
+    /// The baseline state of each current result.
+    pub(crate) states: Vec<Option<State>>,
+    /// Whether each baseline result is the match of a current result.
+    pub(crate) taken: Vec<bool>,
+    /// The drafts of those that aren't.
+    pub(crate) left: Vec<Draft>,
+}
+
+/// What is written for the runs of logs.
+#[derive(Drop)]
+struct Current {
+    side: Side,
+    /// How many of the runs have no results.
+    without: u32,
+    /// How many entries of the suppression file match no result.
+    unused: u32,
+    /// The records of their results.
+    records: Vec<Record>,
+}
+
+/// Matches the results of logs with those of baselines.
+fn pair_results<R: Threads + Sync>(
+    rt: &R,
+    alloc: Global,
+    current: &Half<'_, '_>,
+    baselines: &Baselines<'_, '_>,
+    options: &Options,
+) -> Result<Paired, AllocError>
+    requires { (file : File) × (current_runs : List Placed) × (baseline_runs : List Placed)
+        × AreTogether file current_runs baseline_runs current.now baselines.now }
+    ensures { IfOk result (IsPaired current.now baselines.now) }
+{
+    let records = &baselines.records;
+    let Matched { states, taken } = match_records(alloc, options.seed, &current.records, records)?;
+    let left = left_drafts(rt, alloc, baselines, &taken, options.workers + 1)?;
+    Ok(Paired {
+        states,
+        taken,
+        left,
+    })
+}
+
+/// The findings of the written results, if they are requested.
+fn tell_results<R: Threads + Sync>(
+    rt: &R,
+    alloc: Global,
+    asked: &Asked<'_>,
+    current: &Half<'_, '_>,
+    baselines: &Baselines<'_, '_>,
+    paired: &Paired,
+) -> Result<Vec<Finding>, AllocError>
+    requires together { (file : File)
+        × (current_runs : List Placed) × (baseline_runs : List Placed)
+        × AreTogether file current_runs baseline_runs current.now baselines.now }
+    requires paired { IsPaired current.now baselines.now paired.now }
+    ensures { IfOk result (λ findings. (file : File) (current_runs baseline_runs : List Placed)
+        → AreTogether file current_runs baseline_runs current.now baselines.now
+        → findings.items
+        ≡ told_of (reporting_in asked.now) (runs_by file current_runs baseline_runs)) }
+{
+    let mut findings = tell_current(rt, alloc, asked, current, &paired.states)?;
+    let left = &paired.left;
+    let mut absent = tell_left(rt, alloc, asked, baselines, &paired.taken, left)?;
+    findings.append(&mut absent)?;
+    Ok(findings)
+}
+
+/// Returns what is written for the runs of logs, whose results have these states.
+fn current_side(
+    alloc: Global,
+    current: Half<'_, '_>,
+    states: Vec<Option<State>>,
+    file: &Suppressions,
+) -> Result<Current, AllocError>
+    requires few { length current.runs.items ≤ most_runs }
+    ensures parts { IfOk result (λ made. ArePartsOf own_count made.side.runs.items
+        (run_values (map placed_of current.entry.runs.items))) }
+    ensures whole { IfOk result (λ made. AllByRecursion IsWholeRun made.side.runs.items) }
+    ensures drafts { IfOk result
+        (λ made. made.side.drafts.items ≡ current.entry.drafts.items) }
+    ensures states { IfOk result (λ made. made.side.states.items ≡ states.items) }
+    ensures without { IfOk result (λ made. made.without
+        ≡ count_by (λ parts. not (is_some parts.results)) made.side.runs.items) }
+    ensures unused { IfOk result (λ made. (rs : List Record) (ds : List Data)
+        → length rs ≡ length ds
+        → current.entry.drafts.items ≡ drafts_by (listing_of file.now) (applied_of file.now) rs ds
+        → made.unused ≡ unused_of file.now rs) }
+{
+    let Half {
+        runs,
+        records,
+        drafts,
+    } = current;
+    let unused = count_unused(alloc, file, &drafts)?;
+    let runs = current_parts(alloc, runs)?;
+    let without = count_without(&runs);
+    let side = Side {
+        runs,
+        drafts,
+        states,
+    };
+    Ok(Current {
+        side,
+        without,
+        unused,
+        records,
+    })
+}
+
+/// What is told of the results of logs and baselines, once they are matched.
+#[derive(Drop)]
+struct Told {
+    paired: Paired,
+    findings: Vec<Finding>,
+    life: Life,
+}
+
+/// Matches the results of logs with those of baselines, and says what is reported and what is for later merges.
+fn tell_sides<R: Threads + Sync>(
+    rt: &R,
+    alloc: Global,
+    current: &Half<'_, '_>,
+    baselines: &Baselines<'_, '_>,
+    rules: &FileRead<'_>,
+    asked: &Asked<'_>,
+) -> Result<Told, MergeFault>
+    requires read { IsFileOf (bytes_of rules.now) rules.now.file.now }
+    requires together { (current_runs : List Placed) × (baseline_runs : List Placed)
+        × AreTogether rules.now.file.now current_runs baseline_runs current.now baselines.now }
+    ensures paired { IfOk result (λ told. IsPaired current.now baselines.now told.paired) }
+    ensures findings { IfOk result (λ told. (file : File) (current_runs baseline_runs : List Placed)
+        → AreTogether file current_runs baseline_runs current.now baselines.now
+        → told.findings.items
+        ≡ told_of (reporting_in asked.now) (runs_by file current_runs baseline_runs)) }
+    ensures kept { (current_runs baseline_runs : List Placed)
+        → AreTogether rules.now.file.now current_runs baseline_runs current.now baselines.now
+        → IfOk result (λ told. IsKept (merge_of rules.now.file.now (bytes_of rules.now)
+        asked.now.options.now.policy current_runs baseline_runs) (upkeep_in asked.now) told.life) }
+    ensures unkept { (current_runs baseline_runs : List Placed)
+        → AreTogether rules.now.file.now current_runs baseline_runs current.now baselines.now
+        → IfErr result (IsUnkept (merge_of rules.now.file.now (bytes_of rules.now)
+        asked.now.options.now.policy current_runs baseline_runs) (upkeep_in asked.now)) }
+{
+    let paired = pair_results(rt, alloc, current, baselines, asked.options)?;
+    let findings = tell_results(rt, alloc, asked, current, baselines, &paired)?;
+    let sides = Sides {
+        current,
+        baselines,
+        paired: &paired,
+    };
+    let life = keep_if_asked(alloc, &sides, rules, asked)?;
+    Ok(Told {
+        paired,
+        findings,
+        life,
+    })
+}
+
+/// Matches the results of logs with those of baselines, and takes out of them what is written and reported, and what
+/// is for later merges.
+fn prepare_sides<R: Threads + Sync>(
+    rt: &R,
+    alloc: Global,
+    current: Half<'_, '_>,
+    baselines: Baselines<'_, '_>,
+    rules: &FileRead<'_>,
+    asked: &Asked<'_>,
+) -> Result<Prepared, MergeFault>
+    requires read { IsFileOf (bytes_of rules.now) rules.now.file.now }
+    requires together { (current_runs : List Placed) × (baseline_runs : List Placed)
+        × AreTogether rules.now.file.now current_runs baseline_runs current baselines }
+    ensures prepared { IfOk result (λ prepared. (current_runs baseline_runs : List Placed)
+        → AreTogether rules.now.file.now current_runs baseline_runs current.entry baselines.entry
+        → IsPrepared rules.now.file.now current_runs baseline_runs
+        (reporting_in asked.now) prepared) }
+    ensures kept { (current_runs baseline_runs : List Placed)
+        → AreTogether rules.now.file.now current_runs baseline_runs current.entry baselines.entry
+        → IfOk result (λ prepared. IsKept (merge_of rules.now.file.now (bytes_of rules.now)
+        asked.now.options.now.policy current_runs baseline_runs) (upkeep_in asked.now)
+        prepared.life) }
+    ensures unkept { (current_runs baseline_runs : List Placed)
+        → AreTogether rules.now.file.now current_runs baseline_runs current.entry baselines.entry
+        → IfErr result (IsUnkept (merge_of rules.now.file.now (bytes_of rules.now)
+        asked.now.options.now.policy current_runs baseline_runs) (upkeep_in asked.now)) }
+{
+    let Told {
+        paired,
+        findings,
+        life,
+    } = tell_sides(rt, alloc, &current, &baselines, rules, asked)?;
+    let Paired {
+        states,
+        taken,
+        left,
+    } = paired;
+    let unmatched = left_side(alloc, baselines, &taken, left)?;
+    let Current {
+        side,
+        without,
+        unused,
+        records,
+    } = current_side(alloc, current, states, rules.file)?;
+    let spent = Spent {
+        current: records,
+        baseline: unmatched.records,
+    };
+    Ok(Prepared {
+        current: side,
+        baseline: unmatched.side,
+        without,
+        unused,
+        findings,
+        life,
+        spent,
+    })
+}
+
+/// Returns everything that is written for runs of logs and baselines without errors: each current result with its
+/// level, its baseline state and its suppressions, and the unmatched baseline results as absent (SARIF 2.1.0,
+/// "baselineState property"). Matching uses tables that hash with the options' seed, on which no result depends;
+/// the threads of the options share the work. If findings are requested, the result has them too, and if something is
+/// requested for later merges, that. Returns `TooMany` or `TooLong` at the suppression file if the new one could not be
+/// read again, then `TooLong` at the known log if this one could not, and `OutOfMemory` without a place if memory runs
+/// out.
+pub fn prepare<R: Threads + Sync>(
+    rt: &R,
+    alloc: Global,
+    current: Judged<'_, '_>,
+    baseline: Judged<'_, '_>,
+    rules: &FileRead<'_>,
+    asked: &Asked<'_>,
+) -> Result<Prepared, MergeFault>
+    requires read { IsFileOf (bytes_of rules.now) rules.now.file.now }
+    requires current { IsJudged rules.now.file.now false current }
+    requires baseline { IsJudged rules.now.file.now true baseline }
+    ensures prepared { IfOk result (IsPrepared rules.now.file.now (placed_in current.entry)
+        (placed_in baseline.entry) (reporting_in asked.now)) }
+    ensures kept { IfOk result (λ prepared. IsKept (merge_of rules.now.file.now (bytes_of rules.now)
+        asked.now.options.now.policy (placed_in current.entry) (placed_in baseline.entry))
+        (upkeep_in asked.now) prepared.life) }
+    ensures unkept { IfErr result (IsUnkept (merge_of rules.now.file.now (bytes_of rules.now)
+        asked.now.options.now.policy (placed_in current.entry) (placed_in baseline.entry))
+        (upkeep_in asked.now)) }
+{
+    let current = current_half(alloc, current)?;
+    let baselines = gather_baselines(alloc, baseline)?;
+    let prepared = prepare_sides(rt, alloc, current, baselines, rules, asked)?;
+    Ok(prepared)
+}

@@ -1,0 +1,251 @@
+//! Collecting the findings of results, from the logs and baselines that they were read from.
+ghost use Rattle.std.specs.Prelude.{◌≡◌, ◌<◌, ◌≤◌, ◌++◌, ◌∷◌, [], IfOk, OnOk, Some, length, map};
+ghost use Rattle.std.specs.List.{All, cons_option};
+ghost use Rattle.sarif_model.specs.declared.kinds.State.TheVariants.{Absent};
+ghost use Rattle.sarif_model.specs.Run.{result_at, results_of};
+ghost use Rattle.sarif_log.specs.Leftover.{not_taken};
+ghost use Rattle.sarif_runs.specs.Opened.{placed_of};
+ghost use Rattle.sarif_runs.specs.Spots.{spots_from, IsSpotOf};
+ghost use Rattle.sarif_prepare.specs.Telling.{pair_at, placed_told, told_as, told_by, told_each};
+ghost use Rattle.sarif_log.specs.Told.{if_asked};
+ghost use Rattle.sarif_prepare.specs.Asked.{reporting_in};
+ghost use Rattle.sarif_model.specs.Limits.{most_runs};
+
+use crate::asked::Asked;
+use crate::baselines::Baselines;
+use crate::halves::Half;
+use crate::left::absent_states;
+use crate::told::{Told, ToldRun};
+use sarif_findings::{Finding, NamedRun, Reporting, TOLD_MEMBERS, ToldResult, finding_of};
+use sarif_model::State;
+use sarif_results::Draft;
+use sarif_runs::{OpenedRun, Spot, list_spots};
+use std::alloc::{AllocError, Global};
+use std::thread;
+use std::thread::Threads;
+
+/// For fewer results it is not worth starting another thread.
+const FEWEST_SHARED: usize = 64;
+
+/// Each of these runs, with the names that are looked up for its results.
+#[tactic(auto, using(crate::proofs::RunsAlike::bare_told))]
+fn name_runs<'w, 't, 'a>(
+    alloc: Global,
+    runs: &'w [OpenedRun<'t, 'a>],
+) -> Result<Vec<ToldRun<'w, 't, 'a>>, AllocError>
+    ensures { IfOk result (λ made. map placed_told made.items ≡ map placed_of runs.now) }
+{
+    let mut made = Vec::with_capacity(alloc, runs.len())?;
+    for opened in runs {
+        let named = NamedRun::new(alloc, opened.bare())?;
+        made.push(ToldRun { opened, named })?;
+    }
+    Ok(made)
+}
+
+/// Adds the result at this place of a run, where it is written and reported.
+fn push_told<'l, 'w, 't, 'a>(
+    told: &mut Vec<Told<'l, 'w, 't, 'a>>,
+    reporting: &Reporting,
+    run: &'l ToldRun<'w, 't, 'a>,
+    seq: u32,
+    draft: &Draft,
+    state: Option<State>,
+) -> Result<(), AllocError>
+    requires { seq < length (results_of (placed_told run.now).run) }
+    ensures { OnOk result (map (told_by reporting.now) told.new.items
+        ≡ map (told_by reporting.now) told.old.items ++ cons_option (told_as reporting.now
+        (placed_told run.now).run (result_at (placed_told run.now).run seq) draft.now state) []) }
+{
+    let Some(state) = state else {
+        return Ok(());
+    };
+    if reporting.policy.states.lists(state) && !draft.suppressed {
+        let level = draft.level;
+        told.push(Told {
+            run,
+            seq,
+            level,
+            state,
+        })?;
+    }
+    Ok(())
+}
+
+/// Returns the findings of the reported results at these spots. There are a draft and a state, or none, for each.
+fn list_told<'l, 'w, 't, 'a>(
+    alloc: Global,
+    reporting: &Reporting,
+    runs: &'l [ToldRun<'w, 't, 'a>],
+    spots: &[Spot],
+    drafts: &[Draft],
+    states: &[Option<State>],
+) -> Result<Vec<Told<'l, 'w, 't, 'a>>, AllocError>
+    requires within { All (IsSpotOf (map placed_told runs.now)) spots.now }
+    requires drafts { length drafts.now ≡ length spots.now }
+    requires states { length states.now ≡ length spots.now }
+    ensures { IfOk result (λ told. map (told_by reporting.now) told.items ≡ told_each reporting.now
+        (map (pair_at (map placed_told runs.now)) spots.now) drafts.now states.now) }
+{
+    let mut told = Vec::new(alloc);
+    for (number, spot) in spots.iter().enumerate() {
+        let run = &runs[spot.run as usize];
+        push_told(
+            &mut told,
+            reporting,
+            run,
+            spot.seq,
+            &drafts[number],
+            states[number],
+        )?;
+    }
+    Ok(told)
+}
+
+/// Returns the finding of one of them.
+#[tactic(auto, using(crate::proofs::ResultsAlike::told_members))]
+fn tell(
+    alloc: Global,
+    reporting: &Reporting,
+    told: &Told<'_, '_, '_, '_>,
+) -> Result<Finding, AllocError>
+    ensures { IfOk result (λ finding. finding ≡ told_by reporting.now told.now) }
+{
+    let run = told.run;
+    let members = run.opened.picked(alloc, told.seq, &TOLD_MEMBERS)?;
+    let result = ToldResult {
+        members: &members,
+        location: run.opened.first_location(told.seq),
+    };
+    let named = &run.named;
+    finding_of(alloc, reporting, named, &result, told.level, told.state)
+}
+
+/// Returns the findings of these, in order.
+fn tell_in_turn(
+    alloc: Global,
+    reporting: &Reporting,
+    told: &[Told<'_, '_, '_, '_>],
+) -> Result<Vec<Finding>, AllocError>
+    ensures { IfOk result (λ findings. findings.items ≡ map (told_by reporting.now) told.now) }
+{
+    let mut findings = Vec::with_capacity(alloc, told.len())?;
+    for one in told {
+        findings.push(tell(alloc, reporting, one)?)?;
+    }
+    Ok(findings)
+}
+
+/// Returns the findings of these. At most `threads` threads collect them, including this one.
+#[cycle(telling)]
+fn tell_all<R: Threads + Sync>(
+    rt: &R,
+    alloc: Global,
+    reporting: &Reporting,
+    told: &[Told<'_, '_, '_, '_>],
+    threads: u32,
+) -> Result<Vec<Finding>, AllocError>
+    requires { 1 ≤ threads }
+    ensures { IfOk result (λ findings. findings.items ≡ map (told_by reporting.now) told.now) }
+{
+    if threads < 2 || told.len() < FEWEST_SHARED {
+        return tell_in_turn(alloc, reporting, told);
+    }
+    let few = threads / 2;
+    let others = threads - few;
+    let (low, high) = told.split_at(told.len() / 2);
+    let front = move || -> Result<Vec<Finding>, AllocError>
+        requires { 1 ≤ few }
+        ensures { IfOk result
+            (λ findings. findings.items ≡ map (told_by reporting.entry.now) low.entry.now) }
+    { tell_all(rt, alloc, reporting, low, few) };
+    let back = move || -> Result<Vec<Finding>, AllocError>
+        requires { 1 ≤ others }
+        ensures { IfOk result
+            (λ findings. findings.items ≡ map (told_by reporting.entry.now) high.entry.now) }
+    { tell_all(rt, alloc, reporting, high, others) };
+    let (first, second) = thread::join(rt, front, back);
+    let mut findings = first?;
+    let mut rest = second?;
+    findings.append(&mut rest)?;
+    Ok(findings)
+}
+
+/// Returns the findings of the results of logs, which have these states.
+pub(crate) fn tell_current<R: Threads + Sync>(
+    rt: &R,
+    alloc: Global,
+    asked: &Asked<'_>,
+    current: &Half<'_, '_>,
+    states: &[Option<State>],
+) -> Result<Vec<Finding>, AllocError>
+    requires runs { length current.now.runs.items ≤ most_runs }
+    requires drafts { length current.now.drafts.items
+        ≡ length (spots_from 0 (map placed_of current.now.runs.items)) }
+    requires states { length states.now ≡ length current.now.drafts.items }
+    ensures { IfOk result (λ findings. findings.items ≡ if_asked (reporting_in asked.now)
+        (λ reporting. told_each reporting (map (pair_at (map placed_of current.now.runs.items))
+        (spots_from 0 (map placed_of current.now.runs.items)))
+        current.now.drafts.items states.now)) }
+{
+    let Some(reporting) = asked.reporting else {
+        return Ok(Vec::new(alloc));
+    };
+    let spots = list_spots(alloc, &current.runs)?;
+    let runs = name_runs(alloc, &current.runs)?;
+    let drafts = &current.drafts;
+    let told = list_told(alloc, reporting, &runs, &spots, drafts, states)?;
+    tell_all(rt, alloc, reporting, &told, asked.options.workers)
+}
+
+/// Adds a spot, unless it is taken.
+fn push_unless(left: &mut Vec<Spot>, is_taken: bool, spot: Spot) -> Result<(), AllocError>
+    ensures { OnOk result
+        (left.new.items ≡ left.old.items ++ not_taken (is_taken ∷ []) (spot ∷ [])) }
+{
+    if !is_taken {
+        left.push(spot)?;
+    }
+    Ok(())
+}
+
+/// Returns the spots that are not taken.
+fn left_spots(alloc: Global, spots: &[Spot], taken: &[bool]) -> Result<Vec<Spot>, AllocError>
+    requires { length taken.now ≡ length spots.now }
+    ensures { IfOk result (λ left. left.items ≡ not_taken taken.now spots.now) }
+{
+    let mut left = Vec::new(alloc);
+    for (number, spot) in spots.iter().enumerate() {
+        push_unless(&mut left, taken[number], *spot)?;
+    }
+    Ok(left)
+}
+
+/// Returns the findings of the baseline results that are not taken, which have these drafts, as absent.
+pub(crate) fn tell_left<R: Threads + Sync>(
+    rt: &R,
+    alloc: Global,
+    asked: &Asked<'_>,
+    baselines: &Baselines<'_, '_>,
+    taken: &[bool],
+    drafts: &[Draft],
+) -> Result<Vec<Finding>, AllocError>
+    requires within { All (IsSpotOf (map placed_of baselines.now.runs.items))
+        baselines.now.spots.items }
+    requires taken { length taken.now ≡ length baselines.now.spots.items }
+    requires drafts { length drafts.now
+        ≡ length (not_taken taken.now baselines.now.spots.items) }
+    ensures { IfOk result (λ findings. findings.items ≡ if_asked (reporting_in asked.now)
+        (λ reporting. told_each reporting (map (pair_at (map placed_of baselines.now.runs.items))
+        (not_taken taken.now baselines.now.spots.items)) drafts.now
+        (map (λ _. Some Absent) drafts.now))) }
+{
+    let Some(reporting) = asked.reporting else {
+        return Ok(Vec::new(alloc));
+    };
+    let spots = left_spots(alloc, &baselines.spots, taken)?;
+    let states = absent_states(alloc, drafts)?;
+    let runs = name_runs(alloc, &baselines.runs)?;
+    let told = list_told(alloc, reporting, &runs, &spots, drafts, &states)?;
+    tell_all(rt, alloc, reporting, &told, asked.options.workers)
+}
