@@ -4,7 +4,7 @@ use Rattle.std.specs.Prelude.{Ok, Err, Some, IfOk}
 use Rattle.std.proofs.lemmas.Result.{IfErr-at_err}
 use Rattle.json.specs.Token.{Token}
 use Rattle.json_parts.specs.Indexed.{data_of}
-use Rattle.json_parts.specs.Together.{IsIndexed}
+use Rattle.sarif_inputs.specs.Together.{IsIndexed}
 use Rattle.json_parts.specs.declared.indexing.IndexFault.{IndexFault}
 use Rattle.json_parts.specs.declared.indexing.IndexFault.TheVariants as index
 use Rattle.sarif_read.specs.Indexed.{run_of}

@@ -4,7 +4,7 @@ use Rattle.std.specs.List.{AllZip}
 use denote.Ref.{Bor}
 use Rattle.json.specs.Token.{Token}
 use Rattle.json_parts.specs.declared.indexing.IndexFault.{IndexFault}
-use Rattle.json_parts.specs.Together.{AreIndexed}
+use Rattle.sarif_inputs.specs.Together.{AreIndexed}
 use Rattle.json_parts.specs.Mark.{without_mark}
 use Rattle.sarif_inputs.specs.Parsed.{Parsed, IsParsedFrom, AreParsedFrom, IsReadFrom, AreReadFrom}
 

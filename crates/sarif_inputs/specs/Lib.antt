@@ -7,3 +7,4 @@ pub mod ReadRun
 pub mod ReadSoFar
 pub mod Runs
 pub mod SourceFaults
+pub mod Together

@@ -5,7 +5,7 @@ use Rattle.std.specs.declared.alloc.Global.{Global}
 use Rattle.std.specs.declared.vec.Vec.{Vec}
 use Rattle.json.specs.Token.{Token}
 use Rattle.json_parts.specs.declared.indexing.IndexFault.{IndexFault}
-use Rattle.json_parts.specs.Together.{IsIndexed}
+use Rattle.sarif_inputs.specs.Together.{IsIndexed}
 use Rattle.sarif_read.specs.Indexed.{run_of}
 use Rattle.sarif_read.specs.Reading.{log_of}
 use Rattle.json_parts.specs.Mark.{without_mark}

@@ -1,6 +1,6 @@
 //! Reading the runs of sources that were indexed, some of them at the same time.
 ghost use Rattle.std.specs.Prelude.{◌≡◌, ◌≤◌, ℕ, List, IfOk};
-ghost use Rattle.json_parts.specs.Together.{IsIndexed};
+ghost use Rattle.sarif_inputs.specs.Together.{IsIndexed};
 ghost use Rattle.json_parts.specs.Mark.{without_mark};
 ghost use Rattle.sarif_inputs.specs.Indexes.{AreIndexesOf};
 ghost use Rattle.sarif_inputs.specs.Parsed.{AreParsedFrom, AreReadFrom, IsParsedFrom, IsReadFrom};

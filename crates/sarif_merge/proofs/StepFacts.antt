@@ -4,7 +4,7 @@ use Rattle.std.proofs.lemmas.List.{length-map}
 use Rattle.std.specs.Prelude.{option_map}
 use Rattle.json.specs.Token.{Token}
 use Rattle.json_parts.specs.Mark.{without_mark}
-use Rattle.json_parts.specs.Together.{AreIndexed}
+use Rattle.sarif_inputs.specs.Together.{AreIndexed}
 use Rattle.json_parts.specs.declared.indexing.IndexFault.{IndexFault}
 use Rattle.sarif_model.specs.FirstFault.{first, IsOutOfResources}
 use Rattle.sarif_model.specs.Limits.{most_results, most_runs, most_sources}

@@ -1,6 +1,6 @@
 use Rattle.std.proofs.Common.{rules, ◌≡◌, Err, subst, sym}
 use Rattle.std.specs.Prelude.{Ok}
-use Rattle.json_parts.specs.Together.{IsIndexed}
+use Rattle.sarif_inputs.specs.Together.{IsIndexed}
 use Rattle.sarif_read.specs.ReadRefusal.{refusal_of_index}
 use Rattle.json_parts.specs.Mark.{without_mark}
 use Rattle.sarif_inputs.specs.Parsed.{IsParsedFrom}
