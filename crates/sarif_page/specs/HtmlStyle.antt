@@ -2,9 +2,9 @@
 -- Hits, levels and states differ by their names and by weight or slant, not only by color.
 use Rattle.std.specs.Prelude.{ℕ, List, ◌++◌, codes}
 
--- lines of CSS
-unfoldable pub style : List ℕ
-style =
+-- the page, its header and the table of counts
+unfoldable pub style_top : List ℕ
+style_top =
     codes "<style>\n" ++ (
     codes ":root{color-scheme:light dark;--page:#fff;--soft:#f6f8fa;--line:#d8dee4;--edge:#818b98;--text:#1f2328;--dim:#57606a;--mark:#fff3cd;--error:#b3261e;--warning:#7d4e00;--note:#0a58b0;--pass:#1a7f37}\n" ++ (
     codes "@media (prefers-color-scheme:dark){:root{--page:#0d1117;--soft:#161b22;--line:#30363d;--edge:#7d8590;--text:#e6edf3;--dim:#9da7b1;--mark:#3b2e00;--error:#ff9a92;--warning:#e3b341;--note:#79c0ff;--pass:#56d364}}\n" ++ (
@@ -31,7 +31,11 @@ style =
     codes ".counts th,.counts td{padding:.1875rem .625rem;border-bottom:1px solid var(--line);text-align:right;font-weight:400;font-variant-numeric:tabular-nums}\n" ++ (
     codes ".counts tr>:first-child{padding-left:0;text-align:left}\n" ++ (
     codes ".counts thead th{color:var(--dim)}\n" ++ (
-    codes ".counts .on{outline:1px solid var(--edge);outline-offset:-2px;background:var(--mark)}\n" ++ (
+    codes ".counts .on{outline:1px solid var(--edge);outline-offset:-2px;background:var(--mark)}\n"))))))))))))))))))))))))))
+
+-- the boxes and the tables of results
+unfoldable pub style_tables : List ℕ
+style_tables =
     codes ".filters{display:none}\n" ++ (
     codes "@supports selector(:has(*)){.filters{display:flex}}\n" ++ (
     codes ".filters{flex-wrap:wrap;gap:.25rem 2rem;margin-top:1.5rem}\n" ++ (
@@ -57,7 +61,11 @@ style =
     codes ".results tbody code{font-size:.8125rem}\n" ++ (
     codes ".results tbody th code{font-weight:700}\n" ++ (
     codes ".results .again th code{color:var(--dim);font-weight:400}\n" ++ (
-    codes ".results th b{color:var(--text);white-space:nowrap}\n" ++ (
+    codes ".results th b{color:var(--text);white-space:nowrap}\n")))))))))))))))))))))))))
+
+-- cells by their level and state
+unfoldable pub style_cells : List ℕ
+style_cells =
     codes ".results td:nth-child(2) span{display:inline-block;padding:0 .4375rem;border:1px solid;border-radius:.25rem;font-size:.8125rem;line-height:1.4;white-space:nowrap}\n" ++ (
     codes ".results td:nth-child(5){white-space:nowrap}\n" ++ (
     codes "[data-level=\"error\"] td:nth-child(2) span{background:var(--error);border-color:var(--error)!important;color:var(--page);font-weight:700}\n" ++ (
@@ -67,7 +75,11 @@ style =
     codes "[data-state=\"new\"] td:nth-child(5){font-weight:700}\n" ++ (
     codes "[data-state=\"unchanged\"] td:nth-child(5),[data-state=\"absent\"] td:nth-child(5){color:var(--dim);font-style:italic}\n" ++ (
     codes ".results td:nth-child(6){color:var(--dim)}\n" ++ (
-    codes ".empty{margin-top:2rem;color:var(--dim)}\n" ++ (
+    codes ".empty{margin-top:2rem;color:var(--dim)}\n")))))))))
+
+-- on a phone
+unfoldable pub style_narrow : List ℕ
+style_narrow =
     codes "@media (max-width:64rem){\n" ++ (
     codes "body{padding:1rem 1rem 2rem}\n" ++ (
     codes "header{display:block}\n" ++ (
@@ -93,7 +105,11 @@ style =
     codes ".results td:nth-child(3){font-size:1rem}\n" ++ (
     codes ".results tbody code{font-size:.875rem}\n" ++ (
     codes ".results a{padding-block:.25rem}\n" ++ (
-    codes "}\n" ++ (
+    codes "}\n")))))))))))))))))))))))))
+
+-- rows that the boxes exclude, and the printed page
+unfoldable pub style_end : List ℕ
+style_end =
     codes "main:has(#error:not(:checked)) [data-level=\"error\"],main:has(#warning:not(:checked)) [data-level=\"warning\"],main:has(#note:not(:checked)) [data-level=\"note\"],main:has(#none:not(:checked)) [data-level=\"none\"],\n" ++ (
     codes "main:has(#new:not(:checked)) [data-state=\"new\"],main:has(#unchanged:not(:checked)) [data-state=\"unchanged\"],main:has(#updated:not(:checked)) [data-state=\"updated\"],main:has(#absent:not(:checked)) [data-state=\"absent\"]{display:none}\n" ++ (
     codes "@media print{\n" ++ (
@@ -108,4 +124,8 @@ style =
     codes "caption{break-after:avoid}\n" ++ (
     codes "[data-level=\"error\"] td:nth-child(2) span{background:none;color:#000;border-width:2px}\n" ++ (
     codes "}\n" ++ (
-    codes "</style>\n")))))))))))))))))))))))))))))))))))))))))))))))))))))))))))))))))))))))))))))))))))))))))))))))))))))))
+    codes "</style>\n"))))))))))))))
+
+-- lines of CSS
+unfoldable pub style : List ℕ
+style = style_top ++ (style_tables ++ (style_cells ++ (style_narrow ++ style_end)))

@@ -7,9 +7,10 @@ ghost use Rattle.sarif_page.specs.HtmlReport as said;
 use crate::html_counts::push_counts;
 use crate::html_filters::push_filters;
 use crate::html_fixed::{
-    body_begin, header_end, nothing_reported, page_begin, page_end, style, title_end,
+    body_begin, header_end, nothing_reported, page_begin, page_end, title_end,
 };
 use crate::html_rows::push_section;
+use crate::html_style::push_style;
 use crate::html_tables::{Rows, rows_of};
 use crate::html_words::{hits_heading, others_text, reason};
 use sarif_counts::{Policy, Verdict, hits, verdict};
@@ -32,7 +33,7 @@ fn push_head(
     text.push_str(page_begin())?;
     text.push_str(title.as_str())?;
     text.push_str(title_end())?;
-    text.push_str(style())?;
+    push_style(text)?;
     text.push_str(body_begin())?;
     Ok(())
 }

@@ -7,6 +7,7 @@ mod html_filters;
 mod html_fixed;
 mod html_page;
 mod html_rows;
+mod html_style;
 mod html_tables;
 mod html_words;
 mod laws;
