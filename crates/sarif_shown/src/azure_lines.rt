@@ -3,7 +3,7 @@ ghost use Rattle.std.specs.Prelude.{◌≡◌, ◌++◌, IfOk, OnOk, string_byte
 ghost use Rattle.sarif_shown.specs.AzureReport as said;
 
 use crate::escaping::Escaping;
-use crate::listed::listed;
+use crate::listing::listed;
 use itoa::Buffer;
 use sarif_findings::Finding;
 use sarif_model::{Level, Text};

@@ -7,7 +7,7 @@ mod count_row;
 mod escaping;
 mod github_lines;
 mod laws;
-mod listed;
+mod listing;
 mod place;
 mod sentences;
 mod text_lines;
@@ -23,7 +23,7 @@ pub use laws::{
     reported_hits_are_counted, shown_signs_stand_apart, shown_texts_are_seen,
     text_reports_have_a_line_a_result,
 };
-pub use listed::{listed, push_hits, push_others};
+pub use listing::{listed, push_hits, push_others};
 pub use place::{push_numbered, push_path, push_place};
 pub use sentences::{counted, entries_text, gate_end, gate_text, hits_text, more_text, runs_text};
 pub use text_lines::{push_result_line, text_report};

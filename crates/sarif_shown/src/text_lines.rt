@@ -2,7 +2,7 @@
 ghost use Rattle.std.specs.Prelude.{◌≡◌, ◌++◌, IfOk, OnOk, flat_map, map, string_bytes};
 ghost use Rattle.sarif_shown.specs.TextReport as said;
 
-use crate::listed::listed;
+use crate::listing::listed;
 use crate::place::push_place;
 use sarif_findings::Finding;
 use std::alloc::{AllocError, Global};

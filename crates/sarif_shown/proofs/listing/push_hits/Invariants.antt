@@ -1,6 +1,6 @@
 use Rattle.std.proofs.Common.{◌≡◌, ◌++◌, drop, map}
 use Rattle.sarif_shown.specs.Listed.{hits_among}
-use Rattle.sarif_shown.proofs.listed.push_hits.Given as goal
+use Rattle.sarif_shown.proofs.listing.push_hits.Given as goal
 
 abbrev pub invariant-loop-finding : goal.invariant-loop-finding
 invariant-loop-finding l =

@@ -1,6 +1,6 @@
 use Rattle.std.proofs.Common.{◌≡◌, ◌++◌, drop, map}
 use Rattle.sarif_shown.specs.Listed.{others_among}
-use Rattle.sarif_shown.proofs.listed.push_others.Given as goal
+use Rattle.sarif_shown.proofs.listing.push_others.Given as goal
 
 abbrev pub invariant-loop-finding : goal.invariant-loop-finding
 invariant-loop-finding l =
