@@ -3,9 +3,8 @@ use crate::samples::{findings_with, told_of};
 use sarif_counts::{Counts, Policy};
 use sarif_findings::{Finding, shown};
 use sarif_model::{Level, State, Text};
-use sarif_reports::{
-    Report, github_report, gitlab_report, markdown_report, report_text, text_report,
-};
+use sarif_reports::{Report, gitlab_report, markdown_report, report_text};
+use sarif_shown::{github_report, text_report};
 use std::alloc::{AllocError, AllocGlobal, Global};
 use std::test::Fail;
 

@@ -2,7 +2,7 @@
 use sarif_counts::{Counts, Policy};
 use sarif_findings::{Finding, Reporting, reported};
 use sarif_model::{Sequence, Text};
-use sarif_reports::Told;
+use sarif_shown::Told;
 use serde_json::Value;
 use std::alloc::{AllocError, AllocGlobal, Global};
 use std::hash::RandomState;

@@ -7,7 +7,7 @@ use Rattle.sarif_log.specs.declared.merged.Merged.{Merged}
 use Rattle.sarif_counts.specs.Counts.{count_at}
 use Rattle.sarif_reports.specs.declared.report.Report.{Report}
 use Rattle.sarif_findings.specs.declared.reporting.Reporting.{Reporting}
-use Rattle.sarif_reports.specs.Facts.{Facts}
+use Rattle.sarif_shown.specs.Facts.{Facts}
 use Rattle.sarif_reports.specs.Report.{needs_findings, report_of}
 use Rattle.sarif_streams.specs.declared.counted.Counted.{Counted}
 use Rattle.sarif_streams.specs.Counted.{failed_calls, inner_of}

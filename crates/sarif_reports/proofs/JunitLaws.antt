@@ -23,10 +23,10 @@ use Rattle.sarif_findings.proofs.HitsReported.{hits_reported}
 use Rattle.sarif_findings.proofs.ToldFindings.{all_told}
 use Rattle.sarif_reports.specs.JunitLaws.{IsXmlText, cases_of, document_of, fails, is_xml_char, occurrences}
 use Rattle.sarif_reports.specs.JunitReport.{failures_in, hits_in, skipped_in}
-use Rattle.sarif_reports.specs.Listed.{listed}
+use Rattle.sarif_shown.specs.Listed.{listed}
 use Rattle.sarif_reports.proofs.JunitApart.{IsLines, Piece, case_tag, document_piece, failure_tag, skipped_tag}
 use Rattle.sarif_reports.proofs.ListedHits.{listed_hits}
-use Rattle.sarif_reports.proofs.ListedMore.{length_listed, listed_told}
+use Rattle.sarif_shown.proofs.ListedMore.{length_listed, listed_told}
 
 -- the numbers of elements of a whole document
 whole : (part text : List ℕ) (n : ℕ) → ((more : List ℕ) → occurrences part (text ++ more) ≡ occurrences part more + n) → occurrences part text ≡ n

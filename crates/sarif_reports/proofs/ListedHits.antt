@@ -3,7 +3,7 @@ use Rattle.std.proofs.Common.{◌≡◌, ◌+◌, ℕ, Bool, true, false, not, c
 use Rattle.std.proofs.lemmas.List.Sums.{sum_by-append, sum_by-cons}
 use Rattle.sarif_findings.specs.declared.finding.Finding.{Finding}
 use Rattle.sarif_reports.specs.JunitReport.{hits_in}
-use Rattle.sarif_reports.specs.Listed.{hits_among, listed, others_among}
+use Rattle.sarif_shown.specs.Listed.{hits_among, listed, others_among}
 
 hits_by : (b : Bool) (f : Finding) (hits others : List Finding) (n : ℕ) → f.hit ≡ b → hits_in hits + hits_in others ≡ n
     → hits_in (cond b (f ∷ hits) hits) + hits_in (cond (not b) (f ∷ others) others) ≡ cond b 1 0 + n

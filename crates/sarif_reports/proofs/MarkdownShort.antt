@@ -11,11 +11,11 @@ use Rattle.sarif_counts.specs.declared.policy.Verdict.TheVariants.{Pass, Fail}
 use Rattle.sarif_counts.specs.Policy.{Count, hits_of, verdict_name, verdict_of}
 use Rattle.sarif_counts.specs.Summary.{suppressed_of}
 use Rattle.sarif_findings.specs.declared.finding.Finding.{Finding}
-use Rattle.sarif_reports.specs.CountRow.{row_begin, row_end}
-use Rattle.sarif_reports.specs.Facts.{Facts}
+use Rattle.sarif_shown.specs.CountRow.{row_begin, row_end}
+use Rattle.sarif_shown.specs.Facts.{Facts}
 use Rattle.sarif_reports.specs.MarkdownLaws.{AreSmall}
 use Rattle.sarif_reports.specs.MarkdownReport.{count_row, counts_table, heading, in_table, left_out, line_if, markdown_of, notes, others_line, paragraph, result_row, results_table, table_of}
-use Rattle.sarif_reports.specs.Sentences.{counted, entries_text, gate_end, gate_text, hits_text, more_hits, more_of_both, more_others, more_text, runs_text}
+use Rattle.sarif_shown.specs.Sentences.{counted, entries_text, gate_end, gate_text, hits_text, more_hits, more_of_both, more_others, more_text, runs_text}
 use Rattle.sarif_reports.proofs.TableRows.{hits_few, results_parted, table_fits}
 
 -- two strings in sequence

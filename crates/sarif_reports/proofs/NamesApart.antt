@@ -14,7 +14,7 @@ use lib.Pointwise.{pointwise}
 use Rattle.sarif_findings.specs.declared.finding.Finding.{Finding}
 use Rattle.sarif_reports.specs.JunitReport.{case_name, ends_numbered, named_among, nth_name, plain_name}
 use Rattle.sarif_reports.specs.JunitLaws.{names_after}
-use Rattle.sarif_reports.proofs.EscapedApart.{decimal_digits}
+use Rattle.sarif_shown.proofs.EscapedApart.{decimal_digits}
 
 -- ---- a name with a number, read back
 

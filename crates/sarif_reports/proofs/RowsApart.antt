@@ -13,23 +13,23 @@ use Rattle.sarif_model.specs.declared.kinds.State.{State}
 use Rattle.sarif_model.specs.declared.kinds.State.TheVariants.{New, Unchanged, Updated, Absent}
 use Rattle.sarif_model.specs.Level.{level_name}
 use Rattle.sarif_model.specs.State.{state_name}
-use Rattle.sarif_reports.specs.declared.escaping.Escaping.TheVariants.{Markdown}
+use Rattle.sarif_shown.specs.declared.escaping.Escaping.TheVariants.{Markdown}
 use Rattle.sarif_findings.specs.declared.finding.Finding.{Finding}
 use Rattle.sarif_findings.specs.declared.reporting.Reporting.{Reporting}
-use Rattle.sarif_reports.specs.Escaped.{escaped, escaped_char, markdown_char, is_mark}
+use Rattle.sarif_shown.specs.Escaped.{escaped, escaped_char, markdown_char, is_mark}
 use Rattle.sarif_findings.specs.Finding.{spot_text}
 use Rattle.sarif_reports.specs.MarkdownReport.{code_of, hit_cell, result_row}
 use Rattle.sarif_reports.specs.MarkdownLaws.{have_bars}
 use Rattle.sarif_findings.specs.Reported.{reported_of}
 use Rattle.sarif_findings.specs.ShownLaws.{is_seen, are_seen}
-use Rattle.sarif_reports.proofs.EscapedApart.{decimal_digits, mark_small}
+use Rattle.sarif_shown.proofs.EscapedApart.{decimal_digits, mark_small}
 use Rattle.sarif_findings.proofs.HighBytes.{high_apart, char_kept}
-use Rattle.sarif_reports.proofs.SeenTexts.{IsSeenText, shown_text, place_seen, escaped_chars}
-use Rattle.sarif_reports.proofs.TextApart.{seen_in_line, same_ends}
+use Rattle.sarif_shown.proofs.SeenTexts.{IsSeenText, shown_text, place_seen, escaped_chars}
+use Rattle.sarif_shown.proofs.TextApart.{seen_in_line, same_ends}
 use Rattle.sarif_findings.proofs.ToldFindings.{IsTold, all_told}
-use Rattle.sarif_reports.specs.Listed.{listed}
+use Rattle.sarif_shown.specs.Listed.{listed}
 use Rattle.sarif_reports.specs.MarkdownReport.{most_rows, most_bytes, fitting, in_table}
-use Rattle.sarif_reports.proofs.ListedMore.{listed_told}
+use Rattle.sarif_shown.proofs.ListedMore.{listed_told}
 use Rattle.std.specs.Prelude.{nat_le}
 
 -- this many lines end, each with eight bars, after this many earlier ones

@@ -173,7 +173,7 @@ suite_added f (e ∷ es) key new tool items found =
 pub pointed_pushed : (old new : List (Bor Finding)) (f : Bor Finding) → new ≡ old ++ f ∷ [] → pointed new ≡ pointed old ++ f.now ∷ []
 pointed_pushed old new f pushed = ap pointed pushed ∙ map-append (λ x. x.now) old (f ∷ [])
 
--- ---- the results that were read, and those that are left
+-- ---- the results that were read
 
 pub pointed_more : (fs : List (Bor Finding)) (i : ℕ) (f : Bor Finding) → i < length fs → f ≡ get_or fs i f
     → pointed (take (i + 1) fs) ≡ pointed (take i fs) ++ f.now ∷ []
@@ -181,22 +181,9 @@ pointed_more fs i f within is =
     ap pointed (take_more fs i f within) ∙ map-append (λ x. x.now) (take i fs) (get_or fs i f ∷ [])
     ∙ ap (λ x. pointed (take i fs) ++ x.now ∷ []) (sym is)
 
-pub pointed_left : (fs : List (Bor Finding)) (i : ℕ) (f : Bor Finding) → i < length fs → f ≡ get_or fs i f
-    → pointed (drop i fs) ≡ f.now ∷ pointed (drop (i + 1) fs)
-pointed_left fs i f within is =
-    ap pointed (drop_more fs i f within) ∙ ap (λ x. x.now ∷ pointed (drop (i + 1) fs)) (sym is)
-
 -- the next result goes to its tool's
 pub suites_next : (fs : List (Bor Finding)) (i : ℕ) (f : Bor Finding) (old new : List Suite) → i < length fs → f ≡ get_or fs i f
     → new ≡ with_result f.now old → old ≡ suites_of (pointed (take i fs)) → new ≡ suites_of (pointed (take (i + 1) fs))
 suites_next fs i f old new within is added held =
     added ∙ ap (with_result f.now) held ∙ sym (suites_more (pointed (take i fs)) f.now)
     ∙ sym (ap suites_of (pointed_more fs i f within is))
-
--- the text of one more result
-pub texts_step : (h : Finding → List ℕ) (fs : List (Bor Finding)) (i : ℕ) (f : Bor Finding) (old new whole : List ℕ) → i < length fs → f ≡ get_or fs i f
-    → new ≡ old ++ h f.now → old ++ flat_map h (pointed (drop i fs)) ≡ whole → new ++ flat_map h (pointed (drop (i + 1) fs)) ≡ whole
-texts_step h fs i f old new whole within is written held =
-    ap (λ t. t ++ flat_map h (pointed (drop (i + 1) fs))) written
-    ∙ append_assoc old (h f.now) (flat_map h (pointed (drop (i + 1) fs)))
-    ∙ ap (λ t. old ++ t) (sym (ap (flat_map h) (pointed_left fs i f within is))) ∙ held

@@ -26,12 +26,12 @@ use Rattle.sarif_findings.specs.Shown.{kept, most_characters, shown_chars}
 use Rattle.sarif_findings.proofs.CharsBack.{chars_back}
 use Rattle.sarif_findings.proofs.HitsReported.{hits_reported}
 use Rattle.sarif_findings.proofs.ToldFindings.{IsShown, IsPath, IsTold, all_told}
-use Rattle.sarif_reports.specs.declared.escaping.Escaping.TheVariants.{Markdown}
-use Rattle.sarif_reports.specs.Escaped.{escaped, escaped_char, is_mark, markdown_char}
-use Rattle.sarif_reports.specs.Listed.{hits_among, listed, others_among}
+use Rattle.sarif_shown.specs.declared.escaping.Escaping.TheVariants.{Markdown}
+use Rattle.sarif_shown.specs.Escaped.{escaped, escaped_char, is_mark, markdown_char}
+use Rattle.sarif_shown.specs.Listed.{hits_among, listed, others_among}
 use Rattle.sarif_reports.specs.MarkdownReport.{code_of, fitting, hit_cell, in_table, left_out, most_bytes, most_rows, place_cells, result_row, rule_cells, tool_cells}
-use Rattle.sarif_reports.proofs.ListedMore.{length_listed, listed_told}
-use Rattle.sarif_reports.proofs.TextApart.{decimal_plain, is_plain, plain_bytes}
+use Rattle.sarif_shown.proofs.ListedMore.{length_listed, listed_told}
+use Rattle.sarif_shown.proofs.TextApart.{decimal_plain, is_plain, plain_bytes}
 
 -- ---- the rows fit
 

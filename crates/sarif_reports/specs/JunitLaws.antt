@@ -12,7 +12,7 @@ use Rattle.sarif_findings.specs.declared.reporting.Reporting.{Reporting}
 use Rattle.sarif_findings.specs.Reported.{reported_of}
 use Rattle.sarif_findings.specs.Shown.{is_between}
 use Rattle.sarif_reports.specs.JunitReport.{case_name, junit_document}
-use Rattle.sarif_reports.specs.Listed.{listed}
+use Rattle.sarif_shown.specs.Listed.{listed}
 
 -- how often a string occurs in another
 abbrev pub occurrences : List ℕ → List ℕ → ℕ

@@ -9,11 +9,11 @@ use Rattle.sarif_counts.specs.declared.policy.Verdict.TheVariants.{Pass, Fail}
 use Rattle.sarif_counts.specs.Policy.{verdict_of}
 use Rattle.sarif_findings.specs.declared.finding.Finding.{Finding}
 use Rattle.sarif_findings.specs.Finding.{spot_text}
-use Rattle.sarif_reports.specs.declared.escaping.Escaping.TheVariants.{Page}
-use Rattle.sarif_reports.specs.Escaped.{escaped}
-use Rattle.sarif_reports.specs.Facts.{Facts}
-use Rattle.sarif_reports.specs.Listed.{listed}
-use Rattle.sarif_reports.specs.TextReport.{result_line}
+use Rattle.sarif_shown.specs.declared.escaping.Escaping.TheVariants.{Page}
+use Rattle.sarif_shown.specs.Escaped.{escaped}
+use Rattle.sarif_shown.specs.Facts.{Facts}
+use Rattle.sarif_shown.specs.Listed.{listed}
+use Rattle.sarif_shown.specs.TextReport.{result_line}
 
 -- ---- names
 

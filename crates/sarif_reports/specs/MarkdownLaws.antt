@@ -3,7 +3,7 @@ use Rattle.std.specs.Prelude.{ℕ, ◌+◌, ◌<◌, ◌^◌, length, Bool, ◌&
 use Rattle.sarif_model.specs.declared.kinds.Level.{Level}
 use Rattle.sarif_model.specs.declared.kinds.State.{State}
 use Rattle.sarif_counts.specs.Policy.{hits_of}
-use Rattle.sarif_reports.specs.Facts.{Facts}
+use Rattle.sarif_shown.specs.Facts.{Facts}
 
 -- whether each line ends and has this many bars; some of the first line's were read already
 abbrev pub have_bars : ℕ → ℕ → List ℕ → Bool

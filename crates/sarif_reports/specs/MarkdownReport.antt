@@ -9,14 +9,14 @@ use Rattle.sarif_model.specs.Level.{level_name}
 use Rattle.sarif_model.specs.State.{state_name}
 use Rattle.sarif_counts.specs.declared.policy.Verdict.{Verdict}
 use Rattle.sarif_counts.specs.Policy.{Count, hits_of, verdict_of}
-use Rattle.sarif_reports.specs.CountRow.{row_of, numbers_of}
+use Rattle.sarif_shown.specs.CountRow.{row_of, numbers_of}
 use Rattle.sarif_findings.specs.declared.finding.Finding.{Finding}
-use Rattle.sarif_reports.specs.declared.escaping.Escaping.TheVariants.{Markdown}
+use Rattle.sarif_shown.specs.declared.escaping.Escaping.TheVariants.{Markdown}
 use Rattle.sarif_findings.specs.Finding.{spot_text}
-use Rattle.sarif_reports.specs.Escaped.{escaped}
-use Rattle.sarif_reports.specs.Facts.{Facts}
-use Rattle.sarif_reports.specs.Listed.{listed}
-use Rattle.sarif_reports.specs.Sentences.{gate_text, more_text, runs_text, entries_text}
+use Rattle.sarif_shown.specs.Escaped.{escaped}
+use Rattle.sarif_shown.specs.Facts.{Facts}
+use Rattle.sarif_shown.specs.Listed.{listed}
+use Rattle.sarif_shown.specs.Sentences.{gate_text, more_text, runs_text, entries_text}
 
 -- ---- strings
 

@@ -2,15 +2,15 @@
 use Rattle.std.specs.Prelude.{ℕ, Bool, true, false, List, [], ◌∷◌, ◌++◌, codes}
 use Rattle.sarif_reports.specs.declared.report.Report.{Report}
 use Rattle.sarif_reports.specs.declared.report.Report.TheVariants as report
-use Rattle.sarif_reports.specs.Facts.{Facts}
+use Rattle.sarif_shown.specs.Facts.{Facts}
 use Rattle.sarif_reports.specs.LaterOutputs.{known_text, suppressions_text, unused_text}
-use Rattle.sarif_reports.specs.TextReport.{text_lines_of}
-use Rattle.sarif_reports.specs.GithubReport.{github_of}
+use Rattle.sarif_shown.specs.TextReport.{text_lines_of}
+use Rattle.sarif_shown.specs.GithubReport.{github_of}
 use Rattle.sarif_reports.specs.MarkdownReport.{markdown_of}
 use Rattle.sarif_reports.specs.GitlabReport.{gitlab_of}
-use Rattle.sarif_reports.specs.HtmlReport.{html_of}
+use Rattle.sarif_page.specs.HtmlReport.{html_of}
 use Rattle.sarif_reports.specs.JunitReport.{junit_of}
-use Rattle.sarif_reports.specs.AzureReport.{azure_of}
+use Rattle.sarif_shown.specs.AzureReport.{azure_of}
 
 -- all of them, in the order in which they are written
 abbrev pub all_reports : List Report

@@ -3,10 +3,10 @@ ghost use Rattle.std.specs.Prelude.{◌≡◌, ◌++◌, OnOk, string_bytes};
 ghost use Rattle.sarif_reports.specs.JunitReport as said;
 
 use crate::junit_parts::{failure_end, push_attribute, skipped_end};
-use crate::text_lines::push_result_line;
 use sarif_counts::Verdict;
 use sarif_findings::Finding;
 use sarif_model::Text;
+use sarif_shown::push_result_line;
 use std::alloc::{AllocError, Global};
 
 /// Adds the path, if there is one.

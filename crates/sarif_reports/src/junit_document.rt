@@ -1,7 +1,7 @@
 //! The report for services that read JUnit XML.
 ghost use Rattle.std.specs.Prelude.{◌≡◌, ◌+◌, ◌<◌, ◌^◌, ◌++◌, ℕ, List, [], IfOk, OnOk, string_bytes};
 ghost use Rattle.std.specs.Prelude.{bytes_eq, flat_map, length, slice_get, if◌then◌else◌};
-ghost use Rattle.sarif_reports.specs.Facts.{facts_of};
+ghost use Rattle.sarif_shown.specs.Facts.{facts_of};
 ghost use Rattle.sarif_reports.specs.JunitReport as said;
 ghost use Rattle.sarif_reports.specs.Suites.{counted, entry_text, pointed, text_at};
 
@@ -11,11 +11,10 @@ use crate::junit_parts::{
     document_end, document_head, passed_document, push_attribute, push_counted, suite_end,
 };
 use crate::junit_suites::{Suites, suites_of};
-use crate::listed::listed;
-use crate::told::Told;
 use indexmap::IndexMap;
 use sarif_counts::{Verdict, verdict};
 use sarif_findings::Finding;
+use sarif_shown::{Told, listed};
 use std::alloc::{AllocError, Global};
 use std::hash::RandomState;
 

@@ -5,9 +5,9 @@ ghost use Rattle.std.specs.HashMap.{get_by_text};
 ghost use Rattle.sarif_reports.specs.JunitReport as said;
 ghost use Rattle.sarif_reports.specs.Suites.{counted};
 
-use crate::place::push_place;
 use indexmap::IndexMap;
 use sarif_findings::Finding;
+use sarif_shown::push_place;
 use std::alloc::{AllocError, Global};
 use std::hash::RandomState;
 

@@ -2,7 +2,7 @@
 ghost use Rattle.std.specs.Prelude.{◌≡◌, ◌++◌, OnOk, string_bytes};
 ghost use Rattle.sarif_reports.specs.JunitReport as said;
 
-use crate::escaping::Escaping;
+use sarif_shown::Escaping;
 use std::alloc::{AllocError, Global};
 
 /// Adds a string after the beginning of an attribute, or of an element's text.

@@ -3,20 +3,17 @@ ghost use Rattle.std.specs.Prelude.{◌≡◌, ◌≤◌, ◌++◌, IfOk, OnOk, 
 ghost use Rattle.std.specs.List.{count_by};
 ghost use Rattle.sarif_counts.specs.Counts.{count_at};
 ghost use Rattle.sarif_findings.specs.Finding.{spot_text};
-ghost use Rattle.sarif_reports.specs.CountRow.{row_begin, row_end};
-ghost use Rattle.sarif_reports.specs.Facts.{facts_of};
+ghost use Rattle.sarif_shown.specs.CountRow.{row_begin, row_end};
+ghost use Rattle.sarif_shown.specs.Facts.{facts_of};
 ghost use Rattle.sarif_reports.specs.MarkdownReport as said;
-ghost use Rattle.sarif_reports.specs.Sentences.{entries_text, runs_text};
+ghost use Rattle.sarif_shown.specs.Sentences.{entries_text, runs_text};
 
-use crate::count_row::row_numbers;
-use crate::escaping::Escaping;
-use crate::listed::listed;
-use crate::place::push_place;
-use crate::sentences::{entries_text, gate_text, more_text, runs_text};
-use crate::told::Told;
 use sarif_counts::{Counts, Verdict, hits, verdict};
 use sarif_findings::Finding;
 use sarif_model::State;
+use sarif_shown::{
+    Escaping, Told, entries_text, gate_text, listed, more_text, push_place, row_numbers, runs_text,
+};
 use std::alloc::{AllocError, Global};
 
 /// The maximum number of results in the table.

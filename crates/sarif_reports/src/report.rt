@@ -1,10 +1,10 @@
 //! The outputs besides the merged log as rows: a variant for each, with its name, its help and its content.
 ghost use Rattle.std.specs.Prelude.{◌≡◌, ◌≤◌, IfOk, string_bytes};
-ghost use Rattle.sarif_reports.specs.Facts.{facts_of};
+ghost use Rattle.sarif_shown.specs.Facts.{facts_of};
 ghost use Rattle.sarif_reports.specs.Report.{is_for_merges, needs_findings, report_name, report_of};
 
 use crate::later_outputs::{known_text, suppressions_text, unused_text};
-use crate::told::Told;
+use sarif_shown::Told;
 use std::alloc::{AllocError, Global};
 use std::fmt;
 use std::thread::Threads;
@@ -141,13 +141,13 @@ pub fn report_text<R: Threads + Sync>(
     match report {
         Report::Suppressions => suppressions_text(alloc, told.life),
         Report::Known => known_text(alloc, told.life),
-        Report::Text => crate::text_report(alloc, told.findings),
-        Report::Github => crate::github_report(alloc, told.findings),
+        Report::Text => sarif_shown::text_report(alloc, told.findings),
+        Report::Github => sarif_shown::github_report(alloc, told.findings),
         Report::Markdown => crate::markdown_report(alloc, told),
         Report::Gitlab => crate::gitlab_report(rt, alloc, told.findings, threads),
-        Report::Html => crate::html_report(alloc, told),
+        Report::Html => sarif_page::html_report(alloc, told),
         Report::Junit => crate::junit_report(alloc, told),
-        Report::Azure => crate::azure_report(alloc, told.findings),
+        Report::Azure => sarif_shown::azure_report(alloc, told.findings),
         Report::Unused => unused_text(alloc, told.life),
     }
 }

@@ -6,7 +6,7 @@ use sarif_gather::NoGate;
 use sarif_merge::merge_readers;
 use sarif_model::{Level, MergeFault, Sequence, Text};
 use sarif_prepare::Asked;
-use sarif_reports::text_report;
+use sarif_shown::text_report;
 use sarif_streams::{Counted, Readers};
 use std::alloc::{AllocError, AllocGlobal, Global};
 use std::process::Abort;

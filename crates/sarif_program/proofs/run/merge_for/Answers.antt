@@ -5,7 +5,7 @@ use Rattle.sarif_counts.specs.Counts.{count_at}
 use Rattle.sarif_counts.specs.declared.life.Life.{Life}
 use Rattle.sarif_counts.specs.Summary.{summary_of}
 use Rattle.sarif_log.specs.declared.facts.Facts.{Facts as MergeFacts}
-use Rattle.sarif_reports.specs.Facts.{Facts}
+use Rattle.sarif_shown.specs.Facts.{Facts}
 use Rattle.sarif_reports.specs.Report.{report_of}
 use Rattle.sarif_streams.proofs.ReadersRead.{none_has_fallen}
 use Rattle.sarif_program.specs.Notes.{lines_of}

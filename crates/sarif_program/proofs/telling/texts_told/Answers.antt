@@ -2,7 +2,7 @@ use Rattle.std.proofs.Common.{◌≡◌, [], map, rules}
 use Rattle.std.specs.Prelude.{Ok}
 use Rattle.std.proofs.lemmas.Result.{IfOk-weaker}
 use Rattle.sarif_reports.specs.declared.report.Report.{Report}
-use Rattle.sarif_reports.specs.Facts.{facts_of}
+use Rattle.sarif_shown.specs.Facts.{facts_of}
 use Rattle.sarif_reports.specs.Report.{report_of}
 use Rattle.sarif_program.proofs.Made.{made_texts}
 use Rattle.sarif_program.proofs.telling.texts_told.Goals as goal

@@ -1,7 +1,7 @@
 use Rattle.std.proofs.Common.{◌≡◌, ◌++◌, ◌∙◌, List, ℕ, ap, append_assoc, drop, flat_map, length, map, string_bytes, sym}
 use Rattle.std.proofs.lemmas.List.{drop-map}
 use Rattle.sarif_findings.specs.declared.finding.Finding.{Finding}
-use Rattle.sarif_reports.specs.Listed.{listed}
+use Rattle.sarif_shown.specs.Listed.{listed}
 use Rattle.sarif_reports.specs.MarkdownReport.{in_table, left_out, others_line, paragraph, result_row, rows_of}
 use Rattle.sarif_reports.proofs.markdown_table.push_table.Goals as goal
 

@@ -1,0 +1,4 @@
+pub mod FilesMore
+pub mod PlacesApart
+pub mod RowsByFile
+pub mod TagsCounted

@@ -1,0 +1,64 @@
+-- The sentences and the headings of a page.
+use Rattle.std.specs.Prelude.{ℕ, List, [], ◌∷◌, ◌++◌, codes, if◌then◌else◌}
+use Rattle.std.specs.Fmt.{decimal}
+use Rattle.sarif_model.specs.declared.kinds.Level.{Level}
+use Rattle.sarif_model.specs.declared.kinds.Level.TheVariants.{NoLevel, Note, Warning, Error}
+use Rattle.sarif_model.specs.declared.kinds.State.{State}
+use Rattle.sarif_model.specs.declared.kinds.State.TheVariants.{New, Unchanged, Updated, Absent}
+use Rattle.sarif_model.specs.State.{state_name}
+use Rattle.sarif_counts.specs.declared.policy.Policy.{Policy}
+use Rattle.sarif_counts.specs.declared.policy.States.{States}
+use Rattle.sarif_counts.specs.declared.policy.Verdict.{Verdict}
+use Rattle.sarif_counts.specs.declared.policy.Verdict.TheVariants.{Pass, Fail}
+use Rattle.sarif_counts.specs.Policy.{is_listed}
+use Rattle.sarif_shown.specs.Sentences.{counted, hits_text}
+
+-- ---- what a hit is
+
+abbrev pub listed_if : States → State → List State
+listed_if states state = if is_listed states state then state ∷ [] else []
+
+-- the states that count
+abbrev pub listed_states : States → List State
+listed_states states =
+    listed_if states New ++ (listed_if states Unchanged
+    ++ (listed_if states Updated ++ listed_if states Absent))
+
+-- what is between a state and the states after it
+abbrev pub joint : List State → List ℕ
+joint [] = []
+joint (state ∷ []) = codes " or "
+joint (state ∷ (next ∷ states)) = codes ", "
+
+-- as `new, updated or absent`
+abbrev pub joined : List State → List ℕ
+joined [] = []
+joined (state ∷ states) = state_name state ++ (joint states ++ joined states)
+
+-- the levels that count, from this one on
+abbrev pub levels_from : Level → List ℕ
+levels_from NoLevel = codes "any level"
+levels_from Note = codes "level note, warning or error"
+levels_from Warning = codes "level warning or error"
+levels_from Error = codes "level error"
+
+abbrev pub hit_is : List State → Level → List ℕ
+hit_is [] least = codes "No state counts, so no result is a hit."
+hit_is (state ∷ states) least =
+    codes "A hit is a result that is " ++ (joined (state ∷ states)
+    ++ (codes ", of " ++ (levels_from least ++ codes ", and not suppressed.")))
+
+-- what a hit is under this policy
+unfoldable pub reason : Policy → List ℕ
+reason policy = hit_is (listed_states policy.states) policy.fail_on
+
+-- ---- the headings of the tables
+
+-- the hits, and whether they stop the change
+abbrev pub hits_heading : Verdict → ℕ → ℕ → List ℕ
+hits_heading Fail hits max = counted hits (codes " hit stops this change") (codes " hits stop this change")
+hits_heading Pass hits max =
+    hits_text hits ++ (codes ", within the " ++ (decimal max ++ codes " allowed"))
+
+abbrev pub others_text : ℕ → List ℕ
+others_text others = counted others (codes " other result") (codes " other results")

@@ -1,0 +1,121 @@
+//! The counts of a page.
+ghost use Rattle.std.specs.Prelude.{◌≡◌, ◌++◌, false, IfOk, OnOk, string_bytes};
+ghost use Rattle.sarif_counts.specs.Counts.{count_at};
+ghost use Rattle.sarif_counts.specs.Policy.{severity as rank};
+ghost use Rattle.sarif_page.specs.HtmlReport as said;
+
+use crate::html_fixed::{counts_begin, counts_end};
+use sarif_counts::{Counts, Policy};
+use sarif_model::{Level, State};
+use sarif_shown::{Row, row_numbers};
+use std::alloc::{AllocError, Global};
+
+/// A number of hits, set off if there are any.
+fn strong(alloc: Global, number: u32) -> Result<String, AllocError>
+    ensures { IfOk result (λ s. string_bytes s ≡ said.strong number) }
+{
+    if number == 0 {
+        return String::from_str(alloc, "0");
+    }
+    format!(in alloc; "<b>{number}</b>")
+}
+
+/// A number of results that are not hits.
+fn plain_cell(alloc: Global, number: u64) -> Result<String, AllocError>
+    ensures { IfOk result (λ s. string_bytes s ≡ said.number_cell false number) }
+{
+    format!(in alloc; "<td>{number}</td>")
+}
+
+/// A number of results, which are hits or not.
+fn number_cell(alloc: Global, are_hits: bool, number: u32) -> Result<String, AllocError>
+    ensures { IfOk result (λ s. string_bytes s ≡ said.number_cell are_hits number) }
+{
+    if !are_hits {
+        return plain_cell(alloc, u64::from(number));
+    }
+    let number = strong(alloc, number)?;
+    format!(in alloc; "<td class=\"on\">{number}</td>")
+}
+
+fn severity(level: Level) -> u8
+    ensures { result ≡ rank level }
+{
+    match level {
+        Level::NoLevel => 0,
+        Level::Note => 1,
+        Level::Warning => 2,
+        Level::Error => 3,
+    }
+}
+
+/// Whether the active results of this state and level are hits.
+fn are_hits(policy: &Policy, state: State, level: Level) -> bool
+    ensures { result ≡ said.are_hits policy.now state level }
+{
+    policy.states.lists(state) && severity(policy.fail_on) <= severity(level)
+}
+
+/// The cells of a state's active results, by level.
+#[tactic(auto, unfolding(crate::specs::HtmlReport::level_cells))]
+fn level_cells(
+    alloc: Global,
+    policy: &Policy,
+    state: State,
+    row: &Row,
+) -> Result<String, AllocError>
+    ensures { IfOk result (λ s. string_bytes s ≡ said.level_cells policy.now state row.now) }
+{
+    let error = number_cell(alloc, are_hits(policy, state, Level::Error), row.error)?;
+    let warning = number_cell(alloc, are_hits(policy, state, Level::Warning), row.warning)?;
+    let note = number_cell(alloc, are_hits(policy, state, Level::Note), row.note)?;
+    let none = number_cell(alloc, are_hits(policy, state, Level::NoLevel), row.none)?;
+    format!(in alloc; "{error}{warning}{note}{none}")
+}
+
+/// The row of one state, with these numbers.
+fn row_of(alloc: Global, policy: &Policy, state: State, row: &Row) -> Result<String, AllocError>
+    ensures { IfOk result (λ s. string_bytes s ≡ said.row_of policy.now state row.now) }
+{
+    let name = state.name();
+    let cells = level_cells(alloc, policy, state, row)?;
+    let last = plain_cell(alloc, row.suppressed)?;
+    format!(in alloc; "<tr><th scope=\"row\" align=\"left\">{name}</th>{cells}{last}</tr>\n")
+}
+
+/// Adds the row of one state.
+#[tactic(auto, unfolding(crate::specs::HtmlReport::count_row))]
+fn push_count_row(
+    alloc: Global,
+    text: &mut String,
+    counts: &Counts,
+    policy: &Policy,
+    state: State,
+) -> Result<(), AllocError>
+    ensures { OnOk result (string_bytes text.new
+        ≡ string_bytes text.old ++ said.count_row policy.now state (count_at counts.now state)) }
+{
+    let row = row_of(alloc, policy, state, &row_numbers(counts, state))?;
+    text.push_str(row.as_str())?;
+    Ok(())
+}
+
+/// Adds the table of counts, which sets the hits off.
+#[tactic(auto, unfolding(crate::specs::HtmlReport::counts_table))]
+pub(crate) fn push_counts(
+    alloc: Global,
+    text: &mut String,
+    counts: &Counts,
+    policy: &Policy,
+) -> Result<(), AllocError>
+    ensures { OnOk result (string_bytes text.new
+        ≡ string_bytes text.old ++ said.counts_table (count_at counts.now) policy.now) }
+{
+    text.push_str(counts_begin())?;
+    push_count_row(alloc, text, counts, policy, State::New)?;
+    push_count_row(alloc, text, counts, policy, State::Unchanged)?;
+    push_count_row(alloc, text, counts, policy, State::Updated)?;
+    push_count_row(alloc, text, counts, policy, State::Absent)?;
+    text.push_str(counts_end())?;
+    Ok(())
+}

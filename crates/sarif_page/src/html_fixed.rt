@@ -1,0 +1,157 @@
+//! The text that is the same on each page: it contains nothing from a log.
+ghost use Rattle.std.specs.Prelude.{◌≡◌};
+ghost use Rattle.sarif_page.specs.HtmlFixed as fixed;
+
+/// Up to the verdict in the title. The page runs no script and loads nothing.
+#[tactic(auto, unfolding(crate::specs::HtmlFixed::page_begin))]
+pub(crate) fn page_begin() -> &'static str
+    ensures { result.now ≡ fixed.page_begin }
+{
+    "\
+<!DOCTYPE html>
+<html lang=\"en\">
+<head>
+<meta charset=\"utf-8\">
+<meta http-equiv=\"Content-Security-Policy\" content=\"default-src 'none'; style-src 'unsafe-inline'; base-uri 'none'; form-action 'none'\">
+<meta name=\"viewport\" content=\"width=device-width, initial-scale=1\">
+<meta name=\"color-scheme\" content=\"light dark\">
+<title>"
+}
+
+/// After the title.
+#[tactic(auto, unfolding(crate::specs::HtmlFixed::title_end))]
+pub(crate) fn title_end() -> &'static str
+    ensures { result.now ≡ fixed.title_end }
+{
+    "\
+</title>
+"
+}
+
+/// After the style, up to the heading.
+#[tactic(auto, unfolding(crate::specs::HtmlFixed::body_begin))]
+pub(crate) fn body_begin() -> &'static str
+    ensures { result.now ≡ fixed.body_begin }
+{
+    "\
+</head>
+<body>
+<header>
+<div>
+"
+}
+
+/// The table of counts, up to its rows.
+#[tactic(auto, unfolding(crate::specs::HtmlFixed::counts_begin))]
+pub(crate) fn counts_begin() -> &'static str
+    ensures { result.now ≡ fixed.counts_begin }
+{
+    "\
+</div>
+<div>
+<table class=\"counts\" rules=\"rows\" cellpadding=\"4\">
+<caption>All results by state and level; hits in bold</caption>
+<thead><tr><th scope=\"col\" align=\"left\">state</th><th scope=\"col\">error</th><th scope=\"col\">warning</th><th scope=\"col\">note</th><th scope=\"col\">none</th><th scope=\"col\">suppressed</th></tr></thead>
+<tbody align=\"right\">
+"
+}
+
+/// After the rows of the counts.
+#[tactic(auto, unfolding(crate::specs::HtmlFixed::counts_end))]
+pub(crate) fn counts_end() -> &'static str
+    ensures { result.now ≡ fixed.counts_end }
+{
+    "\
+</tbody>
+</table>
+"
+}
+
+/// Between the sentences below the counts and the results.
+#[tactic(auto, unfolding(crate::specs::HtmlFixed::header_end))]
+pub(crate) fn header_end() -> &'static str
+    ensures { result.now ≡ fixed.header_end }
+{
+    "\
+</div>
+</header>
+<main>
+"
+}
+
+/// Before the boxes. Only a style displays them, in a browser in which they work.
+#[tactic(auto, unfolding(crate::specs::HtmlFixed::filters_begin))]
+pub(crate) fn filters_begin() -> &'static str
+    ensures { result.now ≡ fixed.filters_begin }
+{
+    "\
+<div class=\"filters\" hidden>
+"
+}
+
+/// After the boxes.
+#[tactic(auto, unfolding(crate::specs::HtmlFixed::filters_end))]
+pub(crate) fn filters_end() -> &'static str
+    ensures { result.now ≡ fixed.filters_end }
+{
+    "\
+</div>
+"
+}
+
+/// Between the two names of a section.
+#[tactic(auto, unfolding(crate::specs::HtmlFixed::section_middle))]
+pub(crate) fn section_middle() -> &'static str
+    ensures { result.now ≡ fixed.section_middle }
+{
+    "\
+\">
+<table class=\"results\" width=\"100%\" rules=\"rows\" cellpadding=\"6\">
+<caption><h2 id=\""
+}
+
+/// Between the heading of a section and its rows.
+#[tactic(auto, unfolding(crate::specs::HtmlFixed::section_heads))]
+pub(crate) fn section_heads() -> &'static str
+    ensures { result.now ≡ fixed.section_heads }
+{
+    "\
+</h2></caption>
+<thead align=\"left\"><tr><th scope=\"col\">Place</th><th scope=\"col\">Level</th><th scope=\"col\">Message</th><th scope=\"col\">Rule</th><th scope=\"col\">State</th><th scope=\"col\">Tool</th></tr></thead>
+<tbody align=\"left\" valign=\"top\">
+"
+}
+
+/// After the rows of a section.
+#[tactic(auto, unfolding(crate::specs::HtmlFixed::section_end))]
+pub(crate) fn section_end() -> &'static str
+    ensures { result.now ≡ fixed.section_end }
+{
+    "\
+</tbody>
+</table>
+</section>
+"
+}
+
+/// Instead of the tables of results.
+#[tactic(auto, unfolding(crate::specs::HtmlFixed::nothing_reported))]
+pub(crate) fn nothing_reported() -> &'static str
+    ensures { result.now ≡ fixed.nothing_reported }
+{
+    "\
+<p class=\"empty\">No results are reported.</p>
+"
+}
+
+/// The end of the page.
+#[tactic(auto, unfolding(crate::specs::HtmlFixed::page_end))]
+pub(crate) fn page_end() -> &'static str
+    ensures { result.now ≡ fixed.page_end }
+{
+    "\
+</main>
+</body>
+</html>
+"
+}

@@ -1,0 +1,237 @@
+//! The page of a merge.
+ghost use Rattle.std.specs.Prelude.{◌≡◌, ◌<◌, ◌+◌, ◌^◌, ◌++◌, IfOk, OnOk, string_bytes};
+ghost use Rattle.sarif_page.specs.ByFile.{tables_in};
+ghost use Rattle.sarif_shown.specs.Facts.{facts_of};
+ghost use Rattle.sarif_page.specs.HtmlReport as said;
+
+use crate::html_counts::push_counts;
+use crate::html_filters::push_filters;
+use crate::html_fixed::{
+    body_begin, header_end, nothing_reported, page_begin, page_end, title_end,
+};
+use crate::html_rows::push_section;
+use crate::html_style::push_style;
+use crate::html_tables::{Rows, rows_of};
+use crate::html_words::{hits_heading, others_text, reason};
+use sarif_counts::{Policy, Verdict, hits, verdict};
+use sarif_shown::{Told, entries_text, gate_end, gate_text, hits_text, more_text, runs_text};
+use std::alloc::{AllocError, Global};
+
+/// Adds the page up to its heading.
+#[tactic(auto, unfolding(crate::specs::HtmlReport::page_head))]
+fn push_head(
+    alloc: Global,
+    text: &mut String,
+    verdict: Verdict,
+    hits: u32,
+    max: u32,
+) -> Result<(), AllocError>
+    ensures { OnOk result (string_bytes text.new
+        ≡ string_bytes text.old ++ said.page_head verdict hits max) }
+{
+    let title = gate_text(alloc, verdict, hits, max)?;
+    text.push_str(page_begin())?;
+    text.push_str(title.as_str())?;
+    text.push_str(title_end())?;
+    push_style(text)?;
+    text.push_str(body_begin())?;
+    Ok(())
+}
+
+#[tactic(auto, unfolding(crate::specs::HtmlReport::heading))]
+fn heading(alloc: Global, verdict: Verdict, hits: u32, max: u32) -> Result<String, AllocError>
+    ensures { IfOk result (λ s. string_bytes s ≡ said.heading verdict hits max) }
+{
+    let word = verdict.name();
+    let end = gate_end(alloc, hits, max)?;
+    format!(in alloc; "<h1 class=\"{word}\">Gate: {word}<span>{end}</span></h1>\n")
+}
+
+#[tactic(auto, unfolding(crate::specs::HtmlReport::reason_line))]
+fn reason_line(alloc: Global, policy: &Policy) -> Result<String, AllocError>
+    ensures { IfOk result (λ s. string_bytes s ≡ said.reason_line policy.now) }
+{
+    let reason = reason(alloc, policy)?;
+    format!(in alloc; "<p>{reason}</p>\n")
+}
+
+/// Adds the verdict, up to the links.
+#[tactic(auto, unfolding(crate::specs::HtmlReport::top_of))]
+fn push_top(
+    alloc: Global,
+    text: &mut String,
+    verdict: Verdict,
+    hits: u32,
+    policy: &Policy,
+) -> Result<(), AllocError>
+    ensures { OnOk result (string_bytes text.new
+        ≡ string_bytes text.old ++ said.top_of verdict hits policy.now) }
+{
+    push_head(alloc, text, verdict, hits, policy.max)?;
+    let heading = heading(alloc, verdict, hits, policy.max)?;
+    let reason = reason_line(alloc, policy)?;
+    text.push_str(heading.as_str())?;
+    text.push_str(reason.as_str())?;
+    Ok(())
+}
+
+/// Links to the two tables.
+#[tactic(auto, unfolding(crate::specs::HtmlReport::links_to))]
+fn links_to(alloc: Global, hits: usize, others: usize) -> Result<String, AllocError>
+    ensures { IfOk result (λ s. string_bytes s ≡ said.links_to hits others) }
+{
+    let hits = hits_text(alloc, hits)?;
+    let others = others_text(alloc, others)?;
+    format!(in alloc;
+        "<nav aria-label=\"Results\"><a href=\"#hits\">{hits}</a> <a href=\"#others\">{others}</a></nav>\n"
+    )
+}
+
+/// Adds links to the two tables, if there are both.
+#[tactic(auto, unfolding(crate::specs::HtmlReport::links))]
+fn push_links(alloc: Global, text: &mut String, rows: &Rows<'_>) -> Result<(), AllocError>
+    ensures { OnOk result
+        (string_bytes text.new ≡ string_bytes text.old ++ said.links (tables_in rows.now)) }
+{
+    if rows.hits.is_empty() || rows.others.is_empty() {
+        return Ok(());
+    }
+    let links = links_to(alloc, rows.all_hits, rows.all_others)?;
+    text.push_str(links.as_str())?;
+    Ok(())
+}
+
+/// A sentence that the reader has to know.
+#[tactic(auto, unfolding(crate::specs::HtmlReport::mind))]
+fn mind(alloc: Global, sentence: &str) -> Result<String, AllocError>
+    ensures { IfOk result (λ s. string_bytes s ≡ said.mind sentence.now) }
+{
+    format!(in alloc; "<p class=\"mind\">{sentence}</p>\n")
+}
+
+/// Adds how many input runs have no results, if there are any.
+fn push_runs(alloc: Global, text: &mut String, without: u32) -> Result<(), AllocError>
+    ensures { OnOk result
+        (string_bytes text.new ≡ string_bytes text.old ++ said.runs_line without) }
+{
+    if without != 0 {
+        let sentence = runs_text(alloc, without)?;
+        let line = mind(alloc, sentence.as_str())?;
+        text.push_str(line.as_str())?;
+    }
+    Ok(())
+}
+
+/// Adds how many suppression entries match nothing, if there are any.
+fn push_entries(alloc: Global, text: &mut String, unused: u32) -> Result<(), AllocError>
+    ensures { OnOk result
+        (string_bytes text.new ≡ string_bytes text.old ++ said.entries_line unused) }
+{
+    if unused != 0 {
+        let sentence = entries_text(alloc, unused)?;
+        let line = mind(alloc, sentence.as_str())?;
+        text.push_str(line.as_str())?;
+    }
+    Ok(())
+}
+
+/// Adds the sentences on runs without results and on unused entries.
+#[tactic(auto, unfolding(crate::specs::HtmlReport::minds))]
+fn push_minds(alloc: Global, text: &mut String, without: u32, unused: u32) -> Result<(), AllocError>
+    ensures { OnOk result
+        (string_bytes text.new ≡ string_bytes text.old ++ said.minds without unused) }
+{
+    push_runs(alloc, text, without)?;
+    push_entries(alloc, text, unused)?;
+    Ok(())
+}
+
+/// Adds how many results have no row, if some have none.
+#[tactic(auto, unfolding(crate::specs::HtmlReport::more_line))]
+fn push_more(alloc: Global, text: &mut String, more: usize, hits: usize) -> Result<(), AllocError>
+    ensures { OnOk result
+        (string_bytes text.new ≡ string_bytes text.old ++ said.more_line more hits) }
+{
+    if more != 0 {
+        let sentence = more_text(alloc, more, hits)?;
+        let line = mind(alloc, sentence.as_str())?;
+        text.push_str(line.as_str())?;
+    }
+    Ok(())
+}
+
+/// Adds that nothing is reported, or how many results have no row.
+#[tactic(auto, unfolding(crate::specs::HtmlReport::rest_line))]
+fn push_rest(alloc: Global, text: &mut String, rows: &Rows<'_>) -> Result<(), AllocError>
+    requires { rows.now.all_hits + rows.now.all_others < 2 ^ 64 }
+    ensures { OnOk result
+        (string_bytes text.new ≡ string_bytes text.old ++ said.rest_line (tables_in rows.now)) }
+{
+    let is_empty = rows.all_hits == 0 && rows.all_others == 0;
+    if is_empty {
+        text.push_str(nothing_reported())?;
+        return Ok(());
+    }
+    let hits = rows.all_hits.saturating_sub(rows.hits.len());
+    let others = rows.all_others.saturating_sub(rows.others.len());
+    push_more(alloc, text, hits + others, hits)?;
+    Ok(())
+}
+
+/// Adds the tables.
+#[tactic(auto, unfolding(crate::specs::HtmlReport::sections))]
+fn push_sections(
+    alloc: Global,
+    text: &mut String,
+    verdict: Verdict,
+    max: u32,
+    rows: &Rows<'_>,
+) -> Result<(), AllocError>
+    ensures { OnOk result (string_bytes text.new
+        ≡ string_bytes text.old ++ said.sections verdict max (tables_in rows.now)) }
+{
+    let hits = hits_heading(alloc, verdict, rows.all_hits, max)?;
+    let others = others_text(alloc, rows.all_others)?;
+    push_section(alloc, text, "hits", hits.as_str(), &rows.hits)?;
+    push_section(alloc, text, "others", others.as_str(), &rows.others)?;
+    Ok(())
+}
+
+/// Adds the boxes and the tables.
+#[tactic(auto, unfolding(crate::specs::HtmlReport::results_of))]
+fn push_results(
+    alloc: Global,
+    text: &mut String,
+    verdict: Verdict,
+    max: u32,
+    rows: &Rows<'_>,
+) -> Result<(), AllocError>
+    requires { rows.now.all_hits + rows.now.all_others < 2 ^ 64 }
+    ensures { OnOk result (string_bytes text.new
+        ≡ string_bytes text.old ++ said.results_of verdict max (tables_in rows.now)) }
+{
+    push_filters(alloc, text, rows)?;
+    push_sections(alloc, text, verdict, max, rows)?;
+    push_rest(alloc, text, rows)?;
+    Ok(())
+}
+
+/// Returns the page: the verdict, the counts, and a row for each of the first 10,000 reported results, the hits
+/// before the others, by file. Returns `AllocError` if memory for it runs out.
+#[tactic(auto, unfolding(crate::specs::HtmlReport::html_of, crate::specs::HtmlReport::page_of))]
+pub fn html_report(alloc: Global, told: &Told<'_>) -> Result<String, AllocError>
+    ensures { IfOk result (λ s. string_bytes s ≡ said.html_of (facts_of told.now)) }
+{
+    let Told { counts, policy, .. } = *told;
+    let verdict = verdict(counts, policy);
+    let rows = rows_of(alloc, told.seed, told.findings)?;
+    let mut text = String::new(alloc);
+    push_top(alloc, &mut text, verdict, hits(counts, policy), policy)?;
+    push_links(alloc, &mut text, &rows)?;
+    push_counts(alloc, &mut text, counts, policy)?;
+    push_minds(alloc, &mut text, told.without, told.unused)?;
+    text.push_str(header_end())?;
+    push_results(alloc, &mut text, verdict, policy.max, &rows)?;
+    text.push_str(page_end())?;
+    Ok(text)
+}

@@ -1,0 +1,65 @@
+//! Which results have a row on a page.
+ghost use Rattle.std.specs.Prelude.{◌≡◌, ◌<◌, ◌+◌, ◌^◌, IfOk};
+ghost use Rattle.sarif_page.specs.ByFile.{findings_in, tables_in};
+ghost use Rattle.sarif_page.specs.HtmlRows.{tables_of};
+ghost use Rattle.sarif_shown.specs.Listed.{hits_among as hits_in, others_among as others_in};
+
+use crate::by_file::by_file;
+use sarif_findings::Finding;
+use sarif_shown::{push_hits, push_others};
+use std::alloc::{AllocError, Global};
+use std::hash::RandomState;
+
+/// The maximum number of rows.
+const MOST_ROWS: usize = 10_000;
+
+/// The rows of the two tables.
+#[derive(Drop)]
+pub(crate) struct Rows<'f> {
+    /// Hits, by file.
+    pub(crate) hits: Vec<&'f Finding>,
+    /// Other results, by file.
+    pub(crate) others: Vec<&'f Finding>,
+    /// The number of hits, with a row or not.
+    pub(crate) all_hits: usize,
+    /// The number of other results, with a row or not.
+    pub(crate) all_others: usize,
+}
+
+fn hits_among(alloc: Global, findings: &[Finding]) -> Result<Vec<&Finding>, AllocError>
+    ensures { IfOk result (λ hits. findings_in hits.items ≡ hits_in findings.now) }
+{
+    let mut hits = Vec::new(alloc);
+    push_hits(&mut hits, findings)?;
+    Ok(hits)
+}
+
+fn others_among(alloc: Global, findings: &[Finding]) -> Result<Vec<&Finding>, AllocError>
+    ensures { IfOk result (λ others. findings_in others.items ≡ others_in findings.now) }
+{
+    let mut others = Vec::new(alloc);
+    push_others(&mut others, findings)?;
+    Ok(others)
+}
+
+/// Chooses the rows of these findings: the first `MOST_ROWS` of the hits by file, then of the others by file.
+#[tactic(auto, unfolding(crate::specs::HtmlRows::hit_rows, crate::specs::HtmlRows::other_rows))]
+pub(crate) fn rows_of(
+    alloc: Global,
+    seed: RandomState,
+    findings: &[Finding],
+) -> Result<Rows<'_>, AllocError>
+    ensures tables { IfOk result (λ rows. tables_in rows ≡ tables_of findings.now) }
+    ensures room { IfOk result (λ rows. rows.all_hits + rows.all_others < 2 ^ 64) }
+{
+    let hits = hits_among(alloc, findings)?;
+    let others = others_among(alloc, findings)?;
+    let hit_rows = by_file(alloc, seed, &hits, MOST_ROWS)?;
+    let other_rows = by_file(alloc, seed, &others, MOST_ROWS - hit_rows.len())?;
+    Ok(Rows {
+        hits: hit_rows,
+        others: other_rows,
+        all_hits: hits.len(),
+        all_others: others.len(),
+    })
+}

@@ -1,0 +1,46 @@
+//! Laws of the page. Each law is the contract of a function that does nothing. A log may be hostile, so the laws
+//! cover any strings.
+ghost use Rattle.std.specs.Prelude.{◌≡◌, ◌≤◌, ℕ, List, Bool, true};
+ghost use Rattle.std.specs.Prelude.{not, ◌&&◌, [], None};
+ghost use Rattle.std.specs.Prelude.{length};
+ghost use Rattle.std.specs.List.{count_by, list_all, sum_by};
+ghost use Rattle.sarif_findings.specs.declared.finding.Finding.{Finding};
+ghost use Rattle.sarif_shown.specs.declared.escaping.Escaping.TheVariants.{Page, Place};
+ghost use Rattle.sarif_shown.specs.Escaped.{escaped};
+ghost use Rattle.sarif_shown.specs.EscapedLaws.{is_element_text};
+ghost use Rattle.sarif_page.specs.HtmlLaws.{are_together, has_breaks, row_tags, tags_in};
+ghost use Rattle.sarif_page.specs.HtmlReport.{rows_below};
+ghost use Rattle.sarif_page.specs.HtmlRows as page;
+
+/// A string in a page contains no `<`, `>`, `"` or `'`, and each `&` of it begins an entity: no string makes a tag
+/// or an attribute.
+pub fn page_texts_hold_no_markup()
+    ensures { (text : List ℕ) → is_element_text (escaped Page text) ≡ true }
+{}
+
+/// A path in a page contains none of these either, except that `<wbr>` follows each of its slashes.
+pub fn page_places_have_only_breaks()
+    ensures { (text : List ℕ) → has_breaks [] (escaped Place text) ≡ true }
+{}
+
+/// A page has at most 10,000 rows: hits in the first table, other results in the second, and in each table the rows
+/// of one file together. If no more results are reported, each of them has exactly one row.
+pub fn page_rows_are_by_file()
+    ensures most { (findings : List Finding) →
+        length (page.page_rows findings) ≤ page.most_rows }
+    ensures hits { (findings : List Finding) →
+        list_all (λ f. f.hit) (page.hit_rows findings) ≡ true }
+    ensures others { (findings : List Finding) →
+        list_all (λ f. not f.hit) (page.other_rows findings) ≡ true }
+    ensures together { (findings : List Finding) →
+        (are_together (page.hit_rows findings) && are_together (page.other_rows findings)) ≡ true }
+    ensures once { (findings : List Finding) (test : Finding → Bool) →
+        length findings ≤ page.most_rows
+        → count_by test (page.page_rows findings) ≡ count_by test findings }
+{}
+
+/// Each row of a page has only its own tags, for any strings of its result: no log adds a tag or a cell.
+pub fn page_rows_have_their_tags()
+    ensures { (findings : List Finding) → tags_in (rows_below None findings)
+        ≡ sum_by row_tags findings }
+{}

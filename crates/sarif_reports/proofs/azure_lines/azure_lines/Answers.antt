@@ -1,8 +1,0 @@
-use Rattle.sarif_reports.specs.AzureReport.{azure_line}
-use Rattle.sarif_reports.proofs.SuitesMore.{texts_step}
-use Rattle.sarif_reports.proofs.azure_lines.azure_lines.Goals as goal
-
-pub loop-finding-preserved : goal.loop-finding-preserved
-loop-finding-preserved c =
-    texts_step azure_line c.args.findings.now c.loop-finding.finding-index c.finding-item.result _ _ _ c.loop-finding-test.true c.finding-item.is
-    c.in_ok-push_line.ensures c.loop-finding.invariant

@@ -1,5 +1,0 @@
-use Rattle.sarif_reports.proofs.AzureApart.{properties_closed}
-use Rattle.sarif_reports.proofs.laws.azure_properties_hold_no_end.Goals as goal
-
-pub returns : goal.returns
-returns c = properties_closed

@@ -1,5 +1,0 @@
-use Rattle.sarif_reports.proofs.LinksApart.{texts_stay}
-use Rattle.sarif_reports.proofs.laws.messages_without_targets_stay.Goals as goal
-
-pub returns : goal.returns
-returns c = texts_stay

@@ -1,5 +1,0 @@
-use Rattle.sarif_reports.proofs.PathsApart.{all_named}
-use Rattle.sarif_reports.proofs.laws.paths_begin_with_names.Goals as goal
-
-pub returns : goal.returns
-returns c = all_named

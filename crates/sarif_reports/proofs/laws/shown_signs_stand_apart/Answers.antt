@@ -1,5 +1,0 @@
-use Rattle.sarif_findings.proofs.SeenMore.{shown_apart}
-use Rattle.sarif_reports.proofs.laws.shown_signs_stand_apart.Goals as goal
-
-pub returns : goal.returns
-returns c = shown_apart

@@ -1,0 +1,10 @@
+pub mod AzureApart
+pub mod EscapedApart
+pub mod EscapedMore
+pub mod GithubApart
+pub mod LinesMore
+pub mod LinksApart
+pub mod ListedMore
+pub mod PathsApart
+pub mod SeenTexts
+pub mod TextApart

@@ -1,0 +1,34 @@
+-- What reports are made from.
+use Rattle.std.specs.Prelude.{ℕ, List, Option, option_map}
+use Rattle.sarif_counts.specs.declared.life.Life.{Life}
+use Rattle.sarif_counts.specs.declared.policy.Policy.{Policy}
+use Rattle.sarif_counts.specs.Counts.{count_at}
+use Rattle.sarif_counts.specs.Policy.{Count}
+use Rattle.sarif_findings.specs.declared.finding.Finding.{Finding}
+use Rattle.sarif_shown.specs.declared.told.Told.{Told}
+
+-- the facts about a merged log
+pub record Facts : Type 0 where
+  -- how many results it has, by state, level and suppression
+  pub count : Count
+  -- the policy of the gate
+  pub policy : Policy
+  -- the reported results, in the order of the log
+  pub findings : List Finding
+  -- how many input runs have no results
+  pub without : ℕ
+  -- how many entries of the suppression file match no current result
+  pub unused : ℕ
+  -- what is for later merges, if anything is
+  pub life : Option Life
+
+-- what a report receives
+abbrev pub facts_of : Told → Facts
+facts_of told = record {
+  count = count_at told.counts.now;
+  policy = told.policy.now;
+  findings = told.findings.now;
+  without = told.without;
+  unused = told.unused;
+  life = option_map (λ life. life.now) told.life;
+}

@@ -1,0 +1,102 @@
+//! Sentences that several reports share.
+ghost use Rattle.std.specs.Prelude.{◌≡◌, IfOk, string_bytes};
+ghost use Rattle.sarif_shown.specs.Sentences as said;
+
+use sarif_counts::Verdict;
+use std::alloc::{AllocError, Global};
+
+/// Returns a number and what it counts: `one` for 1, otherwise `more`. Returns `AllocError` if memory runs out.
+pub fn counted(alloc: Global, number: usize, one: &str, more: &str) -> Result<String, AllocError>
+    ensures { IfOk result (λ s. string_bytes s ≡ said.counted number one.now more.now) }
+{
+    let noun = if number == 1 { one } else { more };
+    format!(in alloc; "{number}{noun}")
+}
+
+/// Returns a number of hits. Returns `AllocError` if memory runs out.
+pub fn hits_text(alloc: Global, hits: usize) -> Result<String, AllocError>
+    ensures { IfOk result (λ s. string_bytes s ≡ said.hits_text hits) }
+{
+    counted(alloc, hits, " hit", " hits")
+}
+
+/// Returns what follows the verdict: the hits and how many of them are allowed. Returns `AllocError` if memory runs
+/// out.
+pub fn gate_end(alloc: Global, hits: u32, max: u32) -> Result<String, AllocError>
+    ensures { IfOk result (λ s. string_bytes s ≡ said.gate_end hits max) }
+{
+    let hits = hits_text(alloc, hits as usize)?;
+    format!(in alloc; ", {hits}, {max} allowed")
+}
+
+/// Returns the verdict, the hits and how many of them are allowed. Returns `AllocError` if memory runs out.
+pub fn gate_text(alloc: Global, verdict: Verdict, hits: u32, max: u32) -> Result<String, AllocError>
+    ensures { IfOk result (λ s. string_bytes s ≡ said.gate_text verdict hits max) }
+{
+    let word = verdict.name();
+    let end = gate_end(alloc, hits, max)?;
+    format!(in alloc; "Gate: {word}{end}")
+}
+
+/// How many results have no row, and what some of them are.
+fn more_with(alloc: Global, number: usize, of_them: &str) -> Result<String, AllocError>
+    ensures { IfOk result (λ s. string_bytes s ≡ said.more_with number of_them.now) }
+{
+    format!(in alloc; "{number} more results are in the merged log, {of_them}")
+}
+
+/// How many results have no row, where some of them are hits and some are not.
+fn more_of_both(alloc: Global, number: usize, hits: usize) -> Result<String, AllocError>
+    ensures { IfOk result (λ s. string_bytes s ≡ said.more_of_both number hits) }
+{
+    let of_them = counted(alloc, hits, " of them a hit.", " of them hits.")?;
+    let text = more_with(alloc, number, of_them.as_str())?;
+    Ok(text)
+}
+
+/// Returns how many results have no row, and how many of them are hits. Returns `AllocError` if memory runs out.
+pub fn more_text(alloc: Global, number: usize, hits: usize) -> Result<String, AllocError>
+    ensures { IfOk result (λ s. string_bytes s ≡ said.more_text number hits) }
+{
+    if hits == number {
+        return counted(
+            alloc,
+            number,
+            " more hit is in the merged log.",
+            " more hits are in the merged log.",
+        );
+    }
+    if hits == 0 {
+        return counted(
+            alloc,
+            number,
+            " more result is in the merged log.",
+            " more results are in the merged log.",
+        );
+    }
+    more_of_both(alloc, number, hits)
+}
+
+/// Returns how many input runs have no results. Returns `AllocError` if memory runs out.
+pub fn runs_text(alloc: Global, number: u32) -> Result<String, AllocError>
+    ensures { IfOk result (λ s. string_bytes s ≡ said.runs_text number) }
+{
+    counted(
+        alloc,
+        number as usize,
+        " run without results: nothing is known of what it looked for.",
+        " runs without results: nothing is known of what they looked for.",
+    )
+}
+
+/// Returns how many entries of the suppression file match no current result. Returns `AllocError` if memory runs out.
+pub fn entries_text(alloc: Global, number: u32) -> Result<String, AllocError>
+    ensures { IfOk result (λ s. string_bytes s ≡ said.entries_text number) }
+{
+    counted(
+        alloc,
+        number as usize,
+        " suppression entry matches nothing.",
+        " suppression entries match nothing.",
+    )
+}
