@@ -22,6 +22,7 @@ use Rattle.sarif_model.specs.Guid.{guid_of_text}
 use Rattle.sarif_model.specs.Members.{◌>>=◌, elements, member_at, of_kind, or_wrong, unless_null}
 use Rattle.sarif_model.specs.Run.{elements_or_none, result_at, runs_of}
 use Rattle.sarif_read.specs.Reading.{at_whole, check_each, check_log, log_of, log_of_value, ok_or}
+use Rattle.sarif_read.proofs.RunOf.{stripped_ordered}
 use Rattle.sarif_runs.specs.declared.head.RunHead.{RunHead}
 use Rattle.sarif_runs.specs.declared.parts.Parts.{Parts}
 use Rattle.sarif_runs.specs.Descriptor.{descriptor_of, reference_of}
@@ -34,7 +35,7 @@ use Rattle.sarif_runs.specs.Record.{record_by, record_in, record_of, tool_name}
 use Rattle.sarif_known.specs.KnownResult.{text_members}
 use Rattle.sarif_known.specs.Laws.{IsOfTool}
 use Rattle.sarif_accept.proofs.GuidFits.{guid_fits}
-use Rattle.sarif_known.proofs.Rising.{rises, stripped_ordered}
+use Rattle.sarif_known.proofs.Rising.{rises}
 
 -- both steps went well
 bind_ok : {A B E : Type 0} (m : Result A E) (f : A → Result B E) (y : B) → (m >>= f) ≡ Ok y → (x : A) × (m ≡ Ok x) × (f x ≡ Ok y)
