@@ -47,7 +47,7 @@ ok_is x y is = cc
 
 -- ---- the members of a result
 
-guid_is_small : (o : Option Data) (g : Option ℕ) → of_kind BadGuid as_guid o ≡ Ok g → IfSome g (λ n. n < 2 ^ 128)
+pub guid_is_small : (o : Option Data) (g : Option ℕ) → of_kind BadGuid as_guid o ≡ Ok g → IfSome g (λ n. n < 2 ^ 128)
 guid_is_small None g is = let none : None ≡ g = ok_is None g is in subst (λ o. IfSome o (λ n. n < 2 ^ 128)) none tt
 guid_is_small (Some d) g is = by_text (as_str d) is
   where
