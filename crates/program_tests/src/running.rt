@@ -1,4 +1,8 @@
 //! What is written and reported, and with which exit status.
+ghost use Rattle.std.specs.Prelude.{◌<◌, ◌^◌};
+ghost use Rattle.std.specs.List.{All};
+ghost use Rattle.sarif_streams.specs.Counted.{failed_calls};
+ghost use Rattle.sarif_streams.specs.OptionalReader.{failed_calls_if};
 
 use sarif_model::Level;
 use sarif_program::{Complaints, Writers, run_request, seed_of};
@@ -179,19 +183,18 @@ struct Ended {
     complain: Vec<u8>,
 }
 
-/// Runs a request over one log alone.
-fn run<T: Threads + Wait + Sync>(
+/// Runs a request over these sources.
+fn run_over<T: Threads + Wait + Sync>(
     threads: &T,
     alloc: Global,
     request: &Request,
-    log: Given,
+    readers: &mut Readers<Given>,
     rooms: Rooms,
-) -> Result<Ended, AllocError> {
-    let mut readers = Readers {
-        logs: vec![in alloc; Counted::new(log)]?,
-        baselines: Vec::new(alloc),
-        suppressions: None,
-    };
+) -> Result<Ended, AllocError>
+    requires logs { All (λ reader. failed_calls reader < 2 ^ 63) readers.old.logs.items }
+    requires baselines { All (λ reader. failed_calls reader < 2 ^ 63) readers.old.baselines.items }
+    requires suppressions { failed_calls_if readers.old.suppressions < 2 ^ 63 }
+{
     let out = RefCell::new(Vec::new(alloc));
     let say = RefCell::new(Vec::new(alloc));
     let complain = RefCell::new(Vec::new(alloc));
@@ -205,7 +208,7 @@ fn run<T: Threads + Wait + Sync>(
         threads,
         alloc,
         request,
-        &mut readers,
+        readers,
         &mut writers,
         &mut complaints,
     );
@@ -217,6 +220,22 @@ fn run<T: Threads + Wait + Sync>(
         say: say.into_inner(),
         complain: complain.into_inner(),
     })
+}
+
+/// Runs a request over one log alone.
+fn run<T: Threads + Wait + Sync>(
+    threads: &T,
+    alloc: Global,
+    request: &Request,
+    log: Given,
+    rooms: Rooms,
+) -> Result<Ended, AllocError> {
+    let mut readers = Readers {
+        logs: vec![in alloc; Counted::new(log)]?,
+        baselines: Vec::new(alloc),
+        suppressions: None,
+    };
+    run_over(threads, alloc, request, &mut readers, rooms)
 }
 
 /// Runs over one log with a baseline and a suppression file.
@@ -233,31 +252,7 @@ fn run_all<T: Threads + Wait + Sync>(
         suppressions: Some(Counted::new(suppressions)),
     };
     let request = Request::of_standard_streams(alloc, seed()?)?;
-    let out = RefCell::new(Vec::new(alloc));
-    let say = RefCell::new(Vec::new(alloc));
-    let complain = RefCell::new(Vec::new(alloc));
-    let mut writers: Writers<Narrow<'_>, Narrow<'_>, Narrow<'_>> = Writers {
-        out: Counted::new(Narrow::new(&out, AMPLE.piece, AMPLE.out)),
-        reports: Vec::new(alloc),
-        say: Counted::new(Narrow::new(&say, AMPLE.piece, AMPLE.say)),
-    };
-    let mut complaints = Complaints::new(Narrow::new(&complain, AMPLE.piece, AMPLE.complain));
-    let status = run_request(
-        threads,
-        alloc,
-        &request,
-        &mut readers,
-        &mut writers,
-        &mut complaints,
-    );
-    drop(writers);
-    drop(complaints);
-    Ok(Ended {
-        status: status.code(),
-        out: out.into_inner(),
-        say: say.into_inner(),
-        complain: complain.into_inner(),
-    })
+    run_over(threads, alloc, &request, &mut readers, AMPLE)
 }
 
 #[test]
