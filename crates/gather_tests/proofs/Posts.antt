@@ -1,7 +1,6 @@
 -- All posts of a mailbox, in a list.
-use Rattle.std.proofs.Common.{◌≡◌, ℕ, zero, suc, ◌<◌, List, [], ◌∷◌, ◌++◌, length, Some, refl, ap, ◌∙◌, subst, arith}
+use Rattle.std.proofs.Common.{◌≡◌, ℕ, ◌<◌, List, length, ap, ◌∙◌, subst, arith}
 use Rattle.std.specs.Prelude.{slice_get, slice_index_or}
-use Rattle.std.proofs.lemmas.List.{length_push}
 use Rattle.std.proofs.lemmas.Option.{slice_get_within, get_or_from_slice_get, slice_get-get_or}
 use Rattle.sarif_gather.specs.declared.mailbox.Mailbox.{Mailbox}
 use Rattle.sarif_gather.specs.declared.mailbox.ends.Post.{Post}
@@ -26,31 +25,3 @@ module _ {P : Type 0} (mailbox : Mailbox P) where
         let low = slice_get_within old a.0 a.1 a.2 in
         (a.0, slice_index_or new a.0 a.1, slice_get-get_or new a.0 a.1 (omega (arith, low, len)), (each a.0 a.1 low).1 ∙ ap number_of (get_or_from_slice_get old a.0 a.1 a.1 a.2) ∙ a.3);
   }
-
-one_of_two : {P : Type 0} (mailbox : Mailbox P) (a b : Post P) → IsPostOf mailbox a → IsPostOf mailbox b → (i : ℕ) (post : Post P) → slice_get (a ∷ b ∷ []) i ≡ Some post → IsPostOf mailbox post
-one_of_two mailbox a b first second zero post at = let same : a ≡ post = cc in subst (IsPostOf mailbox) same first
-one_of_two mailbox a b first second (suc zero) post at = let same : b ≡ post = cc in subst (IsPostOf mailbox) same second
-one_of_two mailbox a b first second (suc (suc i)) post at = absurd (cc)
-
-two_of_two : {P : Type 0} (a b : Post P) → number_of a ≡ 0 → number_of b ≡ 1 → (k : ℕ) → k < 2 → (i : ℕ) × (post : Post P) × (slice_get (a ∷ b ∷ []) i ≡ Some post) × (number_of post ≡ k)
-two_of_two a b first second zero lt = (0, a, refl, first)
-two_of_two a b first second (suc zero) lt = (1, b, refl, second)
-two_of_two a b first second (suc (suc k)) lt = absurd (omega arith)
-
-pub two_posts : {P : Type 0} (mailbox : Mailbox P) (a b : Post P) → mailbox.senders ≡ 2 → IsPostOf mailbox a × (number_of a ≡ 0) → IsPostOf mailbox b × (number_of b ≡ 1) → AreAllPosts mailbox (a ∷ b ∷ [])
-two_posts {P} mailbox a b two first second = record {
-  each = one_of_two mailbox a b first.0 second.0;
-  all = λ k lt. two_of_two a b first.1 second.1 k (omega (arith, two));
-}
-
--- the posts of a new mailbox for two senders, taken off its list
-pub first_two : {P : Type 0} (mailbox : Mailbox P) (room : ℕ) (posts one rest : List (Post P)) (desk : Desk P) (first second : Post P) → AreNew room 2 mailbox posts desk
-    → posts ≡ one ++ second ∷ [] → one ≡ rest ++ first ∷ [] → (number_of first ≡ 0) × (number_of second ≡ 1)
-first_two mailbox room posts one [] desk first second fresh last one_is =
-    let is : posts ≡ first ∷ second ∷ [] = last ∙ ap (λ l. l ++ second ∷ []) one_is in
-    ((fresh.each 0 first (ap (λ l. slice_get l 0) is)).number, (fresh.each 1 second (ap (λ l. slice_get l 1) is)).number)
-first_two mailbox room posts one (x ∷ rest) desk first second fresh last one_is =
-    let all = ap length last ∙ length_push one second in
-    let most = ap length one_is ∙ length_push (x ∷ rest) first in
-    let count = fresh.count in
-    absurd (omega (arith, all, most, count))

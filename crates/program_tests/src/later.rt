@@ -1,8 +1,7 @@
 //! What is written for later merges, the lines on it, and in which order.
 
-use crate::running::{Given, Narrow, seed};
+use crate::running::{self, Ended, Given, Narrow, run_over, seed};
 use sarif_counts::{Knowing, Renewal};
-use sarif_program::{Complaints, Writers, run_request};
 use sarif_reports::Report;
 use sarif_request::{Request, Wanted};
 use sarif_streams::{Counted, Readers};
@@ -86,16 +85,6 @@ const AMPLE: Rooms = Rooms {
     complain: 10_000,
 };
 
-/// The status of a run, and what its writers took.
-#[derive(Drop)]
-struct Ended {
-    status: u8,
-    out: Vec<u8>,
-    later: Vec<u8>,
-    say: Vec<u8>,
-    complain: Vec<u8>,
-}
-
 /// The request to accept all hits.
 fn accepting(alloc: Global) -> Result<Request, AllocError> {
     let mut request = Request::of_standard_streams(alloc, seed()?)?;
@@ -115,8 +104,8 @@ fn adopting(alloc: Global) -> Result<Request, AllocError> {
     Ok(request)
 }
 
-/// Runs a request over one log and no other source, with this output beside the merged log. If `is_explained` is set,
-/// error messages are the caller's to write.
+/// Runs a request over one log and no other source, with this output beside the merged log, and returns what it took
+/// too. If `is_explained` is set, error messages are the caller's to write.
 fn run<T: Threads + Wait + Sync + AllocGlobal>(
     threads: &T,
     request: &Request,
@@ -124,54 +113,38 @@ fn run<T: Threads + Wait + Sync + AllocGlobal>(
     report: Report,
     rooms: Rooms,
     is_explained: bool,
-) -> Result<Ended, AllocError> {
+) -> Result<(Ended, Vec<u8>), AllocError> {
     let alloc = threads.alloc();
     let mut readers = Readers {
         logs: vec![in alloc; Counted::new(Given::whole(log))]?,
         baselines: Vec::new(alloc),
         suppressions: None,
     };
-    let out = RefCell::new(Vec::new(alloc));
     let later = RefCell::new(Vec::new(alloc));
-    let say = RefCell::new(Vec::new(alloc));
-    let complain = RefCell::new(Vec::new(alloc));
     let to = Counted::new(Narrow::new(&later, 10_000, rooms.later));
-    let mut writers: Writers<Narrow<'_>, Narrow<'_>, Narrow<'_>> = Writers {
-        out: Counted::new(Narrow::new(&out, 10_000, 10_000)),
-        reports: vec![in alloc; Wanted { report, to }]?,
-        say: Counted::new(Narrow::new(&say, 10_000, 10_000)),
+    let reports = vec![in alloc; Wanted { report, to }]?;
+    let others = running::Rooms {
+        complain: rooms.complain,
+        ..running::AMPLE
     };
-    let told = Narrow::new(&complain, 10_000, rooms.complain);
-    let mut complaints = if is_explained {
-        Complaints::explained(told)
-    } else {
-        Complaints::new(told)
-    };
-    let status = run_request(
+    let ended = run_over(
         threads,
         alloc,
         request,
         &mut readers,
-        &mut writers,
-        &mut complaints,
-    );
-    drop(writers);
-    drop(complaints);
-    Ok(Ended {
-        status: status.code(),
-        out: out.into_inner(),
-        later: later.into_inner(),
-        say: say.into_inner(),
-        complain: complain.into_inner(),
-    })
+        reports,
+        others,
+        is_explained,
+    )?;
+    Ok((ended, later.into_inner()))
 }
 
 #[test]
 fn accepted_hits_are_written_and_still_fail_this_gate(rt: HostRuntime) -> Result<(), Fail> {
     let request = accepting(rt.alloc())?;
-    let ended = run(&rt, &request, HITS, Report::Suppressions, AMPLE, false)?;
+    let (ended, later) = run(&rt, &request, HITS, Report::Suppressions, AMPLE, false)?;
     assert_eq!(rt; ended.status, 1);
-    assert_eq!(rt; ended.later.as_slice(), ACCEPTED.as_bytes());
+    assert_eq!(rt; later.as_slice(), ACCEPTED.as_bytes());
     assert_eq!(rt; ended.complain.as_slice(), ACCEPTED_LINE.as_bytes());
     assert!(rt; ended.say.ends_with(b"\ngate: fail, hits 3, max 0\n"));
     Ok(())
@@ -180,9 +153,9 @@ fn accepted_hits_are_written_and_still_fail_this_gate(rt: HostRuntime) -> Result
 #[test]
 fn what_is_adopted_is_known(rt: HostRuntime) -> Result<(), Fail> {
     let request = adopting(rt.alloc())?;
-    let ended = run(&rt, &request, OPEN, Report::Known, AMPLE, false)?;
+    let (ended, later) = run(&rt, &request, OPEN, Report::Known, AMPLE, false)?;
     assert_eq!(rt; ended.status, 0);
-    assert_eq!(rt; ended.later.as_slice(), KNOWN.as_bytes());
+    assert_eq!(rt; later.as_slice(), KNOWN.as_bytes());
     assert_eq!(rt; ended.complain.as_slice(), KNOWN_LINE.as_bytes());
     Ok(())
 }
@@ -195,10 +168,10 @@ fn a_lost_new_suppression_file_ends_the_run(rt: HostRuntime) -> Result<(), Fail>
             later: room,
             ..AMPLE
         };
-        let ended = run(&rt, &request, HITS, Report::Suppressions, rooms, false)?;
+        let (ended, later) = run(&rt, &request, HITS, Report::Suppressions, rooms, false)?;
         assert_eq!(rt; ended.status, 3);
         assert!(rt; !ended.out.is_empty());
-        assert_eq!(rt; ended.later.len(), room);
+        assert_eq!(rt; later.len(), room);
         assert!(rt; ended.say.is_empty());
         assert_eq!(rt;
             ended.complain.as_slice(),
@@ -226,7 +199,7 @@ fn a_lost_output_is_named(rt: HostRuntime) -> Result<(), Fail> {
             b"sarif_gate: html report: WriteFailed\n".as_slice(),
         ),
     ] {
-        let ended = run(&rt, &request, HITS, report, rooms, false)?;
+        let (ended, _) = run(&rt, &request, HITS, report, rooms, false)?;
         assert_eq!(rt; ended.status, 3);
         assert!(rt; ended.say.is_empty());
         assert_eq!(rt; ended.complain.as_slice(), line);
@@ -242,9 +215,9 @@ fn a_lost_line_changes_no_status(rt: HostRuntime) -> Result<(), Fail> {
             complain: room,
             ..AMPLE
         };
-        let ended = run(&rt, &request, HITS, Report::Suppressions, rooms, false)?;
+        let (ended, later) = run(&rt, &request, HITS, Report::Suppressions, rooms, false)?;
         assert_eq!(rt; ended.status, 1);
-        assert_eq!(rt; ended.later.as_slice(), ACCEPTED.as_bytes());
+        assert_eq!(rt; later.as_slice(), ACCEPTED.as_bytes());
         assert_eq!(rt; ended.complain.len(), room);
         assert!(rt;
             ACCEPTED_LINE
@@ -259,12 +232,12 @@ fn a_lost_line_changes_no_status(rt: HostRuntime) -> Result<(), Fail> {
 #[test]
 fn an_explained_run_writes_lines_and_no_message(rt: HostRuntime) -> Result<(), Fail> {
     let request = accepting(rt.alloc())?;
-    let ended = run(&rt, &request, HITS, Report::Suppressions, AMPLE, true)?;
+    let (ended, later) = run(&rt, &request, HITS, Report::Suppressions, AMPLE, true)?;
     assert_eq!(rt; ended.status, 1);
     assert_eq!(rt; ended.complain.as_slice(), ACCEPTED_LINE.as_bytes());
-    let ended = run(&rt, &request, "{", Report::Suppressions, AMPLE, true)?;
+    let (ended, later) = run(&rt, &request, "{", Report::Suppressions, AMPLE, true)?;
     assert_eq!(rt; ended.status, 2);
     assert!(rt; ended.complain.is_empty());
-    assert!(rt; ended.later.is_empty());
+    assert!(rt; later.is_empty());
     Ok(())
 }

@@ -1,8 +1,12 @@
 //! What is written and reported, and with which exit status.
+ghost use Rattle.std.specs.Prelude.{◌<◌, ◌^◌};
+ghost use Rattle.std.specs.List.{All};
+ghost use Rattle.sarif_streams.specs.Counted.{failed_calls};
+ghost use Rattle.sarif_streams.specs.OptionalReader.{failed_calls_if};
 
 use sarif_model::Level;
 use sarif_program::{Complaints, Writers, run_request, seed_of};
-use sarif_request::Request;
+use sarif_request::{Request, Wanted};
 use sarif_streams::{Counted, Readers};
 use std::alloc::{AllocError, Global};
 use std::cell::RefCell;
@@ -122,15 +126,15 @@ impl Read for Given {
 
 /// How many bytes the writers of a run take: `piece` of them a write, and the others in all.
 #[derive(Clone, Copy)]
-struct Rooms {
-    piece: usize,
-    out: usize,
-    say: usize,
-    complain: usize,
+pub(crate) struct Rooms {
+    pub(crate) piece: usize,
+    pub(crate) out: usize,
+    pub(crate) say: usize,
+    pub(crate) complain: usize,
 }
 
 /// Room for all that is ever written here.
-const AMPLE: Rooms = Rooms {
+pub(crate) const AMPLE: Rooms = Rooms {
     piece: 10_000,
     out: 10_000,
     say: 10_000,
@@ -172,11 +176,59 @@ impl Write for Narrow<'_> {
 
 /// The status of a run, and what its writers took.
 #[derive(Drop)]
-struct Ended {
-    status: u8,
-    out: Vec<u8>,
-    say: Vec<u8>,
-    complain: Vec<u8>,
+pub(crate) struct Ended {
+    pub(crate) status: u8,
+    pub(crate) out: Vec<u8>,
+    pub(crate) say: Vec<u8>,
+    pub(crate) complain: Vec<u8>,
+}
+
+/// Runs a request over these sources, with these outputs beside the merged log. If `is_explained` is set, error
+/// messages are the caller's to write.
+pub(crate) fn run_over<'a, T: Threads + Wait + Sync>(
+    threads: &T,
+    alloc: Global,
+    request: &Request,
+    readers: &mut Readers<Given>,
+    reports: Vec<Wanted<Counted<Narrow<'a>>>>,
+    rooms: Rooms,
+    is_explained: bool,
+) -> Result<Ended, AllocError>
+    requires logs { All (λ reader. failed_calls reader < 2 ^ 63) readers.old.logs.items }
+    requires baselines { All (λ reader. failed_calls reader < 2 ^ 63) readers.old.baselines.items }
+    requires suppressions { failed_calls_if readers.old.suppressions < 2 ^ 63 }
+    requires reports { All (λ wanted. failed_calls wanted.to < 2 ^ 63) reports.items }
+{
+    let out = RefCell::new(Vec::new(alloc));
+    let say = RefCell::new(Vec::new(alloc));
+    let complain = RefCell::new(Vec::new(alloc));
+    let mut writers: Writers<Narrow<'_>, Narrow<'_>, Narrow<'a>> = Writers {
+        out: Counted::new(Narrow::new(&out, rooms.piece, rooms.out)),
+        reports,
+        say: Counted::new(Narrow::new(&say, rooms.piece, rooms.say)),
+    };
+    let told = Narrow::new(&complain, rooms.piece, rooms.complain);
+    let mut complaints = if is_explained {
+        Complaints::explained(told)
+    } else {
+        Complaints::new(told)
+    };
+    let status = run_request(
+        threads,
+        alloc,
+        request,
+        readers,
+        &mut writers,
+        &mut complaints,
+    );
+    drop(writers);
+    drop(complaints);
+    Ok(Ended {
+        status: status.code(),
+        out: out.into_inner(),
+        say: say.into_inner(),
+        complain: complain.into_inner(),
+    })
 }
 
 /// Runs a request over one log alone.
@@ -192,31 +244,8 @@ fn run<T: Threads + Wait + Sync>(
         baselines: Vec::new(alloc),
         suppressions: None,
     };
-    let out = RefCell::new(Vec::new(alloc));
-    let say = RefCell::new(Vec::new(alloc));
-    let complain = RefCell::new(Vec::new(alloc));
-    let mut writers: Writers<Narrow<'_>, Narrow<'_>, Narrow<'_>> = Writers {
-        out: Counted::new(Narrow::new(&out, rooms.piece, rooms.out)),
-        reports: Vec::new(alloc),
-        say: Counted::new(Narrow::new(&say, rooms.piece, rooms.say)),
-    };
-    let mut complaints = Complaints::new(Narrow::new(&complain, rooms.piece, rooms.complain));
-    let status = run_request(
-        threads,
-        alloc,
-        request,
-        &mut readers,
-        &mut writers,
-        &mut complaints,
-    );
-    drop(writers);
-    drop(complaints);
-    Ok(Ended {
-        status: status.code(),
-        out: out.into_inner(),
-        say: say.into_inner(),
-        complain: complain.into_inner(),
-    })
+    let none = Vec::new(alloc);
+    run_over(threads, alloc, request, &mut readers, none, rooms, false)
 }
 
 /// Runs over one log with a baseline and a suppression file.
@@ -233,31 +262,8 @@ fn run_all<T: Threads + Wait + Sync>(
         suppressions: Some(Counted::new(suppressions)),
     };
     let request = Request::of_standard_streams(alloc, seed()?)?;
-    let out = RefCell::new(Vec::new(alloc));
-    let say = RefCell::new(Vec::new(alloc));
-    let complain = RefCell::new(Vec::new(alloc));
-    let mut writers: Writers<Narrow<'_>, Narrow<'_>, Narrow<'_>> = Writers {
-        out: Counted::new(Narrow::new(&out, AMPLE.piece, AMPLE.out)),
-        reports: Vec::new(alloc),
-        say: Counted::new(Narrow::new(&say, AMPLE.piece, AMPLE.say)),
-    };
-    let mut complaints = Complaints::new(Narrow::new(&complain, AMPLE.piece, AMPLE.complain));
-    let status = run_request(
-        threads,
-        alloc,
-        &request,
-        &mut readers,
-        &mut writers,
-        &mut complaints,
-    );
-    drop(writers);
-    drop(complaints);
-    Ok(Ended {
-        status: status.code(),
-        out: out.into_inner(),
-        say: say.into_inner(),
-        complain: complain.into_inner(),
-    })
+    let none = Vec::new(alloc);
+    run_over(threads, alloc, &request, &mut readers, none, AMPLE, false)
 }
 
 #[test]

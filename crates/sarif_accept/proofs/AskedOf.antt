@@ -3,8 +3,7 @@ use Rattle.std.proofs.Common.{◌≡◌, ℕ, true, false, List, [], ◌∷◌, 
 use Rattle.std.specs.Prelude.{is_some}
 use Rattle.sarif_model.specs.declared.record.Record.{Record}
 use Rattle.sarif_entries.specs.declared.conditions.Conditions.{Conditions}
-use Rattle.sarif_accept.specs.Asked.{with_place, with_message}
-use Rattle.sarif_accept.specs.Entry.{asked_of, conditions_for}
+use Rattle.sarif_accept.specs.Entry.{asked_of, conditions_for, with_message, with_place}
 
 guid_first : (r : Record) (g : Option ℕ) (full partial : List (List ℕ × List ℕ)) → is_some g ≡ true → with_place r None g [] [] ≡ asked_of r g full partial
 guid_first r (Some guid) full partial is = refl

@@ -122,21 +122,6 @@ module _ (wrong : FileFault) where
 
 -- ---- the members of an entry that is read
 
-record MembersStay (d : Data) : Type 0 where
-  tool : Stays (get (codes "tool") d)
-  rule_id : Stays (get (codes "ruleId") d)
-  uri : Stays (get (codes "uri") d)
-  uri_prefix : Stays (get (codes "uriPrefix") d)
-  guid : Stays (get (codes "guid") d)
-  full : Stays (get (codes "fingerprints") d)
-  partial : Stays (get (codes "partialFingerprints") d)
-  message : Stays (get (codes "message") d)
-  message_id : Stays (get (codes "messageId") d)
-  message_args : Stays (get (codes "messageArguments") d)
-  expires : Stays (get (codes "expires") d)
-  status : Stays (get (codes "status") d)
-  justification : Stays (get (codes "justification") d)
-
 record ConditionsStay (d : Data) : Type 0 where
   tool : Stays (get (codes "tool") d)
   rule_id : Stays (get (codes "ruleId") d)
@@ -148,6 +133,12 @@ record ConditionsStay (d : Data) : Type 0 where
   message : Stays (get (codes "message") d)
   message_id : Stays (get (codes "messageId") d)
   message_args : Stays (get (codes "messageArguments") d)
+
+record MembersStay (d : Data) : Type 0 where
+  conditions : ConditionsStay d
+  expires : Stays (get (codes "expires") d)
+  status : Stays (get (codes "status") d)
+  justification : Stays (get (codes "justification") d)
 
 conditions_stay : (wrong : FileFault) (d : Data) (c : Conditions) → conditions_of wrong d ≡ Ok c → ConditionsStay d
 unfolding conditions_of
@@ -184,18 +175,8 @@ all_stay wrong d e is =
     let s3 = both (status_at wrong (codes "status") d) _ e s2.second in
     let t = both (text_at wrong (codes "status") d) _ s3.value s3.first in
     let s4 = both (text_at wrong (codes "justification") d) _ e s3.second in
-    let c = conditions_stay wrong d s1.value s1.first in
     record {
-      tool = c.tool;
-      rule_id = c.rule_id;
-      uri = c.uri;
-      uri_prefix = c.uri_prefix;
-      guid = c.guid;
-      full = c.full;
-      partial = c.partial;
-      message = c.message;
-      message_id = c.message_id;
-      message_args = c.message_args;
+      conditions = conditions_stay wrong d s1.value s1.first;
       expires = day_stays wrong _ s2.value s2.first;
       status = text_stays wrong _ t.value t.first;
       justification = text_stays wrong _ s4.value s4.first;
@@ -235,12 +216,12 @@ module _ (ms : Members) (stay : MembersStay (object ms)) (q : List ℕ) where
 
   first_stays : is_first_member q ≡ true → StaysHere
   first_stays is =
-      one_of (codes "tool") _ is stay.tool (λ is.
-      one_of (codes "ruleId") _ is stay.rule_id (λ is.
-      one_of (codes "uri") _ is stay.uri (λ is.
-      one_of (codes "guid") _ is stay.guid (λ is.
-      one_of (codes "fingerprints") _ is stay.full (λ is.
-      one_of (codes "partialFingerprints") _ is stay.partial (λ is.
+      one_of (codes "tool") _ is stay.conditions.tool (λ is.
+      one_of (codes "ruleId") _ is stay.conditions.rule_id (λ is.
+      one_of (codes "uri") _ is stay.conditions.uri (λ is.
+      one_of (codes "guid") _ is stay.conditions.guid (λ is.
+      one_of (codes "fingerprints") _ is stay.conditions.full (λ is.
+      one_of (codes "partialFingerprints") _ is stay.conditions.partial (λ is.
       one_of (codes "status") _ is stay.status (λ is.
       last_of (codes "justification") is stay.justification)))))))
 
@@ -252,12 +233,12 @@ module _ (ms : Members) (stay : MembersStay (object ms)) (q : List ℕ) where
   known_stays is =
       either (is_second_member q) _ is
       (λ is. either (is_first_member q) _ is first_stays (λ is.
-      one_of (codes "uriPrefix") _ is stay.uri_prefix (λ is.
+      one_of (codes "uriPrefix") _ is stay.conditions.uri_prefix (λ is.
       last_of (codes "expires") is stay.expires)))
       (λ is.
-      one_of (codes "message") _ is stay.message (λ is.
-      one_of (codes "messageId") _ is stay.message_id (λ is.
-      last_of (codes "messageArguments") is stay.message_args)))
+      one_of (codes "message") _ is stay.conditions.message (λ is.
+      one_of (codes "messageId") _ is stay.conditions.message_id (λ is.
+      last_of (codes "messageArguments") is stay.conditions.message_args)))
 
 any_stays : (ms : Members) → are_members_of Fourth ms ≡ true → MembersStay (object ms) → (q : List ℕ) → Stays (get_member q ms)
 any_stays ms all stay q =

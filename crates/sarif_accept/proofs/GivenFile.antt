@@ -25,7 +25,7 @@ use Rattle.sarif_accept.specs.Given.{file_given}
 use Rattle.sarif_accept.proofs.EntryWhole.{both, entries_whole}
 
 -- a value that is read is ordered
-json_ordered : (bytes : List ℕ) (d : Data) → json_of bytes ≡ Some d → IsOrdered d
+pub json_ordered : (bytes : List ℕ) (d : Data) → json_of bytes ≡ Some d → IsOrdered d
 json_ordered bytes d is = by_utf8 (is_utf8 bytes) is
   where
     by_utf8 : (b : Bool) → (if b then read bytes else None) ≡ Some d → IsOrdered d

@@ -1,6 +1,6 @@
 -- An entry's conditions, as they refer to a record, and which records have them. Internal: no public contract refers
 -- to this module.
-use Rattle.std.specs.Prelude.{◌≡◌, ℕ, Bool, List, [], ◌∷◌, ◌++◌, Option, Some, None, map, option_map, codes}
+use Rattle.std.specs.Prelude.{◌≡◌, Bool, List, [], ◌∷◌, ◌++◌, Some, None, map, option_map, codes}
 use Rattle.std.specs.List.{list_any}
 use Rattle.indexmap.specs.IndexSet.{IndexSet, contains}
 use Rattle.serde_json.specs.Data.{string, Members}
@@ -35,37 +35,6 @@ members_but_place c =
     ∷ (codes "messageId", option_map string c.message_id)
     ∷ (codes "messageArguments", list_if_any (map string c.message_args))
     ∷ [])
-
--- a tool, a rule, and the other conditions
-abbrev pub with_place : Record → Option (List ℕ) → Option ℕ → List (List ℕ × List ℕ)
-    → List (List ℕ × List ℕ) → Conditions
-with_place r uri guid full partial = record {
-  tool = Some r.tool;
-  rule_id = Some r.rule_id;
-  uri = uri;
-  uri_prefix = None;
-  guid = guid;
-  full = full;
-  partial = partial;
-  message = None;
-  message_id = None;
-  message_args = [];
-}
-
--- a tool, a rule, a URI and a message
-abbrev pub with_message : Record → Conditions
-with_message r = record {
-  tool = Some r.tool;
-  rule_id = Some r.rule_id;
-  uri = r.place.uri;
-  uri_prefix = None;
-  guid = None;
-  full = [];
-  partial = [];
-  message = r.message.text;
-  message_id = r.message.id;
-  message_args = r.message.args;
-}
 
 -- whether two are equal, part by part
 abbrev pub same_asked : Asked → Asked → Bool

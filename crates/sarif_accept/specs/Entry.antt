@@ -8,47 +8,25 @@ use Rattle.serde_json.specs.View.{items_of}
 use Rattle.sarif_model.specs.declared.record.Record.{Record}
 use Rattle.sarif_entries.specs.declared.conditions.Conditions.{Conditions}
 
--- the conditions besides the tool and the rule, by what the result has first: a GUID, fingerprints, partial
--- fingerprints, or its message
-abbrev pub asked_of : Record → Option ℕ → List (List ℕ × List ℕ) → List (List ℕ × List ℕ)
-    → Conditions
-asked_of r (Some guid) full partial = record {
+-- a tool, a rule, and a GUID or fingerprints
+abbrev pub with_place : Record → Option (List ℕ) → Option ℕ → List (List ℕ × List ℕ)
+    → List (List ℕ × List ℕ) → Conditions
+with_place r uri guid full partial = record {
   tool = Some r.tool;
   rule_id = Some r.rule_id;
-  uri = None;
+  uri = uri;
   uri_prefix = None;
-  guid = Some guid;
-  full = [];
-  partial = [];
+  guid = guid;
+  full = full;
+  partial = partial;
   message = None;
   message_id = None;
   message_args = [];
 }
-asked_of r None (p ∷ ps) partial = record {
-  tool = Some r.tool;
-  rule_id = Some r.rule_id;
-  uri = r.place.uri;
-  uri_prefix = None;
-  guid = None;
-  full = p ∷ ps;
-  partial = [];
-  message = None;
-  message_id = None;
-  message_args = [];
-}
-asked_of r None [] (p ∷ ps) = record {
-  tool = Some r.tool;
-  rule_id = Some r.rule_id;
-  uri = r.place.uri;
-  uri_prefix = None;
-  guid = None;
-  full = [];
-  partial = p ∷ ps;
-  message = None;
-  message_id = None;
-  message_args = [];
-}
-asked_of r None [] [] = record {
+
+-- a tool, a rule, a URI and a message
+abbrev pub with_message : Record → Conditions
+with_message r = record {
   tool = Some r.tool;
   rule_id = Some r.rule_id;
   uri = r.place.uri;
@@ -60,6 +38,15 @@ asked_of r None [] [] = record {
   message_id = r.message.id;
   message_args = r.message.args;
 }
+
+-- the conditions besides the tool and the rule, by what the result has first: a GUID, fingerprints, partial
+-- fingerprints, or its message
+abbrev pub asked_of : Record → Option ℕ → List (List ℕ × List ℕ) → List (List ℕ × List ℕ)
+    → Conditions
+asked_of r (Some guid) full partial = with_place r None (Some guid) [] []
+asked_of r None (p ∷ ps) partial = with_place r r.place.uri None (p ∷ ps) []
+asked_of r None [] (p ∷ ps) = with_place r r.place.uri None [] (p ∷ ps)
+asked_of r None [] [] = with_message r
 
 abbrev pub conditions_for : Record → Conditions
 conditions_for r = asked_of r r.guid r.full r.partial

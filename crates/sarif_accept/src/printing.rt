@@ -19,7 +19,8 @@ pub(crate) fn print_file(alloc: Global, file: &Value) -> Result<String, AllocErr
     requires object { (ms : Members) × (view file.now ≡ object ms) }
     requires whole { has_float (view file.now) ≡ false }
     ensures text { IfOk result (λ s. string_bytes s ≡ said.file_text (view file.now)) }
-    ensures reads { IfOk result (λ s. json_of (without_mark (string_bytes s)) ≡ Some (view file.now)) }
+    ensures reads { IfOk result
+        (λ s. json_of (without_mark (string_bytes s)) ≡ Some (view file.now)) }
 {
     let mut text = file.to_string_pretty(alloc)?;
     text.push_str("\n")?;

@@ -1,5 +1,5 @@
 //! The merge of streams, with or without an explanation.
-ghost use Rattle.std.specs.Prelude.{◌≡◌, ◌<◌, ◌^◌, false, true};
+ghost use Rattle.std.specs.Prelude.{◌≡◌, ◌<◌, ◌^◌, None};
 ghost use Rattle.std.specs.List.{All};
 ghost use Rattle.sarif_streams.specs.Counted.{failed_calls};
 ghost use Rattle.sarif_streams.specs.OptionalReader.{failed_calls_if};
@@ -11,6 +11,7 @@ use crate::sources::Source;
 use sarif_program::{Complaint, Complaints, ExitStatus, run_request};
 use sarif_request::Request;
 use sarif_streams::Readers;
+use std::io::Stderr;
 use std::sync::Wait;
 use std::thread::Threads;
 
@@ -31,59 +32,7 @@ pub fn merge_streams<'a, T: Threads + Wait + Sync>(
     requires says { failed_calls writers.old.say < 2 ^ 63 }
     ensures { HasRun «request».now readers.old readers.new writers.old writers.new result }
 {
-    if request.explain {
-        merge_explained(rt, threads, request, readers, writers)
-    } else {
-        merge_unexplained(rt, threads, request, readers, writers)
-    }
-}
-
-/// Merges, and writes an error message alone.
-fn merge_unexplained<'a, T: Threads + Wait + Sync>(
-    rt: &'a HostRuntime,
-    threads: &T,
-    request: &Request,
-    readers: &mut Readers<Source<'a>>,
-    writers: &mut Outputs<'a>,
-) -> ExitStatus
-    requires logs { All (λ reader. failed_calls reader < 2 ^ 63) readers.old.logs.items }
-    requires baselines { All (λ reader. failed_calls reader < 2 ^ 63) readers.old.baselines.items }
-    requires suppressions { failed_calls_if readers.old.suppressions < 2 ^ 63 }
-    requires writes { failed_calls writers.old.out < 2 ^ 63 }
-    requires reports { All (λ report. failed_calls report.to < 2 ^ 63) writers.old.reports.items }
-    requires says { failed_calls writers.old.say < 2 ^ 63 }
-    requires unexplained { «request».now.explain ≡ false }
-    ensures { HasRun «request».now readers.old readers.new writers.old writers.new result }
-{
-    let mut complaints = Complaints::new(rt.stderr());
-    run_request(
-        threads,
-        rt.alloc(),
-        request,
-        readers,
-        writers,
-        &mut complaints,
-    )
-}
-
-/// Merges, and writes an error message with its explanation.
-fn merge_explained<'a, T: Threads + Wait + Sync>(
-    rt: &'a HostRuntime,
-    threads: &T,
-    request: &Request,
-    readers: &mut Readers<Source<'a>>,
-    writers: &mut Outputs<'a>,
-) -> ExitStatus
-    requires logs { All (λ reader. failed_calls reader < 2 ^ 63) readers.old.logs.items }
-    requires baselines { All (λ reader. failed_calls reader < 2 ^ 63) readers.old.baselines.items }
-    requires suppressions { failed_calls_if readers.old.suppressions < 2 ^ 63 }
-    requires writes { failed_calls writers.old.out < 2 ^ 63 }
-    requires reports { All (λ report. failed_calls report.to < 2 ^ 63) writers.old.reports.items }
-    requires says { failed_calls writers.old.say < 2 ^ 63 }
-    requires explained { «request».now.explain ≡ true }
-    ensures { HasRun «request».now readers.old readers.new writers.old writers.new result }
-{
-    let mut complaints = Complaints::explained(rt.stderr());
+    let mut complaints = complaints_of(rt, request);
     let status = run_request(
         threads,
         rt.alloc(),
@@ -96,7 +45,19 @@ fn merge_explained<'a, T: Threads + Wait + Sync>(
     status
 }
 
-/// Writes the last error message of a merge of these streams with its explanation, if there is one.
+/// Complaints on standard error, of which the caller explains the last one if `request.explain` is set.
+fn complaints_of(rt: &HostRuntime, request: &Request) -> Complaints<Stderr>
+    ensures none { failed_calls result.out ≡ 0 }
+    ensures explained { result.is_explained ≡ «request».now.explain }
+    ensures last { result.last ≡ None }
+{
+    let mut complaints = Complaints::new(rt.stderr());
+    complaints.is_explained = request.explain;
+    complaints
+}
+
+/// Writes the last error message of a merge of these streams with its explanation, if there is one and
+/// `request.explain` is set.
 fn explain<'a>(
     rt: &HostRuntime,
     last: Option<Complaint>,
@@ -104,6 +65,9 @@ fn explain<'a>(
     readers: &Readers<Source<'a>>,
     writers: &Outputs<'a>,
 ) {
+    if !request.explain {
+        return;
+    }
     if let Some(complaint) = last {
         let ended = Ended {
             request,

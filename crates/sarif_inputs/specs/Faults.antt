@@ -18,12 +18,14 @@ use Rattle.sarif_model.specs.Limits.{most_sources}
 -- too many sources of a kind: the first past the limit
 abbrev pub number_faults : (ℕ → Source) → List (List ℕ) → List MergeFault
 number_faults name sources =
-    if nat_lt most_sources (length sources) then fault_at (Whole (name most_sources)) (cause_of TooMany) ∷ [] else []
+    if nat_lt most_sources (length sources)
+    then fault_at (Whole (name most_sources)) (cause_of TooMany) ∷ [] else []
 
 -- too many logs, or otherwise too many baselines
 abbrev pub IsTooMany : ℕ → ℕ → MergeFault → Type 0
 IsTooMany logs baselines fault =
-    ((most_sources < logs) × (fault ≡ record { at = Whole (Log most_sources); cause = cause_of TooMany }))
+    ((most_sources < logs)
+    × (fault ≡ record { at = Whole (Log most_sources); cause = cause_of TooMany }))
     ⊎ ((logs ≤ most_sources) × (most_sources < baselines)
     × (fault ≡ record { at = Whole (Baseline most_sources); cause = cause_of TooMany }))
 

@@ -40,5 +40,6 @@ source_faults runs results [] = []
 source_faults runs results (s ∷ rest) =
     let now = runs + length (runs_in s) in
     let all = results + results_total (runs_in s) in
-    (reading_faults s.source (log_of s.checks.allow_external s.bytes) ++ limit_faults s.source now all)
+    (reading_faults s.source (log_of s.checks.allow_external s.bytes)
+    ++ limit_faults s.source now all)
     ++ source_faults now all rest

@@ -70,7 +70,8 @@ pub fn judge<G: Gate + Sync, R: Threads + Wait + Sync>(
     requires workers { (1 ≤ team.workers) × (team.workers ≤ most_workers) }
     requires room { (1 ≤ team.room) × (team.room ≤ most_room) }
     requires few { length runs.now ≤ most_runs }
-    requires few_results { results_total (map (λ p. p.run) (map placed_of runs.now)) ≤ most_results }
+    requires few_results { results_total (map (λ p. p.run) (map placed_of runs.now))
+        ≤ most_results }
     ensures { IfOk result (λ outcomes. outcomes.items
         ≡ all_outcomes file.now (map placed_of runs.now)) }
 {

@@ -4,6 +4,7 @@ pub mod KnownPlain
 pub mod Lengths
 pub mod LogBack
 pub mod Lost
+pub mod Outlines
 pub mod Plain
 pub mod Readable
 pub mod RecordBack

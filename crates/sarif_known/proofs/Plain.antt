@@ -1,19 +1,17 @@
 -- Values of strings and small integers, whose objects' names rise: their tokens are read as themselves.
-use Rattle.std.proofs.Common.{◌≡◌, ℕ, suc, ◌^◌, ◌<◌, ◌≤◌, false, List, [], Some, option_and_then, Greater, max, refl, sym, ap, ap₂, ◌∙◌, subst, nat_cmp, append-nil}
+use Rattle.std.proofs.Common.{◌≡◌, ℕ, ◌^◌, ◌<◌, ◌≤◌, false, List, [], Some, option_and_then, refl, sym, ap, ap₂, ◌∙◌, subst, append-nil}
 use Rattle.std.specs.Prelude.{⊤, option_map}
-use Rattle.std.proofs.lemmas.Cmp.{nat_list_cmp_total}
-use Rattle.std.specs.Cmp.Lexicographic.{slice_cmp}
-use Rattle.std.specs.Ordering.{ordering_reverse}
 use Rattle.json.specs.Json as json
 use Rattle.json.specs.Tree as tree
 use Rattle.json.proofs.Printed.Trees.{value-json_tokens}
 use Rattle.json.specs.Lex.{tokens}
-use Rattle.serde_json.specs.Data.{unsigned, negative, float, Data, null, boolean, number, string, array, object, Items, no_items, item, Members, no_members, member, put, depth, items_depth, members_depth}
+use Rattle.serde_json.specs.Data.{unsigned, negative, float, Data, null, boolean, number, string, array, object, Items, no_items, item, Members, no_members, member, depth}
 use Rattle.serde_json.specs.Read.{of_json, of_items, of_members, max_depth, read}
 use Rattle.serde_json.specs.Written.{outline, items_outline, members_outline}
 use Rattle.serde_json.proofs.Numbers.{number_of-decimal}
 use Rattle.json_parts.specs.Ordered.{IsBelow}
 use Rattle.json_parts.specs.Stripping.{is_fractional, any_fractional, stripped, stripped_items, stripped_members}
+use Rattle.sarif_known.proofs.Outlines.{AreBefore, join_next, join_none, joined, outline_depth, put_end, still_before}
 
 abbrev mutual
   pub IsPlain : Data → Type 0
@@ -34,34 +32,7 @@ abbrev mutual
   AreMembersPlain no_members = ⊤
   AreMembersPlain (member k d ms) = IsBelow k ms × IsPlain d × AreMembersPlain ms
 
--- ---- members that are added in order
-
-abbrev joined : Members → Members → Members
-joined no_members ms = ms
-joined (member k d more) ms = member k d (joined more ms)
-
--- these names are below those
-abbrev AreBefore : Members → Members → Type 0
-AreBefore no_members ms = ⊤
-AreBefore (member k d more) ms = IsBelow k ms × AreBefore more ms
-
-put_end : (k : List ℕ) (d : Data) (acc ms : Members) → AreBefore acc (member k d ms) → put k d acc ≡ joined acc (member k d no_members)
-put_end k d no_members ms before = refl
-put_end k d (member l e acc) ms before =
-    let above : slice_cmp nat_cmp k l ≡ Greater = nat_list_cmp_total.antisymm k l ∙ ap ordering_reverse before.0.0 in
-    rw above (ap (member l e) (put_end k d acc ms before.1))
-
-still_before : (k : List ℕ) (d : Data) (acc ms : Members) → AreBefore acc (member k d ms) → IsBelow k ms → AreBefore (joined acc (member k d no_members)) ms
-still_before k d no_members ms before below = (below, tt)
-still_before k d (member l e acc) ms before below = (before.0.1, still_before k d acc ms before.1 below)
-
-join_next : (k : List ℕ) (d : Data) (acc ms : Members) → joined (joined acc (member k d no_members)) ms ≡ joined acc (member k d ms)
-join_next k d no_members ms = refl
-join_next k d (member l e acc) ms = ap (member l e) (join_next k d acc ms)
-
-join_none : (acc : Members) → acc ≡ joined acc no_members
-join_none no_members = refl
-join_none (member l e acc) = ap (member l e) (join_none acc)
+-- ---- its outline is the value again
 
 mutual
   pub plain_back : (d : Data) → IsPlain d → of_json (outline d) ≡ Some d
@@ -120,25 +91,6 @@ mutual
   members_stripped : (ms : Members) → AreMembersPlain ms → stripped_members ms ≡ ms
   members_stripped no_members plain = refl
   members_stripped (member k d ms) plain = rw (whole d plain.1) (ap₂ (member k) (plain_stripped d plain.1) (members_stripped ms plain.2))
-
--- ---- how deep it nests
-
-mutual
-  outline_depth : (d : Data) → tree.depth (outline d) ≡ depth d
-  outline_depth null = refl
-  outline_depth (boolean b) = refl
-  outline_depth (number n) = refl
-  outline_depth (string s) = refl
-  outline_depth (array ds) = ap suc (items_outline_depth ds)
-  outline_depth (object ms) = ap suc (members_outline_depth ms)
-
-  items_outline_depth : (ds : Items) → tree.items_depth (items_outline ds) ≡ items_depth ds
-  items_outline_depth no_items = refl
-  items_outline_depth (item d ds) = ap₂ max (outline_depth d) (items_outline_depth ds)
-
-  members_outline_depth : (ms : Members) → tree.members_depth (members_outline ms) ≡ members_depth ms
-  members_outline_depth no_members = refl
-  members_outline_depth (member k d ms) = ap₂ max (outline_depth d) (members_outline_depth ms)
 
 -- the JSON of its tokens is read as the value
 pub plain_read : (d : Data) (text : List ℕ) → IsPlain d → depth d ≤ max_depth → tokens text ≡ tree.json_tokens (outline d) → read text ≡ Some d

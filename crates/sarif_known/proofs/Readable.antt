@@ -1,17 +1,12 @@
 -- The records of results that were read can be read again.
 use Rattle.std.proofs.Common.{◌≡◌, ℕ, zero, suc, ◌<◌, ◌^◌, Bool, true, false, List, [], Option, Some, None, codes, refl, sym, ap, ◌∙◌, subst}
-use Rattle.std.specs.Prelude.{Result, Ok, Err, IfSome, option_and_then, slice_index_or, if◌then◌else◌}
-use Rattle.std.specs.Str.{is_utf8}
-use Rattle.json.specs.Json as json
+use Rattle.std.specs.Prelude.{Result, Ok, Err, IfSome, option_and_then, slice_index_or}
 use Rattle.serde_json.specs.Data.{Data, null, boolean, number, string, array, object, Items, no_items, item, Members}
 use Rattle.serde_json.specs.Find.{get, as_array, as_object, as_str}
-use Rattle.serde_json.specs.Read.{of_json, read, max_depth}
-use Rattle.json.specs.Lex.{tokens}
 use Rattle.json_parts.specs.Indexed.{json_of}
 use Rattle.json_parts.specs.Mark.{without_mark}
 use Rattle.json_parts.specs.Ordered.{AreItemsOrdered, AreMembersOrdered, IsOrdered}
 use Rattle.json_parts.specs.Stripping.{stripped}
-use Rattle.json_parts.proofs.Order.{read_ordered}
 use Rattle.json_parts.proofs.Stripped.{get-IsOrdered}
 use Rattle.sarif_model.specs.declared.fault.Fault.{Fault}
 use Rattle.sarif_model.specs.declared.fault.Fault.TheVariants.{BadFingerprint, BadGuid, NotJson}
@@ -22,6 +17,7 @@ use Rattle.sarif_model.specs.Guid.{guid_of_text}
 use Rattle.sarif_model.specs.Members.{◌>>=◌, elements, member_at, of_kind, or_wrong, unless_null}
 use Rattle.sarif_model.specs.Run.{elements_or_none, result_at, runs_of}
 use Rattle.sarif_read.specs.Reading.{at_whole, check_each, check_log, log_of, log_of_value, ok_or}
+use Rattle.sarif_read.proofs.RunOf.{stripped_ordered}
 use Rattle.sarif_runs.specs.declared.head.RunHead.{RunHead}
 use Rattle.sarif_runs.specs.declared.parts.Parts.{Parts}
 use Rattle.sarif_runs.specs.Descriptor.{descriptor_of, reference_of}
@@ -33,8 +29,9 @@ use Rattle.sarif_runs.specs.Place.{place_of}
 use Rattle.sarif_runs.specs.Record.{record_by, record_in, record_of, tool_name}
 use Rattle.sarif_known.specs.KnownResult.{text_members}
 use Rattle.sarif_known.specs.Laws.{IsOfTool}
+use Rattle.sarif_accept.proofs.GivenFile.{json_ordered}
 use Rattle.sarif_accept.proofs.GuidFits.{guid_fits}
-use Rattle.sarif_known.proofs.Rising.{rises, stripped_ordered}
+use Rattle.sarif_known.proofs.Rising.{rises}
 
 -- both steps went well
 bind_ok : {A B E : Type 0} (m : Result A E) (f : A → Result B E) (y : B) → (m >>= f) ≡ Ok y → (x : A) × (m ≡ Ok x) × (f x ≡ Ok y)
@@ -46,7 +43,7 @@ ok_is x y is = cc
 
 -- ---- the members of a result
 
-guid_is_small : (o : Option Data) (g : Option ℕ) → of_kind BadGuid as_guid o ≡ Ok g → IfSome g (λ n. n < 2 ^ 128)
+pub guid_is_small : (o : Option Data) (g : Option ℕ) → of_kind BadGuid as_guid o ≡ Ok g → IfSome g (λ n. n < 2 ^ 128)
 guid_is_small None g is = let none : None ≡ g = ok_is None g is in subst (λ o. IfSome o (λ n. n < 2 ^ 128)) none tt
 guid_is_small (Some d) g is = by_text (as_str d) is
   where
@@ -161,17 +158,6 @@ record_sound run seq r ordered is =
 some_ok : {A : Type 0} (o : Option A) (fault : Fault) (x : A) → at_whole (ok_or o fault) ≡ Ok x → o ≡ Some x
 some_ok None fault x is = let never : ⊥ = cc in absurd never
 some_ok (Some y) fault x is = ap Some (ok_is y x is)
-
-json_ordered : (bytes : List ℕ) (d : Data) → json_of bytes ≡ Some d → IsOrdered d
-json_ordered bytes d is = by_utf8 (is_utf8 bytes) is
-  where
-    by_json : (o : Option json.Json) → option_and_then of_json o ≡ Some d → IsOrdered d
-    by_json None is = let never : ⊥ = cc in absurd never
-    by_json (Some j) is = read_ordered j d is
-
-    by_utf8 : (b : Bool) → (if b then read bytes else None) ≡ Some d → IsOrdered d
-    by_utf8 true is = by_json (option_and_then (λ p. json.if_last p.0 p.1) (json.value max_depth (tokens bytes))) is
-    by_utf8 false is = let never : ⊥ = cc in absurd never
 
 -- each result of a log that is read has a record that can be read again
 pub read_sound : (allow : Bool) (bytes : List ℕ) (runs : List Data) (k seq : ℕ) (r : Record) → log_of allow bytes ≡ Ok runs → record_of (slice_index_or runs k null) seq ≡ Ok r → IsOfTool (tool_name (slice_index_or runs k null)) r

@@ -1,42 +1,12 @@
 -- Names that rise: pairs that were read from an object make that object again.
-use Rattle.std.proofs.Common.{◌≡◌, ℕ, true, false, List, [], Option, Some, None, refl, if◌then◌else◌}
+use Rattle.std.proofs.Common.{◌≡◌, ℕ, List, [], Option, Some, None, refl}
 use Rattle.std.specs.Prelude.{Result, Ok, Err}
-use Rattle.serde_json.specs.Data.{Data, null, boolean, number, string, array, object, Items, no_items, item, Members, no_members, member}
-use Rattle.json_parts.specs.Ordered.{IsBelow, IsOrdered, AreItemsOrdered, AreMembersOrdered}
+use Rattle.serde_json.specs.Data.{Data, Members, no_members, member}
+use Rattle.json_parts.specs.Ordered.{IsBelow, AreMembersOrdered}
 use Rattle.sarif_model.specs.declared.fault.Fault.{Fault}
-use Rattle.json_parts.specs.Stripping.{is_fractional, stripped, stripped_items, stripped_members}
 use Rattle.sarif_model.specs.Members.{◌>>=◌, result_map}
 use Rattle.sarif_runs.specs.Fingerprints.{text_or_null, with_pair, pairs_among}
 use Rattle.sarif_known.specs.KnownResult.{text_members}
-
-below_stripped : (k : List ℕ) (ms : Members) → IsBelow k ms → IsBelow k (stripped_members ms)
-below_stripped k no_members below = tt
-below_stripped k (member l d ms) below =
-    elim (is_fractional d) as (λ b. IsBelow k (if b then stripped_members ms else member l (stripped d) (stripped_members ms))) [
-      | true ↦ below_stripped k ms below.1
-      | false ↦ (below.0, below_stripped k ms below.1)
-    ]
-
-mutual
-  pub stripped_ordered : (d : Data) → IsOrdered d → IsOrdered (stripped d)
-  stripped_ordered null is = tt
-  stripped_ordered (boolean b) is = tt
-  stripped_ordered (number n) is = tt
-  stripped_ordered (string s) is = tt
-  stripped_ordered (array ds) is = items_ordered ds is
-  stripped_ordered (object ms) is = members_ordered ms is
-
-  items_ordered : (ds : Items) → AreItemsOrdered ds → AreItemsOrdered (stripped_items ds)
-  items_ordered no_items are = tt
-  items_ordered (item d ds) are = (stripped_ordered d are.0, items_ordered ds are.1)
-
-  members_ordered : (ms : Members) → AreMembersOrdered ms → AreMembersOrdered (stripped_members ms)
-  members_ordered no_members are = tt
-  members_ordered (member k d ms) are =
-      elim (is_fractional d) as (λ b. AreMembersOrdered (if b then stripped_members ms else member k (stripped d) (stripped_members ms))) [
-        | true ↦ members_ordered ms are.2
-        | false ↦ (below_stripped k ms are.0, stripped_ordered d are.1, members_ordered ms are.2)
-      ]
 
 ok_same : (a b : List (List ℕ × List ℕ)) → ◌≡◌ {A = Result (List (List ℕ × List ℕ)) Fault} (Ok a) (Ok b) → a ≡ b
 ok_same a b e = cc

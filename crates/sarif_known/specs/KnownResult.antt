@@ -85,7 +85,8 @@ one_location ms =
     (object (member (codes "artifactLocation") (object ms) no_members)) no_members) ∷ []))
 
 abbrev pub uri_rows : List ℕ → Option (List ℕ) → List Row
-uri_rows uri base = (codes "uri", Some (string uri)) ∷ (codes "uriBaseId", option_map string base) ∷ []
+uri_rows uri base =
+    (codes "uri", Some (string uri)) ∷ (codes "uriBaseId", option_map string base) ∷ []
 
 -- the place: its URI and its base next to it; a base without a URI by the number of the artifact that has it
 abbrev pub locations_for : Place → Option ℕ → Option Data

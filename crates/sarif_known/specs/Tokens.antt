@@ -36,8 +36,8 @@ each_tokens (d ∷ ds) = data_tokens d ++ each_tokens ds
 -- a location up to the members of its artifact's location
 abbrev pub opened : List Token
 opened =
-    key (codes "locations") ∷ begin_array ∷ begin_object ∷ key (codes "physicalLocation") ∷ begin_object
-    ∷ key (codes "artifactLocation") ∷ begin_object ∷ []
+    key (codes "locations") ∷ begin_array ∷ begin_object
+    ∷ key (codes "physicalLocation") ∷ begin_object ∷ key (codes "artifactLocation") ∷ begin_object ∷ []
 
 abbrev pub closed : List Token
 closed = end_object ∷ end_object ∷ end_object ∷ end_array ∷ []
@@ -64,7 +64,8 @@ last_tokens r =
 -- a run up to its first result
 abbrev pub run_opening : List Record → List Token
 run_opening rs =
-    begin_object ∷ (value_tokens (codes "artifacts") (list_if_any (map artifact_at (bases_alone rs)))
+    begin_object
+    ∷ (value_tokens (codes "artifacts") (list_if_any (map artifact_at (bases_alone rs)))
     ++ key (codes "results") ∷ begin_array ∷ [])
 
 -- a run after its last result

@@ -19,6 +19,7 @@ use Rattle.sarif_known.specs.Laws.{IsOfTool}
 use Rattle.sarif_known.specs.Order.{known_runs, runs_of_tool, tools_of}
 use Rattle.sarif_known.specs.Selected.{is_left_out, keep_unless, kept_of, known_of, unmatched_of}
 use Rattle.sarif_upkeep.specs.Known.{chosen_before, chosen_now}
+use Rattle.sarif_upkeep.proofs.Taken.{kept_of_fewer, known_fewer}
 use Rattle.sarif_laws.proofs.Lists.{all_append}
 use Rattle.sarif_laws.proofs.OfTool.{IsSoundRun, own_records}
 
@@ -99,24 +100,6 @@ grouped_sound current baseline now before =
 
 -- ---- how many
 
-fewer_unless : (gone : Bool) (r : Record) (rs : List Record) (n : ℕ) → length rs ≤ n → length (keep_unless gone r rs) ≤ suc n
-fewer_unless true r rs n few = omega (arith, few)
-fewer_unless false r rs n few = omega (arith, few)
-
-fewer_known : (file : File) (policy : Policy) (adopt : Bool) (rs : List Record) (states : List State) → length (known_of file policy adopt rs states) ≤ length rs
-fewer_known file policy adopt [] states = omega arith
-fewer_known file policy adopt (r ∷ rs) [] = omega arith
-fewer_known file policy adopt (r ∷ rs) (state ∷ states) = fewer_unless (is_left_out file policy adopt r state) r (known_of file policy adopt rs states) (length rs) (fewer_known file policy adopt rs states)
-
-fewer_unmatched : (rs : List Record) (taken : List Bool) → length (unmatched_of rs taken) ≤ length rs
-fewer_unmatched [] taken = omega arith
-fewer_unmatched (r ∷ rs) [] = omega arith
-fewer_unmatched (r ∷ rs) (t ∷ taken) = fewer_unless t r (unmatched_of rs taken) (length rs) (fewer_unmatched rs taken)
-
-fewer_kept : (heard : Bool) (rs : List Record) (taken : List Bool) → length (kept_of heard rs taken) ≤ length rs
-fewer_kept true rs taken = omega arith
-fewer_kept false rs taken = fewer_unmatched rs taken
-
 part_few : (n : ℕ) (rs : List Record) → length (take n rs) ≤ n
 part_few zero rs = omega arith
 part_few (suc n) [] = omega arith
@@ -137,13 +120,13 @@ pub now_few : (file : File) (policy : Policy) (adopt : Bool) (runs : List Data) 
 now_few file policy adopt [] rs states = omega arith
 now_few file policy adopt (run ∷ runs) rs states =
     let n = length (results_of run) in
-    omega (arith, fewer_known file policy adopt (take n rs) (take n states), part_few n rs, now_few file policy adopt runs (drop n rs) (drop n states))
+    omega (arith, known_fewer file policy adopt (take n rs) (take n states), part_few n rs, now_few file policy adopt runs (drop n rs) (drop n states))
 
 pub before_few : (heard : Option (List ℕ) → Bool) (runs : List Data) (rs : List Record) (taken : List Bool) → results_among (chosen_before heard runs rs taken) ≤ results_total runs
 before_few heard [] rs taken = omega arith
 before_few heard (run ∷ runs) rs taken =
     let n = length (present (results_of run)) in
-    omega (arith, fewer_kept (heard (Some (tool_name run))) (take n rs) (take n taken), part_few n rs, fewer_present (results_of run), before_few heard runs (drop n rs) (drop n taken))
+    omega (arith, kept_of_fewer (heard (Some (tool_name run))) (take n rs) (take n taken), part_few n rs, fewer_present (results_of run), before_few heard runs (drop n rs) (drop n taken))
 
 pub now_long : (file : File) (policy : Policy) (adopt : Bool) (runs : List Data) (rs : List Record) (states : List State) → length (chosen_now file policy adopt runs rs states) ≡ length runs
 now_long file policy adopt [] rs states = refl

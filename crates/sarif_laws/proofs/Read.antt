@@ -3,13 +3,12 @@ use Rattle.std.proofs.Common.{◌≡◌, ℕ, ◌<◌, ◌^◌, Bool, true, fals
 use Rattle.std.specs.Prelude.{Result, Ok, Err, IfSome, option_and_then}
 use Rattle.std.specs.List.{AllByRecursion, range_with_len}
 use Rattle.serde_json.specs.Data.{Data, null, boolean, number, string, array, object, Members}
-use Rattle.serde_json.specs.Find.{as_array, as_str, get_member}
+use Rattle.serde_json.specs.Find.{as_array, get_member}
 use Rattle.sarif_model.specs.declared.fault.Fault.{Fault}
-use Rattle.sarif_model.specs.declared.fault.Fault.TheVariants.{BadGuid, BadSuppression}
+use Rattle.sarif_model.specs.declared.fault.Fault.TheVariants.{BadSuppression}
 use Rattle.sarif_model.specs.declared.kinds.Status.{Status}
 use Rattle.sarif_model.specs.declared.record.Record.{Record}
-use Rattle.sarif_model.specs.Guid.{guid_of_text}
-use Rattle.sarif_model.specs.Members.{◌>>=◌, are_objects, elements, elements_of, if_objects, member_at, of_kind, or_wrong, read_each, unless_null}
+use Rattle.sarif_model.specs.Members.{◌>>=◌, are_objects, elements, elements_of, if_objects, member_at, of_kind, read_each, unless_null}
 use Rattle.sarif_model.specs.Run.{is_absent_result, result_at, results_of}
 use Rattle.sarif_model.specs.Suppression.{status_of}
 use Rattle.sarif_counts.specs.CountOf.{items_in}
@@ -21,31 +20,17 @@ use Rattle.sarif_runs.specs.Descriptor.{descriptor_of, reference_of}
 use Rattle.sarif_runs.specs.Head.{head_of}
 use Rattle.sarif_runs.specs.Judging.{item_by, item_of, items_of, records_in, records_of, skips, with_record}
 use Rattle.sarif_runs.specs.Level.{level_of}
-use Rattle.sarif_runs.specs.OwnMembers.{as_guid, check_present, own_fingerprints, own_guid, own_indexes, own_kind, own_level, own_location, own_message_and_rule, own_statuses, parts_of}
+use Rattle.sarif_runs.specs.OwnMembers.{check_present, own_fingerprints, own_guid, own_indexes, own_kind, own_level, own_location, own_message_and_rule, own_statuses, parts_of}
 use Rattle.sarif_runs.specs.Place.{place_of}
 use Rattle.sarif_runs.specs.Placed.{Placed}
 use Rattle.sarif_runs.specs.Record.{record_by, record_in, record_of, tool_name}
 use Rattle.sarif_results.specs.Annotated.{own_suppressions}
 use Rattle.sarif_accept.specs.Until.{HasGuid}
-use Rattle.sarif_accept.proofs.GuidFits.{guid_fits}
+use Rattle.sarif_known.proofs.Readable.{guid_is_small}
 use Rattle.sarif_laws.proofs.Lists.{all_append}
 
 ok_is : {A E : Type 0} (x y : A) → ◌≡◌ {A = Result A E} (Ok x) (Ok y) → x ≡ y
 ok_is x y is = cc
-
--- ---- its GUID
-
-guid_is_small : (o : Option Data) (g : Option ℕ) → of_kind BadGuid as_guid o ≡ Ok g → IfSome g (λ n. n < 2 ^ 128)
-guid_is_small None g is = subst (λ o. IfSome o (λ n. n < 2 ^ 128)) (ok_is None g is) tt
-guid_is_small (Some d) g is = by_text (as_str d) is
-  where
-    by_guid : (o : Option ℕ) → IfSome o (λ n. n < 2 ^ 128) → or_wrong BadGuid o ≡ Ok g → IfSome g (λ n. n < 2 ^ 128)
-    by_guid None small is = let never : ⊥ = cc in absurd never
-    by_guid (Some n) small is = subst (λ o. IfSome o (λ n. n < 2 ^ 128)) (ok_is (Some n) g is) small
-
-    by_text : (o : Option (List ℕ)) → or_wrong BadGuid (option_and_then guid_of_text o) ≡ Ok g → IfSome g (λ n. n < 2 ^ 128)
-    by_text None is = let never : ⊥ = cc in absurd never
-    by_text (Some text) is = by_guid (guid_of_text text) (guid_fits text) is
 
 -- ---- the statuses of its own suppressions
 

@@ -30,13 +30,13 @@ use Rattle.sarif_known.proofs.LogBack.{log_back, text_read}
 use Rattle.sarif_known.proofs.Plain.{AreItemsPlain, AreMembersPlain, IsPlain}
 use Rattle.sarif_known.proofs.RunBack.{known_again}
 use Rattle.sarif_merge.specs.Life.{merge_in}
+use Rattle.sarif_merge.proofs.OwnResult.{faultless_runs}
 use Rattle.sarif_upkeep.specs.Heard.{heard}
 use Rattle.sarif_upkeep.specs.Known.{adopts, known_before, known_now, runs_known}
 use Rattle.sarif_laws.specs.KnownAgain.{IsKnownAgain}
 use Rattle.sarif_laws.proofs.Grouping.{known_total, total_results, total_runs}
 use Rattle.sarif_laws.proofs.KnownRuns.{before_few, before_long, before_sound, grouped_sound, now_few, now_long, now_sound}
 use Rattle.sarif_laws.proofs.OfTool.{sources_sound}
-use Rattle.sarif_laws.proofs.Places.{faultless_runs}
 use Rattle.sarif_laws.proofs.Printed.{pretty_tokens}
 
 -- ---- the limits of what is read

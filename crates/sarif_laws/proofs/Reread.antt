@@ -1,11 +1,7 @@
 -- A value is read of its text, if the names of its objects rise and its numbers are integers in range.
-use Rattle.std.proofs.Common.{◌≡◌, ℕ, suc, ◌≤◌, true, false, pos, negsuc, List, [], ◌∷◌, ◌++◌, Some, option_map, option_and_then, max, Greater, nat_cmp, refl, sym, ap, ap₂, subst, ◌∙◌, append-nil, true≢false}
-use Rattle.std.specs.Prelude.{⊤}
-use Rattle.std.specs.Cmp.Lexicographic.{slice_cmp}
-use Rattle.std.specs.Ordering.{ordering_reverse}
+use Rattle.std.proofs.Common.{◌≡◌, ℕ, ◌≤◌, true, false, pos, negsuc, List, [], ◌∷◌, ◌++◌, Some, option_map, option_and_then, refl, sym, ap, subst, ◌∙◌, append-nil, true≢false}
 use Rattle.std.specs.Str.{IsUtf8, is_utf8}
 use Rattle.std.proofs.lemmas.Bool.{or_parts}
-use Rattle.std.proofs.lemmas.Cmp.{nat_list_cmp_total}
 use Rattle.std.proofs.lemmas.Str.{is_utf8-from_IsUtf8}
 use Rattle.json.specs.Json as json
 use Rattle.json.specs.Layout.{pretty, pretty_from}
@@ -13,46 +9,18 @@ use Rattle.json.specs.Lex.{tokens}
 use Rattle.json.specs.Tree as tree
 use Rattle.json.proofs.Printed.Decimals.{IsNumber-decimal, IsNumber-signed_decimal}
 use Rattle.json.proofs.Printed.Trees.{ArePrintable-json_tokens, value-json_tokens}
-use Rattle.serde_json.specs.Data.{unsigned, negative, float, Data, null, boolean, number, string, array, object, Items, no_items, item, Members, no_members, member, put, depth, items_depth, members_depth}
+use Rattle.serde_json.specs.Data.{unsigned, negative, float, Data, null, boolean, number, string, array, object, Items, no_items, item, Members, no_members, member, depth}
 use Rattle.serde_json.specs.Read.{of_items, of_json, of_members, max_depth, read}
 use Rattle.serde_json.specs.Written.{has_float, items_have_float, items_outline, members_have_float, members_outline, outline}
 use Rattle.serde_json.proofs.Numbers.{number_of-decimal, number_of-negative}
 use Rattle.json_parts.specs.Indexed.{json_of}
 use Rattle.json_parts.specs.Mark.{without_mark}
-use Rattle.json_parts.specs.Ordered.{AreItemsOrdered, AreMembersOrdered, IsBelow, IsOrdered}
+use Rattle.json_parts.specs.Ordered.{AreItemsOrdered, AreMembersOrdered, IsOrdered}
 use Rattle.sarif_accept.specs.NewFile.{file_text}
 use Rattle.sarif_accept.proofs.Newline.{read_line}
+use Rattle.sarif_known.proofs.Outlines.{AreBefore, join_next, join_none, joined, outline_depth, put_end, still_before}
 use Rattle.sarif_laws.proofs.Printed.{pretty_tokens}
 use Rattle.sarif_laws.proofs.Ranged.{AreItemsRanged, AreMembersRanged, IsRanged}
-
--- ---- members that go in one after another
-
-abbrev joined : Members → Members → Members
-joined no_members ms = ms
-joined (member k d more) ms = member k d (joined more ms)
-
--- these names are below those
-abbrev AreBefore : Members → Members → Type 0
-AreBefore no_members ms = ⊤
-AreBefore (member k d more) ms = IsBelow k ms × AreBefore more ms
-
-put_end : (k : List ℕ) (d : Data) (acc ms : Members) → AreBefore acc (member k d ms) → put k d acc ≡ joined acc (member k d no_members)
-put_end k d no_members ms before = refl
-put_end k d (member l e acc) ms before =
-    let above : slice_cmp nat_cmp k l ≡ Greater = nat_list_cmp_total.antisymm k l ∙ ap ordering_reverse before.0.0 in
-    rw above (ap (member l e) (put_end k d acc ms before.1))
-
-still_before : (k : List ℕ) (d : Data) (acc ms : Members) → AreBefore acc (member k d ms) → IsBelow k ms → AreBefore (joined acc (member k d no_members)) ms
-still_before k d no_members ms before below = (below, tt)
-still_before k d (member l e acc) ms before below = (before.0.1, still_before k d acc ms before.1 below)
-
-join_next : (k : List ℕ) (d : Data) (acc ms : Members) → joined (joined acc (member k d no_members)) ms ≡ joined acc (member k d ms)
-join_next k d no_members ms = refl
-join_next k d (member l e acc) ms = ap (member l e) (join_next k d acc ms)
-
-join_none : (acc : Members) → acc ≡ joined acc no_members
-join_none no_members = refl
-join_none (member l e acc) = ap (member l e) (join_none acc)
 
 -- ---- its outline is the value again
 
@@ -104,25 +72,6 @@ mutual
   members_numbers : (ms : Members) → AreMembersRanged ms → members_have_float ms ≡ false → tree.MembersHaveNumbers (members_outline ms)
   members_numbers no_members fits whole = tt
   members_numbers (member k d ms) fits whole = let parts = or_parts (has_float d) (members_have_float ms) whole in (has_numbers d fits.0 parts.0, members_numbers ms fits.1 parts.1)
-
--- ---- how deep it nests
-
-mutual
-  outline_depth : (d : Data) → tree.depth (outline d) ≡ depth d
-  outline_depth null = refl
-  outline_depth (boolean b) = refl
-  outline_depth (number n) = refl
-  outline_depth (string s) = refl
-  outline_depth (array ds) = ap suc (items_outline_depth ds)
-  outline_depth (object ms) = ap suc (members_outline_depth ms)
-
-  items_outline_depth : (ds : Items) → tree.items_depth (items_outline ds) ≡ items_depth ds
-  items_outline_depth no_items = refl
-  items_outline_depth (item d ds) = ap₂ max (outline_depth d) (items_outline_depth ds)
-
-  members_outline_depth : (ms : Members) → tree.members_depth (members_outline ms) ≡ members_depth ms
-  members_outline_depth no_members = refl
-  members_outline_depth (member k d ms) = ap₂ max (outline_depth d) (members_outline_depth ms)
 
 -- ---- its text
 

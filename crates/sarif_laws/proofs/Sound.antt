@@ -19,11 +19,11 @@ use Rattle.json_parts.proofs.Stripped.{get-IsOrdered}
 use Rattle.sarif_model.specs.declared.record.Record.{Record}
 use Rattle.sarif_model.specs.Members.{elements}
 use Rattle.sarif_counts.specs.declared.upkeep.Renewal.{Renewal}
+use Rattle.sarif_read.proofs.RunOf.{stripped_ordered}
 use Rattle.sarif_entries.specs.declared.conditions.Conditions.{Conditions}
 use Rattle.sarif_accept.specs.Entry.{Row, conditions_for, entry_for, entry_rows, guid_text, list_if_any, members_from, texts_if_any, texts_into, texts_put}
 use Rattle.sarif_accept.specs.Keeping.{chosen}
 use Rattle.sarif_accept.specs.NewFile.{entries_after, entries_in, entry_in, file_object, listed, new_file, others_in, stripped_in}
-use Rattle.sarif_known.proofs.Rising.{stripped_ordered}
 use Rattle.sarif_laws.proofs.Lists.{all_append}
 use Rattle.sarif_laws.proofs.Ranged.{AreItemsRanged, AreMembersRanged, IsRanged, list_ranged, member_ranged, put_ranged, read_ranged, stripped_ranged, without_ranged}
 

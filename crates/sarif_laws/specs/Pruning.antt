@@ -25,7 +25,8 @@ pub record ChangesNoResult (inputs : Inputs) (text : List ℕ) : Type 0 where
   pub faultless : faults_of (with_file inputs text) ≡ []
   pub runs : runs_written (with_file inputs text) ≡ runs_written inputs
   pub counts : count_of (runs_written (with_file inputs text)) ≡ count_of (runs_written inputs)
-  pub verdict : (policy : Policy) → verdict_of (count_of (runs_written (with_file inputs text))) policy
+  pub verdict : (policy : Policy)
+      → verdict_of (count_of (runs_written (with_file inputs text))) policy
       ≡ verdict_of (count_of (runs_written inputs)) policy
   pub unused : (e : Entry) → IsUnusedIn (with_file inputs text) e
       → (is_expired inputs.today e ≡ false)

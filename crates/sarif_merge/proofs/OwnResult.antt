@@ -144,7 +144,7 @@ record_in_run p seq log sound within =
     (no_fault p.source p.number (opening_fault p) (items_of p) sound)
 
 -- among the records of all runs
-record_at : (ps : List Placed) (k seq : ℕ) → faults_of_runs ps ≡ [] → AllByRecursion (λ p. skips p.source ≡ false) ps
+pub record_at : (ps : List Placed) (k seq : ℕ) → faults_of_runs ps ≡ [] → AllByRecursion (λ p. skips p.source ≡ false) ps
     → k < length ps → seq < length (results_of (get_or (run_values ps) k null))
     → (r : Record) × (record_of (get_or (run_values ps) k null) seq ≡ Ok r) × ((d : Record) → get_or (records_of ps) (results_total (take k (run_values ps)) + seq) d ≡ r)
 record_at [] k seq sound logs there within = absurd (omega (arith, there))
@@ -164,7 +164,7 @@ record_at (p ∷ ps) (suc k) seq sound logs there within =
 
 -- ---- the state of a result
 
-state_at : (bs : List Record) (partners : List (Option ℕ)) (n i j : ℕ) (cs : List Record) (r : Record) (s : State) → i < length cs → n + i ≡ j
+pub state_at : (bs : List Record) (partners : List (Option ℕ)) (n i j : ℕ) (cs : List Record) (r : Record) (s : State) → i < length cs → n + i ≡ j
     → get_or (states_from bs partners n cs) i s ≡ state_of (get_or cs i r) (partner_in bs (get_or partners j None))
 state_at bs partners n i j [] r s within is = absurd (omega (arith, within))
 state_at bs partners n zero j (c ∷ cs) r s within is =
@@ -176,7 +176,7 @@ state_at bs partners n (suc i) j (c ∷ cs) r s within is =
 -- ---- a part of a list
 
 -- the results of a run are within those of all
-within_total : (runs : List Data) (k : ℕ) → k < length runs → results_total (take k runs) + length (results_of (get_or runs k null)) ≤ results_total runs
+pub within_total : (runs : List Data) (k : ℕ) → k < length runs → results_total (take k runs) + length (results_of (get_or runs k null)) ≤ results_total runs
 within_total [] k there = absurd (omega (arith, there))
 within_total (run ∷ runs) zero there = omega arith
 within_total (run ∷ runs) (suc k) there =
@@ -192,7 +192,7 @@ part_at xs b c i d within = get_or-take c (drop b xs) i d within ∙ get_or-drop
 -- ---- for all input runs
 
 -- faultless inputs have faultless input runs
-faultless_runs : (inputs : Inputs) → faults_of inputs ≡ [] → faults_of_runs (input_runs inputs) ≡ []
+pub faultless_runs : (inputs : Inputs) → faults_of inputs ≡ [] → faults_of_runs (input_runs inputs) ≡ []
 faultless_runs inputs none =
     let runs = faults_of_runs (all_runs inputs) in
     let files = file_faults (file_or_none inputs.suppressions inputs.today) in

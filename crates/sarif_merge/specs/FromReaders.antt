@@ -45,7 +45,8 @@ abbrev pub IsRefused : {R : Type 0} → (R → Option (List ℕ)) → Readers R 
     → Option ℕ → Checks → MergeFault → Type 0
 IsRefused remaining old new today checks fault =
     IsTooMany (length old.logs.items) (length old.baselines.items) fault
-    ⊎ (AreFew old × (IsStopped remaining old new fault ⊎ IsAtFault remaining old new today checks fault))
+    ⊎ (AreFew old × (IsStopped remaining old new fault
+    ⊎ IsAtFault remaining old new today checks fault))
 
 -- all sources were read, and this is the merge of what was read
 abbrev pub IsMergedFrom : {R : Type 0} → (R → Option (List ℕ)) → Readers R → Readers R

@@ -15,7 +15,8 @@ use Rattle.sarif_merge.specs.MergedLog.{file_given}
 -- the merge of these inputs under this policy
 abbrev pub merge_in : Inputs → Policy → Merge
 merge_in inputs policy =
-    merge_of (file_given inputs) inputs.suppressions policy (input_runs inputs) (baseline_runs inputs)
+    merge_of (file_given inputs) inputs.suppressions policy
+    (input_runs inputs) (baseline_runs inputs)
 
 -- nothing for later merges
 abbrev pub no_life : Life
@@ -27,7 +28,8 @@ IsLifeOf inputs policy upkeep life = IsKept (merge_in inputs policy) upkeep life
 
 -- the first file of what was requested for later merges that could not be read again, and why
 abbrev pub IsTooLarge : Inputs → Policy → Option Upkeep → MergeFault → Type 0
-IsTooLarge inputs policy upkeep fault = first (life_faults (merge_in inputs policy) upkeep) ≡ Some fault
+IsTooLarge inputs policy upkeep fault =
+    first (life_faults (merge_in inputs policy) upkeep) ≡ Some fault
 
 -- why a merge that was read is rejected: memory ran out, a thread could not be started, or this is the first error of
 -- the inputs; or they have none, and what was requested for later merges is too large

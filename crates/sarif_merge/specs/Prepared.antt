@@ -18,6 +18,7 @@ pub record IsPreparedFor (inputs : Inputs) (policy : Policy) (asked : Option Rep
     (upkeep : Option Upkeep) (prepared : Prepared) : Type 0 where
   pub faultless : faults_of inputs ≡ []
   pub written : IsPrepared (file_in (file_or_none inputs.suppressions inputs.today))
-      (placed (numbered inputs.checks Log 0 inputs.logs)) (placed (numbered inputs.checks Baseline 0 inputs.baselines))
+      (placed (numbered inputs.checks Log 0 inputs.logs))
+      (placed (numbered inputs.checks Baseline 0 inputs.baselines))
       asked prepared
   pub kept : IsKept (merge_in inputs policy) upkeep prepared.life

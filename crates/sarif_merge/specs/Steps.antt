@@ -40,12 +40,14 @@ policy_in m = m.asked.now.options.now.policy
 -- why it is rejected: for a reason of the merge, and neither a read nor a write failed
 unfoldable pub IsRejection : Merging → MergeFault → Type 0
 IsRejection m fault =
-    IsRefusal (inputs_in m) (policy_in m) (upkeep_in m.asked.now) fault × (exit_status fault.cause ≡ 2)
+    IsRefusal (inputs_in m) (policy_in m) (upkeep_in m.asked.now) fault
+    × (exit_status fault.cause ≡ 2)
 
 -- the indexes of its sources, those of the logs first
 unfoldable pub AreIndexesIn : Merging → List (Result (List Token) IndexFault) → Type 0
 AreIndexesIn m indexes =
-    AreIndexesOf (inputs_in m).logs (inputs_in m).baselines indexes (length m.sources.now.logs.items)
+    AreIndexesOf (inputs_in m).logs (inputs_in m).baselines indexes
+    (length m.sources.now.logs.items)
 
 -- its sources were read: any error is one of the suppression file or of the runs
 unfoldable pub IsRead : Merging → Type 0
@@ -84,12 +86,14 @@ AreLogsJudged m judged =
 -- the results of its baselines, judged
 unfoldable pub AreBaselinesJudged : Merging → Judged → Type 0
 AreBaselinesJudged m judged =
-    (placed_in judged ≡ baseline_runs (inputs_in m)) × IsJudged (file_given (inputs_in m)) true judged
+    (placed_in judged ≡ baseline_runs (inputs_in m))
+    × IsJudged (file_given (inputs_in m)) true judged
 
 -- everything that is written for it
 unfoldable pub IsReady : Merging → Prepared → Type 0
 IsReady m prepared =
-    IsPreparedFor (inputs_in m) (policy_in m) (reporting_in m.asked.now) (upkeep_in m.asked.now) prepared
+    IsPreparedFor (inputs_in m) (policy_in m) (reporting_in m.asked.now) (upkeep_in m.asked.now)
+    prepared
 
 -- its merged log, and what is for later merges
 unfoldable pub IsMergeOf : Merging → Merged → Type 0

@@ -35,8 +35,8 @@ fn prepare_few<G: Gate + Sync, R: Threads + Wait + Sync>(
     scratches: &mut [Scratch],
     observer: &G,
 ) -> Result<Prepared, MergeFault>
-    requires scratches { length scratches.old
-        ≡ length merging.now.sources.now.logs.items + length merging.now.sources.now.baselines.items }
+    requires scratches { length scratches.old ≡ length merging.now.sources.now.logs.items
+        + length merging.now.sources.now.baselines.items }
     requires few_logs { length merging.now.sources.now.logs.items ≤ most_sources }
     requires few_baselines { length merging.now.sources.now.baselines.items ≤ most_sources }
     ensures prepared { IfOk result (IsReady merging.now) }

@@ -56,7 +56,8 @@ impl<'m, 'o: 'm> Merging<'m, 'o> {
     #[tactic(auto, using(crate::proofs::StepFacts::lacks_memory))]
     pub(crate) fn make_scratches(&self, alloc: Global) -> Result<Vec<Scratch>, MergeFault>
         ensures scratches { IfOk result (λ scratches. length scratches.items
-            ≡ length self.now.sources.now.logs.items + length self.now.sources.now.baselines.items) }
+            ≡ length self.now.sources.now.logs.items
+            + length self.now.sources.now.baselines.items) }
         ensures refused { IfErr result (IsRejection self.now) }
     {
         let count = self.sources.logs.len() + self.sources.baselines.len();

@@ -73,7 +73,8 @@ pub record IsTold {E : Type 0} (contents : E → Option (List ℕ)) (complaint :
       → Appends (contents (inner_of old)) (contents (inner_of new)) (complaint_line complaint)
       ⊎ (new ≡ old)
   pub prefix : (n : ℕ)
-      × Appends (contents (inner_of old)) (contents (inner_of new)) (take n (complaint_line complaint))
+      × Appends (contents (inner_of old)) (contents (inner_of new))
+      (take n (complaint_line complaint))
 
 -- the last error message is this one, and its line was written, a prefix of it if a write failed, or nothing; nothing
 -- if the caller explains it

@@ -12,10 +12,11 @@ use Rattle.sarif_program.specs.Line.{HasComplained}
 
 -- the merge of what was read is rejected for this reason, which its line says and the status follows; out of memory may
 -- be reported before anything is read
-pub record IsRejected {R E : Type 0} (remaining : R → Option (List ℕ)) (written : E → Option (List ℕ))
-    (request : Request) (readers after : Readers R) (complaints told : Complaints E) (status : ℕ)
-    (fault : MergeFault) : Type 0 where
+pub record IsRejected {R E : Type 0} (remaining : R → Option (List ℕ))
+    (written : E → Option (List ℕ)) (request : Request) (readers after : Readers R)
+    (complaints told : Complaints E) (status : ℕ) (fault : MergeFault) : Type 0 where
   pub refused : (fault.cause ≡ OutOfMemory → ⊥) → IsRefusedWith remaining readers after
-      request.options.today request.options.checks request.options.policy (Some request.upkeep) fault
+      request.options.today request.options.checks request.options.policy
+      (Some request.upkeep) fault
   pub exits : status ≡ exit_status fault.cause
   pub said : HasComplained written (Fault fault) complaints told

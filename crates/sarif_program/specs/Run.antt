@@ -80,7 +80,8 @@ pub record IsRun {R W S P E : Type 0} (views : Views R W S P E) (request : Reque
   pub risen : NoNumberFalls old.readers new.readers × NoWriterFalls old.writers new.writers
   pub faulty : (contents : SourceContents) → AllTell views.remaining old.readers
       → WereRead views.remaining old.readers new.readers contents
-      → (faults_of (given_by contents request.options.today request.options.checks) ≡ [] → ⊥) → status ≡ 2
+      → (faults_of (given_by contents request.options.today request.options.checks) ≡ [] → ⊥)
+      → status ≡ 2
   pub too_large : (contents : SourceContents) → AllTell views.remaining old.readers
       → WereRead views.remaining old.readers new.readers contents → (fault : MergeFault)
       → IsTooLarge (given_by contents request.options.today request.options.checks)

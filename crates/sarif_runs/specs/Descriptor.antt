@@ -38,4 +38,5 @@ abbrev pub descriptor_of : List (List Rule) → Reference → Result (Option Des
 descriptor_of components named = do
   let number = component_number named.component
   rules ← ok_or (slice_get components number) BadIndex
-  result_map (option_map (λ i. record { component = number; rule = i })) (rule_number rules named.index named.id)
+  result_map (option_map (λ i. record { component = number; rule = i }))
+      (rule_number rules named.index named.id)

@@ -51,7 +51,8 @@ overriding_level_at invocations invocation descriptor =
 
 -- the rule of a descriptor
 abbrev pub rule_at : List (List Rule) → Descriptor → Option Rule
-rule_at components d = option_and_then (λ rules. slice_get rules d.rule) (slice_get components d.component)
+rule_at components d =
+    option_and_then (λ rules. slice_get rules d.rule) (slice_get components d.component)
 
 abbrev pub default_level : List (List Rule) → Option Descriptor → Option Level
 default_level components None = None

@@ -150,7 +150,7 @@ kept_fewer : (b : Bool) (r : Record) (rs all : List Record) → length rs ≤ le
 kept_fewer true r rs all few = omega (arith, few)
 kept_fewer false r rs all few = omega (arith, few)
 
-known_fewer : (file : File) (policy : Policy) (adopt : Bool) (rs : List Record) (states : List State) → length (known_of file policy adopt rs states) ≤ length rs
+pub known_fewer : (file : File) (policy : Policy) (adopt : Bool) (rs : List Record) (states : List State) → length (known_of file policy adopt rs states) ≤ length rs
 known_fewer file policy adopt [] states = omega arith
 known_fewer file policy adopt (r ∷ rs) [] = omega arith
 known_fewer file policy adopt (r ∷ rs) (state ∷ states) =
@@ -161,7 +161,7 @@ unmatched_fewer [] taken = omega arith
 unmatched_fewer (r ∷ rs) [] = omega arith
 unmatched_fewer (r ∷ rs) (t ∷ taken) = kept_fewer t r (unmatched_of rs taken) rs (unmatched_fewer rs taken)
 
-kept_of_fewer : (heard : Bool) (rs : List Record) (taken : List Bool) → length (kept_of heard rs taken) ≤ length rs
+pub kept_of_fewer : (heard : Bool) (rs : List Record) (taken : List Bool) → length (kept_of heard rs taken) ≤ length rs
 kept_of_fewer true rs taken = omega arith
 kept_of_fewer false rs taken = unmatched_fewer rs taken
 

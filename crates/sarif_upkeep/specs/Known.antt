@@ -34,7 +34,10 @@ abbrev pub chosen_now : File → Policy → Bool → List Data → List Record �
 chosen_now file policy adopt [] rs states = []
 chosen_now file policy adopt (run ∷ runs) rs states =
     let n = length (results_of run) in
-    record { tool = tool_name run; records = known_of file policy adopt (take n rs) (take n states) }
+    record {
+      tool = tool_name run;
+      records = known_of file policy adopt (take n rs) (take n states);
+    }
     ∷ chosen_now file policy adopt runs (drop n rs) (drop n states)
 
 -- of each baseline run the results that stay known; the records and marks are those of all results that aren't absent
@@ -44,7 +47,10 @@ abbrev pub chosen_before : (Option (List ℕ) → Bool) → List Data → List R
 chosen_before heard [] rs taken = []
 chosen_before heard (run ∷ runs) rs taken =
     let n = length (present (results_of run)) in
-    record { tool = tool_name run; records = kept_of (heard (Some (tool_name run))) (take n rs) (take n taken) }
+    record {
+      tool = tool_name run;
+      records = kept_of (heard (Some (tool_name run))) (take n rs) (take n taken);
+    }
     ∷ chosen_before heard runs (drop n rs) (drop n taken)
 
 abbrev pub known_now : Merge → Bool → List Chosen

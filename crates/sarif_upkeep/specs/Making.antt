@@ -22,7 +22,9 @@ abbrev pub bytes_in : Option (Bor (List ℕ)) → Option (List ℕ)
 bytes_in bytes = option_map (λ b. b.now) bytes
 
 abbrev pub entries_of : Option (Bor (List ℕ)) → List Bool → List (Bor Record) → Renewal → ℕ
-entries_of bytes kept added renewal = length (renewed_entries (bytes_in bytes) kept (map (λ r. r.now) added) renewal)
+entries_of bytes kept added renewal =
+    length (renewed_entries (bytes_in bytes) kept (map (λ r. r.now) added) renewal)
 
 abbrev pub file_of : Option (Bor (List ℕ)) → List Bool → List (Bor Record) → Renewal → Data
-file_of bytes kept added renewal = renewed_file (bytes_in bytes) kept (map (λ r. r.now) added) renewal
+file_of bytes kept added renewal =
+    renewed_file (bytes_in bytes) kept (map (λ r. r.now) added) renewal

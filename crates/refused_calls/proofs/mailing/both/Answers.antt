@@ -1,6 +1,6 @@
 use Rattle.std.proofs.Common.{sym, subst}
 use Rattle.sarif_gather.specs.Ends.{AreAllPosts}
-use Rattle.refused_calls.proofs.Posts.{two_posts}
+use Rattle.sarif_gather.proofs.TwoPosts.{two_posts}
 use Rattle.refused_calls.proofs.mailing.both.Goals as goal
 
 pub returns : goal.returns

@@ -1,5 +1,5 @@
 use Rattle.std.proofs.Common.{◌∙◌}
-use Rattle.refused_calls.proofs.Posts.{first_two}
+use Rattle.sarif_gather.proofs.TwoPosts.{first_two}
 use Rattle.refused_calls.proofs.mailing.settle.Goals as goal
 
 pub both-requires-clause-first : goal.both-requires-clause-first

@@ -1,6 +1,6 @@
 use Rattle.std.proofs.Common.{sym, subst}
 use Rattle.sarif_gather.specs.Ends.{AreAllPosts}
-use Rattle.gather_tests.proofs.Posts.{two_posts}
+use Rattle.sarif_gather.proofs.TwoPosts.{two_posts}
 use Rattle.gather_tests.proofs.work.mailing.both.Goals as goal
 
 pub returns : goal.returns

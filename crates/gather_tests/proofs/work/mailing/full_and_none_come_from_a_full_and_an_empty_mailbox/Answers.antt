@@ -1,5 +1,5 @@
 use Rattle.std.proofs.Common.{◌∙◌}
-use Rattle.gather_tests.proofs.Posts.{first_two}
+use Rattle.sarif_gather.proofs.TwoPosts.{first_two}
 use Rattle.gather_tests.proofs.work.mailing.full_and_none_come_from_a_full_and_an_empty_mailbox.Goals as goal
 
 pub both-requires-clause-first : goal.both-requires-clause-first

@@ -1,5 +1,5 @@
 use Rattle.std.proofs.Common.{◌∙◌}
-use Rattle.gather_tests.proofs.Posts.{first_two}
+use Rattle.sarif_gather.proofs.TwoPosts.{first_two}
 use Rattle.gather_tests.proofs.work.mailing.settle_gives_what_is_left_front_first.Goals as goal
 
 pub both-requires-clause-first : goal.both-requires-clause-first

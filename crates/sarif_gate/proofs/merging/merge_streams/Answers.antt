@@ -1,16 +1,15 @@
-use Rattle.std.proofs.Common.{◌∙◌, sym}
-use Rattle.sarif_gate.proofs.merging.merge_explained.Goals as goal
+use Rattle.sarif_gate.proofs.merging.merge_streams.Goals as goal
 
 -- the clauses of the run, as one fact
 pub returns : goal.returns
 returns g c =
     let run = c.run_request-status.ensures in
     record {
-      before = c.explained-complaints.result;
+      before = c.complaints_of-complaints.result;
       told = c.run_request-status.new.complaints;
-      unsaid = c.explained-complaints.ensures.last;
-      quiet = c.explained-complaints.ensures.none;
-      explained = c.explained-complaints.ensures.explained ∙ sym c.requires.explained;
+      unsaid = c.complaints_of-complaints.ensures.last;
+      quiet = c.complaints_of-complaints.ensures.none;
+      explained = c.complaints_of-complaints.ensures.explained;
       run = record {
         accepted = λ low. let all = run.accepted low in
             (all.0, record { verdict = all.1; from = all.2; log = all.3; reports = all.4; summary = all.5; noted = all.6 });
