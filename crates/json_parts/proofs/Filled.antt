@@ -6,7 +6,7 @@ use Rattle.std.specs.Ordering.{match_ordering}
 use Rattle.std.specs.Cmp.Lexicographic.{slice_cmp}
 use Rattle.serde_json.specs.Data.{Data, string, object, Members, no_members, member, put}
 use Rattle.serde_json.specs.Written.{comma_if, compact_text, members_text}
-use Rattle.json_parts.specs.Around.{name_text, texts_before, members_after, surrounding, filled}
+use Rattle.json_parts.specs.Internal.Around.{name_text, texts_before, members_after, surrounding, filled}
 
 -- the text of a member, followed by others
 abbrev member_text : List ℕ → Data → List ℕ → List ℕ

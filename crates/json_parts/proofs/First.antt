@@ -9,7 +9,7 @@ use Rattle.serde_json.proofs.Views.{Entry}
 use Rattle.serde_json.specs.Data.{object, Members, no_members, member}
 use Rattle.serde_json.specs.View.{members_view}
 use Rattle.serde_json.specs.Written.{compact_text, members_text}
-use Rattle.json_parts.specs.Around.{begins_at, begins_below}
+use Rattle.json_parts.specs.Internal.Around.{begins_at, begins_below}
 
 -- what the comparison with the first name says
 pub at_first : (name : List ℕ) (es : List Entry) (e : Entry) (o : Ordering) → slice_get es 0 ≡ Some e → slice_cmp nat_cmp name (string_bytes e.0) ≡ o

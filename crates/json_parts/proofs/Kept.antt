@@ -11,9 +11,9 @@ use Rattle.serde_json.specs.Find.{as_object}
 use Rattle.serde_json.specs.View.{view, items_view, members_view}
 use Rattle.serde_json.specs.declared.value.Value.{Value}
 use Rattle.serde_json.proofs.Views.{Entry}
-use Rattle.json_parts.specs.Ordered.{IsBelow, AreMembersOrdered}
+use Rattle.json_parts.specs.Internal.Ordered.{IsBelow, AreMembersOrdered}
 use Rattle.json_parts.specs.Stripping.{is_fractional, stripped, stripped_members}
-use Rattle.json_parts.specs.Walking.{is_left_out, kept_members}
+use Rattle.json_parts.specs.Internal.Walking.{is_left_out, kept_members}
 use Rattle.json_parts.specs.Without.{without, without_member}
 use Rattle.json_parts.proofs.Order.{below_all}
 use Rattle.json_parts.proofs.Readings.{not_found, Some_inj}

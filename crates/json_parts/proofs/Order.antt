@@ -9,7 +9,7 @@ use Rattle.json.specs.Json as json
 use Rattle.serde_json.specs.Data.{Data, number, array, object, item, Members, no_members, member, put}
 use Rattle.serde_json.specs.Read.{number_of, of_json, of_items, of_members}
 use Rattle.json_parts.specs.Indexed.{data_of, IsReadable}
-use Rattle.json_parts.specs.Ordered.{IsBelow, IsOrdered, AreItemsOrdered, AreMembersOrdered}
+use Rattle.json_parts.specs.Internal.Ordered.{IsBelow, IsOrdered, AreItemsOrdered, AreMembersOrdered}
 use Rattle.json_parts.proofs.Readings.{known}
 
 abbrev cmp : List ℕ → List ℕ → Ordering

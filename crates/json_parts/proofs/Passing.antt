@@ -5,7 +5,7 @@ use Rattle.json.specs.Json.{Json, null, boolean, number, string, array, object, 
 use Rattle.json.specs.Tree.{depth, items_depth, members_depth}
 use Rattle.serde_json.specs.Data as data_
 use Rattle.serde_json.specs.Read.{number_of, of_json, of_items, of_members}
-use Rattle.json_parts.specs.Walking.{named_of, put_all}
+use Rattle.json_parts.specs.Internal.Walking.{named_of, put_all}
 use Rattle.json_parts.proofs.Readings.{not_found, Some_inj, of_members-named}
 
 abbrev pub passes : ℕ → Json → Bool

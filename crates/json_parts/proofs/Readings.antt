@@ -14,7 +14,7 @@ use Rattle.serde_json.specs.Find.{get, get_member, as_str}
 use Rattle.serde_json.specs.Read.{max_depth, number_of, of_json, of_items, of_members}
 use Rattle.serde_json.proofs.Views.{get_member-put, get_member-put_other}
 use Rattle.json_parts.specs.Indexed.{data_of, IsReadable}
-use Rattle.json_parts.specs.Walking.{depth_of, named_of, put_all}
+use Rattle.json_parts.specs.Internal.Walking.{depth_of, named_of, put_all}
 use Rattle.json_parts.proofs.Deeper.{value_at}
 
 abbrev or_else : {A : Type 0} → A → Option A → A

@@ -4,7 +4,7 @@ use mathlib.Core.Bool.{and-true}
 use Rattle.json.specs.Token.{Token}
 use Rattle.json.specs.Json.{Json, null, boolean, number, string, array, object, Items, no_items, item, Members, no_members, member, Parse, parse_map, after_end_array, read_key, items_step, members_step, items, members, value_with, value}
 use Rattle.serde_json.specs.Read.{number_of}
-use Rattle.json_parts.specs.Whole.{IsWhole}
+use Rattle.json_parts.specs.Internal.Whole.{IsWhole}
 use Rattle.json_parts.proofs.Passing.{passes, items_pass, members_pass, items_pass-item, members_pass-member, passes-array, passes-object, passes-number, passes-plain, passes-flat_array, passes-flat_object, no_more_items, no_more_members}
 use Rattle.json_parts.proofs.Readings.{not_found, Some_inj, mapped_some, and_then_some}
 

@@ -6,7 +6,7 @@ use Rattle.std.specs.Cmp.Lexicographic.{slice_cmp}
 use Rattle.std.specs.Ordering.{nat_cmp, match_ordering}
 use Rattle.serde_json.specs.Data.{Data, null, boolean, number, string, array, object, Members, no_members, member}
 use Rattle.serde_json.specs.Find.{get, get_member}
-use Rattle.json_parts.specs.Ordered.{IsBelow, IsOrdered, AreMembersOrdered}
+use Rattle.json_parts.specs.Internal.Ordered.{IsBelow, IsOrdered, AreMembersOrdered}
 use Rattle.json_parts.specs.Stripping.{is_fractional, stripped, stripped_members}
 use Rattle.json_parts.specs.Without.{without, without_member}
 use Rattle.json_parts.proofs.Readings.{not_found, Some_inj}

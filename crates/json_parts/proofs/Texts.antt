@@ -11,7 +11,7 @@ use Rattle.json.specs.Tree.{depth}
 use Rattle.json.proofs.Nesting.{value-depth}
 use Rattle.serde_json.specs.Read.{max_depth, of_json, read}
 use Rattle.json_parts.specs.Indexed.{json_of, data_of, IsReadable}
-use Rattle.json_parts.specs.Whole.{IsWhole}
+use Rattle.json_parts.specs.Internal.Whole.{IsWhole}
 use Rattle.json_parts.proofs.Deeper.{value_at}
 use Rattle.json_parts.proofs.Readings.{not_found, Some_inj, found}
 use Rattle.json_parts.proofs.Passing.{passes}

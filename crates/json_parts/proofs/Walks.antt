@@ -12,7 +12,7 @@ use Rattle.serde_json.specs.Find.{get, as_null, as_array, as_object}
 use Rattle.serde_json.specs.Read.{max_depth, of_json, of_items}
 use Rattle.serde_json.specs.View.{items_of}
 use Rattle.json_parts.specs.Indexed.{data_of, IsReadable, first_element}
-use Rattle.json_parts.specs.Walking.{depth_of, named_of, ElementsAre, MembersAre, OpensArray, OpensObject, NextElement, NextMember}
+use Rattle.json_parts.specs.Internal.Walking.{depth_of, named_of, ElementsAre, MembersAre, OpensArray, OpensObject, NextElement, NextMember}
 use Rattle.json_parts.proofs.Readings.{not_found, Some_inj, mapped_some, and_then_some, known, found, Kind, kind, Found, get_found}
 
 no_array : (j : Json) (d : Data) → Kind j d → look.as_array j ≡ None → as_array d ≡ None

@@ -2,7 +2,7 @@
 use Rattle.std.specs.Prelude.{◌≡◌, ◌≢◌, ℕ, List, Some, None, option_and_then, if◌then◌else◌}
 use Rattle.serde_json.specs.Data.{Data}
 use Rattle.serde_json.specs.Find.{get}
-use Rattle.json_parts.specs.Ordered.{IsOrdered}
+use Rattle.json_parts.specs.Internal.Ordered.{IsOrdered}
 use Rattle.json_parts.specs.Stripping.{is_fractional, stripped}
 use Rattle.json_parts.specs.Without.{without_member}
 

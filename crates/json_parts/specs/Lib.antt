@@ -1,9 +1,6 @@
-pub mod Around
 pub mod Indexed
+pub mod Internal
 pub mod Laws
 pub mod Mark
-pub mod Ordered
 pub mod Stripping
-pub mod Walking
-pub mod Whole
 pub mod Without

@@ -3,8 +3,8 @@ ghost use Rattle.std.specs.Prelude.{◌≡◌, ◌++◌, ◌∷◌, [], true, fa
 ghost use Rattle.serde_json.specs.Data.{no_members};
 ghost use Rattle.serde_json.specs.View.{members_view};
 ghost use Rattle.serde_json.specs.Written.{members_text, members_have_float};
-ghost use Rattle.json_parts.specs.Around.{texts_before, members_after, begins_below, begins_at};
-ghost use Rattle.json_parts.specs.Around.{surrounding, name_text, filled};
+ghost use Rattle.json_parts.specs.Internal.Around.{texts_before, members_after, begins_below, begins_at};
+ghost use Rattle.json_parts.specs.Internal.Around.{surrounding, name_text, filled};
 
 use crate::text::{push_name, push_value};
 use serde_json::{Map, Value};
@@ -22,7 +22,7 @@ pub struct Around {
 
 impl Model for Around {
     ghost use Rattle.std.specs.Prelude.{string_bytes};
-    ghost use Rattle.json_parts.specs.Around.{Surrounding};
+    ghost use Rattle.json_parts.specs.Internal.Around.{Surrounding};
 
     ghost Value = { Surrounding };
 

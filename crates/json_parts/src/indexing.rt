@@ -1,7 +1,7 @@
 //! The index of a whole text.
 ghost use Rattle.std.specs.Prelude.{◌≡◌, Some, None, IfOk, IfErr};
 ghost use Rattle.json_parts.specs.Indexed.{json_of, data_of};
-ghost use Rattle.json_parts.specs.Ordered.{IsOrdered};
+ghost use Rattle.json_parts.specs.Internal.Ordered.{IsOrdered};
 
 use crate::node::Node;
 use crate::readable::is_readable;

@@ -4,7 +4,7 @@ ghost use Rattle.serde_json.specs.Find.{as_array, as_object};
 ghost use Rattle.serde_json.specs.View.{view, items_view, members_view};
 ghost use Rattle.json_parts.specs.Indexed.{data_of};
 ghost use Rattle.json_parts.specs.Stripping.{stripped, stripped_items};
-ghost use Rattle.json_parts.specs.Walking.{is_left_out, kept_members};
+ghost use Rattle.json_parts.specs.Internal.Walking.{is_left_out, kept_members};
 ghost use Rattle.json_parts.specs.Without.{without_member};
 
 use crate::node::Node;

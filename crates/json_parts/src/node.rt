@@ -3,9 +3,9 @@ ghost use Rattle.std.specs.Prelude.{◌≡◌, map, is_some, option_map, option_
 ghost use Rattle.serde_json.specs.Find.{as_null, as_bool, as_number, as_str, as_array, as_object, as_u64, get};
 ghost use Rattle.serde_json.specs.View.{items_of, number_view};
 ghost use Rattle.json_parts.specs.Indexed.{IsReadable, data_of, first_element};
-ghost use Rattle.json_parts.specs.Ordered.{IsOrdered};
+ghost use Rattle.json_parts.specs.Internal.Ordered.{IsOrdered};
 ghost use Rattle.json_parts.specs.Stripping.{is_fractional as fractional};
-ghost use Rattle.json_parts.specs.Walking.{OpensArray, OpensObject};
+ghost use Rattle.json_parts.specs.Internal.Walking.{OpensArray, OpensObject};
 
 use crate::number::parse_number;
 use crate::tape::{Contents, Element};

@@ -4,7 +4,7 @@ ghost use Rattle.json.specs.Json.{Json};
 ghost use Rattle.json.specs.Tape.{node_token};
 ghost use Rattle.json.specs.Tree.{depth as nesting};
 ghost use Rattle.serde_json.specs.Read.{of_json};
-ghost use Rattle.json_parts.specs.Whole.{IsWhole};
+ghost use Rattle.json_parts.specs.Internal.Whole.{IsWhole};
 
 use crate::number::parse_number;
 use json::Node;

@@ -2,7 +2,7 @@
 ghost use Rattle.std.specs.Prelude.{◌≡◌, ◌++◌, ◌∷◌, [], OnOk, false, string_bytes};
 ghost use Rattle.serde_json.specs.View.{view};
 ghost use Rattle.serde_json.specs.Written.{compact_text, has_float};
-ghost use Rattle.json_parts.specs.Around.{name_text};
+ghost use Rattle.json_parts.specs.Internal.Around.{name_text};
 
 use serde_json::Value;
 use std::alloc::{AllocError, Global};

@@ -2,8 +2,8 @@
 ghost use Rattle.std.specs.Prelude.{◌<◌, ℕ, length, option_map, IfSome, OnSome};
 ghost use Rattle.serde_json.specs.Data.{Items, Members};
 ghost use Rattle.json_parts.specs.Indexed.{data_of};
-ghost use Rattle.json_parts.specs.Ordered.{IsOrdered};
-ghost use Rattle.json_parts.specs.Walking.{ElementsAre, MembersAre, NextElement, NextMember};
+ghost use Rattle.json_parts.specs.Internal.Ordered.{IsOrdered};
+ghost use Rattle.json_parts.specs.Internal.Walking.{ElementsAre, MembersAre, NextElement, NextMember};
 
 use crate::node::Node;
 use crate::tape::Contents;

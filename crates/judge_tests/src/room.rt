@@ -1,10 +1,10 @@
 //! That the room of a team bounds what waits for the calling thread.
 ghost use Rattle.std.specs.Prelude.{◌≤◌, ℕ, List, length, map};
-ghost use Rattle.sarif_inputs.specs.Indexes.{AreIndexesOf};
+ghost use Rattle.sarif_inputs.specs.Internal.Indexes.{AreIndexesOf};
 ghost use Rattle.sarif_model.specs.Limits.{most_results, most_runs};
 ghost use Rattle.sarif_model.specs.Run.{results_total};
 ghost use Rattle.sarif_runs.specs.Judging.{run_values};
-ghost use Rattle.sarif_runs.specs.Opened.{placed_of};
+ghost use Rattle.sarif_runs.specs.Internal.Opened.{placed_of};
 
 use json::Scratch;
 use json_parts::{Index, IndexFault};

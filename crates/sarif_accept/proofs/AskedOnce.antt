@@ -8,7 +8,7 @@ use Rattle.sarif_model.specs.Limits.{most_entries}
 use Rattle.sarif_model.specs.declared.record.Record.{Record}
 use Rattle.sarif_accept.specs.declared.asked.Asked.{Asked}
 use Rattle.sarif_accept.specs.Adding.{same_conditions, once_each}
-use Rattle.sarif_accept.specs.Asked.{conditions_in, same_asked, HasAsked}
+use Rattle.sarif_accept.specs.Internal.Asked.{conditions_in, same_asked, HasAsked}
 use Rattle.sarif_accept.specs.Entry.{conditions_for}
 use Rattle.sarif_accept.proofs.Flags.{left_of}
 

@@ -8,7 +8,7 @@ use Rattle.std.proofs.lemmas.Map.Text.{is_eq-slice_cmp}
 use Rattle.std.proofs.lemmas.Slice.Eq.{bytes_eq-Decides}
 use Rattle.serde_json.specs.Data.{Data, null, boolean, number, unsigned, negative, float, string, array, object, Items, no_items, item, Members, no_members, member}
 use Rattle.serde_json.specs.Find.{get, get_member, as_str, as_array}
-use Rattle.json_parts.specs.Ordered.{IsOrdered, AreMembersOrdered}
+use Rattle.json_parts.specs.Internal.Ordered.{IsOrdered, AreMembersOrdered}
 use Rattle.json_parts.specs.Stripping.{is_fractional, stripped, stripped_items, stripped_members}
 use Rattle.json_parts.proofs.SameMembers.{same_members}
 use Rattle.json_parts.proofs.Stripped.{get-stripped, unless_fractional}

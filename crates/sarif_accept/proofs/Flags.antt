@@ -10,9 +10,9 @@ use Rattle.serde_json.specs.Data.{Data}
 use Rattle.sarif_model.specs.declared.record.Record.{Record}
 use Rattle.sarif_entries.specs.declared.entry.Entry.{Entry}
 use Rattle.sarif_entries.specs.File.{File}
-use Rattle.sarif_suppress.specs.Marks.{marks_of}
+use Rattle.sarif_suppress.specs.Internal.Marks.{marks_of}
 use Rattle.sarif_entries.specs.Matching.{matches, is_expired}
-use Rattle.sarif_accept.specs.Flags.{mark_at, if_marked, is_dropped, flags_by, line_at, lines_by}
+use Rattle.sarif_accept.specs.Internal.Flags.{mark_at, if_marked, is_dropped, flags_by, line_at, lines_by}
 use Rattle.sarif_accept.specs.Keeping.{Heard, is_kept, chosen}
 use Rattle.sarif_accept.specs.NewFile.{entry_in, entries_in, file_object}
 use Rattle.sarif_accept.specs.Unused.{line_of, lines_from, unused_text}

@@ -10,7 +10,7 @@ use Rattle.json.specs.Json as json
 use Rattle.json.specs.Lex.{tokens}
 use Rattle.json_parts.specs.Indexed.{json_of}
 use Rattle.json_parts.specs.Mark.{without_mark}
-use Rattle.json_parts.specs.Ordered.{IsOrdered, AreItemsOrdered}
+use Rattle.json_parts.specs.Internal.Ordered.{IsOrdered, AreItemsOrdered}
 use Rattle.json_parts.proofs.Order.{read_ordered}
 use Rattle.json_parts.proofs.Readings.{and_then_some}
 use Rattle.json_parts.proofs.Stripped.{get-IsOrdered}

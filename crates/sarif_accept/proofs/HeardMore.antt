@@ -5,7 +5,7 @@ use Rattle.std.proofs.lemmas.List.Folds.{list_any-append}
 use Rattle.indexmap.specs.IndexSet.{IndexSet, Updates}
 use Rattle.sarif_accept.specs.declared.heard.ToolRun.{ToolRun}
 use Rattle.sarif_accept.specs.Heard.{is_of, is_failed_of}
-use Rattle.sarif_accept.specs.HeardSets.{AreSetsOf}
+use Rattle.sarif_accept.specs.Internal.HeardSets.{AreSetsOf}
 
 -- a test that the new run passes or not
 with_run : (a b : Bool) → cond a true b ≡ (b || (a || false))

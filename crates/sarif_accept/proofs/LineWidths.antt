@@ -13,7 +13,7 @@ use Rattle.serde_json.specs.View.{view, items_view}
 use Rattle.serde_json.specs.declared.value.Value.{Value}
 use Rattle.serde_json.specs.Written.{outline, items_outline, members_outline, number_text}
 use Rattle.sarif_accept.specs.NewFile.{file_text}
-use Rattle.sarif_accept.specs.Weighing.{lines_in, item_lines, member_lines}
+use Rattle.sarif_accept.specs.Internal.Weighing.{lines_in, item_lines, member_lines}
 use Rattle.sarif_accept.proofs.Flags.{left_of}
 
 -- the bytes before a value or a member, without its comma

@@ -23,7 +23,7 @@ use Rattle.sarif_accept.specs.Entry.{entry_for}
 use Rattle.sarif_accept.specs.Keeping.{chosen}
 use Rattle.sarif_accept.specs.Renewed.{renewed_entries, renewed_file, renewal_cause}
 use Rattle.sarif_accept.proofs.NoFraction.{new_whole}
-use Rattle.sarif_accept.specs.Weighing.{lines_in, weights_of}
+use Rattle.sarif_accept.specs.Internal.Weighing.{lines_in, weights_of}
 use Rattle.sarif_accept.proofs.LineWidths.{file_lines}
 use Rattle.sarif_accept.proofs.Shallow.{new_within}
 use Rattle.sarif_accept.proofs.Weight.{file_weight}

@@ -20,7 +20,7 @@ use Rattle.sarif_accept.specs.Entry.{Row, conditions_for, entry_for, entry_rows,
 use Rattle.sarif_accept.specs.NewFile.{entries_in, file_object, file_text, others_in}
 use Rattle.sarif_accept.specs.Keeping.{chosen}
 use Rattle.sarif_accept.specs.Renewed.{renewed_entries, renewed_file}
-use Rattle.sarif_accept.specs.Weighing.{weight_if, weight_of, weights_of}
+use Rattle.sarif_accept.specs.Internal.Weighing.{weight_if, weight_of, weights_of}
 use Rattle.sarif_accept.proofs.Flags.{left_of}
 use Rattle.sarif_accept.proofs.Rows.{and_both, are_apart, found, get_row, lacks}
 

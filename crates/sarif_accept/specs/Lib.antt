@@ -1,13 +1,10 @@
 pub mod Adding
-pub mod Asked
 pub mod Entry
-pub mod Flags
 pub mod Given
 pub mod Heard
-pub mod HeardSets
+pub mod Internal
 pub mod Keeping
 pub mod NewFile
 pub mod Renewed
 pub mod Until
 pub mod Unused
-pub mod Weighing

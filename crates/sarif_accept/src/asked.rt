@@ -1,6 +1,6 @@
 //! The conditions of the entry that accepts a result.
 ghost use Rattle.std.specs.Prelude.{◌≡◌, option_map};
-ghost use Rattle.sarif_accept.specs.Asked.{conditions_in};
+ghost use Rattle.sarif_accept.specs.Internal.Asked.{conditions_in};
 ghost use Rattle.sarif_accept.specs.Entry.{conditions_for, with_message, with_place};
 
 use sarif_model::{Record, Text};

@@ -2,7 +2,7 @@
 ghost use Rattle.std.specs.Prelude.{◌≡◌, codes, map, option_map, IfOk, OnOk};
 ghost use Rattle.serde_json.specs.Data.{number, unsigned, string};
 ghost use Rattle.serde_json.specs.View.{view, members_view};
-ghost use Rattle.sarif_accept.specs.Asked.{conditions_in, members_but_place};
+ghost use Rattle.sarif_accept.specs.Internal.Asked.{conditions_in, members_but_place};
 ghost use Rattle.sarif_accept.specs.Entry as said;
 
 use crate::asked::{Asked, asked_of};

@@ -3,7 +3,7 @@ ghost use Rattle.std.specs.Prelude.{◌≡◌, ◌++◌, ◌∷◌, [], List, op
 ghost use Rattle.std.specs.List.{list_any};
 ghost use Rattle.sarif_accept.specs.Heard.{heard_of, is_of, is_failed_of};
 ghost use Rattle.sarif_accept.specs.declared.heard.ToolRun.{ToolRun as OneRun};
-ghost use Rattle.sarif_accept.specs.HeardSets.{AreSetsOf};
+ghost use Rattle.sarif_accept.specs.Internal.HeardSets.{AreSetsOf};
 
 use indexmap::IndexSet;
 use sarif_model::Text;
@@ -36,7 +36,7 @@ impl<S: BuildHasher + Copy> Model for Heard<S> {
     ghost use Rattle.std.specs.Prelude.{◌≡◌, List};
     ghost use Rattle.std.specs.List.{list_any};
     ghost use Rattle.sarif_accept.specs.declared.heard.ToolRun.{ToolRun};
-    ghost use Rattle.sarif_accept.specs.HeardSets.{AreSetsOf};
+    ghost use Rattle.sarif_accept.specs.Internal.HeardSets.{AreSetsOf};
 
     ghost Value = { List ToolRun };
 

@@ -2,7 +2,7 @@
 ghost use Rattle.std.specs.Prelude.{◌≡◌, ◌+◌, ◌<◌, ◌≤◌, None, IfSome, nat_lt};
 ghost use Rattle.serde_json.specs.View.{view, items_view, members_view};
 ghost use Rattle.sarif_model.specs.Limits.{most_bytes};
-ghost use Rattle.sarif_accept.specs.Weighing as said;
+ghost use Rattle.sarif_accept.specs.Internal.Weighing as said;
 
 use sarif_model::MOST_BYTES;
 use serde_json::{Map, Value};

@@ -1,8 +1,8 @@
 //! Which entries stay in a new suppression file.
 ghost use Rattle.std.specs.Prelude.{◌≡◌, List, map, option_map, IfOk};
 ghost use Rattle.sarif_model.specs.declared.record.Record.{Record};
-ghost use Rattle.sarif_suppress.specs.Marks.{marks_of};
-ghost use Rattle.sarif_accept.specs.Flags.{is_dropped, flags_by};
+ghost use Rattle.sarif_suppress.specs.Internal.Marks.{marks_of};
+ghost use Rattle.sarif_accept.specs.Internal.Flags.{is_dropped, flags_by};
 ghost use Rattle.sarif_accept.specs.Heard.{heard_of};
 ghost use Rattle.sarif_accept.specs.Keeping.{is_kept};
 

@@ -1,6 +1,6 @@
 //! Marks by number.
 ghost use Rattle.std.specs.Prelude.{◌≡◌};
-ghost use Rattle.sarif_accept.specs.Flags.{mark_at};
+ghost use Rattle.sarif_accept.specs.Internal.Flags.{mark_at};
 
 /// Whether that number is marked; one past the end isn't.
 pub(crate) fn is_marked(marks: &[bool], number: usize) -> bool

@@ -4,7 +4,7 @@ ghost use Rattle.serde_json.specs.Data.{no_members};
 ghost use Rattle.serde_json.specs.Find.{get, as_array, as_object};
 ghost use Rattle.serde_json.specs.View.{view, members_view};
 ghost use Rattle.json_parts.specs.Indexed.{data_of};
-ghost use Rattle.sarif_accept.specs.Flags.{if_marked};
+ghost use Rattle.sarif_accept.specs.Internal.Flags.{if_marked};
 ghost use Rattle.sarif_accept.specs.Keeping.{chosen};
 ghost use Rattle.sarif_accept.specs.NewFile as said;
 

@@ -2,12 +2,12 @@
 ghost use Rattle.std.specs.Prelude.{◌≡◌, ◌≤◌, ◌<◌, ◌++◌, ◌∷◌, [], List, map, length, true, false, IfOk};
 ghost use Rattle.std.specs.List.{list_any};
 ghost use Rattle.sarif_model.specs.Limits.{most_entries};
-ghost use Rattle.sarif_model.specs.Refusal.{IfFault};
+ghost use Rattle.sarif_model.specs.Internal.Refusal.{IfFault};
 ghost use Rattle.sarif_model.specs.declared.record.Record.{Record};
 ghost use Rattle.sarif_model.specs.declared.fault.Fault.TheVariants.{TooMany};
 ghost use Rattle.sarif_model.specs.declared.merge_fault.Cause.TheVariants.{Of};
 ghost use Rattle.sarif_accept.specs.Adding.{is_said, once_each};
-ghost use Rattle.sarif_accept.specs.Asked.{HasAsked, IsSameList};
+ghost use Rattle.sarif_accept.specs.Internal.Asked.{HasAsked, IsSameList};
 
 use crate::asked::{Asked, asked_of};
 use indexmap::IndexSet;

@@ -4,14 +4,14 @@ ghost use Rattle.serde_json.specs.View.{view, members_view};
 ghost use Rattle.json_parts.specs.Indexed.{json_of};
 ghost use Rattle.json_parts.specs.Mark.{without_mark as unmarked};
 ghost use Rattle.sarif_model.specs.Limits.{most_bytes, most_entries};
-ghost use Rattle.sarif_model.specs.Refusal.{IfFault};
+ghost use Rattle.sarif_model.specs.Internal.Refusal.{IfFault};
 ghost use Rattle.sarif_model.specs.declared.fault.Fault.TheVariants.{TooMany};
 ghost use Rattle.sarif_model.specs.declared.merge_fault.Cause.TheVariants.{Of, TooLong};
 ghost use Rattle.sarif_accept.specs.Entry as made;
 ghost use Rattle.sarif_accept.specs.NewFile as parts;
 ghost use Rattle.sarif_accept.specs.NewFile.{file_text};
 ghost use Rattle.sarif_accept.specs.Renewed as said;
-ghost use Rattle.sarif_accept.specs.Weighing.{weights_of};
+ghost use Rattle.sarif_accept.specs.Internal.Weighing.{weights_of};
 
 use crate::entry::entry_for;
 use crate::indentation::is_too_indented;

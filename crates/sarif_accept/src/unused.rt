@@ -4,8 +4,8 @@ ghost use Rattle.serde_json.specs.Written.{compact_text};
 ghost use Rattle.json_parts.specs.Indexed.{data_of};
 ghost use Rattle.sarif_findings.specs.Shown.{shown as shown_text};
 ghost use Rattle.sarif_model.specs.declared.record.Record.{Record};
-ghost use Rattle.sarif_suppress.specs.Marks.{marks_of};
-ghost use Rattle.sarif_accept.specs.Flags.{line_at, lines_by};
+ghost use Rattle.sarif_suppress.specs.Internal.Marks.{marks_of};
+ghost use Rattle.sarif_accept.specs.Internal.Flags.{line_at, lines_by};
 ghost use Rattle.sarif_accept.specs.NewFile.{file_object, entries_in, entry_in};
 ghost use Rattle.sarif_accept.specs.Unused as said;
 

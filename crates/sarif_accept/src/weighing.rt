@@ -1,7 +1,7 @@
 //! How long the text of a new suppression file is at least, before anything of it is made.
 ghost use Rattle.std.specs.Prelude.{◌≡◌, ◌+◌, ◌<◌, None, IfSome, map, nat_lt, option_map};
 ghost use Rattle.sarif_model.specs.Limits.{most_bytes};
-ghost use Rattle.sarif_accept.specs.Weighing as said;
+ghost use Rattle.sarif_accept.specs.Internal.Weighing as said;
 
 use crate::asked::asked_of;
 use sarif_counts::Renewal;

@@ -19,7 +19,7 @@ pub struct Counts {
 
 impl Counts {
     ghost use Rattle.std.specs.Prelude.{◌≡◌};
-    ghost use Rattle.sarif_counts.specs.Both.{AreOfBoth};
+    ghost use Rattle.sarif_counts.specs.Internal.Both.{AreOfBoth};
     ghost use Rattle.sarif_counts.specs.Counts.{count_at, tally_at, total_of, HoldsNothing, AddsOne};
 
     /// The counts of no results.

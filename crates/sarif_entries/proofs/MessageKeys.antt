@@ -7,7 +7,7 @@ use Rattle.std.specs.Bool.{Decides}
 use Rattle.std.specs.Cmp.Lexicographic.{pointwise}
 use Rattle.std.specs.List.{list_any}
 use Rattle.sarif_model.specs.declared.record.Record.{Record}
-use Rattle.sarif_entries.specs.Filing.{key_of, keys_under, keys_at, message_keys}
+use Rattle.sarif_entries.specs.Internal.Filing.{key_of, keys_under, keys_at, message_keys}
 use Rattle.sarif_entries.specs.Matching.{is_there, are_wanted, is_empty}
 
 -- the key is among these

@@ -1,7 +1,6 @@
 pub mod Entries
 pub mod File
 pub mod FileFault
-pub mod Filing
-pub mod Keys
+pub mod Internal
 pub mod Matching
 pub mod Object

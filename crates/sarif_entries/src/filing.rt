@@ -1,7 +1,7 @@
 //! The condition under which an entry is filed: the most specific one.
 ghost use Rattle.std.specs.Prelude.{◌≡◌, option_map, slice_get, IfOk};
 ghost use Rattle.std.specs.Option.{option_copied};
-ghost use Rattle.sarif_entries.specs.Filing as said;
+ghost use Rattle.sarif_entries.specs.Internal.Filing as said;
 
 use crate::conditions::Conditions;
 use crate::message_keys::key_of;

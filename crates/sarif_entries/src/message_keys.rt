@@ -1,7 +1,7 @@
 //! The keys of messages: one under which an entry is filed by what it names of a message, and those by which the
 //! entries for a result's message are found.
 ghost use Rattle.std.specs.Prelude.{◌≡◌, ◌++◌, IfOk, OnOk};
-ghost use Rattle.sarif_entries.specs.Filing as said;
+ghost use Rattle.sarif_entries.specs.Internal.Filing as said;
 
 use sarif_model::{Message, Record, Sequence, Text};
 use std::alloc::{AllocError, Global};

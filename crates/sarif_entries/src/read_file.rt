@@ -3,7 +3,7 @@ ghost use Rattle.std.specs.Prelude.{◌≡◌, ◌≤◌, length, map, Ok, Err, 
 ghost use Rattle.serde_json.specs.View.{view};
 ghost use Rattle.sarif_model.specs.Members.{result_map};
 ghost use Rattle.json_parts.specs.Indexed.{json_of};
-ghost use Rattle.sarif_model.specs.Refusal.{IfFault};
+ghost use Rattle.sarif_model.specs.Internal.Refusal.{IfFault};
 ghost use Rattle.sarif_entries.specs.FileFault.{whole};
 ghost use Rattle.sarif_entries.specs.File as said;
 ghost use Rattle.sarif_model.specs.Limits.{most_entries};

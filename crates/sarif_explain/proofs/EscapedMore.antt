@@ -2,7 +2,7 @@
 use Rattle.std.proofs.Common.{◌≡◌, ℕ, List, [], ◌++◌, length, encode_utf8, IsUtf8, ap, flat_map}
 use Rattle.std.proofs.lemmas.Str.{chars_past_char}
 use Rattle.std.proofs.StrCases.{chars_of_empty}
-use Rattle.sarif_explain.specs.Pointer.{escaped, name_char}
+use Rattle.sarif_explain.specs.Internal.Pointer.{escaped, name_char}
 
 pub escaped_step : (name rest : List ℕ) (c : ℕ) → IsUtf8 name → name ≡ encode_utf8 c ++ rest
     → escaped name ≡ name_char c ++ escaped rest

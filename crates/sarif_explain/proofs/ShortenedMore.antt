@@ -3,7 +3,7 @@ use Rattle.std.specs.Prelude.{◌≡◌, ℕ, zero, suc, ◌-◌, List, [], ◌�
 use Rattle.std.proofs.Common.{refl, sym, ◌∙◌, ap, append_assoc, append-nil, arith}
 use Rattle.std.proofs.lemmas.Str.{chars_past_char}
 use Rattle.std.proofs.StrCases.{chars_of_empty}
-use Rattle.sarif_explain.specs.Lines.{shortened}
+use Rattle.sarif_explain.specs.Internal.Lines.{shortened}
 
 shortened-nil : (room : ℕ) → shortened room [] ≡ []
 unfolding shortened

@@ -1,6 +1,6 @@
 //! The lines of an explanation.
 ghost use Rattle.std.specs.Prelude.{◌≡◌, ◌++◌, IfOk, OnOk, chars, string_bytes};
-ghost use Rattle.sarif_explain.specs.Lines as said;
+ghost use Rattle.sarif_explain.specs.Internal.Lines as said;
 
 use sarif_findings::shown;
 use std::alloc::{AllocError, Global};

@@ -1,6 +1,6 @@
 //! JSON pointers (RFC 6901), step by step.
 ghost use Rattle.std.specs.Prelude.{◌≡◌, ◌++◌, OnOk, string_bytes};
-ghost use Rattle.sarif_explain.specs.Pointer as said;
+ghost use Rattle.sarif_explain.specs.Internal.Pointer as said;
 
 use std::alloc::{AllocError, Global};
 

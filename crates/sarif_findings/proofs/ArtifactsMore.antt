@@ -4,7 +4,7 @@ use Rattle.std.specs.Option.{option_flatten}
 use Rattle.std.proofs.lemmas.Option.{slice_get-map}
 use Rattle.serde_json.specs.Data.{Data}
 use Rattle.serde_json.specs.Find.{get}
-use Rattle.sarif_findings.specs.ArtifactsOf.{artifact_paths, path_of_artifact}
+use Rattle.sarif_findings.specs.Internal.ArtifactsOf.{artifact_paths, path_of_artifact}
 use Rattle.sarif_findings.specs.Lookup.{artifact_uri, elements_in, text_in}
 use Rattle.sarif_findings.specs.PathOf.{decoded}
 

@@ -6,7 +6,7 @@ use Rattle.serde_json.specs.Data.{Data}
 use Rattle.sarif_model.specs.declared.first_location.FirstLocation.{FirstLocation}
 use Rattle.sarif_model.specs.declared.kinds.Level.{Level}
 use Rattle.sarif_model.specs.declared.kinds.State.{State}
-use Rattle.sarif_model.specs.FirstLocation.{IsFirstLocation, first_artifact, first_region, string_in, integer_in}
+use Rattle.sarif_model.specs.Internal.FirstLocation.{IsFirstLocation, first_artifact, first_region, string_in, integer_in}
 use Rattle.sarif_findings.specs.declared.reporting.Reporting.{Reporting}
 use Rattle.sarif_findings.specs.Located.{uri_at, path_at, line_at, column_at, finding_at}
 use Rattle.sarif_findings.specs.Lookup.{artifact_uri, location_uri, number_in, position_in, position_number, uri_of}

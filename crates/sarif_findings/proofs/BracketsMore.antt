@@ -11,7 +11,7 @@ use Rattle.std.proofs.lemmas.Slice.{between_is}
 use Rattle.std.proofs.lemmas.List.Folds.{list_all-append}
 use Rattle.std.proofs.lemmas.Str.{encode_ascii, encodes-chars, IsCharBoundary-before_ascii, IsUtf8-drop, IsUtf8-take}
 use Rattle.serde_json.specs.Data.{Data}
-use Rattle.sarif_findings.specs.Brackets.{is_ordinary, closes_link}
+use Rattle.sarif_findings.specs.Internal.Brackets.{is_ordinary, closes_link}
 use Rattle.sarif_findings.specs.Links.{begins_pair, ends_link}
 use Rattle.sarif_findings.proofs.CharsBack.{char_back}
 use Rattle.sarif_findings.proofs.EmptiesPassed.{next}

@@ -10,7 +10,7 @@ use Rattle.serde_json.specs.Data.{Data}
 use Rattle.sarif_findings.specs.declared.links.Part.TheVariants.{Outside}
 use Rattle.sarif_findings.specs.Links.{begins_pair, unlinked_from}
 use Rattle.sarif_findings.specs.Placeholders.{argument_at, filled_from, index_from, piece_of}
-use Rattle.sarif_findings.specs.Unlinked.{IsEmptied, PassesEmpties}
+use Rattle.sarif_findings.specs.Internal.Unlinked.{IsEmptied, PassesEmpties}
 use Rattle.sarif_findings.proofs.CharsBack.{char_back}
 use Rattle.sarif_findings.proofs.LinksMore.{char_stays}
 

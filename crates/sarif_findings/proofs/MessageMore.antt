@@ -5,7 +5,7 @@ use Rattle.std.proofs.StrCases.{chars_of_empty}
 use Rattle.serde_json.specs.Data.{Data}
 use Rattle.sarif_findings.specs.Placeholders.{index_from, takes_digit, least_of_nine_digits, filled, filled_from, piece_of}
 use Rattle.sarif_findings.specs.declared.shown_text.ShownText.{ShownText}
-use Rattle.sarif_findings.specs.ShownSoFar.{shown_with, Takes}
+use Rattle.sarif_findings.specs.Internal.ShownSoFar.{shown_with, Takes}
 
 -- ---- the number of an argument
 

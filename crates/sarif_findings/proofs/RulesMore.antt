@@ -9,7 +9,7 @@ use Rattle.serde_json.specs.Data.{Data}
 use Rattle.serde_json.specs.View.{view}
 use Rattle.serde_json.specs.declared.value.Value.{Value}
 use Rattle.sarif_findings.specs.Lookup.{rule_by, rule_in, element_at, extension_index, component_by, driver_of, descriptor_of, rule_index, own_rule_id}
-use Rattle.sarif_findings.specs.RulesOf.{rules_in, rules_of, extensions_of}
+use Rattle.sarif_findings.specs.Internal.RulesOf.{rules_in, rules_of, extensions_of}
 
 -- a rule that is put at its id, where none was there
 pub put_rule : (here : Bool) (had has : Option (Bor Value)) (rule : Bor Value) (said : Bool) → said ≡ here → has ≡ cond here (Some rule) had

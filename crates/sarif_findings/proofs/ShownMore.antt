@@ -4,7 +4,7 @@ use Rattle.std.proofs.Common.{refl, sym, ◌∙◌, ap, append_assoc, append-nil
 use Rattle.std.proofs.lemmas.Str.{chars_past_char}
 use Rattle.sarif_findings.specs.Shown.{shown, kept, parted_signs, parted, plain}
 use Rattle.sarif_findings.specs.declared.shown_text.ShownText.{ShownText}
-use Rattle.sarif_findings.specs.ShownSoFar.{shown_with, kept_with, Keeps, Parts, Takes}
+use Rattle.sarif_findings.specs.Internal.ShownSoFar.{shown_with, kept_with, Keeps, Parts, Takes}
 
 kept-nil : (room : ℕ) → kept room [] ≡ []
 unfolding kept

@@ -8,7 +8,7 @@ use Rattle.std.proofs.lemmas.List.{map-append}
 use Rattle.std.proofs.lemmas.Str.{encode_ascii, encodes-append}
 use Rattle.sarif_findings.specs.declared.shown_text.ShownText.{ShownText}
 use Rattle.sarif_findings.specs.Shown.{is_between, is_control, is_unseen_mark, is_blank_letter, is_concealed, kept, parted, parted_signs, plain}
-use Rattle.sarif_findings.specs.ShownSoFar.{is_verbatim, Takes}
+use Rattle.sarif_findings.specs.Internal.ShownSoFar.{is_verbatim, Takes}
 use Rattle.sarif_findings.proofs.CharsBack.{chars_back}
 use Rattle.sarif_findings.proofs.ShownMore.{kept-cons}
 

@@ -1,6 +1,5 @@
-pub mod ArtifactsOf
-pub mod Brackets
 pub mod Finding
+pub mod Internal
 pub mod Links
 pub mod Located
 pub mod Lookup
@@ -8,9 +7,5 @@ pub mod Message
 pub mod PathOf
 pub mod Placeholders
 pub mod Reported
-pub mod RulesOf
 pub mod Shown
 pub mod ShownLaws
-pub mod ShownSoFar
-pub mod Subject
-pub mod Unlinked

@@ -1,7 +1,7 @@
 //! The artifacts of a run, found by their indices.
 ghost use Rattle.std.specs.Prelude.{◌≡◌, codes, map, option_map, IfOk};
 ghost use Rattle.serde_json.specs.View.{view};
-ghost use Rattle.sarif_findings.specs.ArtifactsOf.{artifact_paths, path_of_artifact, uri_of_artifact};
+ghost use Rattle.sarif_findings.specs.Internal.ArtifactsOf.{artifact_paths, path_of_artifact, uri_of_artifact};
 
 use crate::lookup::{elements_in, text_in};
 use crate::path::decoded;

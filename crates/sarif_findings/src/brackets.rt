@@ -4,7 +4,7 @@ ghost use Rattle.std.specs.Bool.{OnTrue};
 ghost use Rattle.std.specs.List.{list_all};
 ghost use Rattle.std.specs.Str.{IsCharBoundary};
 ghost use Rattle.serde_json.specs.Data.{Data};
-ghost use Rattle.sarif_findings.specs.Brackets as said;
+ghost use Rattle.sarif_findings.specs.Internal.Brackets as said;
 ghost use Rattle.sarif_findings.specs.Links.{ends_link};
 
 /// How many bytes are looked at together.

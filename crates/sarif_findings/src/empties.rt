@@ -3,7 +3,7 @@ ghost use Rattle.std.specs.Prelude.{◌≡◌, ◌≤◌, drop, length, map, cha
 ghost use Rattle.std.specs.Bool.{OnTrue};
 ghost use Rattle.std.specs.Str.{IsCharBoundary};
 ghost use Rattle.serde_json.specs.View.{view};
-ghost use Rattle.sarif_findings.specs.Unlinked.{IsEmptied, NamesEmpty, PassesEmpties};
+ghost use Rattle.sarif_findings.specs.Internal.Unlinked.{IsEmptied, NamesEmpty, PassesEmpties};
 
 use crate::arguments::argument_at;
 use serde_json::Value;

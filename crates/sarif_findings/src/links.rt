@@ -2,7 +2,7 @@
 ghost use Rattle.std.specs.Prelude.{◌≡◌, map, chars, false};
 ghost use Rattle.std.specs.List.{list_all};
 ghost use Rattle.serde_json.specs.View.{view};
-ghost use Rattle.sarif_findings.specs.Brackets.{closes_link};
+ghost use Rattle.sarif_findings.specs.Internal.Brackets.{closes_link};
 ghost use Rattle.sarif_findings.specs.Links as said;
 ghost use Rattle.sarif_findings.specs.Placeholders.{index_from};
 ghost use Rattle.std.specs.Char.{is_ascii_digit};

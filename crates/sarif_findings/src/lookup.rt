@@ -3,7 +3,7 @@
 ghost use Rattle.std.specs.Prelude.{◌≡◌, map, option_map, option_and_then};
 ghost use Rattle.serde_json.specs.View.{view};
 ghost use Rattle.sarif_findings.specs.Lookup as said;
-ghost use Rattle.sarif_findings.specs.Subject.{IsDescribed};
+ghost use Rattle.sarif_findings.specs.Internal.Subject.{IsDescribed};
 
 use crate::subject::Subject;
 use serde_json::Value;

@@ -7,8 +7,8 @@ ghost use Rattle.serde_json.specs.View.{view};
 ghost use Rattle.sarif_findings.specs.Message as said;
 ghost use Rattle.sarif_findings.specs.Links.{is_unbracketed, unlinked};
 ghost use Rattle.sarif_findings.specs.Placeholders.{filled, is_unbraced};
-ghost use Rattle.sarif_findings.specs.ShownSoFar.{Takes};
-ghost use Rattle.sarif_findings.specs.Subject.{IsDescribed};
+ghost use Rattle.sarif_findings.specs.Internal.ShownSoFar.{Takes};
+ghost use Rattle.sarif_findings.specs.Internal.Subject.{IsDescribed};
 
 use crate::lookup::{component_of, driver_of, elements_in, text_in};
 use crate::placeholders::{push_filled, push_unlinked};

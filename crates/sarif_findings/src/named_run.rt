@@ -5,10 +5,10 @@ ghost use Rattle.serde_json.specs.Find.{get};
 ghost use Rattle.serde_json.specs.View.{view};
 ghost use Rattle.sarif_findings.specs.Lookup as said;
 ghost use Rattle.sarif_findings.specs.Reported.{tool_in};
-ghost use Rattle.sarif_findings.specs.RulesOf.{rules_in, rules_of, extensions_of};
+ghost use Rattle.sarif_findings.specs.Internal.RulesOf.{rules_in, rules_of, extensions_of};
 ghost use Rattle.sarif_findings.specs.PathOf.{decoded};
 ghost use Rattle.sarif_findings.specs.Shown.{shown};
-ghost use Rattle.sarif_findings.specs.Subject.{IsDescribed};
+ghost use Rattle.sarif_findings.specs.Internal.Subject.{IsDescribed};
 
 use crate::artifacts::paths_of_artifacts;
 use crate::lookup::{driver_of, elements_in, extension_index};
@@ -40,8 +40,8 @@ impl<'r> Model for NamedRun<'r> {
     ghost use Rattle.serde_json.specs.View.{view as seen};
     ghost use Rattle.sarif_findings.specs.Lookup.{driver_of};
     ghost use Rattle.sarif_findings.specs.Reported.{tool_in};
-    ghost use Rattle.sarif_findings.specs.RulesOf.{rules_in, rules_of, extensions_of};
-    ghost use Rattle.sarif_findings.specs.ArtifactsOf.{artifact_paths};
+    ghost use Rattle.sarif_findings.specs.Internal.RulesOf.{rules_in, rules_of, extensions_of};
+    ghost use Rattle.sarif_findings.specs.Internal.ArtifactsOf.{artifact_paths};
     ghost use Rattle.sarif_findings.specs.Shown.{shown};
 
     ghost Value = { Json };

@@ -6,7 +6,7 @@ ghost use Rattle.std.specs.Cow.{cow_str_bytes};
 ghost use Rattle.std.specs.Str.{is_utf8};
 ghost use Rattle.percent_encoding.specs.Percent.{percent_decode as decoded_bytes};
 ghost use Rattle.sarif_findings.specs.PathOf as said;
-ghost use Rattle.sarif_findings.specs.ShownSoFar.{Takes};
+ghost use Rattle.sarif_findings.specs.Internal.ShownSoFar.{Takes};
 
 use crate::first_char::begins_with;
 use crate::shown_text::ShownText;

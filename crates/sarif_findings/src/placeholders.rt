@@ -3,8 +3,8 @@ ghost use Rattle.std.specs.Prelude.{◌≡◌, ◌∷◌, [], OnOk, IfOk, IfSome
 ghost use Rattle.serde_json.specs.View.{view};
 ghost use Rattle.sarif_findings.specs.Links.{unlinked};
 ghost use Rattle.sarif_findings.specs.Placeholders as said;
-ghost use Rattle.sarif_findings.specs.ShownSoFar.{Fills, Takes, Writes};
-ghost use Rattle.sarif_findings.specs.Unlinked.{left};
+ghost use Rattle.sarif_findings.specs.Internal.ShownSoFar.{Fills, Takes, Writes};
+ghost use Rattle.sarif_findings.specs.Internal.Unlinked.{left};
 
 use crate::arguments::{argument_at, read_digit};
 use crate::shown_text::ShownText;

@@ -6,7 +6,7 @@ ghost use Rattle.serde_json.specs.View.{view};
 ghost use Rattle.sarif_counts.specs.Policy.{severity as rank};
 ghost use Rattle.sarif_findings.specs.Shown.{shown as text_shown};
 ghost use Rattle.sarif_findings.specs.Reported as said;
-ghost use Rattle.sarif_findings.specs.Subject.{IsDescribed};
+ghost use Rattle.sarif_findings.specs.Internal.Subject.{IsDescribed};
 
 use crate::finding::Finding;
 use crate::lookup::{help_uri, rule_id};

@@ -3,7 +3,7 @@ ghost use Rattle.std.specs.Prelude.{◌≡◌, ℕ, List, Some, None, map, find,
 ghost use Rattle.std.specs.Option.{option_or};
 ghost use Rattle.serde_json.specs.View.{view};
 ghost use Rattle.sarif_findings.specs.Lookup as said;
-ghost use Rattle.sarif_findings.specs.RulesOf.{rule_at};
+ghost use Rattle.sarif_findings.specs.Internal.RulesOf.{rule_at};
 
 use crate::lookup::{own_rule_id, rule_index, text_in};
 use serde_json::Value;
@@ -26,7 +26,7 @@ impl<'r> Model for Rules<'r> {
     ghost use Rattle.serde_json.specs.declared.value.Value.{Value as Json};
     ghost use Rattle.serde_json.specs.View.{view as seen};
     ghost use Rattle.sarif_findings.specs.Lookup.{has_id};
-    ghost use Rattle.sarif_findings.specs.RulesOf.{rule_at};
+    ghost use Rattle.sarif_findings.specs.Internal.RulesOf.{rule_at};
 
     ghost Value = { List Json };
 

@@ -3,7 +3,7 @@ ghost use Rattle.std.specs.Prelude.{◌≡◌, ℕ, List, ◌∷◌, ◌++◌, [
 ghost use Rattle.std.specs.Prelude.{encode_utf8_all, if◌then◌else◌, Bool};
 ghost use Rattle.std.specs.List.{list_all};
 ghost use Rattle.sarif_findings.specs.Shown as said;
-ghost use Rattle.sarif_findings.specs.ShownSoFar as so_far;
+ghost use Rattle.sarif_findings.specs.Internal.ShownSoFar as so_far;
 
 use sarif_model::Text;
 use std::alloc::{AllocError, Global};
@@ -98,7 +98,7 @@ impl ShownText {
     ghost use Rattle.std.specs.Prelude.{◌<◌, ◌≤◌, length};
     ghost use Rattle.std.specs.Bool.{OnTrue};
     ghost use Rattle.std.specs.List.{list_all};
-    ghost use Rattle.sarif_findings.specs.ShownSoFar.{shown_with, is_verbatim, Takes, Keeps, Parts};
+    ghost use Rattle.sarif_findings.specs.Internal.ShownSoFar.{shown_with, is_verbatim, Takes, Keeps, Parts};
 
     pub(crate) fn new(alloc: Global) -> Result<ShownText, AllocError>
         ensures { IfOk result (λ made. (cs : List ℕ) → shown_with made cs ≡ said.shown cs) }

@@ -2,8 +2,8 @@
 ghost use Rattle.std.specs.Prelude.{◌≡◌, codes, option_map, option_and_then};
 ghost use Rattle.serde_json.specs.Find.{get};
 ghost use Rattle.serde_json.specs.View.{view};
-ghost use Rattle.sarif_model.specs.FirstLocation as said;
-ghost use Rattle.sarif_model.specs.FirstLocation.{IsFirstLocation};
+ghost use Rattle.sarif_model.specs.Internal.FirstLocation as said;
+ghost use Rattle.sarif_model.specs.Internal.FirstLocation.{IsFirstLocation};
 
 use crate::lookup::{elements_in, number_in, text_in};
 use sarif_model::FirstLocation;

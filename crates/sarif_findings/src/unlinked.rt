@@ -3,7 +3,7 @@ ghost use Rattle.std.specs.Prelude.{◌≡◌, ◌<◌, ◌≤◌, [], ◌∷◌
 ghost use Rattle.serde_json.specs.View.{view};
 ghost use Rattle.sarif_findings.specs.Links.{unlinked};
 ghost use Rattle.sarif_findings.specs.Placeholders.{filled_from};
-ghost use Rattle.sarif_findings.specs.Unlinked.{left};
+ghost use Rattle.sarif_findings.specs.Internal.Unlinked.{left};
 
 use crate::empties::after_empties;
 use crate::links::{Part, part_after, stays_between};

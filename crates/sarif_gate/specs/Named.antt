@@ -13,7 +13,7 @@ use Rattle.sarif_streams.specs.declared.target.Console.{Console}
 use Rattle.sarif_streams.specs.declared.target.Console.TheVariants.{Output, Error}
 use Rattle.sarif_streams.specs.declared.target.Target.{Target}
 use Rattle.sarif_streams.specs.Counted.{inner_of}
-use Rattle.sarif_streams.specs.Kept.{kept_in}
+use Rattle.sarif_streams.specs.Internal.Kept.{kept_in}
 use Rattle.sarif_streams.specs.Named.{Channel, Named, channel_named, input_channel, target_channel}
 
 -- what a source is read from

@@ -22,7 +22,7 @@ use Rattle.sarif_streams.specs.declared.readers.Readers.{Readers}
 use Rattle.sarif_streams.specs.declared.target.Console.{Console}
 use Rattle.sarif_streams.specs.declared.target.Target.{Target}
 use Rattle.sarif_streams.specs.Counted.{failed_calls}
-use Rattle.sarif_streams.specs.Taken.{console_held}
+use Rattle.sarif_streams.specs.Internal.Taken.{console_held}
 use Rattle.sarif_streams.specs.WereRead.{failures}
 use Rattle.sarif_gate.specs.Named.{AreNamed}
 

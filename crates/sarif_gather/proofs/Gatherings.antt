@@ -10,7 +10,7 @@ use Rattle.sarif_gather.specs.declared.gathering.Gathered.{Gathered}
 use Rattle.sarif_gather.specs.declared.gathering.worker.Back.{Back}
 use Rattle.sarif_gather.specs.Claims.{times, total, once_below}
 use Rattle.sarif_gather.specs.Ends.{AreWhole, AreAllPosts, IsPostOf, sent_by, taken_by}
-use Rattle.sarif_gather.specs.Gathered.{IsGathered}
+use Rattle.sarif_gather.specs.Internal.Gathered.{IsGathered}
 use Rattle.sarif_gather.specs.Hands.{drawn_by, is_marked, hands_of, IsHandOf, AreAllHands}
 use Rattle.sarif_gather.specs.Honest.{AreHonest}
 use Rattle.sarif_gather.specs.Held.{Held, empty_run, closed_run}

@@ -1,13 +1,12 @@
 pub mod Arriving
-pub mod Begun
 pub mod Claims
 pub mod Collecting
 pub mod Delivery
 pub mod Ends
-pub mod Gathered
 pub mod Hands
 pub mod Held
 pub mod Honest
+pub mod Internal
 pub mod Lawful
 pub mod Laws
 pub mod Limits
@@ -15,6 +14,5 @@ pub mod Numbers
 pub mod Piece
 pub mod Pieces
 pub mod Senders
-pub mod Served
 pub mod Sharing
 pub mod Slot

@@ -2,11 +2,11 @@
 ghost use Rattle.std.specs.Prelude.{◌≡◌, ◌≤◌, ◌<◌, ℕ, [], Some, slice_get, map, vec_len};
 ghost use Rattle.std.specs.Prelude.{IfOk, IfSome};
 ghost use Rattle.std.specs.List.{list_any};
-ghost use Rattle.sarif_gather.specs.Begun.{AreNewcomers};
+ghost use Rattle.sarif_gather.specs.Internal.Begun.{AreNewcomers};
 ghost use Rattle.sarif_gather.specs.Ends.{IsPostOf, IsNewPost, number_of, sent_by};
 ghost use Rattle.sarif_gather.specs.Hands.{IsHandOf, drawn_by};
-ghost use Rattle.sarif_gather.specs.Served.{IsServed};
-ghost use Rattle.sarif_gather.specs.Gathered.{IsGathered};
+ghost use Rattle.sarif_gather.specs.Internal.Served.{IsServed};
+ghost use Rattle.sarif_gather.specs.Internal.Gathered.{IsGathered};
 ghost use Rattle.sarif_gather.specs.Pieces.{lists_of};
 ghost use Rattle.sarif_gather.specs.Limits.{most_hands, most_room};
 

@@ -9,7 +9,7 @@ use Rattle.sarif_model.specs.declared.merge_fault.Source.{Source}
 use Rattle.sarif_model.specs.declared.merge_fault.Source.TheVariants.{Log, Baseline, Suppress, Output, Known}
 use Rattle.sarif_runs.specs.Judging.{faults_of_runs, run_values}
 use Rattle.sarif_runs.specs.Placed.{Placed}
-use Rattle.sarif_inputs.specs.Allowing.{IsReadAlike, allowing, checks_allowing}
+use Rattle.sarif_inputs.specs.Internal.Allowing.{IsReadAlike, allowing, checks_allowing}
 use Rattle.sarif_inputs.specs.Faults.{faults_of, file_faults, file_or_none, number_faults}
 use Rattle.sarif_inputs.specs.Inputs.{Inputs, all_runs, all_sources, baseline_runs, input_runs, must_succeed, numbered, placed, placed_from, readable}
 use Rattle.sarif_inputs.specs.SourceFaults.{limit_faults, reading_faults, source_faults}

@@ -6,8 +6,8 @@ use Rattle.json.specs.Token.{Token}
 use Rattle.json_parts.specs.declared.indexing.IndexFault.{IndexFault}
 use Rattle.json_parts.specs.declared.indexing.IndexFault.TheVariants.{NotJson}
 use Rattle.json_parts.specs.Indexed.{json_of, data_of}
-use Rattle.json_parts.specs.Ordered.{IsOrdered}
-use Rattle.sarif_inputs.specs.Together.{IsIndexed, AreIndexed}
+use Rattle.json_parts.specs.Internal.Ordered.{IsOrdered}
+use Rattle.sarif_inputs.specs.Internal.Together.{IsIndexed, AreIndexed}
 
 pub indexed_by : (bytes : List ℕ) (r : Result (List Token) IndexFault)
     → IfOk r (λ found. json_of bytes ≡ Some (data_of found)) → IfOk r (λ found. IsOrdered (data_of found)) → IfErr r (λ e. e ≡ NotJson → json_of bytes ≡ None)

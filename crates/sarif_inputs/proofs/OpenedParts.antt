@@ -5,13 +5,13 @@ use Rattle.sarif_counts.specs.declared.checks.Checks.{Checks}
 use Rattle.sarif_model.specs.Run.{results_total}
 use Rattle.sarif_model.specs.declared.merge_fault.Source.TheVariants.{Log, Baseline}
 use Rattle.sarif_runs.specs.declared.opened.OpenedRun.{OpenedRun}
-use Rattle.sarif_runs.specs.Opened.{placed_of}
+use Rattle.sarif_runs.specs.Internal.Opened.{placed_of}
 use Rattle.sarif_runs.specs.Placed.{Placed}
 use Rattle.sarif_inputs.specs.declared.sources.Runs.{Runs}
 use Rattle.sarif_runs.specs.Judging.{run_values}
 use Rattle.sarif_inputs.specs.Inputs.{numbered, placed}
-use Rattle.sarif_inputs.specs.ReadSoFar.{sources_of}
-use Rattle.sarif_inputs.specs.Runs.{AreRunsOf}
+use Rattle.sarif_inputs.specs.Internal.ReadSoFar.{sources_of}
+use Rattle.sarif_inputs.specs.Internal.Runs.{AreRunsOf}
 use Rattle.sarif_inputs.specs.SourceFaults.{source_faults}
 use Rattle.sarif_inputs.proofs.ReadFacts.{placed-append, front, back}
 use Rattle.sarif_inputs.proofs.SourceRuns.{total_append}

@@ -4,11 +4,11 @@ use Rattle.std.specs.Prelude.{Ok, Err, Some, IfOk}
 use Rattle.std.proofs.lemmas.Result.{IfErr-at_err}
 use Rattle.json.specs.Token.{Token}
 use Rattle.json_parts.specs.Indexed.{data_of}
-use Rattle.sarif_inputs.specs.Together.{IsIndexed}
+use Rattle.sarif_inputs.specs.Internal.Together.{IsIndexed}
 use Rattle.json_parts.specs.declared.indexing.IndexFault.{IndexFault}
 use Rattle.json_parts.specs.declared.indexing.IndexFault.TheVariants as index
-use Rattle.sarif_read.specs.Indexed.{run_of}
-use Rattle.sarif_read.specs.ReadRefusal.{whole, refusal_of_index}
+use Rattle.sarif_read.specs.Internal.Indexed.{run_of}
+use Rattle.sarif_read.specs.Internal.ReadRefusal.{whole, refusal_of_index}
 use Rattle.json_parts.specs.Indexed.{json_of}
 use Rattle.sarif_read.specs.Reading.{log_of, log_of_value}
 use Rattle.json_parts.specs.Mark.{without_mark}
@@ -16,13 +16,13 @@ use Rattle.sarif_model.specs.Run.{results_total}
 use Rattle.sarif_read.specs.Stripping.{stripped}
 use Rattle.sarif_read.specs.declared.read_fault.ReadFault.{ReadFault}
 use Rattle.sarif_model.specs.declared.refusal.Refusal.TheVariants as refusal
-use Rattle.sarif_model.specs.Refusal.{IfFault}
+use Rattle.sarif_model.specs.Internal.Refusal.{IfFault}
 use Rattle.sarif_model.specs.declared.fault.Fault.TheVariants.{NotJson}
 use Rattle.sarif_read.proofs.LogText.{log_of_text, log_of_none}
 use Rattle.sarif_model.specs.declared.merge_fault.Source.{Source}
 use Rattle.sarif_model.specs.FirstFault.{first, IsOutOfResources}
 use Rattle.sarif_inputs.specs.SourceFaults.{reading_faults, fault_of_reading}
-use Rattle.sarif_inputs.specs.Parsed.{Parsed, IsParsedFrom}
+use Rattle.sarif_inputs.specs.Internal.Parsed.{Parsed, IsParsedFrom}
 use Rattle.sarif_model.specs.Limits.{most_results, most_runs}
 
 pub read_of_index : (allow : Bool) (bytes : List ℕ) (found : List Token) (r : Parsed)

@@ -4,9 +4,9 @@ use Rattle.std.specs.List.{AllZip}
 use denote.Ref.{Bor}
 use Rattle.json.specs.Token.{Token}
 use Rattle.json_parts.specs.declared.indexing.IndexFault.{IndexFault}
-use Rattle.sarif_inputs.specs.Together.{AreIndexed}
+use Rattle.sarif_inputs.specs.Internal.Together.{AreIndexed}
 use Rattle.json_parts.specs.Mark.{without_mark}
-use Rattle.sarif_inputs.specs.Parsed.{Parsed, IsParsedFrom, AreParsedFrom, IsReadFrom, AreReadFrom}
+use Rattle.sarif_inputs.specs.Internal.Parsed.{Parsed, IsParsedFrom, AreParsedFrom, IsReadFrom, AreReadFrom}
 
 abbrev Found : Type 0
 Found = Result (List Token) IndexFault

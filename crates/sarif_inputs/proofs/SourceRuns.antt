@@ -6,7 +6,7 @@ use Rattle.serde_json.specs.Written.{has_float}
 use Rattle.sarif_counts.specs.declared.checks.Checks.{Checks}
 use Rattle.sarif_read.proofs.NoFraction.{neither}
 use Rattle.serde_json.specs.Data.{Data}
-use Rattle.sarif_read.specs.Indexed.{run_of}
+use Rattle.sarif_read.specs.Internal.Indexed.{run_of}
 use Rattle.sarif_read.specs.declared.indexed_run.IndexedRun.{IndexedRun}
 use Rattle.sarif_model.specs.Run.{results_total}
 use Rattle.sarif_model.specs.declared.merge_fault.Source.{Source}
@@ -14,7 +14,7 @@ use Rattle.sarif_inputs.specs.declared.read_run.ReadRun.{ReadRun}
 use Rattle.sarif_runs.specs.Placed.{Placed}
 use Rattle.sarif_runs.specs.Judging.{run_values}
 use Rattle.sarif_inputs.specs.Inputs.{must_succeed, placed_from}
-use Rattle.sarif_inputs.specs.ReadRun.{placed_read}
+use Rattle.sarif_inputs.specs.Internal.ReadRun.{placed_read}
 
 placed_push : (checks : Checks) (source : Source) (n : ℕ) (ds : List Data) (d : Data)
     → placed_from checks source n (ds ++ d ∷ []) ≡ placed_from checks source n ds ++ record { source = source; number = n + length ds; must_succeed = must_succeed checks source; run = d } ∷ []

@@ -11,8 +11,8 @@ use Rattle.sarif_runs.specs.Placed.{Placed}
 use Rattle.sarif_runs.specs.Judging.{run_values}
 use Rattle.sarif_inputs.specs.Inputs.{Sourced, numbered, placed, placed_from, readable, runs_in}
 use Rattle.sarif_model.specs.FirstFault.{first, IsOutOfResources}
-use Rattle.sarif_inputs.specs.ReadRun.{placed_read}
-use Rattle.sarif_inputs.specs.ReadSoFar.{IsCounted, faults_with}
+use Rattle.sarif_inputs.specs.Internal.ReadRun.{placed_read}
+use Rattle.sarif_inputs.specs.Internal.ReadSoFar.{IsCounted, faults_with}
 use Rattle.sarif_inputs.specs.SourceFaults.{source_faults, reading_faults, limit_faults}
 use Rattle.sarif_model.proofs.SourceAnswers.{still_first}
 use Rattle.sarif_inputs.proofs.SourceRuns.{counted_more, total_append, length_placed, data_placed}

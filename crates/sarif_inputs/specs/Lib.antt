@@ -1,10 +1,4 @@
-pub mod Allowing
 pub mod Faults
-pub mod Indexes
 pub mod Inputs
-pub mod Parsed
-pub mod ReadRun
-pub mod ReadSoFar
-pub mod Runs
+pub mod Internal
 pub mod SourceFaults
-pub mod Together

@@ -1,6 +1,6 @@
 //! Indexing the sources of a merge, some of them at the same time.
 ghost use Rattle.std.specs.Prelude.{◌≡◌, ◌≤◌, ◌+◌, ◌++◌, IfOk, map, length};
-ghost use Rattle.sarif_inputs.specs.Together.{AreIndexed, IsIndexed};
+ghost use Rattle.sarif_inputs.specs.Internal.Together.{AreIndexed, IsIndexed};
 ghost use Rattle.json_parts.specs.Mark as said;
 
 use json::Scratch;

@@ -1,7 +1,7 @@
 //! A law of the inputs, the contract of a function that does nothing.
 ghost use Rattle.std.specs.Prelude.{◌≡◌, true, false};
 ghost use Rattle.std.specs.List.{AllByRecursion};
-ghost use Rattle.sarif_inputs.specs.Allowing.{IsReadAlike, allowing};
+ghost use Rattle.sarif_inputs.specs.Internal.Allowing.{IsReadAlike, allowing};
 ghost use Rattle.sarif_inputs.specs.Faults.{faults_of};
 ghost use Rattle.sarif_inputs.specs.Inputs.{Inputs, baseline_runs, input_runs};
 

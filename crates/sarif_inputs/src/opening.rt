@@ -1,7 +1,7 @@
 //! Opening the runs that were read, some of them at the same time.
 ghost use Rattle.std.specs.Prelude.{◌≡◌, IfOk, map};
-ghost use Rattle.sarif_runs.specs.Opened.{placed_of};
-ghost use Rattle.sarif_inputs.specs.ReadRun.{placed_read};
+ghost use Rattle.sarif_runs.specs.Internal.Opened.{placed_of};
+ghost use Rattle.sarif_inputs.specs.Internal.ReadRun.{placed_read};
 
 use crate::read_run::ReadRun;
 use sarif_gather::{Sharing, share_jobs};

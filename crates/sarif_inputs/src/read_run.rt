@@ -1,7 +1,7 @@
 //! A run that was read from a source.
 ghost use Rattle.std.specs.Prelude.{◌≡◌, false};
 ghost use Rattle.serde_json.specs.Written.{has_float};
-ghost use Rattle.sarif_read.specs.Indexed.{run_of};
+ghost use Rattle.sarif_read.specs.Internal.Indexed.{run_of};
 
 use sarif_model::Source;
 use sarif_read::IndexedRun;
@@ -19,7 +19,7 @@ pub(crate) struct ReadRun<'t, 'a> {
 }
 
 impl<'t, 'a> ReadRun<'t, 'a> {
-    ghost use Rattle.sarif_inputs.specs.ReadRun.{placed_read};
+    ghost use Rattle.sarif_inputs.specs.Internal.ReadRun.{placed_read};
 
     /// A run that holds no number with a fraction, with its place.
     pub(crate) fn new(

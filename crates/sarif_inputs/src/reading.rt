@@ -1,9 +1,9 @@
 //! Reading the runs of sources that were indexed, some of them at the same time.
 ghost use Rattle.std.specs.Prelude.{◌≡◌, ◌≤◌, ℕ, List, IfOk};
-ghost use Rattle.sarif_inputs.specs.Together.{IsIndexed};
+ghost use Rattle.sarif_inputs.specs.Internal.Together.{IsIndexed};
 ghost use Rattle.json_parts.specs.Mark.{without_mark};
-ghost use Rattle.sarif_inputs.specs.Indexes.{AreIndexesOf};
-ghost use Rattle.sarif_inputs.specs.Parsed.{AreParsedFrom, AreReadFrom, IsParsedFrom, IsReadFrom};
+ghost use Rattle.sarif_inputs.specs.Internal.Indexes.{AreIndexesOf};
+ghost use Rattle.sarif_inputs.specs.Internal.Parsed.{AreParsedFrom, AreReadFrom, IsParsedFrom, IsReadFrom};
 
 use json_parts::{Index, IndexFault};
 use sarif_gather::{Sharing, each_of, share_jobs};

@@ -3,21 +3,21 @@ ghost use Rattle.std.specs.Prelude.{◌≡◌, ◌≤◌, ◌+◌, ◌++◌, [],
 ghost use Rattle.std.specs.Prelude.{OnOk, IfErr, IfOk};
 ghost use Rattle.std.specs.List.{list_any};
 ghost use Rattle.serde_json.specs.Written.{has_float};
-ghost use Rattle.sarif_read.specs.Indexed.{run_of};
+ghost use Rattle.sarif_read.specs.Internal.Indexed.{run_of};
 ghost use Rattle.sarif_read.specs.Reading.{log_of};
 ghost use Rattle.sarif_model.specs.Run.{results_total};
 ghost use Rattle.sarif_model.specs.MergeFault.{IsQuiet};
-ghost use Rattle.sarif_model.specs.SourceKind.{source_of};
+ghost use Rattle.sarif_model.specs.Internal.SourceKind.{source_of};
 ghost use Rattle.sarif_model.specs.FirstFault.{Answers};
 ghost use Rattle.sarif_inputs.specs.Faults.{IsTooMany, number_faults};
 ghost use Rattle.sarif_runs.specs.Judging.{run_values};
 ghost use Rattle.sarif_inputs.specs.Inputs as said;
 ghost use Rattle.sarif_inputs.specs.Inputs.{numbered, placed, placed_from, readable};
-ghost use Rattle.sarif_inputs.specs.Indexes.{AreIndexesOf};
-ghost use Rattle.sarif_inputs.specs.Parsed.{AreParsedFrom, IsParsedFrom};
-ghost use Rattle.sarif_inputs.specs.ReadRun.{placed_read};
-ghost use Rattle.sarif_inputs.specs.ReadSoFar.{IsCounted, faults_with, sources_of};
-ghost use Rattle.sarif_inputs.specs.Runs.{AreRunsOf};
+ghost use Rattle.sarif_inputs.specs.Internal.Indexes.{AreIndexesOf};
+ghost use Rattle.sarif_inputs.specs.Internal.Parsed.{AreParsedFrom, IsParsedFrom};
+ghost use Rattle.sarif_inputs.specs.Internal.ReadRun.{placed_read};
+ghost use Rattle.sarif_inputs.specs.Internal.ReadSoFar.{IsCounted, faults_with, sources_of};
+ghost use Rattle.sarif_inputs.specs.Internal.Runs.{AreRunsOf};
 ghost use Rattle.sarif_inputs.specs.SourceFaults.{fault_of_reading, reading_faults, limit_faults, source_faults};
 ghost use Rattle.sarif_model.specs.Limits.{most_results, most_runs, most_sources};
 

@@ -4,7 +4,7 @@ use Rattle.sarif_gather.specs.declared.gathering.GatherFault.{GatherFault}
 use Rattle.sarif_gather.specs.declared.gathering.GatherFault.TheVariants.{NoWorker, OutOfMemory}
 use Rattle.sarif_model.specs.MergeFault.{exit_status}
 use Rattle.sarif_model.specs.FirstFault.{IsOutOfResources}
-use Rattle.sarif_judge.specs.ResourceFault.{resource_fault_of}
+use Rattle.sarif_judge.specs.Internal.ResourceFault.{resource_fault_of}
 
 pub lacks_resources : (fault : GatherFault) → IsOutOfResources (resource_fault_of fault)
 lacks_resources NoWorker = inr refl

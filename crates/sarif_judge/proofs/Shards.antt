@@ -10,9 +10,9 @@ use Rattle.sarif_gather.specs.Pieces.{lists_of, whole_run}
 use Rattle.sarif_entries.specs.File.{File}
 use Rattle.sarif_results.specs.declared.outcome.Outcome.{Outcome}
 use Rattle.sarif_runs.specs.declared.spots.Spot.{Spot}
-use Rattle.sarif_judge.specs.Flattened.{flattened}
+use Rattle.sarif_judge.specs.Internal.Flattened.{flattened}
 use Rattle.sarif_runs.specs.Placed.{Placed}
-use Rattle.sarif_results.specs.OutcomesAt.{outcome_at, judged_shard}
+use Rattle.sarif_results.specs.Internal.OutcomesAt.{outcome_at, judged_shard}
 
 -- n parts of a list, from part a on
 parts : {X Y : Type 0} (f : X → Y) (size : ℕ) (xs : List X) (a n : ℕ)

@@ -1,3 +1,1 @@
-pub mod Flattened
-pub mod Limits
-pub mod ResourceFault
+pub mod Internal

@@ -2,7 +2,7 @@
 ghost use Rattle.std.specs.Prelude.{◌≡◌, ◌≤◌, map, length, IfSome};
 ghost use Rattle.std.specs.List.{flat_map};
 ghost use Rattle.sarif_runs.specs.Judging.{first_bad, run_faults, faults_of_runs, items_of};
-ghost use Rattle.sarif_runs.specs.Opened.{placed_of};
+ghost use Rattle.sarif_runs.specs.Internal.Opened.{placed_of};
 ghost use Rattle.sarif_model.specs.MergeFault.{exit_status};
 ghost use Rattle.sarif_model.specs.FirstFault.{first};
 ghost use Rattle.sarif_model.specs.Limits.{most_results};

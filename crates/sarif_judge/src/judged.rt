@@ -2,13 +2,13 @@
 ghost use Rattle.std.specs.Prelude.{◌≡◌, ◌≤◌, map, length, IfOk};
 ghost use Rattle.sarif_model.specs.Run.{results_total};
 ghost use Rattle.sarif_runs.specs.Judging.{faults_of_runs, run_values};
-ghost use Rattle.sarif_runs.specs.Opened.{placed_of};
-ghost use Rattle.sarif_results.specs.Outcomes.{all_outcomes};
+ghost use Rattle.sarif_runs.specs.Internal.Opened.{placed_of};
+ghost use Rattle.sarif_results.specs.Internal.Outcomes.{all_outcomes};
 ghost use Rattle.sarif_model.specs.MergeFault.{IsQuiet};
 ghost use Rattle.sarif_model.specs.FirstFault.{Answers};
-ghost use Rattle.sarif_results.specs.Judged.{placed_in};
+ghost use Rattle.sarif_results.specs.Internal.Judged.{placed_in};
 ghost use Rattle.sarif_gather.specs.Limits.{most_room};
-ghost use Rattle.sarif_judge.specs.ResourceFault.{resource_fault_of};
+ghost use Rattle.sarif_judge.specs.Internal.ResourceFault.{resource_fault_of};
 ghost use Rattle.sarif_model.specs.Limits.{most_results, most_runs, most_workers};
 
 use crate::first_fault::fault_of_runs;

@@ -4,8 +4,8 @@ ghost use Rattle.serde_json.specs.View.{view};
 ghost use Rattle.serde_json.specs.Written.{has_float};
 ghost use Rattle.sarif_model.specs.Run.{results_of};
 ghost use Rattle.sarif_runs.specs.Judging.{item_of, skips};
-ghost use Rattle.sarif_runs.specs.Opened.{placed_of};
-ghost use Rattle.sarif_results.specs.Outcomes.{draft_beside, outcome_of};
+ghost use Rattle.sarif_runs.specs.Internal.Opened.{placed_of};
+ghost use Rattle.sarif_results.specs.Internal.Outcomes.{draft_beside, outcome_of};
 
 use sarif_model::Source;
 use sarif_read::is_marked_absent;

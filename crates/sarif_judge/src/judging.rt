@@ -1,9 +1,9 @@
 //! The work of judging: each run of it is a shard of the results.
 ghost use Rattle.std.specs.Prelude.{◌≡◌, ◌≤◌, ◌<◌, ◌+◌, ◌*◌, IfOk, map, length};
 ghost use Rattle.std.specs.List.{All};
-ghost use Rattle.sarif_runs.specs.Opened.{placed_of};
-ghost use Rattle.sarif_results.specs.OutcomesAt.{outcome_at};
-ghost use Rattle.sarif_runs.specs.Spots.{IsSpotOf};
+ghost use Rattle.sarif_runs.specs.Internal.Opened.{placed_of};
+ghost use Rattle.sarif_results.specs.Internal.OutcomesAt.{outcome_at};
+ghost use Rattle.sarif_runs.specs.Internal.Spots.{IsSpotOf};
 ghost use Rattle.sarif_model.specs.Limits.{most_results};
 ghost use Rattle.sarif_gather.specs.Limits.{most_runs};
 
@@ -49,8 +49,8 @@ pub(crate) fn judge_spots(
 
 impl<'w, 't: 'w, 'a: 't> Work for Judging<'w, 't, 'a> {
     ghost use Rattle.std.specs.Prelude.{◌≡◌, map};
-    ghost use Rattle.sarif_runs.specs.Opened.{placed_of};
-    ghost use Rattle.sarif_results.specs.OutcomesAt.{judged_shard};
+    ghost use Rattle.sarif_runs.specs.Internal.Opened.{placed_of};
+    ghost use Rattle.sarif_results.specs.Internal.OutcomesAt.{judged_shard};
 
     type Head = u32;
 

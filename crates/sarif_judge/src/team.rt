@@ -1,6 +1,6 @@
 //! A team of workers, and how much may wait for the calling thread.
 ghost use Rattle.std.specs.Prelude.{◌≡◌};
-ghost use Rattle.sarif_judge.specs.Limits.{merge_room};
+ghost use Rattle.sarif_judge.specs.Internal.Limits.{merge_room};
 
 /// The room of a merge, for every number of workers.
 const MERGE_ROOM: u32 = 256;

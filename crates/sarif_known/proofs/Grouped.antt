@@ -12,7 +12,7 @@ use Rattle.sarif_model.specs.declared.record.Record.{Record}
 use Rattle.sarif_entries.specs.Matching.{is_empty}
 use Rattle.sarif_known.specs.declared.chosen.KnownRun.{KnownRun}
 use Rattle.sarif_known.specs.Chosen.{Chosen, all_chosen, chosen_of}
-use Rattle.sarif_known.specs.Groups.{AreApart, groups_of, side_by_side, spread, texts_of}
+use Rattle.sarif_known.specs.Internal.Groups.{AreApart, groups_of, side_by_side, spread, texts_of}
 use Rattle.sarif_known.specs.Order.{known_runs, once_each, runs_of_tool, tools_of}
 
 -- ---- the tools

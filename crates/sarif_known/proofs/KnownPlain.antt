@@ -5,7 +5,7 @@ use Rattle.std.specs.List.{AllByRecursion}
 use Rattle.std.specs.Cmp.Lexicographic.{slice_cmp}
 use Rattle.serde_json.specs.Data.{Data, number, unsigned, string, Members, no_members, member}
 use Rattle.serde_json.specs.View.{items_of}
-use Rattle.json_parts.specs.Ordered.{IsBelow, AreMembersOrdered}
+use Rattle.json_parts.specs.Internal.Ordered.{IsBelow, AreMembersOrdered}
 use Rattle.sarif_model.specs.declared.kinds.Kind.{Kind}
 use Rattle.sarif_model.specs.declared.kinds.Kind.TheVariants.{Pass, Undecided, Informational, NotApplicable, Review, Fail}
 use Rattle.sarif_model.specs.declared.kinds.Level.{Level}

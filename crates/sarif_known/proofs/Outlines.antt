@@ -7,7 +7,7 @@ use Rattle.std.specs.Ordering.{ordering_reverse}
 use Rattle.json.specs.Tree as tree
 use Rattle.serde_json.specs.Data.{Data, null, boolean, number, string, array, object, Items, no_items, item, Members, no_members, member, put, depth, items_depth, members_depth}
 use Rattle.serde_json.specs.Written.{outline, items_outline, members_outline}
-use Rattle.json_parts.specs.Ordered.{IsBelow}
+use Rattle.json_parts.specs.Internal.Ordered.{IsBelow}
 
 abbrev pub joined : Members → Members → Members
 joined no_members ms = ms

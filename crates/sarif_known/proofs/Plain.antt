@@ -9,7 +9,7 @@ use Rattle.serde_json.specs.Data.{unsigned, negative, float, Data, null, boolean
 use Rattle.serde_json.specs.Read.{of_json, of_items, of_members, max_depth, read}
 use Rattle.serde_json.specs.Written.{outline, items_outline, members_outline}
 use Rattle.serde_json.proofs.Numbers.{number_of-decimal}
-use Rattle.json_parts.specs.Ordered.{IsBelow}
+use Rattle.json_parts.specs.Internal.Ordered.{IsBelow}
 use Rattle.json_parts.specs.Stripping.{is_fractional, any_fractional, stripped, stripped_items, stripped_members}
 use Rattle.sarif_known.proofs.Outlines.{AreBefore, join_next, join_none, joined, outline_depth, put_end, still_before}
 

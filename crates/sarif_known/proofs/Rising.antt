@@ -2,7 +2,7 @@
 use Rattle.std.proofs.Common.{◌≡◌, ℕ, List, [], Option, Some, None, refl}
 use Rattle.std.specs.Prelude.{Result, Ok, Err}
 use Rattle.serde_json.specs.Data.{Data, Members, no_members, member}
-use Rattle.json_parts.specs.Ordered.{IsBelow, AreMembersOrdered}
+use Rattle.json_parts.specs.Internal.Ordered.{IsBelow, AreMembersOrdered}
 use Rattle.sarif_model.specs.declared.fault.Fault.{Fault}
 use Rattle.sarif_model.specs.Members.{◌>>=◌, result_map}
 use Rattle.sarif_runs.specs.Fingerprints.{text_or_null, with_pair, pairs_among}

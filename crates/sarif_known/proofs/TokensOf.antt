@@ -12,7 +12,7 @@ use Rattle.sarif_known.specs.KnownResult.{Row, guid_text, kind_unless_fail, leve
 use Rattle.sarif_known.specs.Chosen.{Chosen}
 use Rattle.sarif_known.specs.KnownLog.{known_log}
 use Rattle.sarif_known.specs.KnownRun.{artifact_at, base_alone, bases_alone, known_run, next_number, results_from, run_rows, tool_named}
-use Rattle.sarif_known.specs.Tokens.{data_tokens, value_tokens, rows_then, pairs_tokens, each_tokens, first_tokens, last_tokens, opened, closed, run_opening, run_closing, log_opening, log_closing}
+use Rattle.sarif_known.specs.Internal.Tokens.{data_tokens, value_tokens, rows_then, pairs_tokens, each_tokens, first_tokens, last_tokens, opened, closed, run_opening, run_closing, log_opening, log_closing}
 
 -- what is added in turn is added together
 pub two : (o a b : List Token) (o1 o2 : List Token) → o1 ≡ o ++ a → o2 ≡ o1 ++ b → o2 ≡ o ++ (a ++ b)

@@ -1,7 +1,7 @@
 -- The facts about records that can become known, and about a known log that is read again.
 use Rattle.std.specs.Prelude.{◌≡◌, ◌≤◌, ◌<◌, ◌^◌, ℕ, false, List, [], map, length, IfSome}
 use Rattle.std.specs.List.{AllByRecursion, flat_map}
-use Rattle.json_parts.specs.Ordered.{AreMembersOrdered}
+use Rattle.json_parts.specs.Internal.Ordered.{AreMembersOrdered}
 use Rattle.sarif_model.specs.declared.kinds.Level.TheVariants.{NoLevel}
 use Rattle.sarif_model.specs.declared.record.Record.{Record}
 use Rattle.sarif_model.specs.Limits.{most_results, most_runs}

@@ -1,9 +1,8 @@
 pub mod Chosen
-pub mod Groups
+pub mod Internal
 pub mod KnownLog
 pub mod KnownResult
 pub mod KnownRun
 pub mod Laws
 pub mod Order
 pub mod Selected
-pub mod Tokens

@@ -10,7 +10,7 @@ ghost use Rattle.sarif_known.specs.KnownLog.{known_text as text_of, pretty_text,
 ghost use Rattle.sarif_known.specs.KnownRun.{known_run};
 ghost use Rattle.sarif_known.specs.Laws.{CanBeRead};
 ghost use Rattle.sarif_known.specs.Order.{known_runs};
-ghost use Rattle.sarif_known.specs.Tokens.{data_tokens, each_tokens, log_closing, log_opening};
+ghost use Rattle.sarif_known.specs.Internal.Tokens.{data_tokens, each_tokens, log_closing, log_opening};
 
 use crate::chosen::KnownRun;
 use crate::known_run::{push_run, too_long};

@@ -4,7 +4,7 @@ ghost use Rattle.serde_json.specs.Data.{no_members, member, number, unsigned};
 ghost use Rattle.sarif_model.specs.declared.place.Place.{Place};
 ghost use Rattle.sarif_known.specs.KnownResult.{known_result, locations_for, members_from, message_rows};
 ghost use Rattle.sarif_known.specs.KnownResult.{object_from, one_location, result_rows, uri_rows};
-ghost use Rattle.sarif_known.specs.Tokens.{closed, data_tokens, first_tokens, last_tokens, opened, value_tokens};
+ghost use Rattle.sarif_known.specs.Internal.Tokens.{closed, data_tokens, first_tokens, last_tokens, opened, value_tokens};
 
 use crate::lines::Lines;
 use crate::members::{

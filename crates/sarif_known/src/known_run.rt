@@ -8,7 +8,7 @@ ghost use Rattle.sarif_known.specs.KnownLog.{too_long, IsLost};
 ghost use Rattle.sarif_known.specs.KnownResult.{list_if_any};
 ghost use Rattle.sarif_known.specs.KnownRun as said;
 ghost use Rattle.sarif_known.specs.KnownRun.{artifact_at, bases_alone, known_run, results_from, tool_named};
-ghost use Rattle.sarif_known.specs.Tokens.{data_tokens, each_tokens, run_closing, run_opening, value_tokens};
+ghost use Rattle.sarif_known.specs.Internal.Tokens.{data_tokens, each_tokens, run_closing, run_opening, value_tokens};
 
 use crate::chosen::KnownRun;
 use crate::known_result::push_result;

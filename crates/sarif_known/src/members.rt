@@ -4,7 +4,7 @@ ghost use Rattle.json.specs.Token.{string as string_token, number as number_toke
 ghost use Rattle.serde_json.specs.Data.{string};
 ghost use Rattle.sarif_known.specs.KnownResult.{kind_unless_fail, level_if_fail, list_if_any, texts_if_any};
 ghost use Rattle.sarif_known.specs.KnownResult.{guid_text, suppression_for, unless_empty};
-ghost use Rattle.sarif_known.specs.Tokens.{data_tokens, each_tokens, pairs_tokens, value_tokens};
+ghost use Rattle.sarif_known.specs.Internal.Tokens.{data_tokens, each_tokens, pairs_tokens, value_tokens};
 
 use crate::lines::Lines;
 use json::Token;

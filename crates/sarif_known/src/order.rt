@@ -2,7 +2,7 @@
 ghost use Rattle.std.specs.Prelude.{◌≡◌, ◌++◌, ◌∷◌, [], OnOk, IfOk, length, map, replicate};
 ghost use Rattle.std.specs.List.{flat_map};
 ghost use Rattle.sarif_known.specs.Chosen.{all_chosen, chosen_of};
-ghost use Rattle.sarif_known.specs.Groups.{groups_of, side_by_side, spread, texts_of, AreApart};
+ghost use Rattle.sarif_known.specs.Internal.Groups.{groups_of, side_by_side, spread, texts_of, AreApart};
 ghost use Rattle.sarif_known.specs.Order.{known_runs, once_each, runs_of_tool};
 
 use crate::chosen::KnownRun;

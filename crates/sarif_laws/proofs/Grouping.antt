@@ -5,7 +5,7 @@ use Rattle.std.proofs.lemmas.List.Folds.{list_any-append}
 use Rattle.std.proofs.lemmas.Slice.Eq.{bytes_eq-Decides}
 use Rattle.sarif_entries.specs.Matching.{is_empty}
 use Rattle.sarif_known.specs.Chosen.{Chosen, results_among}
-use Rattle.sarif_known.specs.Groups.{AreApart}
+use Rattle.sarif_known.specs.Internal.Groups.{AreApart}
 use Rattle.sarif_known.specs.Order.{known_runs, runs_of_tool, tools_of}
 use Rattle.sarif_known.proofs.Grouped.{tools_apart}
 

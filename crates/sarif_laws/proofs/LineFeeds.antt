@@ -33,7 +33,7 @@ use Rattle.sarif_merge.specs.Life.{merge_in}
 use Rattle.sarif_merge.specs.MergedLog as log
 use Rattle.sarif_merge.specs.MergedLog.{current_of, file_given}
 use Rattle.sarif_merge.proofs.Unkept.{file_was_read}
-use Rattle.sarif_upkeep.specs.IsMatched.{IsFileOf}
+use Rattle.sarif_upkeep.specs.Internal.IsMatched.{IsFileOf}
 use Rattle.sarif_upkeep.specs.Life.{unused_in}
 use Rattle.sarif_upkeep.proofs.NewEntries.{values_long}
 use Rattle.sarif_laws.specs.Lines.{lines_in}

@@ -15,7 +15,7 @@ use Rattle.serde_json.specs.Written.{has_float, items_have_float, items_outline,
 use Rattle.serde_json.proofs.Numbers.{number_of-decimal, number_of-negative}
 use Rattle.json_parts.specs.Indexed.{json_of}
 use Rattle.json_parts.specs.Mark.{without_mark}
-use Rattle.json_parts.specs.Ordered.{AreItemsOrdered, AreMembersOrdered, IsOrdered}
+use Rattle.json_parts.specs.Internal.Ordered.{AreItemsOrdered, AreMembersOrdered, IsOrdered}
 use Rattle.sarif_accept.specs.NewFile.{file_text}
 use Rattle.sarif_accept.proofs.Newline.{read_line}
 use Rattle.sarif_known.proofs.Outlines.{AreBefore, join_next, join_none, joined, outline_depth, put_end, still_before}

@@ -11,7 +11,7 @@ use Rattle.serde_json.specs.Read.{max_depth, of_json, read}
 use Rattle.serde_json.specs.View.{items_of}
 use Rattle.json_parts.specs.Indexed.{json_of}
 use Rattle.json_parts.specs.Mark.{without_mark}
-use Rattle.json_parts.specs.Ordered.{AreItemsOrdered, AreMembersOrdered, IsBelow, IsOrdered}
+use Rattle.json_parts.specs.Internal.Ordered.{AreItemsOrdered, AreMembersOrdered, IsBelow, IsOrdered}
 use Rattle.json_parts.specs.Without.{without, without_member}
 use Rattle.json_parts.proofs.Order.{ordered_put, read_ordered}
 use Rattle.json_parts.proofs.Readings.{and_then_some}

@@ -9,7 +9,7 @@ use Rattle.sarif_counts.specs.declared.policy.Policy.{Policy}
 use Rattle.sarif_read.specs.Stripping.{stripped}
 use Rattle.sarif_read.proofs.External.{same_runs}
 use Rattle.sarif_read.proofs.LogText.{log_of_text, log_of_none}
-use Rattle.sarif_inputs.specs.Allowing.{IsReadAlike, allowing}
+use Rattle.sarif_inputs.specs.Internal.Allowing.{IsReadAlike, allowing}
 use Rattle.sarif_inputs.specs.Faults.{faults_of}
 use Rattle.sarif_inputs.specs.Inputs.{Inputs, baseline_runs, input_runs}
 use Rattle.sarif_inputs.proofs.AllowedAlike.{all_alike, baseline_alike, current_alike}

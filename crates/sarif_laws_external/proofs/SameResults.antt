@@ -21,7 +21,7 @@ use Rattle.sarif_entries.specs.File.{File}
 use Rattle.sarif_suppress.specs.Suppressing.{unused_of}
 use Rattle.sarif_results.specs.Drafts.{Listing}
 use Rattle.sarif_runs.specs.Judging.{records_of, run_values}
-use Rattle.sarif_runs.specs.NamedFiles.{without_files}
+use Rattle.sarif_runs.specs.Internal.NamedFiles.{without_files}
 use Rattle.sarif_runs.specs.Placed.{Placed}
 use Rattle.sarif_log.specs.LogBy.{current_runs, leftover_runs, listing_of, merged_by, runs_by, runs_without_results, states_of, taken_of}
 use Rattle.sarif_log.specs.MergedRuns.{absent_runs, annotated_items, bare, if_any, merged_run, merged_runs, own_results, unmatched, with_absent, with_results}

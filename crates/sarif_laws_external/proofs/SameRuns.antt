@@ -12,7 +12,7 @@ use Rattle.sarif_read.proofs.Beside.{member_beside}
 use Rattle.sarif_read.specs.Reading.{check_external, check_results, check_run, check_tool, count_results, may_be_named, unless_fault}
 use Rattle.sarif_runs.specs.declared.item.Item.TheVariants.{Skipped}
 use Rattle.sarif_runs.specs.Judging.{fault_of, faults_of_runs, item_by, item_of, items_of, opened_of, opened_or, records_in, records_of, run_faults, run_values, skips}
-use Rattle.sarif_runs.specs.NamedFiles.{without_files}
+use Rattle.sarif_runs.specs.Internal.NamedFiles.{without_files}
 use Rattle.sarif_runs.specs.Placed.{Placed}
 use Rattle.sarif_runs.proofs.NamedFiles.{same_failing, same_head, same_record, same_results}
 use Rattle.sarif_log.proofs.RunResults.{taken_out}

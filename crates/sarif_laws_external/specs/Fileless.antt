@@ -8,7 +8,7 @@ use Rattle.json_parts.specs.Mark.{without_mark}
 use Rattle.sarif_model.specs.Run.{runs_of}
 use Rattle.sarif_read.specs.Reading.{check_external}
 use Rattle.sarif_read.specs.Stripping.{stripped}
-use Rattle.sarif_runs.specs.NamedFiles.{without_files}
+use Rattle.sarif_runs.specs.Internal.NamedFiles.{without_files}
 use Rattle.sarif_runs.specs.Placed.{Placed}
 use Rattle.sarif_inputs.specs.Inputs.{Inputs}
 

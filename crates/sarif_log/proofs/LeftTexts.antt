@@ -11,15 +11,15 @@ use Rattle.sarif_model.specs.declared.kinds.State.{State}
 use Rattle.sarif_model.specs.declared.kinds.State.TheVariants.{Absent}
 use Rattle.sarif_model.specs.declared.record.Record.{Record}
 use Rattle.sarif_model.specs.Run.{results_of}
-use Rattle.sarif_log.specs.Leftover.{not_taken}
+use Rattle.sarif_log.specs.Internal.Leftover.{not_taken}
 use Rattle.sarif_results.specs.declared.draft.Draft.{Draft}
 use Rattle.sarif_log.specs.declared.run_parts.RunParts.{RunParts}
-use Rattle.sarif_log.specs.Texts.{count_in_parts, counts_as, counts_in_parts, left_texts, parts_text, present_count, present_results, run_text, tallied, text_if, text_with, texts_of, unless_taken, ArePartsOf}
+use Rattle.sarif_log.specs.Internal.Texts.{count_in_parts, counts_as, counts_in_parts, left_texts, parts_text, present_count, present_results, run_text, tallied, text_if, text_with, texts_of, unless_taken, ArePartsOf}
 use Rattle.sarif_results.specs.Drafts.{drafts_by, unapplied, IsRun}
 use Rattle.sarif_log.specs.MergedRuns.{absent_runs}
 use Rattle.sarif_model.specs.Run.{present}
 use Rattle.sarif_log.proofs.RunTexts.{runs_left}
-use Rattle.sarif_log.specs.LeftParts.{left_count, AreLeftParts}
+use Rattle.sarif_log.specs.Internal.LeftParts.{left_count, AreLeftParts}
 
 abbrev absent : Draft → Option State
 absent draft = Some Absent

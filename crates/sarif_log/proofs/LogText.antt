@@ -8,7 +8,7 @@ use Rattle.serde_json.specs.Written.{compact_text, items_text}
 use Rattle.sarif_model.specs.declared.kinds.State.{State}
 use Rattle.sarif_results.specs.declared.draft.Draft.{Draft}
 use Rattle.sarif_log.specs.declared.run_parts.RunParts.{RunParts}
-use Rattle.sarif_log.specs.Texts.{count_in_parts, joined, parts_text, runs_texts}
+use Rattle.sarif_log.specs.Internal.Texts.{count_in_parts, joined, parts_text, runs_texts}
 use Rattle.sarif_log.specs.Log.{log_with}
 use Rattle.sarif_log.proofs.ResultTexts.{joined_items}
 

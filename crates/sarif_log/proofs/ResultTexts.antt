@@ -11,7 +11,7 @@ use Rattle.sarif_model.specs.declared.record.Record.{Record}
 use Rattle.sarif_model.specs.State.{state_name}
 use Rattle.sarif_suppress.specs.declared.suppressions.Applied.{Applied}
 use Rattle.sarif_results.specs.Drafts.{draft_by, drafted_members, drafts_by, listed_in, members_in, unapplied, IsObject}
-use Rattle.sarif_log.specs.Texts.{joined, text_with, texts_of, unless_taken}
+use Rattle.sarif_log.specs.Internal.Texts.{joined, text_with, texts_of, unless_taken}
 use Rattle.sarif_results.specs.Drafts.{Listing}
 use Rattle.sarif_log.specs.MergedRuns.{unmatched, written, written_all}
 

@@ -13,7 +13,7 @@ use Rattle.sarif_suppress.specs.declared.suppressions.Applied.{Applied}
 use Rattle.sarif_counts.specs.CountOf.{count_in, count_of, items_in, results_in}
 use Rattle.sarif_results.specs.declared.draft.Draft.{Draft}
 use Rattle.sarif_results.specs.Drafts.{drafts_by, unapplied, IsObject, IsRun}
-use Rattle.sarif_log.specs.Texts.{present_results, tallied, unless_taken}
+use Rattle.sarif_log.specs.Internal.Texts.{present_results, tallied, unless_taken}
 use Rattle.sarif_results.specs.Drafts.{Listing}
 use Rattle.sarif_log.specs.MergedRuns.{absent_runs, annotated_items, bare, if_any, merged_run, merged_runs, own_results, unmatched, with_results, written_all}
 use Rattle.sarif_model.specs.Run.{present}

@@ -5,14 +5,14 @@ use Rattle.json_parts.specs.Without.{without}
 use Rattle.serde_json.specs.Data.{Data, null, boolean, number, string, array, object, Items}
 use Rattle.serde_json.specs.View.{members_view}
 use Rattle.serde_json.specs.Written.{has_float}
-use Rattle.sarif_read.specs.Bare.{bare as beside_results}
+use Rattle.sarif_read.specs.Internal.Bare.{bare as beside_results}
 use Rattle.sarif_model.specs.Members.{elements}
 use Rattle.sarif_model.specs.Run.{elements_or_none, results_array, results_of}
 use Rattle.sarif_runs.specs.declared.opened.OpenedRun.{OpenedRun}
-use Rattle.sarif_runs.specs.Opened.{placed_of}
+use Rattle.sarif_runs.specs.Internal.Opened.{placed_of}
 use Rattle.sarif_log.specs.declared.run_parts.RunParts.{RunParts}
 use Rattle.sarif_results.specs.Drafts.{members_in}
-use Rattle.sarif_log.specs.Texts.{own_count, ArePartsOf, IsWholeRun}
+use Rattle.sarif_log.specs.Internal.Texts.{own_count, ArePartsOf, IsWholeRun}
 use Rattle.sarif_log.specs.MergedRuns.{bare}
 use Rattle.sarif_results.proofs.WholeMembers.{without_whole}
 use Rattle.sarif_runs.specs.Judging.{run_values}

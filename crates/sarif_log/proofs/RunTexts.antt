@@ -2,7 +2,7 @@
 use Rattle.std.proofs.Common.{◌≡◌, ◌≤◌, ◌+◌, ℕ, Bool, true, false, not, List, [], ◌∷◌, ◌++◌, Option, Some, None, map, take, drop, length, is_some, option_map, unwrap_or, cond, length-append, codes, refl, sym, ap, ◌∙◌, arith}
 use Rattle.std.proofs.lemmas.List.{take-map, drop-map, length-take-le, length-drop}
 use Rattle.std.specs.List.{AllByRecursion, flat_map, list_any}
-use Rattle.json_parts.specs.Around.{filled, surrounding}
+use Rattle.json_parts.specs.Internal.Around.{filled, surrounding}
 use Rattle.json_parts.proofs.Filled.{filled_is_put}
 use Rattle.serde_json.specs.Data.{Data, null, boolean, number, string, array, object, Items, Members, put}
 use Rattle.serde_json.specs.View.{items_of, members_view}
@@ -13,7 +13,7 @@ use Rattle.sarif_model.specs.Members.{elements}
 use Rattle.sarif_model.specs.Run.{elements_or_none, is_absent_result, results_of, results_array, results_total}
 use Rattle.sarif_suppress.specs.declared.suppressions.Applied.{Applied}
 use Rattle.sarif_log.specs.declared.run_parts.RunParts.{RunParts}
-use Rattle.sarif_log.specs.Texts.{count_in_parts, left_texts, own_count, parts_text, present_count, present_results, run_text, runs_texts, text_if, texts_of, unless_taken, ArePartsOf, joined}
+use Rattle.sarif_log.specs.Internal.Texts.{count_in_parts, left_texts, own_count, parts_text, present_count, present_results, run_text, runs_texts, text_if, texts_of, unless_taken, ArePartsOf, joined}
 use Rattle.sarif_results.specs.Drafts.{draft_by, drafts_by, members_in, unapplied, IsObject, IsRun}
 use Rattle.sarif_results.specs.Drafts.{Listing}
 use Rattle.sarif_log.specs.MergedRuns.{absent_runs, annotated_items, bare, if_any, merged_run, merged_runs, own_results, unmatched, with_absent, with_results, written_all}

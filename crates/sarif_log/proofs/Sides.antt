@@ -13,7 +13,7 @@ use Rattle.sarif_suppress.specs.declared.suppressions.Applied.{Applied}
 use Rattle.sarif_runs.specs.Judging.{faults_of_runs, items_of, records_in, records_of, run_faults, skips, run_values}
 use Rattle.sarif_runs.specs.Placed.{Placed}
 use Rattle.sarif_log.specs.declared.run_parts.RunParts.{RunParts}
-use Rattle.sarif_log.specs.Texts.{counts_in_parts, own_count, present_results, ArePartsOf}
+use Rattle.sarif_log.specs.Internal.Texts.{counts_in_parts, own_count, present_results, ArePartsOf}
 use Rattle.sarif_results.specs.Drafts.{drafts_by}
 use Rattle.sarif_results.specs.Drafts.{Listing}
 use Rattle.sarif_model.specs.Run.{present}

@@ -1,12 +1,7 @@
 pub mod Assembled
 pub mod Beside
-pub mod LeftParts
-pub mod Leftover
+pub mod Internal
 pub mod Log
 pub mod LogBy
 pub mod MergedRuns
-pub mod Prepared
-pub mod Side
-pub mod Texts
 pub mod Told
-pub mod Written

@@ -3,8 +3,8 @@ ghost use Rattle.std.specs.Prelude.{◌≡◌, ◌+◌, ◌*◌, ◌≤◌, Bool
 ghost use Rattle.sarif_model.specs.declared.kinds.Level.{Level as Grade};
 ghost use Rattle.sarif_model.specs.declared.kinds.State.{State as Stand};
 ghost use Rattle.sarif_counts.specs.Counts.{count_at};
-ghost use Rattle.sarif_log.specs.Texts.{tallied};
-ghost use Rattle.sarif_log.specs.Written.{AreCounted};
+ghost use Rattle.sarif_log.specs.Internal.Texts.{tallied};
+ghost use Rattle.sarif_log.specs.Internal.Written.{AreCounted};
 ghost use Rattle.sarif_model.specs.Limits.{most_results};
 
 use crate::merged_text::Side;

@@ -1,7 +1,7 @@
 //! A result of a baseline that is written.
 ghost use Rattle.std.specs.Prelude.{◌<◌, length};
 ghost use Rattle.sarif_model.specs.Run.{results_of};
-ghost use Rattle.sarif_runs.specs.Opened.{placed_of};
+ghost use Rattle.sarif_runs.specs.Internal.Opened.{placed_of};
 
 use sarif_model::Record;
 use sarif_runs::OpenedRun;

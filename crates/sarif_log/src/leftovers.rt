@@ -3,9 +3,9 @@
 ghost use Rattle.std.specs.Prelude.{◌≡◌, ◌≤◌, ◌++◌, ◌∷◌, [], IfOk, OnOk, map, length};
 ghost use Rattle.std.specs.List.{All};
 ghost use Rattle.sarif_results.specs.Drafts.{drafts_by, unapplied};
-ghost use Rattle.sarif_log.specs.Leftover.{found_at, leftover_draft, not_taken};
-ghost use Rattle.sarif_runs.specs.Opened.{placed_of};
-ghost use Rattle.sarif_runs.specs.Spots.{IsSpotOf};
+ghost use Rattle.sarif_log.specs.Internal.Leftover.{found_at, leftover_draft, not_taken};
+ghost use Rattle.sarif_runs.specs.Internal.Opened.{placed_of};
+ghost use Rattle.sarif_runs.specs.Internal.Spots.{IsSpotOf};
 
 use crate::leftover::Leftover;
 use sarif_gather::{Sharing, each_of, share_jobs};

@@ -4,9 +4,9 @@ ghost use Rattle.std.specs.List.{AllByRecursion};
 ghost use Rattle.serde_json.specs.Data.{Data};
 ghost use Rattle.serde_json.specs.View.{view};
 ghost use Rattle.serde_json.specs.Written.{compact_text, has_float};
-ghost use Rattle.sarif_log.specs.Texts.{counts_in_parts, left_texts, runs_texts, IsWholeRun};
+ghost use Rattle.sarif_log.specs.Internal.Texts.{counts_in_parts, left_texts, runs_texts, IsWholeRun};
 ghost use Rattle.sarif_log.specs.Log.{log_with};
-ghost use Rattle.sarif_log.specs.Side.{IsSide, texts_of_runs, texts_of_left};
+ghost use Rattle.sarif_log.specs.Internal.Side.{IsSide, texts_of_runs, texts_of_left};
 
 use crate::run_parts::RunParts;
 use crate::runs_text::{push_left_runs, push_runs};

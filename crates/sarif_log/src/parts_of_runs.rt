@@ -3,11 +3,11 @@ ghost use Rattle.std.specs.Prelude.{◌≡◌, ◌≤◌, Some, IfOk, length, ma
 ghost use Rattle.std.specs.List.{AllByRecursion};
 ghost use Rattle.serde_json.specs.View.{members_view};
 ghost use Rattle.sarif_runs.specs.Judging.{run_values};
-ghost use Rattle.sarif_runs.specs.Opened.{placed_of};
+ghost use Rattle.sarif_runs.specs.Internal.Opened.{placed_of};
 ghost use Rattle.sarif_results.specs.Drafts.{members_in};
 ghost use Rattle.sarif_log.specs.MergedRuns.{bare};
-ghost use Rattle.sarif_log.specs.Texts.{own_count, present_results, ArePartsOf, IsWholeRun};
-ghost use Rattle.sarif_log.specs.LeftParts.{left_count, present_counts, AreLeftParts};
+ghost use Rattle.sarif_log.specs.Internal.Texts.{own_count, present_results, ArePartsOf, IsWholeRun};
+ghost use Rattle.sarif_log.specs.Internal.LeftParts.{left_count, present_counts, AreLeftParts};
 
 use crate::run_parts::{RunParts, make_parts};
 use sarif_runs::OpenedRun;

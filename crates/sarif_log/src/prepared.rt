@@ -1,7 +1,7 @@
 //! What a merged log is made of.
 ghost use Rattle.std.specs.Prelude.{◌≤◌, ◌+◌, ◌*◌, length};
 ghost use Rattle.std.proofs.Props.{props};
-ghost use Rattle.sarif_log.specs.Side.{IsSide};
+ghost use Rattle.sarif_log.specs.Internal.Side.{IsSide};
 ghost use Rattle.sarif_model.specs.Limits.{most_results};
 
 use crate::merged_text::Side;

@@ -3,7 +3,7 @@ ghost use Rattle.std.specs.Prelude.{◌≡◌, ◌++◌, OnOk, false, length, st
 ghost use Rattle.serde_json.specs.Data.{string};
 ghost use Rattle.serde_json.specs.Written.{comma_if, compact_text};
 ghost use Rattle.sarif_model.specs.State.{state_name};
-ghost use Rattle.sarif_log.specs.Texts.{joined, texts_of};
+ghost use Rattle.sarif_log.specs.Internal.Texts.{joined, texts_of};
 
 use sarif_model::State;
 use sarif_results::Draft;

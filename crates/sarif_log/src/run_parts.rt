@@ -5,7 +5,7 @@ ghost use Rattle.serde_json.specs.Find.{get_member};
 ghost use Rattle.serde_json.specs.View.{view, members_view};
 ghost use Rattle.serde_json.specs.Written.{has_float};
 ghost use Rattle.sarif_results.specs.Drafts.{members_in};
-ghost use Rattle.sarif_log.specs.Texts.{IsWholeRun};
+ghost use Rattle.sarif_log.specs.Internal.Texts.{IsWholeRun};
 ghost use Rattle.sarif_model.specs.Limits.{most_runs};
 
 use sarif_results::into_members;

@@ -2,7 +2,7 @@
 ghost use Rattle.std.specs.Prelude.{◌≡◌, ◌++◌, OnOk, Some, None, false, length, string_bytes};
 ghost use Rattle.serde_json.specs.View.{members_view};
 ghost use Rattle.serde_json.specs.Written.{members_have_float};
-ghost use Rattle.sarif_log.specs.Texts.{parts_text, run_text, texts_of, IsWholeRun};
+ghost use Rattle.sarif_log.specs.Internal.Texts.{parts_text, run_text, texts_of, IsWholeRun};
 
 use crate::results_text::push_results;
 use crate::run_parts::RunParts;

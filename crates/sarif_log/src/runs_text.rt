@@ -1,7 +1,7 @@
 //! The texts of the runs of the merged log.
 ghost use Rattle.std.specs.Prelude.{◌≡◌, ◌++◌, ◌==◌, Bool, not, OnOk, IfOk, false, is_some, length, string_bytes};
 ghost use Rattle.std.specs.List.{AllByRecursion, list_any};
-ghost use Rattle.sarif_log.specs.Texts.{count_in_parts, counts_in_parts, joined, left_texts, runs_texts, IsWholeRun};
+ghost use Rattle.sarif_log.specs.Internal.Texts.{count_in_parts, counts_in_parts, joined, left_texts, runs_texts, IsWholeRun};
 
 use crate::results_text::push_comma;
 use crate::run_parts::RunParts;

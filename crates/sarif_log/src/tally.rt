@@ -3,7 +3,7 @@ ghost use Rattle.std.specs.Prelude.{◌≡◌, ◌+◌, ◌<◌, ◌≤◌, ◌^
 ghost use Rattle.sarif_model.specs.declared.kinds.Level.{Level as Grade};
 ghost use Rattle.sarif_model.specs.declared.kinds.State.{State as Stand};
 ghost use Rattle.sarif_counts.specs.Counts.{count_at, total_of};
-ghost use Rattle.sarif_log.specs.Texts.{tallied};
+ghost use Rattle.sarif_log.specs.Internal.Texts.{tallied};
 
 use sarif_counts::Counts;
 use sarif_model::State;

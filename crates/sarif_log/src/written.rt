@@ -4,10 +4,10 @@ ghost use Rattle.serde_json.specs.Data.{Data};
 ghost use Rattle.serde_json.specs.View.{view};
 ghost use Rattle.serde_json.specs.Written.{compact_text, has_float};
 ghost use Rattle.sarif_log.specs.Log.{log_with};
-ghost use Rattle.sarif_log.specs.Side.{IsSide, texts_of_left, texts_of_runs};
+ghost use Rattle.sarif_log.specs.Internal.Side.{IsSide, texts_of_left, texts_of_runs};
 ghost use Rattle.sarif_log.specs.Beside.{IsMadeBy, IsToldBy};
 ghost use Rattle.sarif_log.specs.Assembled.{IsLogOf};
-ghost use Rattle.sarif_log.specs.Written.{AreWritten};
+ghost use Rattle.sarif_log.specs.Internal.Written.{AreWritten};
 
 use crate::counting::count_sides;
 use crate::facts::Facts;

@@ -7,13 +7,13 @@ use Rattle.sarif_match.specs.declared.tier.Tier.{Tier}
 use Rattle.sarif_match.specs.declared.tier_key.Key.{Key}
 use Rattle.sarif_match.specs.Key.{key_of}
 use Rattle.sarif_match.specs.KeyParts.{KeyParts, parts_of, same_parts}
-use Rattle.sarif_match.specs.Fits.{Fits}
-use Rattle.sarif_match.specs.Named.{IsBelow, unmarked, with_parts}
+use Rattle.sarif_match.specs.Internal.Fits.{Fits}
+use Rattle.sarif_match.specs.Internal.Named.{IsBelow, unmarked, with_parts}
 use Rattle.sarif_match.specs.Pairing.{places, pairs_from, with_pair}
 use Rattle.sarif_match.specs.Partners.{has_partner, is_taken, left, free, with_key, keyed_from, pairs_at}
 use Rattle.sarif_match.specs.declared.progress.Progress.{Progress}
-use Rattle.sarif_match.specs.Progress.{IsSound}
-use Rattle.sarif_match.specs.Queues.{same_key}
+use Rattle.sarif_match.specs.Internal.Progress.{IsSound}
+use Rattle.sarif_match.specs.Internal.Queues.{same_key}
 use Rattle.sarif_match.proofs.KeyLemmas.{eq-is_same_parts}
 use Rattle.sarif_match.proofs.NamedLemmas.{IsBelow-keyed_from}
 

@@ -11,9 +11,9 @@ use Rattle.std.proofs.lemmas.Option.{same_Some}
 use Rattle.sarif_model.specs.declared.record.Record.{Record}
 use Rattle.sarif_match.specs.declared.tier.Tier.{Tier}
 use Rattle.sarif_match.specs.KeyParts.{KeyParts, same_parts}
-use Rattle.sarif_match.specs.Fits.{Fits}
+use Rattle.sarif_match.specs.Internal.Fits.{Fits}
 use Rattle.sarif_match.specs.Partners.{has_partner, is_taken, keyed_from, put_all, pairs_at, after_tier, partners_after, partners_of}
-use Rattle.sarif_match.specs.Paired.{key_at, rank, IsPairedAt, ArePartners}
+use Rattle.sarif_match.specs.Internal.Paired.{key_at, rank, IsPairedAt, ArePartners}
 use Rattle.sarif_match.specs.Tiers.{tiers_of}
 use Rattle.sarif_match.proofs.FitsLemmas.{Fits-pairs_at}
 use Rattle.sarif_match.proofs.PairedLemmas.{pair-of, paired-of, stands_keyed}

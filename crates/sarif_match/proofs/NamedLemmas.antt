@@ -15,7 +15,7 @@ use Rattle.sarif_match.specs.Key.{key_of, value_of}
 use Rattle.sarif_match.specs.KeyParts.{KeyParts, parts_of, fingerprint_parts}
 use Rattle.std.proofs.Common.{not, slice_index_or}
 use Rattle.std.proofs.lemmas.List.Elements.{filter-append}
-use Rattle.sarif_match.specs.Named.{with_parts, ends_with, put_once, IsBelow, unmarked}
+use Rattle.sarif_match.specs.Internal.Named.{with_parts, ends_with, put_once, IsBelow, unmarked}
 use Rattle.sarif_match.specs.Partners.{with_key, keyed_from}
 use Rattle.sarif_match.proofs.ValueLemmas.{same_text}
 use Rattle.sarif_match.proofs.ListLemmas.{slice_get-last}

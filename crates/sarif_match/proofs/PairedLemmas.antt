@@ -5,10 +5,10 @@ use Rattle.sarif_model.specs.declared.record.Record.{Record}
 use Rattle.sarif_match.specs.declared.tier.Tier.{Tier}
 use Rattle.sarif_match.specs.Key.{key_of}
 use Rattle.sarif_match.specs.KeyParts.{KeyParts, same_parts}
-use Rattle.sarif_match.specs.Named.{IsBelow}
+use Rattle.sarif_match.specs.Internal.Named.{IsBelow}
 use Rattle.sarif_match.specs.Pairing.{places, pairs_from}
 use Rattle.sarif_match.specs.Partners.{has_partner, is_taken, left, free, with_key, keyed_from, pairs_at}
-use Rattle.sarif_match.specs.Paired.{key_at, rank, IsPairedAt}
+use Rattle.sarif_match.specs.Internal.Paired.{key_at, rank, IsPairedAt}
 use Rattle.sarif_match.proofs.PartsLemmas.{parts_same, parts_refl}
 use Rattle.sarif_match.proofs.SplitLemmas.{HasPair, IsAbove, cons_first, cons_rest, nil_has_no_middle, none_is_no_some, filter-split, split-filter, slice_get-places, stands_in_places, pair_made, pair_found, rank-split}
 

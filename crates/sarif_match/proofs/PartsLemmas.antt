@@ -10,7 +10,7 @@ use Rattle.sarif_model.specs.declared.place.Place.{Place}
 use Rattle.sarif_match.specs.KeyParts.{KeyParts, guid_parts, fingerprint_parts, partial_here_parts, partial_moved_parts, place_parts, same_parts, pairs_eq, place_eq, message_eq}
 use Rattle.sarif_match.specs.declared.tier_key.Key.{Key}
 use Rattle.sarif_match.specs.KeyParts.{parts_of}
-use Rattle.sarif_match.specs.Queues.{same_key}
+use Rattle.sarif_match.specs.Internal.Queues.{same_key}
 use Rattle.sarif_match.proofs.KeyLemmas.{eq-is_same_parts}
 use Rattle.sarif_match.proofs.ValueLemmas.{same_text}
 

@@ -7,7 +7,7 @@ use Rattle.std.proofs.lemmas.Bool.Decides.{eqb_tells}
 use Rattle.std.specs.Option.{option_map_or}
 use Rattle.sarif_match.specs.declared.progress.Progress.{Progress}
 use Rattle.sarif_match.specs.Partners.{has_partner, is_taken}
-use Rattle.sarif_match.specs.Progress.{IsSound}
+use Rattle.sarif_match.specs.Internal.Progress.{IsSound}
 use Rattle.sarif_match.proofs.SortedLemmas.{or_swap}
 
 -- a list at each place after a write

@@ -4,7 +4,7 @@ use Rattle.std.proofs.lemmas.List.{map-append}
 use Rattle.std.proofs.lemmas.List.Elements.{filter-append}
 use Rattle.std.proofs.lemmas.Bool.{lt-ltb, le-ltb}
 use Rattle.std.proofs.lemmas.Option.{same_Some}
-use Rattle.sarif_match.specs.Named.{IsBelow}
+use Rattle.sarif_match.specs.Internal.Named.{IsBelow}
 use Rattle.sarif_match.specs.Pairing.{places, pairs_from, with_pair}
 use Rattle.sarif_match.proofs.ListLemmas.{slice_get-middle}
 

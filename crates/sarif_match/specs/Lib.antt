@@ -1,12 +1,7 @@
-pub mod Fits
+pub mod Internal
 pub mod Key
 pub mod KeyParts
-pub mod Named
-pub mod Paired
 pub mod Pairing
 pub mod Partners
-pub mod Progress
-pub mod Queues
-pub mod Side
 pub mod State
 pub mod Tiers

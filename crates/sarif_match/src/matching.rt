@@ -1,8 +1,8 @@
 //! All tiers: which baseline result each current result is paired with.
 ghost use Rattle.std.specs.Prelude.{◌≡◌, ◌≤◌, List, Option, ℕ, None, false, length, slice_index_or, IfOk, OnOk};
 ghost use Rattle.sarif_match.specs.Partners.{is_taken, after_tier, partners_of};
-ghost use Rattle.sarif_match.specs.Progress.{IsSound};
-ghost use Rattle.sarif_match.specs.Side.{IsIndexed};
+ghost use Rattle.sarif_match.specs.Internal.Progress.{IsSound};
+ghost use Rattle.sarif_match.specs.Internal.Side.{IsIndexed};
 ghost use Rattle.sarif_model.specs.Limits.{most_results};
 
 use crate::pairing::pair_up;

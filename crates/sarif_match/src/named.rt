@@ -1,7 +1,7 @@
 //! An index of results by the names of their fingerprints.
 ghost use Rattle.std.specs.Prelude.{◌≡◌, ◌<◌, ◌^◌, ℕ, List, [], ◌++◌, IfOk, OnOk, if◌then◌else◌, length, bytes_eq};
 ghost use Rattle.sarif_match.specs.Key.{key_of};
-ghost use Rattle.sarif_match.specs.Named.{with_parts, group_at, put_once, IsBelow};
+ghost use Rattle.sarif_match.specs.Internal.Named.{with_parts, group_at, put_once, IsBelow};
 ghost use Rattle.sarif_match.specs.Partners.{keyed_from, with_key};
 ghost use Rattle.sarif_match.specs.declared.tier.Tier.TheVariants.{Fingerprint};
 

@@ -1,7 +1,7 @@
 //! One tier: left-over results of both sides with equal keys are paired in their order.
 ghost use Rattle.std.specs.Prelude.{◌≡◌, [], IfOk};
 ghost use Rattle.sarif_match.specs.Pairing.{pairs_from};
-ghost use Rattle.sarif_match.specs.Queues.{same_key};
+ghost use Rattle.sarif_match.specs.Internal.Queues.{same_key};
 
 use crate::queues::{queues_of, take_first};
 use crate::tier_key::Key;

@@ -1,7 +1,7 @@
 //! An unfinished matching: the partners so far, and marks for the matched results.
 ghost use Rattle.std.specs.Prelude.{◌≡◌, ◌<◌, Some, None, false, length, replicate, slice_set, IfOk};
 ghost use Rattle.sarif_match.specs.Partners.{has_partner, put_all};
-ghost use Rattle.sarif_match.specs.Fits.{Fits};
+ghost use Rattle.sarif_match.specs.Internal.Fits.{Fits};
 
 use std::alloc::{AllocError, Global};
 
@@ -17,7 +17,7 @@ pub(crate) struct Progress {
 }
 
 impl Progress {
-    ghost use Rattle.sarif_match.specs.Progress.{IsSound};
+    ghost use Rattle.sarif_match.specs.Internal.Progress.{IsSound};
 
     /// No result has a match.
     pub(crate) fn new(

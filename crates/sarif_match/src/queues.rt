@@ -1,7 +1,7 @@
 //! The baseline results of a tier as queues by key.
 ghost use Rattle.std.specs.Prelude.{◌≡◌, [], ◌∷◌, ◌++◌, IfOk, OnOk, drop, slice_get, if◌then◌else◌};
 ghost use Rattle.sarif_match.specs.Pairing.{places};
-ghost use Rattle.sarif_match.specs.Queues.{same_key, queue_at};
+ghost use Rattle.sarif_match.specs.Internal.Queues.{same_key, queue_at};
 ghost use Rattle.sarif_match.specs.declared.tier_key.Key.{Key};
 
 use crate::tier_key::Key;

@@ -1,7 +1,7 @@
 //! One side of a matching, and what a tier finds left over there.
 ghost use Rattle.std.specs.Prelude.{◌≡◌, ◌<◌, ◌^◌, ◌++◌, [], false, IfOk, OnOk, length, slice_index_or};
 ghost use Rattle.sarif_match.specs.Key.{key_of};
-ghost use Rattle.sarif_match.specs.Named.{with_parts, group_at, unmarked};
+ghost use Rattle.sarif_match.specs.Internal.Named.{with_parts, group_at, unmarked};
 ghost use Rattle.sarif_match.specs.Partners.{keyed_from, with_key};
 
 use crate::keys::key_at;
@@ -21,7 +21,7 @@ pub(crate) struct Side<'a, S: BuildHasher + Copy> {
 }
 
 impl<'a, S: BuildHasher + Copy> Side<'a, S> {
-    ghost use Rattle.sarif_match.specs.Side.{IsIndexed};
+    ghost use Rattle.sarif_match.specs.Internal.Side.{IsIndexed};
 
     /// Indexes the results.
     pub(crate) fn new(

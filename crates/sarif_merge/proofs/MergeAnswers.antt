@@ -9,7 +9,7 @@ use Rattle.std.specs.declared.alloc.Global.{Global}
 use Rattle.std.specs.declared.vec.Vec.{Vec}
 use Rattle.json.specs.Token.{Token}
 use Rattle.json_parts.specs.declared.indexing.IndexFault.{IndexFault}
-use Rattle.sarif_inputs.specs.Together.{AreIndexed}
+use Rattle.sarif_inputs.specs.Internal.Together.{AreIndexed}
 use Rattle.json_parts.specs.Mark.{without_mark}
 use Rattle.sarif_model.specs.Run.{results_total}
 use Rattle.sarif_entries.specs.File.{File}
@@ -23,20 +23,20 @@ use Rattle.sarif_counts.specs.CountOf.{count_of}
 use Rattle.sarif_counts.specs.Gate.{gate_of}
 use Rattle.sarif_results.specs.Drafts.{IsRun}
 use Rattle.sarif_runs.specs.Judging.{faults_of_runs, records_of, run_faults, skips, run_values}
-use Rattle.sarif_results.specs.Outcomes.{all_outcomes}
+use Rattle.sarif_results.specs.Internal.Outcomes.{all_outcomes}
 use Rattle.sarif_runs.specs.Placed.{Placed}
 use Rattle.sarif_results.specs.declared.judged.Judged.{Judged}
 use Rattle.sarif_log.specs.declared.merged.Merged.{Merged}
 use Rattle.sarif_log.specs.declared.prepared.Prepared.{Prepared}
 use Rattle.sarif_log.specs.Assembled.{IsMergedBy}
-use Rattle.sarif_log.specs.Prepared.{IsPrepared}
-use Rattle.sarif_results.specs.Judged.{placed_in, IsJudged}
+use Rattle.sarif_log.specs.Internal.Prepared.{IsPrepared}
+use Rattle.sarif_results.specs.Internal.Judged.{placed_in, IsJudged}
 use Rattle.sarif_log.specs.LogBy.{leftover_runs, runs_by, runs_without_results}
 use Rattle.sarif_model.specs.FirstFault.{IsOutOfResources, first}
 use Rattle.sarif_inputs.specs.Faults.{faults_of, file_faults, file_or_none, number_faults}
-use Rattle.sarif_inputs.specs.Indexes.{AreIndexesOf}
+use Rattle.sarif_inputs.specs.Internal.Indexes.{AreIndexesOf}
 use Rattle.sarif_inputs.specs.Inputs.{Inputs, numbered, placed}
-use Rattle.sarif_inputs.specs.ReadSoFar.{sources_of}
+use Rattle.sarif_inputs.specs.Internal.ReadSoFar.{sources_of}
 use Rattle.sarif_inputs.specs.SourceFaults.{source_faults}
 use Rattle.sarif_inputs.proofs.ReadFacts.{log_sides, baseline_sides, nothing_before}
 use Rattle.sarif_model.proofs.SourceAnswers.{still_first}
@@ -47,7 +47,7 @@ use Rattle.sarif_prepare.specs.Kept.{merge_of, IsKept}
 use Rattle.sarif_merge.specs.Given.{given}
 use Rattle.sarif_merge.specs.Merged.{IsMerged}
 use Rattle.sarif_merge.specs.MergedLog.{file_in}
-use Rattle.sarif_merge.specs.Prepared.{IsPreparedFor}
+use Rattle.sarif_merge.specs.Internal.Prepared.{IsPreparedFor}
 use Rattle.sarif_merge.proofs.ReadObjects.{objects_in}
 use Rattle.sarif_model.specs.Limits.{most_results, most_runs, most_sources}
 

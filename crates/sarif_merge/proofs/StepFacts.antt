@@ -4,7 +4,7 @@ use Rattle.std.proofs.lemmas.List.{length-map}
 use Rattle.std.specs.Prelude.{option_map}
 use Rattle.json.specs.Token.{Token}
 use Rattle.json_parts.specs.Mark.{without_mark}
-use Rattle.sarif_inputs.specs.Together.{AreIndexed}
+use Rattle.sarif_inputs.specs.Internal.Together.{AreIndexed}
 use Rattle.json_parts.specs.declared.indexing.IndexFault.{IndexFault}
 use Rattle.sarif_model.specs.FirstFault.{first, IsOutOfResources}
 use Rattle.sarif_model.specs.Limits.{most_results, most_runs, most_sources}
@@ -14,35 +14,35 @@ use Rattle.sarif_model.specs.declared.merge_fault.MergeFault.{MergeFault}
 use Rattle.sarif_model.proofs.SourceAnswers.{still_first}
 use Rattle.sarif_entries.specs.File.{File}
 use Rattle.sarif_runs.specs.Judging.{faults_of_runs, run_values}
-use Rattle.sarif_runs.specs.Opened.{placed_of}
+use Rattle.sarif_runs.specs.Internal.Opened.{placed_of}
 use Rattle.sarif_runs.specs.Placed.{Placed}
 use Rattle.sarif_runs.specs.declared.opened.OpenedRun.{OpenedRun}
-use Rattle.sarif_results.specs.Judged.{IsJudged, placed_in}
-use Rattle.sarif_results.specs.Outcomes.{all_outcomes}
+use Rattle.sarif_results.specs.Internal.Judged.{IsJudged, placed_in}
+use Rattle.sarif_results.specs.Internal.Outcomes.{all_outcomes}
 use Rattle.sarif_results.specs.declared.judged.Judged.{Judged}
 use Rattle.sarif_inputs.specs.Faults.{faults_of, file_faults, file_or_none}
-use Rattle.sarif_inputs.specs.Indexes.{AreIndexesOf}
+use Rattle.sarif_inputs.specs.Internal.Indexes.{AreIndexesOf}
 use Rattle.sarif_inputs.specs.Inputs.{Inputs, all_runs, all_sources, baseline_runs, input_runs, numbered, placed}
-use Rattle.sarif_inputs.specs.Runs.{AreRunsOf}
+use Rattle.sarif_inputs.specs.Internal.Runs.{AreRunsOf}
 use Rattle.sarif_inputs.specs.SourceFaults.{source_faults}
 use Rattle.sarif_inputs.specs.declared.sources.Runs.{Runs}
 use Rattle.sarif_log.specs.Assembled.{IsMergedBy}
 use Rattle.sarif_prepare.specs.Kept.{merge_of, IsKept, IsUnkept}
 use Rattle.sarif_prepare.specs.Asked.{upkeep_in}
-use Rattle.sarif_log.specs.Prepared.{IsPrepared}
+use Rattle.sarif_log.specs.Internal.Prepared.{IsPrepared}
 use Rattle.sarif_prepare.specs.Asked.{reporting_in}
 use Rattle.sarif_log.specs.declared.merged.Merged.{Merged}
 use Rattle.sarif_log.specs.declared.prepared.Prepared.{Prepared}
 use Rattle.sarif_findings.specs.declared.reporting.Reporting.{Reporting}
-use Rattle.sarif_upkeep.specs.IsMatched.{IsFileOf}
+use Rattle.sarif_upkeep.specs.Internal.IsMatched.{IsFileOf}
 use Rattle.sarif_upkeep.specs.Life.{life_faults}
 use Rattle.sarif_counts.specs.declared.life.Life.{Life}
 use Rattle.sarif_merge.specs.Given.{inputs_of}
 use Rattle.sarif_merge.specs.Life.{IsLifeOf, IsRefusal, merge_in}
 use Rattle.sarif_merge.specs.Merged.{IsMerged}
 use Rattle.sarif_merge.specs.MergedLog.{file_given, file_in}
-use Rattle.sarif_merge.specs.Prepared.{IsPreparedFor}
-use Rattle.sarif_merge.specs.Steps.{AreBaselinesJudged, AreBaselinesOpened, AreIndexesIn, AreLogsJudged, AreLogsOpened, AreLogsSound, AreOpened, IsFileIn, IsMergeOf, IsReady, IsRead, IsRejection, inputs_in, policy_in}
+use Rattle.sarif_merge.specs.Internal.Prepared.{IsPreparedFor}
+use Rattle.sarif_merge.specs.Internal.Steps.{AreBaselinesJudged, AreBaselinesOpened, AreIndexesIn, AreLogsJudged, AreLogsOpened, AreLogsSound, AreOpened, IsFileIn, IsMergeOf, IsReady, IsRead, IsRejection, inputs_in, policy_in}
 use Rattle.sarif_merge.specs.declared.steps.Merging.{Merging}
 use Rattle.sarif_merge.proofs.MergeAnswers.{are_indexes, assembled_is, faults_apart, judged_baselines, judged_logs, left_after_first, number_is_no_fault, same_kept, same_large, same_runs}
 use Rattle.sarif_merge.proofs.Unkept.{file_was_read, unkept_quiet}

@@ -20,7 +20,7 @@ use Rattle.sarif_accept.specs.NewFile.{file_text}
 use Rattle.sarif_known.specs.KnownLog.{known_text}
 use Rattle.sarif_entries.specs.File.{check_count, check_list, check_version, entries_from, file_of, file_of_value, value_or, File}
 use Rattle.sarif_read.proofs.WholeRuns.{bind_ok}
-use Rattle.sarif_upkeep.specs.IsMatched.{IsFileOf}
+use Rattle.sarif_upkeep.specs.Internal.IsMatched.{IsFileOf}
 use Rattle.sarif_upkeep.specs.Known.{known_faults, runs_known}
 use Rattle.sarif_upkeep.specs.Life.{if_known, if_renewed, life_faults}
 use Rattle.sarif_upkeep.specs.Merge.{Merge}

@@ -1,8 +1,7 @@
 pub mod FromReaders
 pub mod Given
+pub mod Internal
 pub mod Life
 pub mod Merged
 pub mod MergedLog
 pub mod OwnResult
-pub mod Prepared
-pub mod Steps

@@ -5,7 +5,7 @@ ghost use Rattle.sarif_runs.specs.Placed.{Placed};
 ghost use Rattle.sarif_findings.specs.declared.reporting.Reporting.{Reporting};
 ghost use Rattle.sarif_log.specs.Beside.{IsMadeBy};
 ghost use Rattle.sarif_log.specs.Assembled.{IsMergedBy};
-ghost use Rattle.sarif_log.specs.Prepared.{IsPrepared};
+ghost use Rattle.sarif_log.specs.Internal.Prepared.{IsPrepared};
 
 use json::Scratch;
 use sarif_counts::Options;

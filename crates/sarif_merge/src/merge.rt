@@ -11,7 +11,7 @@ ghost use Rattle.sarif_prepare.specs.Asked.{upkeep_in};
 ghost use Rattle.sarif_merge.specs.Life.{IsLifeOf, IsRefusal, no_life};
 ghost use Rattle.sarif_merge.specs.Merged.{HoldsFirst, IsMerged};
 ghost use Rattle.sarif_merge.specs.MergedLog.{output_text, runs_written, without_of, unused_in, written_inputs};
-ghost use Rattle.sarif_merge.specs.Steps.{IsReady, IsRejection};
+ghost use Rattle.sarif_merge.specs.Internal.Steps.{IsReady, IsRejection};
 ghost use Rattle.sarif_model.specs.Limits.{most_sources};
 
 use crate::steps::Merging;

@@ -49,7 +49,7 @@ pub(crate) struct Merging<'m, 'o: 'm> {
 impl<'m, 'o: 'm> Merging<'m, 'o> {
     ghost use Rattle.std.specs.Prelude.{◌≡◌, ◌≤◌, ◌+◌, Ok, length, IfOk, IfErr, OnOk};
     ghost use Rattle.sarif_log.specs.Beside.{IsMadeBy};
-    ghost use Rattle.sarif_merge.specs.Steps.{AreBaselinesJudged, AreBaselinesOpened, AreIndexesIn, AreLogsJudged, AreLogsOpened, AreLogsSound, IsFileIn, IsMergeOf, IsReady, IsRead, IsRejection};
+    ghost use Rattle.sarif_merge.specs.Internal.Steps.{AreBaselinesJudged, AreBaselinesOpened, AreIndexesIn, AreLogsJudged, AreLogsOpened, AreLogsSound, IsFileIn, IsMergeOf, IsReady, IsRead, IsRejection};
     ghost use Rattle.sarif_model.specs.Limits.{most_sources};
 
     /// A scratch for each source, in which it is indexed.

@@ -1,6 +1,6 @@
 //! The two kinds of sources that are logs.
 ghost use Rattle.std.specs.Prelude.{◌≡◌};
-ghost use Rattle.sarif_model.specs.SourceKind.{source_of};
+ghost use Rattle.sarif_model.specs.Internal.SourceKind.{source_of};
 
 use crate::merge_fault::Source;
 

@@ -8,7 +8,7 @@ ghost use Rattle.std.specs.Cmp.{partial_equiv_from_equiv};
 ghost use Rattle.std.specs.Cmp.Lexicographic.{slice_cmp, nat_list_eq_equiv, nat_list_cmp_total};
 ghost use Rattle.std.specs.Cmp.Lexicographic.{texts_ties, texts_po};
 ghost use Rattle.std.specs.Cmp.Rules.{hashing};
-ghost use Rattle.sarif_model.specs.Hashed.{digest_of, fed_of};
+ghost use Rattle.sarif_model.specs.Internal.Hashed.{digest_of, fed_of};
 
 use sha2::{Digest, Sha256};
 use std::alloc::{AllocError, Global};
@@ -40,7 +40,7 @@ impl Model for Text {
 }
 
 /// The first 64 bits of the SHA-256 digest of a string.
-#[tactic(auto, unfolding(crate::specs::Hashed::digest_of))]
+#[tactic(auto, unfolding(crate::specs::Internal::Hashed::digest_of))]
 fn digest(text: &str) -> u64
     ensures { result ≡ digest_of text.now }
 {
@@ -185,7 +185,7 @@ impl Hash for Text {
 
     ghost respects_eq = { Prim.search (hashing, rules) };
 
-    #[tactic(auto, unfolding(crate::specs::Hashed::fed_of))]
+    #[tactic(auto, unfolding(crate::specs::Internal::Hashed::fed_of))]
     fn hash<H: Hasher>(&self, state: &mut H) {
         if self.as_str().len() <= LONGEST_HASHED {
             self.as_str().hash(state);

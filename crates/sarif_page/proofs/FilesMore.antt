@@ -14,7 +14,7 @@ use Rattle.std.proofs.lemmas.List.Folds.{list_any-append}
 use Rattle.std.proofs.lemmas.Map.Views.{any-filter_same}
 use Rattle.std.proofs.lemmas.Slice.Eq.{bytes_eq-Decides}
 use Rattle.sarif_findings.specs.declared.finding.Finding.{Finding}
-use Rattle.sarif_page.specs.ByFile.{has_file, group_of, group_in, findings_in, all_rows, IsGrouped}
+use Rattle.sarif_page.specs.Internal.ByFile.{has_file, group_of, group_in, findings_in, all_rows, IsGrouped}
 use Rattle.sarif_page.specs.declared.by_file.Grouped.{Grouped}
 use Rattle.sarif_page.specs.HtmlRows.{file_of, is_in, files_of, by_file}
 

@@ -6,7 +6,7 @@ use Rattle.std.proofs.lemmas.List.{take_all, length-append, length-take}
 use Rattle.std.proofs.lemmas.List.Folds.{list_any-append}
 use Rattle.std.proofs.lemmas.List.Sums.{sum_by-append, sum_by-cons}
 use Rattle.sarif_findings.specs.declared.finding.Finding.{Finding}
-use Rattle.sarif_page.specs.ByFile.{has_file}
+use Rattle.sarif_page.specs.Internal.ByFile.{has_file}
 use Rattle.sarif_page.specs.HtmlLaws.{goes_on, are_together}
 use Rattle.sarif_page.specs.HtmlRows.{file_of, is_in, files_of, by_file, most_rows, hit_rows, other_rows, page_rows}
 use Rattle.sarif_shown.specs.Listed.{hits_among, others_among}

@@ -3,7 +3,7 @@ ghost use Rattle.std.specs.Prelude.{◌≡◌, ◌≤◌, ◌++◌, ◌∷◌, �
 ghost use Rattle.std.specs.Prelude.{map, take, length, vec_len, if◌then◌else◌};
 ghost use Rattle.std.specs.Option.{option_map, is_some};
 ghost use Rattle.sarif_findings.specs.declared.finding.Finding.{Finding as Told};
-ghost use Rattle.sarif_page.specs.ByFile as said;
+ghost use Rattle.sarif_page.specs.Internal.ByFile as said;
 ghost use Rattle.sarif_page.specs.HtmlRows.{by_file, file_of};
 
 use indexmap::IndexMap;

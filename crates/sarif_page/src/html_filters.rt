@@ -5,7 +5,7 @@ ghost use Rattle.sarif_model.specs.Level.{level_name};
 ghost use Rattle.sarif_model.specs.State.{state_name};
 ghost use Rattle.sarif_counts.specs.Counts.{same_state as state_is};
 ghost use Rattle.sarif_counts.specs.Tally.{same_level as level_is};
-ghost use Rattle.sarif_page.specs.ByFile.{findings_in, tables_in};
+ghost use Rattle.sarif_page.specs.Internal.ByFile.{findings_in, tables_in};
 ghost use Rattle.sarif_page.specs.HtmlReport as said;
 
 use crate::html_fixed::{filters_begin, filters_end};

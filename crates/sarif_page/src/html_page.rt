@@ -1,6 +1,6 @@
 //! The page of a merge.
 ghost use Rattle.std.specs.Prelude.{◌≡◌, ◌<◌, ◌+◌, ◌^◌, ◌++◌, IfOk, OnOk, string_bytes};
-ghost use Rattle.sarif_page.specs.ByFile.{tables_in};
+ghost use Rattle.sarif_page.specs.Internal.ByFile.{tables_in};
 ghost use Rattle.sarif_shown.specs.Facts.{facts_of};
 ghost use Rattle.sarif_page.specs.HtmlReport as said;
 

@@ -1,7 +1,7 @@
 //! The rows of a page, and their tables.
 ghost use Rattle.std.specs.Prelude.{◌≡◌, ◌++◌, IfOk, OnOk, option_map, None, string_bytes};
 ghost use Rattle.sarif_findings.specs.Finding.{numbered};
-ghost use Rattle.sarif_page.specs.ByFile.{findings_in};
+ghost use Rattle.sarif_page.specs.Internal.ByFile.{findings_in};
 ghost use Rattle.sarif_page.specs.HtmlReport as said;
 
 use crate::html_fixed::{section_end, section_heads, section_middle};

@@ -1,6 +1,6 @@
 //! Which results have a row on a page.
 ghost use Rattle.std.specs.Prelude.{◌≡◌, ◌<◌, ◌+◌, ◌^◌, IfOk};
-ghost use Rattle.sarif_page.specs.ByFile.{findings_in, tables_in};
+ghost use Rattle.sarif_page.specs.Internal.ByFile.{findings_in, tables_in};
 ghost use Rattle.sarif_page.specs.HtmlRows.{tables_of};
 ghost use Rattle.sarif_shown.specs.Listed.{hits_among as hits_in, others_among as others_in};
 

@@ -15,13 +15,13 @@ use Rattle.sarif_runs.specs.declared.item.Item.{Item}
 use Rattle.sarif_runs.specs.declared.item.Item.TheVariants.{Sound, Bad, Skipped}
 use Rattle.sarif_runs.specs.declared.spots.Spot.{Spot}
 use Rattle.sarif_runs.specs.Judging.{skips, item_by, item_of, items_of, opening_fault, first_bad, run_faults, faults_of_runs, run_values}
-use Rattle.sarif_log.specs.Leftover.{found_at}
+use Rattle.sarif_log.specs.Internal.Leftover.{found_at}
 use Rattle.sarif_runs.specs.Placed.{Placed}
-use Rattle.sarif_runs.specs.Spots.{no_run, placed_at, spots_in, spots_from}
-use Rattle.sarif_log.specs.Texts.{present_results}
+use Rattle.sarif_runs.specs.Internal.Spots.{no_run, placed_at, spots_in, spots_from}
+use Rattle.sarif_log.specs.Internal.Texts.{present_results}
 use Rattle.sarif_model.specs.Run.{present}
-use Rattle.sarif_prepare.specs.Telling.{pair_at, present_in, with_run}
-use Rattle.sarif_prepare.specs.Baselines.{with_spot, spots_with_record}
+use Rattle.sarif_prepare.specs.Internal.Telling.{pair_at, present_in, with_run}
+use Rattle.sarif_prepare.specs.Internal.Baselines.{with_spot, spots_with_record}
 use Rattle.sarif_results.proofs.JudgedCounts.{no_fault, no_faults_here, no_faults_left}
 
 -- ---- what is true for all spots is true for these

@@ -15,11 +15,11 @@ use Rattle.sarif_runs.specs.declared.item.Item.{Item}
 use Rattle.sarif_runs.specs.declared.item.Item.TheVariants.{Skipped}
 use Rattle.sarif_results.specs.declared.outcome.Outcome.{Outcome}
 use Rattle.sarif_runs.specs.Judging.{skips, with_record, item_by, item_of, items_of, opening_fault, first_bad, run_faults, faults_of_runs, records_in, records_of, run_values}
-use Rattle.sarif_results.specs.Outcomes.{all_outcomes, draft_beside, outcome_of, outcomes_of}
+use Rattle.sarif_results.specs.Internal.Outcomes.{all_outcomes, draft_beside, outcome_of, outcomes_of}
 use Rattle.sarif_runs.specs.Placed.{Placed}
 use Rattle.sarif_results.specs.declared.draft.Draft.{Draft}
 use Rattle.sarif_results.specs.Drafts.{applied_of, draft_by, drafts_by, members_in, Listing}
-use Rattle.sarif_prepare.specs.Halves.{drafts_in, with_draft}
+use Rattle.sarif_prepare.specs.Internal.Halves.{drafts_in, with_draft}
 use Rattle.sarif_log.specs.LogBy.{listing_of}
 use Rattle.sarif_results.proofs.JudgedCounts.{no_fault, no_faults_here, no_faults_left, records_of_log, records_of_baseline}
 

@@ -9,22 +9,22 @@ use Rattle.sarif_model.specs.declared.kinds.State.{State}
 use Rattle.sarif_model.specs.declared.kinds.State.TheVariants.{New}
 use Rattle.sarif_counts.specs.declared.policy.Policy.{Policy}
 use Rattle.sarif_entries.specs.File.{File}
-use Rattle.sarif_runs.specs.Opened.{placed_of}
+use Rattle.sarif_runs.specs.Internal.Opened.{placed_of}
 use Rattle.sarif_runs.specs.Judging.{records_of, run_values}
 use Rattle.sarif_runs.specs.Placed.{Placed}
 use Rattle.sarif_results.specs.declared.draft.Draft.{Draft}
 use Rattle.sarif_results.specs.Drafts.{applied_of, drafts_by, Listing}
-use Rattle.sarif_upkeep.specs.IsMatched.{IsFileOf, IsMatched}
+use Rattle.sarif_upkeep.specs.Internal.IsMatched.{IsFileOf, IsMatched}
 use Rattle.sarif_upkeep.specs.Merge.{present_counts, present_total}
 use Rattle.sarif_upkeep.specs.declared.matched.Matched.{Matched}
 use Rattle.sarif_prepare.specs.declared.baselines.Baselines.{Baselines}
 use Rattle.sarif_prepare.specs.declared.halves.Half.{Half}
 use Rattle.sarif_prepare.specs.declared.preparing.Paired.{Paired}
-use Rattle.sarif_log.specs.LeftParts.{present_counts as placed_counts}
+use Rattle.sarif_log.specs.Internal.LeftParts.{present_counts as placed_counts}
 use Rattle.sarif_prepare.specs.Kept.{merge_of}
 use Rattle.sarif_log.specs.LogBy.{listing_of, states_of, taken_of}
-use Rattle.sarif_log.specs.Texts.{present_results}
-use Rattle.sarif_prepare.specs.Together.{AreTogether, IsPaired}
+use Rattle.sarif_log.specs.Internal.Texts.{present_results}
+use Rattle.sarif_prepare.specs.Internal.Together.{AreTogether, IsPaired}
 use Rattle.sarif_log.proofs.Sides.{results_long, states_long, taken_long}
 
 -- the drafts of results know what the file makes of each

@@ -6,12 +6,12 @@ use Rattle.sarif_model.specs.declared.kinds.State.{State}
 use Rattle.sarif_model.specs.Run.{result_at}
 use Rattle.sarif_runs.specs.declared.spots.Spot.{Spot}
 use Rattle.sarif_runs.specs.Placed.{Placed}
-use Rattle.sarif_runs.specs.Spots.{no_run, placed_at}
+use Rattle.sarif_runs.specs.Internal.Spots.{no_run, placed_at}
 use Rattle.sarif_findings.specs.declared.finding.Finding.{Finding}
 use Rattle.sarif_findings.specs.declared.reporting.Reporting.{Reporting}
 use Rattle.sarif_results.specs.declared.draft.Draft.{Draft}
 use Rattle.sarif_prepare.specs.declared.told.ToldRun.{ToldRun}
-use Rattle.sarif_prepare.specs.Telling.{pair_at, placed_told, told_as, told_each}
+use Rattle.sarif_prepare.specs.Internal.Telling.{pair_at, placed_told, told_as, told_each}
 
 told_first : (o : Option Finding) (rest : List Finding) → cons_option o rest ≡ cons_option o [] ++ rest
 told_first None rest = refl

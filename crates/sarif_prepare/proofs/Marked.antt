@@ -3,11 +3,11 @@ use Rattle.std.proofs.Common.{◌≡◌, List, [], ◌∷◌, ◌++◌, length, 
 use Rattle.serde_json.specs.Data.{Data}
 use Rattle.sarif_model.specs.declared.record.Record.{Record}
 use Rattle.sarif_entries.specs.File.{File}
-use Rattle.sarif_suppress.specs.Marks.{marks_of, with_marks}
+use Rattle.sarif_suppress.specs.Internal.Marks.{marks_of, with_marks}
 use Rattle.sarif_suppress.specs.Suppressing.{matching_numbers}
 use Rattle.sarif_suppress.proofs.Marked.{one_more}
 use Rattle.sarif_results.specs.Drafts.{applied_of, drafts_by}
-use Rattle.sarif_prepare.specs.Marked.{marked}
+use Rattle.sarif_prepare.specs.Internal.Marked.{marked}
 use Rattle.sarif_log.specs.LogBy.{listing_of}
 
 -- drafts of these results add the marks of these results

@@ -7,9 +7,9 @@ use Rattle.serde_json.specs.Find.{get, as_str, as_array, as_number, as_u64}
 use Rattle.sarif_model.specs.declared.kinds.Level.{Level}
 use Rattle.sarif_model.specs.declared.kinds.State.{State}
 use Rattle.sarif_model.specs.declared.first_location.FirstLocation.{FirstLocation}
-use Rattle.sarif_model.specs.FirstLocation.{IsFirstLocation}
+use Rattle.sarif_model.specs.Internal.FirstLocation.{IsFirstLocation}
 use Rattle.sarif_model.specs.Members.{first_of}
-use Rattle.sarif_read.specs.Picked.{picked}
+use Rattle.sarif_read.specs.Internal.Picked.{picked}
 use Rattle.sarif_model.specs.Run.{elements_or_none}
 use Rattle.sarif_read.proofs.PickedMembers.{picked_get}
 use Rattle.sarif_findings.specs.declared.reporting.Reporting.{Reporting}

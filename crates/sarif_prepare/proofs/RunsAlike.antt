@@ -6,7 +6,7 @@ use Rattle.serde_json.specs.Data.{Data}
 use Rattle.serde_json.specs.Find.{get, as_str, as_array}
 use Rattle.sarif_model.specs.declared.kinds.Level.{Level}
 use Rattle.sarif_model.specs.declared.kinds.State.{State}
-use Rattle.sarif_read.specs.Bare.{bare}
+use Rattle.sarif_read.specs.Internal.Bare.{bare}
 use Rattle.sarif_model.specs.Run.{elements_or_none}
 use Rattle.sarif_read.proofs.Beside.{bare_get}
 use Rattle.sarif_findings.specs.declared.reporting.Reporting.{Reporting}

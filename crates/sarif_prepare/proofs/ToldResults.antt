@@ -21,11 +21,11 @@ use Rattle.sarif_prepare.proofs.ResultsAlike.{same_told, AreToldAlike}
 use Rattle.sarif_prepare.proofs.RunsAlike.{AreAlike}
 use Rattle.sarif_results.specs.Annotated.{annotated_members}
 use Rattle.sarif_results.specs.Drafts.{draft_by, drafts_by, listed_in, members_in, unapplied, IsObject}
-use Rattle.sarif_log.specs.Texts.{unless_taken}
+use Rattle.sarif_log.specs.Internal.Texts.{unless_taken}
 use Rattle.sarif_results.specs.Drafts.{Listing}
 use Rattle.sarif_log.specs.MergedRuns.{unmatched, written, written_all}
 use Rattle.sarif_results.proofs.AnnotatedResult.{level_found, list_found, state_found}
-use Rattle.sarif_prepare.specs.Telling.{told_as, told_each, with_run}
+use Rattle.sarif_prepare.specs.Internal.Telling.{told_as, told_each, with_run}
 
 -- ---- one result
 

@@ -20,23 +20,23 @@ use Rattle.sarif_read.proofs.RunOf.{elements_items_of}
 use Rattle.sarif_suppress.specs.declared.suppressions.Applied.{Applied}
 use Rattle.sarif_runs.specs.declared.spots.Spot.{Spot}
 use Rattle.sarif_runs.specs.Judging.{run_values}
-use Rattle.sarif_log.specs.Leftover.{not_taken}
+use Rattle.sarif_log.specs.Internal.Leftover.{not_taken}
 use Rattle.sarif_runs.specs.Placed.{Placed}
-use Rattle.sarif_runs.specs.Spots.{no_run, placed_at, spots_from, spots_in}
+use Rattle.sarif_runs.specs.Internal.Spots.{no_run, placed_at, spots_from, spots_in}
 use Rattle.sarif_findings.specs.declared.finding.Finding.{Finding}
 use Rattle.sarif_findings.specs.declared.reporting.Reporting.{Reporting}
 use Rattle.sarif_findings.specs.Reported.{finding_if, reported_in}
 use Rattle.sarif_prepare.proofs.RunsAlike.{AreAlike}
 use Rattle.sarif_results.specs.declared.draft.Draft.{Draft}
 use Rattle.sarif_results.specs.Drafts.{drafts_by, unapplied, IsObject, IsRun}
-use Rattle.sarif_log.specs.Texts.{present_results, unless_taken}
+use Rattle.sarif_log.specs.Internal.Texts.{present_results, unless_taken}
 use Rattle.sarif_results.specs.Drafts.{Listing}
 use Rattle.sarif_log.specs.MergedRuns.{absent_runs, annotated_items, bare, if_any, merged_run, merged_runs, unmatched, with_absent, with_results, written_all}
 use Rattle.sarif_model.specs.Run.{present}
 use Rattle.sarif_log.specs.MergedRuns as runs
 use Rattle.sarif_log.proofs.RunResults.{still_out, taken_out}
 use Rattle.sarif_log.proofs.RunTexts.{drafts_front, drafts_back, present_objects}
-use Rattle.sarif_prepare.specs.Telling.{own_results, pair_at, present_in, told_as, told_each, with_run}
+use Rattle.sarif_prepare.specs.Internal.Telling.{own_results, pair_at, present_in, told_as, told_each, with_run}
 use Rattle.sarif_prepare.proofs.ToldResults.{told_unmatched, told_written}
 
 -- ---- a run as it is written

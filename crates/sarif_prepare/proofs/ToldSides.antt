@@ -9,21 +9,21 @@ use Rattle.sarif_model.specs.Run.{results_of}
 use Rattle.sarif_match.specs.Partners.{partners_of}
 use Rattle.sarif_entries.specs.File.{File}
 use Rattle.sarif_runs.specs.Judging.{records_of, run_values}
-use Rattle.sarif_log.specs.Leftover.{not_taken}
+use Rattle.sarif_log.specs.Internal.Leftover.{not_taken}
 use Rattle.sarif_runs.specs.Placed.{Placed}
-use Rattle.sarif_runs.specs.Spots.{spots_from}
+use Rattle.sarif_runs.specs.Internal.Spots.{spots_from}
 use Rattle.sarif_findings.specs.declared.reporting.Reporting.{Reporting}
 use Rattle.sarif_findings.specs.Reported.{reported_in}
 use Rattle.sarif_results.specs.Drafts.{applied_of, drafts_by}
-use Rattle.sarif_log.specs.Texts.{present_results}
+use Rattle.sarif_log.specs.Internal.Texts.{present_results}
 use Rattle.sarif_model.specs.Run.{present}
 use Rattle.sarif_prepare.specs.declared.baselines.Baselines.{Baselines}
 use Rattle.sarif_prepare.specs.declared.halves.Half.{Half}
 use Rattle.sarif_prepare.specs.declared.preparing.Paired.{Paired}
-use Rattle.sarif_prepare.specs.Baselines.{baseline_drafts}
+use Rattle.sarif_prepare.specs.Internal.Baselines.{baseline_drafts}
 use Rattle.sarif_log.specs.LogBy.{current_runs, leftover_runs, listing_of, runs_by, states_of, taken_of}
-use Rattle.sarif_prepare.specs.Telling.{own_results, pair_at, present_in, told_each}
-use Rattle.sarif_prepare.specs.Together.{AreTogether, IsPaired}
+use Rattle.sarif_prepare.specs.Internal.Telling.{own_results, pair_at, present_in, told_each}
+use Rattle.sarif_prepare.specs.Internal.Together.{AreTogether, IsPaired}
 use Rattle.sarif_log.specs.Told.{if_asked, told_of}
 use Rattle.sarif_log.proofs.Sides.{states_long, taken_long}
 use Rattle.sarif_prepare.proofs.ToldRuns.{not_taken-map, pairs_of_all, runs_told, untaken_told}

@@ -12,23 +12,23 @@ use Rattle.sarif_entries.specs.File.{File}
 use Rattle.sarif_counts.specs.CountOf.{count_of}
 use Rattle.sarif_counts.proofs.CountAppend.{count_of-append}
 use Rattle.sarif_runs.specs.Judging.{records_of, run_values}
-use Rattle.sarif_log.specs.Leftover.{not_taken}
+use Rattle.sarif_log.specs.Internal.Leftover.{not_taken}
 use Rattle.sarif_runs.specs.Placed.{Placed}
 use Rattle.sarif_log.specs.declared.merged_text.Side.{Side}
 use Rattle.sarif_results.specs.Drafts.{applied_of, drafts_by, unapplied}
-use Rattle.sarif_log.specs.Texts.{left_texts, own_count, present_results, runs_texts, tallied, ArePartsOf, IsWholeRun}
-use Rattle.sarif_log.specs.Side.{IsSide}
+use Rattle.sarif_log.specs.Internal.Texts.{left_texts, own_count, present_results, runs_texts, tallied, ArePartsOf, IsWholeRun}
+use Rattle.sarif_log.specs.Internal.Side.{IsSide}
 use Rattle.sarif_log.proofs.RunCounts.{left_count, runs_count}
 use Rattle.sarif_log.proofs.RunTexts.{runs_written}
 use Rattle.sarif_prepare.specs.declared.baselines.Baselines.{Baselines}
 use Rattle.sarif_prepare.specs.declared.halves.Half.{Half}
 use Rattle.sarif_results.specs.declared.judged.Judged.{Judged}
-use Rattle.sarif_prepare.specs.Baselines.{baseline_drafts, AreBaselines, IsLeft}
-use Rattle.sarif_prepare.specs.Halves.{IsCurrent}
-use Rattle.sarif_results.specs.Judged.{placed_in, IsJudged}
+use Rattle.sarif_prepare.specs.Internal.Baselines.{baseline_drafts, AreBaselines, IsLeft}
+use Rattle.sarif_prepare.specs.Internal.Halves.{IsCurrent}
+use Rattle.sarif_results.specs.Internal.Judged.{placed_in, IsJudged}
 use Rattle.sarif_log.specs.LogBy.{current_runs, leftover_runs, listing_of, runs_by, states_of, taken_of}
-use Rattle.sarif_prepare.specs.Together.{AreTogether}
-use Rattle.sarif_log.specs.Written.{AreWritten}
+use Rattle.sarif_prepare.specs.Internal.Together.{AreTogether}
+use Rattle.sarif_log.specs.Internal.Written.{AreWritten}
 use Rattle.sarif_results.proofs.JudgedCounts.{records_of_logs}
 use Rattle.sarif_log.proofs.LeftTexts.{counts, left_total, left_written, long}
 use Rattle.sarif_log.proofs.Sides.{drafts_long, few_present, own_total, results_long, states_long, taken_long}

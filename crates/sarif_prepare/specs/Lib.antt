@@ -1,8 +1,3 @@
 pub mod Asked
-pub mod Baselines
-pub mod Halves
-pub mod Keeping
+pub mod Internal
 pub mod Kept
-pub mod Marked
-pub mod Telling
-pub mod Together

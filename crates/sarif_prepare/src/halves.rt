@@ -2,8 +2,8 @@
 ghost use Rattle.std.specs.Prelude.{◌≡◌, ◌++◌, ◌∷◌, [], false, IfOk, OnOk, map};
 ghost use Rattle.sarif_entries.specs.File.{File};
 ghost use Rattle.sarif_runs.specs.Judging.{records_in};
-ghost use Rattle.sarif_prepare.specs.Halves.{drafts_in, with_draft, IsCurrent};
-ghost use Rattle.sarif_results.specs.Judged.{placed_in, IsJudged};
+ghost use Rattle.sarif_prepare.specs.Internal.Halves.{drafts_in, with_draft, IsCurrent};
+ghost use Rattle.sarif_results.specs.Internal.Judged.{placed_in, IsJudged};
 
 use sarif_model::Record;
 use sarif_results::{Draft, Judged, Outcome};

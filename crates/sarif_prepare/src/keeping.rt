@@ -2,11 +2,11 @@
 ghost use Rattle.std.specs.Prelude.{◌≡◌, List, Some, map, unwrap_or, IfOk};
 ghost use Rattle.sarif_model.specs.declared.kinds.State.TheVariants.{New};
 ghost use Rattle.sarif_runs.specs.Placed.{Placed};
-ghost use Rattle.sarif_upkeep.specs.IsMatched.{IsFileOf};
-ghost use Rattle.sarif_prepare.specs.Keeping.{AreOfRuns, KeepsIfOk, RejectsIfErr};
+ghost use Rattle.sarif_upkeep.specs.Internal.IsMatched.{IsFileOf};
+ghost use Rattle.sarif_prepare.specs.Internal.Keeping.{AreOfRuns, KeepsIfOk, RejectsIfErr};
 ghost use Rattle.sarif_prepare.specs.Kept.{bytes_of};
 ghost use Rattle.sarif_prepare.specs.Asked.{upkeep_in};
-ghost use Rattle.sarif_prepare.specs.Together.{IsPaired};
+ghost use Rattle.sarif_prepare.specs.Internal.Together.{IsPaired};
 
 use crate::asked::Asked;
 use crate::baselines::Baselines;

@@ -6,7 +6,7 @@ ghost use Rattle.serde_json.specs.View.{view};
 ghost use Rattle.sarif_model.specs.Run.{results_of};
 ghost use Rattle.sarif_model.specs.declared.kinds.Level.{Level as AnyLevel};
 ghost use Rattle.sarif_model.specs.declared.kinds.State.{State as AnyState};
-ghost use Rattle.sarif_runs.specs.Opened.{placed_of};
+ghost use Rattle.sarif_runs.specs.Internal.Opened.{placed_of};
 ghost use Rattle.sarif_findings.specs.declared.reporting.Reporting.{Reporting as AnyReporting};
 ghost use Rattle.sarif_findings.specs.Reported.{finding_of};
 

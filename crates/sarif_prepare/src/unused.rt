@@ -5,7 +5,7 @@ ghost use Rattle.sarif_model.specs.declared.record.Record.{Record};
 ghost use Rattle.sarif_suppress.specs.Suppressing.{unused_of};
 ghost use Rattle.sarif_results.specs.Drafts.{applied_of, drafts_by};
 ghost use Rattle.sarif_log.specs.LogBy.{listing_of};
-ghost use Rattle.sarif_prepare.specs.Marked.{marked};
+ghost use Rattle.sarif_prepare.specs.Internal.Marked.{marked};
 
 use sarif_results::Draft;
 use sarif_suppress::{Marks, Suppressions};

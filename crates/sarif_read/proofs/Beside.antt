@@ -5,7 +5,7 @@ use Rattle.std.specs.List.{list_any}
 use Rattle.serde_json.specs.Data.{Data}
 use Rattle.serde_json.specs.Find.{get, as_str, as_array}
 use Rattle.json_parts.proofs.Stripped.{get-without_other}
-use Rattle.sarif_read.specs.Bare.{without_member, bare}
+use Rattle.sarif_read.specs.Internal.Bare.{without_member, bare}
 use Rattle.sarif_model.specs.Members.{unless_null, member_at}
 use Rattle.sarif_model.specs.Driver.{driver_name}
 use Rattle.sarif_model.specs.Run.{elements_or_none}

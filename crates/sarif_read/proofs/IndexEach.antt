@@ -6,11 +6,11 @@ use Rattle.sarif_model.specs.declared.fault.Fault.{Fault}
 use Rattle.sarif_model.specs.declared.refusal.Refusal.{Refusal}
 use Rattle.sarif_model.specs.declared.refusal.Refusal.TheVariants as refusal
 use Rattle.sarif_read.specs.declared.read_fault.ReadFault.{ReadFault}
-use Rattle.sarif_read.specs.ReadRefusal.{refusal_at}
+use Rattle.sarif_read.specs.Internal.ReadRefusal.{refusal_at}
 use Rattle.sarif_read.specs.declared.indexed_run.IndexedRun.{IndexedRun}
 use Rattle.sarif_model.specs.Run.{results_of, results_total}
-use Rattle.sarif_read.specs.Listed.{value_at}
-use Rattle.sarif_read.specs.Indexed.{run_of}
+use Rattle.sarif_read.specs.Internal.Listed.{value_at}
+use Rattle.sarif_read.specs.Internal.Indexed.{run_of}
 
 pub front : (nodes : List (List Token)) (i : ℕ) (node : List Token) → i < length nodes → node ≡ get_or nodes i node → drop i nodes ≡ node ∷ drop (i + 1) nodes
 front nodes i node below is = rw (add-one, drop-cons nodes i node, ← is) refl

@@ -7,13 +7,13 @@ use Rattle.serde_json.specs.Find.{get, as_array}
 use Rattle.json_parts.specs.Indexed.{data_of}
 use Rattle.json_parts.specs.Stripping.{stripped}
 use Rattle.json_parts.specs.Without.{without_member}
-use Rattle.json_parts.specs.Ordered.{IsOrdered}
+use Rattle.json_parts.specs.Internal.Ordered.{IsOrdered}
 use Rattle.json_parts.proofs.Stripped.{stripped-without, get-without_same}
 use Rattle.sarif_read.specs.declared.listed.Listed.{Listed}
 use Rattle.sarif_model.specs.Run.{results_of, elements_or_none}
-use Rattle.sarif_read.specs.Bare.{bare, is_bare}
-use Rattle.sarif_read.specs.Listed.{value_at, nodes_of, listed_member}
-use Rattle.sarif_read.specs.Indexed.{with_member}
+use Rattle.sarif_read.specs.Internal.Bare.{bare, is_bare}
+use Rattle.sarif_read.specs.Internal.Listed.{value_at, nodes_of, listed_member}
+use Rattle.sarif_read.specs.Internal.Indexed.{with_member}
 use Rattle.sarif_read.specs.Reading.{check_tool, check_external}
 use Rattle.sarif_read.proofs.Beside.{bare_check_tool, bare_check_external}
 use Rattle.sarif_read.proofs.RunOf.{listed_values, rebuilt, stripped_ordered}

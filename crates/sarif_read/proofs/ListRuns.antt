@@ -8,7 +8,7 @@ use Rattle.serde_json.specs.View.{items_of}
 use Rattle.sarif_model.specs.declared.fault.Fault.TheVariants.{NotLog}
 use Rattle.sarif_read.specs.Reading.{check_runs}
 use Rattle.sarif_model.specs.Run.{runs_of}
-use Rattle.sarif_read.specs.Listed.{value_at}
+use Rattle.sarif_read.specs.Internal.Listed.{value_at}
 use Rattle.sarif_read.proofs.RunOf.{elements_items_of}
 use Rattle.sarif_read.proofs.ListResults.{is_null_at, is_array_at}
 

@@ -6,12 +6,12 @@ use Rattle.serde_json.specs.Find.{get, as_null, as_str, as_number, as_u64, as_ar
 use Rattle.serde_json.specs.View.{items_of}
 use Rattle.std.specs.Prelude.{option_and_then}
 use Rattle.json_parts.specs.Indexed.{data_of, first_element}
-use Rattle.json_parts.specs.Ordered.{IsOrdered, AreItemsOrdered}
+use Rattle.json_parts.specs.Internal.Ordered.{IsOrdered, AreItemsOrdered}
 use Rattle.json_parts.specs.Stripping.{is_fractional, stripped, stripped_items}
 use Rattle.json_parts.proofs.Stripped.{get-stripped, get-IsOrdered}
 use Rattle.sarif_model.specs.Members.{first_of, elements}
 use Rattle.sarif_model.specs.Run.{elements_or_none}
-use Rattle.sarif_read.specs.Listed.{value_at, AreOrdered}
+use Rattle.sarif_read.specs.Internal.Listed.{value_at, AreOrdered}
 
 pub same_null : (d : Data) → is_some (as_null (stripped d)) ≡ is_some (as_null d)
 same_null null = refl

@@ -10,10 +10,10 @@ use Rattle.serde_json.specs.Find.{get, get_member}
 use Rattle.serde_json.specs.Read.{max_depth, of_json}
 use Rattle.serde_json.proofs.Views.{get_member-put, get_member-put_other}
 use Rattle.json_parts.specs.Indexed.{data_of}
-use Rattle.json_parts.specs.Ordered.{IsOrdered}
+use Rattle.json_parts.specs.Internal.Ordered.{IsOrdered}
 use Rattle.json_parts.proofs.Order.{read_ordered}
 use Rattle.json_parts.proofs.Stripped.{differ}
-use Rattle.sarif_read.specs.Picked.{picked, picked_onto, with_own}
+use Rattle.sarif_read.specs.Internal.Picked.{picked, picked_onto, with_own}
 
 -- ---- the value of tokens has ordered members
 

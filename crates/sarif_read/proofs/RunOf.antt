@@ -16,7 +16,7 @@ use Rattle.serde_json.specs.declared.value.Value.{Value}
 use Rattle.serde_json.specs.declared.value.Value.TheVariants.{Array as json_array}
 use Rattle.json_parts.specs.Stripping.{is_fractional, stripped, stripped_items, stripped_members}
 use Rattle.json_parts.specs.Without.{without, without_member}
-use Rattle.json_parts.specs.Ordered.{IsOrdered, AreItemsOrdered, IsBelow, AreMembersOrdered}
+use Rattle.json_parts.specs.Internal.Ordered.{IsOrdered, AreItemsOrdered, IsBelow, AreMembersOrdered}
 use Rattle.json_parts.proofs.Kept.{put_below}
 use Rattle.json_parts.proofs.Order.{below_all}
 use Rattle.json_parts.proofs.Stripped.{absent_below}
@@ -25,9 +25,9 @@ use Rattle.sarif_read.specs.declared.listed.Listed.TheVariants.{Missing, Null, A
 use Rattle.sarif_read.specs.declared.indexed_run.IndexedRun.{IndexedRun}
 use Rattle.sarif_model.specs.Members.{elements}
 use Rattle.sarif_model.specs.Run.{results_of, results_array, result_at, elements_or_none}
-use Rattle.sarif_read.specs.Bare.{bare, is_bare}
-use Rattle.sarif_read.specs.Listed.{value_at, nodes_of, listed_member}
-use Rattle.sarif_read.specs.Indexed.{with_member, run_of}
+use Rattle.sarif_read.specs.Internal.Bare.{bare, is_bare}
+use Rattle.sarif_read.specs.Internal.Listed.{value_at, nodes_of, listed_member}
+use Rattle.sarif_read.specs.Internal.Indexed.{with_member, run_of}
 use Rattle.sarif_model.specs.Limits.{most_results}
 
 same_name : (k l : List ℕ) → slice_cmp nat_cmp k l ≡ Equal → bytes_eq k l ≡ true

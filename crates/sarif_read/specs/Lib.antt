@@ -1,8 +1,4 @@
-pub mod Bare
 pub mod Failed
-pub mod Indexed
-pub mod Listed
-pub mod Picked
-pub mod ReadRefusal
+pub mod Internal
 pub mod Reading
 pub mod Stripping

@@ -2,8 +2,8 @@
 ghost use Rattle.std.specs.Prelude.{◌≡◌, Some, map, codes, IfOk, OnOk};
 ghost use Rattle.serde_json.specs.Data.{put};
 ghost use Rattle.serde_json.specs.View.{view, members_view};
-ghost use Rattle.sarif_read.specs.Listed.{value_at};
-ghost use Rattle.sarif_read.specs.Indexed.{with_member};
+ghost use Rattle.sarif_read.specs.Internal.Listed.{value_at};
+ghost use Rattle.sarif_read.specs.Internal.Indexed.{with_member};
 
 use json_parts::Node;
 use serde_json::{Map, Value};

@@ -1,8 +1,8 @@
 //! A run of an indexed log.
 ghost use Rattle.std.specs.Prelude.{◌≤◌, length, IsTrue};
 ghost use Rattle.serde_json.specs.View.{view};
-ghost use Rattle.sarif_read.specs.Bare.{is_bare};
-ghost use Rattle.sarif_read.specs.Listed.{nodes_of};
+ghost use Rattle.sarif_read.specs.Internal.Bare.{is_bare};
+ghost use Rattle.sarif_read.specs.Internal.Listed.{nodes_of};
 ghost use Rattle.sarif_model.specs.Limits.{most_results};
 
 use crate::filling::{values_of, with_results};
@@ -28,13 +28,13 @@ pub struct IndexedRun<'t, 'a> {
 impl<'t, 'a> IndexedRun<'t, 'a> {
     ghost use Rattle.std.specs.Prelude.{◌≡◌, ◌<◌, ◌≤◌, length, map, is_some, IfOk, IsTrue};
     ghost use Rattle.serde_json.specs.View.{view};
-    ghost use Rattle.sarif_model.specs.FirstLocation.{IsFirstLocation};
+    ghost use Rattle.sarif_model.specs.Internal.FirstLocation.{IsFirstLocation};
     ghost use Rattle.sarif_model.specs.Run.{results_of, results_array, result_at};
-    ghost use Rattle.sarif_read.specs.Bare.{bare, is_bare};
+    ghost use Rattle.sarif_read.specs.Internal.Bare.{bare, is_bare};
     ghost use Rattle.sarif_read.specs.Failed.{failed};
-    ghost use Rattle.sarif_read.specs.Listed.{nodes_of};
-    ghost use Rattle.sarif_read.specs.Indexed.{run_of};
-    ghost use Rattle.sarif_read.specs.Picked.{picked};
+    ghost use Rattle.sarif_read.specs.Internal.Listed.{nodes_of};
+    ghost use Rattle.sarif_read.specs.Internal.Indexed.{run_of};
+    ghost use Rattle.sarif_read.specs.Internal.Picked.{picked};
 
     /// A run of an object without results, and of its results.
     pub(crate) fn new(bare: Value, results: Listed<'t, 'a>) -> IndexedRun<'t, 'a>

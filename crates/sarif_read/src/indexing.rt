@@ -3,14 +3,14 @@ ghost use Rattle.std.specs.Prelude.{◌≡◌, ◌≤◌, ◌+◌, Ok, Err, None
 ghost use Rattle.std.specs.Prelude.{IfOk, IfErr, OnOk};
 ghost use Rattle.serde_json.specs.Find.{get};
 ghost use Rattle.json_parts.specs.Indexed.{data_of};
-ghost use Rattle.json_parts.specs.Ordered.{IsOrdered};
+ghost use Rattle.json_parts.specs.Internal.Ordered.{IsOrdered};
 ghost use Rattle.sarif_model.specs.Run.{results_of, results_total};
 ghost use Rattle.sarif_read.specs.Reading as said;
 ghost use Rattle.sarif_model.specs.Run as said2;
-ghost use Rattle.sarif_read.specs.Listed.{value_at, nodes_of, listed_member, AreOrdered};
-ghost use Rattle.sarif_read.specs.Indexed.{run_of};
-ghost use Rattle.sarif_read.specs.ReadRefusal.{refusal_at};
-ghost use Rattle.sarif_model.specs.Refusal.{IfFault};
+ghost use Rattle.sarif_read.specs.Internal.Listed.{value_at, nodes_of, listed_member, AreOrdered};
+ghost use Rattle.sarif_read.specs.Internal.Indexed.{run_of};
+ghost use Rattle.sarif_read.specs.Internal.ReadRefusal.{refusal_at};
+ghost use Rattle.sarif_model.specs.Internal.Refusal.{IfFault};
 ghost use Rattle.sarif_model.specs.Limits.{most_results, most_runs};
 
 use crate::indexed_run::IndexedRun;

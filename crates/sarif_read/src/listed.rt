@@ -14,7 +14,7 @@ pub(crate) enum Listed<'t, 'a> {
 
 impl<'t, 'a> Listed<'t, 'a> {
     ghost use Rattle.std.specs.Prelude.{◌≡◌, length};
-    ghost use Rattle.sarif_read.specs.Listed.{nodes_of};
+    ghost use Rattle.sarif_read.specs.Internal.Listed.{nodes_of};
 
     /// How many results there are.
     pub(crate) fn len(&self) -> usize

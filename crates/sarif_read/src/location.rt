@@ -1,9 +1,9 @@
 //! The first location of a result, read from the index of its log. No value is made of it.
 ghost use Rattle.std.specs.Prelude.{◌≡◌, option_map, option_and_then};
 ghost use Rattle.serde_json.specs.Find.{get};
-ghost use Rattle.sarif_model.specs.FirstLocation as said;
-ghost use Rattle.sarif_model.specs.FirstLocation.{IsFirstLocation};
-ghost use Rattle.sarif_read.specs.Listed.{value_at};
+ghost use Rattle.sarif_model.specs.Internal.FirstLocation as said;
+ghost use Rattle.sarif_model.specs.Internal.FirstLocation.{IsFirstLocation};
+ghost use Rattle.sarif_read.specs.Internal.Listed.{value_at};
 
 use crate::nodes::{first_element, integer_member, kept_member, text_of};
 use json_parts::Node;

@@ -3,8 +3,8 @@ ghost use Rattle.std.specs.Prelude.{◌≡◌, map, is_some, option_map, option_
 ghost use Rattle.serde_json.specs.Find.{get, as_null, as_str, as_array, as_number, as_u64};
 ghost use Rattle.serde_json.specs.View.{items_of};
 ghost use Rattle.json_parts.specs.Indexed.{data_of};
-ghost use Rattle.json_parts.specs.Ordered.{IsOrdered};
-ghost use Rattle.sarif_read.specs.Listed.{value_at, AreOrdered};
+ghost use Rattle.json_parts.specs.Internal.Ordered.{IsOrdered};
+ghost use Rattle.sarif_read.specs.Internal.Listed.{value_at, AreOrdered};
 ghost use Rattle.sarif_model.specs.Members.{is_object, are_objects, first_of};
 ghost use Rattle.sarif_model.specs.Run.{elements_or_none};
 

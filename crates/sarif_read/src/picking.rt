@@ -2,8 +2,8 @@
 ghost use Rattle.std.specs.Prelude.{◌≡◌, map, IfOk, OnOk};
 ghost use Rattle.serde_json.specs.Find.{get};
 ghost use Rattle.serde_json.specs.View.{view, members_view};
-ghost use Rattle.sarif_read.specs.Listed.{value_at};
-ghost use Rattle.sarif_read.specs.Picked.{picked, with_own};
+ghost use Rattle.sarif_read.specs.Internal.Listed.{value_at};
+ghost use Rattle.sarif_read.specs.Internal.Picked.{picked, with_own};
 
 use crate::nodes::kept_member;
 use json_parts::Node;

@@ -1,6 +1,6 @@
 //! Why a log is refused.
 ghost use Rattle.std.specs.Prelude.{◌≡◌};
-ghost use Rattle.sarif_read.specs.ReadRefusal.{whole, refusal_of_fault, refusal_of_index};
+ghost use Rattle.sarif_read.specs.Internal.ReadRefusal.{whole, refusal_of_fault, refusal_of_index};
 
 use json_parts::IndexFault;
 use sarif_model::{Fault, Refusal};

@@ -4,8 +4,8 @@ ghost use Rattle.std.specs.Prelude.{◌≡◌, ◌≤◌, Ok, Err, map, length, 
 ghost use Rattle.serde_json.specs.View.{view};
 ghost use Rattle.sarif_model.specs.Limits.{most_results, most_runs};
 ghost use Rattle.sarif_model.specs.Run.{results_total};
-ghost use Rattle.sarif_model.specs.Refusal.{IfFault};
-ghost use Rattle.sarif_read.specs.Indexed.{run_of};
+ghost use Rattle.sarif_model.specs.Internal.Refusal.{IfFault};
+ghost use Rattle.sarif_read.specs.Internal.Indexed.{run_of};
 ghost use Rattle.sarif_read.specs.Reading as said;
 
 mod log;

@@ -29,7 +29,7 @@ use denote.Param.Members.{Shared}
 use Rattle.sarif_gather.specs.Sharing.{AreJoined, GivesInParts, GivesPart, GivesParts}
 use Rattle.sarif_findings.specs.declared.finding.Finding.{Finding}
 use Rattle.sarif_reports.specs.declared.ranked.Ranked.{Ranked}
-use Rattle.sarif_reports.specs.GitlabObjects.{object_of, objects_after, joined_objects, before_part}
+use Rattle.sarif_reports.specs.Internal.GitlabObjects.{object_of, objects_after, joined_objects, before_part}
 use Rattle.sarif_reports.specs.GitlabReport.{quality_of, hashed_text, are_alike, same_path, path_or_null, rank_among, items_after, mark_of, gitlab_of}
 use Rattle.sarif_reports.specs.GitlabParts.{stands_in_string, quoted_text, identity_of, rank_text, rule_text, location_text, severity_text, number_in, number_of, key_cmp, counted}
 

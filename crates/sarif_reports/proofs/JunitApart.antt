@@ -22,7 +22,7 @@ use Rattle.sarif_shown.specs.Escaped.{escaped, escaped_char, page_char}
 use Rattle.sarif_shown.specs.EscapedLaws.{begins_entity, is_element_text, is_markup}
 use Rattle.sarif_reports.specs.JunitReport.{attribute, case_begin, case_name, cases_after, class_of, colon_rule, counted, document_begin, document_end, document_head, ends_numbered, failure, failure_end, failures_in, file_attribute, hit_end, hits_in, junit_document, line_attribute, named_among, nth_name, passed_document, plain_name, results_of, shown_line, skipped, skipped_end, skipped_in, suite_begin, suite_end, suite_of, suites_in, test_case, test_counts, tools_of}
 use Rattle.sarif_reports.specs.JunitLaws.{cases_of, occurrences}
-use Rattle.sarif_reports.specs.Suites.{Suite, suites_of, with_result}
+use Rattle.sarif_reports.specs.Internal.Suites.{Suite, suites_of, with_result}
 use Rattle.sarif_shown.specs.TextReport.{bracketed, result_line}
 use Rattle.sarif_shown.proofs.EscapedApart.{decimal_digits, page_apart}
 use Rattle.sarif_shown.proofs.SeenTexts.{IsSeenText, escaped_chars, place_seen, plain_text, shown_text, two_texts}

@@ -11,7 +11,7 @@ use Rattle.std.proofs.lemmas.Slice.Eq.{bytes_eq-Decides}
 use Rattle.indexmap.specs.IndexMap.{insert_entry}
 use Rattle.sarif_findings.specs.declared.finding.Finding.{Finding}
 use Rattle.sarif_reports.specs.JunitReport.{results_of, tools_of}
-use Rattle.sarif_reports.specs.Suites.{Suite, with_result, suites_of, pointed, seen_suite}
+use Rattle.sarif_reports.specs.Internal.Suites.{Suite, with_result, suites_of, pointed, seen_suite}
 
 -- ---- equal strings
 

@@ -1,10 +1,9 @@
-pub mod GitlabObjects
 pub mod GitlabParts
 pub mod GitlabReport
+pub mod Internal
 pub mod JunitLaws
 pub mod JunitReport
 pub mod LaterOutputs
 pub mod MarkdownLaws
 pub mod MarkdownReport
 pub mod Report
-pub mod Suites

@@ -3,7 +3,7 @@ ghost use Rattle.std.specs.Prelude.{◌≡◌, ◌+◌, ◌<◌, ◌^◌, ◌++�
 ghost use Rattle.std.specs.Prelude.{bytes_eq, flat_map, length, slice_get, if◌then◌else◌};
 ghost use Rattle.sarif_shown.specs.Facts.{facts_of};
 ghost use Rattle.sarif_reports.specs.JunitReport as said;
-ghost use Rattle.sarif_reports.specs.Suites.{counted, entry_text, pointed, text_at};
+ghost use Rattle.sarif_reports.specs.Internal.Suites.{counted, entry_text, pointed, text_at};
 
 use crate::junit_case::push_case;
 use crate::junit_names::{count, number_name, plain_name};

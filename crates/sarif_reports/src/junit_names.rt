@@ -3,7 +3,7 @@ ghost use Rattle.std.specs.Prelude.{◌≡◌, ◌+◌, ◌<◌, ◌^◌, ◌++�
 ghost use Rattle.std.specs.Prelude.{unwrap_or, if◌then◌else◌};
 ghost use Rattle.std.specs.HashMap.{get_by_text};
 ghost use Rattle.sarif_reports.specs.JunitReport as said;
-ghost use Rattle.sarif_reports.specs.Suites.{counted};
+ghost use Rattle.sarif_reports.specs.Internal.Suites.{counted};
 
 use indexmap::IndexMap;
 use sarif_findings::Finding;

@@ -1,6 +1,6 @@
 //! The results of each tool.
 ghost use Rattle.std.specs.Prelude.{◌≡◌, map, IfOk, OnOk};
-ghost use Rattle.sarif_reports.specs.Suites.{pointed, seen_suites, suites_of, with_result};
+ghost use Rattle.sarif_reports.specs.Internal.Suites.{pointed, seen_suites, suites_of, with_result};
 
 use indexmap::IndexMap;
 use sarif_findings::Finding;

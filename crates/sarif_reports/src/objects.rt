@@ -5,7 +5,7 @@ ghost use Rattle.sha2.specs.Sha256.{sha256};
 ghost use Rattle.serde_json.specs.Written.{compact_text, comma_if};
 ghost use Rattle.sarif_reports.specs.GitlabReport as said;
 ghost use Rattle.sarif_gather.specs.Sharing.{AreJoined};
-ghost use Rattle.sarif_reports.specs.GitlabObjects.{object_of, joined_objects, before_part};
+ghost use Rattle.sarif_reports.specs.Internal.GitlabObjects.{object_of, joined_objects, before_part};
 ghost use Rattle.sarif_reports.specs.GitlabParts.{rank_text};
 
 use crate::quality::push_quality;

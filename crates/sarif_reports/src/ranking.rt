@@ -2,7 +2,7 @@
 ghost use Rattle.std.specs.Prelude.{◌≡◌, ◌<◌, ◌+◌, ◌^◌, ℕ, List, [], ◌++◌, bytes_eq, map, IfOk, OnOk, if◌then◌else◌};
 ghost use Rattle.sha2.specs.Sha256.{sha256};
 ghost use Rattle.sarif_reports.specs.GitlabReport.{mark_of, quality_of};
-ghost use Rattle.sarif_reports.specs.GitlabObjects.{object_of, objects_after};
+ghost use Rattle.sarif_reports.specs.Internal.GitlabObjects.{object_of, objects_after};
 ghost use Rattle.sarif_reports.specs.GitlabParts.{identity_of, identity_with};
 ghost use Rattle.sarif_reports.specs.GitlabParts.{rank_text, number_in, number_of, counted};
 

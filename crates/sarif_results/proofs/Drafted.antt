@@ -1,6 +1,6 @@
 -- A draft whose own suppressions were taken out first.
 use Rattle.std.proofs.Common.{◌≡◌, false, codes, refl, ap, ◌∙◌}
-use Rattle.json_parts.specs.Around.{surrounding}
+use Rattle.json_parts.specs.Internal.Around.{surrounding}
 use Rattle.serde_json.specs.Data.{null, string, array, Items, Members, put}
 use Rattle.serde_json.specs.Written.{items_have_float, members_have_float}
 use Rattle.sarif_counts.specs.CountOf.{suppresses}

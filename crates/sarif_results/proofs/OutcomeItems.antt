@@ -10,7 +10,7 @@ use Rattle.sarif_runs.specs.declared.item.Item.{Item}
 use Rattle.sarif_runs.specs.declared.item.Item.TheVariants.{Sound, Bad, Skipped}
 use Rattle.sarif_results.specs.declared.outcome.Outcome.{Outcome}
 use Rattle.sarif_runs.specs.Judging.{with_record, item_of, items_of, records_in, records_of}
-use Rattle.sarif_results.specs.Outcomes.{all_outcomes, outcome_of, outcomes_of}
+use Rattle.sarif_results.specs.Internal.Outcomes.{all_outcomes, outcome_of, outcomes_of}
 use Rattle.sarif_runs.specs.Placed.{Placed}
 
 -- the items among outcomes

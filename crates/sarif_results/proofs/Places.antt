@@ -5,10 +5,10 @@ use Rattle.std.proofs.Math.Seq.{get_or-append_seam}
 use Rattle.std.specs.List.{range_with_len}
 use Rattle.sarif_model.specs.Run.{results_of}
 use Rattle.sarif_entries.specs.File.{File}
-use Rattle.sarif_results.specs.Outcomes.{all_outcomes, outcome_of, outcomes_of}
+use Rattle.sarif_results.specs.Internal.Outcomes.{all_outcomes, outcome_of, outcomes_of}
 use Rattle.sarif_runs.specs.Placed.{Placed}
-use Rattle.sarif_runs.specs.Spots.{no_run, placed_at, spots_in, spots_from}
-use Rattle.sarif_results.specs.OutcomesAt.{outcome_at}
+use Rattle.sarif_runs.specs.Internal.Spots.{no_run, placed_at, spots_in, spots_from}
+use Rattle.sarif_results.specs.Internal.OutcomesAt.{outcome_at}
 
 -- the run after the others
 at_seam : (done : List Placed) (p : Placed) (rest : List Placed) → placed_at (done ++ p ∷ rest) (length done) ≡ p

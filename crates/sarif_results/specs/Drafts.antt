@@ -5,7 +5,7 @@ use Rattle.std.specs.List.{AllByRecursion}
 use Rattle.serde_json.specs.Data.{Data, null, boolean, number, string, array, object, Items, Members, no_members, put}
 use Rattle.serde_json.specs.Find.{as_object}
 use Rattle.serde_json.specs.View.{items_of}
-use Rattle.json_parts.specs.Around.{surrounding}
+use Rattle.json_parts.specs.Internal.Around.{surrounding}
 use Rattle.sarif_counts.specs.CountOf.{suppresses}
 use Rattle.sarif_model.specs.declared.kinds.Level.{Level}
 use Rattle.sarif_model.specs.declared.record.Record.{Record}

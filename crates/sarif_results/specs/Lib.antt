@@ -1,5 +1,3 @@
 pub mod Annotated
 pub mod Drafts
-pub mod Judged
-pub mod Outcomes
-pub mod OutcomesAt
+pub mod Internal

@@ -2,7 +2,7 @@
 ghost use Rattle.std.specs.Prelude.{◌≡◌, IfOk, false, codes};
 ghost use Rattle.serde_json.specs.View.{view, items_view, members_view};
 ghost use Rattle.serde_json.specs.Written.{has_float, items_have_float, members_have_float};
-ghost use Rattle.json_parts.specs.Around.{surrounding};
+ghost use Rattle.json_parts.specs.Internal.Around.{surrounding};
 ghost use Rattle.sarif_counts.specs.CountOf.{suppresses};
 ghost use Rattle.sarif_suppress.specs.Written.{suppressions_of};
 ghost use Rattle.sarif_results.specs.Drafts.{applied_of, unapplied, draft_by, drafted_members, members_in};

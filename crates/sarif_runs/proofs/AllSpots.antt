@@ -9,7 +9,7 @@ use Rattle.sarif_model.specs.Limits.{most_results}
 use Rattle.sarif_model.specs.Run.{results_of, results_total}
 use Rattle.sarif_runs.specs.declared.spots.Spot.{Spot}
 use Rattle.sarif_runs.specs.Placed.{Placed}
-use Rattle.sarif_runs.specs.Spots.{spots_in, spots_from}
+use Rattle.sarif_runs.specs.Internal.Spots.{spots_in, spots_from}
 
 spots_count_in : (run count : ℕ) → length (spots_in run count) ≡ count
 spots_count_in run count = length-map (range_with_len 0 count) (λ seq. record { run = run; seq = seq }) ∙ length-range_with_len 0 count

@@ -1,7 +1,7 @@
 -- A run's head and its tool's name do not depend on the run's results.
 use Rattle.std.proofs.Common.{◌≡◌, [], refl, ap, codes, unwrap_or}
 use Rattle.serde_json.specs.Data.{Data}
-use Rattle.sarif_read.specs.Bare.{bare}
+use Rattle.sarif_read.specs.Internal.Bare.{bare}
 use Rattle.sarif_read.proofs.Beside.{bare_get, bare_driver_name}
 use Rattle.sarif_runs.specs.Rules.{components_of}
 use Rattle.sarif_runs.specs.Place.{artifacts_of}

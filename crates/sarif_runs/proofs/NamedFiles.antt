@@ -4,7 +4,7 @@ use Rattle.serde_json.specs.Data.{Data}
 use Rattle.sarif_model.specs.Run.{results_of}
 use Rattle.sarif_read.specs.Failed.{failed}
 use Rattle.sarif_read.proofs.Beside.{member_beside}
-use Rattle.sarif_runs.specs.NamedFiles.{without_files}
+use Rattle.sarif_runs.specs.Internal.NamedFiles.{without_files}
 use Rattle.sarif_runs.specs.Rules.{components_of}
 use Rattle.sarif_runs.specs.Place.{artifacts_of}
 use Rattle.sarif_runs.specs.Overrides.{invocations_of}

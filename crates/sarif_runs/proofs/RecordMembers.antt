@@ -9,13 +9,13 @@ use Rattle.sarif_model.specs.declared.kinds.Kind.TheVariants.{Fail}
 use Rattle.sarif_runs.specs.Fingerprints.{pairs_at, pairs_of}
 use Rattle.sarif_model.specs.Members.{◌>>=◌, result_map, unless_null, member_at, of_kind, text_at, object_at, elements_at, objects_at, index_at, index_of_member, itself_if_object, elements_of, if_objects, read_each}
 use Rattle.sarif_runs.specs.OwnMembers.{check_present, own_kind, as_kind, own_level, as_level, own_guid, as_guid, own_fingerprints, own_statuses, own_message, own_rule_id, own_message_and_rule, own_indexes, index_within, tool_component, own_location, parts_of}
-use Rattle.sarif_read.specs.Picked.{picked}
+use Rattle.sarif_read.specs.Internal.Picked.{picked}
 use Rattle.sarif_model.specs.Run.{is_absent_result, is_text, result_at}
 use Rattle.sarif_model.specs.Suppression.{status_of}
 use Rattle.sarif_read.proofs.PickedMembers.{picked_get}
 use Rattle.sarif_runs.specs.Head.{head_of}
 use Rattle.sarif_runs.specs.Record.{record_by, record_in, record_of, tool_name}
-use Rattle.sarif_runs.specs.Found.{record_item}
+use Rattle.sarif_runs.specs.Internal.Found.{record_item}
 use Rattle.sarif_runs.specs.Judging.{item_by, item_of, skips}
 use Rattle.sarif_runs.specs.Placed.{Placed}
 use Rattle.sarif_runs.specs.declared.item.Item.{Item}

@@ -7,7 +7,7 @@ use Rattle.std.specs.List.{All, range_with_len}
 use Rattle.sarif_model.specs.Run.{results_of}
 use Rattle.sarif_runs.specs.declared.spots.Spot.{Spot}
 use Rattle.sarif_runs.specs.Placed.{Placed}
-use Rattle.sarif_runs.specs.Spots.{no_run, placed_at, spots_in, spots_from, IsSpotOf}
+use Rattle.sarif_runs.specs.Internal.Spots.{no_run, placed_at, spots_in, spots_from, IsSpotOf}
 
 of_run : (all : List Placed) (n a k : ℕ) → n < length all → a + k ≡ length (results_of (placed_at all n).run)
     → All (IsSpotOf all) (map (λ seq. record { run = n; seq = seq }) (range_with_len a k))

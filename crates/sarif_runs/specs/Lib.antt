@@ -1,11 +1,9 @@
 pub mod Descriptor
 pub mod Fingerprints
-pub mod Found
 pub mod Head
+pub mod Internal
 pub mod Judging
 pub mod Level
-pub mod NamedFiles
-pub mod Opened
 pub mod Overrides
 pub mod OwnMembers
 pub mod Place
@@ -13,4 +11,3 @@ pub mod Placed
 pub mod Reading
 pub mod Record
 pub mod Rules
-pub mod Spots

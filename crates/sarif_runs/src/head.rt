@@ -1,7 +1,7 @@
 //! What of a run its results need, and what it gives a result.
 ghost use Rattle.std.specs.Prelude.{◌≡◌, IfOk, option_map, option_and_then};
 ghost use Rattle.std.specs.Option.{option_copied};
-ghost use Rattle.sarif_model.specs.Refusal.{IfFault};
+ghost use Rattle.sarif_model.specs.Internal.Refusal.{IfFault};
 ghost use Rattle.sarif_runs.specs.Reading.{Gives};
 ghost use Rattle.sarif_runs.specs.Descriptor.{Reference, reference_of, descriptor_of, rule_number};
 ghost use Rattle.sarif_runs.specs.Level as effective;

@@ -2,12 +2,12 @@
 ghost use Rattle.std.specs.Prelude.{◌≡◌, ℕ, List};
 ghost use Rattle.serde_json.specs.Data.{Data, Members};
 ghost use Rattle.serde_json.specs.Find.{get_member};
-ghost use Rattle.json_parts.specs.Ordered.{AreMembersOrdered};
+ghost use Rattle.json_parts.specs.Internal.Ordered.{AreMembersOrdered};
 ghost use Rattle.sarif_model.specs.Run.{results_of};
 ghost use Rattle.sarif_read.specs.Failed.{failed};
 ghost use Rattle.sarif_runs.specs.Fingerprints.{pairs_among};
 ghost use Rattle.sarif_runs.specs.Head.{head_of};
-ghost use Rattle.sarif_runs.specs.NamedFiles.{without_files};
+ghost use Rattle.sarif_runs.specs.Internal.NamedFiles.{without_files};
 ghost use Rattle.sarif_runs.specs.Record.{record_of};
 
 /// Two objects with the same value at each name give the same pairs, in any order of members in the JSON: when

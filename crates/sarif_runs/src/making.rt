@@ -1,7 +1,7 @@
 //! The record of a result.
 ghost use Rattle.std.specs.Prelude.{◌≡◌, Ok, Err, IfOk};
 ghost use Rattle.serde_json.specs.View.{view};
-ghost use Rattle.sarif_model.specs.Refusal.{IfFault};
+ghost use Rattle.sarif_model.specs.Internal.Refusal.{IfFault};
 ghost use Rattle.sarif_runs.specs.Reading.{Gives};
 ghost use Rattle.sarif_runs.specs.Record.{tool_name, rule_id_of, record_by, record_in};
 

@@ -1,6 +1,6 @@
 //! Reading the rules, overrides and artifacts of a run.
 ghost use Rattle.std.specs.Prelude.{◌≡◌, IfOk, map, option_map};
-ghost use Rattle.sarif_model.specs.Refusal.{IfFault};
+ghost use Rattle.sarif_model.specs.Internal.Refusal.{IfFault};
 ghost use Rattle.sarif_model.specs.Members.{objects_at, read_each};
 ghost use Rattle.serde_json.specs.View.{view};
 ghost use Rattle.sarif_runs.specs.Reading.{Gives, before, list_if_there};

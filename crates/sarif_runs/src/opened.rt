@@ -2,7 +2,7 @@
 ghost use Rattle.std.specs.Prelude.{◌≡◌, ◌<◌, ◌≤◌, false, is_some, length, map, IfOk};
 ghost use Rattle.serde_json.specs.View.{view};
 ghost use Rattle.serde_json.specs.Written.{has_float};
-ghost use Rattle.sarif_read.specs.Indexed.{run_of};
+ghost use Rattle.sarif_read.specs.Internal.Indexed.{run_of};
 ghost use Rattle.sarif_runs.specs.Head.{head_of};
 ghost use Rattle.sarif_runs.specs.Record.{tool_name};
 ghost use Rattle.sarif_model.specs.Limits.{most_results};
@@ -51,13 +51,13 @@ fn open_head(
 }
 
 impl<'t, 'a> OpenedRun<'t, 'a> {
-    ghost use Rattle.sarif_runs.specs.Found.{record_item};
+    ghost use Rattle.sarif_runs.specs.Internal.Found.{record_item};
     ghost use Rattle.sarif_runs.specs.Judging.{opening_fault};
-    ghost use Rattle.sarif_runs.specs.Opened.{placed_of};
-    ghost use Rattle.sarif_read.specs.Bare.{bare};
+    ghost use Rattle.sarif_runs.specs.Internal.Opened.{placed_of};
+    ghost use Rattle.sarif_read.specs.Internal.Bare.{bare};
     ghost use Rattle.sarif_read.specs.Failed.{failed};
-    ghost use Rattle.sarif_read.specs.Picked.{picked};
-    ghost use Rattle.sarif_model.specs.FirstLocation.{IsFirstLocation};
+    ghost use Rattle.sarif_read.specs.Internal.Picked.{picked};
+    ghost use Rattle.sarif_model.specs.Internal.FirstLocation.{IsFirstLocation};
     ghost use Rattle.sarif_model.specs.Run.{result_at, results_array, results_of};
 
     /// Opens run `number` of a source, which holds no number with a fraction. The tables of its head hash with

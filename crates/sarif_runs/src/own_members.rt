@@ -3,7 +3,7 @@ ghost use Rattle.std.specs.Prelude.{◌≡◌, Ok, Err, IfOk};
 ghost use Rattle.serde_json.specs.View.{view as seen};
 ghost use Rattle.sarif_runs.specs.OwnMembers.{check_present, own_kind, own_level, own_guid};
 ghost use Rattle.sarif_runs.specs.OwnMembers.{parts_of};
-ghost use Rattle.sarif_model.specs.Refusal.{IfFault};
+ghost use Rattle.sarif_model.specs.Internal.Refusal.{IfFault};
 
 mod fingerprints;
 mod indexes;

@@ -1,7 +1,7 @@
 //! The places of all results.
 ghost use Rattle.std.specs.Prelude.{◌≡◌, ◌≤◌, ◌++◌, IfOk, OnOk, map, length};
-ghost use Rattle.sarif_runs.specs.Opened.{placed_of};
-ghost use Rattle.sarif_runs.specs.Spots.{spots_from, spots_in};
+ghost use Rattle.sarif_runs.specs.Internal.Opened.{placed_of};
+ghost use Rattle.sarif_runs.specs.Internal.Spots.{spots_from, spots_in};
 ghost use Rattle.sarif_model.specs.Limits.{most_runs};
 
 use crate::opened::OpenedRun;

@@ -2,7 +2,7 @@
 //! its index and makes its results one by one.
 ghost use Rattle.std.specs.Prelude.{◌≡◌, ◌<◌, length, Ok, Err, IfOk};
 ghost use Rattle.serde_json.specs.View.{view};
-ghost use Rattle.sarif_model.specs.Refusal.{IfFault};
+ghost use Rattle.sarif_model.specs.Internal.Refusal.{IfFault};
 ghost use Rattle.sarif_model.specs.Run.{results_of, result_at};
 ghost use Rattle.sarif_runs.specs.Head.{head_of};
 ghost use Rattle.sarif_runs.specs.OwnMembers.{parts_of};

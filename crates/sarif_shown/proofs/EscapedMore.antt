@@ -10,7 +10,7 @@ use Rattle.std.proofs.lemmas.Str.{encode_ascii, encodes-chars}
 use Rattle.sarif_shown.specs.declared.escaping.Escaping.{Escaping}
 use Rattle.sarif_shown.specs.declared.escaping.Escaping.TheVariants.{Message, Property, Markdown, Page, Place, IssueMessage, IssueProperty}
 use Rattle.sarif_shown.specs.Escaped.{escaped, escaped_char}
-use Rattle.sarif_shown.specs.EscapedBytes.{escapes, escaped_byte}
+use Rattle.sarif_shown.specs.Internal.EscapedBytes.{escapes, escaped_byte}
 use Rattle.sarif_findings.proofs.HighBytes.{char_kept}
 
 -- ---- which bytes are written in another way

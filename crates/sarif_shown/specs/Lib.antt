@@ -2,12 +2,12 @@ pub mod AzureLaws
 pub mod AzureReport
 pub mod CountRow
 pub mod Escaped
-pub mod EscapedBytes
 pub mod EscapedLaws
 pub mod Facts
 pub mod FindingLaws
 pub mod GithubLaws
 pub mod GithubReport
+pub mod Internal
 pub mod Listed
 pub mod Sentences
 pub mod TextLaws

@@ -2,7 +2,7 @@
 ghost use Rattle.std.specs.Prelude.{◌≡◌, ◌++◌, OnOk, string_bytes};
 ghost use Rattle.std.specs.List.{list_any};
 ghost use Rattle.sarif_shown.specs.declared.escaping.Escaping.TheVariants as way;
-ghost use Rattle.sarif_shown.specs.EscapedBytes.{escapes};
+ghost use Rattle.sarif_shown.specs.Internal.EscapedBytes.{escapes};
 
 use std::alloc::{AllocError, Global};
 
@@ -74,7 +74,7 @@ impl Escaping {
     ghost use Rattle.sarif_shown.specs.Escaped.{escaped_char, escaped, message_char, property_char};
     ghost use Rattle.sarif_shown.specs.Escaped.{markdown_char, is_mark, page_char, place_char};
     ghost use Rattle.sarif_shown.specs.Escaped.{issue_message_char, issue_property_char};
-    ghost use Rattle.sarif_shown.specs.EscapedBytes.{escapes};
+    ghost use Rattle.sarif_shown.specs.Internal.EscapedBytes.{escapes};
     ghost use Rattle.std.specs.List.{list_any};
 
     fn push_message(text: &mut String, c: char) -> Result<(), AllocError>

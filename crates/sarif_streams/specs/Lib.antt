@@ -1,12 +1,9 @@
 pub mod AreRead
 pub mod Counted
 pub mod Failing
-pub mod Given
-pub mod Kept
+pub mod Internal
 pub mod Named
 pub mod OptionalReader
 pub mod ReadersFault
 pub mod Source
-pub mod Taken
 pub mod WereRead
-pub mod Writing

@@ -2,7 +2,7 @@
 ghost use Rattle.std.specs.Prelude.{◌≡◌, ◌<◌, None, Ok, IfOk, OnErr, length};
 ghost use Rattle.std.specs.Io.{ReadsAtMost};
 ghost use Rattle.std.specs.Io.KnownBytes.{IsAtEnd, ReadConsumes};
-ghost use Rattle.sarif_streams.specs.Given.{GivesAs};
+ghost use Rattle.sarif_streams.specs.Internal.Given.{GivesAs};
 ghost use Rattle.sarif_streams.specs.declared.files.Stage.TheVariants.{Unopened, Open, Ended};
 
 use std::fs;

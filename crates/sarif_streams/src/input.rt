@@ -2,7 +2,7 @@
 ghost use Rattle.std.specs.Prelude.{◌≡◌, None};
 ghost use Rattle.std.specs.Io.{ReadsAtMost};
 ghost use Rattle.std.specs.Io.KnownBytes.{ReadConsumes};
-ghost use Rattle.sarif_streams.specs.Given.{InputGivesAs};
+ghost use Rattle.sarif_streams.specs.Internal.Given.{InputGivesAs};
 ghost use Rattle.sarif_streams.specs.Named.{channel_named, input_channel};
 
 use crate::files::InputFile;

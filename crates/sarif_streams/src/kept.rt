@@ -2,7 +2,7 @@
 ghost use Rattle.std.specs.Prelude.{◌≡◌};
 ghost use Rattle.std.specs.Io.{ReadsAtMost, WritesAtMost};
 ghost use Rattle.std.specs.Io.KnownBytes.{Keeps, ReadConsumes, WriteAppends};
-ghost use Rattle.sarif_streams.specs.Kept.{kept_in};
+ghost use Rattle.sarif_streams.specs.Internal.Kept.{kept_in};
 
 use std::io::{self, Read, Write};
 
@@ -55,7 +55,7 @@ impl<D> Kept<D> {
 }
 
 impl<D: Read> Read for Kept<D> {
-    ghost use Rattle.sarif_streams.specs.Kept.{kept_in};
+    ghost use Rattle.sarif_streams.specs.Internal.Kept.{kept_in};
 
     ghost remaining = { λ k. D.remaining (kept_in k) };
 
@@ -78,7 +78,7 @@ impl<D: Read> Read for Kept<D> {
 }
 
 impl<D: Write> Write for Kept<D> {
-    ghost use Rattle.sarif_streams.specs.Kept.{kept_in};
+    ghost use Rattle.sarif_streams.specs.Internal.Kept.{kept_in};
 
     ghost contents = { λ k. D.contents (kept_in k) };
 

@@ -2,8 +2,8 @@
 ghost use Rattle.std.specs.Prelude.{◌≡◌, ◌<◌, None, IfOk, IsErr, IsOk, IsSome, OnErr, OnOk, length};
 ghost use Rattle.std.specs.Io.{WritesAtMost};
 ghost use Rattle.std.specs.Io.KnownBytes.{Keeps, WriteAppends};
-ghost use Rattle.sarif_streams.specs.Taken.{TakesAs};
-ghost use Rattle.sarif_streams.specs.Writing.{file_of};
+ghost use Rattle.sarif_streams.specs.Internal.Taken.{TakesAs};
+ghost use Rattle.sarif_streams.specs.Internal.Writing.{file_of};
 ghost use Rattle.sarif_streams.specs.declared.output.Writing.TheVariants.{Unopened, Over};
 
 use crate::place::{Found, Place};

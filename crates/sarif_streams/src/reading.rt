@@ -5,7 +5,7 @@ ghost use Rattle.sarif_streams.specs.AreRead.{IsRead, AreRead, HasStopped, Stops
 ghost use Rattle.sarif_streams.specs.Counted.{failed_calls, RisesIf};
 ghost use Rattle.sarif_streams.specs.Failing.{failed_calls_in, NoneFalls, reading_has_failed};
 ghost use Rattle.sarif_streams.specs.OptionalReader.{failed_calls_if};
-ghost use Rattle.sarif_model.specs.SourceKind.{source_of};
+ghost use Rattle.sarif_model.specs.Internal.SourceKind.{source_of};
 ghost use Rattle.sarif_streams.specs.WereRead.{contents_of, failures, HasStoppedAt, HasStoppedIf, IsReadIf, NoNumberFalls, WereRead};
 ghost use Rattle.sarif_model.specs.Limits.{most_sources};
 

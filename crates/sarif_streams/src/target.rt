@@ -3,7 +3,7 @@ ghost use Rattle.std.specs.Prelude.{◌≡◌, None, IfOk};
 ghost use Rattle.std.specs.Io.{WritesAtMost};
 ghost use Rattle.std.specs.Io.KnownBytes.{Keeps, WriteAppends};
 ghost use Rattle.sarif_streams.specs.Named.{channel_named, target_channel};
-ghost use Rattle.sarif_streams.specs.Taken.{TargetTakesAs, console_held};
+ghost use Rattle.sarif_streams.specs.Internal.Taken.{TargetTakesAs, console_held};
 
 use crate::output::OutputFile;
 use crate::place::Place;
@@ -75,7 +75,7 @@ pub enum Console<O, E> {
 }
 
 impl<O: Write, E: Write> Write for Console<O, E> {
-    ghost use Rattle.sarif_streams.specs.Taken.{console_held};
+    ghost use Rattle.sarif_streams.specs.Internal.Taken.{console_held};
 
     ghost contents = { console_held O.contents E.contents };
 

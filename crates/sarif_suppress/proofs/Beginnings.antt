@@ -5,7 +5,7 @@ use Rattle.std.proofs.lemmas.List.{append-nil, append_assoc, take_more, length-t
 use Rattle.std.proofs.lemmas.List.Sums.{fold-append}
 use Rattle.std.proofs.lemmas.Grind.{flat_map-append}
 use Rattle.sarif_suppress.specs.declared.prefixes.PrefixTable.{PrefixTable}
-use Rattle.sarif_suppress.specs.Prefixes.{beginnings, next_hash, hash_of, found_with, found_under}
+use Rattle.sarif_suppress.specs.Internal.Prefixes.{beginnings, next_hash, hash_of, found_with, found_under}
 
 -- the hash of the bytes so far, with one more byte
 pub hash_step : (base hash next : ℕ) (text : List ℕ) (i d : ℕ) → i < length text → hash ≡ hash_of base (take i text) → next ≡ next_hash base hash (get_or text i d) → next ≡ hash_of base (take (i + 1) text)

@@ -10,10 +10,10 @@ use Rattle.std.proofs.lemmas.Bool.Decides.{nat_tests}
 use Rattle.std.proofs.lemmas.List.Folds.{flat_map-map, list_any-append}
 use Rattle.sarif_entries.specs.declared.entry.Entry.{Entry}
 use Rattle.sarif_suppress.specs.declared.prefixes.PrefixTable.{PrefixTable}
-use Rattle.sarif_entries.specs.Filing.{prefix_key}
+use Rattle.sarif_entries.specs.Internal.Filing.{prefix_key}
 use Rattle.sarif_entries.specs.Matching.{begins}
 use Rattle.sarif_suppress.specs.Numbers.{numbers_at}
-use Rattle.sarif_suppress.specs.Prefixes.{beginnings, hash_of, is_listed, has_length, asks_for_hash, IsPrefixTable, found_under, found_for}
+use Rattle.sarif_suppress.specs.Internal.Prefixes.{beginnings, hash_of, is_listed, has_length, asks_for_hash, IsPrefixTable, found_under, found_for}
 use Rattle.sarif_entries.proofs.Meaning.{begins_means}
 use Rattle.sarif_suppress.proofs.Numbered.{has, has_from}
 

@@ -14,12 +14,12 @@ use Rattle.sarif_entries.specs.declared.filing.PairCondition.TheVariants.{Full, 
 use Rattle.sarif_entries.specs.declared.filing.TextCondition.TheVariants.{Uri, RuleId, Tool}
 use Rattle.sarif_suppress.specs.declared.prefixes.PrefixTable.{PrefixTable}
 use Rattle.sarif_suppress.specs.declared.table.Table.{Table}
-use Rattle.sarif_entries.specs.Filing.{asks_for_guid, asks_for_pair, asks_for_message, asks_for_text, asks_for_none, prefix_key, message_keys}
-use Rattle.sarif_suppress.specs.Table.{candidates}
+use Rattle.sarif_entries.specs.Internal.Filing.{asks_for_guid, asks_for_pair, asks_for_message, asks_for_text, asks_for_none, prefix_key, message_keys}
+use Rattle.sarif_suppress.specs.Internal.Table.{candidates}
 use Rattle.sarif_entries.specs.Matching.{is_wanted, is_there, begins, is_guid, is_pair, are_among, are_wanted, hold_without_message, message_holds, hold, is_expired, matches}
 use Rattle.sarif_suppress.specs.Numbers.{numbers_from, numbers_at, passes_at, with_numbers}
-use Rattle.sarif_suppress.specs.Prefixes.{IsPrefixTable, found_for}
-use Rattle.sarif_suppress.specs.Table.{IsTable}
+use Rattle.sarif_suppress.specs.Internal.Prefixes.{IsPrefixTable, found_for}
+use Rattle.sarif_suppress.specs.Internal.Table.{IsTable}
 use Rattle.sarif_suppress.proofs.Begun.{found_begun}
 use Rattle.sarif_entries.proofs.Meaning.{pair_means}
 use Rattle.sarif_entries.proofs.MessageKeys.{in_message_keys}

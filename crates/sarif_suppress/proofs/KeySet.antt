@@ -7,8 +7,8 @@ use Rattle.indexmap.specs.IndexSet.{IndexSet}
 use Rattle.serde_json.specs.Data.{Data}
 use Rattle.sarif_entries.specs.declared.entry.Entry.{Entry}
 use Rattle.sarif_entries.specs.declared.key.Key.{Key}
-use Rattle.sarif_entries.specs.Keys.{has_key}
-use Rattle.sarif_suppress.specs.Unseen.{HasKeysOf}
+use Rattle.sarif_entries.specs.Internal.Keys.{has_key}
+use Rattle.sarif_suppress.specs.Internal.Unseen.{HasKeysOf}
 use Rattle.sarif_suppress.specs.Written.{with_object_if, with_objects_at}
 
 -- ---- a set of keys, and a list whose objects have them

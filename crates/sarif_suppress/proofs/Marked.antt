@@ -13,7 +13,7 @@ use Rattle.sarif_entries.specs.File.{File}
 use Rattle.sarif_entries.specs.Matching.{matches}
 use Rattle.sarif_suppress.specs.Numbers.{numbers_from}
 use Rattle.sarif_suppress.specs.Suppressing.{matching_numbers}
-use Rattle.sarif_suppress.specs.Marks.{marks_of, with_mark, with_marks}
+use Rattle.sarif_suppress.specs.Internal.Marks.{marks_of, with_mark, with_marks}
 
 none_set : (es : List Entry) → replicate (length es) false ≡ map (λ (e : Entry). false) es
 none_set [] = refl

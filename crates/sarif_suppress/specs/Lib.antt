@@ -1,7 +1,4 @@
-pub mod Marks
+pub mod Internal
 pub mod Numbers
-pub mod Prefixes
 pub mod Suppressing
-pub mod Table
-pub mod Unseen
 pub mod Written

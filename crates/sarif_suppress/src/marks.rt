@@ -3,7 +3,7 @@
 ghost use Rattle.std.specs.Prelude.{◌≡◌, ◌≤◌, ◌++◌, ◌∷◌, [], List, length, false, not, count_by, replicate, IfOk};
 ghost use Rattle.sarif_model.specs.declared.record.Record.{Record};
 ghost use Rattle.sarif_entries.specs.File.{File};
-ghost use Rattle.sarif_suppress.specs.Marks.{marks_of, with_marks};
+ghost use Rattle.sarif_suppress.specs.Internal.Marks.{marks_of, with_marks};
 ghost use Rattle.sarif_suppress.specs.Suppressing.{matching_numbers, unused_of};
 ghost use Rattle.sarif_model.specs.Limits.{most_entries};
 

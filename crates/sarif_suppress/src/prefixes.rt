@@ -5,7 +5,7 @@ ghost use Rattle.std.specs.Prelude.{◌≡◌, ◌≤◌, ◌++◌, ◌||◌, []
 ghost use Rattle.std.specs.List.{flat_map};
 ghost use Rattle.std.specs.Option.{option_map_or};
 ghost use Rattle.sarif_suppress.specs.Numbers.{numbers_from, numbers_at};
-ghost use Rattle.sarif_suppress.specs.Prefixes as said;
+ghost use Rattle.sarif_suppress.specs.Internal.Prefixes as said;
 ghost use Rattle.sarif_model.specs.Limits.{most_entries};
 
 use crate::numbers::{add_number, numbers_for};
@@ -92,7 +92,7 @@ impl<S: BuildHasher + Copy> PrefixTable<S> {
 }
 
 /// Returns the hash of a string with one more byte.
-#[tactic(auto, unfolding(crate::specs::Prefixes::next_hash))]
+#[tactic(auto, unfolding(crate::specs::Internal::Prefixes::next_hash))]
 fn next_hash(base: u32, hash: u32, byte: u8) -> u32
     ensures { result ≡ said.next_hash base hash byte }
 {

@@ -1,6 +1,6 @@
 //! Reading the suppression file, with the tables of its entries.
 ghost use Rattle.std.specs.Prelude.{◌≡◌, Ok, Err, IfOk};
-ghost use Rattle.sarif_model.specs.Refusal.{IfFault};
+ghost use Rattle.sarif_model.specs.Internal.Refusal.{IfFault};
 ghost use Rattle.sarif_entries.specs.File.{file_of};
 
 use crate::suppressions::Suppressions;

@@ -2,7 +2,7 @@
 ghost use Rattle.std.specs.Prelude.{◌≡◌, ◌≤◌, [], length, map, IfOk};
 ghost use Rattle.serde_json.specs.View.{view};
 ghost use Rattle.sarif_model.specs.declared.record.Record.{Record};
-ghost use Rattle.sarif_suppress.specs.Marks.{marks_of};
+ghost use Rattle.sarif_suppress.specs.Internal.Marks.{marks_of};
 ghost use Rattle.sarif_suppress.specs.Written as said;
 ghost use Rattle.sarif_suppress.specs.Suppressing.{lasting, matching_numbers, is_suppressed};
 ghost use Rattle.sarif_model.specs.Limits.{most_entries};
@@ -35,8 +35,8 @@ pub struct Suppressions<S: BuildHasher + Copy = RandomState> {
 impl<S: BuildHasher + Copy> Model for Suppressions<S> {
     ghost use Rattle.std.specs.Prelude.{◌≤◌, length};
     ghost use Rattle.sarif_entries.specs.File.{File};
-    ghost use Rattle.sarif_suppress.specs.Prefixes.{IsPrefixTable};
-    ghost use Rattle.sarif_suppress.specs.Table.{IsTable};
+    ghost use Rattle.sarif_suppress.specs.Internal.Prefixes.{IsPrefixTable};
+    ghost use Rattle.sarif_suppress.specs.Internal.Table.{IsTable};
     ghost use Rattle.sarif_model.specs.Limits.{most_entries};
 
     ghost Value = { File };

@@ -7,10 +7,10 @@ ghost use Rattle.std.specs.Prelude.{◌≡◌, ◌≤◌, ◌++◌, [], List, �
 ghost use Rattle.std.specs.Cmp.Lexicographic.{pointwise};
 ghost use Rattle.std.specs.List.{flat_map};
 ghost use Rattle.std.specs.Option.{option_map_or};
-ghost use Rattle.sarif_entries.specs.Filing as said;
+ghost use Rattle.sarif_entries.specs.Internal.Filing as said;
 ghost use Rattle.sarif_entries.specs.Matching.{is_pair};
 ghost use Rattle.sarif_suppress.specs.Numbers.{numbers_from, numbers_at};
-ghost use Rattle.sarif_suppress.specs.Table.{ArePairTables, AreTextTables, IsTable, candidates};
+ghost use Rattle.sarif_suppress.specs.Internal.Table.{ArePairTables, AreTextTables, IsTable, candidates};
 ghost use Rattle.sarif_model.specs.Limits.{most_entries};
 
 use crate::numbers::{add_number, numbers_for};

@@ -3,7 +3,7 @@
 ghost use Rattle.std.specs.Prelude.{◌≡◌, ◌++◌, ◌∷◌, [], List, map, slice_get, IfOk, OnOk};
 ghost use Rattle.serde_json.specs.Data.{Data};
 ghost use Rattle.serde_json.specs.View.{view};
-ghost use Rattle.sarif_suppress.specs.Unseen.{HasKeysOf};
+ghost use Rattle.sarif_suppress.specs.Internal.Unseen.{HasKeysOf};
 ghost use Rattle.sarif_suppress.specs.Written as said;
 
 use indexmap::IndexSet;

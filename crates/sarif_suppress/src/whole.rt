@@ -3,7 +3,7 @@
 ghost use Rattle.std.specs.Prelude.{◌≡◌, ◌==◌, ◌<◌, ◌≤◌, count_by, length, not, option_map, slice_get, Ok, Err, Some, IfOk};
 ghost use Rattle.std.specs.List.{list_any};
 ghost use Rattle.serde_json.specs.View.{view};
-ghost use Rattle.sarif_model.specs.Refusal.{IfFault};
+ghost use Rattle.sarif_model.specs.Internal.Refusal.{IfFault};
 ghost use Rattle.sarif_entries.specs.File as said;
 ghost use Rattle.sarif_entries.specs.Matching.{matches};
 ghost use Rattle.sarif_suppress.specs.Suppressing.{unused_of};

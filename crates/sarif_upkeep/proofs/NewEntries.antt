@@ -23,8 +23,8 @@ use Rattle.sarif_accept.specs.Entry.{entry_for}
 use Rattle.sarif_accept.specs.Keeping.{chosen, is_kept}
 use Rattle.sarif_accept.specs.NewFile.{entries_after, entries_in, file_object, listed, new_file, stripped_in}
 use Rattle.sarif_upkeep.specs.Heard.{heard}
-use Rattle.sarif_upkeep.specs.IsMatched.{IsFileOf}
-use Rattle.sarif_upkeep.specs.Making.{entries_of, file_of as made_of}
+use Rattle.sarif_upkeep.specs.Internal.IsMatched.{IsFileOf}
+use Rattle.sarif_upkeep.specs.Internal.Making.{entries_of, file_of as made_of}
 use Rattle.sarif_upkeep.specs.Merge.{Merge}
 use Rattle.sarif_upkeep.specs.Renewed.{accepted_in, added_in, entries_count, kept_in, renewal_faults, rules_after, text_faults, values_added}
 

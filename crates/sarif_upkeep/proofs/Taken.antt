@@ -17,7 +17,7 @@ use Rattle.sarif_entries.specs.File.{File}
 use Rattle.sarif_suppress.specs.Suppressing.{matching_numbers}
 use Rattle.sarif_runs.specs.declared.opened.OpenedRun.{OpenedRun}
 use Rattle.sarif_runs.specs.Judging.{run_values}
-use Rattle.sarif_runs.specs.Opened.{placed_of}
+use Rattle.sarif_runs.specs.Internal.Opened.{placed_of}
 use Rattle.sarif_runs.specs.Placed.{Placed}
 use Rattle.sarif_runs.specs.Record.{tool_name}
 use Rattle.sarif_results.specs.declared.draft.Draft.{Draft}

@@ -1,8 +1,7 @@
 pub mod Heard
-pub mod IsMatched
+pub mod Internal
 pub mod Known
 pub mod Life
-pub mod Making
 pub mod Merge
 pub mod ReadBack
 pub mod Renewed

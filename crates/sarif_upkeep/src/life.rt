@@ -2,7 +2,7 @@
 ghost use Rattle.std.specs.Prelude.{◌≡◌, ◌⊎◌, [], Some, option_map, string_bytes, IfOk, IfErr};
 ghost use Rattle.sarif_model.specs.FirstFault.{first};
 ghost use Rattle.sarif_model.specs.MergeFault.{out_of_memory};
-ghost use Rattle.sarif_upkeep.specs.IsMatched.{IsMatched};
+ghost use Rattle.sarif_upkeep.specs.Internal.IsMatched.{IsMatched};
 ghost use Rattle.sarif_upkeep.specs.Life as said;
 ghost use Rattle.sarif_upkeep.specs.Merge.{Merge};
 ghost use Rattle.sarif_upkeep.specs.ReadBack.{IsReadAgain};

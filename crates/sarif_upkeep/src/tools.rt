@@ -1,9 +1,9 @@
 //! Which tools were heard in the input runs, and which entries match a current result.
 ghost use Rattle.std.specs.Prelude.{◌≡◌, List, map, IfOk};
 ghost use Rattle.sarif_model.specs.declared.record.Record.{Record};
-ghost use Rattle.sarif_suppress.specs.Marks.{marks_of};
+ghost use Rattle.sarif_suppress.specs.Internal.Marks.{marks_of};
 ghost use Rattle.sarif_runs.specs.Judging.{run_values};
-ghost use Rattle.sarif_runs.specs.Opened.{placed_of};
+ghost use Rattle.sarif_runs.specs.Internal.Opened.{placed_of};
 ghost use Rattle.sarif_results.specs.Drafts.{applied_of};
 ghost use Rattle.sarif_upkeep.specs.Heard.{tool_run};
 

@@ -5,7 +5,7 @@ ghost use Rattle.sarif_gather.specs.declared.piece.Parcel.TheVariants.{Carry};
 ghost use Rattle.sarif_gather.specs.Ends.{IsPostOf, number_of, sent_by};
 ghost use Rattle.sarif_gather.specs.Hands.{IsHandOf, drawn_by, is_marked};
 ghost use Rattle.sarif_gather.specs.Pieces.{pieces_of, pieces_of_runs};
-ghost use Rattle.sarif_gather.specs.Served.{IsServed};
+ghost use Rattle.sarif_gather.specs.Internal.Served.{IsServed};
 
 use crate::deal::Hand;
 use crate::gathering::crew::Workplace;

@@ -3,7 +3,7 @@ ghost use Rattle.std.specs.Prelude.{◌≡◌, Ok, Err, IfOk};
 ghost use Rattle.serde_json.specs.View.{view as seen, members_view};
 ghost use Rattle.sarif_runs.specs.Fingerprints.{pairs_at, pairs_among};
 ghost use Rattle.sarif_runs.specs.OwnMembers.{own_fingerprints};
-ghost use Rattle.sarif_model.specs.Refusal.{IfFault};
+ghost use Rattle.sarif_model.specs.Internal.Refusal.{IfFault};
 
 use sarif_model::members::member_at;
 use sarif_model::{Fault, Pairs, Refusal, Sequence, Text};

@@ -4,7 +4,7 @@ ghost use Rattle.serde_json.specs.View.{view as seen};
 ghost use Rattle.sarif_runs.specs.OwnMembers.{own_message, own_rule_id, own_message_and_rule};
 ghost use Rattle.sarif_runs.specs.OwnMembers.{text_of, texts_within};
 ghost use Rattle.sarif_model.specs.Members.{result_map, read_each};
-ghost use Rattle.sarif_model.specs.Refusal.{IfFault};
+ghost use Rattle.sarif_model.specs.Internal.Refusal.{IfFault};
 
 use sarif_model::members::{elements_at, object_at, object_within, text_at, text_within};
 use sarif_model::{Fault, Message, Refusal, Sequence, Text, copy_if_there};

@@ -4,7 +4,7 @@ ghost use Rattle.sarif_model.specs.Members.{read_each};
 ghost use Rattle.serde_json.specs.View.{view as seen};
 ghost use Rattle.sarif_model.specs.Suppression.{check_suppression_kind, status_of};
 ghost use Rattle.sarif_runs.specs.OwnMembers.{own_statuses};
-ghost use Rattle.sarif_model.specs.Refusal.{IfFault};
+ghost use Rattle.sarif_model.specs.Internal.Refusal.{IfFault};
 
 use sarif_model::members::{member_at, objects_at};
 use sarif_model::{Fault, Refusal, Sequence, Status};

@@ -1,7 +1,7 @@
 use Rattle.std.proofs.Common.{◌≡◌, ◌++◌, false, length, string_bytes}
 use Rattle.serde_json.specs.View.{members_view}
 use Rattle.serde_json.specs.Written.{members_have_float}
-use Rattle.json_parts.specs.Around.{texts_before, members_after}
+use Rattle.json_parts.specs.Internal.Around.{texts_before, members_after}
 use Rattle.json_parts.proofs.around.push_before.Given as goal
 
 abbrev pub invariant-loop-alloc : goal.invariant-loop-alloc

@@ -3,7 +3,7 @@ use Rattle.std.specs.Prelude.{IfErr, IsUtf8}
 use Rattle.json.specs.Tape.{node_token}
 use Rattle.json.specs.Lex.{tokens}
 use Rattle.json_parts.specs.Indexed.{json_of, data_of, IsReadable}
-use Rattle.json_parts.specs.Whole.{IsWhole}
+use Rattle.json_parts.specs.Internal.Whole.{IsWhole}
 use Rattle.json_parts.specs.declared.indexing.IndexFault.TheVariants.{NotJson}
 use Rattle.json_parts.proofs.Order.{readable_ordered}
 use Rattle.json_parts.proofs.Texts.{json_of_utf8, json_of_other, no_document, not_readable, readable_text}

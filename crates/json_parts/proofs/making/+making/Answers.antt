@@ -5,7 +5,7 @@ use Rattle.serde_json.specs.View.{view, members_view}
 use Rattle.serde_json.proofs.Views.{view-Object, members_view-insert_entry}
 use Rattle.json_parts.specs.Indexed.{data_of}
 use Rattle.json_parts.specs.Stripping.{stripped, stripped_items}
-use Rattle.json_parts.specs.Walking.{depth_of, put_all, is_left_out, kept_members}
+use Rattle.json_parts.specs.Internal.Walking.{depth_of, put_all, is_left_out, kept_members}
 use Rattle.json_parts.proofs.Kept.{items_before, items_before_one, items_before_none, removed, view-removed, put_kept, put_left, object_made}
 use Rattle.json_parts.proofs.Order.{ordered_put}
 use Rattle.json_parts.proofs.making.+making.Goals as goal

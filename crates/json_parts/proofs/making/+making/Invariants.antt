@@ -2,9 +2,9 @@ use Rattle.std.proofs.Common.{◌≡◌, ℕ, suc, ◌+◌, ◌*◌, option_map,
 use Rattle.serde_json.specs.Data.{Items, Members, array, object}
 use Rattle.serde_json.specs.View.{members_view}
 use Rattle.json_parts.specs.Indexed.{data_of}
-use Rattle.json_parts.specs.Ordered.{AreMembersOrdered}
+use Rattle.json_parts.specs.Internal.Ordered.{AreMembersOrdered}
 use Rattle.json_parts.specs.Stripping.{stripped_items}
-use Rattle.json_parts.specs.Walking.{depth_of, put_all, ElementsAre, MembersAre, kept_members}
+use Rattle.json_parts.specs.Internal.Walking.{depth_of, put_all, ElementsAre, MembersAre, kept_members}
 use Rattle.json_parts.proofs.Kept.{items_before}
 use Rattle.json_parts.proofs.making.+making.Given as goal
 

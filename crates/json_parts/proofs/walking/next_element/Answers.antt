@@ -1,5 +1,5 @@
 use Rattle.std.proofs.Common.{◌≡◌, Some, None, sym, subst, arith}
-use Rattle.json_parts.specs.Walking.{NextElement}
+use Rattle.json_parts.specs.Internal.Walking.{NextElement}
 use Rattle.json_parts.proofs.Walks.{element_at, next_element_is}
 use Rattle.json_parts.proofs.walking.next_element.Goals as goal
 

@@ -1,7 +1,7 @@
 use Rattle.std.proofs.Common.{◌≡◌, Some, None, option_map, sym, subst, arith}
 use Rattle.json_parts.specs.Indexed.{data_of}
-use Rattle.json_parts.specs.Ordered.{IsOrdered}
-use Rattle.json_parts.specs.Walking.{NextMember}
+use Rattle.json_parts.specs.Internal.Ordered.{IsOrdered}
+use Rattle.json_parts.specs.Internal.Walking.{NextMember}
 use Rattle.json_parts.proofs.Order.{readable_ordered}
 use Rattle.json_parts.proofs.Walks.{member_at, next_member_is}
 use Rattle.json_parts.proofs.walking.next_member.Goals as goal

@@ -1,7 +1,7 @@
 use Rattle.std.proofs.Common.{◌≡◌, ◌+◌, ◌≤◌, drop}
 use Rattle.serde_json.specs.View.{items_view, members_view}
 use Rattle.sarif_model.specs.Limits.{most_bytes}
-use Rattle.sarif_accept.specs.Weighing.{item_lines, member_lines}
+use Rattle.sarif_accept.specs.Internal.Weighing.{item_lines, member_lines}
 use Rattle.sarif_accept.proofs.indentation.+indentation.Given as goal
 
 -- what was left is so much more than the lines so far

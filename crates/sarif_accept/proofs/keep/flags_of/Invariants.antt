@@ -1,5 +1,5 @@
 use Rattle.std.proofs.Common.{◌≡◌, ◌++◌, drop}
-use Rattle.sarif_accept.specs.Flags.{flags_by}
+use Rattle.sarif_accept.specs.Internal.Flags.{flags_by}
 use Rattle.sarif_accept.specs.Heard.{heard_of}
 use Rattle.sarif_accept.proofs.keep.flags_of.Given as goal
 

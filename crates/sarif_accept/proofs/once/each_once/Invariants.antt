@@ -1,7 +1,7 @@
 use Rattle.std.proofs.Common.{◌≡◌, ◌≤◌, ◌++◌, [], map, drop, length}
 use Rattle.sarif_model.specs.Limits.{most_entries}
 use Rattle.sarif_accept.specs.Adding.{once_each}
-use Rattle.sarif_accept.specs.Asked.{HasAsked}
+use Rattle.sarif_accept.specs.Internal.Asked.{HasAsked}
 use Rattle.sarif_accept.proofs.once.each_once.Given as goal
 
 -- the results so far, each once, and then those of the rest; the set has the conditions of their entries

@@ -3,7 +3,7 @@ use Rattle.std.specs.Prelude.{nat_lt}
 use Rattle.serde_json.specs.View.{view}
 use Rattle.sarif_model.specs.Limits.{most_bytes}
 use Rattle.sarif_model.specs.declared.merge_fault.Cause.TheVariants.{TooLong}
-use Rattle.sarif_accept.specs.Weighing.{lines_in}
+use Rattle.sarif_accept.specs.Internal.Weighing.{lines_in}
 use Rattle.sarif_accept.proofs.RenewedFile.{is_shallow, is_too_indented, is_whole}
 use Rattle.sarif_accept.proofs.renewing.new_file.Goals as goal
 

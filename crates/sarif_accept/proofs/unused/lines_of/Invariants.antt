@@ -1,5 +1,5 @@
 use Rattle.std.proofs.Common.{◌≡◌, ◌++◌, map, drop, string_bytes}
-use Rattle.sarif_accept.specs.Flags.{lines_by}
+use Rattle.sarif_accept.specs.Internal.Flags.{lines_by}
 use Rattle.sarif_accept.proofs.Flags.{node_value}
 use Rattle.sarif_accept.proofs.unused.lines_of.Given as goal
 

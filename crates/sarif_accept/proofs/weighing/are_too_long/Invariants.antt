@@ -1,6 +1,6 @@
 use Rattle.std.proofs.Common.{◌≡◌, ◌+◌, map, drop}
 use Rattle.sarif_model.specs.Limits.{most_bytes}
-use Rattle.sarif_accept.specs.Weighing.{weights_of}
+use Rattle.sarif_accept.specs.Internal.Weighing.{weights_of}
 use Rattle.sarif_accept.proofs.weighing.are_too_long.Given as goal
 
 -- what was left is so much more than what the results so far weigh

@@ -1,8 +1,8 @@
 use Rattle.std.proofs.Common.{◌≡◌, ◌++◌, IsUtf8, chars, string_bytes}
 use Rattle.std.specs.Str.Iter.{chars_rest}
-use Rattle.sarif_explain.specs.Lines.{shortened}
+use Rattle.sarif_explain.specs.Internal.Lines.{shortened}
 use Rattle.sarif_explain.proofs.lines.shortened.Given as goal
-use Rattle.sarif_explain.specs.Lines.{most_of_a_value}
+use Rattle.sarif_explain.specs.Internal.Lines.{most_of_a_value}
 
 abbrev pub invariant-loop-c : goal.invariant-loop-c
 invariant-loop-c l =

@@ -1,6 +1,6 @@
 use Rattle.std.proofs.Common.{◌≡◌, ◌&&◌, drop}
 use Rattle.std.specs.List.{list_all}
-use Rattle.sarif_findings.specs.Brackets.{is_ordinary}
+use Rattle.sarif_findings.specs.Internal.Brackets.{is_ordinary}
 use Rattle.sarif_findings.proofs.brackets.all_ordinary.Given as goal
 
 abbrev pub invariant-loop-byte : goal.invariant-loop-byte

@@ -1,7 +1,7 @@
 use Rattle.std.proofs.Common.{◌≡◌, ◌<◌, ◌-◌, List, false, length, drop, get_or, chars}
 use Rattle.std.specs.Str.{IsCharBoundary}
 use Rattle.serde_json.specs.Data.{Data}
-use Rattle.sarif_findings.specs.Brackets.{is_ordinary}
+use Rattle.sarif_findings.specs.Internal.Brackets.{is_ordinary}
 use Rattle.sarif_findings.specs.Links.{ends_link}
 use Rattle.sarif_findings.proofs.brackets.bracket_at.Given as goal
 

@@ -1,6 +1,6 @@
 use Rattle.std.proofs.Common.{◌≡◌, ◌≤◌, ◌-◌, true, length, take}
 use Rattle.std.specs.List.{list_all}
-use Rattle.sarif_findings.specs.Brackets.{is_ordinary}
+use Rattle.sarif_findings.specs.Internal.Brackets.{is_ordinary}
 use Rattle.sarif_findings.proofs.brackets.ordinary_bytes.Given as goal
 
 abbrev pub decreases-loop-end : goal.decreases-loop-end

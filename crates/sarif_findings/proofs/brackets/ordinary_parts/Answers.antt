@@ -1,6 +1,6 @@
 use Rattle.std.proofs.Common.{rules, ◌≡◌, ◌+◌, true, arith}
 use Rattle.std.specs.List.{list_all, slice_range}
-use Rattle.sarif_findings.specs.Brackets.{is_ordinary}
+use Rattle.sarif_findings.specs.Internal.Brackets.{is_ordinary}
 use Rattle.sarif_findings.proofs.BracketsMore.{parts_go}
 use Rattle.sarif_findings.proofs.brackets.ordinary_parts.Goals as goal
 

@@ -1,5 +1,5 @@
 use Rattle.std.proofs.Common.{rules, ◌≡◌, ◌<◌, ◌+◌, true, false, get_or, length, refl, arith}
-use Rattle.sarif_findings.specs.Brackets.{is_ordinary}
+use Rattle.sarif_findings.specs.Internal.Brackets.{is_ordinary}
 use Rattle.sarif_findings.proofs.BracketsMore.{special_low, pair_passes, alone_passes}
 use Rattle.sarif_findings.proofs.EmptiesPassed.{cut_behind}
 use Rattle.sarif_findings.proofs.brackets.pair_end.Goals as goal

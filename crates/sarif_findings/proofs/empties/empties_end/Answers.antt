@@ -1,7 +1,7 @@
 use Rattle.std.proofs.Common.{rules, ◌≡◌, ◌<◌, ◌+◌, length, map, get_or, ap, refl, arith}
 use Rattle.std.proofs.lemmas.Str.{IsCharBoundary-start}
 use Rattle.serde_json.specs.View.{view}
-use Rattle.sarif_findings.specs.Unlinked.{IsEmptied}
+use Rattle.sarif_findings.specs.Internal.Unlinked.{IsEmptied}
 use Rattle.sarif_findings.proofs.EmptiesPassed.{cut_behind, passes_one}
 use Rattle.sarif_findings.proofs.empties.empties_end.Goals as goal
 

@@ -1,7 +1,7 @@
 use Rattle.std.proofs.Common.{drop, length, map, ◌-◌}
 use Rattle.std.specs.Str.{IsCharBoundary}
 use Rattle.serde_json.specs.View.{view}
-use Rattle.sarif_findings.specs.Unlinked.{PassesEmpties}
+use Rattle.sarif_findings.specs.Internal.Unlinked.{PassesEmpties}
 use Rattle.sarif_findings.proofs.empties.empties_end.Given as goal
 
 abbrev pub decreases-loop-end : goal.decreases-loop-end

@@ -1,6 +1,6 @@
 use Rattle.std.proofs.Common.{◌∙◌, ap, sym, chars, map, refl}
 use Rattle.serde_json.specs.View.{view}
-use Rattle.sarif_findings.specs.Brackets.{closes_link}
+use Rattle.sarif_findings.specs.Internal.Brackets.{closes_link}
 use Rattle.sarif_findings.specs.Links.{begins_target}
 use Rattle.sarif_findings.proofs.FirstChar.{first_same}
 use Rattle.sarif_findings.proofs.links.closes_link.Goals as goal

@@ -1,6 +1,6 @@
 use Rattle.std.proofs.Common.{◌≡◌, ◌++◌, map, drop}
 use Rattle.serde_json.specs.View.{view}
-use Rattle.sarif_findings.specs.RulesOf.{rules_in}
+use Rattle.sarif_findings.specs.Internal.RulesOf.{rules_in}
 use Rattle.sarif_findings.proofs.named_run.rules_of_each.Given as goal
 
 abbrev pub invariant-loop-component : goal.invariant-loop-component

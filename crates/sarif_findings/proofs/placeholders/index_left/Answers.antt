@@ -1,6 +1,6 @@
 use Rattle.std.proofs.Common.{sym, ap, ◌∙◌}
 use Rattle.sarif_findings.specs.Placeholders.{index_from}
-use Rattle.sarif_findings.specs.Unlinked.{left}
+use Rattle.sarif_findings.specs.Internal.Unlinked.{left}
 use Rattle.sarif_findings.proofs.placeholders.index_left.Goals as goal
 
 pub returns-in-Err-clause-said : goal.returns-in-Err-clause-said

@@ -1,6 +1,6 @@
 use Rattle.std.proofs.Common.{◌≡◌, ◌<◌, ◌≤◌, ◌+◌, length}
 use Rattle.sarif_findings.specs.Placeholders.{index_from}
-use Rattle.sarif_findings.specs.Unlinked.{left}
+use Rattle.sarif_findings.specs.Internal.Unlinked.{left}
 use Rattle.sarif_findings.proofs.placeholders.index_left.Given as goal
 
 abbrev pub decreases-loop-c : goal.decreases-loop-c

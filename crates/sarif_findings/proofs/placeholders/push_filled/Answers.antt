@@ -1,7 +1,7 @@
 use Rattle.std.proofs.Common.{◌∙◌, ◌++◌, ap, sym, map}
 use Rattle.serde_json.specs.View.{view}
 use Rattle.sarif_findings.specs.Placeholders.{filled_from}
-use Rattle.sarif_findings.specs.ShownSoFar.{shown_with}
+use Rattle.sarif_findings.specs.Internal.ShownSoFar.{shown_with}
 use Rattle.sarif_findings.proofs.MessageMore.{filled_empty}
 use Rattle.sarif_findings.proofs.placeholders.push_filled.Goals as goal
 

@@ -2,8 +2,8 @@ use Rattle.std.proofs.Common.{◌≡◌, ℕ, List, ◌++◌, map, length, chars
 use Rattle.serde_json.specs.View.{view}
 use Rattle.sarif_findings.specs.Links.{unlinked}
 use Rattle.sarif_findings.specs.Placeholders.{filled_from}
-use Rattle.sarif_findings.specs.ShownSoFar.{shown_with}
-use Rattle.sarif_findings.specs.Unlinked.{left}
+use Rattle.sarif_findings.specs.Internal.ShownSoFar.{shown_with}
+use Rattle.sarif_findings.specs.Internal.Unlinked.{left}
 use Rattle.sarif_findings.proofs.placeholders.push_filled.Given as goal
 
 abbrev pub decreases-loop-c : goal.decreases-loop-c

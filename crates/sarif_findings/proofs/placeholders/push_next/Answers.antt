@@ -1,6 +1,6 @@
 use Rattle.std.proofs.Common.{map, refl, arith}
 use Rattle.serde_json.specs.View.{view}
-use Rattle.sarif_findings.specs.Unlinked.{left}
+use Rattle.sarif_findings.specs.Internal.Unlinked.{left}
 use Rattle.sarif_findings.proofs.MessageMore.{skip_step, piece_step}
 use Rattle.sarif_findings.proofs.placeholders.push_next.Goals as goal
 

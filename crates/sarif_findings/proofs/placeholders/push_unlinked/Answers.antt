@@ -1,6 +1,6 @@
 use Rattle.std.proofs.Common.{◌∙◌, ◌++◌, ap}
-use Rattle.sarif_findings.specs.ShownSoFar.{shown_with}
-use Rattle.sarif_findings.specs.Unlinked.{left}
+use Rattle.sarif_findings.specs.Internal.ShownSoFar.{shown_with}
+use Rattle.sarif_findings.specs.Internal.Unlinked.{left}
 use Rattle.sarif_findings.proofs.placeholders.push_unlinked.Goals as goal
 
 pub loop-c-preserved : goal.loop-c-preserved

@@ -1,6 +1,6 @@
 use Rattle.std.proofs.Common.{◌≡◌, ◌&&◌, drop}
 use Rattle.std.specs.List.{list_all}
-use Rattle.sarif_findings.specs.ShownSoFar.{is_verbatim}
+use Rattle.sarif_findings.specs.Internal.ShownSoFar.{is_verbatim}
 use Rattle.sarif_findings.proofs.shown_text.all_verbatim.Given as goal
 
 abbrev pub invariant-loop-byte : goal.invariant-loop-byte

@@ -1,5 +1,5 @@
-use Rattle.sarif_runs.specs.Opened.{placed_of}
-use Rattle.sarif_inputs.specs.ReadRun.{placed_read}
+use Rattle.sarif_runs.specs.Internal.Opened.{placed_of}
+use Rattle.sarif_inputs.specs.Internal.ReadRun.{placed_read}
 use Rattle.sarif_inputs.proofs.Shared.{mapped_alike}
 use Rattle.sarif_inputs.proofs.opening.open_each.Goals as goal
 

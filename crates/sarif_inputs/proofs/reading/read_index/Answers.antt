@@ -1,9 +1,9 @@
 use Rattle.std.proofs.Common.{rules, ◌≡◌, Err, subst, sym}
 use Rattle.std.specs.Prelude.{Ok}
-use Rattle.sarif_inputs.specs.Together.{IsIndexed}
-use Rattle.sarif_read.specs.ReadRefusal.{refusal_of_index}
+use Rattle.sarif_inputs.specs.Internal.Together.{IsIndexed}
+use Rattle.sarif_read.specs.Internal.ReadRefusal.{refusal_of_index}
 use Rattle.json_parts.specs.Mark.{without_mark}
-use Rattle.sarif_inputs.specs.Parsed.{IsParsedFrom}
+use Rattle.sarif_inputs.specs.Internal.Parsed.{IsParsedFrom}
 use Rattle.sarif_inputs.proofs.ReadIndexes.{read_of_index, read_without_index}
 use Rattle.sarif_inputs.proofs.reading.read_index.Goals as goal
 

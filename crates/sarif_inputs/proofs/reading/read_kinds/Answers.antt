@@ -1,5 +1,5 @@
 use Rattle.std.proofs.Common.{rules, ◌≡◌, ◌++◌, length, vec_len, arith, sym, subst, length-append}
-use Rattle.sarif_inputs.specs.Parsed.{AreParsedFrom}
+use Rattle.sarif_inputs.specs.Internal.Parsed.{AreParsedFrom}
 use Rattle.sarif_inputs.proofs.ReadParts.{parsed_by, parsed_length, parsed_parts}
 use Rattle.sarif_inputs.proofs.reading.read_kinds.Goals as goal
 

@@ -1,5 +1,5 @@
 use Rattle.std.proofs.Common.{◌≡◌, ◌+◌, map, drop}
-use Rattle.sarif_read.specs.Indexed.{run_of}
+use Rattle.sarif_read.specs.Internal.Indexed.{run_of}
 use Rattle.sarif_model.specs.Run.{results_total}
 use Rattle.sarif_inputs.proofs.sources.count_results.Given as goal
 

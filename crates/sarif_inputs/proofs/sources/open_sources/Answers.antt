@@ -1,9 +1,9 @@
 use Rattle.std.proofs.Common.{rules, ◌≡◌, ◌≤◌, length, vec_len, arith, ap, ◌∙◌, sym, subst}
 use Rattle.std.proofs.lemmas.List.{length-map}
 use Rattle.sarif_model.specs.Run.{results_total}
-use Rattle.sarif_runs.specs.Opened.{placed_of}
+use Rattle.sarif_runs.specs.Internal.Opened.{placed_of}
 use Rattle.sarif_runs.specs.Judging.{run_values}
-use Rattle.sarif_inputs.specs.ReadRun.{placed_read}
+use Rattle.sarif_inputs.specs.Internal.ReadRun.{placed_read}
 use Rattle.sarif_inputs.proofs.OpenedParts.{logs_within, are_runs}
 use Rattle.sarif_inputs.proofs.sources.open_sources.Goals as goal
 use Rattle.sarif_model.specs.Limits.{most_results, most_runs}

@@ -3,10 +3,10 @@ use Rattle.serde_json.specs.Written.{has_float}
 use Rattle.std.proofs.Common.{false, subst, rules, ◌≡◌, ℕ, List, ◌++◌, [], ◌∷◌, map, sym, ap, ◌∙◌, append_assoc, arith}
 use Rattle.std.proofs.lemmas.Grind.{common_steps}
 use Rattle.std.proofs.lemmas.List.{map-append}
-use Rattle.sarif_read.specs.Indexed.{run_of}
+use Rattle.sarif_read.specs.Internal.Indexed.{run_of}
 use Rattle.sarif_runs.specs.Placed.{Placed}
 use Rattle.sarif_inputs.specs.Inputs.{must_succeed, placed_from}
-use Rattle.sarif_inputs.specs.ReadRun.{placed_read}
+use Rattle.sarif_inputs.specs.Internal.ReadRun.{placed_read}
 use Rattle.sarif_inputs.proofs.SourceRuns.{placed_more, whole_at}
 use Rattle.sarif_inputs.proofs.sources.place_runs.Goals as goal
 

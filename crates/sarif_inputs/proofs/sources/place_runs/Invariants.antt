@@ -1,7 +1,7 @@
 use Rattle.std.proofs.Common.{◌≡◌, ◌++◌, map, length}
-use Rattle.sarif_read.specs.Indexed.{run_of}
+use Rattle.sarif_read.specs.Internal.Indexed.{run_of}
 use Rattle.sarif_inputs.specs.Inputs.{placed_from}
-use Rattle.sarif_inputs.specs.ReadRun.{placed_read}
+use Rattle.sarif_inputs.specs.Internal.ReadRun.{placed_read}
 use Rattle.sarif_inputs.proofs.sources.place_runs.Given as goal
 
 abbrev pub invariant-loop-run : goal.invariant-loop-run

@@ -2,7 +2,7 @@ use Rattle.std.proofs.Common.{◌≡◌, ◌<◌, ◌+◌, ◌∷◌, map, drop,
 use Rattle.std.proofs.lemmas.List.{drop_more}
 use Rattle.std.specs.List.{flat_map}
 use Rattle.sarif_runs.specs.Judging.{faults_of_runs, items_of}
-use Rattle.sarif_runs.specs.Opened.{placed_of}
+use Rattle.sarif_runs.specs.Internal.Opened.{placed_of}
 use Rattle.sarif_results.proofs.OutcomeItems.{items_cut}
 use Rattle.sarif_model.specs.FirstFault.{first}
 use Rattle.sarif_judge.proofs.FirstFaults.{ends, goes_on}

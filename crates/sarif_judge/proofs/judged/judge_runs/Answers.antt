@@ -1,7 +1,7 @@
 use Rattle.std.proofs.Common.{map, sym, ap, ◌∙◌}
 use Rattle.std.specs.List.{flat_map}
 use Rattle.sarif_runs.specs.Judging.{items_of}
-use Rattle.sarif_runs.specs.Opened.{placed_of}
+use Rattle.sarif_runs.specs.Internal.Opened.{placed_of}
 use Rattle.sarif_results.proofs.OutcomeItems.{all_items}
 use Rattle.sarif_judge.proofs.judged.judge_runs.Goals as goal
 

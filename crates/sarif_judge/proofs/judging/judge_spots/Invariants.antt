@@ -1,6 +1,6 @@
 use Rattle.std.proofs.Common.{◌≡◌, map, take}
-use Rattle.sarif_runs.specs.Opened.{placed_of}
-use Rattle.sarif_results.specs.OutcomesAt.{outcome_at}
+use Rattle.sarif_runs.specs.Internal.Opened.{placed_of}
+use Rattle.sarif_results.specs.Internal.OutcomesAt.{outcome_at}
 use Rattle.sarif_judge.proofs.judging.judge_spots.Given as goal
 
 abbrev pub invariant-loop-spot : goal.invariant-loop-spot

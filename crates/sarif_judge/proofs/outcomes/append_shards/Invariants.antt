@@ -1,5 +1,5 @@
 use Rattle.std.proofs.Common.{◌≡◌, ◌++◌}
-use Rattle.sarif_judge.specs.Flattened.{within_shards}
+use Rattle.sarif_judge.specs.Internal.Flattened.{within_shards}
 use Rattle.sarif_judge.proofs.outcomes.append_shards.Given as goal
 
 abbrev pub invariant-loop-shard : goal.invariant-loop-shard

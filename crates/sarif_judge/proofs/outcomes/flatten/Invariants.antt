@@ -1,5 +1,5 @@
 use Rattle.std.proofs.Common.{◌≡◌, ◌++◌, length}
-use Rattle.sarif_judge.specs.Flattened.{flattened_from}
+use Rattle.sarif_judge.specs.Internal.Flattened.{flattened_from}
 use Rattle.sarif_judge.proofs.outcomes.flatten.Given as goal
 
 abbrev pub invariant-loop-shards : goal.invariant-loop-shards

@@ -1,8 +1,8 @@
 use Rattle.std.proofs.Common.{rules, ◌≡◌, ◌<◌, ◌≤◌, ◌+◌, ◌*◌, ◌/◌, [], length, map, ap, ◌∙◌, sym, refl, subst, arith}
 use Rattle.std.specs.List.{All}
-use Rattle.sarif_runs.specs.Opened.{placed_of}
-use Rattle.sarif_results.specs.OutcomesAt.{outcome_at}
-use Rattle.sarif_runs.specs.Spots.{spots_from, IsSpotOf}
+use Rattle.sarif_runs.specs.Internal.Opened.{placed_of}
+use Rattle.sarif_results.specs.Internal.OutcomesAt.{outcome_at}
+use Rattle.sarif_runs.specs.Internal.Spots.{spots_from, IsSpotOf}
 use Rattle.sarif_runs.proofs.AllSpots.{none_long, spots_count, shard_size, shard_count, shards_enough}
 use Rattle.sarif_results.proofs.Places.{outcomes_at_spots}
 use Rattle.sarif_judge.proofs.Shards.{all_parts}

@@ -1,5 +1,5 @@
 use Rattle.std.proofs.Common.{◌≡◌, ◌++◌, length}
-use Rattle.sarif_judge.specs.Flattened.{flattened, flattened_from}
+use Rattle.sarif_judge.specs.Internal.Flattened.{flattened, flattened_from}
 use Rattle.sarif_judge.proofs.outcomes.stacked.Given as goal
 
 abbrev pub invariant-loop-shards : goal.invariant-loop-shards

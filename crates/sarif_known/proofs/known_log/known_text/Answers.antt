@@ -6,7 +6,7 @@ use Rattle.json_parts.specs.Mark.{without_mark}
 use Rattle.sarif_known.specs.Chosen.{Chosen, all_chosen}
 use Rattle.sarif_known.specs.KnownLog.{known_log, pretty_text}
 use Rattle.sarif_known.specs.Order.{known_runs}
-use Rattle.sarif_known.specs.Tokens.{data_tokens}
+use Rattle.sarif_known.specs.Internal.Tokens.{data_tokens}
 use Rattle.sarif_known.proofs.LogBack.{text_read}
 use Rattle.sarif_known.proofs.known_log.known_text.Goals as goal
 

@@ -1,7 +1,7 @@
 use Rattle.std.proofs.Common.{◌∙◌, ◌++◌, ap}
 use Rattle.json.specs.Layout.{pretty}
 use Rattle.sarif_known.specs.Chosen.{all_chosen}
-use Rattle.sarif_known.specs.Tokens.{log_opening}
+use Rattle.sarif_known.specs.Internal.Tokens.{log_opening}
 use Rattle.sarif_known.proofs.RunsAdded.{log_made, log_lost}
 use Rattle.sarif_known.proofs.known_log.log_text.Goals as goal
 

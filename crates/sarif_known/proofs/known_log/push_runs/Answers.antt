@@ -2,7 +2,7 @@ use Rattle.std.proofs.Common.{◌≡◌, ◌∙◌, ◌++◌, ◌∷◌, ◌+◌
 use Rattle.std.proofs.lemmas.List.{drop_more}
 use Rattle.sarif_known.specs.Chosen.{all_chosen, chosen_of}
 use Rattle.sarif_known.specs.KnownRun.{known_run}
-use Rattle.sarif_known.specs.Tokens.{each_tokens}
+use Rattle.sarif_known.specs.Internal.Tokens.{each_tokens}
 use Rattle.sarif_known.proofs.RunsAdded.{runs_lost}
 use Rattle.sarif_known.proofs.known_log.push_runs.Goals as goal
 

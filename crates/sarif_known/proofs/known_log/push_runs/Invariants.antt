@@ -1,7 +1,7 @@
 use Rattle.std.proofs.Common.{◌≡◌, ◌++◌, drop, map}
 use Rattle.sarif_known.specs.Chosen.{all_chosen}
 use Rattle.sarif_known.specs.KnownRun.{known_run}
-use Rattle.sarif_known.specs.Tokens.{each_tokens}
+use Rattle.sarif_known.specs.Internal.Tokens.{each_tokens}
 use Rattle.sarif_known.proofs.known_log.push_runs.Given as goal
 
 abbrev pub invariant-loop-run : goal.invariant-loop-run

@@ -1,6 +1,6 @@
 use Rattle.std.proofs.Common.{◌∷◌, [], ◌++◌, ◌∙◌, ap, sym}
 use Rattle.json.specs.Token.{begin_object, end_object}
-use Rattle.sarif_known.specs.Tokens.{first_tokens, last_tokens}
+use Rattle.sarif_known.specs.Internal.Tokens.{first_tokens, last_tokens}
 use Rattle.sarif_known.proofs.TokensOf.{four, result_tokens}
 use Rattle.sarif_known.proofs.known_result.push_result.Goals as goal
 

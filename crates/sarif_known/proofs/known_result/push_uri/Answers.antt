@@ -1,6 +1,6 @@
 use Rattle.std.proofs.Common.{Some, codes, option_map, ap, sym, ◌∙◌, ◌++◌}
 use Rattle.serde_json.specs.Data.{string}
-use Rattle.sarif_known.specs.Tokens.{opened, closed, value_tokens}
+use Rattle.sarif_known.specs.Internal.Tokens.{opened, closed, value_tokens}
 use Rattle.sarif_known.proofs.TokensOf.{four, uri_tokens}
 use Rattle.sarif_known.proofs.known_result.push_uri.Goals as goal
 

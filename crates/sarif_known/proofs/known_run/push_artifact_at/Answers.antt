@@ -1,7 +1,7 @@
 use Rattle.std.proofs.Common.{◌∷◌, [], codes}
 use Rattle.json.specs.Token.{key, begin_object, end_object}
 use Rattle.serde_json.specs.Data.{member, no_members, object, string}
-use Rattle.sarif_known.specs.Tokens.{data_tokens}
+use Rattle.sarif_known.specs.Internal.Tokens.{data_tokens}
 use Rattle.sarif_known.proofs.TokensOf.{four}
 use Rattle.sarif_known.proofs.known_run.push_artifact_at.Goals as goal
 

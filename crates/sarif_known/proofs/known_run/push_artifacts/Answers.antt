@@ -3,7 +3,7 @@ use Rattle.std.proofs.lemmas.List.{drop_more}
 use Rattle.json.specs.Token.{Token}
 use Rattle.sarif_model.specs.declared.record.Record.{Record}
 use Rattle.sarif_known.specs.KnownRun.{artifact_at, bases_alone}
-use Rattle.sarif_known.specs.Tokens.{data_tokens, each_tokens}
+use Rattle.sarif_known.specs.Internal.Tokens.{data_tokens, each_tokens}
 use Rattle.sarif_known.proofs.Lost.{part_lost}
 use Rattle.sarif_known.proofs.RunsAdded.{step_artifacts}
 use Rattle.sarif_known.proofs.known_run.push_artifacts.Goals as goal

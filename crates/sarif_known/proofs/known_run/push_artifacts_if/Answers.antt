@@ -1,7 +1,7 @@
 use Rattle.std.proofs.Common.{◌≡◌, ◌==◌, ◌∙◌, ◌++◌, ◌∷◌, [], false, length, map, ap, sym, codes, List, ℕ}
 use Rattle.json.specs.Token.{key, begin_array, end_array}
 use Rattle.sarif_known.specs.KnownRun.{artifact_at, bases_alone}
-use Rattle.sarif_known.specs.Tokens.{each_tokens}
+use Rattle.sarif_known.specs.Internal.Tokens.{each_tokens}
 use Rattle.sarif_known.proofs.TokensOf.{four, list_tokens}
 use Rattle.sarif_known.proofs.RunsAdded.{artifacts_lost}
 use Rattle.sarif_known.proofs.known_run.push_artifacts_if.Goals as goal

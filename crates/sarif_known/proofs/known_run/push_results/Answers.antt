@@ -3,7 +3,7 @@ use Rattle.std.proofs.lemmas.List.{drop_more}
 use Rattle.json.specs.Token.{Token}
 use Rattle.sarif_model.specs.declared.record.Record.{Record}
 use Rattle.sarif_known.specs.KnownRun.{results_from}
-use Rattle.sarif_known.specs.Tokens.{each_tokens}
+use Rattle.sarif_known.specs.Internal.Tokens.{each_tokens}
 use Rattle.sarif_known.proofs.Lost.{front_lost}
 use Rattle.sarif_known.proofs.TokensOf.{step_results}
 use Rattle.sarif_known.proofs.known_run.push_results.Goals as goal

@@ -1,6 +1,6 @@
 use Rattle.std.proofs.Common.{◌≡◌, ◌++◌, ◌≤◌, drop, map}
 use Rattle.sarif_known.specs.KnownRun.{results_from}
-use Rattle.sarif_known.specs.Tokens.{each_tokens}
+use Rattle.sarif_known.specs.Internal.Tokens.{each_tokens}
 use Rattle.sarif_known.proofs.known_run.push_results.Given as goal
 
 abbrev pub invariant-loop-found : goal.invariant-loop-found

@@ -1,5 +1,5 @@
 use Rattle.std.proofs.Common.{◌≡◌, ◌++◌, drop}
-use Rattle.sarif_known.specs.Tokens.{pairs_tokens}
+use Rattle.sarif_known.specs.Internal.Tokens.{pairs_tokens}
 use Rattle.sarif_known.proofs.members.push_pairs.Given as goal
 
 abbrev pub invariant-loop-name : goal.invariant-loop-name

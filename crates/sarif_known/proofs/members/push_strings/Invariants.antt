@@ -1,6 +1,6 @@
 use Rattle.std.proofs.Common.{◌≡◌, ◌++◌, drop, map}
 use Rattle.serde_json.specs.Data.{string}
-use Rattle.sarif_known.specs.Tokens.{each_tokens}
+use Rattle.sarif_known.specs.Internal.Tokens.{each_tokens}
 use Rattle.sarif_known.proofs.members.push_strings.Given as goal
 
 abbrev pub invariant-loop-text : goal.invariant-loop-text

@@ -1,7 +1,7 @@
 use Rattle.std.proofs.Common.{◌≡◌, ◌==◌, ◌∙◌, ◌++◌, ◌∷◌, [], false, length, map, ap, sym}
 use Rattle.json.specs.Token.{key, begin_array, end_array}
 use Rattle.serde_json.specs.Data.{string}
-use Rattle.sarif_known.specs.Tokens.{each_tokens}
+use Rattle.sarif_known.specs.Internal.Tokens.{each_tokens}
 use Rattle.sarif_known.proofs.TokensOf.{four, list_tokens}
 use Rattle.sarif_known.proofs.members.push_strings_if.Goals as goal
 

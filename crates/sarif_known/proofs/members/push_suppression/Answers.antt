@@ -2,7 +2,7 @@ use Rattle.std.proofs.Common.{◌∷◌, [], Some, codes}
 use Rattle.json.specs.Token.{begin_object, end_object}
 use Rattle.serde_json.specs.Data.{string}
 use Rattle.sarif_model.specs.Status.{status_name}
-use Rattle.sarif_known.specs.Tokens.{value_tokens}
+use Rattle.sarif_known.specs.Internal.Tokens.{value_tokens}
 use Rattle.sarif_known.proofs.TokensOf.{four}
 use Rattle.sarif_known.proofs.members.push_suppression.Goals as goal
 

@@ -1,6 +1,6 @@
 use Rattle.std.proofs.Common.{◌≡◌, ◌++◌, drop, map}
 use Rattle.sarif_known.specs.KnownResult.{suppression_for}
-use Rattle.sarif_known.specs.Tokens.{each_tokens}
+use Rattle.sarif_known.specs.Internal.Tokens.{each_tokens}
 use Rattle.sarif_known.proofs.members.push_suppressions.Given as goal
 
 abbrev pub invariant-loop-status : goal.invariant-loop-status

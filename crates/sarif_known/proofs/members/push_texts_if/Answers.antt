@@ -1,6 +1,6 @@
 use Rattle.std.proofs.Common.{◌≡◌, ◌==◌, ◌∙◌, ◌++◌, ◌∷◌, [], false, length, ap, sym}
 use Rattle.json.specs.Token.{key, begin_object, end_object}
-use Rattle.sarif_known.specs.Tokens.{pairs_tokens}
+use Rattle.sarif_known.specs.Internal.Tokens.{pairs_tokens}
 use Rattle.sarif_known.proofs.TokensOf.{four, texts_tokens}
 use Rattle.sarif_known.proofs.members.push_texts_if.Goals as goal
 

@@ -1,6 +1,6 @@
 use Rattle.std.proofs.Common.{◌∙◌, sym}
 use Rattle.sarif_known.specs.Chosen.{chosen_of}
-use Rattle.sarif_known.specs.Groups.{groups_of}
+use Rattle.sarif_known.specs.Internal.Groups.{groups_of}
 use Rattle.sarif_known.proofs.Grouped.{no_group, set_group, groups_count}
 use Rattle.sarif_known.proofs.order.add_run.Goals as goal
 

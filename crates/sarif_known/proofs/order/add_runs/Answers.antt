@@ -1,6 +1,6 @@
 use Rattle.std.proofs.Common.{◌≡◌, ◌==◌, ◌∙◌, ap, sym, map, [], false, length, rules, vec_len}
 use Rattle.sarif_known.specs.Chosen.{all_chosen, chosen_of}
-use Rattle.sarif_known.specs.Groups.{groups_of, side_by_side, texts_of}
+use Rattle.sarif_known.specs.Internal.Groups.{groups_of, side_by_side, texts_of}
 use Rattle.sarif_known.specs.Order.{runs_of_tool}
 use Rattle.sarif_known.proofs.Grouped.{no_items, some_records, step_groups, no_more}
 use Rattle.sarif_known.proofs.order.add_runs.Goals as goal

@@ -1,6 +1,6 @@
 use Rattle.std.proofs.Common.{◌≡◌, length, map}
 use Rattle.sarif_known.specs.Chosen.{all_chosen}
-use Rattle.sarif_known.specs.Groups.{groups_of, side_by_side, texts_of}
+use Rattle.sarif_known.specs.Internal.Groups.{groups_of, side_by_side, texts_of}
 use Rattle.sarif_known.specs.Order.{runs_of_tool}
 use Rattle.sarif_known.proofs.order.add_runs.Given as goal
 

@@ -1,7 +1,7 @@
 use Rattle.std.proofs.Common.{◌≡◌, ◌∙◌, ◌++◌, ◌∷◌, ◌+◌, drop, map, ap, sym}
 use Rattle.std.proofs.lemmas.List.{drop_more}
 use Rattle.sarif_known.specs.Chosen.{all_chosen}
-use Rattle.sarif_known.specs.Groups.{texts_of}
+use Rattle.sarif_known.specs.Internal.Groups.{texts_of}
 use Rattle.sarif_known.specs.Order.{once_each}
 use Rattle.sarif_known.proofs.Grouped.{once_step, keys_put}
 use Rattle.sarif_known.proofs.order.add_tools.Goals as goal

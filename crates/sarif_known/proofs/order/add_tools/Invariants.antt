@@ -1,6 +1,6 @@
 use Rattle.std.proofs.Common.{◌≡◌, ◌++◌, drop, map}
 use Rattle.sarif_known.specs.Chosen.{all_chosen}
-use Rattle.sarif_known.specs.Groups.{texts_of}
+use Rattle.sarif_known.specs.Internal.Groups.{texts_of}
 use Rattle.sarif_known.specs.Order.{once_each}
 use Rattle.sarif_known.proofs.order.add_tools.Given as goal
 

@@ -1,5 +1,5 @@
 use Rattle.std.proofs.Common.{◌≡◌, [], length, replicate}
-use Rattle.sarif_known.specs.Groups.{groups_of}
+use Rattle.sarif_known.specs.Internal.Groups.{groups_of}
 use Rattle.sarif_known.proofs.order.empty_groups.Given as goal
 
 abbrev pub invariant-loop : goal.invariant-loop

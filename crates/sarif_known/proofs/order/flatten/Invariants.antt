@@ -1,7 +1,7 @@
 use Rattle.std.proofs.Common.{◌≡◌, ◌++◌}
 use Rattle.std.specs.List.{flat_map}
 use Rattle.sarif_known.specs.Chosen.{all_chosen}
-use Rattle.sarif_known.specs.Groups.{groups_of}
+use Rattle.sarif_known.specs.Internal.Groups.{groups_of}
 use Rattle.sarif_known.proofs.order.flatten.Given as goal
 
 abbrev pub invariant-loop-group : goal.invariant-loop-group

@@ -1,6 +1,6 @@
 use Rattle.std.proofs.Common.{◌≡◌, ◌∙◌, ◌++◌, sym}
 use Rattle.sarif_known.specs.Chosen.{all_chosen}
-use Rattle.sarif_known.specs.Groups.{groups_of, texts_of}
+use Rattle.sarif_known.specs.Internal.Groups.{groups_of, texts_of}
 use Rattle.sarif_known.specs.Order.{tools_of}
 use Rattle.sarif_known.proofs.Grouped.{all_grouped, order_tools, texts_count, tools_apart}
 use Rattle.sarif_known.proofs.order.order_runs.Goals as goal

@@ -1,6 +1,6 @@
 use Rattle.std.proofs.Common.{◌+◌, ◌/◌, take, drop, length, sym, ap, ◌∙◌, arith}
 use Rattle.sarif_counts.specs.Counts.{count_at}
-use Rattle.sarif_log.specs.Texts.{tallied}
+use Rattle.sarif_log.specs.Internal.Texts.{tallied}
 use Rattle.sarif_log.proofs.RunCounts.{tallied_split}
 use Rattle.sarif_log.proofs.counting.+counting.Goals as goal
 

@@ -1,4 +1,4 @@
-use Rattle.sarif_log.specs.Leftover.{leftover_draft}
+use Rattle.sarif_log.specs.Internal.Leftover.{leftover_draft}
 use Rattle.sarif_log.proofs.Shared.{made_of_shown}
 use Rattle.sarif_log.proofs.leftovers.draft_leftovers.Goals as goal
 

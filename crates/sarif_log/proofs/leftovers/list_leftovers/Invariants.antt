@@ -1,7 +1,7 @@
 use Rattle.std.proofs.Common.{◌≡◌, ◌++◌, map, drop}
 use Rattle.sarif_results.specs.Drafts.{drafts_by, unapplied}
-use Rattle.sarif_log.specs.Leftover.{found_at, leftover_draft, not_taken}
-use Rattle.sarif_runs.specs.Opened.{placed_of}
+use Rattle.sarif_log.specs.Internal.Leftover.{found_at, leftover_draft, not_taken}
+use Rattle.sarif_runs.specs.Internal.Opened.{placed_of}
 use Rattle.sarif_log.proofs.leftovers.list_leftovers.Given as goal
 
 abbrev pub invariant-loop-number : goal.invariant-loop-number

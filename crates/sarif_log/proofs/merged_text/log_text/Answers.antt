@@ -1,8 +1,8 @@
 use Rattle.std.proofs.Common.{rules, ◌≡◌, ◌==◌, ◌++◌, codes, false, not, ap, ◌∙◌, append_assoc, string_bytes}
 use Rattle.serde_json.specs.View.{view}
 use Rattle.serde_json.specs.Written.{compact_text}
-use Rattle.sarif_log.specs.Texts.{joined}
-use Rattle.sarif_log.specs.Side.{texts_of_runs, texts_of_left}
+use Rattle.sarif_log.specs.Internal.Texts.{joined}
+use Rattle.sarif_log.specs.Internal.Side.{texts_of_runs, texts_of_left}
 use Rattle.sarif_log.proofs.LogText.{joined_both, log_parts}
 use Rattle.sarif_log.proofs.merged_text.log_text.Goals as goal
 

@@ -1,5 +1,5 @@
 use Rattle.std.proofs.Common.{◌≡◌, ◌≤◌, ◌+◌, drop}
-use Rattle.sarif_log.specs.LeftParts.{left_count}
+use Rattle.sarif_log.specs.Internal.LeftParts.{left_count}
 use Rattle.sarif_log.proofs.parts_of_runs.count_left.Given as goal
 
 abbrev pub invariant-loop-is_taken : goal.invariant-loop-is_taken

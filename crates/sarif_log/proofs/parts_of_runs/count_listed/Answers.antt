@@ -1,5 +1,5 @@
 use Rattle.std.proofs.Common.{sym, ◌∙◌}
-use Rattle.sarif_runs.specs.Opened.{placed_of}
+use Rattle.sarif_runs.specs.Internal.Opened.{placed_of}
 use Rattle.sarif_log.proofs.RunPartsOf.{some_counted, none_counted}
 use Rattle.sarif_log.proofs.parts_of_runs.count_listed.Goals as goal
 

@@ -1,7 +1,7 @@
 use Rattle.std.proofs.Common.{◌≡◌, ◌++◌, map}
 use Rattle.std.specs.List.{AllByRecursion}
-use Rattle.sarif_runs.specs.Opened.{placed_of}
-use Rattle.sarif_log.specs.Texts.{own_count, ArePartsOf, IsWholeRun}
+use Rattle.sarif_runs.specs.Internal.Opened.{placed_of}
+use Rattle.sarif_log.specs.Internal.Texts.{own_count, ArePartsOf, IsWholeRun}
 use Rattle.sarif_runs.specs.Judging.{run_values}
 use Rattle.sarif_log.proofs.parts_of_runs.current_parts.Given as goal
 

@@ -1,7 +1,7 @@
 use Rattle.std.proofs.Common.{codes, ap, ◌∙◌}
 use Rattle.json_parts.specs.Without.{without}
 use Rattle.serde_json.specs.Written.{has_float}
-use Rattle.sarif_runs.specs.Opened.{placed_of}
+use Rattle.sarif_runs.specs.Internal.Opened.{placed_of}
 use Rattle.sarif_results.specs.Drafts.{members_in}
 use Rattle.sarif_log.proofs.RunPartsOf.{beside_members, beside_whole}
 use Rattle.sarif_log.proofs.parts_of_runs.current_run.Goals as goal

@@ -4,10 +4,10 @@ use Rattle.std.proofs.Math.Seq.{drop-cons}
 use Rattle.std.proofs.lemmas.List.{length-append, length-drop, nil_from_length}
 use Rattle.std.specs.List.{AllByRecursion}
 use Rattle.sarif_model.specs.Run.{results_of}
-use Rattle.sarif_runs.specs.Opened.{placed_of}
-use Rattle.sarif_log.specs.Texts.{present_results, IsWholeRun}
+use Rattle.sarif_runs.specs.Internal.Opened.{placed_of}
+use Rattle.sarif_log.specs.Internal.Texts.{present_results, IsWholeRun}
 use Rattle.sarif_model.specs.Run.{present}
-use Rattle.sarif_log.specs.LeftParts.{left_count, present_counts, AreLeftParts}
+use Rattle.sarif_log.specs.Internal.LeftParts.{left_count, present_counts, AreLeftParts}
 use Rattle.sarif_runs.specs.Judging.{run_values}
 use Rattle.sarif_log.proofs.RunPartsOf.{whole_more}
 use Rattle.sarif_log.proofs.parts_of_runs.left_parts.Goals as goal

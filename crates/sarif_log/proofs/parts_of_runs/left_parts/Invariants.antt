@@ -1,9 +1,9 @@
 use Rattle.std.proofs.Common.{◌≡◌, ◌++◌, List, drop, length, map}
 use Rattle.std.specs.List.{AllByRecursion}
-use Rattle.sarif_runs.specs.Opened.{placed_of}
+use Rattle.sarif_runs.specs.Internal.Opened.{placed_of}
 use Rattle.sarif_log.specs.declared.run_parts.RunParts.{RunParts}
-use Rattle.sarif_log.specs.Texts.{present_results, IsWholeRun}
-use Rattle.sarif_log.specs.LeftParts.{present_counts, AreLeftParts}
+use Rattle.sarif_log.specs.Internal.Texts.{present_results, IsWholeRun}
+use Rattle.sarif_log.specs.Internal.LeftParts.{present_counts, AreLeftParts}
 use Rattle.sarif_runs.specs.Judging.{run_values}
 use Rattle.sarif_log.proofs.parts_of_runs.left_parts.Given as goal
 

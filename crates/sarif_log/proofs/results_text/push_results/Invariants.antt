@@ -1,5 +1,5 @@
 use Rattle.std.proofs.Common.{◌≡◌, ◌++◌, false, drop, string_bytes}
-use Rattle.sarif_log.specs.Texts.{joined, texts_of}
+use Rattle.sarif_log.specs.Internal.Texts.{joined, texts_of}
 use Rattle.sarif_log.proofs.results_text.push_results.Given as goal
 
 abbrev pub invariant-loop-at : goal.invariant-loop-at

@@ -1,6 +1,6 @@
 use Rattle.std.proofs.Common.{◌≡◌, ◌++◌, length, string_bytes}
 use Rattle.std.specs.List.{AllByRecursion}
-use Rattle.sarif_log.specs.Texts.{counts_in_parts, joined, runs_texts, IsWholeRun}
+use Rattle.sarif_log.specs.Internal.Texts.{counts_in_parts, joined, runs_texts, IsWholeRun}
 use Rattle.sarif_log.proofs.runs_text.push_runs.Given as goal
 
 abbrev pub invariant-loop-parts : goal.invariant-loop-parts

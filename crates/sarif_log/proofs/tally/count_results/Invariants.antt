@@ -2,7 +2,7 @@ use Rattle.std.proofs.Common.{◌≡◌, ◌≤◌, ◌+◌, Bool, drop}
 use Rattle.sarif_model.specs.declared.kinds.Level.{Level}
 use Rattle.sarif_model.specs.declared.kinds.State.{State}
 use Rattle.sarif_counts.specs.Counts.{count_at, total_of}
-use Rattle.sarif_log.specs.Texts.{tallied}
+use Rattle.sarif_log.specs.Internal.Texts.{tallied}
 use Rattle.sarif_log.proofs.tally.count_results.Given as goal
 
 abbrev pub invariant-loop-at : goal.invariant-loop-at

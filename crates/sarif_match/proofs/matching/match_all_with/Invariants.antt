@@ -1,6 +1,6 @@
 use Rattle.std.proofs.Common.{◌≡◌, fold, length, drop}
 use Rattle.sarif_match.specs.Partners.{after_tier, partners_of}
-use Rattle.sarif_match.specs.Progress.{IsSound}
+use Rattle.sarif_match.specs.Internal.Progress.{IsSound}
 use Rattle.sarif_match.proofs.matching.match_all_with.Given as goal
 
 abbrev pub invariant-loop-tier : goal.invariant-loop-tier

@@ -1,9 +1,9 @@
 use Rattle.std.proofs.Common.{rules, ◌≡◌, List, ℕ, [], length, sym, ap, ◌∙◌, subst}
-use Rattle.sarif_match.specs.Fits.{Fits}
-use Rattle.sarif_match.specs.Named.{with_parts, unmarked}
+use Rattle.sarif_match.specs.Internal.Fits.{Fits}
+use Rattle.sarif_match.specs.Internal.Named.{with_parts, unmarked}
 use Rattle.sarif_match.specs.Pairing.{pairs_from}
 use Rattle.sarif_match.specs.Partners.{keyed_from, put_all}
-use Rattle.sarif_match.specs.Queues.{same_key}
+use Rattle.sarif_match.specs.Internal.Queues.{same_key}
 use Rattle.sarif_match.proofs.FitsLemmas.{Fits-pairs_at, pairs_at-told}
 use Rattle.sarif_match.proofs.matching.match_tier.Goals as goal
 

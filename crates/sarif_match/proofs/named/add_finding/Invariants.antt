@@ -2,7 +2,7 @@ use Rattle.std.proofs.Common.{◌≡◌, List, ℕ, [], ◌++◌, take}
 use Rattle.std.specs.Option.{option_map}
 use Rattle.sarif_match.specs.Key.{value_of}
 use Rattle.sarif_match.specs.KeyParts.{fingerprint_parts}
-use Rattle.sarif_match.specs.Named.{with_parts, group_at}
+use Rattle.sarif_match.specs.Internal.Named.{with_parts, group_at}
 use Rattle.sarif_match.specs.Partners.{with_key}
 use Rattle.sarif_match.proofs.named.add_finding.Given as goal
 

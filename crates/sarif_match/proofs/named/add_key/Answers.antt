@@ -5,7 +5,7 @@ use Rattle.std.specs.declared.vec.Vec.{Vec}
 use Rattle.std.specs.HashMap.{get}
 use Rattle.std.specs.Cmp.Lexicographic.{on_texts_equal}
 use Rattle.sarif_match.specs.declared.tier_key.Key.{Key}
-use Rattle.sarif_match.specs.Named.{group_of, put_once}
+use Rattle.sarif_match.specs.Internal.Named.{group_of, put_once}
 use Rattle.sarif_match.proofs.NamedLemmas.{same_name}
 use Rattle.sarif_match.proofs.TableLemmas.{read-updated}
 use Rattle.sarif_match.proofs.named.add_key.Goals as goal

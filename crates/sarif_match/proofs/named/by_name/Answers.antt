@@ -2,7 +2,7 @@ use Rattle.std.proofs.Common.{◌+◌, ◌≤◌, ℕ, List, length, take, subst
 use Rattle.std.proofs.lemmas.List.{length-take-le}
 use Rattle.sarif_match.specs.declared.tier.Tier.TheVariants.{Fingerprint}
 use Rattle.sarif_match.specs.KeyParts.{KeyParts}
-use Rattle.sarif_match.specs.Named.{IsBelow}
+use Rattle.sarif_match.specs.Internal.Named.{IsBelow}
 use Rattle.sarif_match.proofs.NamedLemmas.{IsBelow-keyed_from, groups_step}
 use Rattle.sarif_match.proofs.named.by_name.Goals as goal
 

@@ -1,6 +1,6 @@
 use Rattle.std.proofs.Common.{◌≡◌, List, ℕ, take}
 use Rattle.sarif_match.specs.declared.tier.Tier.TheVariants.{Fingerprint}
-use Rattle.sarif_match.specs.Named.{with_parts, group_at}
+use Rattle.sarif_match.specs.Internal.Named.{with_parts, group_at}
 use Rattle.sarif_match.specs.Partners.{keyed_from}
 use Rattle.sarif_match.proofs.named.by_name.Given as goal
 

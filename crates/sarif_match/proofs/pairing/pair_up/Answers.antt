@@ -1,5 +1,5 @@
 use Rattle.std.proofs.Common.{◌≡◌, ℕ, slice_get, ap, ◌∙◌, List, rules}
-use Rattle.sarif_match.specs.Queues.{same_key}
+use Rattle.sarif_match.specs.Internal.Queues.{same_key}
 use Rattle.sarif_match.proofs.PairingLemmas.{pushed, queue_emptied, told_more}
 use Rattle.sarif_match.proofs.pairing.pair_up.Goals as goal
 use Rattle.sarif_match.proofs.pairing.pair_up.Goals.{in-Some+in_ok-push, in_default}

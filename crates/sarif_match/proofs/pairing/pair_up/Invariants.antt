@@ -1,6 +1,6 @@
 use Rattle.std.proofs.Common.{◌≡◌, [], ◌++◌, length, take, drop}
 use Rattle.sarif_match.specs.Pairing.{places, pairs_from}
-use Rattle.sarif_match.specs.Queues.{same_key, queue_at}
+use Rattle.sarif_match.specs.Internal.Queues.{same_key, queue_at}
 use Rattle.sarif_match.specs.declared.tier_key.Key.{Key}
 use Rattle.sarif_match.proofs.pairing.pair_up.Given as goal
 

@@ -1,4 +1,4 @@
-use Rattle.sarif_match.specs.Queues.{same_key}
+use Rattle.sarif_match.specs.Internal.Queues.{same_key}
 use Rattle.sarif_match.proofs.PairingLemmas.{queue_filled}
 use Rattle.sarif_match.proofs.queues.queues_of.Goals as goal
 

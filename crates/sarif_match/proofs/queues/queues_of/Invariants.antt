@@ -1,6 +1,6 @@
 use Rattle.std.proofs.Common.{◌≡◌, take}
 use Rattle.sarif_match.specs.Pairing.{places}
-use Rattle.sarif_match.specs.Queues.{same_key, queue_at}
+use Rattle.sarif_match.specs.Internal.Queues.{same_key, queue_at}
 use Rattle.sarif_match.specs.declared.tier_key.Key.{Key}
 use Rattle.sarif_match.proofs.queues.queues_of.Given as goal
 

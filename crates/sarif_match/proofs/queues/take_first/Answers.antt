@@ -3,7 +3,7 @@ use Rattle.std.specs.declared.alloc.Global.{Global}
 use Rattle.std.specs.declared.collections.VecDeque.{VecDeque}
 use Rattle.std.specs.HashMap.{get}
 use Rattle.sarif_match.specs.contracts.tier_key.KeyEq.TheImpl.Laws.{laws-law}
-use Rattle.sarif_match.specs.Queues.{items_of, same_key}
+use Rattle.sarif_match.specs.Internal.Queues.{items_of, same_key}
 use Rattle.sarif_match.proofs.TableLemmas.{read-updated, read-kept}
 use Rattle.sarif_match.proofs.queues.take_first.Goals as goal
 

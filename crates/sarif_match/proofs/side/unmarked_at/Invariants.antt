@@ -1,5 +1,5 @@
 use Rattle.std.proofs.Common.{◌≡◌, take}
-use Rattle.sarif_match.specs.Named.{with_parts, unmarked}
+use Rattle.sarif_match.specs.Internal.Named.{with_parts, unmarked}
 use Rattle.sarif_match.specs.Partners.{keyed_from}
 use Rattle.sarif_match.proofs.side.unmarked_at.Given as goal
 

@@ -1,7 +1,7 @@
 use Rattle.std.proofs.Common.{rules, ◌≡◌, ◌∷◌, [], ap, bytes_eq, ◌∙◌}
 use Rattle.std.specs.HashMap.{get_by}
 use Rattle.std.proofs.lemmas.Map.Text.{hash_map_updates_str}
-use Rattle.sarif_page.specs.ByFile.{group_in}
+use Rattle.sarif_page.specs.Internal.ByFile.{group_in}
 use Rattle.sarif_page.proofs.FilesMore.{first_at}
 use Rattle.sarif_page.proofs.by_file.add_group.Goals as goal
 

@@ -1,7 +1,7 @@
 use Rattle.std.proofs.Common.{rules, ◌≡◌, ◌∷◌, ◌++◌, [], ap, Some, bytes_eq, ◌∙◌, sym, IsSome}
 use Rattle.std.specs.HashMap.{get_by}
 use Rattle.std.proofs.lemmas.Map.Text.{hash_map_updates_str}
-use Rattle.sarif_page.specs.ByFile.{group_in}
+use Rattle.sarif_page.specs.Internal.ByFile.{group_in}
 use Rattle.sarif_page.proofs.FilesMore.{grown_at, text_same}
 use Rattle.sarif_page.proofs.by_file.add_to_group.Goals as goal
 

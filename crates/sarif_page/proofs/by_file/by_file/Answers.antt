@@ -1,5 +1,5 @@
 use Rattle.std.proofs.Common.{◌∙◌}
-use Rattle.sarif_page.specs.ByFile.{findings_in}
+use Rattle.sarif_page.specs.Internal.ByFile.{findings_in}
 use Rattle.sarif_page.proofs.FilesMore.{grouped_all}
 use Rattle.sarif_page.proofs.by_file.by_file.Goals as goal
 

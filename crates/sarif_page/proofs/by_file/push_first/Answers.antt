@@ -1,6 +1,6 @@
 use Rattle.std.proofs.Common.{◌≡◌, ◌≤◌, ◌++◌, ◌∷◌, [], length, take, ap, sym, ◌∙◌, append_assoc, arith}
 use Rattle.std.proofs.lemmas.List.{length-map, map-append, take_all}
-use Rattle.sarif_page.specs.ByFile.{findings_in}
+use Rattle.sarif_page.specs.Internal.ByFile.{findings_in}
 use Rattle.sarif_page.proofs.FilesMore.{cut_full, refs_more}
 use Rattle.sarif_page.proofs.by_file.push_first.Goals as goal
 

@@ -1,5 +1,5 @@
 use Rattle.std.proofs.Common.{◌≡◌, ◌≤◌, ◌++◌, take, vec_len}
-use Rattle.sarif_page.specs.ByFile.{findings_in}
+use Rattle.sarif_page.specs.Internal.ByFile.{findings_in}
 use Rattle.sarif_page.proofs.by_file.push_first.Given as goal
 
 abbrev pub invariant-loop-finding : goal.invariant-loop-finding

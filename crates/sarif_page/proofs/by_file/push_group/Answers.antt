@@ -1,6 +1,6 @@
 use Rattle.std.proofs.Common.{rules, ◌≡◌, ◌++◌, [], Some, take, ap, sym, ◌∙◌, unwrap_or, bytes_eq}
 use Rattle.std.specs.HashMap.{get_by}
-use Rattle.sarif_page.specs.ByFile.{findings_in, group_in}
+use Rattle.sarif_page.specs.Internal.ByFile.{findings_in, group_in}
 use Rattle.sarif_page.proofs.by_file.push_group.Goals as goal
 
 pub returns-clause-rows : goal.returns-clause-rows

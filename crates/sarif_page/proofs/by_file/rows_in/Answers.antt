@@ -1,6 +1,6 @@
 use Rattle.std.proofs.Common.{[], take, map, flat_map, ap, sym, ◌∙◌, arith}
 use Rattle.std.proofs.lemmas.List.{take_all}
-use Rattle.sarif_page.specs.ByFile.{findings_in, rows_at}
+use Rattle.sarif_page.specs.Internal.ByFile.{findings_in, rows_at}
 use Rattle.sarif_page.proofs.FilesMore.{rows_more}
 use Rattle.sarif_page.proofs.by_file.rows_in.Goals as goal
 

@@ -1,5 +1,5 @@
 use Rattle.std.proofs.Common.{◌≡◌, ◌≤◌, take, map, flat_map, vec_len}
-use Rattle.sarif_page.specs.ByFile.{findings_in, rows_at}
+use Rattle.sarif_page.specs.Internal.ByFile.{findings_in, rows_at}
 use Rattle.sarif_page.proofs.by_file.rows_in.Given as goal
 
 abbrev pub invariant-loop-file : goal.invariant-loop-file

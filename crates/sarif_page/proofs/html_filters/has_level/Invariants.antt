@@ -1,7 +1,7 @@
 use Rattle.std.proofs.Common.{◌≡◌, drop}
 use Rattle.std.specs.List.{list_any}
 use Rattle.sarif_counts.specs.Tally.{same_level}
-use Rattle.sarif_page.specs.ByFile.{findings_in}
+use Rattle.sarif_page.specs.Internal.ByFile.{findings_in}
 use Rattle.sarif_page.proofs.html_filters.has_level.Given as goal
 
 abbrev pub invariant-loop-finding : goal.invariant-loop-finding

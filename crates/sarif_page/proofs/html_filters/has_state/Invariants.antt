@@ -1,7 +1,7 @@
 use Rattle.std.proofs.Common.{◌≡◌, drop}
 use Rattle.std.specs.List.{list_any}
 use Rattle.sarif_counts.specs.Counts.{same_state}
-use Rattle.sarif_page.specs.ByFile.{findings_in}
+use Rattle.sarif_page.specs.Internal.ByFile.{findings_in}
 use Rattle.sarif_page.proofs.html_filters.has_state.Given as goal
 
 abbrev pub invariant-loop-finding : goal.invariant-loop-finding

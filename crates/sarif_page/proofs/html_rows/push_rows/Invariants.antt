@@ -1,6 +1,6 @@
 use Rattle.std.proofs.Common.{◌≡◌, ◌++◌, None, drop, string_bytes}
 use Rattle.std.specs.Prelude.{option_map}
-use Rattle.sarif_page.specs.ByFile.{findings_in}
+use Rattle.sarif_page.specs.Internal.ByFile.{findings_in}
 use Rattle.sarif_page.specs.HtmlReport.{rows_below}
 use Rattle.sarif_page.proofs.html_rows.push_rows.Given as goal
 

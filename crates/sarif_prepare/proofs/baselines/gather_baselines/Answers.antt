@@ -2,12 +2,12 @@ use Rattle.std.proofs.Common.{map, length, sym, ap, ◌∙◌, subst, refl}
 use Rattle.std.proofs.lemmas.List.{length-map}
 use Rattle.std.specs.List.{All, flat_map}
 use Rattle.sarif_runs.specs.Judging.{items_of, records_in}
-use Rattle.sarif_runs.specs.Opened.{placed_of}
-use Rattle.sarif_runs.specs.Spots.{spots_from, IsSpotOf}
+use Rattle.sarif_runs.specs.Internal.Opened.{placed_of}
+use Rattle.sarif_runs.specs.Internal.Spots.{spots_from, IsSpotOf}
 use Rattle.sarif_runs.proofs.SpotsWithin.{spots_within}
-use Rattle.sarif_log.specs.LeftParts.{present_counts}
-use Rattle.sarif_prepare.specs.Baselines.{spots_with_record}
-use Rattle.sarif_prepare.specs.Telling.{pair_at}
+use Rattle.sarif_log.specs.Internal.LeftParts.{present_counts}
+use Rattle.sarif_prepare.specs.Internal.Baselines.{spots_with_record}
+use Rattle.sarif_prepare.specs.Internal.Telling.{pair_at}
 use Rattle.sarif_prepare.proofs.BaselineSpots.{all_long, found_at_pairs, pairs_at_spots, recorded_within}
 use Rattle.sarif_results.proofs.OutcomeItems.{all_items, all_records}
 use Rattle.sarif_log.proofs.Sides.{records_present}

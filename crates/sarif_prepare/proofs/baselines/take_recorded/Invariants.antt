@@ -1,6 +1,6 @@
 use Rattle.std.proofs.Common.{◌≡◌, ◌+◌, ◌++◌, map, length, drop}
 use Rattle.sarif_runs.specs.Judging.{records_in}
-use Rattle.sarif_prepare.specs.Baselines.{spots_with_record}
+use Rattle.sarif_prepare.specs.Internal.Baselines.{spots_with_record}
 use Rattle.sarif_prepare.proofs.baselines.take_recorded.Given as goal
 
 abbrev pub invariant-loop-outcome : goal.invariant-loop-outcome

@@ -1,7 +1,7 @@
 use Rattle.std.proofs.Common.{map, refl, ap, ◌∙◌}
 use Rattle.sarif_runs.specs.Judging.{records_in}
-use Rattle.sarif_runs.specs.Opened.{placed_of}
-use Rattle.sarif_prepare.specs.Halves.{drafts_in}
+use Rattle.sarif_runs.specs.Internal.Opened.{placed_of}
+use Rattle.sarif_prepare.specs.Internal.Halves.{drafts_in}
 use Rattle.sarif_results.proofs.OutcomeItems.{all_records}
 use Rattle.sarif_prepare.proofs.FoundDrafts.{current_drafts}
 use Rattle.sarif_prepare.proofs.halves.current_half.Goals as goal

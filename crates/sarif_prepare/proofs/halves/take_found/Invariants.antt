@@ -1,6 +1,6 @@
 use Rattle.std.proofs.Common.{◌≡◌, ◌++◌, map}
 use Rattle.sarif_runs.specs.Judging.{records_in}
-use Rattle.sarif_prepare.specs.Halves.{drafts_in}
+use Rattle.sarif_prepare.specs.Internal.Halves.{drafts_in}
 use Rattle.sarif_prepare.proofs.halves.take_found.Given as goal
 
 abbrev pub invariant-loop-outcome : goal.invariant-loop-outcome

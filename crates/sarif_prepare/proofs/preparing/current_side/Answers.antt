@@ -1,8 +1,8 @@
 use Rattle.std.proofs.Common.{map, length, ap, arith}
 use Rattle.std.proofs.lemmas.List.{length-map}
 use Rattle.sarif_runs.specs.Judging.{run_values}
-use Rattle.sarif_runs.specs.Opened.{placed_of}
-use Rattle.sarif_log.specs.Texts.{own_count}
+use Rattle.sarif_runs.specs.Internal.Opened.{placed_of}
+use Rattle.sarif_log.specs.Internal.Texts.{own_count}
 use Rattle.sarif_log.proofs.Sides.{runs_long}
 use Rattle.sarif_prepare.proofs.preparing.current_side.Goals as goal
 

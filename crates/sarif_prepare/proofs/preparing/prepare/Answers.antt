@@ -1,5 +1,5 @@
 use Rattle.std.proofs.lemmas.Result.{err_from_is_err_and}
-use Rattle.sarif_results.specs.Judged.{placed_in}
+use Rattle.sarif_results.specs.Internal.Judged.{placed_in}
 use Rattle.sarif_prepare.proofs.WrittenSides.{together}
 use Rattle.sarif_prepare.proofs.preparing.prepare.Goals as goal
 

@@ -3,9 +3,9 @@ use Rattle.std.proofs.lemmas.Result.{err_from_is_err_and}
 use Rattle.std.specs.List.{flat_map}
 use Rattle.sarif_model.specs.Run.{results_of}
 use Rattle.sarif_runs.specs.Judging.{records_of, run_values}
-use Rattle.sarif_log.specs.Leftover.{not_taken}
-use Rattle.sarif_log.specs.Texts.{own_count, ArePartsOf}
-use Rattle.sarif_prepare.specs.Baselines.{baseline_drafts, IsLeft}
+use Rattle.sarif_log.specs.Internal.Leftover.{not_taken}
+use Rattle.sarif_log.specs.Internal.Texts.{own_count, ArePartsOf}
+use Rattle.sarif_prepare.specs.Internal.Baselines.{baseline_drafts, IsLeft}
 use Rattle.sarif_log.specs.LogBy.{taken_of}
 use Rattle.sarif_log.proofs.Sides.{results_long, taken_long, without_results}
 use Rattle.sarif_prepare.proofs.WrittenSides.{current_long, current_side, left_few, left_is_side, written}

@@ -1,7 +1,7 @@
 use Rattle.std.proofs.Common.{◌<◌, length, arith}
 use Rattle.std.proofs.lemmas.List.{length-map}
 use Rattle.sarif_runs.specs.declared.spots.Spot.{Spot}
-use Rattle.sarif_prepare.specs.Telling.{placed_told}
+use Rattle.sarif_prepare.specs.Internal.Telling.{placed_told}
 use Rattle.sarif_prepare.proofs.ListedTold.{told_next}
 use Rattle.sarif_prepare.proofs.telling.list_told.Goals as goal
 

@@ -1,5 +1,5 @@
 use Rattle.std.proofs.Common.{◌≡◌, ◌++◌, map, drop}
-use Rattle.sarif_prepare.specs.Telling.{pair_at, placed_told, told_by, told_each}
+use Rattle.sarif_prepare.specs.Internal.Telling.{pair_at, placed_told, told_by, told_each}
 use Rattle.sarif_prepare.proofs.telling.list_told.Given as goal
 
 abbrev pub invariant-loop-number : goal.invariant-loop-number

@@ -1,9 +1,9 @@
 use Rattle.std.proofs.Common.{◌≡◌, map, sym, ap, subst, ◌∙◌}
 use Rattle.std.specs.List.{All}
-use Rattle.sarif_runs.specs.Opened.{placed_of}
-use Rattle.sarif_runs.specs.Spots.{spots_from, IsSpotOf}
+use Rattle.sarif_runs.specs.Internal.Opened.{placed_of}
+use Rattle.sarif_runs.specs.Internal.Spots.{spots_from, IsSpotOf}
 use Rattle.sarif_runs.proofs.SpotsWithin.{spots_within}
-use Rattle.sarif_prepare.specs.Telling.{placed_told}
+use Rattle.sarif_prepare.specs.Internal.Telling.{placed_told}
 use Rattle.sarif_prepare.proofs.telling.tell_current.Goals as goal
 
 pub list_told-requires-clause-within : goal.list_told-requires-clause-within

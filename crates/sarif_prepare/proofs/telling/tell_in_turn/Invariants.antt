@@ -1,5 +1,5 @@
 use Rattle.std.proofs.Common.{◌≡◌, map, take}
-use Rattle.sarif_prepare.specs.Telling.{told_by}
+use Rattle.sarif_prepare.specs.Internal.Telling.{told_by}
 use Rattle.sarif_prepare.proofs.telling.tell_in_turn.Given as goal
 
 abbrev pub invariant-loop-one : goal.invariant-loop-one

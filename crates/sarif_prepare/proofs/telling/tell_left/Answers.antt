@@ -1,9 +1,9 @@
 use Rattle.std.proofs.Common.{◌≡◌, map, sym, ap, subst, ◌∙◌}
 use Rattle.std.specs.List.{All}
-use Rattle.sarif_log.specs.Leftover.{not_taken}
-use Rattle.sarif_runs.specs.Opened.{placed_of}
-use Rattle.sarif_runs.specs.Spots.{IsSpotOf}
-use Rattle.sarif_prepare.specs.Telling.{placed_told}
+use Rattle.sarif_log.specs.Internal.Leftover.{not_taken}
+use Rattle.sarif_runs.specs.Internal.Opened.{placed_of}
+use Rattle.sarif_runs.specs.Internal.Spots.{IsSpotOf}
+use Rattle.sarif_prepare.specs.Internal.Telling.{placed_told}
 use Rattle.sarif_prepare.proofs.ToldRuns.{left_within}
 use Rattle.sarif_prepare.proofs.telling.tell_left.Goals as goal
 

@@ -1,6 +1,6 @@
 use Rattle.std.proofs.Common.{[], ap, ◌∙◌}
-use Rattle.sarif_suppress.specs.Marks.{marks_of}
-use Rattle.sarif_prepare.specs.Marked.{marked}
+use Rattle.sarif_suppress.specs.Internal.Marks.{marks_of}
+use Rattle.sarif_prepare.specs.Internal.Marked.{marked}
 use Rattle.sarif_prepare.proofs.Marked.{marks_drawn}
 use Rattle.sarif_prepare.proofs.unused.count_unused.Goals as goal
 

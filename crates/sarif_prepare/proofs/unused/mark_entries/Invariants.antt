@@ -1,5 +1,5 @@
 use Rattle.std.proofs.Common.{◌≡◌, drop}
-use Rattle.sarif_prepare.specs.Marked.{marked}
+use Rattle.sarif_prepare.specs.Internal.Marked.{marked}
 use Rattle.sarif_prepare.proofs.unused.mark_entries.Given as goal
 
 abbrev pub invariant-loop-draft : goal.invariant-loop-draft

@@ -1,6 +1,6 @@
 use Rattle.std.proofs.Common.{◌≡◌, map, take}
 use Rattle.serde_json.specs.View.{view}
-use Rattle.sarif_read.specs.Listed.{value_at}
+use Rattle.sarif_read.specs.Internal.Listed.{value_at}
 use Rattle.sarif_read.proofs.filling.values_of.Given as goal
 
 abbrev pub invariant-loop-node : goal.invariant-loop-node

@@ -2,7 +2,7 @@ use Rattle.std.proofs.Common.{rules, ◌≡◌, ◌+◌, ◌<◌, length, [], �
 use Rattle.std.proofs.lemmas.Grind.{common_steps}
 use Rattle.sarif_read.specs.Reading as said
 use Rattle.sarif_model.specs.Run.{results_of}
-use Rattle.sarif_read.specs.Listed.{value_at}
+use Rattle.sarif_read.specs.Internal.Listed.{value_at}
 use Rattle.sarif_read.proofs.CheckEach.{goes_on, stops, at_end}
 use Rattle.sarif_read.proofs.IndexEach.{front, total_push, made_push, refused}
 use Rattle.sarif_read.proofs.indexing.index_each.Goals as goal

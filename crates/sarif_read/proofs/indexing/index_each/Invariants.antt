@@ -1,8 +1,8 @@
 use Rattle.std.proofs.Common.{◌≡◌, ◌≤◌, map, take, drop}
 use Rattle.sarif_read.specs.Reading.{check_each}
 use Rattle.sarif_model.specs.Run.{results_total}
-use Rattle.sarif_read.specs.Listed.{value_at, AreOrdered}
-use Rattle.sarif_read.specs.Indexed.{run_of}
+use Rattle.sarif_read.specs.Internal.Listed.{value_at, AreOrdered}
+use Rattle.sarif_read.specs.Internal.Indexed.{run_of}
 use Rattle.sarif_read.proofs.indexing.index_each.Given as goal
 use Rattle.sarif_model.specs.Limits.{most_results}
 

@@ -1,5 +1,5 @@
 use Rattle.std.proofs.Common.{◌≡◌, map, drop}
-use Rattle.sarif_read.specs.Listed.{value_at}
+use Rattle.sarif_read.specs.Internal.Listed.{value_at}
 use Rattle.sarif_model.specs.Members.{are_objects}
 use Rattle.sarif_read.proofs.nodes.are_all_objects.Given as goal
 

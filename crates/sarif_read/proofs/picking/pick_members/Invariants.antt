@@ -1,8 +1,8 @@
 use Rattle.std.proofs.Common.{◌≡◌, map, drop}
 use Rattle.serde_json.specs.Data.{no_members}
 use Rattle.serde_json.specs.View.{members_view}
-use Rattle.sarif_read.specs.Listed.{value_at}
-use Rattle.sarif_read.specs.Picked.{picked_onto}
+use Rattle.sarif_read.specs.Internal.Listed.{value_at}
+use Rattle.sarif_read.specs.Internal.Picked.{picked_onto}
 use Rattle.sarif_read.proofs.picking.pick_members.Given as goal
 
 abbrev pub invariant-loop-name : goal.invariant-loop-name

@@ -1,6 +1,6 @@
 use Rattle.std.proofs.Common.{◌≡◌, ◌+◌, ◌≤◌, drop}
 use Rattle.sarif_reports.specs.JunitReport as said
-use Rattle.sarif_reports.specs.Suites.{pointed}
+use Rattle.sarif_reports.specs.Internal.Suites.{pointed}
 use Rattle.sarif_reports.proofs.junit_document.hits_in.Given as goal
 
 abbrev pub invariant-loop-finding : goal.invariant-loop-finding

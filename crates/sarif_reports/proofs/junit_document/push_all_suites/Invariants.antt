@@ -1,5 +1,5 @@
 use Rattle.std.proofs.Common.{◌≡◌, ◌++◌, drop, flat_map, string_bytes}
-use Rattle.sarif_reports.specs.Suites.{entry_text}
+use Rattle.sarif_reports.specs.Internal.Suites.{entry_text}
 use Rattle.sarif_reports.proofs.junit_document.push_all_suites.Given as goal
 
 abbrev pub invariant-loop-number : goal.invariant-loop-number

@@ -1,6 +1,6 @@
 use Rattle.std.proofs.Common.{◌≡◌, ◌++◌, ℕ, List, [], take, drop, string_bytes}
 use Rattle.sarif_reports.specs.JunitReport.{cases_after, named_among}
-use Rattle.sarif_reports.specs.Suites.{counted, pointed}
+use Rattle.sarif_reports.specs.Internal.Suites.{counted, pointed}
 use Rattle.sarif_reports.proofs.junit_document.push_cases.Given as goal
 
 abbrev pub invariant-loop-finding : goal.invariant-loop-finding

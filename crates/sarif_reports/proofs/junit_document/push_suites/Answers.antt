@@ -1,4 +1,4 @@
-use Rattle.sarif_reports.specs.Suites.{pointed}
+use Rattle.sarif_reports.specs.Internal.Suites.{pointed}
 use Rattle.sarif_reports.proofs.CasesMore.{named, suites_told}
 use Rattle.sarif_reports.proofs.junit_document.push_suites.Goals as goal
 

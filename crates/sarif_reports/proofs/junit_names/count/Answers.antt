@@ -1,6 +1,6 @@
 use Rattle.std.proofs.Common.{rules, ◌≡◌, ◌+◌, Some, None, IsSome, bytes_eq, string_bytes, unwrap_or, if◌then◌else◌, refl, sym, ap, subst, ◌∙◌}
 use Rattle.std.specs.HashMap.{get_by_text}
-use Rattle.sarif_reports.specs.Suites.{counted}
+use Rattle.sarif_reports.specs.Internal.Suites.{counted}
 use Rattle.sarif_reports.proofs.CasesMore.{count_updated}
 use Rattle.sarif_reports.proofs.junit_names.count.Goals as goal
 

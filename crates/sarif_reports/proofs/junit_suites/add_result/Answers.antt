@@ -1,6 +1,6 @@
 use Rattle.std.proofs.Common.{rules, ◌≡◌, sym, ap, ◌∙◌, map}
 use Rattle.indexmap.specs.IndexMap.{insert_entry}
-use Rattle.sarif_reports.specs.Suites.{pointed, seen_suite}
+use Rattle.sarif_reports.specs.Internal.Suites.{pointed, seen_suite}
 use Rattle.sarif_reports.proofs.SuitesMore.{pointed_pushed, same_key, suite_added, suite_written}
 use Rattle.sarif_reports.proofs.junit_suites.add_result.Goals as goal
 

@@ -1,5 +1,5 @@
 use Rattle.std.proofs.Common.{◌≡◌, take}
-use Rattle.sarif_reports.specs.Suites.{pointed, seen_suites, suites_of}
+use Rattle.sarif_reports.specs.Internal.Suites.{pointed, seen_suites, suites_of}
 use Rattle.sarif_reports.proofs.junit_suites.suites_of.Given as goal
 
 abbrev pub invariant-loop-finding : goal.invariant-loop-finding

@@ -1,5 +1,5 @@
 use Rattle.std.proofs.Common.{◌≡◌, ◌++◌, false, map, drop, string_bytes}
-use Rattle.sarif_reports.specs.GitlabObjects.{object_of, joined_objects}
+use Rattle.sarif_reports.specs.Internal.GitlabObjects.{object_of, joined_objects}
 use Rattle.sarif_reports.proofs.objects.objects_in_turn.Given as goal
 
 abbrev pub invariant-loop-one : goal.invariant-loop-one

@@ -1,6 +1,6 @@
 use Rattle.std.proofs.Common.{◌≡◌, ◌+◌, ◌<◌, [], length, get_or, take, drop}
 use Rattle.sarif_reports.specs.GitlabReport.{mark_of, quality_of}
-use Rattle.sarif_reports.specs.GitlabObjects.{objects_after}
+use Rattle.sarif_reports.specs.Internal.GitlabObjects.{objects_after}
 use Rattle.sarif_reports.specs.GitlabParts.{identity_of, counted}
 use Rattle.sarif_reports.proofs.GitlabMore.{count_step, next_object, ranked_more}
 use Rattle.sarif_reports.proofs.ranking.rank_all.Goals as goal

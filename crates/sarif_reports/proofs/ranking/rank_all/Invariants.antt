@@ -1,6 +1,6 @@
 use Rattle.std.proofs.Common.{◌≡◌, ◌++◌, ℕ, List, [], map, take, drop, bytes_eq}
 use Rattle.std.specs.List.{count_by}
-use Rattle.sarif_reports.specs.GitlabObjects.{object_of, objects_after}
+use Rattle.sarif_reports.specs.Internal.GitlabObjects.{object_of, objects_after}
 use Rattle.sarif_reports.specs.GitlabParts.{identity_of, counted}
 use Rattle.sarif_reports.proofs.ranking.rank_all.Given as goal
 

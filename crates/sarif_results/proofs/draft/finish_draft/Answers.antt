@@ -1,5 +1,5 @@
 use Rattle.std.proofs.Common.{rules, ◌≡◌, codes, ap, ◌∙◌}
-use Rattle.json_parts.specs.Around.{surrounding}
+use Rattle.json_parts.specs.Internal.Around.{surrounding}
 use Rattle.serde_json.proofs.Views.{view-Array}
 use Rattle.serde_json.specs.Data.{string, array, put}
 use Rattle.serde_json.specs.View.{view, items_view, members_view}

@@ -1,6 +1,6 @@
 use Rattle.std.proofs.Common.{◌≡◌, ◌++◌, map, drop}
-use Rattle.sarif_runs.specs.Opened.{placed_of}
-use Rattle.sarif_runs.specs.Spots.{spots_from}
+use Rattle.sarif_runs.specs.Internal.Opened.{placed_of}
+use Rattle.sarif_runs.specs.Internal.Spots.{spots_from}
 use Rattle.sarif_runs.proofs.spots.list_spots.Given as goal
 
 abbrev pub invariant-loop-run : goal.invariant-loop-run

@@ -1,7 +1,7 @@
 use Rattle.std.proofs.Common.{◌≡◌, ◌+◌, ◌++◌, ◌∷◌, [], append_assoc, sym, ap, ◌∙◌, arith}
 use Rattle.std.proofs.lemmas.List.FromFn.{map-range_with_len_more}
 use Rattle.sarif_runs.specs.declared.spots.Spot.{Spot}
-use Rattle.sarif_runs.specs.Spots.{spots_in}
+use Rattle.sarif_runs.specs.Internal.Spots.{spots_in}
 use Rattle.sarif_runs.proofs.spots.push_spots.Goals as goal
 
 pub loop-seq-preserved : goal.loop-seq-preserved

@@ -1,6 +1,6 @@
 use Rattle.std.proofs.Common.{◌≡◌, ◌||◌, drop}
 use Rattle.std.specs.List.{list_any}
-use Rattle.sarif_shown.specs.EscapedBytes.{escapes}
+use Rattle.sarif_shown.specs.Internal.EscapedBytes.{escapes}
 use Rattle.sarif_shown.specs.declared.escaping.Escaping.TheVariants.{Page}
 use Rattle.sarif_shown.proofs.escaping.is_any_replaced_in_page.Given as goal
 

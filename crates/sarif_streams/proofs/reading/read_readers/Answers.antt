@@ -5,7 +5,7 @@ use Rattle.std.proofs.lemmas.List.Elements.{All-get_or}
 use Rattle.std.proofs.lemmas.Result.{err_from_is_err_and}
 use Rattle.sarif_streams.specs.AreRead.{HasStopped}
 use Rattle.sarif_streams.specs.Counted.{failed_calls}
-use Rattle.sarif_model.specs.SourceKind.{source_of}
+use Rattle.sarif_model.specs.Internal.SourceKind.{source_of}
 use Rattle.sarif_streams.proofs.ReadersRead.{same_at, same_after, are_read_more, stops_at, no_fall, none_falls_at}
 use Rattle.sarif_streams.proofs.reading.read_readers.Goals as goal
 

@@ -1,5 +1,5 @@
 use Rattle.std.proofs.Common.{◌≡◌, drop}
-use Rattle.sarif_suppress.specs.Marks.{with_marks}
+use Rattle.sarif_suppress.specs.Internal.Marks.{with_marks}
 use Rattle.sarif_suppress.proofs.marks.set_marks.Given as goal
 
 -- the marks so far, with those of the numbers that are left

@@ -1,5 +1,5 @@
 use Rattle.std.proofs.Common.{◌≡◌, take}
-use Rattle.sarif_suppress.specs.Prefixes.{hash_of}
+use Rattle.sarif_suppress.specs.Internal.Prefixes.{hash_of}
 use Rattle.sarif_suppress.proofs.prefixes.hash_of.Given as goal
 
 -- the hash of what was gone through

@@ -1,5 +1,5 @@
 use Rattle.std.proofs.Common.{◌≡◌, ℕ, take}
-use Rattle.sarif_suppress.specs.Prefixes.{is_listed, is_length}
+use Rattle.sarif_suppress.specs.Internal.Prefixes.{is_listed, is_length}
 use Rattle.sarif_suppress.proofs.prefixes.lengths_of.Given as goal
 
 -- the lengths of the prefixes gone through are marked

@@ -1,6 +1,6 @@
 use Rattle.std.proofs.Common.{◌≡◌, ◌++◌, ℕ, drop, nat_eq}
 use Rattle.sarif_suppress.specs.Numbers.{numbers_from, numbers_at}
-use Rattle.sarif_suppress.specs.Prefixes.{asks_for_hash}
+use Rattle.sarif_suppress.specs.Internal.Prefixes.{asks_for_hash}
 use Rattle.sarif_suppress.proofs.prefixes.numbers_by_hash.Given as goal
 
 -- for each hash the numbers so far, and then those of the entries that are left

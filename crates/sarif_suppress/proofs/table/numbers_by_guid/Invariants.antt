@@ -1,5 +1,5 @@
 use Rattle.std.proofs.Common.{◌≡◌, ◌++◌, ℕ, drop, nat_eq}
-use Rattle.sarif_entries.specs.Filing.{asks_for_guid}
+use Rattle.sarif_entries.specs.Internal.Filing.{asks_for_guid}
 use Rattle.sarif_suppress.specs.Numbers.{numbers_from}
 use Rattle.sarif_suppress.specs.Numbers.{numbers_at}
 use Rattle.sarif_suppress.proofs.table.numbers_by_guid.Given as goal

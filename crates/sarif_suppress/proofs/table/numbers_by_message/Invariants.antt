@@ -1,6 +1,6 @@
 use Rattle.std.proofs.Common.{◌≡◌, ◌++◌, ℕ, List, drop, bytes_eq}
 use Rattle.std.specs.Cmp.Lexicographic.{pointwise}
-use Rattle.sarif_entries.specs.Filing.{asks_for_message}
+use Rattle.sarif_entries.specs.Internal.Filing.{asks_for_message}
 use Rattle.sarif_suppress.specs.Numbers.{numbers_from}
 use Rattle.sarif_suppress.specs.Numbers.{numbers_at}
 use Rattle.sarif_suppress.proofs.table.numbers_by_message.Given as goal

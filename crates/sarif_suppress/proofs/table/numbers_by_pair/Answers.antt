@@ -1,6 +1,6 @@
 use Rattle.std.proofs.Common.{rules, ◌≡◌, ◌++◌, ◌∷◌, [], None, Some, refl, arith, if◌then◌else◌}
 use Rattle.std.proofs.lemmas.List.{append-nil}
-use Rattle.sarif_entries.specs.Filing.{asks_for_pair, pair_key}
+use Rattle.sarif_entries.specs.Internal.Filing.{asks_for_pair, pair_key}
 use Rattle.sarif_entries.specs.Matching.{is_pair}
 use Rattle.sarif_suppress.specs.Numbers.{numbers_at}
 use Rattle.sarif_suppress.proofs.Numbered.{one_more}

@@ -1,5 +1,5 @@
 use Rattle.std.proofs.Common.{◌≡◌, ◌++◌, ℕ, List, drop}
-use Rattle.sarif_entries.specs.Filing.{asks_for_pair}
+use Rattle.sarif_entries.specs.Internal.Filing.{asks_for_pair}
 use Rattle.sarif_entries.specs.Matching.{is_pair}
 use Rattle.sarif_suppress.specs.Numbers.{numbers_from}
 use Rattle.sarif_suppress.specs.Numbers.{numbers_at}

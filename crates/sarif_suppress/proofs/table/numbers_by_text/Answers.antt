@@ -1,6 +1,6 @@
 use Rattle.std.proofs.Common.{rules, ◌≡◌, ◌++◌, ◌∷◌, [], None, Some, refl, arith, bytes_eq, if◌then◌else◌}
 use Rattle.std.proofs.lemmas.List.{append-nil}
-use Rattle.sarif_entries.specs.Filing.{asks_for_text, text_key}
+use Rattle.sarif_entries.specs.Internal.Filing.{asks_for_text, text_key}
 use Rattle.sarif_suppress.specs.Numbers.{numbers_at}
 use Rattle.sarif_suppress.proofs.Numbered.{one_more}
 use Rattle.sarif_suppress.proofs.table.numbers_by_text.Goals as goal

@@ -1,5 +1,5 @@
 use Rattle.std.proofs.Common.{◌≡◌, ◌++◌, ℕ, List, drop, bytes_eq}
-use Rattle.sarif_entries.specs.Filing.{asks_for_text}
+use Rattle.sarif_entries.specs.Internal.Filing.{asks_for_text}
 use Rattle.sarif_suppress.specs.Numbers.{numbers_from}
 use Rattle.sarif_suppress.specs.Numbers.{numbers_at}
 use Rattle.sarif_suppress.proofs.table.numbers_by_text.Given as goal

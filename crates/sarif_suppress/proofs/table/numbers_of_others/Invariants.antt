@@ -1,5 +1,5 @@
 use Rattle.std.proofs.Common.{◌≡◌, ◌++◌, drop}
-use Rattle.sarif_entries.specs.Filing.{asks_for_none}
+use Rattle.sarif_entries.specs.Internal.Filing.{asks_for_none}
 use Rattle.sarif_suppress.specs.Numbers.{numbers_from}
 use Rattle.sarif_suppress.proofs.table.numbers_of_others.Given as goal
 

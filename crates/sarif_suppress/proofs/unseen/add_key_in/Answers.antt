@@ -1,6 +1,6 @@
 use Rattle.std.proofs.Common.{rules, ◌≡◌, None, false}
 use Rattle.serde_json.specs.View.{view}
-use Rattle.sarif_entries.specs.Keys.{has_key}
+use Rattle.sarif_entries.specs.Internal.Keys.{has_key}
 use Rattle.sarif_entries.specs.declared.key.Key.{Key}
 use Rattle.sarif_suppress.proofs.KeySet.{without_key}
 use Rattle.sarif_suppress.proofs.unseen.add_key_in.Goals as goal

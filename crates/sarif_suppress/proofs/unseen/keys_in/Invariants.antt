@@ -1,6 +1,6 @@
 use Rattle.std.proofs.Common.{map, take}
 use Rattle.serde_json.specs.View.{view}
-use Rattle.sarif_suppress.specs.Unseen.{HasKeysOf}
+use Rattle.sarif_suppress.specs.Internal.Unseen.{HasKeysOf}
 use Rattle.sarif_suppress.proofs.unseen.keys_in.Given as goal
 
 -- the keys of the values gone through

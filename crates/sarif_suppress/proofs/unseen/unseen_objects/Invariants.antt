@@ -1,6 +1,6 @@
 use Rattle.std.proofs.Common.{◌≡◌, ◌++◌, map, drop}
 use Rattle.serde_json.specs.View.{view}
-use Rattle.sarif_suppress.specs.Unseen.{HasKeysOf}
+use Rattle.sarif_suppress.specs.Internal.Unseen.{HasKeysOf}
 use Rattle.sarif_suppress.specs.Written.{with_objects_at}
 use Rattle.sarif_suppress.proofs.unseen.unseen_objects.Given as goal
 

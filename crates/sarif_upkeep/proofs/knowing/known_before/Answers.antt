@@ -3,7 +3,7 @@ use Rattle.std.proofs.lemmas.List.{length-drop}
 use Rattle.std.specs.Prelude.{Some, slice_index_or}
 use Rattle.sarif_model.specs.Run.{present, results_of}
 use Rattle.sarif_runs.specs.Judging.{run_values}
-use Rattle.sarif_runs.specs.Opened.{placed_of}
+use Rattle.sarif_runs.specs.Internal.Opened.{placed_of}
 use Rattle.sarif_accept.specs.Heard.{heard_of}
 use Rattle.sarif_known.specs.Chosen.{all_chosen, chosen_of}
 use Rattle.sarif_upkeep.specs.Merge.{present_total}

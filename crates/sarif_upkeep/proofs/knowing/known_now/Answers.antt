@@ -3,7 +3,7 @@ use Rattle.std.proofs.lemmas.List.{length-drop}
 use Rattle.std.proofs.lemmas.List.{length-map}
 use Rattle.sarif_model.specs.Run.{results_of, results_total}
 use Rattle.sarif_runs.specs.Judging.{run_values}
-use Rattle.sarif_runs.specs.Opened.{placed_of}
+use Rattle.sarif_runs.specs.Internal.Opened.{placed_of}
 use Rattle.sarif_known.specs.Chosen.{all_chosen, chosen_of}
 use Rattle.sarif_upkeep.proofs.Taken.{applied_back, applied_front, chosen_push, known_same, now_next, runs_left}
 use Rattle.sarif_upkeep.proofs.knowing.known_now.Goals as goal

@@ -2,7 +2,7 @@ use Rattle.std.proofs.Common.{◌≡◌, ◌≤◌, ◌++◌, map, length, drop}
 use Rattle.sarif_model.specs.Limits.{most_results}
 use Rattle.sarif_model.specs.Run.{results_total}
 use Rattle.sarif_runs.specs.Judging.{run_values}
-use Rattle.sarif_runs.specs.Opened.{placed_of}
+use Rattle.sarif_runs.specs.Internal.Opened.{placed_of}
 use Rattle.sarif_results.specs.Drafts.{applied_of}
 use Rattle.sarif_known.specs.Chosen.{all_chosen}
 use Rattle.sarif_upkeep.specs.Known.{chosen_now}

@@ -3,7 +3,7 @@ use Rattle.std.proofs.lemmas.Result.{err_from_is_err_and}
 use Rattle.std.specs.Prelude.{◌<◌}
 use Rattle.sarif_model.specs.Limits.{most_bytes, most_results}
 use Rattle.sarif_runs.specs.Judging.{run_values}
-use Rattle.sarif_runs.specs.Opened.{placed_of}
+use Rattle.sarif_runs.specs.Internal.Opened.{placed_of}
 use Rattle.sarif_accept.specs.Heard.{heard_of}
 use Rattle.sarif_known.specs.Chosen.{all_chosen, results_among}
 use Rattle.json_parts.specs.Indexed.{json_of}

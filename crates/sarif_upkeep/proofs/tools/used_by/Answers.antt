@@ -1,5 +1,5 @@
 use Rattle.std.proofs.Common.{add-one, ap, sym, take, ◌∙◌}
-use Rattle.sarif_suppress.specs.Marks.{marks_of}
+use Rattle.sarif_suppress.specs.Internal.Marks.{marks_of}
 use Rattle.sarif_upkeep.proofs.Taken.{next_record}
 use Rattle.sarif_upkeep.proofs.tools.used_by.Goals as goal
 

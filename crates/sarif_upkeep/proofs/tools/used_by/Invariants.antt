@@ -1,6 +1,6 @@
 use Rattle.std.proofs.Common.{◌≡◌, List, map, take}
 use Rattle.sarif_model.specs.declared.record.Record.{Record}
-use Rattle.sarif_suppress.specs.Marks.{marks_of}
+use Rattle.sarif_suppress.specs.Internal.Marks.{marks_of}
 use Rattle.sarif_results.specs.Drafts.{applied_of}
 use Rattle.sarif_upkeep.proofs.tools.used_by.Given as goal
 

@@ -1,6 +1,6 @@
 use Rattle.std.proofs.Common.{sym, ◌∙◌, subst}
 use Rattle.json_parts.specs.Indexed.{data_of}
-use Rattle.json_parts.specs.Ordered.{IsOrdered}
+use Rattle.json_parts.specs.Internal.Ordered.{IsOrdered}
 use Rattle.json_parts.proofs.Order.{readable_ordered}
 use Rattle.json_parts.proofs.indexing.Index.root.Goals as goal
 

@@ -2,7 +2,7 @@ use Rattle.std.proofs.Common.{◌≡◌, ◌<◌, true, false, ◌||◌, sym, ap
 use Rattle.serde_json.specs.View.{number_view}
 use Rattle.json_parts.specs.Indexed.{data_of}
 use Rattle.json_parts.specs.Stripping.{is_fractional, any_fractional}
-use Rattle.json_parts.specs.Walking.{depth_of}
+use Rattle.json_parts.specs.Internal.Walking.{depth_of}
 use Rattle.json_parts.proofs.Fractions.{fraction_of_number, no_fraction}
 use Rattle.json_parts.proofs.node.Node.+fractions.Goals as goal
 

@@ -2,7 +2,7 @@ use Rattle.std.proofs.Common.{◌≡◌, ℕ, suc, length}
 use Rattle.serde_json.specs.Data.{Items}
 use Rattle.json_parts.specs.Indexed.{data_of}
 use Rattle.json_parts.specs.Stripping.{is_fractional, any_fractional}
-use Rattle.json_parts.specs.Walking.{depth_of, ElementsAre}
+use Rattle.json_parts.specs.Internal.Walking.{depth_of, ElementsAre}
 use Rattle.json_parts.proofs.node.Node.+fractions.Given as goal
 
 abbrev pub decreases-is_fractional : goal.decreases-is_fractional

@@ -1,5 +1,5 @@
 use Rattle.std.proofs.Common.{subst}
-use Rattle.json_parts.specs.Walking.{OpensArray}
+use Rattle.json_parts.specs.Internal.Walking.{OpensArray}
 use Rattle.json_parts.proofs.Walks.{opens_array}
 use Rattle.json_parts.proofs.node.Node.elements.Goals as goal
 

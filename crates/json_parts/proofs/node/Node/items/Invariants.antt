@@ -1,7 +1,7 @@
 use Rattle.std.proofs.Common.{◌≡◌, ℕ, length}
 use Rattle.serde_json.specs.Data.{Items, array}
 use Rattle.json_parts.specs.Indexed.{data_of}
-use Rattle.json_parts.specs.Walking.{ElementsAre}
+use Rattle.json_parts.specs.Internal.Walking.{ElementsAre}
 use Rattle.json_parts.proofs.Walks.{before}
 use Rattle.json_parts.proofs.node.Node.items.Given as goal
 

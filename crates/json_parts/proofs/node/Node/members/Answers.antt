@@ -1,5 +1,5 @@
 use Rattle.std.proofs.Common.{subst}
-use Rattle.json_parts.specs.Walking.{OpensObject}
+use Rattle.json_parts.specs.Internal.Walking.{OpensObject}
 use Rattle.json_parts.proofs.Walks.{opens_object}
 use Rattle.json_parts.proofs.node.Node.members.Goals as goal
 

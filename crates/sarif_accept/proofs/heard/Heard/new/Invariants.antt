@@ -1,6 +1,6 @@
 use Rattle.std.proofs.Common.{◌≡◌, take}
 use Rattle.std.specs.List.{list_any}
-use Rattle.sarif_accept.specs.HeardSets.{AreSetsOf}
+use Rattle.sarif_accept.specs.Internal.HeardSets.{AreSetsOf}
 use Rattle.sarif_accept.proofs.heard.Heard.new.Given as goal
 
 -- the sets of the runs so far

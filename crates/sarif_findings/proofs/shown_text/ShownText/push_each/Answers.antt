@@ -1,7 +1,7 @@
 use Rattle.std.proofs.Common.{◌∙◌, ap, ◌++◌}
 use Rattle.std.proofs.lemmas.Str.{IsUtf8-past_char}
 use Rattle.std.proofs.StrCases.{chars_of_empty}
-use Rattle.sarif_findings.specs.ShownSoFar.{shown_with}
+use Rattle.sarif_findings.specs.Internal.ShownSoFar.{shown_with}
 use Rattle.sarif_findings.proofs.ShownMore.{takes_step}
 use Rattle.sarif_findings.proofs.shown_text.ShownText.push_each.Goals as goal
 

@@ -2,7 +2,7 @@ use Rattle.std.proofs.Common.{◌≡◌, IsUtf8, ◌≤◌, length, map, chars}
 use Rattle.std.specs.Str.Iter.{chars_rest}
 use Rattle.serde_json.specs.View.{view}
 use Rattle.sarif_findings.specs.Links.{unlinked_from}
-use Rattle.sarif_findings.specs.Unlinked.{left}
+use Rattle.sarif_findings.specs.Internal.Unlinked.{left}
 use Rattle.sarif_findings.proofs.unlinked.Unlinked.next.Given as goal
 
 abbrev pub invariant-loop-c : goal.invariant-loop-c

@@ -3,12 +3,12 @@ use Rattle.std.proofs.lemmas.List.{nil_from_length}
 use Rattle.std.proofs.lemmas.Result.{err_from_is_err_and}
 use Rattle.sarif_read.specs.Reading.{log_of}
 use Rattle.sarif_model.specs.Run.{results_total}
-use Rattle.sarif_inputs.specs.ReadRun.{placed_read}
-use Rattle.sarif_model.specs.SourceKind.{source_of}
+use Rattle.sarif_inputs.specs.Internal.ReadRun.{placed_read}
+use Rattle.sarif_model.specs.Internal.SourceKind.{source_of}
 use Rattle.sarif_model.specs.FirstFault.{first, IsOutOfResources}
 use Rattle.sarif_inputs.specs.Inputs.{numbered, placed, placed_from, readable}
-use Rattle.sarif_inputs.specs.Parsed.{AreParsedFrom}
-use Rattle.sarif_inputs.specs.ReadSoFar.{faults_with}
+use Rattle.sarif_inputs.specs.Internal.Parsed.{AreParsedFrom}
+use Rattle.sarif_inputs.specs.Internal.ReadSoFar.{faults_with}
 use Rattle.sarif_inputs.specs.SourceFaults.{source_faults}
 use Rattle.sarif_inputs.proofs.ReadParts.{parsed_first, parsed_none}
 use Rattle.sarif_model.proofs.SourceAnswers.{still_first}

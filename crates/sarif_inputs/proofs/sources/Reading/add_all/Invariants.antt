@@ -1,9 +1,9 @@
 use Rattle.std.proofs.Common.{◌≡◌, ◌+◌, ◌++◌, ℕ, List, map, length}
-use Rattle.sarif_inputs.specs.Parsed.{AreParsedFrom}
-use Rattle.sarif_inputs.specs.ReadRun.{placed_read}
-use Rattle.sarif_model.specs.SourceKind.{source_of}
+use Rattle.sarif_inputs.specs.Internal.Parsed.{AreParsedFrom}
+use Rattle.sarif_inputs.specs.Internal.ReadRun.{placed_read}
+use Rattle.sarif_model.specs.Internal.SourceKind.{source_of}
 use Rattle.sarif_inputs.specs.Inputs.{numbered, placed}
-use Rattle.sarif_inputs.specs.ReadSoFar.{IsCounted}
+use Rattle.sarif_inputs.specs.Internal.ReadSoFar.{IsCounted}
 use Rattle.sarif_inputs.specs.SourceFaults.{source_faults}
 use Rattle.sarif_inputs.proofs.sources.Reading.add_all.Given as goal
 

@@ -1,7 +1,7 @@
 use Rattle.std.proofs.Common.{◌≡◌, length, drop}
-use Rattle.sarif_match.specs.Fits.{Fits}
+use Rattle.sarif_match.specs.Internal.Fits.{Fits}
 use Rattle.sarif_match.specs.Partners.{put_all}
-use Rattle.sarif_match.specs.Progress.{IsSound}
+use Rattle.sarif_match.specs.Internal.Progress.{IsSound}
 use Rattle.sarif_match.proofs.progress.Progress.put_pairs.Given as goal
 
 abbrev pub invariant-loop-i : goal.invariant-loop-i

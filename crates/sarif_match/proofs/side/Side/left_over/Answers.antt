@@ -1,6 +1,6 @@
 use Rattle.std.proofs.Common.{◌≡◌, IfOk, sym, subst}
 use Rattle.sarif_match.specs.declared.tier.Tier.{Tier}
-use Rattle.sarif_match.specs.Named.{with_parts, unmarked}
+use Rattle.sarif_match.specs.Internal.Named.{with_parts, unmarked}
 use Rattle.sarif_match.specs.Partners.{keyed_from}
 use Rattle.sarif_match.proofs.NamedLemmas.{IfOk-with_parts}
 use Rattle.sarif_match.proofs.side.Side.left_over.Goals as goal

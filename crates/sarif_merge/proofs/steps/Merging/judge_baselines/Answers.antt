@@ -1,7 +1,7 @@
 use Rattle.std.proofs.Common.{◌≡◌, Err, refl, sym, subst}
 use Rattle.std.proofs.lemmas.Result.{err_from_is_err_and}
 use Rattle.std.specs.Prelude.{IfErr}
-use Rattle.sarif_merge.specs.Steps.{IsRejection}
+use Rattle.sarif_merge.specs.Internal.Steps.{IsRejection}
 use Rattle.sarif_merge.proofs.StepFacts.{are_opened_baselines, baselines_judged, rejected_baselines}
 use Rattle.sarif_merge.proofs.steps.Merging.judge_baselines.Goals as goal
 

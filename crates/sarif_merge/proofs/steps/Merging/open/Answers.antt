@@ -1,8 +1,8 @@
 use Rattle.std.proofs.Common.{◌≡◌, ℕ, List, Err, length, refl, rules, sym, subst}
 use Rattle.std.proofs.lemmas.Result.{err_from_is_err_and}
 use Rattle.std.specs.Prelude.{IfErr}
-use Rattle.sarif_inputs.specs.Indexes.{AreIndexesOf}
-use Rattle.sarif_merge.specs.Steps.{IsRejection, inputs_in}
+use Rattle.sarif_inputs.specs.Internal.Indexes.{AreIndexesOf}
+use Rattle.sarif_merge.specs.Internal.Steps.{IsRejection, inputs_in}
 use Rattle.sarif_merge.proofs.StepFacts.{are_indexes_in, baselines_opened, logs_opened, rejected_sources, sources_read}
 use Rattle.sarif_merge.proofs.steps.Merging.open.Goals as goal
 

@@ -1,7 +1,7 @@
 use Rattle.std.proofs.Common.{rules, ◌≡◌, ◌++◌, ◌∷◌, [], ℕ, List, true, false, Some, bytes_eq, map, ap, sym, ◌∙◌, length, take, ◌<◌, ◌≤◌, arith, if◌then◌else◌}
 use Rattle.std.specs.Option.{option_map, is_some}
 use Rattle.std.proofs.lemmas.List.{length-map, map-append}
-use Rattle.sarif_page.specs.ByFile.{group_at, group_of}
+use Rattle.sarif_page.specs.Internal.ByFile.{group_at, group_of}
 use Rattle.sarif_page.specs.HtmlRows.{file_of, files_of}
 use Rattle.sarif_page.proofs.FilesMore.{found_files, full_files, full_group, new_files, new_group, grown, none_grown}
 use Rattle.sarif_page.proofs.by_file.Grouped.add.Goals as goal

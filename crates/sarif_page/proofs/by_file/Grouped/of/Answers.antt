@@ -1,6 +1,6 @@
 use Rattle.std.proofs.Common.{take, sym, subst, arith}
 use Rattle.std.proofs.lemmas.List.{take_all}
-use Rattle.sarif_page.specs.ByFile.{findings_in, IsGrouped}
+use Rattle.sarif_page.specs.Internal.ByFile.{findings_in, IsGrouped}
 use Rattle.sarif_page.proofs.FilesMore.{none_grouped, refs_more}
 use Rattle.sarif_page.proofs.by_file.Grouped.of.Goals as goal
 

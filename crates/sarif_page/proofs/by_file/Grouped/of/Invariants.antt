@@ -1,5 +1,5 @@
 use Rattle.std.proofs.Common.{take}
-use Rattle.sarif_page.specs.ByFile.{IsGrouped, findings_in}
+use Rattle.sarif_page.specs.Internal.ByFile.{IsGrouped, findings_in}
 use Rattle.sarif_page.proofs.by_file.Grouped.of.Given as goal
 
 abbrev pub invariant-loop-finding : goal.invariant-loop-finding

@@ -2,7 +2,7 @@ use Rattle.std.proofs.Common.{rules, ◌≡◌, ◌≤◌, ◌<◌, ◌++◌, tr
 use Rattle.std.specs.List.{slice_range}
 use Rattle.std.proofs.lemmas.Str.{IsCharBoundary-start, IsCharBoundary-after_ascii}
 use Rattle.sarif_shown.specs.Escaped.{escaped_char}
-use Rattle.sarif_shown.specs.EscapedBytes.{escapes}
+use Rattle.sarif_shown.specs.Internal.EscapedBytes.{escapes}
 use Rattle.sarif_shown.proofs.EscapedMore.{escapes_low, stands_step, escaped_step, all_added}
 use Rattle.sarif_shown.proofs.escaping.Escaping.push_replaced.Goals as goal
 use Rattle.sarif_shown.proofs.escaping.Escaping.push_replaced.Goals.{then-escapes+in_ok-push_str+in_ok-push_char, else-escapes}

@@ -1,7 +1,7 @@
 use Rattle.std.proofs.Common.{◌≡◌, ◌≤◌, ◌++◌, drop, flat_map, string_bytes}
 use Rattle.std.specs.List.{slice_range}
 use Rattle.std.specs.Str.{IsCharBoundary}
-use Rattle.sarif_shown.specs.EscapedBytes.{escaped_byte}
+use Rattle.sarif_shown.specs.Internal.EscapedBytes.{escaped_byte}
 use Rattle.sarif_shown.proofs.escaping.Escaping.push_replaced.Given as goal
 
 abbrev pub invariant-loop-i : goal.invariant-loop-i

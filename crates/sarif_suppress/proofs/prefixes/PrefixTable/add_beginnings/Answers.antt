@@ -1,5 +1,5 @@
 use Rattle.std.proofs.Common.{◌≡◌, ◌+◌, take}
-use Rattle.sarif_suppress.specs.Prefixes.{hash_of}
+use Rattle.sarif_suppress.specs.Internal.Prefixes.{hash_of}
 use Rattle.sarif_suppress.proofs.Beginnings.{hash_step, found_step}
 use Rattle.sarif_suppress.proofs.prefixes.PrefixTable.add_beginnings.Goals as goal
 

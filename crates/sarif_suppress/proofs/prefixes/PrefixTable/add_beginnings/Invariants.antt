@@ -1,6 +1,6 @@
 use Rattle.std.proofs.Common.{◌≡◌, ◌++◌, take}
 use Rattle.std.specs.List.{flat_map}
-use Rattle.sarif_suppress.specs.Prefixes.{beginnings, found_under, hash_of}
+use Rattle.sarif_suppress.specs.Internal.Prefixes.{beginnings, found_under, hash_of}
 use Rattle.sarif_suppress.proofs.prefixes.PrefixTable.add_beginnings.Given as goal
 
 -- the hash of what was gone through, and the numbers that were found for its beginnings

@@ -2,7 +2,7 @@ use Rattle.std.proofs.Common.{◌≡◌, refl, ◌++◌, [], nat_eq, bytes_eq, �
 use Rattle.std.specs.Cmp.Lexicographic.{pointwise}
 use Rattle.std.specs.List.{flat_map}
 use Rattle.std.specs.Option.{option_map_or}
-use Rattle.sarif_entries.specs.Filing.{message_keys}
+use Rattle.sarif_entries.specs.Internal.Filing.{message_keys}
 use Rattle.sarif_entries.specs.Matching.{is_pair}
 use Rattle.sarif_suppress.specs.Numbers.{numbers_at}
 use Rattle.sarif_suppress.proofs.Candidates.{from_tables}

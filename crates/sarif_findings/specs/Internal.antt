@@ -1,0 +1,7 @@
+-- Definitions for contracts within and between the crates, and for proofs. The merge theorem reaches none of them.
+pub mod ArtifactsOf
+pub mod Brackets
+pub mod RulesOf
+pub mod ShownSoFar
+pub mod Subject
+pub mod Unlinked

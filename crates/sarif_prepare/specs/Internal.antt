@@ -1,0 +1,7 @@
+-- Definitions for contracts within and between the crates, and for proofs. The merge theorem reaches none of them.
+pub mod Baselines
+pub mod Halves
+pub mod Keeping
+pub mod Marked
+pub mod Telling
+pub mod Together

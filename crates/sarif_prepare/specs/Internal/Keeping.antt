@@ -1,0 +1,34 @@
+-- What a merge of two sides gives for later merges.
+use Rattle.std.specs.Prelude.{List, Option, Result, IfOk, IfErr}
+use Rattle.sarif_model.specs.declared.merge_fault.MergeFault.{MergeFault}
+use Rattle.sarif_counts.specs.declared.life.Life.{Life}
+use Rattle.sarif_counts.specs.declared.upkeep.Upkeep.{Upkeep}
+use Rattle.sarif_runs.specs.Placed.{Placed}
+use Rattle.sarif_upkeep.specs.Merge.{Merge}
+use Rattle.sarif_prepare.specs.declared.asked.Asked.{Asked}
+use Rattle.sarif_prepare.specs.declared.file_read.FileRead.{FileRead}
+use Rattle.sarif_prepare.specs.declared.keeping.Sides.{Sides}
+use Rattle.sarif_prepare.specs.Kept.{bytes_of, merge_of, IsKept, IsUnkept}
+use Rattle.sarif_prepare.specs.Internal.Together.{AreTogether}
+
+-- the two sides are those of these runs of logs and of baselines
+abbrev pub AreOfRuns : FileRead → Sides → List Placed → List Placed → Type 0
+AreOfRuns rules sides current_runs baseline_runs =
+    AreTogether rules.file.now current_runs baseline_runs sides.current.now sides.baselines.now
+
+-- the merge of these runs
+abbrev pub merge_by : FileRead → Asked → List Placed → List Placed → Merge
+merge_by rules asked current_runs baseline_runs =
+    merge_of rules.file.now (bytes_of rules) asked.options.now.policy current_runs baseline_runs
+
+-- what is given for later merges is that of the merge of the sides' runs
+abbrev pub KeepsIfOk : FileRead → Asked → Sides → Option Upkeep → Result Life MergeFault → Type 0
+KeepsIfOk rules asked sides upkeep result =
+    (current_runs baseline_runs : List Placed) → AreOfRuns rules sides current_runs baseline_runs
+    → IfOk result (IsKept (merge_by rules asked current_runs baseline_runs) upkeep)
+
+-- why nothing is given is the reason of that merge
+abbrev pub RejectsIfErr : FileRead → Asked → Sides → Option Upkeep → Result Life MergeFault → Type 0
+RejectsIfErr rules asked sides upkeep result =
+    (current_runs baseline_runs : List Placed) → AreOfRuns rules sides current_runs baseline_runs
+    → IfErr result (IsUnkept (merge_by rules asked current_runs baseline_runs) upkeep)

@@ -1,9 +1,0 @@
--- The entries of a suppression file that drafts name. Internal: no public contract of the merge refers to this module.
-use Rattle.std.specs.Prelude.{Bool, List, [], ◌∷◌}
-use Rattle.sarif_suppress.specs.Marks.{with_marks}
-use Rattle.sarif_results.specs.declared.draft.Draft.{Draft}
-
--- marks with those of the entries that these results' drafts name
-abbrev pub marked : List Bool → List Draft → List Bool
-marked marks [] = marks
-marked marks (draft ∷ drafts) = marked (with_marks marks draft.applied.entries) drafts

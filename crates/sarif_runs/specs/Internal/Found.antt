@@ -1,0 +1,11 @@
+-- The item of a result's value.
+use Rattle.serde_json.specs.Data.{Data}
+use Rattle.sarif_model.specs.Members.{◌>>=◌}
+use Rattle.sarif_runs.specs.Head.{head_of}
+use Rattle.sarif_runs.specs.Record.{record_in, tool_name}
+use Rattle.sarif_runs.specs.declared.item.Item.{Item}
+use Rattle.sarif_runs.specs.Judging.{item_by}
+
+-- the record of this value as a result of the run, or the first fault
+abbrev pub record_item : Data → Data → Item
+record_item run found = item_by (head_of run >>= λ head. record_in head (tool_name run) found)

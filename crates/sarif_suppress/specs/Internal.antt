@@ -1,0 +1,5 @@
+-- Definitions for contracts within and between the crates, and for proofs. The merge theorem reaches none of them.
+pub mod Marks
+pub mod Prefixes
+pub mod Table
+pub mod Unseen
