@@ -10,6 +10,9 @@ use sarif_model::Text;
 use sarif_shown::{Escaping, push_numbered, push_path};
 use std::alloc::{AllocError, Global};
 
+/// The room for a line and a column, in bytes: a colon and up to ten digits for each.
+const MOST_POSITION: usize = 22;
+
 fn hit_word(hit: bool) -> &'static str
     ensures { result.now ≡ said.hit_word hit }
 {
@@ -22,29 +25,30 @@ fn row_class(again: bool) -> &'static str
     if again { "<tr class=\"again\"" } else { "<tr" }
 }
 
-fn row_data(alloc: Global, level: &str, state: &str, hit: &str) -> Result<String, AllocError>
-    ensures { IfOk result (λ s. string_bytes s ≡ said.row_data level.now state.now hit.now) }
+/// Adds what a row can be filtered by, up to its place.
+fn push_data(text: &mut String, level: &str, state: &str, hit: &str) -> Result<(), AllocError>
+    ensures { OnOk result (string_bytes text.new
+        ≡ string_bytes text.old ++ said.row_data level.now state.now hit.now) }
 {
-    format!(in alloc;
-        " data-level=\"{level}\" data-state=\"{state}\" data-hit=\"{hit}\"><th scope=\"row\"><code>"
-    )
+    text.push_str(" data-level=\"")?;
+    text.push_str(level)?;
+    text.push_str("\" data-state=\"")?;
+    text.push_str(state)?;
+    text.push_str("\" data-hit=\"")?;
+    text.push_str(hit)?;
+    text.push_str("\"><th scope=\"row\"><code>")?;
+    Ok(())
 }
 
 /// Adds what a row is, up to its place.
 #[tactic(auto, unfolding(crate::specs::HtmlReport::row_front))]
-fn push_front(
-    alloc: Global,
-    text: &mut String,
-    finding: &Finding,
-    again: bool,
-) -> Result<(), AllocError>
+fn push_front(text: &mut String, finding: &Finding, again: bool) -> Result<(), AllocError>
     ensures { OnOk result
         (string_bytes text.new ≡ string_bytes text.old ++ said.row_front again finding.now) }
 {
     let hit = hit_word(finding.hit);
-    let data = row_data(alloc, finding.level.name(), finding.state.name(), hit)?;
     text.push_str(row_class(again))?;
-    text.push_str(data.as_str())?;
+    push_data(text, finding.level.name(), finding.state.name(), hit)?;
     Ok(())
 }
 
@@ -53,7 +57,7 @@ fn position(alloc: Global, finding: &Finding) -> Result<String, AllocError>
     ensures { IfOk result (λ s. string_bytes s
         ≡ numbered finding.now.line ++ numbered finding.now.column) }
 {
-    let mut text = String::new(alloc);
+    let mut text = String::with_capacity(alloc, MOST_POSITION)?;
     push_numbered(&mut text, finding.line)?;
     push_numbered(&mut text, finding.column)?;
     Ok(text)
@@ -141,11 +145,15 @@ fn push_rule(alloc: Global, text: &mut String, finding: &Finding) -> Result<(), 
     Ok(())
 }
 
-/// The cell of the level, from the end of the place to the message.
-fn level_cell(alloc: Global, level: &str) -> Result<String, AllocError>
-    ensures { IfOk result (λ s. string_bytes s ≡ said.level_cell level.now) }
+/// Adds the cell of the level, from the end of the place to the message.
+fn push_level(text: &mut String, level: &str) -> Result<(), AllocError>
+    ensures { OnOk result
+        (string_bytes text.new ≡ string_bytes text.old ++ said.level_cell level.now) }
 {
-    format!(in alloc; "</code></th><td><span>{level}</span></td><td>")
+    text.push_str("</code></th><td><span>")?;
+    text.push_str(level)?;
+    text.push_str("</span></td><td>")?;
+    Ok(())
 }
 
 /// Adds the level, the message and the rule of a row.
@@ -154,8 +162,7 @@ fn push_message_cells(alloc: Global, text: &mut String, finding: &Finding) -> Re
     ensures { OnOk result
         (string_bytes text.new ≡ string_bytes text.old ++ said.message_cells finding.now) }
 {
-    let cell = level_cell(alloc, finding.level.name())?;
-    text.push_str(cell.as_str())?;
+    push_level(text, finding.level.name())?;
     Escaping::Page.push_str(alloc, text, finding.message.as_str())?;
     text.push_str("</td><td>")?;
     push_rule(alloc, text, finding)?;
@@ -187,7 +194,7 @@ fn push_row(
     ensures { OnOk result
         (string_bytes text.new ≡ string_bytes text.old ++ said.result_row again finding.now) }
 {
-    push_front(alloc, text, finding, again)?;
+    push_front(text, finding, again)?;
     push_place_cell(alloc, text, finding)?;
     push_message_cells(alloc, text, finding)?;
     push_tool_cells(alloc, text, finding)?;
