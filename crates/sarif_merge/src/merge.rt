@@ -11,7 +11,7 @@ ghost use Rattle.sarif_prepare.specs.Asked.{upkeep_in};
 ghost use Rattle.sarif_merge.specs.Life.{IsLifeOf, IsRefusal, no_life};
 ghost use Rattle.sarif_merge.specs.Merged.{HoldsFirst, IsMerged};
 ghost use Rattle.sarif_merge.specs.MergedLog.{output_text, runs_written, without_of, unused_in, written_inputs};
-ghost use Rattle.sarif_merge.specs.Internal.Steps.{IsReady, IsRejection};
+ghost use Rattle.sarif_merge.specs.Internal.Steps.{AreBaselinesOpened, AreLogsOpened, IsFileIn, IsReady, IsRejection};
 ghost use Rattle.sarif_model.specs.Limits.{most_sources};
 
 use crate::steps::Merging;
@@ -23,11 +23,35 @@ use sarif_log::{Facts, Merged, Prepared};
 use sarif_model::MergeFault;
 use sarif_prepare::Asked;
 use sarif_streams::SourceBytes;
+use sarif_suppress::Suppressions;
 use std::alloc::{AllocError, Global};
 use std::sync::Wait;
 use std::thread::Threads;
 
-/// Everything that is written for a merge, step by step. The indexes and the suppression file are released at its end.
+/// Everything that is written for a merge of these runs: steps 4 to 6. It owns no more than the runs, since what a
+/// function owns at each of its exits costs most of its proof.
+fn judge_few<G: Gate + Sync, R: Threads + Wait + Sync>(
+    rt: &R,
+    alloc: Global,
+    merging: &Merging<'_, '_>,
+    runs: Runs<'_, '_>,
+    file: &Suppressions,
+    observer: &G,
+) -> Result<Prepared, MergeFault>
+    requires logs { AreLogsOpened merging.now runs.current.items }
+    requires baselines { AreBaselinesOpened merging.now runs.baseline.items }
+    requires file { IsFileIn merging.now file.now }
+    ensures prepared { IfOk result (IsReady merging.now) }
+    ensures refused { IfErr result (IsRejection merging.now) }
+{
+    let Runs { current, baseline } = runs;
+    let logs = merging.judge_logs(rt, alloc, current, file, observer)?;
+    let baselines = merging.judge_baselines(rt, alloc, baseline, file, observer)?;
+    merging.prepare(rt, alloc, logs, baselines, file)
+}
+
+/// Everything that is written for a merge: steps 1 to 3, and then those on what they found. The indexes and the
+/// suppression file are released at its end.
 fn prepare_few<G: Gate + Sync, R: Threads + Wait + Sync>(
     rt: &R,
     alloc: Global,
@@ -43,11 +67,9 @@ fn prepare_few<G: Gate + Sync, R: Threads + Wait + Sync>(
     ensures refused { IfErr result (IsRejection merging.now) }
 {
     let indexes = (&*merging).index(rt, alloc, scratches)?;
-    let Runs { current, baseline } = merging.open(rt, alloc, &indexes)?;
+    let runs = merging.open(rt, alloc, &indexes)?;
     let file = merging.read_file(alloc)?;
-    let logs = merging.judge_logs(rt, alloc, current, &file, observer)?;
-    let baselines = merging.judge_baselines(rt, alloc, baseline, &file, observer)?;
-    merging.prepare(rt, alloc, logs, baselines, &file)
+    judge_few(rt, alloc, merging, runs, &file, observer)
 }
 
 /// Merges at most `MOST_SOURCES` logs and as many baselines. Returns the merge and what `tell` computed from it.

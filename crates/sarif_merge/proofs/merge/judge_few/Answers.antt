@@ -2,7 +2,7 @@ use Rattle.std.proofs.Common.{◌≡◌, Err, refl, sym, subst}
 use Rattle.std.proofs.lemmas.Result.{err_from_is_err_and}
 use Rattle.std.specs.Prelude.{IfErr}
 use Rattle.sarif_merge.specs.Internal.Steps.{IsRejection}
-use Rattle.sarif_merge.proofs.merge.prepare_few.Goals as goal
+use Rattle.sarif_merge.proofs.merge.judge_few.Goals as goal
 
 pub returns-in_err-logs-clause-refused : goal.returns-in_err-logs-clause-refused
 returns-in_err-logs-clause-refused g c =
