@@ -28,9 +28,8 @@ use Rattle.sarif_inputs.specs.SourceFaults.{source_faults}
 use Rattle.sarif_inputs.specs.declared.sources.Runs.{Runs}
 use Rattle.sarif_log.specs.Assembled.{IsMergedBy}
 use Rattle.sarif_prepare.specs.Kept.{merge_of, IsKept, IsUnkept}
-use Rattle.sarif_prepare.specs.Asked.{upkeep_in}
+use Rattle.sarif_prepare.specs.Asked.{reporting_in, upkeep_in}
 use Rattle.sarif_log.specs.Internal.Prepared.{IsPrepared}
-use Rattle.sarif_prepare.specs.Asked.{reporting_in}
 use Rattle.sarif_log.specs.declared.merged.Merged.{Merged}
 use Rattle.sarif_log.specs.declared.prepared.Prepared.{Prepared}
 use Rattle.sarif_findings.specs.declared.reporting.Reporting.{Reporting}

@@ -15,9 +15,8 @@ ghost use Rattle.sarif_log.specs.Internal.Prepared.{IsPrepared};
 ghost use Rattle.sarif_results.specs.Internal.Judged.{placed_in, IsJudged};
 ghost use Rattle.sarif_upkeep.specs.Internal.IsMatched.{IsFileOf};
 ghost use Rattle.sarif_prepare.specs.Kept.{bytes_of, merge_of, IsKept, IsUnkept};
-ghost use Rattle.sarif_prepare.specs.Asked.{upkeep_in};
+ghost use Rattle.sarif_prepare.specs.Asked.{reporting_in, upkeep_in};
 ghost use Rattle.sarif_prepare.specs.Internal.Together.{AreTogether, IsPaired};
-ghost use Rattle.sarif_prepare.specs.Asked.{reporting_in};
 ghost use Rattle.sarif_log.specs.Told.{told_of};
 ghost use Rattle.sarif_model.specs.Limits.{most_runs};
 

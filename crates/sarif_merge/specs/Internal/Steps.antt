@@ -17,8 +17,7 @@ use Rattle.sarif_inputs.specs.Internal.Indexes.{AreIndexesOf}
 use Rattle.sarif_inputs.specs.Inputs.{Inputs, all_runs, baseline_runs, input_runs}
 use Rattle.sarif_results.specs.Internal.Judged.{IsJudged, placed_in}
 use Rattle.sarif_results.specs.declared.judged.Judged.{Judged}
-use Rattle.sarif_prepare.specs.Asked.{upkeep_in}
-use Rattle.sarif_prepare.specs.Asked.{reporting_in}
+use Rattle.sarif_prepare.specs.Asked.{reporting_in, upkeep_in}
 use Rattle.sarif_log.specs.declared.merged.Merged.{Merged}
 use Rattle.sarif_log.specs.declared.prepared.Prepared.{Prepared}
 use Rattle.sarif_merge.specs.Given.{inputs_of}
