@@ -1,6 +1,5 @@
 //! The mailbox.
-ghost use Rattle.std.specs.Prelude.{◌≡◌, IfOk};
-ghost use Rattle.sarif_gather.specs.Ends.{IsPostOf, IsDeskOf, AreAllPosts, number_of};
+ghost use Rattle.sarif_gather.specs.Ends.{IsDeskOf, AreAllPosts};
 
 use sarif_gather::{Desk, Mailbox, Post};
 use std::alloc::{AllocError, Global};
@@ -18,25 +17,9 @@ pub fn settle<R: Wait>(rt: &R, alloc: Global) -> Result<String, AllocError> {
     let (sender, parcel) = mailbox.take_next(rt, &mut desk);
     mailbox.send_on(rt, &mut second, 21);
     mailbox.send_on(rt, &mut first, 12);
-    let posts = both(alloc, &mailbox, first, second)?;
+    let posts = vec![in alloc; first, second]?;
     let (left, note) = settle_twice(rt, alloc, mailbox, desk, posts)?;
     format!(in alloc; "taken {parcel} of {sender}, left {left:?}{note}")
-}
-
-// Both posts of a mailbox for two senders.
-fn both(
-    alloc: Global,
-    mailbox: &Mailbox<u8>,
-    first: Post<u8>,
-    second: Post<u8>,
-) -> Result<Vec<Post<u8>>, AllocError>
-    requires two { mailbox.now.senders ≡ 2 }
-    requires first { IsPostOf mailbox.now first × (number_of first ≡ 0) }
-    requires second { IsPostOf mailbox.now second × (number_of second ≡ 1) }
-    ensures { IfOk result (λ posts. AreAllPosts mailbox.now posts.items) }
-{
-    let posts = vec![in alloc; first, second]?;
-    Ok(posts)
 }
 
 // What is left, and a note where the mailbox had to be settled twice.

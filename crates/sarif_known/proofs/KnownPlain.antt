@@ -152,11 +152,11 @@ result_plain r artifact readable small =
 
 -- ---- runs and the log
 
-number_small : (n : ℕ) (o : Option (List ℕ)) → n < 2 ^ 32 → IfSome (option_map (λ _. n) o) (λ n. n < 2 ^ 32)
+pub number_small : (n : ℕ) (o : Option (List ℕ)) → n < 2 ^ 32 → IfSome (option_map (λ _. n) o) (λ n. n < 2 ^ 32)
 number_small n None small = tt
 number_small n (Some base) small = small
 
-next_small : (n : ℕ) (o : Option (List ℕ)) (left : ℕ) → n + suc left ≤ most_results → next_number n o + left ≤ most_results
+pub next_small : (n : ℕ) (o : Option (List ℕ)) (left : ℕ) → n + suc left ≤ most_results → next_number n o + left ≤ most_results
 next_small n None left few = omega (arith, few)
 next_small n (Some base) left few = omega (arith, few)
 

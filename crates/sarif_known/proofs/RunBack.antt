@@ -1,6 +1,6 @@
 -- A known run is opened without an error, and its results have the records that they were written from.
-use Rattle.std.proofs.Common.{◌≡◌, ℕ, suc, ◌+◌, ◌<◌, ◌≤◌, ◌^◌, Bool, true, false, ◌&&◌, List, [], ◌∷◌, ◌++◌, map, length, Option, Some, None, option_map, codes, refl, sym, ap, ◌∙◌, arith, append_assoc, length-append}
-use Rattle.std.specs.Prelude.{Result, Ok, Err, option_and_then, IfSome, slice_get, slice_index_or, if◌then◌else◌}
+use Rattle.std.proofs.Common.{◌≡◌, ℕ, suc, ◌+◌, ◌<◌, ◌≤◌, ◌^◌, Bool, true, false, ◌&&◌, List, [], ◌∷◌, ◌++◌, map, length, Option, Some, None, codes, refl, sym, ap, ◌∙◌, arith, append_assoc, length-append}
+use Rattle.std.specs.Prelude.{Result, Ok, Err, option_and_then, slice_get, slice_index_or, if◌then◌else◌}
 use Rattle.std.specs.List.{AllByRecursion, range_with_len}
 use Rattle.serde_json.specs.Data.{Data, null}
 use Rattle.serde_json.specs.Find.{get, as_array}
@@ -28,6 +28,7 @@ use Rattle.sarif_known.specs.Chosen.{Chosen, results_among}
 use Rattle.sarif_known.specs.KnownResult.{known_result, list_if_any}
 use Rattle.sarif_known.specs.KnownRun.{base_alone, next_number, results_from, with_some, bases_alone, artifact_at, run_rows, known_run}
 use Rattle.sarif_known.specs.Laws.{IsOfTool, AreKnownAgain}
+use Rattle.sarif_known.proofs.KnownPlain.{next_small, number_small}
 use Rattle.sarif_known.proofs.KnownParts.{items_back, known_parts, parts_is, present_is}
 use Rattle.sarif_known.proofs.RecordBack.{HasArtifact, base_place, known_head, number_for, record_back}
 use Rattle.sarif_accept.proofs.Rows.{found}
@@ -112,18 +113,10 @@ there_is earlier (Some base) rest bases is =
     placed [] base rest = refl
     placed (e ∷ earlier) base rest = placed earlier base rest
 
-small_number : (n : ℕ) (o : Option (List ℕ)) → n < 2 ^ 32 → IfSome (option_map (λ _. n) o) (λ n. n < 2 ^ 32)
-small_number n None small = tt
-small_number n (Some base) small = small
-
 -- the bases so far with one more
 more_bases : (earlier : List (List ℕ)) (o : Option (List ℕ)) (rest : List (List ℕ)) → (so_far : List (List ℕ)) × (so_far ++ rest ≡ earlier ++ with_some o rest) × (length so_far ≡ next_number (length earlier) o)
 more_bases earlier None rest = (earlier, refl, refl)
 more_bases earlier (Some base) rest = (earlier ++ base ∷ [], append_assoc earlier (base ∷ []) rest, length-append earlier (base ∷ []))
-
-next_small : (n : ℕ) (o : Option (List ℕ)) (left : ℕ) → n + suc left ≤ most_results → next_number n o + left ≤ most_results
-next_small n None left few = omega (arith, few)
-next_small n (Some base) left few = omega (arith, few)
 
 not_absent : (r : Record) (artifact : Option ℕ) → is_absent_result (known_result r artifact) ≡ false
 not_absent r artifact = by_check (is_absent_result (known_result r artifact)) (present_is r artifact)
@@ -151,7 +144,7 @@ module _ (run : Chosen) (p : Placed) (is_run : p.run ≡ known_run run) where
   one_item seq n r here of_tool there small =
       by_skip (skips p.source) (is_absent_result (result_at p.run seq)) (record_of p.run seq) (ap is_absent_result here ∙ not_absent r (number_for n r))
       (record_from p.run (known_head (bases_alone run.records)) r.tool seq (known_result r (number_for n r)) (known_parts r (number_for n r)) r
-      (ap head_of is_run ∙ head_is run) (ap tool_name is_run ∙ tool_is run ∙ sym of_tool.tool_is) here (parts_is r (number_for n r) of_tool.readable.guid (small_number n (base_alone r) small))
+      (ap head_of is_run ∙ head_is run) (ap tool_name is_run ∙ tool_is run ∙ sym of_tool.tool_is) here (parts_is r (number_for n r) of_tool.readable.guid (number_small n (base_alone r) small))
       (record_back (bases_alone run.records) n r of_tool.readable there))
     where
       by_skip : (b absent : Bool) (got : Result Record Fault) → absent ≡ false → got ≡ Ok r → (if b && absent then Skipped else item_by got) ≡ Sound r

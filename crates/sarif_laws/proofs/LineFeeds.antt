@@ -1,5 +1,5 @@
 -- The list of unused entries has a line for each of them.
-use Rattle.std.proofs.Common.{◌≡◌, ◌<◌, ◌≤◌, ◌==◌, ◌^◌, ◌+◌, ◌%◌, ℕ, suc, Bool, true, false, cond, List, [], ◌∷◌, ◌++◌, length, Option, Some, None, Ok, codes, chars, decimal, if◌then◌else◌, refl, ap, sym, subst, ◌∙◌, arith, true≢false}
+use Rattle.std.proofs.Common.{◌≡◌, ◌<◌, ◌≤◌, ◌==◌, ◌^◌, ◌+◌, ◌%◌, ℕ, Bool, true, false, cond, List, [], ◌∷◌, ◌++◌, length, Option, Some, None, Ok, codes, chars, decimal, if◌then◌else◌, refl, ap, sym, subst, ◌∙◌, arith, true≢false}
 use Rattle.std.specs.Prelude.{⊤, count_by, encode_utf8_all, nat_le}
 use Rattle.std.proofs.lemmas.Bool.{and_parts, eqb-true, leb-true, ne_eqb}
 use Rattle.std.proofs.lemmas.Fmt.{decimal_by_steps}
@@ -15,8 +15,7 @@ use Rattle.sarif_read.proofs.WholeRuns.{bind_ok}
 use Rattle.sarif_counts.specs.declared.policy.Policy.{Policy}
 use Rattle.sarif_entries.specs.declared.entry.Entry.{Entry}
 use Rattle.sarif_entries.specs.declared.fault.FileFault.{FileFault}
-use Rattle.sarif_entries.specs.declared.version.Version.{Version}
-use Rattle.sarif_entries.specs.Entries.{entry_of, unless_fault}
+use Rattle.sarif_entries.specs.Entries.{unless_fault}
 use Rattle.sarif_entries.specs.FileFault.{whole}
 use Rattle.sarif_entries.specs.File.{File, check_count, check_list, check_version, entries_from, file_of, file_of_value, value_or}
 use Rattle.sarif_entries.specs.Matching.{is_expired}
@@ -35,7 +34,7 @@ use Rattle.sarif_merge.specs.MergedLog.{current_of, file_given}
 use Rattle.sarif_merge.proofs.Unkept.{file_was_read}
 use Rattle.sarif_upkeep.specs.Internal.IsMatched.{IsFileOf}
 use Rattle.sarif_upkeep.specs.Life.{unused_in}
-use Rattle.sarif_upkeep.proofs.NewEntries.{values_long}
+use Rattle.sarif_upkeep.proofs.NewEntries.{entries_long, values_long}
 use Rattle.sarif_laws.specs.Lines.{lines_in}
 use Rattle.sarif_laws.proofs.FileAfter.{input_file}
 
@@ -114,15 +113,6 @@ few_by : (few : Bool) (fault : FileFault) (n : ℕ) (u : ⊤) → nat_le n most_
 few_by true fault n u is checked = leb-true n most_entries is
 few_by false fault n u is checked = let never : ⊥ = cc in absurd never
 
-as_many : (version : Version) (today : Option ℕ) (n : ℕ) (ds : List Data) (es : List Entry) → entries_from version today n ds ≡ Ok es → length es ≡ length ds
-unfolding entries_from
-as_many version today n [] es is = let same : [] ≡ es = cc in ap length (sym same)
-as_many version today n (d ∷ ds) es is =
-    let first = bind_ok (entry_of version today n d) _ es is in
-    let rest = bind_ok (entries_from version today (n + 1) ds) _ es first.2 in
-    let same : first.0 ∷ rest.0 ≡ es = cc rest.2 in
-    ap length (sym same) ∙ ap suc (as_many version today (n + 1) ds rest.0 rest.1)
-
 few_entries : (bytes : List ℕ) (today : Option ℕ) (file : File) → file_of bytes today ≡ Ok file → length file.entries ≤ most_entries
 unfolding file_of file_of_value
 few_entries bytes today file is =
@@ -133,7 +123,7 @@ few_entries bytes today file is =
     let es = bind_ok (entries_from version.0 today 0 list.0) _ file count.2 in
     let same : ◌≡◌ {A = File} (record { entries = es.0; today = today }) file = cc es.2 in
     let few : length list.0 ≤ most_entries = few_by (nat_le (length list.0) most_entries) (whole TooMany) (length list.0) count.0 refl count.1 in
-    let long : length es.0 ≡ length list.0 = as_many version.0 today 0 list.0 es.0 es.1 in
+    let long : length es.0 ≡ length list.0 = entries_long version.0 today 0 list.0 es.0 es.1 in
     subst (λ (f : File). length f.entries ≤ most_entries) same (omega (arith, few, long))
 
 few_given : (given : Option (List ℕ)) (file : File) → IsFileOf given file → length file.entries ≤ most_entries

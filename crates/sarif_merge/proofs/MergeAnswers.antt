@@ -1,36 +1,29 @@
 -- The merge of what was read, from the runs and the suppression file of it.
-use Rattle.std.proofs.Common.{◌≡◌, ℕ, ◌≤◌, ◌++◌, ◌⊎◌, List, [], ◌∷◌, true, false, Option, Some, Result, Ok, length, map, arith, refl, sym, ap, subst, ◌∙◌}
+use Rattle.std.proofs.Common.{◌≡◌, ℕ, ◌≤◌, ◌++◌, ◌⊎◌, List, [], ◌∷◌, false, Option, Some, Result, Ok, length, map, arith, refl, sym, ap, subst, ◌∙◌}
 use Rattle.std.proofs.lemmas.List.{length-map}
 use Rattle.std.proofs.lemmas.List.Concat.{flat_map-append}
 use Rattle.std.specs.Prelude.{nat_lt}
 use Rattle.std.proofs.lemmas.Bool.Decides.{nat_tests}
-use Rattle.std.specs.List.{AllByRecursion}
 use Rattle.std.specs.declared.alloc.Global.{Global}
 use Rattle.std.specs.declared.vec.Vec.{Vec}
 use Rattle.json.specs.Token.{Token}
 use Rattle.json_parts.specs.declared.indexing.IndexFault.{IndexFault}
 use Rattle.sarif_inputs.specs.Internal.Together.{AreIndexed}
 use Rattle.json_parts.specs.Mark.{without_mark}
-use Rattle.sarif_model.specs.Run.{results_total}
 use Rattle.sarif_entries.specs.File.{File}
 use Rattle.sarif_suppress.specs.Suppressing.{unused_of}
 use Rattle.sarif_model.specs.declared.merge_fault.MergeFault.{MergeFault}
 use Rattle.sarif_model.specs.declared.merge_fault.Source.TheVariants.{Log, Baseline}
-use Rattle.sarif_counts.specs.declared.checks.Checks.{Checks}
 use Rattle.sarif_counts.specs.declared.policy.Policy.{Policy}
 use Rattle.sarif_findings.specs.declared.reporting.Reporting.{Reporting}
 use Rattle.sarif_counts.specs.CountOf.{count_of}
 use Rattle.sarif_counts.specs.Gate.{gate_of}
-use Rattle.sarif_results.specs.Drafts.{IsRun}
-use Rattle.sarif_runs.specs.Judging.{faults_of_runs, records_of, run_faults, skips, run_values}
-use Rattle.sarif_results.specs.Internal.Outcomes.{all_outcomes}
+use Rattle.sarif_runs.specs.Judging.{faults_of_runs, records_of, run_faults, run_values}
 use Rattle.sarif_runs.specs.Placed.{Placed}
-use Rattle.sarif_results.specs.declared.judged.Judged.{Judged}
 use Rattle.sarif_log.specs.declared.merged.Merged.{Merged}
 use Rattle.sarif_log.specs.declared.prepared.Prepared.{Prepared}
 use Rattle.sarif_log.specs.Assembled.{IsMergedBy}
 use Rattle.sarif_log.specs.Internal.Prepared.{IsPrepared}
-use Rattle.sarif_results.specs.Internal.Judged.{placed_in, IsJudged}
 use Rattle.sarif_log.specs.LogBy.{leftover_runs, runs_by, runs_without_results}
 use Rattle.sarif_model.specs.FirstFault.{IsOutOfResources, first}
 use Rattle.sarif_inputs.specs.Faults.{faults_of, file_faults, file_or_none, number_faults}
@@ -38,7 +31,7 @@ use Rattle.sarif_inputs.specs.Internal.Indexes.{AreIndexesOf}
 use Rattle.sarif_inputs.specs.Inputs.{Inputs, numbered, placed}
 use Rattle.sarif_inputs.specs.Internal.ReadSoFar.{sources_of}
 use Rattle.sarif_inputs.specs.SourceFaults.{source_faults}
-use Rattle.sarif_inputs.proofs.ReadFacts.{log_sides, baseline_sides, nothing_before}
+use Rattle.sarif_inputs.proofs.ReadFacts.{nothing_before}
 use Rattle.sarif_model.proofs.SourceAnswers.{still_first}
 use Rattle.sarif_counts.specs.declared.life.Life.{Life}
 use Rattle.sarif_counts.specs.declared.upkeep.Upkeep.{Upkeep}
@@ -48,44 +41,9 @@ use Rattle.sarif_merge.specs.Given.{given}
 use Rattle.sarif_merge.specs.Merged.{IsMerged}
 use Rattle.sarif_merge.specs.MergedLog.{file_in}
 use Rattle.sarif_merge.specs.Internal.Prepared.{IsPreparedFor}
-use Rattle.sarif_merge.proofs.ReadObjects.{objects_in}
-use Rattle.sarif_model.specs.Limits.{most_results, most_runs, most_sources}
+use Rattle.sarif_model.specs.Limits.{most_sources}
 
 -- ---- what is assembled
-
--- the runs of logs, judged
-pub judged_logs : (checks : Checks) (file : File) (ls : List (List ℕ)) (judged : Judged)
-    → placed_in judged ≡ placed (numbered checks Log 0 ls)
-    → judged.outcomes.items ≡ all_outcomes file (placed_in judged)
-    → faults_of_runs (placed_in judged) ≡ []
-    → length (placed_in judged) ≤ most_runs
-    → results_total (run_values (placed_in judged)) ≤ most_results
-    → IsJudged file false judged
-judged_logs checks file ls judged same outcomes none few few_results = record {
-  outcomes = outcomes;
-  faultless = none;
-  sources = subst (AllByRecursion (λ p. skips p.source ≡ false)) (sym same) (log_sides checks 0 ls);
-  objects = subst (λ ps. AllByRecursion IsRun (run_values ps)) (sym same) (objects_in (numbered checks Log 0 ls));
-  few_runs = few;
-  few_results = few_results;
-}
-
--- the runs of baselines, judged
-pub judged_baselines : (checks : Checks) (file : File) (bs : List (List ℕ)) (judged : Judged)
-    → placed_in judged ≡ placed (numbered checks Baseline 0 bs)
-    → judged.outcomes.items ≡ all_outcomes file (placed_in judged)
-    → faults_of_runs (placed_in judged) ≡ []
-    → length (placed_in judged) ≤ most_runs
-    → results_total (run_values (placed_in judged)) ≤ most_results
-    → IsJudged file true judged
-judged_baselines checks file bs judged same outcomes none few few_results = record {
-  outcomes = outcomes;
-  faultless = none;
-  sources = subst (AllByRecursion (λ p. skips p.source ≡ true)) (sym same) (baseline_sides checks 0 bs);
-  objects = subst (λ ps. AllByRecursion IsRun (run_values ps)) (sym same) (objects_in (numbered checks Baseline 0 bs));
-  few_runs = few;
-  few_results = few_results;
-}
 
 pub same_runs : (file : File) (now before xs ys : List Placed) (asked : Option Reporting) (prepared : Prepared)
     → IsPrepared file now before asked prepared → now ≡ xs → before ≡ ys → IsPrepared file xs ys asked prepared

@@ -1,7 +1,8 @@
 -- What each step of a merge makes, from what its calls give.
 use Rattle.std.proofs.Common.{◌≡◌, ℕ, ◌≤◌, ◌+◌, ◌++◌, ◌⊎◌, List, [], true, false, Option, Some, Result, Ok, Vec, Global, inl, inr, length, map, arith, refl, sym, ap, subst, ◌∙◌, append-nil}
 use Rattle.std.proofs.lemmas.List.{length-map}
-use Rattle.std.specs.Prelude.{option_map}
+use Rattle.std.specs.Prelude.{Bool, option_map}
+use Rattle.std.specs.List.{AllByRecursion}
 use Rattle.json.specs.Token.{Token}
 use Rattle.json_parts.specs.Mark.{without_mark}
 use Rattle.sarif_inputs.specs.Internal.Together.{AreIndexed}
@@ -11,12 +12,14 @@ use Rattle.sarif_model.specs.Limits.{most_results, most_runs, most_sources}
 use Rattle.sarif_model.specs.MergeFault.{exit_status, out_of_memory}
 use Rattle.sarif_model.specs.Run.{results_total}
 use Rattle.sarif_model.specs.declared.merge_fault.MergeFault.{MergeFault}
+use Rattle.sarif_model.specs.declared.merge_fault.Source.TheVariants.{Log, Baseline}
 use Rattle.sarif_model.proofs.SourceAnswers.{still_first}
 use Rattle.sarif_entries.specs.File.{File}
-use Rattle.sarif_runs.specs.Judging.{faults_of_runs, run_values}
+use Rattle.sarif_runs.specs.Judging.{faults_of_runs, run_values, skips}
 use Rattle.sarif_runs.specs.Internal.Opened.{placed_of}
 use Rattle.sarif_runs.specs.Placed.{Placed}
 use Rattle.sarif_runs.specs.declared.opened.OpenedRun.{OpenedRun}
+use Rattle.sarif_results.specs.Drafts.{IsRun}
 use Rattle.sarif_results.specs.Internal.Judged.{IsJudged, placed_in}
 use Rattle.sarif_results.specs.Internal.Outcomes.{all_outcomes}
 use Rattle.sarif_results.specs.declared.judged.Judged.{Judged}
@@ -26,6 +29,7 @@ use Rattle.sarif_inputs.specs.Inputs.{Inputs, all_runs, all_sources, baseline_ru
 use Rattle.sarif_inputs.specs.Internal.Runs.{AreRunsOf}
 use Rattle.sarif_inputs.specs.SourceFaults.{source_faults}
 use Rattle.sarif_inputs.specs.declared.sources.Runs.{Runs}
+use Rattle.sarif_inputs.proofs.ReadFacts.{baseline_sides, log_sides}
 use Rattle.sarif_log.specs.Assembled.{IsMergedBy}
 use Rattle.sarif_prepare.specs.Kept.{merge_of, IsKept, IsUnkept}
 use Rattle.sarif_prepare.specs.Asked.{reporting_in, upkeep_in}
@@ -43,7 +47,8 @@ use Rattle.sarif_merge.specs.MergedLog.{file_given, file_in}
 use Rattle.sarif_merge.specs.Internal.Prepared.{IsPreparedFor}
 use Rattle.sarif_merge.specs.Internal.Steps.{AreBaselinesJudged, AreBaselinesOpened, AreIndexesIn, AreLogsJudged, AreLogsOpened, AreLogsSound, AreOpened, IsFileIn, IsMergeOf, IsReady, IsRead, IsRejection, inputs_in, policy_in}
 use Rattle.sarif_merge.specs.declared.steps.Merging.{Merging}
-use Rattle.sarif_merge.proofs.MergeAnswers.{are_indexes, assembled_is, faults_apart, judged_baselines, judged_logs, left_after_first, number_is_no_fault, same_kept, same_large, same_runs}
+use Rattle.sarif_merge.proofs.ReadObjects.{objects_in}
+use Rattle.sarif_merge.proofs.MergeAnswers.{are_indexes, assembled_is, faults_apart, left_after_first, number_is_no_fault, same_kept, same_large, same_runs}
 use Rattle.sarif_merge.proofs.Unkept.{file_was_read, unkept_quiet}
 
 -- ---- rejections
@@ -143,15 +148,32 @@ same_file m file read = sym (ap file_in read.0)
 few_placed : (runs : List OpenedRun) (judged : List Placed) → judged ≡ map placed_of runs → length runs ≤ most_runs → length judged ≤ most_runs
 few_placed runs judged same few = let long : length judged ≡ length runs = ap length same ∙ length-map runs placed_of in omega (arith, long, few)
 
+-- the runs of the logs (false) or of the baselines (true), judged
+judged_side : (m : Merging) (baseline : Bool) (wanted : List Placed) (runs : List OpenedRun) (file : File) (judged : Judged)
+    → AllByRecursion (λ p. skips p.source ≡ baseline) wanted → AllByRecursion IsRun (run_values wanted)
+    → AreOpened wanted runs → IsFileIn m file → placed_in judged ≡ map placed_of runs
+    → judged.outcomes.items ≡ all_outcomes file (placed_in judged) → faults_of_runs (map placed_of runs) ≡ []
+    → (placed_in judged ≡ wanted) × IsJudged (file_given (inputs_in m)) baseline judged
+judged_side m baseline wanted runs file judged sides objects opened read same outcomes none =
+    let are : placed_in judged ≡ wanted = same ∙ opened.are in
+    let made : IsJudged file baseline judged = record {
+      outcomes = outcomes;
+      faultless = ap faults_of_runs same ∙ none;
+      sources = subst (AllByRecursion (λ (p : Placed). skips p.source ≡ baseline)) (sym are) sides;
+      objects = subst (λ ps. AllByRecursion IsRun (run_values ps)) (sym are) objects;
+      few_runs = few_placed runs (placed_in judged) same opened.few;
+      few_results = subst (λ ps. results_total (run_values ps) ≤ most_results) (sym same) opened.few_results;
+    } in
+    (are, subst (λ f. IsJudged f baseline judged) (same_file m file read) made)
+
 pub logs_judged : (m : Merging) (runs : List OpenedRun) (file : File) (judged : Judged) → AreLogsOpened m runs → IsFileIn m file → placed_in judged ≡ map placed_of runs
     → judged.outcomes.items ≡ all_outcomes file (placed_in judged) → faults_of_runs (map placed_of runs) ≡ [] → AreLogsJudged m judged
 unfolding AreLogsOpened AreLogsJudged
-logs_judged m runs file judged opened read same outcomes none = (
-  same ∙ opened.are,
-  subst (λ f. IsJudged f false judged) (same_file m file read)
-      (judged_logs (inputs_in m).checks file (inputs_in m).logs judged (same ∙ opened.are) outcomes (ap faults_of_runs same ∙ none)
-      (few_placed runs (placed_in judged) same opened.few) (subst (λ ps. results_total (run_values ps) ≤ most_results) (sym same) opened.few_results)),
-)
+logs_judged m runs file judged opened read same outcomes none =
+    let checks = (inputs_in m).checks in
+    let logs = (inputs_in m).logs in
+    judged_side m false (input_runs (inputs_in m)) runs file judged (log_sides checks 0 logs) (objects_in (numbered checks Log 0 logs))
+    opened read same outcomes none
 
 pub logs_sound : (m : Merging) (runs : List OpenedRun) → AreLogsOpened m runs → faults_of_runs (map placed_of runs) ≡ [] → AreLogsSound m
 unfolding AreLogsOpened AreLogsSound
@@ -167,12 +189,11 @@ rejected_logs m runs file fault opened read found quiet =
 pub baselines_judged : (m : Merging) (runs : List OpenedRun) (file : File) (judged : Judged) → AreBaselinesOpened m runs → IsFileIn m file → placed_in judged ≡ map placed_of runs
     → judged.outcomes.items ≡ all_outcomes file (placed_in judged) → faults_of_runs (map placed_of runs) ≡ [] → AreBaselinesJudged m judged
 unfolding AreBaselinesOpened AreBaselinesJudged
-baselines_judged m runs file judged opened read same outcomes none = (
-  same ∙ opened.are,
-  subst (λ f. IsJudged f true judged) (same_file m file read)
-      (judged_baselines (inputs_in m).checks file (inputs_in m).baselines judged (same ∙ opened.are) outcomes (ap faults_of_runs same ∙ none)
-      (few_placed runs (placed_in judged) same opened.few) (subst (λ ps. results_total (run_values ps) ≤ most_results) (sym same) opened.few_results)),
-)
+baselines_judged m runs file judged opened read same outcomes none =
+    let checks = (inputs_in m).checks in
+    let baselines = (inputs_in m).baselines in
+    judged_side m true (baseline_runs (inputs_in m)) runs file judged (baseline_sides checks 0 baselines) (objects_in (numbered checks Baseline 0 baselines))
+    opened read same outcomes none
 
 pub rejected_baselines : (m : Merging) (runs : List OpenedRun) (file : File) (fault : MergeFault) → AreBaselinesOpened m runs → IsFileIn m file → AreLogsSound m
     → IsOutOfResources fault ⊎ (first (faults_of_runs (map placed_of runs)) ≡ Some fault) → exit_status fault.cause ≡ 2 → IsRejection m fault

@@ -30,7 +30,7 @@ use Rattle.sarif_upkeep.specs.Renewed.{accepted_in, added_in, entries_count, kep
 
 -- ---- as many entries as were read
 
-entries_long : (version : Version) (today : Option ℕ) (n : ℕ) (ds : List Data) (es : List Entry) → entries_from version today n ds ≡ Ok es → length es ≡ length ds
+pub entries_long : (version : Version) (today : Option ℕ) (n : ℕ) (ds : List Data) (es : List Entry) → entries_from version today n ds ≡ Ok es → length es ≡ length ds
 unfolding entries_from
 entries_long version today n [] es is = let same : [] ≡ es = cc in ap length (sym same)
 entries_long version today n (d ∷ ds) es is =

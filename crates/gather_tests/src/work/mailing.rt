@@ -1,31 +1,14 @@
 //! The mailbox.
-ghost use Rattle.std.specs.Prelude.{◌≡◌, ◌≤◌, ◌<◌, ℕ, length, vec_len, All, IfOk, slice_index_or};
+ghost use Rattle.std.specs.Prelude.{◌≡◌, ◌≤◌, ◌<◌, ℕ, length, vec_len, All, slice_index_or};
 ghost use Rattle.sarif_gather.specs.Ends.{IsPostOf, IsDeskOf, AreAllPosts, number_of};
 
 use sarif_gather::{Desk, Full, Mailbox, Parcel, Piece, Post};
-use std::alloc::{AllocError, Global};
 use std::sync::Wait;
 use std::test::Fail;
 use std::thread;
 use std::thread::Threads;
 
 type Sent = Parcel<u8, u8>;
-
-// Both posts of a mailbox for two senders.
-fn both(
-    alloc: Global,
-    mailbox: &Mailbox<Sent>,
-    first: Post<Sent>,
-    second: Post<Sent>,
-) -> Result<Vec<Post<Sent>>, AllocError>
-    requires two { mailbox.now.senders ≡ 2 }
-    requires first { IsPostOf mailbox.now first × (number_of first ≡ 0) }
-    requires second { IsPostOf mailbox.now second × (number_of second ≡ 1) }
-    ensures { IfOk result (λ posts. AreAllPosts mailbox.now posts.items) }
-{
-    let posts = vec![in alloc; first, second]?;
-    Ok(posts)
-}
 
 #[test]
 fn full_and_none_come_from_a_full_and_an_empty_mailbox(rt: HostRuntime) -> Result<(), Fail> {
@@ -55,7 +38,7 @@ fn full_and_none_come_from_a_full_and_an_empty_mailbox(rt: HostRuntime) -> Resul
             .send(&rt, &mut second, Parcel::End { short: true })
             .is_ok()
     );
-    let back = both(rt.alloc(), &mailbox, first, second)?;
+    let back = vec![in rt.alloc(); first, second]?;
     let Ok(settled) = mailbox.settle(&rt, rt.alloc(), desk, back) else {
         panic!(rt; "there is memory for one parcel")
     };
@@ -78,7 +61,7 @@ fn settle_gives_what_is_left_front_first(rt: HostRuntime) -> Result<(), Fail> {
     assert_eq!(rt; mailbox.take_next(&rt, &mut desk), (0, carry(0, 10)));
     mailbox.send_on(&rt, &mut second, carry(1, 21));
     mailbox.send_on(&rt, &mut first, Parcel::End { short: false });
-    let back = both(rt.alloc(), &mailbox, first, second)?;
+    let back = vec![in rt.alloc(); first, second]?;
     let Ok(settled) = mailbox.settle(&rt, rt.alloc(), desk, back) else {
         panic!(rt; "there is memory for four parcels")
     };
