@@ -15,8 +15,8 @@ ghost use Rattle.sarif_inputs.specs.Inputs.{Inputs, input_runs};
 ghost use Rattle.sarif_merge.specs.MergedLog.{runs_written, written_inputs};
 ghost use Rattle.sarif_merge.specs.OwnResult.{IsResult, number_among_all, run_at, written_by, written_run};
 
-use sarif_read::read_runs_hold_no_fraction;
 use sarif_entries::object_holds_no_fraction;
+use sarif_read::read_runs_hold_no_fraction;
 use sarif_suppress::written_passes_where_its_parts_do;
 
 /// No number with a fraction comes in by writing runs.

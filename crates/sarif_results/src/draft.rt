@@ -10,8 +10,8 @@ ghost use Rattle.sarif_results.specs.Drafts.{applied_of, unapplied, draft_by, dr
 use crate::annotate::take_suppressions;
 use json_parts::{Around, text_around};
 use sarif_counts::is_suppressing;
-use sarif_model::{Level, Record, Sequence};
 use sarif_entries::object_holds_no_fraction;
+use sarif_model::{Level, Record, Sequence};
 use sarif_suppress::{Applied, Suppressions, written_passes_where_its_parts_do};
 use serde_json::{Map, Value, put};
 use std::alloc::{AllocError, Global};

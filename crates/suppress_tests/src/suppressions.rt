@@ -8,8 +8,8 @@ mod messages;
 mod objects;
 mod prefixes;
 
-use sarif_model::{Fault, Kind, Level, Message, Place, Record, Refusal, Sequence, Status, Text};
 use sarif_entries::FileFault;
+use sarif_model::{Fault, Kind, Level, Message, Place, Record, Refusal, Sequence, Status, Text};
 use sarif_suppress::{Suppressions, read_rules};
 use serde_json::Value;
 use std::alloc::{AllocError, Global};

@@ -3,8 +3,8 @@ use super::{
     FileText, Plain, asked_of, expect_entries, expect_written, first_version, result_at,
     second_version, unused_of, with_own,
 };
-use sarif_model::{Refusal, Sequence, Status, Text};
 use sarif_entries::FileFault;
+use sarif_model::{Refusal, Sequence, Status, Text};
 use sarif_suppress::{Marks, Suppressions};
 use std::alloc::{AllocError, Global};
 use std::hash::{BuildHasherDefault, FoldHasher};

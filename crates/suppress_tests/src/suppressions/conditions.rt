@@ -1,7 +1,7 @@
 //! Which results an entry matches, condition by condition.
 use super::{FileText, expect_written, outcome_of, result_at, second_version, unused_of};
-use sarif_model::{Record, Refusal, Sequence, Text};
 use sarif_entries::FileFault;
+use sarif_model::{Record, Refusal, Sequence, Text};
 use std::alloc::{AllocError, Global};
 use std::process::Abort;
 use std::test::Fail;

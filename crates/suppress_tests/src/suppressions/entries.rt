@@ -1,7 +1,7 @@
 //! Which entries are rejected, and why.
 use super::{FileText, all_entries_have, fault_of_text, in_entry, second_version};
-use sarif_model::{Fault, Refusal};
 use sarif_entries::FileFault;
+use sarif_model::{Fault, Refusal};
 use std::alloc::{AllocError, Global};
 use std::test::Fail;
 

@@ -1,7 +1,7 @@
 //! Which files are rejected, and why.
 use super::{all_entries_have, all_files_have, fault_of, in_entry, whole};
-use sarif_model::Fault;
 use sarif_entries::FileFault;
+use sarif_model::Fault;
 use std::alloc::{AllocError, Global};
 use std::test::Fail;
 
