@@ -45,7 +45,7 @@ pub fn merge_streams<'a, T: Threads + Wait + Sync>(
     status
 }
 
-/// Complaints on standard error, of which the caller explains the last one if `request.explain` is set.
+/// Error messages go to standard error. The caller explains the last one if `request.explain` is set.
 fn complaints_of(rt: &HostRuntime, request: &Request) -> Complaints<Stderr>
     ensures none { failed_calls result.out ≡ 0 }
     ensures explained { result.is_explained ≡ «request».now.explain }
