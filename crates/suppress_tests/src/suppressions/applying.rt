@@ -9,7 +9,7 @@ use std::alloc::{AllocError, Global};
 use std::hash::{BuildHasherDefault, FoldHasher};
 use std::process::Abort;
 use std::test::Fail;
-use test_inputs::result_at;
+use test_records::result_at;
 
 const IN_SOURCE: &str = "[{\"kind\":\"inSource\"}]";
 

@@ -1,24 +1,21 @@
 //! Results as matching and suppressing see them.
-ghost use Rattle.std.specs.Prelude.{◌≡◌, [], None, IfOk};
+ghost use Rattle.std.specs.Prelude.{◌≡◌, [], option_map, None, IfOk};
+ghost use Rattle.sarif_model.specs.declared.kinds.Kind.TheVariants.{Fail};
+ghost use Rattle.sarif_model.specs.declared.kinds.Level.TheVariants.{Warning};
 
-use sarif_model::{Kind, Level, Message, Place, Record, Sequence, Text};
+use sarif_model::{Kind, Level, Message, Place, Record, Sequence, Text, copy_if_there};
 use std::alloc::{AllocError, Global};
-
-/// A copy of a string that may be missing.
-fn copy_of(alloc: Global, text: Option<&str>) -> Result<Option<Text>, AllocError>
-    ensures { IfOk result (λ copy. copy ≡ text.now) }
-{
-    match text {
-        Some(text) => Ok(Some(Text::copy_of(alloc, text)?)),
-        None => Ok(None),
-    }
-}
 
 /// Returns a result of the tool `lint` with this rule id, at this URI, without a message, a GUID, fingerprints and
 /// suppressions. Returns `AllocError` if memory runs out.
 pub fn result_at(alloc: Global, rule_id: &str, uri: Option<&str>) -> Result<Record, AllocError>
     ensures rule { IfOk result (λ made. made.rule_id ≡ rule_id.now) }
-    ensures place { IfOk result (λ made. made.place.uri ≡ uri.now) }
+    ensures kind { IfOk result (λ made. made.kind ≡ Fail) }
+    ensures level { IfOk result (λ made. made.level ≡ Warning) }
+    ensures words { IfOk result (λ made. made.message.text ≡ None) }
+    ensures id { IfOk result (λ made. made.message.id ≡ None) }
+    ensures arguments { IfOk result (λ made. made.message.args ≡ []) }
+    ensures place { IfOk result (λ made. made.place.uri ≡ option_map (λ s. s.now) uri.entry) }
     ensures base { IfOk result (λ made. made.place.base ≡ None) }
     ensures guid { IfOk result (λ made. made.guid ≡ None) }
     ensures full { IfOk result (λ made. made.full ≡ []) }
@@ -36,7 +33,7 @@ pub fn result_at(alloc: Global, rule_id: &str, uri: Option<&str>) -> Result<Reco
             args: Sequence::new(alloc),
         },
         place: Place {
-            uri: copy_of(alloc, uri)?,
+            uri: copy_if_there(alloc, uri)?,
             base: None,
         },
         guid: None,
