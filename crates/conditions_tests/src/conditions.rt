@@ -5,7 +5,7 @@ use sarif_model::{Record, Refusal, Sequence, Text};
 use std::alloc::{AllocError, Global};
 use std::process::Abort;
 use std::test::Fail;
-use test_records::result_at;
+use test_suppress::result_at;
 
 /// Adds a fingerprint.
 fn add_pair(

@@ -1,10 +1,11 @@
 //! Suppression files, and which of their entries match a result.
 use sarif_entries::FileFault;
 use sarif_model::{Record, Refusal};
-use sarif_suppress::{Applied, read_rules};
+use sarif_suppress::Applied;
 use std::alloc::Global;
 use std::process::Abort;
 use std::test::Fail;
+use test_suppress::asked_of;
 
 /// A suppression file as it is written, and the date for which it is read.
 #[derive(Clone, Copy)]
@@ -32,10 +33,13 @@ pub(crate) fn applied_of(
 ) -> Result<Applied, Refusal<FileFault>> {
     let (version, entries) = (file.version, file.entries);
     let text = format!(in alloc; "{{\"version\":{version},\"suppressions\":[{entries}]}}")?;
-    let rules = read_rules(alloc, text.as_str().as_bytes(), file.today)?;
-    let applied = rules.apply(alloc, finding);
-    drop(rules);
-    Ok(applied?)
+    let bytes = text.as_str().as_bytes();
+    asked_of(
+        alloc,
+        bytes,
+        file.today,
+        |rules| rules.apply(alloc, finding),
+    )
 }
 
 /// Asserts which entries of the file match the result.

@@ -4,7 +4,7 @@ use sarif_model::{Sequence, Text};
 use std::alloc::{AllocError, Global};
 use std::process::Abort;
 use std::test::Fail;
-use test_records::result_at;
+use test_suppress::result_at;
 
 /// Asserts which entries match a result at the place `a.c` with that rule id and GUID.
 fn expect_with_guid(

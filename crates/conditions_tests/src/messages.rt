@@ -4,7 +4,7 @@ use sarif_model::{Record, Sequence, Text};
 use std::alloc::{AllocError, Global};
 use std::process::Abort;
 use std::test::Fail;
-use test_records::result_at;
+use test_suppress::result_at;
 
 /// A result whose message has an id and these arguments, and no text.
 fn result_with(alloc: Global, id: &str, args: &[&str]) -> Result<Record, AllocError> {

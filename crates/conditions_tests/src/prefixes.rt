@@ -2,7 +2,7 @@
 use crate::files::{expect_entries, file_of};
 use std::process::Abort;
 use std::test::Fail;
-use test_records::result_at;
+use test_suppress::result_at;
 
 /// Asserts the entries that match a result of the rule `R1` at each of these places.
 fn expect_at(

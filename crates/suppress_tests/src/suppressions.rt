@@ -1,19 +1,14 @@
-//! Examples of the suppression file worked out by hand, and that each call succeeds if there is enough memory. Few
-//! functions apply a file to a result, and each of them drops the file once.
+//! Examples of the suppression file worked out by hand, and that each call succeeds if there is enough memory.
 mod applying;
 mod objects;
 
 use sarif_entries::FileFault;
 use sarif_model::{Record, Refusal, Sequence, Status};
-use sarif_suppress::{Suppressions, read_rules};
 use serde_json::Value;
 use std::alloc::{AllocError, Global};
-use std::hash::{BuildHasherDefault, FoldHasher};
 use std::process::Abort;
 use std::test::Fail;
-
-/// A suppression file by the standard hasher.
-type Plain = Suppressions<BuildHasherDefault<FoldHasher>>;
+use test_suppress::Plain;
 
 /// A suppression file as it is written, and the date for which it is read.
 #[derive(Clone, Copy)]
@@ -41,13 +36,6 @@ fn first_version(entries: &str) -> FileText<'_> {
         entries,
         today: None,
     }
-}
-
-/// The file, read.
-fn rules_of(alloc: Global, file: FileText) -> Result<Plain, Refusal<FileFault>> {
-    let (version, entries) = (file.version, file.entries);
-    let text = format!(in alloc; "{{\"version\":{version},\"suppressions\":[{entries}]}}")?;
-    read_rules(alloc, text.as_str().as_bytes(), file.today)
 }
 
 /// The array that this JSON represents.
@@ -82,10 +70,9 @@ fn asked_of<A, Ask: FnOnce(&Plain) -> Result<A, AllocError>>(
 ) -> Result<A, Refusal<FileFault>>
     requires { Ask.IsAlwaysCallable ask }
 {
-    let rules = rules_of(alloc, file)?;
-    let answer = ask(&rules);
-    drop(rules);
-    Ok(answer?)
+    let (version, entries) = (file.version, file.entries);
+    let text = format!(in alloc; "{{\"version\":{version},\"suppressions\":[{entries}]}}")?;
+    test_suppress::asked_of(alloc, text.as_str().as_bytes(), file.today, ask)
 }
 
 /// The effect of a file that is not read yet on a result with these own suppressions.

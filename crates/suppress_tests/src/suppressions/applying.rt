@@ -1,15 +1,12 @@
 //! Which entries a result meets, whether it is suppressed, and which entries no result uses.
-use super::{
-    FileText, Plain, asked_of, expect_written, first_version, outcome_of, unused_of, with_own,
-};
+use super::{FileText, asked_of, expect_written, first_version, outcome_of, unused_of, with_own};
 use sarif_entries::FileFault;
 use sarif_model::{Refusal, Status};
-use sarif_suppress::{Marks, Suppressions};
+use sarif_suppress::Marks;
 use std::alloc::{AllocError, Global};
-use std::hash::{BuildHasherDefault, FoldHasher};
 use std::process::Abort;
 use std::test::Fail;
-use test_records::result_at;
+use test_suppress::{Plain, asked_of_none, result_at};
 
 const IN_SOURCE: &str = "[{\"kind\":\"inSource\"}]";
 
@@ -145,8 +142,7 @@ fn size_and_object_of(alloc: Global, file: FileText) -> Result<(u32, String), Re
 
 /// The same without a file.
 fn size_and_object_of_none(alloc: Global) -> Result<(u32, String), AllocError> {
-    let rules: Plain = Suppressions::none(alloc, BuildHasherDefault::<FoldHasher>::new(), None)?;
-    size_and_object(alloc, &rules)
+    asked_of_none(alloc, |rules| size_and_object(alloc, rules))
 }
 
 #[test]

@@ -4,7 +4,7 @@ use sarif_model::{Record, Status};
 use std::alloc::{AllocError, Global};
 use std::process::Abort;
 use std::test::Fail;
-use test_records::result_at;
+use test_suppress::result_at;
 
 const ACCEPTED: &str = "[{\"kind\":\"external\",\"status\":\"accepted\"}]";
 
