@@ -3,16 +3,10 @@
 #![tactic(auto)]
 
 #[cfg(test)]
+mod junit;
+#[cfg(test)]
 mod listing;
-#[cfg(test)]
-mod messages;
-#[cfg(test)]
-mod pages;
-#[cfg(test)]
-mod paths;
 #[cfg(test)]
 mod reports;
 #[cfg(test)]
 mod samples;
-#[cfg(test)]
-mod services;

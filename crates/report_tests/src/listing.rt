@@ -1,5 +1,5 @@
 //! The order of reports, and the table in Markdown.
-use crate::samples::{counts_of, findings_with, told_of};
+use crate::samples::{counts_of, findings_in, told_of};
 use sarif_counts::{Counts, Policy};
 use sarif_findings::Finding;
 use sarif_model::{Level, State, Text};
@@ -35,7 +35,7 @@ const MIXED_GITHUB: &str = "\
 #[test]
 fn hits_come_first_in_lines(rt: HostRuntime) -> Result<(), Fail> {
     let alloc = rt.alloc();
-    let findings = findings_with(&rt, &[], MIXED)?;
+    let findings = findings_in(&rt, MIXED)?;
     assert_eq!(rt;
         text_report(alloc, findings.as_slice())?.as_str(),
         MIXED_TEXT
@@ -55,7 +55,7 @@ fn place_of(text: &str, piece: &str) -> usize {
 #[test]
 fn the_order_of_the_log_stays_for_gitlab(rt: HostRuntime) -> Result<(), Fail> {
     let alloc = rt.alloc();
-    let findings = findings_with(&rt, &[], MIXED)?;
+    let findings = findings_in(&rt, MIXED)?;
     let report = gitlab_report(&rt, alloc, findings.as_slice(), 2)?;
     let report = report.as_str();
     let mut last = 0;
@@ -64,25 +64,6 @@ fn the_order_of_the_log_stays_for_gitlab(rt: HostRuntime) -> Result<(), Fail> {
         assert!(rt; last < place && place < report.len());
         last = place;
     }
-    Ok(())
-}
-
-#[test]
-fn a_colon_at_the_start_of_a_path_is_kept_apart(rt: HostRuntime) -> Result<(), Fail> {
-    let alloc = rt.alloc();
-    let log = r#"{"runs":[{"results":[
-{"baselineState":"new","level":"note","locations":[{"physicalLocation":{"artifactLocation":{"uri":"./:x"},"region":{"startLine":2}}}],"message":{"text":"m"}}
-],"tool":{"driver":{"name":"lint"}}}],"version":"2.1.0"}"#;
-    let findings = findings_with(&rt, &[], log)?;
-    let findings = findings.as_slice();
-    assert_eq!(rt;
-        text_report(alloc, findings)?.as_str(),
-        "./:x:2: note: m (lint, new)\n"
-    );
-    assert_eq!(rt;
-        github_report(alloc, findings)?.as_str(),
-        "::notice file=%3Ax,line=2,title=lint::m\n"
-    );
     Ok(())
 }
 

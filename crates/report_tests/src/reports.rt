@@ -1,11 +1,11 @@
 //! The worked examples of the reports.
-use crate::samples::{findings_with, told_of};
+use crate::samples::{findings_in, told_of};
 use sarif_counts::{Counts, Policy};
-use sarif_findings::{Finding, shown};
+use sarif_findings::Finding;
 use sarif_model::{Level, State, Text};
 use sarif_reports::{Report, gitlab_report, markdown_report, report_text};
 use sarif_shown::{github_report, text_report};
-use std::alloc::{AllocError, AllocGlobal, Global};
+use std::alloc::{AllocGlobal, Global};
 use std::test::Fail;
 
 const LOG: &str = r#"{"properties":{},"runs":[{"results":[
@@ -58,79 +58,8 @@ const ALIKE: &str = r#"{"runs":[{"results":[
 const ALIKE_GITLAB: &str =
     r#"[{"check_name":"unknown","description":"same","fingerprint":"7a3df80537ebc91124c5c334c78a4a68add7fdc7c79f01e6d6719ef38011ff8a","location":{"lines":{"begin":1},"path":"unknown"},"severity":"critical"},{"check_name":"unknown","description":"other","fingerprint":"b68b06f9d176ee91b74f39a9c79fb03b7f5b7cea5cc654f8532b4bcc05418034","location":{"lines":{"begin":1},"path":"unknown"},"severity":"critical"},{"check_name":"unknown","description":"same","fingerprint":"655b0a3daa05899ac32609e95ae5203e3e08d9ed2a18a995ba351f89837220c5","location":{"lines":{"begin":1},"path":"unknown"},"severity":"critical"}]"#;
 
-/// Two rules of the driver have one id, and so have two of the second extension.
-const SAME_IDS: &str = r#"{"runs":[{"results":[
-{"baselineState":"new","level":"error","message":{"id":"default"},"ruleId":"R"},
-{"baselineState":"new","level":"error","message":{"id":"default"},"ruleId":"R","ruleIndex":1},
-{"baselineState":"new","level":"error","message":{"id":"default"},"rule":{"id":"R","toolComponent":{"index":1}}},
-{"baselineState":"new","level":"error","message":{"id":"default"},"rule":{"id":"R","toolComponent":{"index":0}}}
-],"tool":{"driver":{"name":"T","rules":[{"id":"R","helpUri":"https://e.org/first","messageStrings":{"default":{"text":"first"}}},{"id":"R","helpUri":"https://e.org/second","messageStrings":{"default":{"text":"second"}}}]},"extensions":[{"name":"E","rules":[{"id":"Q"}]},{"name":"F","rules":[{"id":"R","helpUri":"https://e.org/third","messageStrings":{"default":{"text":"third"}}},{"id":"R"}]}]}}]}"#;
-
-fn findings_in<R: AllocGlobal>(rt: &R, text: &str) -> Result<Vec<Finding>, Fail> {
-    findings_with(rt, &["file:///b/"], text)
-}
-
 fn findings_of<R: AllocGlobal>(rt: &R) -> Result<Vec<Finding>, Fail> {
     findings_in(rt, LOG)
-}
-
-#[test]
-fn a_text_is_shown_on_one_line(rt: HostRuntime) -> Result<(), Fail> {
-    let alloc = rt.alloc();
-    for (text, wanted) in [
-        ("", ""),
-        ("plain text", "plain text"),
-        ("a\r\nb\u{85}c\u{2028}d", "a  b c d"),
-        ("\u{202e}a\u{200b}b\u{feff}", " a b "),
-        ("####", "# # # #"),
-        ("#\u{200b}#", "# #"),
-        ("é€😀", "é€😀"),
-    ] {
-        assert_eq!(rt; shown(alloc, text)?.as_str(), wanted);
-    }
-    Ok(())
-}
-
-#[test]
-fn a_thousand_characters_are_kept(rt: HostRuntime) -> Result<(), Fail> {
-    let alloc = rt.alloc();
-    let mut text = String::new(alloc);
-    for _ in 0..1000 {
-        text.push('é')?;
-    }
-    assert_eq!(rt; shown(alloc, text.as_str())?.as_str(), text.as_str());
-    let mut longer = String::from_str(alloc, text.as_str())?;
-    longer.push('z')?;
-    text.push('…')?;
-    assert_eq!(rt; shown(alloc, longer.as_str())?.as_str(), text.as_str());
-    Ok(())
-}
-
-/// A log with one result, whose message has these arguments and this text.
-fn log_with(alloc: Global, arguments: &str, text: &str) -> Result<String, AllocError> {
-    let message = format!(in alloc; "{{\"arguments\":{arguments},\"text\":\"{text}\"}}")?;
-    let state = "\"baselineState\":\"new\",\"level\":\"note\"";
-    format!(in alloc; "{{\"runs\":[{{\"results\":[{{{state},\"message\":{message}}}]}}]}}")
-}
-
-#[test]
-fn a_placeholder_without_its_argument_stays_whole(rt: HostRuntime) -> Result<(), Fail> {
-    let alloc = rt.alloc();
-    for (arguments, text, wanted) in [
-        ("[\"a\"]", "{9}}", "{9}}"),
-        ("[\"a\"]", "{0}}", "a}"),
-        ("[\"a\"]", "{{0}}", "{0}"),
-        ("[\"a\"]", "{1}", "{1}"),
-        ("[\"a\"]", "{-1}}", "{-1}"),
-        ("[\"a\"]", "{01}", "{01}"),
-        ("[7,\"b\"]", "{0}}}} {1}}}", "{0}}} b}"),
-    ] {
-        let log = log_with(alloc, arguments, text)?;
-        let findings = findings_in(&rt, log.as_str())?;
-        assert_eq!(rt; findings.len(), 1);
-        assert_eq!(rt; findings[0].message.as_str(), wanted);
-    }
-    Ok(())
 }
 
 #[test]
@@ -140,28 +69,6 @@ fn active_results_of_listed_states_are_reported(rt: HostRuntime) -> Result<(), F
     assert!(rt; !findings[0].hit);
     assert!(rt; findings[1].hit);
     assert!(rt; !findings[2].hit);
-    Ok(())
-}
-
-#[test]
-fn of_rules_with_one_id_the_first_is_meant(rt: HostRuntime) -> Result<(), Fail> {
-    let findings = findings_in(&rt, SAME_IDS)?;
-    assert_eq!(rt; findings.len(), 4);
-    for (number, wanted) in ["first", "second", "third"].iter().enumerate() {
-        assert_eq!(rt; findings[number].message.as_str(), *wanted);
-        assert!(rt; findings[number].help.is_some());
-    }
-    assert_eq!(rt; findings[3].message.as_str(), "(no message)");
-    assert!(rt; findings[3].help.is_none());
-    Ok(())
-}
-
-#[test]
-fn nothing_is_reported_of_what_is_no_log(rt: HostRuntime) -> Result<(), Fail> {
-    let alloc = rt.alloc();
-    for text in ["null", "[]", "{\"runs\":{}}", "{\"runs\":[1,{}]}"] {
-        assert_eq!(rt; findings_in(&rt, text)?.len(), 0);
-    }
     Ok(())
 }
 

@@ -1,43 +1,22 @@
-//! Logs of few results, and what reports say about them.
+//! The findings of logs, and what reports are made from.
 use sarif_counts::{Counts, Policy};
 use sarif_findings::{Finding, Reporting, reported};
 use sarif_model::{Sequence, Text};
 use sarif_shown::Told;
 use serde_json::Value;
-use std::alloc::{AllocError, AllocGlobal, Global};
+use std::alloc::AllocGlobal;
 use std::hash::RandomState;
 use std::random::RandomSource;
 use std::test::Fail;
 
-/// A string as JSON.
-pub(crate) fn json_text(alloc: Global, text: &str) -> Result<String, AllocError> {
-    Value::String(String::from_str(alloc, text)?).to_string(alloc)
-}
-
-/// The findings of this log, with these roots.
-pub(crate) fn findings_with<R: AllocGlobal>(
-    rt: &R,
-    roots: &[&str],
-    log: &str,
-) -> Result<Vec<Finding>, Fail> {
+/// The findings of this log, with the root `file:///b/`.
+pub(crate) fn findings_in<R: AllocGlobal>(rt: &R, log: &str) -> Result<Vec<Finding>, Fail> {
     let alloc = rt.alloc();
-    let mut all = Sequence::new(alloc);
-    for root in roots {
-        all.push(Text::copy_of(alloc, *root)?)?;
-    }
-    let reporting = Reporting {
-        policy: Policy::default(),
-        roots: all,
-    };
+    let policy = Policy::default();
+    let mut roots = Sequence::new(alloc);
+    roots.push(Text::copy_of(alloc, "file:///b/")?)?;
     let log = Value::from_str(alloc, log)?;
-    Ok(reported(alloc, &reporting, &log)?)
-}
-
-/// A log whose only result is a new note of the tool `lint` with these members.
-pub(crate) fn log_of_note(alloc: Global, members: &str) -> Result<String, AllocError> {
-    let note = format!(in alloc; "{{\"baselineState\":\"new\",\"level\":\"note\",{members}}}")?;
-    let tool = "\"tool\":{\"driver\":{\"name\":\"lint\"}}";
-    format!(in alloc; "{{\"runs\":[{{\"results\":[{note}],{tool}}}],\"version\":\"2.1.0\"}}")
+    Ok(reported(alloc, &Reporting { policy, roots }, &log)?)
 }
 
 /// What reports of these findings are made from.
@@ -60,13 +39,8 @@ pub(crate) fn told_of<'a, R: RandomSource>(
 
 /// The numbers of the first 100,000 of these findings, none of them suppressed.
 pub(crate) fn counts_of(findings: &[Finding]) -> Counts {
-    let many = if findings.len() < 100_000 {
-        findings.len()
-    } else {
-        100_000
-    };
     let mut counts = Counts::new();
-    for at in 0..many {
+    for at in 0..findings.len().min(100_000) {
         counts.add(findings[at].state, findings[at].level, false);
     }
     counts

@@ -1,5 +1,5 @@
-//! Tests of the suppression file: how it is read, which entries match a result, and the suppressions that they
-//! add. The tests are in a separate crate, so that no library is proved a second time for its tests.
+//! Tests of applying the suppression file: whether a result is suppressed, the suppressions that entries add, and which
+//! entries match no result. The tests are in a separate crate, so that no library is proved a second time for its tests.
 #![tactic(auto)]
 
 #[cfg(test)]

@@ -1,15 +1,12 @@
 //! Which entries a result meets, whether it is suppressed, and which entries no result uses.
-use super::{
-    FileText, Plain, asked_of, expect_entries, expect_written, first_version, result_at,
-    second_version, unused_of, with_own,
-};
+use super::{FileText, asked_of, expect_written, first_version, outcome_of, unused_of, with_own};
 use sarif_entries::FileFault;
-use sarif_model::{Refusal, Sequence, Status, Text};
-use sarif_suppress::{Marks, Suppressions};
+use sarif_model::{Refusal, Status};
+use sarif_suppress::Marks;
 use std::alloc::{AllocError, Global};
-use std::hash::{BuildHasherDefault, FoldHasher};
 use std::process::Abort;
 use std::test::Fail;
+use test_suppress::{Plain, asked_of_none, result_at};
 
 const IN_SOURCE: &str = "[{\"kind\":\"inSource\"}]";
 
@@ -58,84 +55,40 @@ fn entries_are_applied_in_file_order(rt: HostRuntime) -> Result<(), Fail> {
          {\"tool\":\"lint\",\"status\":\"underReview\"}",
     );
     let finding = result_at(rt.alloc(), "R1", None)?;
-    expect_entries(&rt, file, &finding, &[0, 2, 3])?;
+    let outcome = outcome_of(rt.alloc(), file, &finding, "[]")?;
+    assert!(rt; outcome.entries.as_slice() == [0u32, 2, 3].as_slice());
     let list = "[{\"justification\":\"c\",\"kind\":\"external\",\"status\":\"accepted\"},\
          {\"justification\":\"a\",\"kind\":\"external\",\"status\":\"accepted\"},\
          {\"kind\":\"external\",\"status\":\"underReview\"}]";
     expect_written(&rt, file, &finding, "[]", (list, false))
 }
 
-/// Asserts which entries match a result at the place `a.c` with that rule id and GUID.
-fn expect_with_guid(
+/// Asserts whether an entry for `gen/` that expires on 31 January 2025 suppresses a result at that URI on that
+/// date.
+fn expect_on(
     rt: &(impl Abort + AllocGlobal),
-    file: FileText,
-    rule_id: &str,
-    guid: Option<u128>,
-    wanted: &[u32],
-) -> Result<(), Fail> {
-    let mut finding = result_at(rt.alloc(), rule_id, Some("a.c"))?;
-    finding.guid = guid;
-    expect_entries(rt, file, &finding, wanted)
-}
-
-#[test]
-fn entries_are_found_by_guid_by_rule_and_by_neither(rt: HostRuntime) -> Result<(), Fail> {
-    let file = first_version(
-        "{\"ruleId\":\"R1\"},\
-         {\"guid\":\"00000000-0000-4000-8000-00000000000a\"},\
-         {\"uri\":\"a.c\"},\
-         {\"guid\":\"00000000-0000-4000-8000-00000000000a\",\"ruleId\":\"R1\"}",
-    );
-    let guid = Some(0x00000000_0000_4000_8000_00000000000a);
-    let other = Some(0x00000000_0000_4000_8000_00000000000b);
-    expect_with_guid(&rt, file, "R1", guid, &[0, 1, 2, 3])?;
-    expect_with_guid(&rt, file, "R2", guid, &[1, 2])?;
-    expect_with_guid(&rt, file, "R1", other, &[0, 2])?;
-    expect_with_guid(&rt, file, "R1", None, &[0, 2])?;
-    expect_with_guid(&rt, file, "R2", None, &[2])
-}
-
-/// These names and values of fingerprints.
-fn pairs_of(alloc: Global, pairs: &[(&str, &str)]) -> Result<Sequence<(Text, Text)>, AllocError> {
-    let mut made = Sequence::new(alloc);
-    for (name, value) in pairs {
-        let name = Text::copy_of(alloc, name)?;
-        made.push((name, Text::copy_of(alloc, value)?))?;
-    }
-    Ok(made)
-}
-
-/// Asserts the entries that match a result of the rule `R1` at that URI, with these fingerprints.
-fn expect_with_fingerprints(
-    rt: &(impl Abort + AllocGlobal),
-    file: FileText,
     uri: &str,
-    fingerprints: &[(&str, &str)],
-    wanted: &[u32],
+    today: u32,
+    wanted: (&str, bool),
 ) -> Result<(), Fail> {
-    let mut finding = result_at(rt.alloc(), "R1", Some(uri))?;
-    finding.full = pairs_of(rt.alloc(), fingerprints)?;
-    expect_entries(rt, file, &finding, wanted)
+    let file = FileText {
+        version: 2,
+        entries: "{\"uriPrefix\":\"gen/\",\"expires\":20250131}",
+        today: Some(today),
+    };
+    let finding = result_at(rt.alloc(), "R1", Some(uri))?;
+    expect_written(rt, file, &finding, "[]", wanted)?;
+    let unused = unused_of(rt.alloc(), file, &[finding])?;
+    assert_eq!(rt; unused == 0, wanted.1);
+    Ok(())
 }
 
 #[test]
-fn entries_are_found_by_whatever_they_ask_for(rt: HostRuntime) -> Result<(), Fail> {
-    let file = second_version(
-        "{\"tool\":\"lint\"},\
-         {\"uriPrefix\":\"src/\"},\
-         {\"uri\":\"src/a.c\",\"ruleId\":\"R2\"},\
-         {\"fingerprints\":{\"f/v1\":\"x\",\"f/v2\":\"y\"}},\
-         {\"partialFingerprints\":{\"p/v1\":\"z\"},\"uri\":\"src/a.c\"},\
-         {\"uri\":\"src/a.c\"},\
-         {\"tool\":\"other\"},\
-         {\"fingerprints\":{\"f/v2\":\"y\"},\"tool\":\"lint\"}",
-    );
-    let both = [("f/v1", "x"), ("f/v2", "y")];
-    expect_with_fingerprints(&rt, file, "src/a.c", &both, &[0, 1, 3, 5, 7])?;
-    let second = [("f/v1", "y"), ("f/v2", "y")];
-    expect_with_fingerprints(&rt, file, "src/a.c", &second, &[0, 1, 5, 7])?;
-    expect_with_fingerprints(&rt, file, "src/b.c", &[("f/v1", "x")], &[0, 1])?;
-    expect_with_fingerprints(&rt, file, "lib/src/a.c", &[], &[0])
+fn the_last_day_still_counts(rt: HostRuntime) -> Result<(), Fail> {
+    let accepted = "[{\"kind\":\"external\",\"status\":\"accepted\"}]";
+    expect_on(&rt, "gen/a.c", 20250131, (accepted, true))?;
+    expect_on(&rt, "gen/a.c", 20250201, ("[]", false))?;
+    expect_on(&rt, "src/gen/a.c", 20250131, ("[]", false))
 }
 
 /// Sets the marks of a result with that rule id.
@@ -189,8 +142,7 @@ fn size_and_object_of(alloc: Global, file: FileText) -> Result<(u32, String), Re
 
 /// The same without a file.
 fn size_and_object_of_none(alloc: Global) -> Result<(u32, String), AllocError> {
-    let rules: Plain = Suppressions::none(alloc, BuildHasherDefault::<FoldHasher>::new(), None)?;
-    size_and_object(alloc, &rules)
+    asked_of_none(alloc, |rules| size_and_object(alloc, rules))
 }
 
 #[test]

@@ -1,9 +1,10 @@
 //! The written suppressions of a result: its own, unchanged, and the objects of entries, each of them once.
-use super::{expect_written, first_version, result_at, unused_of, with_own};
+use super::{expect_written, first_version, unused_of, with_own};
 use sarif_model::{Record, Status};
 use std::alloc::{AllocError, Global};
 use std::process::Abort;
 use std::test::Fail;
+use test_suppress::result_at;
 
 const ACCEPTED: &str = "[{\"kind\":\"external\",\"status\":\"accepted\"}]";
 

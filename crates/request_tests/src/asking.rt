@@ -1,28 +1,24 @@
 //! What arguments request.
-
-use crate::words::seed;
 use sarif_counts::{Checks, Options, States};
 use sarif_model::{Level, Text};
 use sarif_reports::Report;
 use sarif_request::{Request, WordsFault, read_words};
-use std::alloc::AllocError;
+use std::hash::RandomState;
 use std::process::Abort;
 use std::test::Fail;
 
 /// Reads words that are parted by one blank.
-pub(super) fn read(
-    rt: &HostRuntime,
-    line: &str,
-) -> Result<Result<Request, WordsFault>, AllocError> {
+fn read(rt: &HostRuntime, line: &str) -> Result<Result<Request, WordsFault>, Fail> {
     let mut words = Vec::new(rt.alloc());
     for word in line.split(' ') {
         words.push(String::from_str(rt.alloc(), word)?)?;
     }
-    Ok(read_words(rt.alloc(), seed()?, words.as_slice()))
+    let seed = RandomState::new(rt)?;
+    Ok(read_words(rt.alloc(), seed, words.as_slice()))
 }
 
 /// The request of the arguments; a rejection fails the test.
-pub(super) fn accepted(rt: &HostRuntime, line: &str) -> Result<Request, Fail> {
+fn accepted(rt: &HostRuntime, line: &str) -> Result<Request, Fail> {
     let read = read(rt, line)?;
     Ok(read.map_err(|_| "refused")?)
 }

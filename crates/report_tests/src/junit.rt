@@ -1,10 +1,9 @@
-//! The reports for build services: JUnit XML and logging commands of Azure Pipelines.
-use crate::samples::{counts_of, findings_with, told_of};
+//! The report in JUnit XML.
+use crate::samples::{counts_of, findings_in, told_of};
 use sarif_counts::Policy;
 use sarif_findings::Finding;
 use sarif_model::{Level, State, Text};
 use sarif_reports::junit_report;
-use sarif_shown::azure_report;
 use std::alloc::{AllocError, AllocGlobal, Global};
 use std::random::RandomSource;
 use std::test::Fail;
@@ -131,7 +130,7 @@ const NOTHING_JUNIT: &str = "\
 
 #[test]
 fn a_hit_is_a_test_case_that_fails(rt: HostRuntime) -> Result<(), Fail> {
-    let findings = findings_with(&rt, &[], TWO)?;
+    let findings = findings_in(&rt, TWO)?;
     assert_eq!(rt; junit_of(&rt, findings.as_slice(), 0)?.as_str(), TWO_JUNIT);
     Ok(())
 }
@@ -239,57 +238,8 @@ fn characters_with_a_meaning_in_xml_are_entities(rt: HostRuntime) -> Result<(), 
 fn what_is_no_character_of_xml_is_a_space(rt: HostRuntime) -> Result<(), Fail> {
     let log =
         "{\"runs\":[{\"results\":[{\"baselineState\":\"new\",\"level\":\"note\",\"message\":{\"text\":\"m\"},\"ruleId\":\"\u{fffe}\u{ffff}\\u0000\u{10ffff}\"}],\"tool\":{\"driver\":{\"name\":\"\u{ffff}\"}}}],\"version\":\"2.1.0\"}";
-    let findings = findings_with(&rt, &[], log)?;
+    let findings = findings_in(&rt, log)?;
     let report = junit_of(&rt, findings.as_slice(), 0)?;
     assert!(rt; report.contains("<testcase name=\"-:    \u{10ffff}\" classname=\" \"/>"));
-    Ok(())
-}
-
-fn azure_of_rows<R: AllocGlobal>(rt: &R, rows: &[Row]) -> Result<String, Fail> {
-    let findings = findings_of(rt.alloc(), rows)?;
-    Ok(azure_report(rt.alloc(), findings.as_slice())?)
-}
-
-#[test]
-fn an_issue_has_the_properties_of_its_result(rt: HostRuntime) -> Result<(), Fail> {
-    let log = r#"{"runs":[{"results":[
-{"baselineState":"new","level":"note"},
-{"baselineState":"new","level":"error","locations":[{"physicalLocation":{"artifactLocation":{"uri":"./src/a.c"},"region":{"startLine":12,"startColumn":5}}}],"message":{"text":"m"},"ruleId":"R1"}
-],"tool":{"driver":{"name":"lint"}}}],"version":"2.1.0"}"#;
-    let findings = findings_with(&rt, &[], log)?;
-    assert_eq!(rt;
-        azure_report(rt.alloc(), findings.as_slice())?.as_str(),
-        "\
-##vso[task.logissue type=error;sourcepath=src/a.c;linenumber=12;columnnumber=5;code=R1;]m (lint, error, new)
-##vso[task.logissue type=warning;](no message) (lint, note, new)
-"
-    );
-    Ok(())
-}
-
-#[test]
-fn ends_of_properties_are_escaped(rt: HostRuntime) -> Result<(), Fail> {
-    let rows = [Row::hit("t]x;%", "%;]", "100%; [a]").at("p;q]r", Some(1))];
-    assert_eq!(rt;
-        azure_of_rows(&rt, &rows)?.as_str(),
-        "##vso[task.logissue type=error;sourcepath=p%3Bq%5Dr;linenumber=1;code=%AZP25%3B%5D;]100%AZP25; [a] (t]x;%AZP25, error, new)\n"
-    );
-    Ok(())
-}
-
-#[test]
-fn a_message_gives_no_command(rt: HostRuntime) -> Result<(), Fail> {
-    let log = r#"{"runs":[{"results":[
-{"baselineState":"new","level":"error","message":{"text":"]\n##vso[task.setvariable variable=p]q"}},
-{"baselineState":"new","level":"error","message":{"text":"%3B %AZP25"}}
-],"tool":{"driver":{"name":"t"}}}],"version":"2.1.0"}"#;
-    let findings = findings_with(&rt, &[], log)?;
-    assert_eq!(rt;
-        azure_report(rt.alloc(), findings.as_slice())?.as_str(),
-        "\
-##vso[task.logissue type=error;]] # #vso[task.setvariable variable=p]q (t, error, new)
-##vso[task.logissue type=error;]%AZP253B %AZP25AZP25 (t, error, new)
-"
-    );
     Ok(())
 }

@@ -1,5 +1,5 @@
 //! Which files are rejected, and why.
-use super::{all_entries_have, all_files_have, fault_of, in_entry, whole};
+use crate::faults::{all_entries_have, all_files_have, fault_of, in_entry, whole};
 use sarif_entries::FileFault;
 use sarif_model::Fault;
 use std::alloc::{AllocError, Global};

@@ -1,5 +1,5 @@
 //! Which entries are rejected, and why.
-use super::{FileText, all_entries_have, fault_of_text, in_entry, second_version};
+use crate::faults::{all_entries_have, fault_of_entries, in_entry};
 use sarif_entries::FileFault;
 use sarif_model::{Fault, Refusal};
 use std::alloc::{AllocError, Global};
@@ -36,11 +36,7 @@ fn fault_of_member(
     value: &str,
 ) -> Result<Option<Refusal<FileFault>>, AllocError> {
     let entry = format!(in alloc; "{{\"{member}\":{value}}}")?;
-    let file = FileText {
-        today: Some(20250131),
-        ..second_version(entry.as_str())
-    };
-    fault_of_text(alloc, file)
+    fault_of_entries(alloc, 2, entry.as_str(), Some(20250131))
 }
 
 /// Returns whether a member is rejected with every value of another type.

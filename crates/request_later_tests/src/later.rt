@@ -1,12 +1,27 @@
 //! Which arguments request what is made for later merges.
-
-use crate::words::asking::{accepted, read};
 use sarif_counts::{Knowing, Renewal};
 use sarif_model::Text;
 use sarif_reports::Report;
-use sarif_request::{Request, WordsFault};
+use sarif_request::{Request, WordsFault, read_words};
+use std::hash::RandomState;
 use std::process::Abort;
 use std::test::Fail;
+
+/// Reads words that are parted by one blank.
+fn read(rt: &HostRuntime, line: &str) -> Result<Result<Request, WordsFault>, Fail> {
+    let mut words = Vec::new(rt.alloc());
+    for word in line.split(' ') {
+        words.push(String::from_str(rt.alloc(), word)?)?;
+    }
+    let seed = RandomState::new(rt)?;
+    Ok(read_words(rt.alloc(), seed, words.as_slice()))
+}
+
+/// The request of the arguments; a rejection fails the test.
+fn accepted(rt: &HostRuntime, line: &str) -> Result<Request, Fail> {
+    let read = read(rt, line)?;
+    Ok(read.map_err(|_| "refused")?)
+}
 
 #[test]
 fn nothing_is_made_for_later_merges_where_no_word_asks(rt: HostRuntime) -> Result<(), Fail> {

@@ -1,9 +1,10 @@
 //! Conditions on the message of a result, which version 4 has.
-use super::{all_entries_have, fourth_version, in_entry, outcome_of, result_at};
-use sarif_model::{Fault, Record, Sequence, Text};
+use crate::files::{applied_of, expect_entries, file_of};
+use sarif_model::{Record, Sequence, Text};
 use std::alloc::{AllocError, Global};
 use std::process::Abort;
 use std::test::Fail;
+use test_suppress::result_at;
 
 /// A result whose message has an id and these arguments, and no text.
 fn result_with(alloc: Global, id: &str, args: &[&str]) -> Result<Record, AllocError> {
@@ -23,9 +24,9 @@ fn suppresses(
     entry: &str,
     finding: &Record,
 ) -> Result<bool, Fail> {
-    let outcome = outcome_of(rt.alloc(), fourth_version(entry), finding, "[]")?;
-    assert_eq!(rt; outcome.entries.as_slice().is_empty(), !outcome.suppressed);
-    Ok(outcome.suppressed)
+    let applied = applied_of(rt.alloc(), file_of(4, entry), finding)?;
+    assert_eq!(rt; applied.entries.as_slice().is_empty(), !applied.suppressed);
+    Ok(applied.suppressed)
 }
 
 #[test]
@@ -77,43 +78,7 @@ fn a_text_and_a_uri_are_looked_up_together_and_alone(rt: HostRuntime) -> Result<
     ] {
         let mut finding = result_at(rt.alloc(), "R1", uri)?;
         finding.message.text = Some(Text::copy_of(rt.alloc(), "m")?);
-        let outcome = outcome_of(rt.alloc(), fourth_version(entries), &finding, "[]")?;
-        assert_eq!(rt; outcome.entries.as_slice(), wanted);
+        expect_entries(&rt, file_of(4, entries), &finding, wanted)?;
     }
-    Ok(())
-}
-
-#[test]
-fn other_versions_and_other_kinds_are_refused(rt: HostRuntime) -> Result<(), Fail> {
-    let members = [
-        "{\"tool\":\"lint\",\"message\":\"m\"}",
-        "{\"tool\":\"lint\",\"message\":null}",
-        "{\"tool\":\"lint\",\"messageId\":\"m\"}",
-        "{\"tool\":\"lint\",\"messageArguments\":[]}",
-    ];
-    let kinds = [
-        "{\"message\":1}",
-        "{\"message\":[\"m\"]}",
-        "{\"message\":{\"text\":\"m\"}}",
-        "{\"messageId\":[\"m\"]}",
-        "{\"messageArguments\":\"m\"}",
-        "{\"messageArguments\":[\"m\",null]}",
-    ];
-    let fault = Some(in_entry(0, Fault::BadEntry));
-    assert!(rt; all_entries_have(rt.alloc(), 1, &members, None, fault)?);
-    assert!(rt; all_entries_have(rt.alloc(), 2, &members, None, fault)?);
-    assert!(rt; all_entries_have(rt.alloc(), 4, &kinds, None, fault)?);
-    assert!(rt; all_entries_have(rt.alloc(), 4, &members, None, None)?);
-    Ok(())
-}
-
-#[test]
-fn an_empty_array_of_arguments_is_no_condition(rt: HostRuntime) -> Result<(), Fail> {
-    let entries = [
-        "{\"messageArguments\":[],\"fingerprints\":{}}",
-        "{\"message\":null,\"messageId\":null,\"messageArguments\":null}",
-    ];
-    let fault = Some(in_entry(0, Fault::EmptyMatch));
-    assert!(rt; all_entries_have(rt.alloc(), 4, &entries, None, fault)?);
     Ok(())
 }

@@ -1,10 +1,11 @@
 //! Which results an entry matches, condition by condition.
-use super::{FileText, expect_written, outcome_of, result_at, second_version, unused_of};
+use crate::files::{FileText, applied_of, file_of};
 use sarif_entries::FileFault;
 use sarif_model::{Record, Refusal, Sequence, Text};
 use std::alloc::{AllocError, Global};
 use std::process::Abort;
 use std::test::Fail;
+use test_suppress::result_at;
 
 /// Adds a fingerprint.
 fn add_pair(
@@ -26,13 +27,13 @@ fn is_suppressed_by(
 ) -> Result<Option<bool>, Refusal<FileFault>> {
     let file = FileText {
         today: Some(20250131),
-        ..second_version(entry)
+        ..file_of(2, entry)
     };
-    let outcome = outcome_of(alloc, file, finding, "[]")?;
-    if outcome.entries.as_slice().is_empty() == outcome.suppressed {
+    let applied = applied_of(alloc, file, finding)?;
+    if applied.entries.as_slice().is_empty() == applied.suppressed {
         return Ok(None);
     }
-    Ok(Some(outcome.suppressed))
+    Ok(Some(applied.suppressed))
 }
 
 /// Asserts that each of these entries, alone in a file, matches the result, or that none does.
@@ -137,31 +138,4 @@ fn each_fingerprint_must_stand_with_its_value(rt: HostRuntime) -> Result<(), Fai
         "{\"partialFingerprints\":{\"a/v1\":\"x\"}}",
     ];
     expect_each(&rt, &same, &other, &finding)
-}
-
-/// Asserts whether an entry for `gen/` that expires on 31 January 2025 suppresses a result at that URI on that
-/// date.
-fn expect_on(
-    rt: &(impl Abort + AllocGlobal),
-    uri: &str,
-    today: u32,
-    wanted: (&str, bool),
-) -> Result<(), Fail> {
-    let file = FileText {
-        today: Some(today),
-        ..second_version("{\"uriPrefix\":\"gen/\",\"expires\":20250131}")
-    };
-    let finding = result_at(rt.alloc(), "R1", Some(uri))?;
-    expect_written(rt, file, &finding, "[]", wanted)?;
-    let unused = unused_of(rt.alloc(), file, &[finding])?;
-    assert_eq!(rt; unused == 0, wanted.1);
-    Ok(())
-}
-
-#[test]
-fn the_last_day_still_counts(rt: HostRuntime) -> Result<(), Fail> {
-    let accepted = "[{\"kind\":\"external\",\"status\":\"accepted\"}]";
-    expect_on(&rt, "gen/a.c", 20250131, (accepted, true))?;
-    expect_on(&rt, "gen/a.c", 20250201, ("[]", false))?;
-    expect_on(&rt, "src/gen/a.c", 20250131, ("[]", false))
 }

@@ -1,11 +1,12 @@
 //! The page.
-use crate::samples::{counts_of, findings_with, told_of};
 use sarif_counts::{Counts, Policy, States};
-use sarif_findings::Finding;
-use sarif_model::{Level, State, Text};
+use sarif_findings::{Finding, Reporting, reported};
+use sarif_model::{Level, Sequence, State, Text};
 use sarif_page::html_report;
 use sarif_shown::Told;
+use serde_json::Value;
 use std::alloc::{AllocError, AllocGlobal, Global};
+use std::hash::RandomState;
 use std::random::RandomSource;
 use std::test::Fail;
 
@@ -82,20 +83,44 @@ fn pair(alloc: Global, one: Level, other: Level) -> Result<Vec<Finding>, AllocEr
     Ok(findings)
 }
 
+/// The findings of this log.
+fn findings_of(alloc: Global, log: &str) -> Result<Vec<Finding>, Fail> {
+    let policy = Policy::default();
+    let roots = Sequence::new(alloc);
+    let log = Value::from_str(alloc, log)?;
+    Ok(reported(alloc, &Reporting { policy, roots }, &log)?)
+}
+
+/// The numbers of the first 100,000 of these findings, none of them suppressed.
+fn counts_of(findings: &[Finding]) -> Counts {
+    let mut counts = Counts::new();
+    for at in 0..findings.len().min(100_000) {
+        counts.add(findings[at].state, findings[at].level, false);
+    }
+    counts
+}
+
 /// The page of these findings under a policy.
 fn page_of<R: AllocGlobal + RandomSource>(
     rt: &R,
     policy: &Policy,
     findings: &[Finding],
 ) -> Result<String, Fail> {
-    let counts = counts_of(findings);
-    let told = told_of(rt, &counts, policy, findings)?;
+    let told = Told {
+        counts: &counts_of(findings),
+        policy,
+        findings,
+        without: 0,
+        unused: 0,
+        life: None,
+        seed: RandomState::new(rt)?,
+    };
     Ok(html_report(rt.alloc(), &told)?)
 }
 
 #[test]
 fn strings_of_a_log_stay_in_their_cells(rt: HostRuntime) -> Result<(), Fail> {
-    let findings = findings_with(&rt, &[], HOSTILE)?;
+    let findings = findings_of(rt.alloc(), HOSTILE)?;
     let page = page_of(&rt, &Policy::default(), findings.as_slice())?;
     let page = page.as_str();
     assert!(rt; has_in_order(page, &HOSTILE_ROWS));
@@ -106,7 +131,7 @@ fn strings_of_a_log_stay_in_their_cells(rt: HostRuntime) -> Result<(), Fail> {
 
 #[test]
 fn rows_are_by_file_and_hits_come_first(rt: HostRuntime) -> Result<(), Fail> {
-    let findings = findings_with(&rt, &[], FILES)?;
+    let findings = findings_of(rt.alloc(), FILES)?;
     let page = page_of(&rt, &Policy::default(), findings.as_slice())?;
     let page = page.as_str();
     assert!(rt; has_in_order(page, &["hit 1", "hit 5", "hit 3", "hit 7", "hit 6"]));
@@ -222,13 +247,14 @@ fn only_levels_and_states_of_rows_have_boxes(rt: HostRuntime) -> Result<(), Fail
 
 #[test]
 fn what_was_not_looked_at_is_said(rt: HostRuntime) -> Result<(), Fail> {
-    let counts = Counts::new();
-    let policy = Policy::default();
-    let told = told_of(&rt, &counts, &policy, &[])?;
     let told = Told {
+        counts: &Counts::new(),
+        policy: &Policy::default(),
+        findings: &[],
         without: 2,
         unused: 1,
-        ..told
+        life: None,
+        seed: RandomState::new(&rt)?,
     };
     let page = html_report(rt.alloc(), &told)?;
     let pieces = [

@@ -1,7 +1,8 @@
 //! Entries that name a URI prefix.
-use super::{expect_entries, result_at, second_version};
+use crate::files::{expect_entries, file_of};
 use std::process::Abort;
 use std::test::Fail;
+use test_suppress::result_at;
 
 /// Asserts the entries that match a result of the rule `R1` at each of these places.
 fn expect_at(
@@ -11,7 +12,7 @@ fn expect_at(
 ) -> Result<(), Fail> {
     for (uri, wanted) in rows {
         let finding = result_at(rt.alloc(), "R1", Some(*uri))?;
-        expect_entries(rt, second_version(entries), &finding, wanted)?;
+        expect_entries(rt, file_of(2, entries), &finding, wanted)?;
     }
     Ok(())
 }
@@ -62,7 +63,7 @@ fn prefixes_of_each_length_are_found(rt: HostRuntime) -> Result<(), Fail> {
 #[test]
 fn without_a_uri_no_prefix_is_found(rt: HostRuntime) -> Result<(), Fail> {
     let finding = result_at(rt.alloc(), "R1", None)?;
-    expect_entries(&rt, second_version(FALLING), &finding, &[])
+    expect_entries(&rt, file_of(2, FALLING), &finding, &[])
 }
 
 #[test]

@@ -1,0 +1,14 @@
+//! Tests of which entries of a suppression file match a result. They are in a separate crate, so that no library is
+//! proved a second time for its tests.
+#![tactic(auto)]
+
+#[cfg(test)]
+mod conditions;
+#[cfg(test)]
+mod files;
+#[cfg(test)]
+mod lookups;
+#[cfg(test)]
+mod messages;
+#[cfg(test)]
+mod prefixes;
