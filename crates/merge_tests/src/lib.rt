@@ -1,8 +1,10 @@
-//! Tests of the merge and of the log that it assembles, through what these crates make public. They are in a
-//! separate crate, so that neither is proved a second time for its tests.
+//! Tests of merges of logs, alone and with a suppression file, and of the log that is assembled of nothing: rows worked
+//! out by hand. They are in a separate crate, so that no library is proved a second time for its tests.
 #![tactic(auto)]
 
 #[cfg(test)]
 mod assembling;
 #[cfg(test)]
-mod merge;
+mod one_log;
+#[cfg(test)]
+mod suppressing;

@@ -3,6 +3,4 @@
 #![tactic(auto)]
 
 #[cfg(test)]
-mod later;
-#[cfg(test)]
 mod running;

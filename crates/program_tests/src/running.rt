@@ -1,36 +1,12 @@
 //! What is written and reported, and with which exit status.
-ghost use Rattle.std.specs.Prelude.{◌<◌, ◌^◌};
-ghost use Rattle.std.specs.List.{All};
-ghost use Rattle.sarif_streams.specs.Counted.{failed_calls};
-ghost use Rattle.sarif_streams.specs.OptionalReader.{failed_calls_if};
-
 use sarif_model::Level;
-use sarif_program::{Complaints, Writers, run_request, seed_of};
-use sarif_request::{Request, Wanted};
+use sarif_request::Request;
 use sarif_streams::{Counted, Readers};
 use std::alloc::{AllocError, Global};
-use std::cell::RefCell;
-use std::hash::RandomState;
-use std::io::{self, Read, Write};
-use std::random::RandomSource;
 use std::sync::Wait;
 use std::test::Fail;
 use std::thread::Threads;
-
-/// A system without random bytes.
-#[derive(Drop)]
-pub(crate) struct NoBytes;
-
-impl RandomSource for NoBytes {
-    fn fill_bytes(&self, _buf: &mut [u8]) -> io::Result<()> {
-        Err(io::ErrorKind::Other.into())
-    }
-}
-
-/// The seed of a run that has no random bytes.
-pub(crate) fn seed() -> Result<RandomState, AllocError> {
-    seed_of(&NoBytes).map_err(|_| AllocError)
-}
+use test_program::{AMPLE, Ended, Given, Rooms, run_over, seed};
 
 /// The log of one result without a level, merged: a new warning.
 const MERGED: &str = "{\"properties\":{\"gate\":{\"counts\":{\
@@ -78,157 +54,9 @@ const TWO: &str = concat!(
 /// Its first 50 bytes.
 const BROKEN: &str = r#"{"version":"2.1.0","runs":[{"tool":{"driver":{"nam"#;
 
-/// Returns at most `piece` of its bytes per read, and fails after this many reads.
-#[derive(Drop)]
-pub(crate) struct Given {
-    bytes: &'static [u8],
-    piece: usize,
-    good: u32,
-}
-
-impl Given {
-    /// All of a text, ten bytes per read.
-    pub(crate) fn whole(text: &'static str) -> Given {
-        Given {
-            bytes: text.as_bytes(),
-            piece: 10,
-            good: 1000,
-        }
-    }
-
-    /// The log, ten bytes per read, which fails after this many reads.
-    fn failing(good: u32) -> Given {
-        Given::failing_over(LOG, good)
-    }
-
-    /// A text, ten bytes per read, which fails after this many reads.
-    fn failing_over(text: &'static str, good: u32) -> Given {
-        Given {
-            bytes: text.as_bytes(),
-            piece: 10,
-            good,
-        }
-    }
-}
-
-impl Read for Given {
-    fn read(&mut self, buf: &mut [u8]) -> io::Result<usize> {
-        if self.good == 0 {
-            return Err(io::ErrorKind::Interrupted.into());
-        }
-        self.good -= 1;
-        let count = self.bytes.len().min(buf.len()).min(self.piece);
-        buf[..count].copy_from_slice(&self.bytes[..count]);
-        self.bytes = &self.bytes[count..];
-        Ok(count)
-    }
-}
-
-/// How many bytes the writers of a run take: `piece` of them a write, and the others in all.
-#[derive(Clone, Copy)]
-pub(crate) struct Rooms {
-    pub(crate) piece: usize,
-    pub(crate) out: usize,
-    pub(crate) say: usize,
-    pub(crate) complain: usize,
-}
-
-/// Room for all that is ever written here.
-pub(crate) const AMPLE: Rooms = Rooms {
-    piece: 10_000,
-    out: 10_000,
-    say: 10_000,
-    complain: 10_000,
-};
-
-/// Takes at most `piece` bytes a write and `room` in all, and then fails.
-#[derive(Drop)]
-pub(crate) struct Narrow<'a> {
-    taken: &'a RefCell<Vec<u8>>,
-    piece: usize,
-    room: usize,
-}
-
-impl<'a> Narrow<'a> {
-    pub(crate) fn new(taken: &'a RefCell<Vec<u8>>, piece: usize, room: usize) -> Narrow<'a> {
-        Narrow { taken, piece, room }
-    }
-}
-
-impl Write for Narrow<'_> {
-    fn write(&mut self, buf: &[u8]) -> io::Result<usize> {
-        let count = buf.len().min(self.piece).min(self.room);
-        if count == 0 && !buf.is_empty() {
-            return Err(io::ErrorKind::Other.into());
-        }
-        match self.taken.try_borrow_mut() {
-            Ok(mut taken) => taken.extend_from_slice(&buf[..count])?,
-            Err(_) => return Err(io::ErrorKind::Other.into()),
-        }
-        self.room -= count;
-        Ok(count)
-    }
-
-    fn flush(&mut self) -> io::Result<()> {
-        Ok(())
-    }
-}
-
-/// The status of a run, and what its writers took.
-#[derive(Drop)]
-pub(crate) struct Ended {
-    pub(crate) status: u8,
-    pub(crate) out: Vec<u8>,
-    pub(crate) say: Vec<u8>,
-    pub(crate) complain: Vec<u8>,
-}
-
-/// Runs a request over these sources, with these outputs beside the merged log. If `is_explained` is set, error
-/// messages are the caller's to write.
-pub(crate) fn run_over<'a, T: Threads + Wait + Sync>(
-    threads: &T,
-    alloc: Global,
-    request: &Request,
-    readers: &mut Readers<Given>,
-    reports: Vec<Wanted<Counted<Narrow<'a>>>>,
-    rooms: Rooms,
-    is_explained: bool,
-) -> Result<Ended, AllocError>
-    requires logs { All (λ reader. failed_calls reader < 2 ^ 63) readers.old.logs.items }
-    requires baselines { All (λ reader. failed_calls reader < 2 ^ 63) readers.old.baselines.items }
-    requires suppressions { failed_calls_if readers.old.suppressions < 2 ^ 63 }
-    requires reports { All (λ wanted. failed_calls wanted.to < 2 ^ 63) reports.items }
-{
-    let out = RefCell::new(Vec::new(alloc));
-    let say = RefCell::new(Vec::new(alloc));
-    let complain = RefCell::new(Vec::new(alloc));
-    let mut writers: Writers<Narrow<'_>, Narrow<'_>, Narrow<'a>> = Writers {
-        out: Counted::new(Narrow::new(&out, rooms.piece, rooms.out)),
-        reports,
-        say: Counted::new(Narrow::new(&say, rooms.piece, rooms.say)),
-    };
-    let told = Narrow::new(&complain, rooms.piece, rooms.complain);
-    let mut complaints = if is_explained {
-        Complaints::explained(told)
-    } else {
-        Complaints::new(told)
-    };
-    let status = run_request(
-        threads,
-        alloc,
-        request,
-        readers,
-        &mut writers,
-        &mut complaints,
-    );
-    drop(writers);
-    drop(complaints);
-    Ok(Ended {
-        status: status.code(),
-        out: out.into_inner(),
-        say: say.into_inner(),
-        complain: complain.into_inner(),
-    })
+/// The log, ten bytes per read, which fails after this many reads.
+fn failing(good: u32) -> Given {
+    Given::failing_over(LOG, good)
 }
 
 /// Runs a request over one log alone.
@@ -301,7 +129,7 @@ fn a_gate_that_lets_one_warning_pass(rt: HostRuntime) -> Result<(), Fail> {
 #[test]
 fn a_second_read_that_fails(rt: HostRuntime) -> Result<(), Fail> {
     let request = Request::of_standard_streams(rt.alloc(), seed()?)?;
-    let ended = run(&rt, rt.alloc(), &request, Given::failing(1), AMPLE)?;
+    let ended = run(&rt, rt.alloc(), &request, failing(1), AMPLE)?;
     assert_eq!(rt; ended.status, 3);
     assert!(rt; ended.out.is_empty());
     assert!(rt; ended.say.is_empty());
@@ -317,7 +145,7 @@ fn a_second_read_that_fails(rt: HostRuntime) -> Result<(), Fail> {
 fn each_read_that_is_reached_may_fail(rt: HostRuntime) -> Result<(), Fail> {
     let request = Request::of_standard_streams(rt.alloc(), seed()?)?;
     for good in 0..12 {
-        let ended = run(&rt, rt.alloc(), &request, Given::failing(good), AMPLE)?;
+        let ended = run(&rt, rt.alloc(), &request, failing(good), AMPLE)?;
         assert_eq!(rt; ended.status, 3);
         assert!(rt; ended.out.is_empty());
         assert_eq!(rt;
@@ -325,7 +153,7 @@ fn each_read_that_is_reached_may_fail(rt: HostRuntime) -> Result<(), Fail> {
             b"sarif_gate: log 0: ReadFailed\n".as_slice()
         );
     }
-    let ended = run(&rt, rt.alloc(), &request, Given::failing(12), AMPLE)?;
+    let ended = run(&rt, rt.alloc(), &request, failing(12), AMPLE)?;
     assert_eq!(rt; ended.status, 0);
     Ok(())
 }
@@ -478,7 +306,7 @@ fn a_failed_read_is_told_at_its_source(rt: HostRuntime) -> Result<(), Fail> {
         &rt,
         rt.alloc(),
         Given::whole(LOG),
-        Given::failing(1),
+        failing(1),
         Given::whole("{}"),
     )?;
     assert_eq!(rt; ended.status, 3);
@@ -491,7 +319,7 @@ fn a_failed_read_is_told_at_its_source(rt: HostRuntime) -> Result<(), Fail> {
         rt.alloc(),
         Given::whole(LOG),
         Given::whole(LOG),
-        Given::failing(1),
+        failing(1),
     )?;
     assert_eq!(rt; ended.status, 3);
     assert_eq!(rt;

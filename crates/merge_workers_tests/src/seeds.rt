@@ -1,7 +1,7 @@
 //! The merged log has the same bytes for any seed of the tables.
-use crate::merge::merging::{Bytes, Given, NOTHING, Wanted, beside, expect_log};
 use std::alloc::{AllocError, Global};
 use std::test::Fail;
+use test_merges::{Bytes, Given, NOTHING, Wanted, beside, expect_log};
 
 /// Pushes the members of a result, by whose number its rule, artifact and fingerprint differ.
 fn push_members(text: &mut String, alloc: Global, number: u32) -> Result<(), AllocError> {

@@ -1,9 +1,8 @@
 //! What is required of runs: analyses that were successful, and external property files.
-use crate::merge::merging::{Given, expect_part, expect_refusal, log_with};
-use std::process::Abort;
 use std::sync::Wait;
 use std::test::Fail;
 use std::thread::Threads;
+use test_merges::{Given, expect_part, expect_refusal, log_with};
 
 /// A log of these runs, of which success is required.
 fn requiring(rt: &impl AllocGlobal, runs: &str) -> Result<Given, Fail> {
@@ -14,7 +13,7 @@ fn requiring(rt: &impl AllocGlobal, runs: &str) -> Result<Given, Fail> {
 }
 
 /// Asserts that a log of these runs is rejected with this string if success is required.
-fn expect_failed<R: Abort + AllocGlobal + Threads + Wait + Sync>(
+fn expect_failed<R: AllocGlobal + Threads + Wait + Sync>(
     rt: &R,
     runs: &str,
     wanted: &str,

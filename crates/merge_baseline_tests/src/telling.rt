@@ -1,5 +1,4 @@
 //! The findings of a merge.
-use crate::merge::merging::{ZEROS, seed_of};
 use sarif_counts::{Checks, Options, Policy, States};
 use sarif_findings::{Finding, Reporting};
 use sarif_gather::NoGate;
@@ -13,6 +12,7 @@ use std::process::Abort;
 use std::sync::Wait;
 use std::test::Fail;
 use std::thread::Threads;
+use test_merges::{ZEROS, seed_of};
 
 /// A result that the baseline has too, one that is suppressed, and one that is new.
 const LOG: &str = r#"{"version":"2.1.0","runs":[{"tool":{"driver":{"name":"T"}},"results":[

@@ -1,10 +1,21 @@
 //! Readers and writers that fail, and the limit of a source.
-use crate::merge::MERGED;
 use sarif_model::Refusal;
 use sarif_streams::{Counted, Failed, SourceFault, read_source, write_out};
 use std::io;
 use std::io::{Read, Write};
 use std::test::Fail;
+
+/// The log of one result without a level, merged: a new warning.
+const MERGED: &str = concat!(
+    r#"{"properties":{"gate":{"counts":{"#,
+    r#""absent":{"active":[0,0,0,0],"suppressed":[0,0,0,0]},"new":{"active":[0,1,0,0],"#,
+    r#""suppressed":[0,0,0,0]},"unchanged":{"active":[0,0,0,0],"suppressed":[0,0,0,0]},"#,
+    r#""updated":{"active":[0,0,0,0],"suppressed":[0,0,0,0]}},"failOn":"error","hits":0,"max":0,"#,
+    r#""runsWithoutResults":0,"states":["new","updated"],"unusedSuppressions":0,"#,
+    r#""verdict":"pass"}},"runs":[{"results":[{"baselineState":"new","level":"warning","#,
+    r#""message":{"text":"m"},"suppressions":[]}],"tool":{"driver":{"name":"lint"}}}],"#,
+    r#""version":"2.1.0"}"#
+);
 
 /// Returns this many bytes per read, and fails at the read after `good` of them.
 #[derive(Drop)]

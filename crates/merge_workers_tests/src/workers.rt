@@ -1,11 +1,18 @@
 //! That workers give the same log, work at once, and judge each shard of the results once.
-use crate::merge::merging::{
-    NOTHING, Wanted, expect_log, log_of, merge, merge_watched, one_log, write_watched,
-};
+use sarif_counts::{Checks, Options, Policy};
 use sarif_gather::Gate;
+use sarif_merge::merge_to;
+use sarif_model::MergeFault;
+use sarif_streams::{Counted, Readers};
 use std::alloc::{AllocError, Global};
+use std::process::Abort;
+use std::sync::Wait;
 use std::sync::atomic::{AtomicU64, Ordering};
 use std::test::Fail;
+use std::thread::Threads;
+use test_merges::{
+    NOTHING, Wanted, ZEROS, expect_log, log_of, merge, merge_watched, one_log, seed_of,
+};
 
 #[test]
 fn the_log_is_the_same_for_all_workers(rt: HostRuntime) -> Result<(), Fail> {
@@ -72,6 +79,38 @@ fn two_workers_meet(rt: HostRuntime) -> Result<(), Fail> {
     merge_watched(&rt, &given, &observer)?;
     assert_eq!(rt; observer.misses.load(Ordering::SeqCst), 0);
     Ok(())
+}
+
+/// The merged log of one log, from a reader into a writer that holds what it accepted.
+fn write_watched<G: Gate + Sync, R: Abort + AllocGlobal + Threads + Wait + Sync>(
+    rt: &R,
+    log: &[u8],
+    workers: u32,
+    observer: &G,
+) -> Result<Vec<u8>, MergeFault> {
+    assert!(rt; 1 <= workers && workers <= 64);
+    let mut taken = Vec::new(rt.alloc());
+    let mut readers = Readers {
+        logs: vec![in rt.alloc(); Counted::new(log)]?,
+        baselines: Vec::new(rt.alloc()),
+        suppressions: None,
+    };
+    let options = Options {
+        policy: Policy::default(),
+        checks: Checks::default(),
+        today: None,
+        workers,
+        seed: seed_of(ZEROS)?,
+    };
+    merge_to(
+        rt,
+        rt.alloc(),
+        &mut readers,
+        &mut Counted::new(&mut taken),
+        &options,
+        observer,
+    )?;
+    Ok(taken)
 }
 
 #[test]

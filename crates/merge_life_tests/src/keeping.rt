@@ -1,5 +1,4 @@
 //! Merges of which something is requested for later merges: a new suppression file, or a known log.
-use crate::merge::merging::{ZEROS, log_of, seed_of};
 use sarif_counts::{
     Checks, Knowing, KnownLog, Life, NewFile, Options, Policy, Renewal, States, Upkeep,
 };
@@ -14,6 +13,7 @@ use std::process::Abort;
 use std::sync::Wait;
 use std::test::Fail;
 use std::thread::Threads;
+use test_merges::{ZEROS, log_of, seed_of};
 
 /// The runs of a log, and those of a baseline and a suppression file if they are there.
 #[derive(Clone, Copy)]

@@ -1,12 +1,9 @@
 //! Merges that are rejected, and which of several errors is reported.
-use crate::merge::merging::{
-    Given, beside, expect_part, expect_refusal, log_of, log_with, merge, one_log,
-};
 use std::alloc::{AllocError, Global};
-use std::process::Abort;
 use std::sync::Wait;
 use std::test::Fail;
 use std::thread::Threads;
+use test_merges::{Given, beside, expect_part, expect_refusal, log_of, log_with, merge, one_log};
 
 /// A log of one result, and the first 50 bytes of it.
 const WHOLE: &str = concat!(
@@ -60,7 +57,7 @@ fn nested(alloc: Global, depth: u32) -> Result<String, AllocError> {
 }
 
 /// One log and, if its text is not empty, one baseline are rejected with this string.
-fn expect_faulty<R: Abort + AllocGlobal + Threads + Wait + Sync>(
+fn expect_faulty<R: AllocGlobal + Threads + Wait + Sync>(
     rt: &R,
     log: &str,
     baseline: &str,

@@ -1,10 +1,9 @@
 //! Merges with a suppression file.
-use crate::merge::merging::{Given, NOTHING, Wanted, beside, expect_log, expect_refusal, one_log};
 use std::alloc::Global;
-use std::process::Abort;
 use std::sync::Wait;
 use std::test::Fail;
 use std::thread::Threads;
+use test_merges::{Given, NOTHING, Wanted, beside, expect_log, expect_refusal, one_log};
 
 #[test]
 fn entries_that_match_nothing_are_unused(rt: HostRuntime) -> Result<(), Fail> {
@@ -103,7 +102,7 @@ fn in_file(alloc: Global, uri: &str, version: u8, entries: &str) -> Result<Given
 }
 
 /// That result is written with these suppressions.
-fn expect_in_file<R: Abort + AllocGlobal + Threads + Wait + Sync>(
+fn expect_in_file<R: AllocGlobal + Threads + Wait + Sync>(
     rt: &R,
     given: &Given,
     wanted: Wanted,

@@ -1,6 +1,5 @@
 //! What is written for later merges, the lines on it, and in which order.
 
-use crate::running::{self, Ended, Given, Narrow, run_over, seed};
 use sarif_counts::{Knowing, Renewal};
 use sarif_reports::Report;
 use sarif_request::{Request, Wanted};
@@ -10,6 +9,7 @@ use std::cell::RefCell;
 use std::sync::Wait;
 use std::test::Fail;
 use std::thread::Threads;
+use test_program::{Ended, Given, Narrow, run_over, seed};
 
 /// A log of three errors: two of one rule, which differ in their rank, and one of another rule.
 const HITS: &str = concat!(
@@ -123,9 +123,9 @@ fn run<T: Threads + Wait + Sync + AllocGlobal>(
     let later = RefCell::new(Vec::new(alloc));
     let to = Counted::new(Narrow::new(&later, 10_000, rooms.later));
     let reports = vec![in alloc; Wanted { report, to }]?;
-    let others = running::Rooms {
+    let others = test_program::Rooms {
         complain: rooms.complain,
-        ..running::AMPLE
+        ..test_program::AMPLE
     };
     let ended = run_over(
         threads,

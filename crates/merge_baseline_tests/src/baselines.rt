@@ -1,15 +1,13 @@
 //! Merges with baselines.
-use crate::merge::merging::{
-    Given, NOTHING, Wanted, beside, expect_log, expect_part, expect_refusal, expect_runs, log_of,
-    log_with, merge, one_log,
-};
-use sarif_log::Merged;
 use sarif_model::{Level, State};
 use std::alloc::{AllocError, Global};
-use std::process::Abort;
 use std::sync::Wait;
 use std::test::Fail;
 use std::thread::Threads;
+use test_merges::{
+    Given, NOTHING, Wanted, beside, expect_log, expect_part, expect_refusal, expect_runs, log_with,
+    merge, one_log,
+};
 
 #[test]
 fn equal_results_are_paired_in_order(rt: HostRuntime) -> Result<(), Fail> {
@@ -23,7 +21,7 @@ fn equal_results_are_paired_in_order(rt: HostRuntime) -> Result<(), Fail> {
     let merged = expect_log(&rt, &given, wanted, runs)?;
     // The merged log as the next baseline.
     let mut again = one_log(rt.alloc(), "lint: A A; lint: A")?;
-    again.baseline(rt.alloc(), merged.log.as_str())?;
+    again.baseline(rt.alloc(), merged.as_str())?;
     let wanted = Wanted {
         unchanged: "0,3,0,0",
         ..NOTHING
@@ -79,8 +77,8 @@ fn written_second(alloc: Global, state: &str) -> Result<String, AllocError> {
     )
 }
 
-/// The merge of the second with the first as its baseline.
-fn merge_other<R: Abort + AllocGlobal + Threads + Wait + Sync>(rt: &R) -> Result<Merged, Fail> {
+/// The merged log of the second with the first as its baseline.
+fn merge_other<R: AllocGlobal + Threads + Wait + Sync>(rt: &R) -> Result<String, Fail> {
     let given = beside(rt.alloc(), SECOND, FIRST)?;
     let new = written_second(rt.alloc(), "new")?;
     let absent = concat!(
@@ -104,7 +102,7 @@ fn what_no_result_is_paired_with_is_absent(rt: HostRuntime) -> Result<(), Fail> 
     let merged = merge_other(&rt)?;
     // Its absent result is skipped in a baseline, and rejected in a log.
     let mut again = one_log(rt.alloc(), SECOND)?;
-    again.baseline(rt.alloc(), merged.log.as_str())?;
+    again.baseline(rt.alloc(), merged.as_str())?;
     let wanted = Wanted {
         unchanged: "0,1,0,0",
         ..NOTHING
@@ -112,7 +110,7 @@ fn what_no_result_is_paired_with_is_absent(rt: HostRuntime) -> Result<(), Fail> 
     let runs = written_second(rt.alloc(), "unchanged")?;
     expect_log(&rt, &again, wanted, runs.as_str())?;
     let mut given = Given::new(rt.alloc());
-    given.log(rt.alloc(), merged.log.as_str())?;
+    given.log(rt.alloc(), merged.as_str())?;
     expect_refusal(&rt, &given, "log 0, run 1, result 0: AbsentInput")
 }
 

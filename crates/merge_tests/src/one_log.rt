@@ -1,9 +1,4 @@
 //! Merges of logs without a baseline.
-use crate::merge::MERGED;
-use crate::merge::merging::{
-    Given, NOTHING, Wanted, ZEROS, expect_log, expect_part, expect_runs, log_of, log_with, merge,
-    one_log, seed_of,
-};
 use sarif_counts::{Checks, Options, Policy, Verdict};
 use sarif_gather::NoGate;
 use sarif_merge::merge_readers;
@@ -12,6 +7,22 @@ use sarif_prepare::Asked;
 use sarif_streams::{Counted, Readers};
 use std::alloc::{AllocError, Global};
 use std::test::Fail;
+use test_merges::{
+    Given, NOTHING, Wanted, ZEROS, expect_log, expect_part, expect_runs, log_of, log_with, merge,
+    one_log, seed_of,
+};
+
+/// The log of one result without a level, merged: a new warning.
+const MERGED: &str = concat!(
+    r#"{"properties":{"gate":{"counts":{"#,
+    r#""absent":{"active":[0,0,0,0],"suppressed":[0,0,0,0]},"new":{"active":[0,1,0,0],"#,
+    r#""suppressed":[0,0,0,0]},"unchanged":{"active":[0,0,0,0],"suppressed":[0,0,0,0]},"#,
+    r#""updated":{"active":[0,0,0,0],"suppressed":[0,0,0,0]}},"failOn":"error","hits":0,"max":0,"#,
+    r#""runsWithoutResults":0,"states":["new","updated"],"unusedSuppressions":0,"#,
+    r#""verdict":"pass"}},"runs":[{"results":[{"baselineState":"new","level":"warning","#,
+    r#""message":{"text":"m"},"suppressions":[]}],"tool":{"driver":{"name":"lint"}}}],"#,
+    r#""version":"2.1.0"}"#
+);
 
 #[test]
 fn a_result_without_a_level_is_a_new_warning(rt: HostRuntime) -> Result<(), Fail> {

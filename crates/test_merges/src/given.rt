@@ -1,0 +1,109 @@
+//! What a merge is given.
+use crate::runs::log_of;
+use sarif_counts::{Checks, Policy};
+use sarif_streams::SourceBytes;
+use std::alloc::{AllocError, Global};
+use std::hash::RandomState;
+use std::io;
+use std::random::RandomSource;
+use std::test::Fail;
+
+/// What a merge is given.
+#[derive(Drop)]
+pub struct Given {
+    /// The logs, the baselines and the suppression file.
+    pub sources: SourceBytes,
+    /// What the gate fails on.
+    pub policy: Policy,
+    /// What is required of runs.
+    pub checks: Checks,
+    /// Today's date as YYYYMMDD.
+    pub today: Option<u32>,
+    /// The number of workers, 1 to 64.
+    pub workers: u32,
+    /// The random bytes of the system.
+    pub bytes: Bytes,
+}
+
+impl Given {
+    /// Nothing, to one worker, on a system whose random bytes are 0; policy and checks are the default ones.
+    pub fn new(alloc: Global) -> Given {
+        Given {
+            sources: SourceBytes {
+                logs: Vec::new(alloc),
+                baselines: Vec::new(alloc),
+                suppressions: None,
+            },
+            policy: Policy::default(),
+            checks: Checks::default(),
+            today: None,
+            workers: 1,
+            bytes: ZEROS,
+        }
+    }
+
+    /// One more log, unchanged.
+    pub fn log(&mut self, alloc: Global, text: &str) -> Result<(), AllocError> {
+        let bytes = text.as_bytes().to_vec(alloc)?;
+        self.sources.logs.push(bytes)?;
+        Ok(())
+    }
+
+    /// One more baseline, unchanged.
+    pub fn baseline(&mut self, alloc: Global, text: &str) -> Result<(), AllocError> {
+        let bytes = text.as_bytes().to_vec(alloc)?;
+        self.sources.baselines.push(bytes)?;
+        Ok(())
+    }
+
+    /// A suppression file of this version with these entries.
+    pub fn entries(&mut self, alloc: Global, version: u8, list: &str) -> Result<(), AllocError> {
+        let text = format!(in alloc; "{{\"version\":{version},\"suppressions\":[{list}]}}")?;
+        self.sources.suppressions = Some(text.as_bytes().to_vec(alloc)?);
+        Ok(())
+    }
+}
+
+/// One log with these runs.
+pub fn one_log(alloc: Global, runs: &str) -> Result<Given, Fail> {
+    let mut given = Given::new(alloc);
+    let log = log_of(alloc, runs)?;
+    given.log(alloc, log.as_str())?;
+    Ok(given)
+}
+
+/// One log and one baseline with these runs.
+pub fn beside(alloc: Global, runs: &str, baseline_runs: &str) -> Result<Given, Fail> {
+    let mut given = one_log(alloc, runs)?;
+    let baseline = log_of(alloc, baseline_runs)?;
+    given.baseline(alloc, baseline.as_str())?;
+    Ok(given)
+}
+
+/// Random bytes that count on by a step, from the first one.
+#[derive(Clone, Copy)]
+pub struct Bytes {
+    /// The first byte.
+    pub first: u8,
+    /// What each byte after it adds.
+    pub step: u8,
+}
+
+impl RandomSource for Bytes {
+    fn fill_bytes(&self, buf: &mut [u8]) -> io::Result<()> {
+        let mut next = self.first;
+        for byte in buf {
+            *byte = next;
+            next = next.wrapping_add(self.step);
+        }
+        Ok(())
+    }
+}
+
+/// Only zeros.
+pub const ZEROS: Bytes = Bytes { first: 0, step: 0 };
+
+/// What the tables hash with where the system gives these bytes.
+pub fn seed_of(bytes: Bytes) -> Result<RandomState, AllocError> {
+    RandomState::new(&bytes).map_err(|_| AllocError)
+}

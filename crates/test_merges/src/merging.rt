@@ -1,0 +1,150 @@
+//! Merges, and what is expected of them.
+ghost use Rattle.std.specs.Prelude.{◌≡◌, ◌⊎◌, Some, IfOk, IfErr, string_bytes};
+ghost use Rattle.sarif_inputs.specs.Faults.{first_fault};
+ghost use Rattle.sarif_merge.specs.Given.{given_by};
+ghost use Rattle.sarif_merge.specs.MergedLog.{output_text};
+ghost use Rattle.sarif_model.specs.FirstFault.{IsOutOfResources};
+ghost use Rattle.sarif_streams.specs.WereRead.{contents_of};
+
+use crate::given::{Given, seed_of};
+use crate::runs::json_of_runs;
+use crate::wanted::{Wanted, text_of};
+use sarif_counts::{Options, Verdict};
+use sarif_gather::{Gate, NoGate};
+use sarif_log::Merged;
+use sarif_merge::merge_bytes;
+use sarif_model::{At, Cause, MergeFault};
+use std::sync::Wait;
+use std::test::Fail;
+use std::thread::Threads;
+
+/// The merge of what is given. It has 1 to 64 workers: for any other number there is no merge.
+pub fn merge_watched<G: Gate + Sync, R: AllocGlobal + Threads + Wait + Sync>(
+    rt: &R,
+    given: &Given,
+    observer: &G,
+) -> Result<Merged, MergeFault>
+    ensures log { IfOk result (λ merged. merged.log ≡ output_text
+        (given_by (contents_of given.now.sources) given.now.today given.now.checks)
+        given.now.policy) }
+    ensures refusals { IfErr result (λ fault. IsOutOfResources fault ⊎ (first_fault
+        (given_by (contents_of given.now.sources) given.now.today given.now.checks)
+        ≡ Some fault)) }
+{
+    let workers = given.workers;
+    if workers < 1 || 64 < workers {
+        return Err(MergeFault {
+            at: At::Nowhere,
+            cause: Cause::NoWorker,
+        });
+    }
+    let options = Options {
+        policy: given.policy,
+        checks: given.checks,
+        today: given.today,
+        workers,
+        seed: seed_of(given.bytes)?,
+    };
+    merge_bytes(rt, rt.alloc(), &given.sources, &options, observer)
+}
+
+/// The merge without an observer.
+pub fn merge<R: AllocGlobal + Threads + Wait + Sync>(
+    rt: &R,
+    given: &Given,
+) -> Result<Merged, MergeFault>
+    ensures log { IfOk result (λ merged. merged.log ≡ output_text
+        (given_by (contents_of given.now.sources) given.now.today given.now.checks)
+        given.now.policy) }
+    ensures refusals { IfErr result (λ fault. IsOutOfResources fault ⊎ (first_fault
+        (given_by (contents_of given.now.sources) given.now.today given.now.checks)
+        ≡ Some fault)) }
+{
+    merge_watched(rt, given, &NoGate)
+}
+
+/// Fails if the texts differ, with both of them.
+fn expect_text(text: &str, wanted: &str) -> Result<(), Fail>
+    ensures same { IfOk result (λ _. text.now ≡ wanted.now) }
+{
+    if text == wanted {
+        return Ok(());
+    }
+    Err(Fail::new(format_args!("{text}\nin place of\n{wanted}")))
+}
+
+/// Fails unless these inputs are rejected with this string.
+pub fn expect_refusal<R: AllocGlobal + Threads + Wait + Sync>(
+    rt: &R,
+    given: &Given,
+    wanted: &str,
+) -> Result<(), Fail> {
+    let fault = merge(rt, given).err().ok_or("accepted")?;
+    let text = format!(in rt.alloc(); "{fault}")?;
+    expect_text(text.as_str(), wanted)
+}
+
+/// Fails unless the merge passes, its log is this text, and its numbers are those that are wanted.
+fn expect_merged(merged: &Merged, text: &str, wanted: Wanted) -> Result<(), Fail>
+    ensures log { IfOk result (λ _. merged.now.log ≡ text.now) }
+    ensures without { IfOk result (λ _. merged.now.without ≡ wanted.without) }
+    ensures unused { IfOk result (λ _. merged.now.unused ≡ wanted.unused) }
+{
+    expect_text(merged.log.as_str(), text)?;
+    if merged.without != wanted.without {
+        return Err(Fail::new("another number of runs without results"));
+    }
+    if merged.unused != wanted.unused {
+        return Err(Fail::new("another number of unused suppressions"));
+    }
+    if merged.verdict != Verdict::Pass {
+        return Err(Fail::new("the gate fails"));
+    }
+    Ok(())
+}
+
+/// Fails unless the merged log is exactly that, with these runs, given as JSON; the log.
+pub fn expect_runs<R: AllocGlobal + Threads + Wait + Sync>(
+    rt: &R,
+    given: &Given,
+    wanted: Wanted,
+    runs: &str,
+) -> Result<String, Fail>
+    ensures log { IfOk result (λ log. string_bytes log ≡ output_text
+        (given_by (contents_of given.now.sources) given.now.today given.now.checks)
+        given.now.policy) }
+{
+    let merged = merge(rt, given)?;
+    let text = text_of(rt.alloc(), wanted, runs)?;
+    expect_merged(&merged, text.as_str(), wanted)?;
+    Ok(text)
+}
+
+/// The same, with the runs as tools and results.
+pub fn expect_log<R: AllocGlobal + Threads + Wait + Sync>(
+    rt: &R,
+    given: &Given,
+    wanted: Wanted,
+    runs: &str,
+) -> Result<String, Fail>
+    ensures log { IfOk result (λ log. string_bytes log ≡ output_text
+        (given_by (contents_of given.now.sources) given.now.today given.now.checks)
+        given.now.policy) }
+{
+    let runs = json_of_runs(rt.alloc(), runs)?;
+    let log = expect_runs(rt, given, wanted, runs.as_str())?;
+    Ok(log)
+}
+
+/// Fails unless the merged log has this part.
+pub fn expect_part<R: AllocGlobal + Threads + Wait + Sync>(
+    rt: &R,
+    given: &Given,
+    part: &str,
+) -> Result<(), Fail> {
+    let merged = merge(rt, given)?;
+    if merged.log.as_str().contains(part) {
+        return Ok(());
+    }
+    Err(Fail::new(format_args!("without {part}")))
+}

@@ -1,0 +1,84 @@
+//! Runs in few words, and logs of them.
+use std::alloc::{AllocError, Global};
+use std::test::Fail;
+
+/// A result with a message alone, or of the rule `R1`; and that as it is written by its state.
+fn result_named(name: &str) -> Option<&'static str> {
+    match name {
+        "M" => Some(r#"{"message":{"text":"m"}}"#),
+        "A" => Some(r#"{"message":{"text":"m"},"ruleId":"R1"}"#),
+        "E" => Some(r#"{"level":"error","message":{"text":"m"},"ruleId":"R1"}"#),
+        "A_NEW" => Some(concat!(
+            r#"{"baselineState":"new","level":"warning","message":{"text":"m"},"#,
+            r#""ruleId":"R1","suppressions":[]}"#
+        )),
+        "A_UNCHANGED" => Some(concat!(
+            r#"{"baselineState":"unchanged","level":"warning","message":{"text":"m"},"#,
+            r#""ruleId":"R1","suppressions":[]}"#
+        )),
+        "A_ABSENT" => Some(concat!(
+            r#"{"baselineState":"absent","level":"warning","message":{"text":"m"},"#,
+            r#""ruleId":"R1","suppressions":[]}"#
+        )),
+        _ => None,
+    }
+}
+
+fn push_result(text: &mut String, name: &str) -> Result<(), AllocError> {
+    match result_named(name) {
+        Some(result) => text.push_str(result),
+        None => text.push_str(name),
+    }
+}
+
+fn push_results(text: &mut String, names: &str) -> Result<(), AllocError> {
+    let mut is_first = true;
+    for name in names.split(' ') {
+        if name.is_empty() {
+            continue;
+        }
+        if !is_first {
+            text.push_str(",")?;
+        }
+        is_first = false;
+        push_result(text, name)?;
+    }
+    Ok(())
+}
+
+fn push_run(text: &mut String, run: &str) -> Result<(), Fail> {
+    let (tool, names) = run.split_once(": ").ok_or("no tool")?;
+    text.push_str(r#"{"results":["#)?;
+    push_results(text, names)?;
+    text.push_str(r#"],"tool":{"driver":{"name":""#)?;
+    text.push_str(tool)?;
+    text.push_str(r#""}}}"#)?;
+    Ok(())
+}
+
+/// The runs as they are in a log, their members in the order in which they are written.
+pub fn json_of_runs(alloc: Global, runs: &str) -> Result<String, Fail> {
+    let mut text = String::from_str(alloc, "[")?;
+    let mut is_first = true;
+    for run in runs.split("; ") {
+        if !is_first {
+            text.push_str(",")?;
+        }
+        is_first = false;
+        push_run(&mut text, run)?;
+    }
+    text.push_str("]")?;
+    Ok(text)
+}
+
+/// The log with these runs, given as JSON.
+pub fn log_with(alloc: Global, runs: &str) -> Result<String, AllocError> {
+    format!(in alloc; "{{\"version\":\"2.1.0\",\"runs\":{runs}}}")
+}
+
+/// The log with these runs.
+pub fn log_of(alloc: Global, runs: &str) -> Result<String, Fail> {
+    let runs = json_of_runs(alloc, runs)?;
+    let log = log_with(alloc, runs.as_str())?;
+    Ok(log)
+}

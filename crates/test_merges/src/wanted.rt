@@ -1,0 +1,57 @@
+//! What a merged log is to hold.
+use std::alloc::{AllocError, Global};
+
+/// What a merged log holds that passes the default policy without a hit: its active results by
+/// state and the new ones that are suppressed, each as the numbers of errors, warnings, notes and
+/// others.
+#[derive(Clone, Copy)]
+pub struct Wanted {
+    /// The active results that are absent.
+    pub absent: &'static str,
+    /// The active ones that are new.
+    pub new: &'static str,
+    /// The new ones that are suppressed.
+    pub suppressed: &'static str,
+    /// The active ones that are unchanged.
+    pub unchanged: &'static str,
+    /// The active ones that are updated.
+    pub updated: &'static str,
+    /// The number of runs without results.
+    pub without: u32,
+    /// The number of unused suppressions.
+    pub unused: u32,
+}
+
+/// No results at all.
+pub const NOTHING: Wanted = Wanted {
+    absent: "0,0,0,0",
+    new: "0,0,0,0",
+    suppressed: "0,0,0,0",
+    unchanged: "0,0,0,0",
+    updated: "0,0,0,0",
+    without: 0,
+    unused: 0,
+};
+
+/// The text of the log that is wanted, with these runs, given as JSON.
+pub fn text_of(alloc: Global, wanted: Wanted, runs: &str) -> Result<String, AllocError> {
+    let Wanted {
+        absent,
+        new,
+        suppressed,
+        unchanged,
+        updated,
+        without,
+        unused,
+    } = wanted;
+    format!(in alloc;
+        "{{\"properties\":{{\"gate\":{{\"counts\":{{\
+        \"absent\":{{\"active\":[{absent}],\"suppressed\":[0,0,0,0]}},\
+        \"new\":{{\"active\":[{new}],\"suppressed\":[{suppressed}]}},\
+        \"unchanged\":{{\"active\":[{unchanged}],\"suppressed\":[0,0,0,0]}},\
+        \"updated\":{{\"active\":[{updated}],\"suppressed\":[0,0,0,0]}}}},\
+        \"failOn\":\"error\",\"hits\":0,\"max\":0,\"runsWithoutResults\":{without},\
+        \"states\":[\"new\",\"updated\"],\"unusedSuppressions\":{unused},\"verdict\":\"pass\"}}}},\
+        \"runs\":{runs},\"version\":\"2.1.0\"}}"
+    )
+}
