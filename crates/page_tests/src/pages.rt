@@ -106,8 +106,9 @@ fn page_of<R: AllocGlobal + RandomSource>(
     policy: &Policy,
     findings: &[Finding],
 ) -> Result<String, Fail> {
+    let counts = counts_of(findings);
     let told = Told {
-        counts: &counts_of(findings),
+        counts: &counts,
         policy,
         findings,
         without: 0,
@@ -247,9 +248,11 @@ fn only_levels_and_states_of_rows_have_boxes(rt: HostRuntime) -> Result<(), Fail
 
 #[test]
 fn what_was_not_looked_at_is_said(rt: HostRuntime) -> Result<(), Fail> {
+    let counts = Counts::new();
+    let policy = Policy::default();
     let told = Told {
-        counts: &Counts::new(),
-        policy: &Policy::default(),
+        counts: &counts,
+        policy: &policy,
         findings: &[],
         without: 2,
         unused: 1,
