@@ -100,6 +100,24 @@ fn counts_of(findings: &[Finding]) -> Counts {
     counts
 }
 
+/// What a page of these findings is made from.
+fn told_of<'a, R: RandomSource>(
+    rt: &R,
+    counts: &'a Counts,
+    policy: &'a Policy,
+    findings: &'a [Finding],
+) -> Result<Told<'a>, Fail> {
+    Ok(Told {
+        counts,
+        policy,
+        findings,
+        without: 0,
+        unused: 0,
+        life: None,
+        seed: RandomState::new(rt)?,
+    })
+}
+
 /// The page of these findings under a policy.
 fn page_of<R: AllocGlobal + RandomSource>(
     rt: &R,
@@ -107,15 +125,7 @@ fn page_of<R: AllocGlobal + RandomSource>(
     findings: &[Finding],
 ) -> Result<String, Fail> {
     let counts = counts_of(findings);
-    let told = Told {
-        counts: &counts,
-        policy,
-        findings,
-        without: 0,
-        unused: 0,
-        life: None,
-        seed: RandomState::new(rt)?,
-    };
+    let told = told_of(rt, &counts, policy, findings)?;
     Ok(html_report(rt.alloc(), &told)?)
 }
 
@@ -250,14 +260,11 @@ fn only_levels_and_states_of_rows_have_boxes(rt: HostRuntime) -> Result<(), Fail
 fn what_was_not_looked_at_is_said(rt: HostRuntime) -> Result<(), Fail> {
     let counts = Counts::new();
     let policy = Policy::default();
+    let told = told_of(&rt, &counts, &policy, &[])?;
     let told = Told {
-        counts: &counts,
-        policy: &policy,
-        findings: &[],
         without: 2,
         unused: 1,
-        life: None,
-        seed: RandomState::new(&rt)?,
+        ..told
     };
     let page = html_report(rt.alloc(), &told)?;
     let pieces = [
