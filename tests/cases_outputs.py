@@ -351,6 +351,7 @@ def kept_modes():
 
 # ---- Explanations
 
+NO_FILE = "No such file or directory (os error 2)"
 NAMES = ("file", "where", "line", "column", "found", "wanted", "system", "advice")
 
 
@@ -404,6 +405,18 @@ def explained_outputs():
         yield explained(f"{fault}, explained", files, fault, words, file="no/f", system=True, advice=True)
 
 
+def explained_inputs(bad):
+    """Errors of a baseline and of an entry of the suppression file: their bytes are kept for explanations, too."""
+    where = {"where": "/runs/0/results/7/correlationGuid", "found": '"x"'}
+    fault = "baseline 0, run 0, result 7: BadGuid"
+    words = ["--baseline", "b", "--out", "o", "a"]
+    yield explained("a bad guid of a baseline", {"b": bad}, fault, words, file="b", **where)
+    where = {"where": "/suppressions/1", "found": "{}"}
+    words = ["--suppress", "s", "--out", "o", "a"]
+    files = {"s": rules({"uri": "b"}, {})}
+    yield explained("an entry without a condition", files, "suppressions, entry 1: EmptyMatch", words, file="s", **where)
+
+
 def explanations():
     eight = [plain() for _ in range(7)] + [plain(correlationGuid="x")]
     bad = log(run("lint", *eight))
@@ -423,6 +436,7 @@ def explanations():
     yield one("a bad guid", ["--explain", *words], stderr=told, **given)
     yield one("the same, not explained", words, stderr=line(place), **given)
     yield from explained_outputs()
+    yield from explained_inputs(bad)
     evil = plain(correlationGuid="x\n\x1b[31m##\u202e")
     yield explained(
         "a value that tries to write lines",
@@ -455,7 +469,7 @@ def explanations():
         "log 1: ReadFailed (b b)",
         named,
         file="b b",
-        system=True,
+        system=NO_FILE,
         advice=True,
     )
     yield explained(
@@ -464,7 +478,15 @@ def explanations():
         "output: WriteFailed",
         ["--out", "none/o", "a"],
         file="none/o",
-        system=True,
+        system=NO_FILE,
+    )
+    yield explained(
+        "an output that can't get its name",
+        {},
+        "output: WriteFailed",
+        ["--out", "o/", "a"],
+        file="o/",
+        system="Not a directory (os error 20)",
     )
     yield explained(
         "a report that can't be written",
@@ -472,7 +494,7 @@ def explanations():
         "text report: WriteFailed",
         ["--text", "none/t", "--out", "o", "a"],
         file="none/t",
-        system=True,
+        system=NO_FILE,
     )
     words = ["--explain", "--out", "o", "a"]
     given = {"out": ONE_MERGED, "stdout": ONE_SUMMARY, "stderr": b""}

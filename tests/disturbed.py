@@ -60,18 +60,20 @@ def each_call_fails(command, room, preloaded, wanted):
 
 
 def each_call_ends(command, room, preloaded, number):
-    """Runs that this signal ends at the first, the second or a further call."""
+    """Runs that this signal ends at the first, the second or a further call. Each new file has a name of random bytes."""
     calm, left = room.run(command, preloaded, Refusal("files"))
-    faults, begun = [], 0
+    faults, begun, names = [], 0, set()
     for first in range(1, calm.made + 1):
         ran, after = room.run(command, preloaded, Refusal("files", first, signal=number))
         new = [it for it in after if ".sarif_gate-" in it]
         begun += bool(new)
+        names |= set(new)
         kept = {name: given for name, given in after.items() if name not in new}
         is_old = kept == room.before
         if ran.status != -number or len(new) > 1 or not (is_old or (kept == left and not new)):
             faults.append(f"ended at call {first}: status {ran.status}, and it left {sorted(after)}")
     is_begun = begun > 0 or left == room.before
+    faults += ["all new files had one name"] * (begun > 1 and len(names) == 1)
     return faults + ["no run was ended while it wrote"] * (not is_begun)
 
 
