@@ -131,6 +131,21 @@ def terminals():
 # ---- Invalid arguments
 
 
+def told_of_words():
+    """What is said of an unknown option, and of a value that isn't allowed."""
+    more = "\n\nFor more information, try '--help'.\n"
+    unknown = (
+        "error: unexpected argument '--frobnicate' found\n\n"
+        "  tip: to pass '--frobnicate' as a value, use '-- --frobnicate'\n\n"
+        f"Usage: sarif_gate [OPTIONS] --out <FILE> <LOG>...{more}"
+    )
+    given = {"status": 2, "stdout": b""}
+    yield one("what is said of an unknown option", ["--frobnicate"], stderr=unknown.encode(), **given)
+    bad = f"error: invalid value '0' for '--workers <NUMBER>': 0 is not in 1..=64{more}"
+    words = ["--workers", "0", "--out", "o", "a"]
+    yield one("what is said of a wrong value", words, stderr=bad.encode(), **given)
+
+
 def wrong(name, words, files=()):
     """Invalid arguments: nothing is written."""
     given = {"b": OLD, "s": OLD, **dict.fromkeys(files, OLD)}
@@ -170,6 +185,7 @@ def clashes():
     two = ["--root", "a", "--root", "b", "--out", "o", "a"]
     yield one("two roots", two, look=holds({"a": ONE, "o": ONE_MERGED}))
     yield wrong("explained twice", ["--explain", "--explain", "--out", "o", "a"])
+    yield from told_of_words()
     yield wrong("a report and no output", ["--text", "t", "a"])
     yield wrong("a report and no log", ["--text", "t", "--out", "o"])
     base = {"a": ONE, "o": ONE_MERGED}
