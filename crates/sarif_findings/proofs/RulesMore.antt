@@ -8,7 +8,9 @@ use Rattle.std.specs.Borrow.{Bor}
 use Rattle.serde_json.specs.Data.{Data}
 use Rattle.serde_json.specs.View.{view}
 use Rattle.serde_json.specs.declared.value.Value.{Value}
-use Rattle.sarif_findings.specs.Lookup.{rule_by, rule_in, element_at, extension_index, component_by, driver_of, descriptor_of, rule_index, own_rule_id}
+use Rattle.sarif_model.specs.declared.references.RuleReference.{RuleReference}
+use Rattle.sarif_findings.specs.Located.{own_id_at, rule_at, descriptor_at}
+use Rattle.sarif_findings.specs.Lookup.{rule_by, element_at, component_by, driver_of}
 use Rattle.sarif_findings.specs.Internal.RulesOf.{rules_in, rules_of, extensions_of}
 
 -- a rule that is put at its id, where none was there
@@ -39,35 +41,35 @@ none_among None (Some id) = refl
 none_among None None = refl
 
 -- the rule of a component, by the rules of the component
-rule_of : (x : Data) (component : Option Data)
-    → rule_by (rule_index x) (own_rule_id x) (rules_of component) ≡ option_and_then (rule_in x) component
-rule_of x None = none_among (rule_index x) (own_rule_id x)
-rule_of x (Some component) = refl
+rule_of : (r : RuleReference) (component : Option Data)
+    → rule_by r.index (own_id_at r) (rules_of component) ≡ option_and_then (rule_at r) component
+rule_of r None = none_among r.index (own_id_at r)
+rule_of r (Some component) = refl
 
 -- for a result that names no extension
-pub by_driver : (run x : Data) (driver : List Data) (told : Option Data) → extension_index x ≡ None → driver ≡ rules_of (driver_of run)
-    → told ≡ rule_by (rule_index x) (own_rule_id x) driver → told ≡ descriptor_of run x
-by_driver run x driver told none is named =
-    named ∙ ap (rule_by (rule_index x) (own_rule_id x)) is ∙ rule_of x (driver_of run)
-    ∙ ap (λ i. option_and_then (rule_in x) (component_by run i)) (sym none)
+pub by_driver : (run : Data) (r : RuleReference) (driver : List Data) (told : Option Data) → r.extension ≡ None → driver ≡ rules_of (driver_of run)
+    → told ≡ rule_by r.index (own_id_at r) driver → told ≡ descriptor_at run r
+by_driver run r driver told none is named =
+    named ∙ ap (rule_by r.index (own_id_at r)) is ∙ rule_of r (driver_of run)
+    ∙ ap (λ i. option_and_then (rule_at r) (component_by run i)) (sym none)
 
 extension_is : (tool : Option Data) (i : ℕ) → option_and_then (λ t. element_at (codes "extensions") t i) tool ≡ slice_get (extensions_of tool) i
 extension_is None i = sym (slice_get_past [] i (omega arith))
 extension_is (Some tool) i = refl
 
-rule_of_extension : (x : Data) (extension : Option Data)
-    → option_and_then (rule_in x) extension ≡ option_and_then (rule_by (rule_index x) (own_rule_id x)) (option_map rules_in extension)
-rule_of_extension x None = refl
-rule_of_extension x (Some extension) = refl
+rule_of_extension : (r : RuleReference) (extension : Option Data)
+    → option_and_then (rule_at r) extension ≡ option_and_then (rule_by r.index (own_id_at r)) (option_map rules_in extension)
+rule_of_extension r None = refl
+rule_of_extension r (Some extension) = refl
 
 -- for a result that names an extension
-pub by_extension : (run x : Data) (i : ℕ) (extensions : List (List Value)) (found : Option (List Value)) → extension_index x ≡ Some i
+pub by_extension : (run : Data) (r : RuleReference) (i : ℕ) (extensions : List (List Value)) (found : Option (List Value)) → r.extension ≡ Some i
     → map (map view) extensions ≡ map rules_in (extensions_of (get (codes "tool") run)) → found ≡ slice_get extensions i
-    → option_and_then (rule_by (rule_index x) (own_rule_id x)) (option_map (map view) found) ≡ descriptor_of run x
-by_extension run x i extensions found some are is =
+    → option_and_then (rule_by r.index (own_id_at r)) (option_map (map view) found) ≡ descriptor_at run r
+by_extension run r i extensions found some are is =
     let own = extensions_of (get (codes "tool") run) in
-    ap (λ o. option_and_then (rule_by (rule_index x) (own_rule_id x)) (option_map (map view) o)) is
-    ∙ ap (option_and_then (rule_by (rule_index x) (own_rule_id x))) (sym (slice_get-map (map view) extensions i) ∙ ap (λ rs. slice_get rs i) are ∙ slice_get-map rules_in own i)
-    ∙ sym (rule_of_extension x (slice_get own i))
-    ∙ ap (option_and_then (rule_in x)) (sym (extension_is (get (codes "tool") run) i))
-    ∙ ap (λ o. option_and_then (rule_in x) (component_by run o)) (sym some)
+    ap (λ o. option_and_then (rule_by r.index (own_id_at r)) (option_map (map view) o)) is
+    ∙ ap (option_and_then (rule_by r.index (own_id_at r))) (sym (slice_get-map (map view) extensions i) ∙ ap (λ rs. slice_get rs i) are ∙ slice_get-map rules_in own i)
+    ∙ sym (rule_of_extension r (slice_get own i))
+    ∙ ap (option_and_then (rule_at r)) (sym (extension_is (get (codes "tool") run) i))
+    ∙ ap (λ o. option_and_then (rule_at r) (component_by run o)) (sym some)

@@ -4,4 +4,5 @@ pub mod Brackets
 pub mod RulesOf
 pub mod ShownSoFar
 pub mod Subject
+pub mod Told
 pub mod Unlinked

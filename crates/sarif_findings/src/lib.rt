@@ -26,7 +26,7 @@ mod whole;
 
 pub use finding::Finding;
 pub use named_run::NamedRun;
-pub use reported_results::{TOLD_MEMBERS, finding_of};
+pub use reported_results::finding_of;
 pub use reporting::Reporting;
 pub use shown_text::{MOST_CHARACTERS, shown};
 pub use told_result::ToldResult;

@@ -2,10 +2,12 @@
 //! as missing.
 ghost use Rattle.std.specs.Prelude.{◌≡◌, map, option_map, option_and_then};
 ghost use Rattle.serde_json.specs.View.{view};
+ghost use Rattle.sarif_findings.specs.Located as located;
 ghost use Rattle.sarif_findings.specs.Lookup as said;
 ghost use Rattle.sarif_findings.specs.Internal.Subject.{IsDescribed};
 
 use crate::subject::Subject;
+use sarif_model::RuleReference;
 use serde_json::Value;
 
 /// The string `name` of an object.
@@ -41,40 +43,6 @@ fn element_at<'a>(value: &'a Value, name: &str, index: u64) -> Option<&'a Value>
     elements_in(value, name).get(index as usize)
 }
 
-/// `ruleId`, otherwise `rule.id`.
-pub(crate) fn own_rule_id(found: &Value) -> Option<&str>
-    ensures { option_map (λ s. s.now) result ≡ said.own_rule_id (view found.now) }
-{
-    match text_in(found, "ruleId") {
-        Some(id) => Some(id),
-        None => text_in(found.get("rule")?, "id"),
-    }
-}
-
-/// `rule.index`.
-fn index_of_rule(found: &Value) -> Option<u64>
-    ensures { result ≡ said.index_of_rule (view found.now) }
-{
-    number_in(found.get("rule")?, "index")
-}
-
-/// `rule.index`, otherwise `ruleIndex`.
-pub(crate) fn rule_index(found: &Value) -> Option<u64>
-    ensures { result ≡ said.rule_index (view found.now) }
-{
-    match index_of_rule(found) {
-        Some(index) => Some(index),
-        None => number_in(found, "ruleIndex"),
-    }
-}
-
-/// `rule.toolComponent.index`.
-pub(crate) fn extension_index(found: &Value) -> Option<u64>
-    ensures { result ≡ said.extension_index (view found.now) }
-{
-    number_in(found.get("rule")?.get("toolComponent")?, "index")
-}
-
 /// The driver of a run's tool.
 pub(crate) fn driver_of(run: &Value) -> Option<&Value>
     ensures { option_map (λ v. view v.now) result ≡ said.driver_of (view run.now) }
@@ -90,11 +58,11 @@ fn extension_at(run: &Value, index: u64) -> Option<&Value>
 }
 
 /// The tool component that a result's rule is looked up in.
-pub(crate) fn component_of<'a>(run: &'a Value, found: &Value) -> Option<&'a Value>
+pub(crate) fn component_of<'a>(run: &'a Value, rule: &RuleReference<'_>) -> Option<&'a Value>
     ensures { option_map (λ v. view v.now) result
-        ≡ said.component_of (view run.now) (view found.now) }
+        ≡ located.component_at (view run.now) rule.now }
 {
-    match extension_index(found) {
+    match rule.extension {
         None => driver_of(run),
         Some(index) => extension_at(run, index),
     }
@@ -104,7 +72,7 @@ pub(crate) fn component_of<'a>(run: &'a Value, found: &Value) -> Option<&'a Valu
 fn descriptor_id<'a>(subject: &Subject<'a>) -> Option<&'a str>
     requires { IsDescribed subject.now }
     ensures { option_map (λ s. s.now) result
-        ≡ said.descriptor_id (view subject.now.run.now) (view subject.now.found.now) }
+        ≡ located.descriptor_id_at (view subject.now.run.now) subject.now.told.now.rule }
 {
     text_in(subject.descriptor?, "id")
 }
@@ -112,9 +80,10 @@ fn descriptor_id<'a>(subject: &Subject<'a>) -> Option<&'a str>
 /// The result's own rule id, otherwise the id of its descriptor, otherwise the empty string.
 pub(crate) fn rule_id<'a>(subject: &Subject<'a>) -> &'a str
     requires { IsDescribed subject.now }
-    ensures { result.now ≡ said.rule_id (view subject.now.run.now) (view subject.now.found.now) }
+    ensures { result.now
+        ≡ located.rule_id_at (view subject.now.run.now) subject.now.told.now.rule }
 {
-    match own_rule_id(subject.found) {
+    match subject.told.rule.id {
         Some(id) => id,
         None => descriptor_id(subject).unwrap_or(""),
     }
@@ -124,7 +93,7 @@ pub(crate) fn rule_id<'a>(subject: &Subject<'a>) -> &'a str
 pub(crate) fn help_uri<'a>(subject: &Subject<'a>) -> Option<&'a str>
     requires { IsDescribed subject.now }
     ensures { option_map (λ s. s.now) result
-        ≡ said.help_uri (view subject.now.run.now) (view subject.now.found.now) }
+        ≡ located.help_uri_at (view subject.now.run.now) subject.now.told.now.rule }
 {
     text_in(subject.descriptor?, "helpUri")
 }

@@ -4,13 +4,14 @@ ghost use Rattle.std.specs.Bool.{OnTrue};
 ghost use Rattle.std.specs.List.{list_all};
 ghost use Rattle.serde_json.specs.Data.{Data};
 ghost use Rattle.serde_json.specs.View.{view};
+ghost use Rattle.sarif_findings.specs.Located as located;
 ghost use Rattle.sarif_findings.specs.Message as said;
 ghost use Rattle.sarif_findings.specs.Links.{is_unbracketed, unlinked};
 ghost use Rattle.sarif_findings.specs.Placeholders.{filled, is_unbraced};
 ghost use Rattle.sarif_findings.specs.Internal.ShownSoFar.{Takes};
 ghost use Rattle.sarif_findings.specs.Internal.Subject.{IsDescribed};
 
-use crate::lookup::{component_of, driver_of, elements_in, text_in};
+use crate::lookup::{component_of, driver_of, text_in};
 use crate::placeholders::{push_filled, push_unlinked};
 use crate::shown_text::ShownText;
 use crate::subject::Subject;
@@ -29,10 +30,10 @@ fn string_named<'a>(value: &'a Value, table: &str, name: &str) -> Option<&'a str
 fn strings_of<'a>(subject: &Subject<'a>) -> Option<&'a Value>
     requires { IsDescribed subject.now }
     ensures { option_map (λ v. view v.now) result
-        ≡ said.strings_of (view subject.now.run.now) (view subject.now.found.now) }
+        ≡ located.strings_at (view subject.now.run.now) subject.now.told.now.rule }
 {
     if subject.descriptor.is_some() {
-        component_of(subject.run, subject.found)
+        component_of(subject.run, &subject.told.rule)
     } else {
         driver_of(subject.run)
     }
@@ -42,7 +43,7 @@ fn strings_of<'a>(subject: &Subject<'a>) -> Option<&'a Value>
 fn own_string<'a>(subject: &Subject<'a>, name: &str) -> Option<&'a str>
     requires { IsDescribed subject.now }
     ensures { option_map (λ s. s.now) result
-        ≡ said.own_string (view subject.now.run.now) (view subject.now.found.now) name.now }
+        ≡ located.own_string_at (view subject.now.run.now) subject.now.told.now.rule name.now }
 {
     string_named(subject.descriptor?, "messageStrings", name)
 }
@@ -51,7 +52,7 @@ fn own_string<'a>(subject: &Subject<'a>, name: &str) -> Option<&'a str>
 fn shared_string<'a>(subject: &Subject<'a>, name: &str) -> Option<&'a str>
     requires { IsDescribed subject.now }
     ensures { option_map (λ s. s.now) result
-        ≡ said.shared_string (view subject.now.run.now) (view subject.now.found.now) name.now }
+        ≡ located.shared_string_at (view subject.now.run.now) subject.now.told.now.rule name.now }
 {
     string_named(strings_of(subject)?, "globalMessageStrings", name)
 }
@@ -60,7 +61,7 @@ fn shared_string<'a>(subject: &Subject<'a>, name: &str) -> Option<&'a str>
 fn looked_up<'a>(subject: &Subject<'a>, name: &str) -> Option<&'a str>
     requires { IsDescribed subject.now }
     ensures { option_map (λ s. s.now) result
-        ≡ said.looked_up (view subject.now.run.now) (view subject.now.found.now) name.now }
+        ≡ located.looked_up_at (view subject.now.run.now) subject.now.told.now.rule name.now }
 {
     match own_string(subject, name) {
         Some(text) => Some(text),
@@ -69,43 +70,24 @@ fn looked_up<'a>(subject: &Subject<'a>, name: &str) -> Option<&'a str>
 }
 
 /// The message's own text, otherwise the string that its id names.
-fn text_by<'a>(subject: &Subject<'a>, message: &'a Value) -> Option<&'a str>
-    requires { IsDescribed subject.now }
-    ensures { option_map (λ s. s.now) result
-        ≡ said.text_by (view subject.now.run.now) (view subject.now.found.now) (view message.now) }
-{
-    match text_in(message, "text") {
-        Some(text) => Some(text),
-        None => looked_up(subject, text_in(message, "id")?),
-    }
-}
-
-/// The message's text, where it has one.
 fn found_text<'a>(subject: &Subject<'a>) -> Option<&'a str>
     requires { IsDescribed subject.now }
     ensures { option_map (λ s. s.now) result
-        ≡ said.found_text (view subject.now.run.now) (view subject.now.found.now) }
+        ≡ located.text_at (view subject.now.run.now) subject.now.told.now }
 {
-    text_by(subject, subject.found.get("message")?)
+    match subject.told.message.text {
+        Some(text) => Some(text),
+        None => looked_up(subject, subject.told.message.id?),
+    }
 }
 
 /// The message's text with its placeholders, or the empty string.
 fn message_text<'a>(subject: &Subject<'a>) -> &'a str
     requires { IsDescribed subject.now }
     ensures { result.now
-        ≡ said.message_text (view subject.now.run.now) (view subject.now.found.now) }
+        ≡ located.message_text_at (view subject.now.run.now) subject.now.told.now }
 {
     found_text(subject).unwrap_or("")
-}
-
-/// The arguments of a result's message.
-fn arguments_of(found: &Value) -> &[Value]
-    ensures { map view result.now ≡ said.arguments_of (view found.now) }
-{
-    match found.get("message") {
-        Some(message) => elements_in(message, "arguments"),
-        None => &[],
-    }
 }
 
 /// Whether none of these bytes is a `[`.
@@ -187,9 +169,8 @@ pub(crate) fn push_message(
 ) -> Result<(), AllocError>
     requires { IsDescribed subject.now }
     ensures { OnOk result (Takes so_far.old so_far.new
-        (said.message_of (view subject.now.run.now) (view subject.now.found.now))) }
+        (located.message_at (view subject.now.run.now) subject.now.told.now)) }
 {
     let text = message_text(subject);
-    let args = arguments_of(subject.found);
-    push_read(alloc, so_far, args, text)
+    push_read(alloc, so_far, subject.told.arguments, text)
 }

@@ -3,6 +3,7 @@ ghost use Rattle.std.specs.Prelude.{◌≡◌, chars, codes, map, option_map, sl
 ghost use Rattle.std.specs.Option.{option_flatten};
 ghost use Rattle.serde_json.specs.Find.{get};
 ghost use Rattle.serde_json.specs.View.{view};
+ghost use Rattle.sarif_findings.specs.Located.{descriptor_at};
 ghost use Rattle.sarif_findings.specs.Lookup as said;
 ghost use Rattle.sarif_findings.specs.Reported.{tool_in};
 ghost use Rattle.sarif_findings.specs.Internal.RulesOf.{rules_in, rules_of, extensions_of};
@@ -11,11 +12,12 @@ ghost use Rattle.sarif_findings.specs.Shown.{shown};
 ghost use Rattle.sarif_findings.specs.Internal.Subject.{IsDescribed};
 
 use crate::artifacts::paths_of_artifacts;
-use crate::lookup::{driver_of, elements_in, extension_index};
+use crate::lookup::{driver_of, elements_in};
 use crate::rules::Rules;
 use crate::shown_text::shown_copy;
 use crate::subject::Subject;
-use sarif_model::{Text, driver_name};
+use crate::told_result::ToldResult;
+use sarif_model::{RuleReference, Text, driver_name};
 use serde_json::Value;
 use std::alloc::{AllocError, Global};
 use std::marker::Model;
@@ -143,28 +145,28 @@ impl<'r> NamedRun<'r> {
         path_at(self.artifacts.as_slice(), index)
     }
 
-    /// The descriptor of a result of the run. Takes no search through the rules.
-    fn descriptor_of(&self, found: &Value) -> Option<&'r Value>
+    /// The descriptor that a result of the run refers to. Takes no search through the rules.
+    fn descriptor_of(&self, rule: &RuleReference<'_>) -> Option<&'r Value>
         ensures { option_map (λ rule. view rule.now) result
-            ≡ said.descriptor_of (view self.now) (view found.now) }
+            ≡ descriptor_at (view self.now) rule.now }
     {
-        match extension_index(found) {
-            None => self.driver.named_by(found),
-            Some(index) => rules_at(self.extensions.as_slice(), index)?.named_by(found),
+        match rule.extension {
+            None => self.driver.named_by(rule),
+            Some(index) => rules_at(self.extensions.as_slice(), index)?.named_by(rule),
         }
     }
 
     /// A result, in this run.
-    pub(crate) fn subject<'s>(&'s self, found: &'s Value) -> Subject<'s>
+    pub(crate) fn subject<'s>(&'s self, told: &'s ToldResult<'s>) -> Subject<'s>
         ensures run { result.run.now ≡ self.now }
-        ensures found { result.found.now ≡ found.now }
+        ensures told { result.told.now ≡ told.now }
         ensures described { IsDescribed result }
     {
         let run = self.run;
-        let descriptor = self.descriptor_of(found);
+        let descriptor = self.descriptor_of(&told.rule);
         Subject {
             run,
-            found,
+            told,
             descriptor,
         }
     }

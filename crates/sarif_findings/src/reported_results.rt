@@ -1,7 +1,6 @@
 //! The finding of a result of a merged log that is reported.
 ghost use Rattle.std.specs.Prelude.{◌≡◌, IfOk, string_bytes};
-ghost use Rattle.sarif_findings.specs.Located.{finding_at};
-ghost use Rattle.sarif_findings.specs.Message.{message_of};
+ghost use Rattle.sarif_findings.specs.Located.{finding_at, help_at, message_at};
 ghost use Rattle.serde_json.specs.View.{view};
 ghost use Rattle.sarif_counts.specs.Policy.{severity as rank};
 ghost use Rattle.sarif_findings.specs.Shown.{shown as text_shown};
@@ -47,7 +46,7 @@ fn is_link(alloc: Global, uri: &str) -> Result<bool, AllocError>
 fn help_in(alloc: Global, subject: &Subject<'_>) -> Result<Option<Text>, AllocError>
     requires { IsDescribed subject.now }
     ensures { IfOk result
-        (λ o. o ≡ said.help_in (view subject.now.run.now) (view subject.now.found.now)) }
+        (λ o. o ≡ help_at (view subject.now.run.now) subject.now.told.now.rule) }
 {
     let Some(uri) = help_uri(subject) else {
         return Ok(None);
@@ -62,7 +61,7 @@ fn help_in(alloc: Global, subject: &Subject<'_>) -> Result<Option<Text>, AllocEr
 fn shown_message(alloc: Global, subject: &Subject<'_>) -> Result<String, AllocError>
     requires { IsDescribed subject.now }
     ensures { IfOk result (λ s. string_bytes s
-        ≡ text_shown (message_of (view subject.now.run.now) (view subject.now.found.now))) }
+        ≡ text_shown (message_at (view subject.now.run.now) subject.now.told.now)) }
 {
     let mut so_far = ShownText::new(alloc)?;
     push_message(alloc, &mut so_far, subject)?;
@@ -72,7 +71,7 @@ fn shown_message(alloc: Global, subject: &Subject<'_>) -> Result<String, AllocEr
 fn message_in(alloc: Global, subject: &Subject<'_>) -> Result<Text, AllocError>
     requires { IsDescribed subject.now }
     ensures { IfOk result (λ t. t ≡ said.or_no_message
-        (text_shown (message_of (view subject.now.run.now) (view subject.now.found.now)))) }
+        (text_shown (message_at (view subject.now.run.now) subject.now.told.now))) }
 {
     let message = shown_message(alloc, subject)?;
     if message.is_empty() {
@@ -80,9 +79,6 @@ fn message_in(alloc: Global, subject: &Subject<'_>) -> Result<Text, AllocError>
     }
     Text::from_string(message)
 }
-
-/// The members of a result that a finding depends on, besides its first location, its level and its state.
-pub const TOLD_MEMBERS: [&str; 4] = ["ruleId", "rule", "ruleIndex", "message"];
 
 /// Returns the finding of a result of a run that has this level and this baseline state. It doesn't read the run's
 /// results. Returns `AllocError` if memory runs out.
@@ -96,9 +92,9 @@ pub fn finding_of(
     state: State,
 ) -> Result<Finding, AllocError>
     ensures { IfOk result (λ finding. finding ≡ finding_at reporting.now (view run.now)
-        (view told.now.members.now) told.now.location level state) }
+        told.now level state) }
 {
-    let subject = run.subject(told.members);
+    let subject = run.subject(told);
     let tool = run.tool().clone()?;
     let rule = shown_copy(alloc, rule_id(&subject))?;
     let message = message_in(alloc, &subject)?;

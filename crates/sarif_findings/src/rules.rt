@@ -2,10 +2,12 @@
 ghost use Rattle.std.specs.Prelude.{◌≡◌, ℕ, List, Some, None, map, find, option_map, IfOk, OnOk, if◌then◌else◌};
 ghost use Rattle.std.specs.Option.{option_or};
 ghost use Rattle.serde_json.specs.View.{view};
+ghost use Rattle.sarif_findings.specs.Located.{own_id_at};
 ghost use Rattle.sarif_findings.specs.Lookup as said;
 ghost use Rattle.sarif_findings.specs.Internal.RulesOf.{rule_at};
 
-use crate::lookup::{own_rule_id, rule_index, text_in};
+use crate::lookup::text_in;
+use sarif_model::RuleReference;
 use serde_json::Value;
 use std::alloc::{AllocError, Global};
 use std::collections::BTreeMap;
@@ -78,15 +80,14 @@ impl<'r> Rules<'r> {
         Ok(Rules { list, first })
     }
 
-    /// The rule that a result names. Takes no search through the rules.
-    pub(crate) fn named_by(&self, found: &Value) -> Option<&'r Value>
-        ensures { option_map (λ rule. view rule.now) result ≡ said.rule_by
-            (said.rule_index (view found.now)) (said.own_rule_id (view found.now))
-            (map view self.now) }
+    /// The rule that a result refers to. Takes no search through the rules.
+    pub(crate) fn named_by(&self, reference: &RuleReference<'_>) -> Option<&'r Value>
+        ensures { option_map (λ rule. view rule.now) result ≡ said.rule_by reference.now.index
+            (own_id_at reference.now) (map view self.now) }
     {
-        match rule_index(found) {
+        match reference.index {
             Some(index) => self.list.get(index as usize),
-            None => self.first.get(own_rule_id(found)?).copied(),
+            None => self.first.get(reference.id?).copied(),
         }
     }
 }

@@ -11,7 +11,7 @@ use crate::lookup::{elements_in, text_in};
 use crate::named_run::NamedRun;
 use crate::reported_results::finding_of;
 use crate::reporting::Reporting;
-use crate::told_result::{ToldResult, first_location};
+use crate::told_result::told_of;
 use sarif_counts::is_suppressing;
 use sarif_model::{Level, State};
 use serde_json::Value;
@@ -62,10 +62,7 @@ fn finding_of_whole(
     ensures { IfOk result (λ finding. finding
         ≡ said.finding_of reporting.now (view run.now) (view found.now) level state) }
 {
-    let told = ToldResult {
-        members: found,
-        location: first_location(found),
-    };
+    let told = told_of(found);
     finding_of(alloc, reporting, run, &told, level, state)
 }
 

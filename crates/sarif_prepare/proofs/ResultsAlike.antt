@@ -1,4 +1,4 @@
--- A finding depends on four members of its result and on its first location, besides its level and its state.
+-- A finding depends on five members of its result, besides its level and its state.
 use Rattle.std.proofs.Common.{◌≡◌, ℕ, List, [], ◌∷◌, Option, Some, None, codes, refl, ap, ◌∙◌}
 use Rattle.std.specs.Prelude.{chars, is_some, option_and_then, unwrap_or, if◌then◌else◌}
 use Rattle.std.specs.Option.{option_or}
@@ -6,18 +6,12 @@ use Rattle.serde_json.specs.Data.{Data}
 use Rattle.serde_json.specs.Find.{get, as_str, as_array, as_number, as_u64}
 use Rattle.sarif_model.specs.declared.kinds.Level.{Level}
 use Rattle.sarif_model.specs.declared.kinds.State.{State}
-use Rattle.sarif_model.specs.declared.first_location.FirstLocation.{FirstLocation}
-use Rattle.sarif_model.specs.Internal.FirstLocation.{IsFirstLocation}
 use Rattle.sarif_model.specs.Members.{first_of}
-use Rattle.sarif_read.specs.Internal.Picked.{picked}
 use Rattle.sarif_model.specs.Run.{elements_or_none}
-use Rattle.sarif_read.proofs.PickedMembers.{picked_get}
 use Rattle.sarif_findings.specs.declared.reporting.Reporting.{Reporting}
 use Rattle.sarif_findings.specs.Lookup.{text_in, number_in, own_rule_id, index_of_rule, rule_index, component_by, component_of, driver_of, rule_by, rule_in, descriptor_of, descriptor_id, rule_id, elements_in, location_uri, physical_location, position_in, position_number}
 use Rattle.sarif_findings.specs.Message.{string_named, strings_of, own_string, shared_string, looked_up, text_by, message_of, arguments_in, arguments_of}
-use Rattle.sarif_findings.proofs.AtLocation as AtLocation
 use Rattle.sarif_findings.specs.Links.{unlinked}
-use Rattle.sarif_findings.specs.Located.{finding_at}
 use Rattle.sarif_findings.specs.Placeholders.{filled}
 use Rattle.sarif_findings.specs.Reported.{help_in, link_of, path_in, shown_path, finding_of}
 use Rattle.sarif_prepare.proofs.RunsAlike.{run_same, AreAlike}
@@ -134,37 +128,3 @@ pub same_told : (reporting : Reporting) (a b x y : Data) (level : Level) (state 
     → finding_of reporting a x level state ≡ finding_of reporting b y level state
 same_told reporting a b x y level state runs results =
     run_same reporting a b x level state runs ∙ result_same reporting b x y level state results
-
--- ---- the part of a result that a finding uses
-
-abbrev pub told_names : List (List ℕ)
-told_names = codes "ruleId" ∷ codes "rule" ∷ codes "ruleIndex" ∷ codes "message" ∷ []
-
-picked_alike : (x : Data) → AreNamedAlike (picked told_names x) x
-picked_alike x = record {
-  rule_id = picked_get (codes "ruleId") told_names x refl;
-  rule = picked_get (codes "rule") told_names x refl;
-  rule_index = picked_get (codes "ruleIndex") told_names x refl;
-  message = picked_get (codes "message") told_names x refl;
-}
-
-located_same : (reporting : Reporting) (run x y : Data) (location : FirstLocation) (level : Level) (state : State)
-    → AreNamedAlike x y → IsFirstLocation location y
-    → finding_at reporting run x location level state ≡ finding_of reporting run y level state
-unfolding finding_at finding_of
-located_same reporting run x y location level state same is =
-    rw (
-      id_same run x y same,
-      message_same run x y same,
-      AtLocation.column_same reporting run y location is,
-      AtLocation.line_same reporting run y location is,
-      AtLocation.path_same reporting run y location is,
-      help_same run x y same,
-    ) refl
-
--- a finding depends only on these members and on the first location
-pub told_members : (reporting : Reporting) (run x : Data) (location : FirstLocation) (level : Level) (state : State)
-    → IsFirstLocation location x
-    → finding_at reporting run (picked told_names x) location level state ≡ finding_of reporting run x level state
-told_members reporting run x location level state is =
-    located_same reporting run (picked told_names x) x location level state (picked_alike x) is

@@ -16,7 +16,7 @@ use crate::baselines::Baselines;
 use crate::halves::Half;
 use crate::left::absent_states;
 use crate::told::{Told, ToldRun};
-use sarif_findings::{Finding, NamedRun, Reporting, TOLD_MEMBERS, ToldResult, finding_of};
+use sarif_findings::{Finding, NamedRun, Reporting, ToldResult, finding_of};
 use sarif_model::State;
 use sarif_results::Draft;
 use sarif_runs::{OpenedRun, Spot, list_spots};
@@ -103,7 +103,7 @@ fn list_told<'l, 'w, 't, 'a>(
 }
 
 /// Returns the finding of one of them.
-#[tactic(auto, using(crate::proofs::ResultsAlike::told_members))]
+#[tactic(auto, using(sarif_findings::proofs::AtLocation::whole_at))]
 fn tell(
     alloc: Global,
     reporting: &Reporting,
@@ -112,9 +112,11 @@ fn tell(
     ensures { IfOk result (λ finding. finding ≡ told_by reporting.now told.now) }
 {
     let run = told.run;
-    let members = run.opened.picked(alloc, told.seq, &TOLD_MEMBERS)?;
+    let arguments = run.opened.message_arguments(alloc, told.seq)?;
     let result = ToldResult {
-        members: &members,
+        rule: run.opened.rule_reference(told.seq),
+        message: run.opened.message_reference(told.seq),
+        arguments: arguments.as_slice(),
         location: run.opened.first_location(told.seq),
     };
     let named = &run.named;

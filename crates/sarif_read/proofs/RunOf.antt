@@ -106,6 +106,10 @@ pub elements_items_of : (ds : List Data) → elements (items_of ds) ≡ ds
 elements_items_of [] = refl
 elements_items_of (d ∷ ds) = ap (λ es. d ∷ es) (elements_items_of ds)
 
+-- the elements of an array that was found
+pub elements_found : (values each : List Data) (found : Option Items) → values ≡ each → Some (items_of each) ≡ found → values ≡ elements_or_none found
+elements_found values each found are is = are ∙ sym (elements_items_of each) ∙ ap elements_or_none is
+
 pub listed_values : (listed : Listed) → elements_or_none (option_and_then as_array (listed_member listed)) ≡ map value_at (nodes_of listed)
 listed_values Missing = refl
 listed_values Null = refl

@@ -9,10 +9,12 @@ mod indexing;
 mod laws;
 mod listed;
 mod location;
+mod members;
 mod nodes;
 mod picking;
 mod read_fault;
 mod reading;
+mod references;
 mod success;
 mod whole;
 

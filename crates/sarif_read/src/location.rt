@@ -5,7 +5,8 @@ ghost use Rattle.sarif_model.specs.Internal.FirstLocation as said;
 ghost use Rattle.sarif_model.specs.Internal.FirstLocation.{IsFirstLocation};
 ghost use Rattle.sarif_read.specs.Internal.Listed.{value_at};
 
-use crate::nodes::{first_element, integer_member, kept_member, text_of};
+use crate::members::{integer_in, member_in, string_in};
+use crate::nodes::{first_element, kept_member};
 use json_parts::Node;
 use sarif_model::FirstLocation;
 
@@ -19,38 +20,6 @@ fn physical_location<'t, 'a>(found: &Node<'t, 'a>) -> Option<Node<'t, 'a>>
     kept_member(&first, "physicalLocation")
 }
 
-/// The member of that name.
-#[tactic(auto, using(crate::proofs::PickedMembers::data_ordered))]
-fn member_in<'t, 'a>(found: &Option<Node<'t, 'a>>, name: &str) -> Option<Node<'t, 'a>>
-    ensures { option_map value_at result
-        ≡ option_and_then (get name.now) (option_map value_at found.now) }
-{
-    match found {
-        Some(node) => kept_member(node, name),
-        None => None,
-    }
-}
-
-/// The string of that name.
-fn text_in<'a>(found: &Option<Node<'_, 'a>>, name: &str) -> Option<&'a str>
-    ensures { option_map (λ text. text.now) result
-        ≡ said.string_in name.now (option_map value_at found.now) }
-{
-    text_of(&member_in(found, name)?)
-}
-
-/// The integer of that name, which is at least 0.
-#[tactic(auto, using(crate::proofs::PickedMembers::data_ordered))]
-fn number_in(found: &Option<Node<'_, '_>>, name: &str) -> Option<u64>
-    ensures { result
-        ≡ said.integer_in name.now (option_map value_at found.now) }
-{
-    match found {
-        Some(node) => integer_member(node, name),
-        None => None,
-    }
-}
-
 /// What reports show of the first location of a result.
 pub(crate) fn location_in<'a>(found: &Node<'_, 'a>) -> FirstLocation<'a>
     ensures { IsFirstLocation result (value_at found.now) }
@@ -59,9 +28,9 @@ pub(crate) fn location_in<'a>(found: &Node<'_, 'a>) -> FirstLocation<'a>
     let artifact = member_in(&physical, "artifactLocation");
     let region = member_in(&physical, "region");
     FirstLocation {
-        uri: text_in(&artifact, "uri"),
-        artifact: number_in(&artifact, "index"),
-        line: number_in(&region, "startLine"),
-        column: number_in(&region, "startColumn"),
+        uri: string_in(&artifact, "uri"),
+        artifact: integer_in(&artifact, "index"),
+        line: integer_in(&region, "startLine"),
+        column: integer_in(&region, "startColumn"),
     }
 }

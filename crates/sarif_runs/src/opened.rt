@@ -11,7 +11,7 @@ use crate::head::RunHead;
 use crate::item::Item;
 use crate::making::{copy_tool_name, make_record_of};
 use crate::open::open_value;
-use sarif_model::{Fault, FirstLocation, Refusal, Source, Text};
+use sarif_model::{Fault, FirstLocation, MessageReference, Refusal, RuleReference, Source, Text};
 use sarif_read::IndexedRun;
 use serde_json::Value;
 use std::alloc::{AllocError, Global};
@@ -58,6 +58,8 @@ impl<'t, 'a> OpenedRun<'t, 'a> {
     ghost use Rattle.sarif_read.specs.Failed.{failed};
     ghost use Rattle.sarif_read.specs.Internal.Picked.{picked};
     ghost use Rattle.sarif_model.specs.Internal.FirstLocation.{IsFirstLocation};
+    ghost use Rattle.sarif_model.specs.Internal.References as said;
+    ghost use Rattle.sarif_model.specs.Internal.References.{IsMessageReference, IsRuleReference};
     ghost use Rattle.sarif_model.specs.Run.{result_at, results_array, results_of};
 
     /// Opens run `number` of a source, which holds no number with a fraction. The tables of its head hash with
@@ -190,6 +192,32 @@ impl<'t, 'a> OpenedRun<'t, 'a> {
         ensures { IsFirstLocation result (result_at (placed_of self.now).run seq) }
     {
         self.run.first_location(seq)
+    }
+
+    /// How result `seq` of the run, numbered from 0, refers to its rule.
+    pub fn rule_reference(&self, seq: u32) -> RuleReference<'a>
+        requires { seq < length (results_of (placed_of self.now).run) }
+        ensures { IsRuleReference result (result_at (placed_of self.now).run seq) }
+    {
+        self.run.rule_reference(seq)
+    }
+
+    /// How result `seq` of the run, numbered from 0, refers to the text of its message.
+    pub fn message_reference(&self, seq: u32) -> MessageReference<'a>
+        requires { seq < length (results_of (placed_of self.now).run) }
+        ensures { IsMessageReference result (result_at (placed_of self.now).run seq) }
+    {
+        self.run.message_reference(seq)
+    }
+
+    /// The arguments of the message of result `seq` of the run, numbered from 0. Returns `AllocError` if memory for
+    /// them runs out.
+    pub fn message_arguments(&self, alloc: Global, seq: u32) -> Result<Vec<Value>, AllocError>
+        requires { seq < length (results_of (placed_of self.now).run) }
+        ensures { IfOk result (λ values. map view values.items
+            ≡ said.arguments_in (result_at (placed_of self.now).run seq)) }
+    {
+        self.run.message_arguments(alloc, seq)
     }
 
     /// The run without its results, taken out.
