@@ -1,5 +1,5 @@
 -- The members that are kept, as a map that is filled one by one.
-use Rattle.std.proofs.Common.{◌≡◌, ℕ, List, [], ◌∷◌, ◌++◌, Option, Some, None, option_map, Bool, true, false, cond, ◌||◌, if◌then◌else◌, bytes_eq, Ordering, Less, Equal, Greater, is_eq, string_bytes, refl, sym, ap, ◌∙◌, subst}
+use Rattle.std.proofs.Common.{◌≡◌, ℕ, suc, ◌+◌, ◌*◌, ◌≤◌, ◌<◌, List, [], ◌∷◌, ◌++◌, Option, Some, None, option_map, Bool, true, false, cond, ◌||◌, if◌then◌else◌, bytes_eq, Ordering, Less, Equal, Greater, is_eq, string_bytes, refl, sym, ap, ◌∙◌, subst, arith}
 use Rattle.std.proofs.lemmas.Map.Text.{is_eq-slice_cmp}
 use Rattle.std.proofs.lemmas.Slice.Eq.{bytes_eq-Decides}
 use Rattle.std.specs.BTreeMap.{is_at}
@@ -131,6 +131,12 @@ items_before_one (w ∷ vs) v rest = ap (item (view w)) (items_before_one vs v r
 pub items_before_none : (vs : List Value) → items_before vs no_items ≡ items_view vs
 items_before_none [] = refl
 items_before_none (v ∷ vs) = ap (item (view v)) (items_before_none vs)
+
+-- ---- calls for what is in a value
+
+-- the call for the value of an element or of a member is below the call for what has it
+pub inner_call_below : (n inner outer bound : ℕ) → outer ≡ suc n → inner ≤ n → 2 * outer ≡ bound → 2 * inner + 1 < bound
+inner_call_below n inner outer bound deeper within is = omega (arith, deeper, within, is)
 
 -- ---- an object that was made
 

@@ -5,6 +5,8 @@ use Rattle.std.proofs.lemmas.Bool.{OnFalse_at}
 use Rattle.std.proofs.lemmas.List.{length-map}
 use Rattle.sarif_gather.specs.declared.piece.Parcel.{Parcel}
 use Rattle.sarif_gather.specs.declared.mailbox.Mailbox.{Mailbox}
+use Rattle.sarif_gather.specs.declared.mailbox.ends.Post.{Post}
+use Rattle.sarif_gather.specs.declared.deal.hand.Hand.{Hand}
 use Rattle.sarif_gather.specs.declared.deal.state.Deal.{Deal}
 use Rattle.sarif_gather.specs.declared.gathering.Gathered.{Gathered}
 use Rattle.sarif_gather.specs.declared.gathering.worker.Back.{Back}
@@ -51,7 +53,7 @@ module _ {T C : Type 0} (count : ℕ → ℕ) (item : ℕ → ℕ → T) (end : 
   sent k b at = let e = gathered.each k b at in OnFalse_at e.1 e.0.all
 
   -- some hand is marked
-  pub marked : 0 < workers → (b : Back (Parcel T C)) × (slice_get (map (λ b. b.hand) g.backs.items) 0 ≡ Some b.hand) × (is_marked b.hand ≡ true)
+  marked : 0 < workers → (b : Back (Parcel T C)) × (slice_get (map (λ b. b.hand) g.backs.items) 0 ≡ Some b.hand) × (is_marked b.hand ≡ true)
   marked some = let b = at_below g.backs.items 0 (let n = gathered.backs in omega arith) in (b.0, into_mapped (λ (b : Back (Parcel T C)). b.hand) g.backs.items 0 b.0 b.1, (sent 0 b.0 b.1).0)
 
   module _ (left : List (ℕ × Parcel T C)) (senders : mailbox.senders ≡ workers) (arrived : AreWhole mailbox (map (λ b. b.post) g.backs.items) (taken_by g.desk ++ left))
@@ -83,5 +85,18 @@ module _ {T C : Type 0} (count : ℕ → ℕ) (item : ℕ → ℕ → T) (end : 
     }
 
     -- so the collector has each run closed, with its items and its tail
-    pub collected : g.collector ≡ map closed_run (lists_of count item end runs)
+    collected : g.collector ≡ map closed_run (lists_of count item end runs)
     collected = gathered.collected ∙ held_whole count item end runs (map (λ b. drawn_by b.hand) g.backs.items) (taken_by g.desk) honest
+
+  -- the collector once the mailbox and the deal are settled
+  pub all_collected : (left : List (ℕ × Parcel T C)) (posts : List (Post (Parcel T C))) (hands : List Hand) (dealt : ℕ)
+      → 0 < workers → mailbox.senders ≡ workers → posts ≡ map (λ b. b.post) g.backs.items → hands ≡ map (λ b. b.hand) g.backs.items
+      → AreWhole mailbox posts (taken_by g.desk ++ left)
+      → ((i : ℕ) (hand : Hand) → slice_get hands i ≡ Some hand → is_marked hand ≡ true → dealt ≡ runs)
+      → ((run : ℕ) → total (λ h. times run (drawn_by h)) hands ≡ once_below run dealt)
+      → g.collector ≡ map closed_run (lists_of count item end runs)
+  all_collected left posts hands dealt some senders posts_are hands_are whole full drawn =
+      let one = marked some in
+      let all : dealt ≡ runs = full 0 one.0.hand (ap (λ l. slice_get l 0) hands_are ∙ one.1) one.2 in
+      collected left senders (subst (λ (l : List (Post (Parcel T C))). AreWhole mailbox l (taken_by g.desk ++ left)) posts_are whole)
+          (λ run. ap (total (λ h. times run (drawn_by h))) (sym hands_are) ∙ drawn run ∙ ap (once_below run) all)

@@ -1,49 +1,39 @@
 -- What stripping leaves of a value's kind.
 use Rattle.std.proofs.Common.{◌≡◌, ℕ, Bool, if◌then◌else◌, List, [], ◌∷◌, map, true, false, Option, Some, None, is_some, option_map, refl, sym, ap, ◌∙◌}
 use Rattle.json.specs.Token.{Token}
-use Rattle.serde_json.specs.Data.{Data, Num, unsigned, negative, float, null, boolean, number, string, array, object, Items, no_items, item}
+use Rattle.serde_json.specs.Data.{Data, Num, unsigned, negative, float, null, boolean, number, string, array, object, Items, no_items, item, Members}
 use Rattle.serde_json.specs.Find.{get, as_null, as_str, as_number, as_u64, as_array, as_object}
 use Rattle.serde_json.specs.View.{items_of}
 use Rattle.std.specs.Prelude.{option_and_then}
 use Rattle.json_parts.specs.Indexed.{data_of, first_element}
 use Rattle.json_parts.specs.Internal.Ordered.{IsOrdered, AreItemsOrdered}
-use Rattle.json_parts.specs.Stripping.{is_fractional, stripped, stripped_items}
+use Rattle.json_parts.specs.Stripping.{is_fractional, stripped, stripped_items, stripped_members}
 use Rattle.json_parts.proofs.Stripped.{get-stripped, get-IsOrdered}
 use Rattle.sarif_model.specs.Members.{first_of, elements}
 use Rattle.sarif_model.specs.Run.{elements_or_none}
 use Rattle.sarif_read.specs.Internal.Listed.{value_at, AreOrdered}
 
+-- a property of a value is that of the stripped value if all arrays have the same one, and so have all objects
+same_property : {A : Type 0} (property : Data → A) → ((ds es : Items) → property (array ds) ≡ property (array es)) → ((ms ns : Members) → property (object ms) ≡ property (object ns))
+    → (d : Data) → property (stripped d) ≡ property d
+same_property property arrays objects null = refl
+same_property property arrays objects (boolean b) = refl
+same_property property arrays objects (number n) = refl
+same_property property arrays objects (string s) = refl
+same_property property arrays objects (array ds) = arrays (stripped_items ds) ds
+same_property property arrays objects (object ms) = objects (stripped_members ms) ms
+
 pub same_null : (d : Data) → is_some (as_null (stripped d)) ≡ is_some (as_null d)
-same_null null = refl
-same_null (boolean b) = refl
-same_null (number n) = refl
-same_null (string s) = refl
-same_null (array ds) = refl
-same_null (object ms) = refl
+same_null = same_property (λ d. is_some (as_null d)) (λ ds es. refl) (λ ms ns. refl)
 
 pub same_text : (d : Data) → as_str (stripped d) ≡ as_str d
-same_text null = refl
-same_text (boolean b) = refl
-same_text (number n) = refl
-same_text (string s) = refl
-same_text (array ds) = refl
-same_text (object ms) = refl
+same_text = same_property as_str (λ ds es. refl) (λ ms ns. refl)
 
 pub same_object : (d : Data) → is_some (as_object (stripped d)) ≡ is_some (as_object d)
-same_object null = refl
-same_object (boolean b) = refl
-same_object (number n) = refl
-same_object (string s) = refl
-same_object (array ds) = refl
-same_object (object ms) = refl
+same_object = same_property (λ d. is_some (as_object d)) (λ ds es. refl) (λ ms ns. refl)
 
 pub same_number : (d : Data) → as_number (stripped d) ≡ as_number d
-same_number null = refl
-same_number (boolean b) = refl
-same_number (number n) = refl
-same_number (string s) = refl
-same_number (array ds) = refl
-same_number (object ms) = refl
+same_number = same_property as_number (λ ds es. refl) (λ ms ns. refl)
 
 pub same_array : (d : Data) → as_array (stripped d) ≡ option_map stripped_items (as_array d)
 same_array null = refl
@@ -95,7 +85,7 @@ kept_in k d e ordered is fraction = sym (get-stripped k d ordered ∙ rw (← is
 pub kept_ordered : (k : List ℕ) (d e : Data) → IsOrdered d → Some e ≡ get k d → IsOrdered e
 kept_ordered k d e ordered is = get-IsOrdered k d e ordered (sym is)
 
--- ---- an integer member: a number that stripping leaves out is none, so that nobody asks whether it is whole
+-- ---- an integer member: stripping leaves out no integer, so what is read before stripping is the same after it
 
 abbrev pub integer_at : Option Data → Option ℕ
 integer_at found = option_and_then as_u64 (option_and_then as_number found)

@@ -1,8 +1,7 @@
 -- Which rejections of a merge say that a read or a write failed, and how many calls failed.
-use Rattle.std.specs.Prelude.{◌≡◌, ◌≤◌, ℕ, List, [], ◌∷◌, ⊤, Bool, false, Result, Ok, Err}
+use Rattle.std.specs.Prelude.{◌≤◌, ℕ, List, [], ◌∷◌, ⊤, Bool, false, Result, Ok, Err}
 use Rattle.std.specs.List.{sum_by}
 use Rattle.sarif_streams.specs.declared.counted.Counted.{Counted}
-use Rattle.sarif_model.specs.declared.merge_fault.Cause.TheVariants.{ReadFailed}
 use Rattle.sarif_streams.specs.declared.readers.ReadersFault.{ReadersFault}
 use Rattle.sarif_streams.specs.Counted.{failed_calls}
 use Rattle.sarif_streams.specs.Source.{is_failed_read}

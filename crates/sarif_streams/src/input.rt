@@ -1,9 +1,10 @@
 //! Where a source is read from, and what is kept of it for an explanation.
-ghost use Rattle.std.specs.Prelude.{◌≡◌, None};
+ghost use Rattle.std.specs.Prelude.{◌≡◌, ◌<◌, None, Ok, IfOk, OnErr, length};
 ghost use Rattle.std.specs.Io.{ReadsAtMost};
-ghost use Rattle.std.specs.Io.KnownBytes.{ReadConsumes};
-ghost use Rattle.sarif_streams.specs.Internal.Given.{InputGivesAs};
+ghost use Rattle.std.specs.Io.KnownBytes.{IsAtEnd, ReadConsumes};
+ghost use Rattle.sarif_streams.specs.Internal.Given.{InputGivesAs, OfInputs};
 ghost use Rattle.sarif_streams.specs.Named.{channel_named, input_channel};
+ghost use Rattle.sarif_streams.specs.declared.files.Stage.TheVariants.{Open, Ended};
 
 use crate::files::InputFile;
 use crate::streams::STANDARD;
@@ -39,6 +40,19 @@ impl<R: Files, I: Read> Read for Input<'_, R, I> {
         // What it gives is what the file or the stream gave.
         ensures given { InputGivesAs R.File.remaining I.remaining self.old self.new
             result buf.new }
+        // The rest is what `InputFile::read` says of a file.
+        ensures name { OfInputs (λ old new. new.name.now ≡ old.name.now) self.old self.new }
+        ensures open { IfOk result (λ n. 0 < n → OfInputs
+            (λ old new. (file : _) × (new.stage ≡ Open file)) self.old self.new) }
+        ensures closed { IfOk result (λ n. n ≡ 0 → OfInputs
+            (λ old new. new.stage ≡ Ended) self.old self.new) }
+        ensures failed { OnErr result (OfInputs
+            (λ old new. new.stage ≡ Ended → ⊥) self.old self.new) }
+        ensures ended { OfInputs (λ old new. old.stage ≡ Ended → result ≡ Ok 0)
+            self.old self.new }
+        ensures whole { OfInputs (λ old new. (file : _) → old.stage ≡ Open file → IfOk result
+            (λ n. n ≡ 0 → 0 < length buf.old → IsAtEnd (R.File.remaining file)))
+            self.old self.new }
     {
         match self {
             Input::File(file) => file.read(buf),

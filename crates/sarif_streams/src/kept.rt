@@ -1,8 +1,8 @@
 //! What is kept of a source or an output for an explanation.
-ghost use Rattle.std.specs.Prelude.{◌≡◌};
+ghost use Rattle.std.specs.Prelude.{◌≡◌, Some, None, IfOk, IfErr, OnOk, OnErr, option_map, take};
 ghost use Rattle.std.specs.Io.{ReadsAtMost, WritesAtMost};
 ghost use Rattle.std.specs.Io.KnownBytes.{Keeps, ReadConsumes, WriteAppends};
-ghost use Rattle.sarif_streams.specs.Internal.Kept.{kept_in};
+ghost use Rattle.sarif_streams.specs.Internal.Kept.{KeepsMore, bytes_or_none, kept_bytes, kept_in};
 
 use std::io::{self, Read, Write};
 
@@ -18,7 +18,9 @@ pub struct Kept<D> {
 impl<D> Kept<D> {
     /// Keeps the bytes that are read in `bytes`, if it is there; otherwise only the last error.
     pub fn new(inner: D, bytes: Option<Vec<u8>>) -> Kept<D>
-        ensures { kept_in result ≡ inner }
+        ensures inner { kept_in result ≡ inner }
+        ensures bytes { kept_bytes result ≡ option_map (λ v. v.items) bytes }
+        ensures error { result.error ≡ None }
     {
         Kept {
             inner,
@@ -28,7 +30,9 @@ impl<D> Kept<D> {
     }
 
     /// What was read and kept.
-    pub fn bytes(&self) -> &[u8] {
+    pub fn bytes(&self) -> &[u8]
+        ensures { result.now ≡ bytes_or_none (kept_bytes self.now) }
+    {
         match &self.bytes {
             Some(bytes) => bytes.as_slice(),
             None => &[],
@@ -36,13 +40,17 @@ impl<D> Kept<D> {
     }
 
     /// What the last failed call said.
-    pub fn error(&self) -> Option<io::Error> {
+    pub fn error(&self) -> Option<io::Error>
+        ensures { result ≡ self.now.error }
+    {
         self.error
     }
 
     /// Keeps bytes, if requested. If memory runs out, nothing is kept any more.
     fn keep(&mut self, bytes: &[u8])
-        ensures { kept_in self.new ≡ kept_in self.old }
+        ensures inner { kept_in self.new ≡ kept_in self.old }
+        ensures more { KeepsMore (kept_bytes self.old) (kept_bytes self.new) bytes.now }
+        ensures error { self.new.error ≡ self.old.error }
     {
         let is_full = match &mut self.bytes {
             Some(kept) => kept.extend_from_slice(bytes).is_err(),
@@ -63,6 +71,13 @@ impl<D: Read> Read for Kept<D> {
         ensures bound { ReadsAtMost result buf.new }
         ensures bytes { ReadConsumes (D.remaining (kept_in self.old))
             (D.remaining (kept_in self.new)) result buf.new }
+        // What was read is kept after what was kept before, if there is memory.
+        ensures kept { IfOk result
+            (λ n. KeepsMore (kept_bytes self.old) (kept_bytes self.new) (take n buf.new)) }
+        ensures same { OnErr result (self.new.bytes ≡ self.old.bytes) }
+        // The last error is kept.
+        ensures failed { IfErr result (λ error. self.new.error ≡ Some error) }
+        ensures quiet { OnOk result (self.new.error ≡ self.old.error) }
     {
         match self.inner.read(buf) {
             Ok(taken) => {
@@ -86,6 +101,10 @@ impl<D: Write> Write for Kept<D> {
         ensures bound { WritesAtMost result buf.now }
         ensures bytes { WriteAppends (D.contents (kept_in self.old))
             (D.contents (kept_in self.new)) result buf.now }
+        ensures same { self.new.bytes ≡ self.old.bytes }
+        // The last error is kept.
+        ensures failed { IfErr result (λ error. self.new.error ≡ Some error) }
+        ensures quiet { OnOk result (self.new.error ≡ self.old.error) }
     {
         match self.inner.write(buf) {
             Ok(taken) => Ok(taken),
@@ -98,6 +117,8 @@ impl<D: Write> Write for Kept<D> {
 
     fn flush(&mut self) -> io::Result<()>
         ensures bytes { Keeps (D.contents (kept_in self.old)) (D.contents (kept_in self.new)) }
+        ensures same { self.new.bytes ≡ self.old.bytes }
+        ensures error { self.new.error ≡ self.old.error }
     {
         self.inner.flush()
     }

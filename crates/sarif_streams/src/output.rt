@@ -118,6 +118,8 @@ impl<R: Files> Write for OutputFile<'_, R, R::File> {
         ensures bound { WritesAtMost result buf.now }
         ensures bytes { WriteAppends None None result buf.now }
         ensures place { self.new.place ≡ self.old.place }
+        // If there are bytes, it accepts at least one or fails.
+        ensures some { IfOk result (λ n. 0 < length buf.now → 0 < n) }
         // Only an open file accepts bytes.
         ensures open { IfOk result (λ n. 0 < n → IsSome (file_of self.new.writing)) }
         // Forwards what the file accepted.

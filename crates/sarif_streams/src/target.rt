@@ -1,9 +1,11 @@
 //! Where an output goes: a file, or a standard stream.
-ghost use Rattle.std.specs.Prelude.{◌≡◌, None, IfOk};
+ghost use Rattle.std.specs.Prelude.{◌≡◌, ◌<◌, None, IfOk, IsErr, IsOk, IsSome, OnErr, length};
 ghost use Rattle.std.specs.Io.{WritesAtMost};
 ghost use Rattle.std.specs.Io.KnownBytes.{Keeps, WriteAppends};
 ghost use Rattle.sarif_streams.specs.Named.{channel_named, target_channel};
-ghost use Rattle.sarif_streams.specs.Internal.Taken.{TargetTakesAs, console_held};
+ghost use Rattle.sarif_streams.specs.Internal.Taken.{OfOutputs, TargetTakesAs, console_held};
+ghost use Rattle.sarif_streams.specs.Internal.Writing.{file_of};
+ghost use Rattle.sarif_streams.specs.declared.output.Writing.TheVariants.{Unopened, Over};
 
 use crate::output::OutputFile;
 use crate::place::Place;
@@ -48,6 +50,18 @@ impl<R: Files, O: Write> Write for Target<'_, R, O> {
         // What it takes is what the file or the stream took.
         ensures handed { TargetTakesAs R.File.contents O.contents self.old self.new
             result buf.now }
+        // The rest is what `OutputFile::write` says of a file.
+        ensures place { OfOutputs (λ old new. new.place ≡ old.place) self.old self.new }
+        ensures some { IfOk result (λ n. 0 < length buf.now → OfOutputs
+            (λ old new. 0 < n) self.old self.new) }
+        ensures open { IfOk result (λ n. 0 < n → OfOutputs
+            (λ old new. IsSome (file_of new.writing)) self.old self.new) }
+        ensures failed { OnErr result (OfOutputs
+            (λ old new. new.writing ≡ Over) self.old self.new) }
+        ensures spent { OfOutputs (λ old new. old.writing ≡ Over → IsErr result)
+            self.old self.new }
+        ensures ended { length buf.now ≡ 0 → OfOutputs
+            (λ old new. new.writing ≡ Over) self.old self.new }
     {
         match self {
             Target::File(file) => file.write(buf),
@@ -57,6 +71,10 @@ impl<R: Files, O: Write> Write for Target<'_, R, O> {
 
     fn flush(&mut self) -> io::Result<()>
         ensures bytes { Keeps None None }
+        // The rest is what `OutputFile::flush` says of a file.
+        ensures place { OfOutputs (λ old new. new.place ≡ old.place) self.old self.new }
+        ensures unopened { OfOutputs (λ old new. old.writing ≡ Unopened
+            → IsOk result × (new.writing ≡ Unopened)) self.old self.new }
     {
         match self {
             Target::File(file) => file.flush(),

@@ -1,6 +1,7 @@
 -- What a source gives at a read: what the file or the stream gave that it reads. `left` is what a file has left.
-use Rattle.std.specs.Prelude.{◌≡◌, ℕ, List, Option, Result, Ok, IsErr}
+use Rattle.std.specs.Prelude.{◌≡◌, ℕ, List, Option, Result, Ok, IsErr, ⊤}
 use Rattle.std.specs.Io.KnownBytes.{ReadConsumes}
+use Rattle.sarif_streams.specs.declared.files.InputFile.{InputFile}
 use Rattle.sarif_streams.specs.declared.files.Stage.{Stage}
 use Rattle.sarif_streams.specs.declared.files.Stage.TheVariants.{Unopened, Open, Ended}
 use Rattle.sarif_streams.specs.declared.input.Input.{Input}
@@ -30,3 +31,11 @@ InputGivesAs left rest (File old) (Standard new) r buf = ⊥
 InputGivesAs left rest (Standard old) (File new) r buf = ⊥
 InputGivesAs left rest (Standard old) (Standard new) r buf =
     ReadConsumes (rest old) (rest new) r buf
+
+-- this is said of the files that a source reads before and after a read; a standard stream stays one
+abbrev pub OfInputs : {R I F D : Type 0} → (InputFile R F D → InputFile R F D → Type 0)
+    → Input R I F D → Input R I F D → Type 0
+OfInputs said (File old) (File new) = said old new
+OfInputs said (File old) (Standard new) = ⊥
+OfInputs said (Standard old) (File new) = ⊥
+OfInputs said (Standard old) (Standard new) = ⊤

@@ -1,12 +1,12 @@
-use Rattle.std.proofs.Common.{rules, ◌≡◌, ◌*◌, ◌<◌, true, false, Some, option_map, string_bytes, sym, ap, ◌∙◌, arith}
+use Rattle.std.proofs.Common.{rules, ◌≡◌, true, false, Some, option_map, string_bytes, sym, ap, ◌∙◌}
 use Rattle.serde_json.specs.Data.{object, item, put}
 use Rattle.serde_json.specs.Find.{as_array, as_object}
 use Rattle.serde_json.specs.View.{view, members_view}
 use Rattle.serde_json.proofs.Views.{view-Object, members_view-insert_entry}
 use Rattle.json_parts.specs.Indexed.{data_of}
 use Rattle.json_parts.specs.Stripping.{stripped, stripped_items}
-use Rattle.json_parts.specs.Internal.Walking.{depth_of, put_all, is_left_out, kept_members}
-use Rattle.json_parts.proofs.Kept.{items_before, items_before_one, items_before_none, removed, view-removed, put_kept, put_left, object_made}
+use Rattle.json_parts.specs.Internal.Walking.{put_all, is_left_out, kept_members}
+use Rattle.json_parts.proofs.Kept.{inner_call_below, items_before, items_before_one, items_before_none, removed, view-removed, put_kept, put_left, object_made}
 use Rattle.json_parts.proofs.Order.{ordered_put}
 use Rattle.json_parts.proofs.making.+making.Goals as goal
 
@@ -14,9 +14,7 @@ pub make_array-make_value-requires : goal.make_array-make_value-requires
 make_array-make_value-requires t c =
     let l = c.items.invariant in
     let f = c.in-Some-next_element.ensures.value l.0 l.1 l.2 in
-    let d : depth_of c.in-Some-next_element.element < depth_of c.args.node.now = omega (arith, l.3, f.2) in
-    let h : 2 * depth_of c.args.node.now ≡ t = search rules in
-    (omega (arith, d, h), tt)
+    (inner_call_below _ _ _ _ l.3 f.2 (search rules), tt)
 
 pub make_array-items-preserved : goal.make_array-items-preserved
 make_array-items-preserved t c =
@@ -63,9 +61,7 @@ pub make_object-make_value-requires : goal.make_object-make_value-requires
 make_object-make_value-requires t c =
     let l = c.members.invariant in
     let f = c.in-Some-next_member.ensures.value l.0 l.1 l.2 in
-    let d : depth_of c.in-Some-next_member.member < depth_of c.args.node.now = omega (arith, l.3, f.2) in
-    let h : 2 * depth_of c.args.node.now ≡ t = search rules in
-    (omega (arith, d, h), tt)
+    (inner_call_below _ _ _ _ l.3 f.2 (search rules), tt)
 
 pub make_object-members-preserved : goal.make_object-members-preserved
 make_object-members-preserved t c =

@@ -1,14 +1,12 @@
-use Rattle.std.proofs.Common.{◌≡◌, ◌++◌, ℕ, List, map, replicate, Some, None, sym, ap, ◌∙◌, subst, arith}
-use Rattle.std.specs.Prelude.{slice_get}
+use Rattle.std.proofs.Common.{◌≡◌, List, replicate, Some, None, sym, ap, ◌∙◌, subst, arith}
 use Rattle.sarif_gather.specs.declared.piece.Parcel.{Parcel}
 use Rattle.sarif_gather.specs.declared.mailbox.ends.Post.{Post}
 use Rattle.sarif_gather.specs.declared.deal.hand.Hand.{Hand}
-use Rattle.sarif_gather.specs.Claims.{times, total, once_below}
-use Rattle.sarif_gather.specs.Ends.{AreAllPosts, AreWhole, taken_by}
-use Rattle.sarif_gather.specs.Hands.{AreAllHands, drawn_by}
+use Rattle.sarif_gather.specs.Ends.{AreAllPosts}
+use Rattle.sarif_gather.specs.Hands.{AreAllHands}
 use Rattle.sarif_gather.specs.Held.{empty_run, first_open}
 use Rattle.sarif_gather.specs.Pieces.{lists_of}
-use Rattle.sarif_gather.proofs.Gatherings.{gathered_at, all_posts, all_hands, marked, collected}
+use Rattle.sarif_gather.proofs.Gatherings.{gathered_at, all_posts, all_hands, all_collected}
 use Rattle.sarif_gather.proofs.Wholes.{wholes_again, no_open}
 use Rattle.sarif_gather.proofs.gathering.gather.Goals as goal
 
@@ -33,16 +31,9 @@ gather_scoped-requires-after_bounds g c κs within = record {
 
 pub unreachable-requires : goal.unreachable-requires
 unreachable-requires g c =
-    let P : Type 0 = Parcel g.row.W-Item.Denot g.row.W-Tail.Denot in
     let now = gathered_at _ _ _ _ _ _ _ _ _ _ c.in_ok-gathered.ensures (c.in_ok-collector.ensures ∙ ap (λ n. replicate n empty_run) c.runs-runs.ensures) (c.in_ok-mailbox.posts.ok.0 ∙ c.in_ok-mailbox.ensures.count) in
-    let left = c.in-Ok._settled.left.items in
-    let arrived = subst (λ (l : List (Post P)). AreWhole c.in_ok-mailbox.mailbox l (taken_by c.in_ok-gathered.gathered.desk ++ left)) c.in_ok-posts.ensures.0 c.in-Ok.ensures.whole in
-    let one = marked _ _ _ _ _ _ _ _ now (omega arith) in
-    let n = c.settle-2.ensures.marked 0 one.0.hand (ap (λ l. slice_get l 0) c.in_ok-posts.ensures.1 ∙ one.1) one.2 in
-    let runs = n ∙ c.in_ok-deal.ensures.runs_are ∙ c.runs-runs.ensures in
-    let dealt : (run : ℕ) → total (λ h. times run (drawn_by h)) (map (λ b. b.hand) c.in_ok-gathered.gathered.backs.items) ≡ once_below run (g.W.Work.run_count c.args.work.now) = λ run.
-    ap (total (λ h. times run (drawn_by h))) (sym c.in_ok-posts.ensures.1) ∙ c.settle-2.ensures.drawn run ∙ ap (once_below run) runs in
-    let all = collected _ _ _ _ _ _ _ _ now left c.in_ok-mailbox.ensures.senders_are arrived dealt in
+    let all = all_collected _ _ _ _ _ _ _ _ now c.in-Ok._settled.left.items _ _ _ (omega arith) c.in_ok-mailbox.ensures.senders_are c.in_ok-posts.ensures.0 c.in_ok-posts.ensures.1
+    c.in-Ok.ensures.whole (λ i hand at is. c.settle-2.ensures.marked i hand at is ∙ c.in_ok-deal.ensures.runs_are ∙ c.runs-runs.ensures) c.settle-2.ensures.drawn in
     let opened = c.in_default-finish.ensures.err.1 in
     let none = ap first_open all ∙ no_open (lists_of (g.W.Work.count c.args.work.now) (g.W.Work.item c.args.work.now) (g.W.Work.end c.args.work.now) (g.W.Work.run_count c.args.work.now)) in
     let clash : Some c.in_default-finish.field-0.0 ≡ None = sym opened ∙ none in
@@ -50,14 +41,7 @@ unreachable-requires g c =
 
 pub returns : goal.returns
 returns g c =
-    let P : Type 0 = Parcel g.row.W-Item.Denot g.row.W-Tail.Denot in
     let now = gathered_at _ _ _ _ _ _ _ _ _ _ c.in_ok-gathered.ensures (c.in_ok-collector.ensures ∙ ap (λ n. replicate n empty_run) c.runs-runs.ensures) (c.in_ok-mailbox.posts.ok.0 ∙ c.in_ok-mailbox.ensures.count) in
-    let left = c.in-Ok._settled.left.items in
-    let arrived = subst (λ (l : List (Post P)). AreWhole c.in_ok-mailbox.mailbox l (taken_by c.in_ok-gathered.gathered.desk ++ left)) c.in_ok-posts.ensures.0 c.in-Ok.ensures.whole in
-    let one = marked _ _ _ _ _ _ _ _ now (omega arith) in
-    let n = c.settle-2.ensures.marked 0 one.0.hand (ap (λ l. slice_get l 0) c.in_ok-posts.ensures.1 ∙ one.1) one.2 in
-    let runs = n ∙ c.in_ok-deal.ensures.runs_are ∙ c.runs-runs.ensures in
-    let dealt : (run : ℕ) → total (λ h. times run (drawn_by h)) (map (λ b. b.hand) c.in_ok-gathered.gathered.backs.items) ≡ once_below run (g.W.Work.run_count c.args.work.now) = λ run.
-    ap (total (λ h. times run (drawn_by h))) (sym c.in_ok-posts.ensures.1) ∙ c.settle-2.ensures.drawn run ∙ ap (once_below run) runs in
-    let all = collected _ _ _ _ _ _ _ _ now left c.in_ok-mailbox.ensures.senders_are arrived dealt in
+    let all = all_collected _ _ _ _ _ _ _ _ now c.in-Ok._settled.left.items _ _ _ (omega arith) c.in_ok-mailbox.ensures.senders_are c.in_ok-posts.ensures.0 c.in_ok-posts.ensures.1
+    c.in-Ok.ensures.whole (λ i hand at is. c.settle-2.ensures.marked i hand at is ∙ c.in_ok-deal.ensures.runs_are ∙ c.runs-runs.ensures) c.settle-2.ensures.drawn in
     wholes_again c.in-Ok-finish.lists (lists_of (g.W.Work.count c.args.work.now) (g.W.Work.item c.args.work.now) (g.W.Work.end c.args.work.now) (g.W.Work.run_count c.args.work.now)) (sym c.in-Ok-finish.ensures.ok ∙ all)
