@@ -39,15 +39,16 @@ pub ordered_put : (k : List ℕ) (d : Data) (ms : Members) → IsOrdered d → A
 ordered_put k d no_members x h = (tt, x, tt)
 ordered_put k d (member e c ms) x h = ordered_put_at (cmp k e) k e d c ms (put k d ms) refl x h (λ a. below_put e k d ms a h.0) (ordered_put k d ms x h.2)
 
-abbrev If : {A : Type 0} → (A → Type 0) → Option A → Type 0
+-- P of the value, if there is one
+abbrev pub If : {A : Type 0} → (A → Type 0) → Option A → Type 0
 If P None = ⊤
 If P (Some a) = P a
 
-If-map : {A B : Type 0} (P : A → Type 0) (Q : B → Type 0) (f : A → B) → ((a : A) → P a → Q (f a)) → (o : Option A) → If P o → If Q (option_map f o)
+pub If-map : {A B : Type 0} (P : A → Type 0) (Q : B → Type 0) (f : A → B) → ((a : A) → P a → Q (f a)) → (o : Option A) → If P o → If Q (option_map f o)
 If-map P Q f k None x = tt
 If-map P Q f k (Some a) x = k a x
 
-If-and_then : {A B : Type 0} (P : A → Type 0) (Q : B → Type 0) (f : A → Option B) → ((a : A) → P a → If Q (f a)) → (o : Option A) → If P o → If Q (option_and_then f o)
+pub If-and_then : {A B : Type 0} (P : A → Type 0) (Q : B → Type 0) (f : A → Option B) → ((a : A) → P a → If Q (f a)) → (o : Option A) → If P o → If Q (option_and_then f o)
 If-and_then P Q f k None x = tt
 If-and_then P Q f k (Some a) x = k a x
 
