@@ -3,6 +3,7 @@ pub mod Filled
 pub mod First
 pub mod Fractions
 pub mod Grown
+pub mod Keeping
 pub mod Kept
 pub mod Nodes
 pub mod Order

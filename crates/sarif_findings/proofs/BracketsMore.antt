@@ -4,7 +4,7 @@ use Rattle.std.specs.Prelude.{encode_utf8_all}
 use Rattle.std.specs.List.{list_all, slice_range}
 use Rattle.std.specs.Str.{IsCharBoundary}
 use Rattle.std.proofs.StrCases.{chars_of_empty}
-use Rattle.std.proofs.lemmas.Bool.{and_parts, true≢false}
+use Rattle.std.proofs.lemmas.Bool.{true≢false}
 use Rattle.std.proofs.lemmas.Bool.Decides.{nat_tests}
 use Rattle.std.proofs.lemmas.List.{drop_more, drop_all, drop-drop, get_or-drop, length-drop, take-append-drop, take-take, take_all}
 use Rattle.std.proofs.lemmas.Slice.{between_is}
@@ -13,8 +13,9 @@ use Rattle.std.proofs.lemmas.Str.{encode_ascii, encodes-chars, IsCharBoundary-be
 use Rattle.serde_json.specs.Data.{Data}
 use Rattle.sarif_findings.specs.Internal.Brackets.{is_ordinary, closes_link}
 use Rattle.sarif_findings.specs.Links.{begins_pair, ends_link}
+use Rattle.sarif_findings.proofs.BytesOf.{first_passes}
 use Rattle.sarif_findings.proofs.CharsBack.{char_back}
-use Rattle.sarif_findings.proofs.EmptiesPassed.{next}
+use Rattle.sarif_findings.proofs.EmptiesPassed.{char_of, next, no_pair}
 
 -- ---- one character
 
@@ -30,19 +31,8 @@ no_closing c h = grind (arith, nat_tests, h)
 no_back : (c : ℕ) → is_ordinary c ≡ true → (c == 92) ≡ false
 no_back c h = grind (arith, nat_tests, h)
 
-no_pair : (c : ℕ) (cs : List ℕ) → (c == 92) ≡ false → begins_pair c cs ≡ false
-no_pair c [] h = refl
-no_pair c (d ∷ ds) h = rw h refl
-
 char_goes : (args : List Data) (c : ℕ) (cs : List ℕ) → is_ordinary c ≡ true → ends_link args false (c ∷ cs) ≡ ends_link args false cs
 char_goes args c cs h = rw (no_pair c cs (no_back c h), no_opening c h, no_closing c h) refl
-
--- a character is ordinary if its bytes are
-char_ordinary : (c : ℕ) (b : Bool) → is_ordinary c ≡ b → list_all is_ordinary (encode_utf8 c) ≡ true → is_ordinary c ≡ true
-char_ordinary c true e h = e
-char_ordinary c false e h =
-    let one : list_all is_ordinary (c ∷ []) ≡ true = ap (list_all is_ordinary) (sym (encode_ascii c (special_low c e))) ∙ h in
-    (and_parts (is_ordinary c) true one).0
 
 -- ---- ordinary text
 
@@ -50,12 +40,10 @@ chars_go : (args : List Data) (cs rest : List ℕ) → list_all is_ordinary (enc
     → ends_link args false (chars (encode_utf8_all cs ++ rest)) ≡ ends_link args false (chars rest)
 chars_go args [] rest h = refl
 chars_go args (c ∷ cs) rest h =
-    let both : (list_all is_ordinary (encode_utf8 c) && list_all is_ordinary (encode_utf8_all cs)) ≡ true =
-    sym (list_all-append is_ordinary (encode_utf8 c) (encode_utf8_all cs)) ∙ h in
-    let parts = and_parts _ _ both in
+    let parts = first_passes is_ordinary special_low c cs h in
     ap (λ bs. ends_link args false (chars bs)) (append_assoc (encode_utf8 c) (encode_utf8_all cs) rest)
     ∙ ap (ends_link args false) (char_back c (encode_utf8_all cs ++ rest))
-    ∙ char_goes args c (chars (encode_utf8_all cs ++ rest)) (char_ordinary c (is_ordinary c) refl parts.0)
+    ∙ char_goes args c (chars (encode_utf8_all cs ++ rest)) parts.0
     ∙ chars_go args cs rest parts.1
 
 text_goes : (args : List Data) (text rest : List ℕ) → IsUtf8 text → list_all is_ordinary text ≡ true
@@ -97,9 +85,6 @@ passes_from args text rest i n utf8 cut same within h stops =
     ∙ ap (λ bs. ends_link args false (chars bs)) (drop-drop n i text)
 
 -- ---- a backslash
-
-char_of : (b : ℕ) (bs : List ℕ) → b < 128 → chars (b ∷ bs) ≡ b ∷ chars bs
-char_of b bs low = ap (λ e. chars (e ++ bs)) (sym (encode_ascii b low)) ∙ char_back b bs
 
 special_is : (b : ℕ) → is_ordinary b ≡ false → begins_pair 92 (b ∷ []) ≡ true
 special_is b h = grind (arith, nat_tests, h)

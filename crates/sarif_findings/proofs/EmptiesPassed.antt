@@ -14,7 +14,7 @@ use Rattle.sarif_findings.specs.Internal.Unlinked.{IsEmptied, PassesEmpties}
 use Rattle.sarif_findings.proofs.CharsBack.{char_back}
 use Rattle.sarif_findings.proofs.LinksMore.{char_stays}
 
-no_pair : (c : ℕ) (cs : List ℕ) → (c == 92) ≡ false → begins_pair c cs ≡ false
+pub no_pair : (c : ℕ) (cs : List ℕ) → (c == 92) ≡ false → begins_pair c cs ≡ false
 no_pair c [] h = refl
 no_pair c (d ∷ ds) h = rw h refl
 
@@ -58,7 +58,7 @@ one_empty args others d cs h none =
     sym (ap (λ es. filled_from args 0 es) all
     ∙ ap (λ (p : List ℕ × ℕ). p.0 ++ filled_from args p.1 (d ∷ 125 ∷ after)) (piece_is args d after h none))
 
-char_of : (b : ℕ) (bs : List ℕ) → b < 128 → chars (b ∷ bs) ≡ b ∷ chars bs
+pub char_of : (b : ℕ) (bs : List ℕ) → b < 128 → chars (b ∷ bs) ≡ b ∷ chars bs
 char_of b bs low = ap (λ e. chars (e ++ bs)) (sym (encode_ascii b low)) ∙ char_back b bs
 
 -- the next byte of a text, and what follows it

@@ -28,7 +28,8 @@ hit_of (Some f) = cond f.hit 1 0
 abbrev hits_among : List Finding → ℕ
 hits_among fs = count_by (λ f. f.hit) fs
 
-carried : (s : State) (l : Level) (result : Data)
+-- what a result adds to a count, by the state and the level that it has
+pub carried : (s : State) (l : Level) (result : Data)
     → carries s l false result ≡ (is_state s (state_in result) && (is_level l (level_in result) && same_side false (suppresses (suppressions_in result))))
 carried s l result =
     let state = state_tells s (option_and_then as_str (get (codes "baselineState") result)) in

@@ -2,7 +2,9 @@ pub mod ArtifactsMore
 pub mod AtLocation
 pub mod BracketsMore
 pub mod ByHalves
+pub mod BytesOf
 pub mod CharsBack
+pub mod EachFinding
 pub mod EmptiesPassed
 pub mod FirstChar
 pub mod HighBytes

@@ -1,16 +1,15 @@
 -- A message without links.
-use Rattle.std.proofs.Common.{◌≡◌, ◌<◌, ◌==◌, ◌&&◌, ℕ, Bool, true, false, List, [], ◌∷◌, encode_utf8, chars, IsUtf8, refl, sym, ap, ◌∙◌, arith}
+use Rattle.std.proofs.Common.{◌≡◌, ◌<◌, ◌==◌, ℕ, Bool, true, false, List, [], ◌∷◌, chars, IsUtf8, refl, sym, ap, ◌∙◌, arith}
 use Rattle.std.specs.Prelude.{encode_utf8_all}
 use Rattle.std.specs.Bool.{OnTrue}
 use Rattle.std.specs.List.{list_all}
-use Rattle.std.proofs.lemmas.Bool.{and_parts}
 use Rattle.std.proofs.lemmas.Bool.Decides.{nat_tests}
-use Rattle.std.proofs.lemmas.List.Folds.{list_all-append}
-use Rattle.std.proofs.lemmas.Str.{encode_ascii, encodes-chars}
+use Rattle.std.proofs.lemmas.Str.{encodes-chars}
 use Rattle.serde_json.specs.Data.{Data}
 use Rattle.sarif_findings.specs.declared.links.Part.{Part}
 use Rattle.sarif_findings.specs.declared.links.Part.TheVariants.{Outside, OutsidePair}
 use Rattle.sarif_findings.specs.Links.{begins_link, begins_pair, is_unbracketed, part_after, stays_between, unlinked, unlinked_from}
+use Rattle.sarif_findings.proofs.BytesOf.{first_passes}
 use Rattle.sarif_findings.proofs.LinksMore.{char_stays}
 
 -- ---- if no link begins, all characters stay
@@ -52,25 +51,14 @@ bracket_low c h = grind (arith, nat_tests, h)
 not_opening : (c : ℕ) → is_unbracketed c ≡ true → (c == 91) ≡ false
 not_opening c h = grind (arith, nat_tests, h)
 
--- a character is not a bracket if its bytes are not
-char_unbracketed : (c : ℕ) (b : Bool) → is_unbracketed c ≡ b → list_all is_unbracketed (encode_utf8 c) ≡ true → is_unbracketed c ≡ true
-char_unbracketed c true e h = e
-char_unbracketed c false e h =
-    let one : list_all is_unbracketed (c ∷ []) ≡ true = ap (list_all is_unbracketed) (sym (encode_ascii c (bracket_low c e))) ∙ h in
-    (and_parts (is_unbracketed c) true one).0
-
 opens_none : (args : List Data) (c : ℕ) (cs : List ℕ) → is_unbracketed c ≡ true → begins_link args c cs ≡ false
 opens_none args c cs h = rw (not_opening c h) refl
 
 chars_unbracketed : (args : List Data) (cs : List ℕ) → list_all is_unbracketed (encode_utf8_all cs) ≡ true → NoneBegins args cs
 chars_unbracketed args [] h = tt
 chars_unbracketed args (c ∷ cs) h =
-    let both : (list_all is_unbracketed (encode_utf8 c) && list_all is_unbracketed (encode_utf8_all cs)) ≡ true =
-    sym (list_all-append is_unbracketed (encode_utf8 c) (encode_utf8_all cs)) ∙ h in
-    let parts = and_parts _ _ both in (
-      opens_none args c cs (char_unbracketed c (is_unbracketed c) refl parts.0),
-      chars_unbracketed args cs parts.1,
-    )
+    let parts = first_passes is_unbracketed bracket_low c cs h in
+    (opens_none args c cs parts.0, chars_unbracketed args cs parts.1)
 
 pub no_link_if : (b : Bool) (text : List ℕ) → IsUtf8 text → b ≡ list_all is_unbracketed text
     → OnTrue b ((args : List Data) → unlinked args (chars text) ≡ chars text)

@@ -1,14 +1,13 @@
 -- A message in which nothing is filled in.
-use Rattle.std.proofs.Common.{◌≡◌, ◌<◌, ◌==◌, ◌&&◌, ℕ, Bool, true, false, List, [], ◌∷◌, encode_utf8, chars, IsUtf8, refl, sym, ap, ◌∙◌, arith}
+use Rattle.std.proofs.Common.{◌≡◌, ◌<◌, ◌==◌, ℕ, Bool, true, false, List, [], ◌∷◌, chars, IsUtf8, refl, sym, ap, ◌∙◌, arith}
 use Rattle.std.specs.Prelude.{encode_utf8_all}
 use Rattle.std.specs.Bool.{OnTrue}
 use Rattle.std.specs.List.{list_all}
-use Rattle.std.proofs.lemmas.Bool.{and_parts}
 use Rattle.std.proofs.lemmas.Bool.Decides.{nat_tests}
-use Rattle.std.proofs.lemmas.List.Folds.{list_all-append}
-use Rattle.std.proofs.lemmas.Str.{encode_ascii, encodes-chars}
+use Rattle.std.proofs.lemmas.Str.{encodes-chars}
 use Rattle.serde_json.specs.Data.{Data}
 use Rattle.sarif_findings.specs.Placeholders.{is_unbraced, filled_from, filled}
+use Rattle.sarif_findings.proofs.BytesOf.{first_passes}
 
 brace_low : (c : ℕ) → is_unbraced c ≡ false → c < 128
 brace_low c h = grind (arith, nat_tests, h)
@@ -19,23 +18,14 @@ not_opening c h = grind (arith, nat_tests, h)
 not_closing : (c : ℕ) → is_unbraced c ≡ true → (c == 125) ≡ false
 not_closing c h = grind (arith, nat_tests, h)
 
--- a character is not a brace if its bytes are not
-char_unbraced : (c : ℕ) (b : Bool) → is_unbraced c ≡ b → list_all is_unbraced (encode_utf8 c) ≡ true → is_unbraced c ≡ true
-char_unbraced c true e h = e
-char_unbraced c false e h =
-    let one : list_all is_unbraced (c ∷ []) ≡ true = ap (list_all is_unbraced) (sym (encode_ascii c (brace_low c e))) ∙ h in
-    (and_parts (is_unbraced c) true one).0
-
 char_stays : (args : List Data) (c : ℕ) (cs : List ℕ) → is_unbraced c ≡ true → filled_from args 0 (c ∷ cs) ≡ c ∷ filled_from args 0 cs
 char_stays args c cs h = rw (not_opening c h, not_closing c h) refl
 
 chars_stay : (args : List Data) (cs : List ℕ) → list_all is_unbraced (encode_utf8_all cs) ≡ true → filled_from args 0 cs ≡ cs
 chars_stay args [] h = refl
 chars_stay args (c ∷ cs) h =
-    let both : (list_all is_unbraced (encode_utf8 c) && list_all is_unbraced (encode_utf8_all cs)) ≡ true =
-    sym (list_all-append is_unbraced (encode_utf8 c) (encode_utf8_all cs)) ∙ h in
-    let parts = and_parts _ _ both in
-    char_stays args c cs (char_unbraced c (is_unbraced c) refl parts.0) ∙ ap (λ ds. c ∷ ds) (chars_stay args cs parts.1)
+    let parts = first_passes is_unbraced brace_low c cs h in
+    char_stays args c cs parts.0 ∙ ap (λ ds. c ∷ ds) (chars_stay args cs parts.1)
 
 filled_stays : (args : List Data) (cs : List ℕ) → list_all is_unbraced (encode_utf8_all cs) ≡ true → filled args cs ≡ cs
 filled_stays [] cs h = refl

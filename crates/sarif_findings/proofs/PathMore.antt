@@ -1,5 +1,5 @@
 -- A path, its root, and the `./` that it begins with.
-use Rattle.std.proofs.Common.{◌≡◌, ◌+◌, ℕ, true, false, List, ◌∷◌, ◌++◌, length, drop, nat_eq, chars, encode_utf8, IsUtf8, Option, Some, None, MatchOption, sym, subst, ap, refl, ◌∙◌, if◌then◌else◌}
+use Rattle.std.proofs.Common.{◌≡◌, ◌+◌, ℕ, Bool, true, false, List, ◌∷◌, ◌++◌, length, drop, nat_eq, chars, encode_utf8, IsUtf8, Option, Some, None, MatchOption, sym, subst, ap, refl, ◌∙◌, if◌then◌else◌}
 use Rattle.std.specs.Prelude.{option_map}
 use Rattle.std.specs.Borrow.{Bor}
 use Rattle.std.specs.List.{starts_with}
@@ -30,42 +30,36 @@ stripped_is root path (Some x) found =
 
 -- ---- `./`
 
-removed_on : (c : ℕ) (cs : List ℕ) → is_removed c cs ≡ true → after_here (c ∷ cs) ≡ after_here cs
-removed_on c cs e = rw e refl
+-- `front` leaves all characters if `test` is false for the first one, and otherwise what `after_here` leaves of the rest
+module _ (test : ℕ → List ℕ → Bool) (front : List ℕ → List ℕ) (is : (c : ℕ) (cs : List ℕ) → front (c ∷ cs) ≡ (if test c cs then after_here cs else c ∷ cs)) where
+  pub step : (text rest : List ℕ) (c : ℕ) → IsUtf8 text → text ≡ encode_utf8 c ++ rest → test c (chars rest) ≡ true
+      → after_here (chars rest) ≡ front (chars text)
+  step text rest c utf8 parts e =
+      sym (ap front (chars_past_char text rest c utf8 parts) ∙ is c (chars rest) ∙ ap (λ b. if b then after_here (chars rest) else c ∷ chars rest) e)
 
-removed_off : (c : ℕ) (cs : List ℕ) → is_removed c cs ≡ false → after_here (c ∷ cs) ≡ c ∷ cs
-removed_off c cs e = rw e refl
+  pub stop : (text rest : List ℕ) (c : ℕ) → IsUtf8 text → text ≡ encode_utf8 c ++ rest → test c (chars rest) ≡ false
+      → chars text ≡ front (chars text)
+  stop text rest c utf8 parts e =
+      let past = chars_past_char text rest c utf8 parts in
+      past ∙ sym (ap front past ∙ is c (chars rest) ∙ ap (λ b. if b then after_here (chars rest) else c ∷ chars rest) e)
 
 -- a character that is removed
 pub removed_step : (text rest : List ℕ) (c : ℕ) → IsUtf8 text → text ≡ encode_utf8 c ++ rest → is_removed c (chars rest) ≡ true
     → after_here (chars rest) ≡ after_here (chars text)
-removed_step text rest c utf8 parts e = sym (ap after_here (chars_past_char text rest c utf8 parts) ∙ removed_on c (chars rest) e)
+removed_step = step is_removed after_here (λ c cs. refl)
 
 -- the first that stays
 pub removed_stop : (text rest : List ℕ) (c : ℕ) → IsUtf8 text → text ≡ encode_utf8 c ++ rest → is_removed c (chars rest) ≡ false
     → chars text ≡ after_here (chars text)
-removed_stop text rest c utf8 parts e =
-    let past = chars_past_char text rest c utf8 parts in
-    past ∙ sym (removed_off c (chars rest) e) ∙ sym (ap after_here past)
+removed_stop = stop is_removed after_here (λ c cs. refl)
 
 pub removed_end : (text : List ℕ) → length text ≡ 0 → chars text ≡ after_here (chars text)
 removed_end text none = chars_of_empty text none ∙ sym (ap after_here (chars_of_empty text none))
 
-here_on : (c : ℕ) (cs : List ℕ) → begins_here c cs ≡ true → without_here (c ∷ cs) ≡ after_here cs
-here_on c cs e = rw e refl
-
-here_off : (c : ℕ) (cs : List ℕ) → begins_here c cs ≡ false → without_here (c ∷ cs) ≡ c ∷ cs
-here_off c cs e = rw e refl
-
 pub here_step : (text rest : List ℕ) (c : ℕ) → IsUtf8 text → text ≡ encode_utf8 c ++ rest → begins_here c (chars rest) ≡ true
     → after_here (chars rest) ≡ without_here (chars text)
-here_step text rest c utf8 parts e = sym (ap without_here (chars_past_char text rest c utf8 parts) ∙ here_on c (chars rest) e)
+here_step = step begins_here without_here (λ c cs. refl)
 
 pub here_stop : (text rest : List ℕ) (c : ℕ) → IsUtf8 text → text ≡ encode_utf8 c ++ rest → begins_here c (chars rest) ≡ false
     → chars text ≡ without_here (chars text)
-here_stop text rest c utf8 parts e =
-    let past = chars_past_char text rest c utf8 parts in
-    past ∙ sym (here_off c (chars rest) e) ∙ sym (ap without_here past)
-
-pub here_end : (text : List ℕ) → length text ≡ 0 → chars text ≡ without_here (chars text)
-here_end text none = chars_of_empty text none ∙ sym (ap without_here (chars_of_empty text none))
+here_stop = stop begins_here without_here (λ c cs. refl)

@@ -1,8 +1,8 @@
 -- The strings of a finding are shown strings.
-use Rattle.std.proofs.Common.{◌≡◌, ◌<◌, ◌^◌, ◌++◌, ℕ, Bool, true, false, ◌&&◌, List, [], ◌∷◌, Option, Some, None, IfSome, codes, if◌then◌else◌, refl, arith}
-use Rattle.std.specs.Prelude.{option_and_then, flat_map, nat_le, nat_lt}
+use Rattle.std.proofs.Common.{◌≡◌, ◌<◌, ◌^◌, ℕ, Bool, true, false, ◌&&◌, List, [], ◌∷◌, Option, Some, None, IfSome, codes, if◌then◌else◌, refl, arith}
+use Rattle.std.specs.Prelude.{option_and_then, nat_le, nat_lt}
 use Rattle.std.specs.Char.{encode_utf8}
-use Rattle.std.specs.List.{AllByRecursion, filter_map, cons_option}
+use Rattle.std.specs.List.{AllByRecursion}
 use Rattle.std.proofs.lemmas.Bool.{and_parts, ltb-true}
 use Rattle.serde_json.specs.Data.{Data}
 use Rattle.serde_json.specs.Find.{get}
@@ -10,9 +10,10 @@ use Rattle.sarif_model.specs.declared.kinds.Level.{Level}
 use Rattle.sarif_model.specs.declared.kinds.State.{State}
 use Rattle.sarif_findings.specs.declared.finding.Finding.{Finding}
 use Rattle.sarif_findings.specs.declared.reporting.Reporting.{Reporting}
-use Rattle.sarif_findings.specs.Lookup.{elements_in, position_number, position_in, number_in, physical_location, uri_of}
+use Rattle.sarif_findings.specs.Lookup.{position_number, position_in, number_in, physical_location, uri_of}
 use Rattle.sarif_findings.specs.Shown.{shown, kept}
-use Rattle.sarif_findings.specs.Reported.{reported_of, reported_in, finding_if, finding_by, finding_of, or_no_message, none_if_empty, shown_path, only_with, is_reported, level_in, state_in, path_in, line_in}
+use Rattle.sarif_findings.specs.Reported.{reported_of, finding_of, or_no_message, none_if_empty, shown_path, only_with, path_in, line_in}
+use Rattle.sarif_findings.proofs.EachFinding.{each_finding}
 
 abbrev pub IsShown : List ℕ → Type 0
 IsShown text = (cs : List ℕ) × (text ≡ shown cs)
@@ -70,35 +71,5 @@ finding_told reporting run result l s = record {
       (number_told (option_and_then (number_in (codes "startColumn")) (option_and_then (get (codes "region")) (physical_location result))));
 }
 
-chosen : (b : Bool) (f : Finding) → IsTold f → IfSome (if b then Some f else None) IsTold
-chosen true f h = h
-chosen false f h = tt
-
-told_by : (reporting : Reporting) (run result : Data) (ol : Option Level) (os : Option State) → IfSome (finding_by reporting run result ol os) IsTold
-told_by reporting run result None os = tt
-told_by reporting run result (Some l) None = tt
-told_by reporting run result (Some l) (Some s) =
-    chosen (is_reported reporting result s) (finding_of reporting run result l s) (finding_told reporting run result l s)
-
-told_more : (o : Option Finding) (fs : List Finding) → IfSome o IsTold → AllByRecursion IsTold fs → AllByRecursion IsTold (cons_option o fs)
-told_more None fs h rest = rest
-told_more (Some f) fs h rest = (h, rest)
-
-told_results : (reporting : Reporting) (run : Data) (results : List Data) → AllByRecursion IsTold (filter_map (finding_if reporting run) results)
-told_results reporting run [] = tt
-told_results reporting run (result ∷ results) =
-    told_more (finding_if reporting run result) (filter_map (finding_if reporting run) results)
-    (told_by reporting run result (level_in result) (state_in result)) (told_results reporting run results)
-
-told_append : (fs gs : List Finding) → AllByRecursion IsTold fs → AllByRecursion IsTold gs → AllByRecursion IsTold (fs ++ gs)
-told_append [] gs h rest = rest
-told_append (f ∷ fs) gs h rest = (h.0, told_append fs gs h.1 rest)
-
-told_runs : (reporting : Reporting) (runs : List Data) → AllByRecursion IsTold (flat_map (reported_in reporting) runs)
-told_runs reporting [] = tt
-told_runs reporting (run ∷ runs) =
-    told_append (reported_in reporting run) (flat_map (reported_in reporting) runs)
-    (told_results reporting run (elements_in (codes "results") run)) (told_runs reporting runs)
-
 pub all_told : (reporting : Reporting) (log : Data) → AllByRecursion IsTold (reported_of reporting log)
-all_told reporting log = told_runs reporting (elements_in (codes "runs") log)
+all_told reporting log = each_finding IsTold reporting (finding_told reporting) log
