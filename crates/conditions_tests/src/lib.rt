@@ -1,5 +1,5 @@
-//! Tests of which entries of a suppression file match a result. They are in a separate crate, so that no library is
-//! proved a second time for its tests.
+//! Tests of the conditions of a suppression file's entries: which entries match a result. They are in a separate crate,
+//! so that no library is proved a second time for its tests.
 #![tactic(auto)]
 
 #[cfg(test)]

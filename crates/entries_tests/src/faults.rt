@@ -3,12 +3,12 @@ use sarif_entries::{FileFault, entries_of_file};
 use sarif_model::{Fault, Refusal};
 use std::alloc::{AllocError, Global};
 
-/// The refusal for a fault of no entry.
+/// The error that names this cause and no entry of the file.
 pub(crate) fn whole(fault: Fault) -> Refusal<FileFault> {
     Refusal::Fault(FileFault::from(fault))
 }
 
-/// The refusal for a fault of that entry.
+/// The error that names this cause and this entry of the file. Entries are numbered from 0.
 pub(crate) fn in_entry(number: u32, fault: Fault) -> Refusal<FileFault> {
     let entry = Some(number);
     Refusal::Fault(FileFault { entry, fault })

@@ -1,5 +1,6 @@
-//! Tests of merges of logs, alone and with a suppression file, and of the log that is assembled of nothing: rows worked
-//! out by hand. They are in a separate crate, so that no library is proved a second time for its tests.
+//! Tests of merges of logs, with and without a suppression file, and of the log that is assembled from no runs. Their
+//! expected values were computed by hand. They are in a separate crate, so that no library is proved a second time for
+//! its tests.
 #![tactic(auto)]
 
 #[cfg(test)]

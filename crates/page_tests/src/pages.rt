@@ -1,14 +1,13 @@
 //! The page.
 use sarif_counts::{Counts, Policy, States};
-use sarif_findings::{Finding, Reporting, reported};
-use sarif_model::{Level, Sequence, State, Text};
+use sarif_findings::Finding;
+use sarif_model::{Level, State, Text};
 use sarif_page::html_report;
 use sarif_shown::Told;
-use serde_json::Value;
 use std::alloc::{AllocError, AllocGlobal, Global};
-use std::hash::RandomState;
 use std::random::RandomSource;
 use std::test::Fail;
+use test_findings::{counts_of, findings_with, told_of};
 
 /// A log that would write into the page.
 const HOSTILE: &str = r#"{"runs":[{"results":[
@@ -83,41 +82,6 @@ fn pair(alloc: Global, one: Level, other: Level) -> Result<Vec<Finding>, AllocEr
     Ok(findings)
 }
 
-/// The findings of this log.
-fn findings_of(alloc: Global, log: &str) -> Result<Vec<Finding>, Fail> {
-    let policy = Policy::default();
-    let roots = Sequence::new(alloc);
-    let log = Value::from_str(alloc, log)?;
-    Ok(reported(alloc, &Reporting { policy, roots }, &log)?)
-}
-
-/// The numbers of the first 100,000 of these findings, none of them suppressed.
-fn counts_of(findings: &[Finding]) -> Counts {
-    let mut counts = Counts::new();
-    for at in 0..findings.len().min(100_000) {
-        counts.add(findings[at].state, findings[at].level, false);
-    }
-    counts
-}
-
-/// What a page of these findings is made from.
-fn told_of<'a, R: RandomSource>(
-    rt: &R,
-    counts: &'a Counts,
-    policy: &'a Policy,
-    findings: &'a [Finding],
-) -> Result<Told<'a>, Fail> {
-    Ok(Told {
-        counts,
-        policy,
-        findings,
-        without: 0,
-        unused: 0,
-        life: None,
-        seed: RandomState::new(rt)?,
-    })
-}
-
 /// The page of these findings under a policy.
 fn page_of<R: AllocGlobal + RandomSource>(
     rt: &R,
@@ -131,7 +95,7 @@ fn page_of<R: AllocGlobal + RandomSource>(
 
 #[test]
 fn strings_of_a_log_stay_in_their_cells(rt: HostRuntime) -> Result<(), Fail> {
-    let findings = findings_of(rt.alloc(), HOSTILE)?;
+    let findings = findings_with(&rt, &[], HOSTILE)?;
     let page = page_of(&rt, &Policy::default(), findings.as_slice())?;
     let page = page.as_str();
     assert!(rt; has_in_order(page, &HOSTILE_ROWS));
@@ -142,7 +106,7 @@ fn strings_of_a_log_stay_in_their_cells(rt: HostRuntime) -> Result<(), Fail> {
 
 #[test]
 fn rows_are_by_file_and_hits_come_first(rt: HostRuntime) -> Result<(), Fail> {
-    let findings = findings_of(rt.alloc(), FILES)?;
+    let findings = findings_with(&rt, &[], FILES)?;
     let page = page_of(&rt, &Policy::default(), findings.as_slice())?;
     let page = page.as_str();
     assert!(rt; has_in_order(page, &["hit 1", "hit 5", "hit 3", "hit 7", "hit 6"]));

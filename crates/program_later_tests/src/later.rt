@@ -9,7 +9,7 @@ use std::cell::RefCell;
 use std::sync::Wait;
 use std::test::Fail;
 use std::thread::Threads;
-use test_program::{Ended, Given, Narrow, run_over, seed};
+use test_program::{Ended, Given, Narrow, Setting, run_over, seed};
 
 /// A log of three errors: two of one rule, which differ in their rank, and one of another rule.
 const HITS: &str = concat!(
@@ -72,14 +72,14 @@ const KNOWN: &str = r#"{
 
 const KNOWN_LINE: &str = "sarif_gate: 2 known, 0 left out, 0 kept\n";
 
-/// How many bytes two of the writers of a run take; the others take all.
+/// How many bytes two of the writers of a run accept in all. The others accept every byte.
 #[derive(Clone, Copy)]
 struct Rooms {
     later: usize,
     complain: usize,
 }
 
-/// Room for all that is ever written here.
+/// Enough room for every output of these tests.
 const AMPLE: Rooms = Rooms {
     later: 10_000,
     complain: 10_000,
@@ -104,8 +104,8 @@ fn adopting(alloc: Global) -> Result<Request, AllocError> {
     Ok(request)
 }
 
-/// Runs a request over one log and no other source, with this output beside the merged log, and returns what it took
-/// too. If `is_explained` is set, error messages are the caller's to write.
+/// Runs a request over one log without a baseline and a suppression file. Besides the merged log, the run writes this
+/// output; its bytes are returned too. If `is_explained` is set, the caller writes the error messages.
 fn run<T: Threads + Wait + Sync + AllocGlobal>(
     threads: &T,
     request: &Request,
@@ -123,19 +123,15 @@ fn run<T: Threads + Wait + Sync + AllocGlobal>(
     let later = RefCell::new(Vec::new(alloc));
     let to = Counted::new(Narrow::new(&later, 10_000, rooms.later));
     let reports = vec![in alloc; Wanted { report, to }]?;
-    let others = test_program::Rooms {
-        complain: rooms.complain,
-        ..test_program::AMPLE
-    };
-    let ended = run_over(
-        threads,
-        alloc,
+    let setting = Setting {
         request,
-        &mut readers,
-        reports,
-        others,
+        rooms: test_program::Rooms {
+            complain: rooms.complain,
+            ..test_program::AMPLE
+        },
         is_explained,
-    )?;
+    };
+    let ended = run_over(threads, alloc, &setting, &mut readers, reports)?;
     Ok((ended, later.into_inner()))
 }
 

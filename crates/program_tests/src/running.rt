@@ -6,7 +6,7 @@ use std::alloc::{AllocError, Global};
 use std::sync::Wait;
 use std::test::Fail;
 use std::thread::Threads;
-use test_program::{AMPLE, Ended, Given, Rooms, run_over, seed};
+use test_program::{AMPLE, Ended, Given, Rooms, Setting, run_over, seed};
 
 /// The log of one result without a level, merged: a new warning.
 const MERGED: &str = "{\"properties\":{\"gate\":{\"counts\":{\
@@ -72,8 +72,12 @@ fn run<T: Threads + Wait + Sync>(
         baselines: Vec::new(alloc),
         suppressions: None,
     };
-    let none = Vec::new(alloc);
-    run_over(threads, alloc, request, &mut readers, none, rooms, false)
+    let setting = Setting {
+        request,
+        rooms,
+        is_explained: false,
+    };
+    run_over(threads, alloc, &setting, &mut readers, Vec::new(alloc))
 }
 
 /// Runs over one log with a baseline and a suppression file.
@@ -90,8 +94,12 @@ fn run_all<T: Threads + Wait + Sync>(
         suppressions: Some(Counted::new(suppressions)),
     };
     let request = Request::of_standard_streams(alloc, seed()?)?;
-    let none = Vec::new(alloc);
-    run_over(threads, alloc, &request, &mut readers, none, AMPLE, false)
+    let setting = Setting {
+        request: &request,
+        rooms: AMPLE,
+        is_explained: false,
+    };
+    run_over(threads, alloc, &setting, &mut readers, Vec::new(alloc))
 }
 
 #[test]

@@ -1,5 +1,5 @@
 //! The report in JUnit XML.
-use crate::samples::{counts_of, findings_in, told_of};
+use crate::samples::findings_in;
 use sarif_counts::Policy;
 use sarif_findings::Finding;
 use sarif_model::{Level, State, Text};
@@ -7,6 +7,7 @@ use sarif_reports::junit_report;
 use std::alloc::{AllocError, AllocGlobal, Global};
 use std::random::RandomSource;
 use std::test::Fail;
+use test_findings::{counts_of, told_of};
 
 /// A result to report, as its tool, rule, message, path and line. Errors are hits, notes are none.
 #[derive(Drop)]

@@ -1,5 +1,5 @@
 //! The order of reports, and the table in Markdown.
-use crate::samples::{counts_of, findings_in, told_of};
+use crate::samples::findings_in;
 use sarif_counts::{Counts, Policy};
 use sarif_findings::Finding;
 use sarif_model::{Level, State, Text};
@@ -8,6 +8,7 @@ use sarif_shown::{github_report, text_report};
 use std::alloc::{AllocError, AllocGlobal, Global};
 use std::random::RandomSource;
 use std::test::Fail;
+use test_findings::{counts_of, told_of};
 
 /// A note, an error and a note of one tool, and an error of another.
 const MIXED: &str = r#"{"runs":[{"results":[

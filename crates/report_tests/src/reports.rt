@@ -1,5 +1,5 @@
 //! The worked examples of the reports.
-use crate::samples::{findings_in, told_of};
+use crate::samples::findings_in;
 use sarif_counts::{Counts, Policy};
 use sarif_findings::Finding;
 use sarif_model::{Level, State, Text};
@@ -7,6 +7,7 @@ use sarif_reports::{Report, gitlab_report, markdown_report, report_text};
 use sarif_shown::{github_report, text_report};
 use std::alloc::{AllocGlobal, Global};
 use std::test::Fail;
+use test_findings::told_of;
 
 const LOG: &str = r#"{"properties":{},"runs":[{"results":[
 {"baselineState":"new","level":"warning","locations":[{"physicalLocation":{"artifactLocation":{"uri":"django/forms/forms.py"},"region":{"startColumn":5,"startLine":12}}}],"message":{"text":"Potential XSS on mark_safe function."},"ruleId":"B703","suppressions":[]},

@@ -1,27 +1,10 @@
 //! Which arguments request what is made for later merges.
 use sarif_counts::{Knowing, Renewal};
-use sarif_model::Text;
 use sarif_reports::Report;
-use sarif_request::{Request, WordsFault, read_words};
-use std::hash::RandomState;
+use sarif_request::Request;
 use std::process::Abort;
 use std::test::Fail;
-
-/// Reads words that are parted by one blank.
-fn read(rt: &HostRuntime, line: &str) -> Result<Result<Request, WordsFault>, Fail> {
-    let mut words = Vec::new(rt.alloc());
-    for word in line.split(' ') {
-        words.push(String::from_str(rt.alloc(), word)?)?;
-    }
-    let seed = RandomState::new(rt)?;
-    Ok(read_words(rt.alloc(), seed, words.as_slice()))
-}
-
-/// The request of the arguments; a rejection fails the test.
-fn accepted(rt: &HostRuntime, line: &str) -> Result<Request, Fail> {
-    let read = read(rt, line)?;
-    Ok(read.map_err(|_| "refused")?)
-}
+use test_request::{accepted, expect_usage, usage_in};
 
 #[test]
 fn nothing_is_made_for_later_merges_where_no_word_asks(rt: HostRuntime) -> Result<(), Fail> {
@@ -130,25 +113,6 @@ fn check_order(rt: &impl Abort, request: &Request) -> Result<(), Fail> {
     Ok(())
 }
 
-/// The message about invalid arguments. Valid arguments fail the test.
-fn usage_in(rt: &HostRuntime, line: &str) -> Result<Text, Fail> {
-    match read(rt, line)? {
-        Err(WordsFault::Usage(text)) => Ok(text),
-        _ => Err(Fail::from("these are not wrong")),
-    }
-}
-
-/// Checks that the message has this sentence and no other.
-fn check_usage(rt: &impl Abort, line: &str, text: &Text, wanted: &str) -> Result<(), Fail> {
-    let told = match text.as_str().strip_prefix("error: ") {
-        Some(told) => told,
-        None => "",
-    };
-    let told = told.strip_suffix("\n\nFor more information, try '--help'.\n");
-    assert_eq!(rt; told, Some(wanted), "{line}");
-    Ok(())
-}
-
 #[test]
 fn options_that_miss_their_companion_are_usage(rt: HostRuntime) -> Result<(), Fail> {
     for (more, told) in [
@@ -180,7 +144,7 @@ fn options_that_miss_their_companion_are_usage(rt: HostRuntime) -> Result<(), Fa
         ("--adopt", "--adopt needs --known"),
     ] {
         let line = format!(in rt.alloc(); "--out o a {more}")?;
-        check_usage(&rt, line.as_str(), &usage_in(&rt, line.as_str())?, told)?;
+        expect_usage(&rt, line.as_str(), told)?;
     }
     Ok(())
 }
@@ -193,7 +157,7 @@ fn known_logs_and_accepting_exclude_each_other(rt: HostRuntime) -> Result<(), Fa
         "--out o a --suppress-out n --accept --known k",
         "--out o a --suppress-out n --accept --known k --adopt",
     ] {
-        check_usage(&rt, line, &usage_in(&rt, line)?, told)?;
+        expect_usage(&rt, line, told)?;
     }
     Ok(())
 }
@@ -220,7 +184,7 @@ fn an_expiry_date_is_a_date_from_today_on(rt: HostRuntime) -> Result<(), Fail> {
         ),
     ] {
         let line = format!(in rt.alloc(); "--out o a --suppress-out n --accept {more}")?;
-        check_usage(&rt, line.as_str(), &usage_in(&rt, line.as_str())?, told)?;
+        expect_usage(&rt, line.as_str(), told)?;
     }
     Ok(())
 }
@@ -244,10 +208,7 @@ fn each_word_stands_once(rt: HostRuntime) -> Result<(), Fail> {
         "--suppress-out n --accept --reason",
     ] {
         let line = format!(in rt.alloc(); "--out o a {more}")?;
-        match read(&rt, line.as_str())? {
-            Err(fault) => assert!(rt; matches!(fault, WordsFault::Usage(_)), "{more}"),
-            Ok(_) => panic!(rt; "{more}"),
-        }
+        usage_in(&rt, line.as_str())?;
     }
     Ok(())
 }
@@ -304,7 +265,7 @@ fn names_of_outputs_for_later_merges_clash(rt: HostRuntime) -> Result<(), Fail> 
             "--out and --unused both write to standard output (-); only one output can",
         ),
     ] {
-        check_usage(&rt, line, &usage_in(&rt, line)?, told)?;
+        expect_usage(&rt, line, told)?;
     }
     Ok(())
 }
@@ -343,7 +304,7 @@ fn outputs_for_later_merges_replace_no_input(rt: HostRuntime) -> Result<(), Fail
             "--known would overwrite the baseline b, which is not the only baseline",
         ),
     ] {
-        check_usage(&rt, line, &usage_in(&rt, line)?, told)?;
+        expect_usage(&rt, line, told)?;
     }
     Ok(())
 }
@@ -361,10 +322,7 @@ fn outputs_that_may_replace_an_input_do(rt: HostRuntime) -> Result<(), Fail> {
         "--out o --baseline - --baseline - --known - a",
         "--out o --suppress - --suppress-out - --prune a",
     ] {
-        match read(&rt, line)? {
-            Ok(_) => {}
-            Err(_) => panic!(rt; "{line}"),
-        }
+        accepted(&rt, line)?;
     }
     Ok(())
 }

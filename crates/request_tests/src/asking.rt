@@ -2,26 +2,10 @@
 use sarif_counts::{Checks, Options, States};
 use sarif_model::{Level, Text};
 use sarif_reports::Report;
-use sarif_request::{Request, WordsFault, read_words};
-use std::hash::RandomState;
+use sarif_request::{Request, WordsFault};
 use std::process::Abort;
 use std::test::Fail;
-
-/// Reads words that are parted by one blank.
-fn read(rt: &HostRuntime, line: &str) -> Result<Result<Request, WordsFault>, Fail> {
-    let mut words = Vec::new(rt.alloc());
-    for word in line.split(' ') {
-        words.push(String::from_str(rt.alloc(), word)?)?;
-    }
-    let seed = RandomState::new(rt)?;
-    Ok(read_words(rt.alloc(), seed, words.as_slice()))
-}
-
-/// The request of the arguments; a rejection fails the test.
-fn accepted(rt: &HostRuntime, line: &str) -> Result<Request, Fail> {
-    let read = read(rt, line)?;
-    Ok(read.map_err(|_| "refused")?)
-}
+use test_request::{accepted, expect_usage, read, usage_in};
 
 /// Returns whether these are exactly the names.
 fn are_named(found: &[Text], names: &[&str]) -> bool {
@@ -210,16 +194,9 @@ fn check_states(rt: &impl Abort, states: States, listed: [bool; 4]) -> Result<()
 
 #[test]
 fn a_list_that_names_no_states_is_explained(rt: HostRuntime) -> Result<(), Fail> {
-    match read(&rt, "a --out o --states new,all")? {
-        Err(WordsFault::Usage(text)) => {
-            let told = "error: invalid value for '--states <LIST>': expected new, updated, \
-                unchanged or absent, each at most once, joined by commas\n\n\
-                For more information, try '--help'.\n";
-            assert_eq!(rt; text.as_str(), told);
-        }
-        _ => panic!(rt; "a list of no states"),
-    }
-    Ok(())
+    let told = "invalid value for '--states <LIST>': expected new, updated, unchanged or absent, \
+        each at most once, joined by commas";
+    expect_usage(&rt, "a --out o --states new,all", told)
 }
 
 #[test]
@@ -348,15 +325,7 @@ fn names_that_clash_are_usage(rt: HostRuntime) -> Result<(), Fail> {
             "standard input (-) can be only one of the logs",
         ),
     ] {
-        match read(&rt, line)? {
-            Err(WordsFault::Usage(text)) => {
-                assert!(rt; text.as_str().starts_with("error: "), "{line}");
-                assert!(rt; text.as_str().contains(told), "{line}");
-                let end = "\n\nFor more information, try '--help'.\n";
-                assert!(rt; text.as_str().ends_with(end), "{line}");
-            }
-            _ => panic!(rt; "{line}"),
-        }
+        assert!(rt; usage_in(&rt, line)?.contains(told), "{line}");
     }
     Ok(())
 }
@@ -380,10 +349,7 @@ fn names_that_may_stand_together_do(rt: HostRuntime) -> Result<(), Fail> {
         // The root is not a file name.
         "a --out o --text t --root t",
     ] {
-        match read(&rt, line)? {
-            Ok(_) => {}
-            Err(_) => panic!(rt; "{line}"),
-        }
+        accepted(&rt, line)?;
     }
     Ok(())
 }

@@ -1,5 +1,6 @@
-//! The steps of a merge. Each step requires what the steps before it made, and each of its rejections is
-//! one of the merge. One definition states what a step makes, and only the proof of this step opens it.
+//! The steps of a merge. Each step requires what the steps before it made, and each of its
+//! rejections is one of the merge. One definition states what a step makes, and only the proof of
+//! this step opens it.
 ghost use Rattle.std.specs.Prelude.{◌≡◌, ◌≤◌, ◌+◌, Ok, length, option_map, IfOk, IfErr, OnOk};
 ghost use Rattle.sarif_log.specs.Beside.{IsMadeBy};
 ghost use Rattle.sarif_model.specs.Limits.{most_sources};

@@ -61,7 +61,8 @@ fn index_run<'t, 'a>(
     ensures checked { OnOk result (said.check_run allow_external before (value_at run.now)
         ≡ Ok (before + length (results_of (value_at run.now)))) }
     ensures few { OnOk result (before + length (results_of (value_at run.now)) ≤ most_results) }
-    ensures err { IfFault result (λ fault. said.check_run allow_external before (value_at run.now) ≡ Err fault) }
+    ensures err { IfFault result (λ fault. said.check_run allow_external before (value_at run.now)
+        ≡ Err fault) }
 {
     let bare = run.to_value_without(alloc, "results")?;
     check_tool(&bare)?;
@@ -95,9 +96,11 @@ fn index_each<'t, 'a>(
     requires few { length nodes.now ≤ most_runs }
     requires ordered { AreOrdered nodes.now }
     ensures ok { IfOk result (λ runs. map run_of runs.items ≡ map value_at nodes.now) }
-    ensures checked { OnOk result (said.check_each allow_external 0 0 (map value_at nodes.now) ≡ Ok tt) }
+    ensures checked { OnOk result (said.check_each allow_external 0 0 (map value_at nodes.now)
+        ≡ Ok tt) }
     ensures few { IfOk result (λ runs. results_total (map run_of runs.items) ≤ most_results) }
-    ensures err { IfFault result (λ e. said.check_each allow_external 0 0 (map value_at nodes.now) ≡ Err e) }
+    ensures err { IfFault result (λ e. said.check_each allow_external 0 0 (map value_at nodes.now)
+        ≡ Err e) }
 {
     let mut runs = Vec::with_capacity(alloc, nodes.len())?;
     let mut number: u32 = 0;
@@ -187,7 +190,8 @@ pub fn index_log<'t, 'a>(
         (λ runs. said.log_of_value allow_external (value_at index.now) ≡ Ok (map run_of runs.items)) }
     ensures few { IfOk result (λ runs. results_total (map run_of runs.items) ≤ most_results) }
     ensures few_runs { IfOk result (λ runs. length runs.items ≤ most_runs) }
-    ensures err { IfFault result (λ e. said.log_of_value allow_external (value_at index.now) ≡ Err e) }
+    ensures err { IfFault result (λ e. said.log_of_value allow_external (value_at index.now)
+        ≡ Err e) }
 {
     let log = index.root();
     let nodes = checked_runs(alloc, &log).map_err(refused_whole)?;

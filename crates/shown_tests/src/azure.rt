@@ -1,10 +1,10 @@
 //! Logging commands of Azure Pipelines.
-use crate::samples::findings_with;
 use sarif_findings::Finding;
 use sarif_model::{Level, State, Text};
 use sarif_shown::azure_report;
 use std::alloc::AllocGlobal;
 use std::test::Fail;
+use test_findings::findings_with;
 
 #[test]
 fn an_issue_has_the_properties_of_its_result(rt: HostRuntime) -> Result<(), Fail> {

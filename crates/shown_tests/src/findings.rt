@@ -1,8 +1,8 @@
 //! What reports show of the results of a log.
-use crate::samples::findings_with;
 use sarif_findings::shown;
 use std::alloc::{AllocError, AllocGlobal, Global};
 use std::test::Fail;
+use test_findings::findings_with;
 
 /// Two rules of the driver have one id, and so have two of the second extension.
 const SAME_IDS: &str = r#"{"runs":[{"results":[

@@ -1,8 +1,8 @@
 //! Places in the reports of one line per result.
-use crate::samples::findings_with;
 use sarif_shown::{github_report, text_report};
 use std::alloc::AllocGlobal;
 use std::test::Fail;
+use test_findings::findings_with;
 
 #[test]
 fn a_colon_at_the_start_of_a_path_is_kept_apart(rt: HostRuntime) -> Result<(), Fail> {

@@ -1,8 +1,9 @@
 //! Messages with links to places of their log and with placeholders.
-use crate::samples::{findings_with, json_text, log_of_note};
+use crate::samples::{json_text, log_of_note};
 use std::alloc::AllocGlobal;
 use std::process::Abort;
 use std::test::Fail;
+use test_findings::findings_with;
 
 /// Checks that a message with these arguments, which are JSON, is shown like this.
 fn check<R: AllocGlobal + Abort>(

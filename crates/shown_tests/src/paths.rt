@@ -1,9 +1,10 @@
 //! URIs read as paths.
-use crate::samples::{findings_with, json_text, log_of_note};
+use crate::samples::{json_text, log_of_note};
 use sarif_model::Text;
 use std::alloc::AllocGlobal;
 use std::process::Abort;
 use std::test::Fail;
+use test_findings::findings_with;
 
 /// Checks that a URI is shown as this path, or as none, with these roots.
 fn check<R: AllocGlobal + Abort>(

@@ -1,4 +1,4 @@
-//! Examples of the suppression file worked out by hand, and that each call succeeds if there is enough memory.
+//! Suppression files with results that were computed by hand. Each call succeeds if there is enough memory.
 mod applying;
 mod objects;
 

@@ -1,4 +1,4 @@
-//! What a merge is given.
+//! The inputs of a merge.
 use crate::runs::log_of;
 use sarif_counts::{Checks, Policy};
 use sarif_streams::SourceBytes;
@@ -8,7 +8,7 @@ use std::io;
 use std::random::RandomSource;
 use std::test::Fail;
 
-/// What a merge is given.
+/// The inputs of a merge.
 #[derive(Drop)]
 pub struct Given {
     /// The logs, the baselines and the suppression file.
@@ -26,7 +26,7 @@ pub struct Given {
 }
 
 impl Given {
-    /// Nothing, to one worker, on a system whose random bytes are 0; policy and checks are the default ones.
+    /// No logs, for one worker, with the default policy and checks, on a system whose random bytes are 0.
     pub fn new(alloc: Global) -> Given {
         Given {
             sources: SourceBytes {
@@ -42,21 +42,22 @@ impl Given {
         }
     }
 
-    /// One more log, unchanged.
+    /// Adds a log, which is this string.
     pub fn log(&mut self, alloc: Global, text: &str) -> Result<(), AllocError> {
         let bytes = text.as_bytes().to_vec(alloc)?;
         self.sources.logs.push(bytes)?;
         Ok(())
     }
 
-    /// One more baseline, unchanged.
+    /// Adds a baseline, which is this string.
     pub fn baseline(&mut self, alloc: Global, text: &str) -> Result<(), AllocError> {
         let bytes = text.as_bytes().to_vec(alloc)?;
         self.sources.baselines.push(bytes)?;
         Ok(())
     }
 
-    /// A suppression file of this version with these entries.
+    /// Sets the suppression file: it has this version and these entries, which are JSON objects with commas between
+    /// them.
     pub fn entries(&mut self, alloc: Global, version: u8, list: &str) -> Result<(), AllocError> {
         let text = format!(in alloc; "{{\"version\":{version},\"suppressions\":[{list}]}}")?;
         self.sources.suppressions = Some(text.as_bytes().to_vec(alloc)?);
@@ -80,7 +81,7 @@ pub fn beside(alloc: Global, runs: &str, baseline_runs: &str) -> Result<Given, F
     Ok(given)
 }
 
-/// Random bytes that count on by a step, from the first one.
+/// Random bytes in a fixed order: after the first one, each byte is the sum of the byte before it and a step.
 #[derive(Clone, Copy)]
 pub struct Bytes {
     /// The first byte.
@@ -103,7 +104,7 @@ impl RandomSource for Bytes {
 /// Only zeros.
 pub const ZEROS: Bytes = Bytes { first: 0, step: 0 };
 
-/// What the tables hash with where the system gives these bytes.
+/// The seed of hash tables if the system returns these random bytes.
 pub fn seed_of(bytes: Bytes) -> Result<RandomState, AllocError> {
     RandomState::new(&bytes).map_err(|_| AllocError)
 }

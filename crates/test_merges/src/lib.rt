@@ -1,5 +1,5 @@
-//! What tests of the merge share: logs in few words, what a merge is given, and what it is to give. A list of runs is
-//! written `lint: A M; b: `: each run is a tool and its results, each by its name or by its own JSON without spaces.
+//! What tests of the merge share: logs in few words, the inputs of a merge, and checks of its result. A list of runs is
+//! written `lint: A M; b: `. Each run is a tool and its results; each result is a name or its JSON without spaces.
 #![tactic(auto)]
 
 mod given;

@@ -1,4 +1,4 @@
-//! Merges, and what is expected of them.
+//! Merges, and checks of their results.
 ghost use Rattle.std.specs.Prelude.{◌≡◌, ◌⊎◌, Some, IfOk, IfErr, string_bytes};
 ghost use Rattle.sarif_inputs.specs.Faults.{first_fault};
 ghost use Rattle.sarif_merge.specs.Given.{given_by};
@@ -18,7 +18,7 @@ use std::sync::Wait;
 use std::test::Fail;
 use std::thread::Threads;
 
-/// The merge of what is given. It has 1 to 64 workers: for any other number there is no merge.
+/// Merges these inputs. Returns `NoWorker` if the number of workers is not 1 to 64.
 pub fn merge_watched<G: Gate + Sync, R: AllocGlobal + Threads + Wait + Sync>(
     rt: &R,
     given: &Given,
@@ -48,7 +48,7 @@ pub fn merge_watched<G: Gate + Sync, R: AllocGlobal + Threads + Wait + Sync>(
     merge_bytes(rt, rt.alloc(), &given.sources, &options, observer)
 }
 
-/// The merge without an observer.
+/// Merges these inputs without an observer.
 pub fn merge<R: AllocGlobal + Threads + Wait + Sync>(
     rt: &R,
     given: &Given,
@@ -63,7 +63,7 @@ pub fn merge<R: AllocGlobal + Threads + Wait + Sync>(
     merge_watched(rt, given, &NoGate)
 }
 
-/// Fails if the texts differ, with both of them.
+/// Fails if the strings differ. The failure shows both.
 fn expect_text(text: &str, wanted: &str) -> Result<(), Fail>
     ensures same { IfOk result (λ _. text.now ≡ wanted.now) }
 {
@@ -84,7 +84,8 @@ pub fn expect_refusal<R: AllocGlobal + Threads + Wait + Sync>(
     expect_text(text.as_str(), wanted)
 }
 
-/// Fails unless the merge passes, its log is this text, and its numbers are those that are wanted.
+/// Fails unless the gate passes, the merged log is this JSON, and the numbers of runs without results and of unused
+/// suppressions are the expected ones.
 fn expect_merged(merged: &Merged, text: &str, wanted: Wanted) -> Result<(), Fail>
     ensures log { IfOk result (λ _. merged.now.log ≡ text.now) }
     ensures without { IfOk result (λ _. merged.now.without ≡ wanted.without) }
@@ -103,7 +104,7 @@ fn expect_merged(merged: &Merged, text: &str, wanted: Wanted) -> Result<(), Fail
     Ok(())
 }
 
-/// Fails unless the merged log is exactly that, with these runs, given as JSON; the log.
+/// Returns the merged log. Fails unless it is exactly the expected log with these runs, which are JSON.
 pub fn expect_runs<R: AllocGlobal + Threads + Wait + Sync>(
     rt: &R,
     given: &Given,
@@ -120,7 +121,8 @@ pub fn expect_runs<R: AllocGlobal + Threads + Wait + Sync>(
     Ok(text)
 }
 
-/// The same, with the runs as tools and results.
+/// Returns the merged log. Fails unless it is exactly the expected log with these runs, which are in few words: each
+/// is a tool and its results.
 pub fn expect_log<R: AllocGlobal + Threads + Wait + Sync>(
     rt: &R,
     given: &Given,

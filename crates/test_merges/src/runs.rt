@@ -2,7 +2,7 @@
 use std::alloc::{AllocError, Global};
 use std::test::Fail;
 
-/// A result with a message alone, or of the rule `R1`; and that as it is written by its state.
+/// The JSON of the result with this name: in a log, or as a merge writes it in a state.
 fn result_named(name: &str) -> Option<&'static str> {
     match name {
         "M" => Some(r#"{"message":{"text":"m"}}"#),

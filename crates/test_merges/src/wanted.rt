@@ -1,9 +1,8 @@
-//! What a merged log is to hold.
+//! The contents of an expected log.
 use std::alloc::{AllocError, Global};
 
-/// What a merged log holds that passes the default policy without a hit: its active results by
-/// state and the new ones that are suppressed, each as the numbers of errors, warnings, notes and
-/// others.
+/// The numbers of a merged log without hits under the default policy: its active results by state, and the new
+/// results that are suppressed. Each string has the numbers of errors, warnings, notes and results of no level.
 #[derive(Clone, Copy)]
 pub struct Wanted {
     /// The active results that are absent.
@@ -33,7 +32,7 @@ pub const NOTHING: Wanted = Wanted {
     unused: 0,
 };
 
-/// The text of the log that is wanted, with these runs, given as JSON.
+/// The expected log with these runs, which are JSON.
 pub fn text_of(alloc: Global, wanted: Wanted, runs: &str) -> Result<String, AllocError> {
     let Wanted {
         absent,

@@ -1,7 +1,7 @@
-//! What tests of a run of the program share: readers that give texts and may fail, writers with little room, and a run
-//! over them.
+//! What tests of a run of the program share: readers that return strings and may fail, writers that accept a limited
+//! number of bytes, and a run over them.
 #![tactic(auto)]
 
 mod running;
 
-pub use running::{AMPLE, Ended, Given, Narrow, Rooms, run_over, seed};
+pub use running::{AMPLE, Ended, Given, Narrow, Rooms, Setting, run_over, seed};

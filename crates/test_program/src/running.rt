@@ -1,4 +1,4 @@
-//! Runs of the program over texts, in place of files and streams.
+//! Runs of the program over strings instead of files and streams.
 ghost use Rattle.std.specs.Prelude.{◌<◌, ◌^◌};
 ghost use Rattle.std.specs.List.{All};
 ghost use Rattle.sarif_streams.specs.Counted.{failed_calls};
@@ -30,7 +30,7 @@ pub fn seed() -> Result<RandomState, AllocError> {
     seed_of(&NoBytes).map_err(|_| AllocError)
 }
 
-/// Returns at most `piece` of its bytes per read, and fails after this many reads.
+/// A reader that returns at most `piece` of its bytes per read, and fails once it was read `good` times.
 #[derive(Drop)]
 pub struct Given {
     bytes: &'static [u8],
@@ -39,7 +39,7 @@ pub struct Given {
 }
 
 impl Given {
-    /// All of a text, ten bytes per read.
+    /// A reader of a string, which returns ten bytes per read and does not fail within 1,000 reads.
     pub fn whole(text: &'static str) -> Given {
         Given {
             bytes: text.as_bytes(),
@@ -48,7 +48,7 @@ impl Given {
         }
     }
 
-    /// A text, ten bytes per read, which fails after this many reads.
+    /// A reader of a string, which returns ten bytes per read and fails after `good` reads.
     pub fn failing_over(text: &'static str, good: u32) -> Given {
         Given {
             bytes: text.as_bytes(),
@@ -71,20 +71,20 @@ impl Read for Given {
     }
 }
 
-/// How many bytes the writers of a run take: `piece` of them a write, and the others in all.
+/// How many bytes the writers of a run accept.
 #[derive(Clone, Copy)]
 pub struct Rooms {
-    /// How many bytes each takes a write.
+    /// The most bytes that each writer accepts per write.
     pub piece: usize,
-    /// How many bytes of the merged log are taken.
+    /// How many bytes of the merged log its writer accepts in all.
     pub out: usize,
-    /// How many bytes of the summary.
+    /// How many bytes of the summary its writer accepts in all.
     pub say: usize,
-    /// How many bytes of messages.
+    /// How many bytes of messages their writer accepts in all.
     pub complain: usize,
 }
 
-/// Room for all that is ever written here.
+/// Enough room for every output of these tests.
 pub const AMPLE: Rooms = Rooms {
     piece: 10_000,
     out: 10_000,
@@ -92,7 +92,7 @@ pub const AMPLE: Rooms = Rooms {
     complain: 10_000,
 };
 
-/// Takes at most `piece` bytes a write and `room` in all, and then fails.
+/// A writer that accepts at most `piece` bytes per write and `room` bytes in all, and then fails.
 #[derive(Drop)]
 pub struct Narrow<'a> {
     taken: &'a RefCell<Vec<u8>>,
@@ -101,7 +101,7 @@ pub struct Narrow<'a> {
 }
 
 impl<'a> Narrow<'a> {
-    /// One that adds what it takes to these bytes.
+    /// A writer that adds the bytes that it accepts to `taken`.
     pub fn new(taken: &'a RefCell<Vec<u8>>, piece: usize, room: usize) -> Narrow<'a> {
         Narrow { taken, piece, room }
     }
@@ -126,35 +126,44 @@ impl Write for Narrow<'_> {
     }
 }
 
-/// The status of a run, and what its writers took.
+/// The exit status of a run, and the bytes that its writers accepted.
 #[derive(Drop)]
 pub struct Ended {
     /// The exit status.
     pub status: u8,
-    /// What was taken of the merged log.
+    /// The bytes of the merged log.
     pub out: Vec<u8>,
-    /// What was taken of the summary.
+    /// The bytes of the summary.
     pub say: Vec<u8>,
-    /// What was taken of messages.
+    /// The bytes of messages.
     pub complain: Vec<u8>,
 }
 
-/// Runs a request over these sources, with these outputs beside the merged log. If `is_explained` is set, error
-/// messages are the caller's to write.
+/// What a run does, and how much its writers accept.
+#[derive(Clone, Copy)]
+pub struct Setting<'r> {
+    /// The request.
+    pub request: &'r Request,
+    /// How many bytes the writers accept.
+    pub rooms: Rooms,
+    /// Whether the caller writes the error messages, so that the run writes none.
+    pub is_explained: bool,
+}
+
+/// Runs a request over these sources. Besides the merged log, the run writes an output to each of these reports.
 pub fn run_over<'a, T: Threads + Wait + Sync>(
     threads: &T,
     alloc: Global,
-    request: &Request,
+    setting: &Setting<'_>,
     readers: &mut Readers<Given>,
     reports: Vec<Wanted<Counted<Narrow<'a>>>>,
-    rooms: Rooms,
-    is_explained: bool,
 ) -> Result<Ended, AllocError>
     requires logs { All (λ reader. failed_calls reader < 2 ^ 63) readers.old.logs.items }
     requires baselines { All (λ reader. failed_calls reader < 2 ^ 63) readers.old.baselines.items }
     requires suppressions { failed_calls_if readers.old.suppressions < 2 ^ 63 }
     requires reports { All (λ wanted. failed_calls wanted.to < 2 ^ 63) reports.items }
 {
+    let rooms = setting.rooms;
     let out = RefCell::new(Vec::new(alloc));
     let say = RefCell::new(Vec::new(alloc));
     let complain = RefCell::new(Vec::new(alloc));
@@ -164,7 +173,7 @@ pub fn run_over<'a, T: Threads + Wait + Sync>(
         say: Counted::new(Narrow::new(&say, rooms.piece, rooms.say)),
     };
     let told = Narrow::new(&complain, rooms.piece, rooms.complain);
-    let mut complaints = if is_explained {
+    let mut complaints = if setting.is_explained {
         Complaints::explained(told)
     } else {
         Complaints::new(told)
@@ -172,7 +181,7 @@ pub fn run_over<'a, T: Threads + Wait + Sync>(
     let status = run_request(
         threads,
         alloc,
-        request,
+        setting.request,
         readers,
         &mut writers,
         &mut complaints,

@@ -1,0 +1,7 @@
+//! What tests of the command line share: arguments on one line, the request that is read from them, and the message
+//! about invalid ones.
+#![tactic(auto)]
+
+mod reading;
+
+pub use reading::{accepted, expect_usage, read, usage_in};
