@@ -2,4 +2,5 @@
 mod indexing;
 mod kinds;
 mod reading;
+mod referring;
 mod stripping;
