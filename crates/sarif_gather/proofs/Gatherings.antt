@@ -99,4 +99,4 @@ module _ {T C : Type 0} (count : ℕ → ℕ) (item : ℕ → ℕ → T) (end : 
       let one = marked some in
       let all : dealt ≡ runs = full 0 one.0.hand (ap (λ l. slice_get l 0) hands_are ∙ one.1) one.2 in
       collected left senders (subst (λ (l : List (Post (Parcel T C))). AreWhole mailbox l (taken_by g.desk ++ left)) posts_are whole)
-          (λ run. ap (total (λ h. times run (drawn_by h))) (sym hands_are) ∙ drawn run ∙ ap (once_below run) all)
+      (λ run. ap (total (λ h. times run (drawn_by h))) (sym hands_are) ∙ drawn run ∙ ap (once_below run) all)

@@ -40,7 +40,7 @@ impl<R: Files, I: Read> Read for Input<'_, R, I> {
         // What it gives is what the file or the stream gave.
         ensures given { InputGivesAs R.File.remaining I.remaining self.old self.new
             result buf.new }
-        // The rest is what `InputFile::read` says of a file.
+        // The rest are the clauses of `InputFile::read`.
         ensures name { OfInputs (λ old new. new.name.now ≡ old.name.now) self.old self.new }
         ensures open { IfOk result (λ n. 0 < n → OfInputs
             (λ old new. (file : _) × (new.stage ≡ Open file)) self.old self.new) }

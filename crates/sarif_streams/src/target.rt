@@ -50,7 +50,7 @@ impl<R: Files, O: Write> Write for Target<'_, R, O> {
         // What it takes is what the file or the stream took.
         ensures handed { TargetTakesAs R.File.contents O.contents self.old self.new
             result buf.now }
-        // The rest is what `OutputFile::write` says of a file.
+        // The rest are the clauses of `OutputFile::write`.
         ensures place { OfOutputs (λ old new. new.place ≡ old.place) self.old self.new }
         ensures some { IfOk result (λ n. 0 < length buf.now → OfOutputs
             (λ old new. 0 < n) self.old self.new) }
@@ -71,7 +71,7 @@ impl<R: Files, O: Write> Write for Target<'_, R, O> {
 
     fn flush(&mut self) -> io::Result<()>
         ensures bytes { Keeps None None }
-        // The rest is what `OutputFile::flush` says of a file.
+        // The rest are the clauses of `OutputFile::flush`.
         ensures place { OfOutputs (λ old new. new.place ≡ old.place) self.old self.new }
         ensures unopened { OfOutputs (λ old new. old.writing ≡ Unopened
             → IsOk result × (new.writing ≡ Unopened)) self.old self.new }

@@ -32,10 +32,10 @@ InputGivesAs left rest (Standard old) (File new) r buf = ⊥
 InputGivesAs left rest (Standard old) (Standard new) r buf =
     ReadConsumes (rest old) (rest new) r buf
 
--- this is said of the files that a source reads before and after a read; a standard stream stays one
+-- the files that a source reads before and after a read have this relation; a standard stream stays one
 abbrev pub OfInputs : {R I F D : Type 0} → (InputFile R F D → InputFile R F D → Type 0)
     → Input R I F D → Input R I F D → Type 0
-OfInputs said (File old) (File new) = said old new
-OfInputs said (File old) (Standard new) = ⊥
-OfInputs said (Standard old) (File new) = ⊥
-OfInputs said (Standard old) (Standard new) = ⊤
+OfInputs relation (File old) (File new) = relation old new
+OfInputs relation (File old) (Standard new) = ⊥
+OfInputs relation (Standard old) (File new) = ⊥
+OfInputs relation (Standard old) (Standard new) = ⊤

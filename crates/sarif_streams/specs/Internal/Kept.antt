@@ -1,4 +1,4 @@
--- What is read or written, and what is kept of it.
+-- What is read or written, and the bytes that are kept.
 use Rattle.std.specs.Prelude.{◌≡◌, ℕ, ◌++◌, List, [], ⊤, Option, Some, None, option_map}
 use Rattle.sarif_streams.specs.declared.kept.Kept.{Kept}
 

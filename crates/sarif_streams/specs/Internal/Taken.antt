@@ -30,13 +30,13 @@ TargetTakesAs held sent (Standard old) (File new) r buf = ⊥
 TargetTakesAs held sent (Standard old) (Standard new) r buf =
     WriteAppends (sent old) (sent new) r buf
 
--- this is said of the files that an output writes before and after a write; a standard stream stays one
+-- the files that an output writes before and after a write have this relation; a standard stream stays one
 abbrev pub OfOutputs : {R O F D : Type 0} → (OutputFile R F → OutputFile R F → Type 0)
     → Target R O F D → Target R O F D → Type 0
-OfOutputs said (File old) (File new) = said old new
-OfOutputs said (File old) (Standard new) = ⊥
-OfOutputs said (Standard old) (File new) = ⊥
-OfOutputs said (Standard old) (Standard new) = ⊤
+OfOutputs relation (File old) (File new) = relation old new
+OfOutputs relation (File old) (Standard new) = ⊥
+OfOutputs relation (Standard old) (File new) = ⊥
+OfOutputs relation (Standard old) (Standard new) = ⊤
 
 -- what a stream for the summary holds
 abbrev pub console_held : {O E : Type 0} → (O → Option (List ℕ)) → (E → Option (List ℕ))
