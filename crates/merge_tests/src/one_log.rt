@@ -1,15 +1,12 @@
 //! Merges of logs without a baseline.
-use sarif_counts::{Checks, Options, Policy, Verdict};
-use sarif_gather::NoGate;
-use sarif_merge::merge_readers;
+use sarif_counts::{Policy, Verdict};
 use sarif_model::{Level, State};
 use sarif_prepare::Asked;
-use sarif_streams::{Counted, Readers};
 use std::alloc::{AllocError, Global};
 use std::test::Fail;
 use test_merges::{
-    Given, NOTHING, Wanted, ZEROS, expect_log, expect_part, expect_runs, log_of, log_with, merge,
-    one_log, seed_of,
+    Given, NOTHING, Texts, Wanted, expect_log, expect_part, expect_runs, log_of, log_with, merge,
+    merge_texts, one_log, options_by,
 };
 
 /// The log of one result without a level, merged: a new warning.
@@ -40,24 +37,13 @@ fn a_result_without_a_level_is_a_new_warning(rt: HostRuntime) -> Result<(), Fail
 #[test]
 fn a_log_that_a_reader_gives(rt: HostRuntime) -> Result<(), Fail> {
     let log = log_of(rt.alloc(), "lint: M")?;
-    let mut readers = Readers {
-        logs: vec![in rt.alloc(); Counted::new(log.as_str().as_bytes())]?,
-        baselines: Vec::new(rt.alloc()),
-        suppressions: None,
-    };
-    let options = Options {
-        policy: Policy::default(),
-        checks: Checks::default(),
-        today: None,
-        workers: 1,
-        seed: seed_of(ZEROS)?,
-    };
+    let options = options_by(Policy::default(), None, 1)?;
     let asked = Asked {
         options: &options,
         reporting: None,
         upkeep: None,
     };
-    let (merged, ()) = merge_readers(&rt, rt.alloc(), &mut readers, &asked, &NoGate, |_| Ok(()))?;
+    let merged = merge_texts(&rt, Texts::of(log.as_str()), &asked)?;
     assert_eq!(rt; merged.log.as_str(), MERGED);
     assert_eq!(rt; merged.verdict, Verdict::Pass);
     Ok(())
