@@ -1,49 +1,39 @@
 -- What stripping leaves of a value's kind.
 use Rattle.std.proofs.Common.{◌≡◌, ℕ, Bool, if◌then◌else◌, List, [], ◌∷◌, map, true, false, Option, Some, None, is_some, option_map, refl, sym, ap, ◌∙◌}
 use Rattle.json.specs.Token.{Token}
-use Rattle.serde_json.specs.Data.{Data, Num, unsigned, negative, float, null, boolean, number, string, array, object, Items, no_items, item}
+use Rattle.serde_json.specs.Data.{Data, unsigned, negative, float, null, boolean, number, string, array, object, Items, no_items, item, Members}
 use Rattle.serde_json.specs.Find.{get, as_null, as_str, as_number, as_u64, as_array, as_object}
 use Rattle.serde_json.specs.View.{items_of}
 use Rattle.std.specs.Prelude.{option_and_then}
 use Rattle.json_parts.specs.Indexed.{data_of, first_element}
 use Rattle.json_parts.specs.Internal.Ordered.{IsOrdered, AreItemsOrdered}
-use Rattle.json_parts.specs.Stripping.{is_fractional, stripped, stripped_items}
+use Rattle.json_parts.specs.Stripping.{is_fractional, stripped, stripped_items, stripped_members}
 use Rattle.json_parts.proofs.Stripped.{get-stripped, get-IsOrdered}
 use Rattle.sarif_model.specs.Members.{first_of, elements}
 use Rattle.sarif_model.specs.Run.{elements_or_none}
 use Rattle.sarif_read.specs.Internal.Listed.{value_at, AreOrdered}
 
+-- `f` is the same for a stripped value, if it is the same for a stripped array and a stripped object
+same_scalar : {A : Type 0} (f : Data → A) → ((ds : Items) → f (array (stripped_items ds)) ≡ f (array ds)) → ((ms : Members) → f (object (stripped_members ms)) ≡ f (object ms))
+    → (d : Data) → f (stripped d) ≡ f d
+same_scalar f arrays objects null = refl
+same_scalar f arrays objects (boolean b) = refl
+same_scalar f arrays objects (number n) = refl
+same_scalar f arrays objects (string s) = refl
+same_scalar f arrays objects (array ds) = arrays ds
+same_scalar f arrays objects (object ms) = objects ms
+
 pub same_null : (d : Data) → is_some (as_null (stripped d)) ≡ is_some (as_null d)
-same_null null = refl
-same_null (boolean b) = refl
-same_null (number n) = refl
-same_null (string s) = refl
-same_null (array ds) = refl
-same_null (object ms) = refl
+same_null = same_scalar (λ d. is_some (as_null d)) (λ ds. refl) (λ ms. refl)
 
 pub same_text : (d : Data) → as_str (stripped d) ≡ as_str d
-same_text null = refl
-same_text (boolean b) = refl
-same_text (number n) = refl
-same_text (string s) = refl
-same_text (array ds) = refl
-same_text (object ms) = refl
+same_text = same_scalar as_str (λ ds. refl) (λ ms. refl)
 
 pub same_object : (d : Data) → is_some (as_object (stripped d)) ≡ is_some (as_object d)
-same_object null = refl
-same_object (boolean b) = refl
-same_object (number n) = refl
-same_object (string s) = refl
-same_object (array ds) = refl
-same_object (object ms) = refl
+same_object = same_scalar (λ d. is_some (as_object d)) (λ ds. refl) (λ ms. refl)
 
 pub same_number : (d : Data) → as_number (stripped d) ≡ as_number d
-same_number null = refl
-same_number (boolean b) = refl
-same_number (number n) = refl
-same_number (string s) = refl
-same_number (array ds) = refl
-same_number (object ms) = refl
+same_number = same_scalar as_number (λ ds. refl) (λ ms. refl)
 
 pub same_array : (d : Data) → as_array (stripped d) ≡ option_map stripped_items (as_array d)
 same_array null = refl
