@@ -25,6 +25,7 @@ pub fn page_places_have_only_breaks()
 
 /// A page has at most 10,000 rows: hits in the first table, other results in the second, and in each table the rows
 /// of one file together. If no more results are reported, each of them has exactly one row.
+#[tactic(auto, using(crate::proofs::RowsByFile::rows_most, crate::proofs::RowsByFile::rows_are_hits, crate::proofs::RowsByFile::rows_are_others, crate::proofs::RowsByFile::rows_together, crate::proofs::RowsByFile::rows_once))]
 pub fn page_rows_are_by_file()
     ensures most { (findings : List Finding) →
         length (page.page_rows findings) ≤ page.most_rows }

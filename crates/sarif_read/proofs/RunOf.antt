@@ -8,15 +8,16 @@ use Rattle.std.proofs.lemmas.Map.Text.{is_eq-slice_cmp}
 use Rattle.std.proofs.lemmas.Slice.Eq.{bytes_eq-Decides}
 use Rattle.std.proofs.lemmas.List.{length-map}
 use Rattle.json.specs.Token.{Token}
-use Rattle.serde_json.specs.Data.{Data, null, boolean, number, string, array, object, Items, no_items, item, Members, no_members, member, put}
+use Rattle.serde_json.specs.Data.{Data, null, boolean, number, string, array, object, Members, no_members, member, put}
 use Rattle.serde_json.specs.Find.{get, get_member, as_array}
 use Rattle.serde_json.specs.View.{view, items_of}
 use Rattle.serde_json.proofs.Views.{get_member-put, view-Array}
 use Rattle.serde_json.specs.declared.value.Value.{Value}
 use Rattle.serde_json.specs.declared.value.Value.TheVariants.{Array as json_array}
-use Rattle.json_parts.specs.Stripping.{is_fractional, stripped, stripped_items, stripped_members}
+use Rattle.json_parts.specs.Stripping.{is_fractional, stripped, stripped_members}
 use Rattle.json_parts.specs.Without.{without, without_member}
-use Rattle.json_parts.specs.Internal.Ordered.{IsOrdered, AreItemsOrdered, IsBelow, AreMembersOrdered}
+use Rattle.json_parts.specs.Internal.Ordered.{IsOrdered, IsBelow, AreMembersOrdered}
+use Rattle.json_parts.proofs.Keeping.{stripping_keeps}
 use Rattle.json_parts.proofs.Kept.{put_below}
 use Rattle.json_parts.proofs.Order.{below_all}
 use Rattle.json_parts.proofs.Stripped.{absent_below}
@@ -186,24 +187,11 @@ below_stripped k no_members below = tt
 below_stripped k (member l d ms) below =
     below_if (is_fractional d) k l (stripped d) (stripped_members ms) below.0 (below_stripped k ms below.1)
 
-ordered_if : (b : Bool) (l : List ℕ) (d : Data) (ms : Members) → IsBelow l ms → IsOrdered d → AreMembersOrdered ms → AreMembersOrdered (if b then ms else member l d ms)
-ordered_if true l d ms below first rest = rest
-ordered_if false l d ms below first rest = (below, first, rest)
-
-mutual
-  pub stripped_ordered : (d : Data) → IsOrdered d → IsOrdered (stripped d)
-  stripped_ordered null ordered = tt
-  stripped_ordered (boolean b) ordered = tt
-  stripped_ordered (number n) ordered = tt
-  stripped_ordered (string s) ordered = tt
-  stripped_ordered (array ds) ordered = items_ordered ds ordered
-  stripped_ordered (object ms) ordered = members_ordered ms ordered
-
-  items_ordered : (ds : Items) → AreItemsOrdered ds → AreItemsOrdered (stripped_items ds)
-  items_ordered no_items ordered = tt
-  items_ordered (item d ds) ordered = (stripped_ordered d ordered.0, items_ordered ds ordered.1)
-
-  members_ordered : (ms : Members) → AreMembersOrdered ms → AreMembersOrdered (stripped_members ms)
-  members_ordered no_members ordered = tt
-  members_ordered (member l d ms) ordered =
-      ordered_if (is_fractional d) l (stripped d) (stripped_members ms) (below_stripped l ms ordered.0) (stripped_ordered d ordered.1) (members_ordered ms ordered.2)
+-- the names in a value that is stripped rise
+pub stripped_ordered : (d : Data) → IsOrdered d → IsOrdered (stripped d)
+stripped_ordered = stripping_keeps IsOrdered (record {
+  parts = λ d ds is. is;
+  whole = λ d ds first rest. (first, rest);
+  inner = λ k d ms is. (is.1, is.2);
+  outer = λ k d ms is first rest. (below_stripped k ms is.0, first, rest);
+})

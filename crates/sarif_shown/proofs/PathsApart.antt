@@ -1,21 +1,21 @@
 -- No path begins with `./`.
-use Rattle.std.proofs.Common.{◌≡◌, ◌==◌, ◌&&◌, ◌++◌, ℕ, suc, Bool, true, false, List, [], ◌∷◌, map, chars, codes, Option, Some, None, IfSome, refl, ap, sym, ◌∙◌, if◌then◌else◌}
+use Rattle.std.proofs.Common.{◌≡◌, ◌==◌, ◌&&◌, ◌++◌, ℕ, suc, Bool, true, false, List, [], ◌∷◌, map, chars, Option, Some, None, IfSome, refl, ap, sym, ◌∙◌, if◌then◌else◌}
 use mathlib.Core.Bool.{and-false}
-use Rattle.std.specs.Prelude.{option_and_then, flat_map}
-use Rattle.std.specs.List.{All, AllByRecursion, filter_map, cons_option}
+use Rattle.std.specs.Prelude.{option_and_then}
+use Rattle.std.specs.List.{All}
 use Rattle.std.proofs.lemmas.Bool.{and_parts, and_from, false_from_ne_true, or_parts, true≢false}
 use Rattle.std.proofs.lemmas.List.Elements.{All-from_recursion}
 use Rattle.serde_json.specs.Data.{Data}
 use Rattle.sarif_model.specs.declared.kinds.Level.{Level}
 use Rattle.sarif_model.specs.declared.kinds.State.{State}
-use Rattle.sarif_findings.specs.declared.finding.Finding.{Finding}
 use Rattle.sarif_findings.specs.declared.reporting.Reporting.{Reporting}
-use Rattle.sarif_findings.specs.Lookup.{elements_in, uri_of}
+use Rattle.sarif_findings.specs.Lookup.{uri_of}
 use Rattle.sarif_findings.specs.PathOf.{after_here, begins_here, decoded, is_removed, path_chars, without_here, without_root}
 use Rattle.sarif_findings.specs.Placeholders.{first_is}
-use Rattle.sarif_findings.specs.Reported.{finding_by, finding_if, finding_of, is_reported, level_in, none_if_empty, reported_in, reported_of, shown_path, state_in}
+use Rattle.sarif_findings.specs.Reported.{finding_of, none_if_empty, reported_of, shown_path}
 use Rattle.sarif_findings.specs.Shown.{is_concealed, kept, parted_signs, plain, shown, shown_chars}
 use Rattle.sarif_findings.proofs.CharsBack.{chars_back}
+use Rattle.sarif_findings.proofs.EachFinding.{each_finding}
 use Rattle.sarif_shown.specs.FindingLaws.{IsNamed, starts_here}
 
 -- ---- before a path is shown
@@ -82,35 +82,5 @@ finding_named : (reporting : Reporting) (run result : Data) (l : Level) (s : Sta
 unfolding finding_of
 finding_named reporting run result l s = path_named reporting.roots (uri_of run result)
 
-chosen : (b : Bool) (f : Finding) → IsNamed f → IfSome (if b then Some f else None) IsNamed
-chosen true f h = h
-chosen false f h = tt
-
-named_by : (reporting : Reporting) (run result : Data) (ol : Option Level) (os : Option State) → IfSome (finding_by reporting run result ol os) IsNamed
-named_by reporting run result None os = tt
-named_by reporting run result (Some l) None = tt
-named_by reporting run result (Some l) (Some s) =
-    chosen (is_reported reporting result s) (finding_of reporting run result l s) (finding_named reporting run result l s)
-
-named_more : (o : Option Finding) (fs : List Finding) → IfSome o IsNamed → AllByRecursion IsNamed fs → AllByRecursion IsNamed (cons_option o fs)
-named_more None fs h rest = rest
-named_more (Some f) fs h rest = (h, rest)
-
-named_results : (reporting : Reporting) (run : Data) (results : List Data) → AllByRecursion IsNamed (filter_map (finding_if reporting run) results)
-named_results reporting run [] = tt
-named_results reporting run (result ∷ results) =
-    named_more (finding_if reporting run result) (filter_map (finding_if reporting run) results)
-    (named_by reporting run result (level_in result) (state_in result)) (named_results reporting run results)
-
-named_append : (fs gs : List Finding) → AllByRecursion IsNamed fs → AllByRecursion IsNamed gs → AllByRecursion IsNamed (fs ++ gs)
-named_append [] gs h rest = rest
-named_append (f ∷ fs) gs h rest = (h.0, named_append fs gs h.1 rest)
-
-named_runs : (reporting : Reporting) (runs : List Data) → AllByRecursion IsNamed (flat_map (reported_in reporting) runs)
-named_runs reporting [] = tt
-named_runs reporting (run ∷ runs) =
-    named_append (reported_in reporting run) (flat_map (reported_in reporting) runs)
-    (named_results reporting run (elements_in (codes "results") run)) (named_runs reporting runs)
-
 pub all_named : (reporting : Reporting) (log : Data) → All IsNamed (reported_of reporting log)
-all_named reporting log = All-from_recursion IsNamed (reported_of reporting log) (named_runs reporting (elements_in (codes "runs") log))
+all_named reporting log = All-from_recursion IsNamed (reported_of reporting log) (each_finding IsNamed reporting (finding_named reporting) log)

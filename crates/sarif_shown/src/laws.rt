@@ -81,6 +81,7 @@ pub fn text_reports_have_a_line_a_result()
 
 /// Each line of the report for GitHub Actions begins with one of its three commands, and there is one line per
 /// reported result: no log adds a command. Its first lines are those of the hits.
+#[tactic(auto, using(crate::proofs::GithubApart::commands_begin, crate::proofs::GithubApart::lines_end, crate::proofs::GithubApart::hit_lines, crate::proofs::GithubApart::hits_first))]
 pub fn github_lines_begin_with_commands()
     ensures commands { (reporting : Reporting) (log : Data) →
         are_commands true (github_of (reported_of reporting log)) ≡ true }
