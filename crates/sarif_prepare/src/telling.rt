@@ -112,11 +112,11 @@ fn tell(
     ensures { IfOk result (λ finding. finding ≡ told_by reporting.now told.now) }
 {
     let run = told.run;
-    let arguments = run.opened.message_arguments(alloc, told.seq)?;
+    let message = run.opened.message(alloc, told.seq)?;
     let result = ToldResult {
         rule: run.opened.rule_reference(told.seq),
-        message: run.opened.message_reference(told.seq),
-        arguments: arguments.as_slice(),
+        message: message.reference,
+        arguments: message.arguments.as_slice(),
         location: run.opened.first_location(told.seq),
     };
     let named = &run.named;

@@ -3,4 +3,5 @@ pub mod Bare
 pub mod Indexed
 pub mod Listed
 pub mod Picked
+pub mod ReadMessage
 pub mod ReadRefusal

@@ -9,7 +9,8 @@ use crate::filling::{values_of, with_results};
 use crate::listed::Listed;
 use crate::location::location_in;
 use crate::picking::pick_members;
-use crate::references::{arguments_in, message_in, rule_in};
+use crate::read_message::ReadMessage;
+use crate::references::{message_in, rule_in};
 use crate::success::has_unsuccessful;
 use crate::whole::RawRun;
 use sarif_model::{FirstLocation, MessageReference, RuleReference};
@@ -30,8 +31,8 @@ impl<'t, 'a> IndexedRun<'t, 'a> {
     ghost use Rattle.std.specs.Prelude.{◌≡◌, ◌<◌, ◌≤◌, length, map, is_some, IfOk, IsTrue};
     ghost use Rattle.serde_json.specs.View.{view};
     ghost use Rattle.sarif_model.specs.Internal.FirstLocation.{IsFirstLocation};
-    ghost use Rattle.sarif_model.specs.Internal.References as said;
-    ghost use Rattle.sarif_model.specs.Internal.References.{IsMessageReference, IsRuleReference};
+    ghost use Rattle.sarif_model.specs.Internal.References.{IsRuleReference};
+    ghost use Rattle.sarif_read.specs.Internal.ReadMessage.{IsReadMessage};
     ghost use Rattle.sarif_model.specs.Run.{results_of, results_array, result_at};
     ghost use Rattle.sarif_read.specs.Internal.Bare.{bare, is_bare};
     ghost use Rattle.sarif_read.specs.Failed.{failed};
@@ -156,31 +157,22 @@ impl<'t, 'a> IndexedRun<'t, 'a> {
         }
     }
 
-    /// How result `seq` of the run refers to the text of its message. No value is made of it.
+    /// What reports read of the message of result `seq` of the run: values are made of its arguments alone. Returns
+    /// `AllocError` if memory for them runs out.
     #[tactic(auto, using(crate::proofs::RunOf::count_results, crate::proofs::RunOf::nth_result))]
-    pub fn message_reference(&self, seq: u32) -> MessageReference<'a>
+    pub fn message(&self, alloc: Global, seq: u32) -> Result<ReadMessage<'a>, AllocError>
         requires { seq < length (results_of (run_of self.now)) }
-        ensures { IsMessageReference result (result_at (run_of self.now) seq) }
+        ensures { IfOk result (IsReadMessage (result_at (run_of self.now) seq)) }
     {
         match &self.results {
-            Listed::Array(nodes) => message_in(&nodes[seq as usize]),
-            Listed::Missing | Listed::Null => MessageReference {
-                text: None,
-                id: None,
-            },
-        }
-    }
-
-    /// The arguments of the message of result `seq` of the run. Returns `AllocError` if memory for them runs out.
-    #[tactic(auto, using(crate::proofs::RunOf::count_results, crate::proofs::RunOf::nth_result))]
-    pub fn message_arguments(&self, alloc: Global, seq: u32) -> Result<Vec<Value>, AllocError>
-        requires { seq < length (results_of (run_of self.now)) }
-        ensures { IfOk result (λ values. map view values.items
-            ≡ said.arguments_in (result_at (run_of self.now) seq)) }
-    {
-        match &self.results {
-            Listed::Array(nodes) => arguments_in(alloc, &nodes[seq as usize]),
-            Listed::Missing | Listed::Null => Ok(Vec::new(alloc)),
+            Listed::Array(nodes) => message_in(alloc, &nodes[seq as usize]),
+            Listed::Missing | Listed::Null => Ok(ReadMessage {
+                reference: MessageReference {
+                    text: None,
+                    id: None,
+                },
+                arguments: Vec::new(alloc),
+            }),
         }
     }
 

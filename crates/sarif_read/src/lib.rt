@@ -13,6 +13,7 @@ mod members;
 mod nodes;
 mod picking;
 mod read_fault;
+mod read_message;
 mod reading;
 mod references;
 mod success;
@@ -26,4 +27,5 @@ pub use laws::{
     runs_have_results_where_they_are_listed, stripped_holds_no_fraction, stripping_twice_is_once,
 };
 pub use read_fault::{ReadFault, refused_text};
+pub use read_message::ReadMessage;
 pub use whole::{Log, RawRun, read_log, strip, strip_in_place};

@@ -6,13 +6,15 @@ ghost use Rattle.serde_json.specs.Find.{get, as_array};
 ghost use Rattle.serde_json.specs.View.{view};
 ghost use Rattle.sarif_model.specs.Internal.FirstLocation.{string_in, integer_in};
 ghost use Rattle.sarif_model.specs.Internal.References as said;
-ghost use Rattle.sarif_model.specs.Internal.References.{IsMessageReference, IsRuleReference};
+ghost use Rattle.sarif_model.specs.Internal.References.{IsRuleReference};
 ghost use Rattle.sarif_model.specs.Run.{elements_or_none};
 ghost use Rattle.sarif_read.specs.Internal.Listed.{value_at};
+ghost use Rattle.sarif_read.specs.Internal.ReadMessage.{IsReadMessage};
 
 use crate::filling::values_of;
 use crate::members::{integer_in, member_in, string_in};
 use crate::nodes::{elements_of, integer_member, kept_member, text_of};
+use crate::read_message::ReadMessage;
 use json_parts::Node;
 use sarif_model::{MessageReference, RuleReference};
 use serde_json::Value;
@@ -71,17 +73,6 @@ pub(crate) fn rule_in<'a>(found: &Node<'_, 'a>) -> RuleReference<'a>
     }
 }
 
-/// How a result refers to the text of its message.
-pub(crate) fn message_in<'a>(found: &Node<'_, 'a>) -> MessageReference<'a>
-    ensures { IsMessageReference result (value_at found.now) }
-{
-    let message = member_of(found, "message");
-    MessageReference {
-        text: string_in(&message, "text"),
-        id: string_in(&message, "id"),
-    }
-}
-
 /// The values of the elements, if this is an array.
 #[tactic(auto, using(crate::proofs::PickedMembers::data_ordered, crate::proofs::RunOf::elements_found))]
 fn elements_in(alloc: Global, node: &Node<'_, '_>) -> Result<Vec<Value>, AllocError>
@@ -95,13 +86,32 @@ fn elements_in(alloc: Global, node: &Node<'_, '_>) -> Result<Vec<Value>, AllocEr
     Ok(values)
 }
 
-/// The arguments of a result's message.
-pub(crate) fn arguments_in(alloc: Global, found: &Node<'_, '_>) -> Result<Vec<Value>, AllocError>
-    ensures { IfOk result (λ values. map view values.items ≡ said.arguments_in (value_at found.now)) }
+/// The arguments of a message.
+fn arguments_of(alloc: Global, message: &Option<Node<'_, '_>>) -> Result<Vec<Value>, AllocError>
+    ensures { IfOk result (λ values. map view values.items
+        ≡ said.arguments_of (option_map value_at message.now)) }
 {
-    let message = member_of(found, "message");
-    match member_in(&message, "arguments") {
+    match member_in(message, "arguments") {
         Some(node) => elements_in(alloc, &node),
         None => Ok(Vec::new(alloc)),
     }
+}
+
+/// What reports read of the message of a result.
+pub(crate) fn message_in<'a>(
+    alloc: Global,
+    found: &Node<'_, 'a>,
+) -> Result<ReadMessage<'a>, AllocError>
+    ensures { IfOk result (IsReadMessage (value_at found.now)) }
+{
+    let message = member_of(found, "message");
+    let arguments = arguments_of(alloc, &message)?;
+    let reference = MessageReference {
+        text: string_in(&message, "text"),
+        id: string_in(&message, "id"),
+    };
+    Ok(ReadMessage {
+        reference,
+        arguments,
+    })
 }

@@ -11,8 +11,8 @@ use crate::head::RunHead;
 use crate::item::Item;
 use crate::making::{copy_tool_name, make_record_of};
 use crate::open::open_value;
-use sarif_model::{Fault, FirstLocation, MessageReference, Refusal, RuleReference, Source, Text};
-use sarif_read::IndexedRun;
+use sarif_model::{Fault, FirstLocation, Refusal, RuleReference, Source, Text};
+use sarif_read::{IndexedRun, ReadMessage};
 use serde_json::Value;
 use std::alloc::{AllocError, Global};
 use std::hash::RandomState;
@@ -58,8 +58,8 @@ impl<'t, 'a> OpenedRun<'t, 'a> {
     ghost use Rattle.sarif_read.specs.Failed.{failed};
     ghost use Rattle.sarif_read.specs.Internal.Picked.{picked};
     ghost use Rattle.sarif_model.specs.Internal.FirstLocation.{IsFirstLocation};
-    ghost use Rattle.sarif_model.specs.Internal.References as said;
-    ghost use Rattle.sarif_model.specs.Internal.References.{IsMessageReference, IsRuleReference};
+    ghost use Rattle.sarif_model.specs.Internal.References.{IsRuleReference};
+    ghost use Rattle.sarif_read.specs.Internal.ReadMessage.{IsReadMessage};
     ghost use Rattle.sarif_model.specs.Run.{result_at, results_array, results_of};
 
     /// Opens run `number` of a source, which holds no number with a fraction. The tables of its head hash with
@@ -202,22 +202,13 @@ impl<'t, 'a> OpenedRun<'t, 'a> {
         self.run.rule_reference(seq)
     }
 
-    /// How result `seq` of the run, numbered from 0, refers to the text of its message.
-    pub fn message_reference(&self, seq: u32) -> MessageReference<'a>
+    /// What reports read of the message of result `seq` of the run, numbered from 0. Returns `AllocError` if memory
+    /// for its arguments runs out.
+    pub fn message(&self, alloc: Global, seq: u32) -> Result<ReadMessage<'a>, AllocError>
         requires { seq < length (results_of (placed_of self.now).run) }
-        ensures { IsMessageReference result (result_at (placed_of self.now).run seq) }
+        ensures { IfOk result (IsReadMessage (result_at (placed_of self.now).run seq)) }
     {
-        self.run.message_reference(seq)
-    }
-
-    /// The arguments of the message of result `seq` of the run, numbered from 0. Returns `AllocError` if memory for
-    /// them runs out.
-    pub fn message_arguments(&self, alloc: Global, seq: u32) -> Result<Vec<Value>, AllocError>
-        requires { seq < length (results_of (placed_of self.now).run) }
-        ensures { IfOk result (λ values. map view values.items
-            ≡ said.arguments_in (result_at (placed_of self.now).run seq)) }
-    {
-        self.run.message_arguments(alloc, seq)
+        self.run.message(alloc, seq)
     }
 
     /// The run without its results, taken out.

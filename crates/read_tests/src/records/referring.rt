@@ -43,11 +43,10 @@ fn told_of(alloc: Global, run: &IndexedRun<'_, '_>, seq: u32) -> Result<String, 
     push_name(&mut told, rule.id)?;
     push_number(alloc, &mut told, rule.index)?;
     push_number(alloc, &mut told, rule.extension)?;
-    let message = run.message_reference(seq);
-    push_name(&mut told, message.text)?;
-    push_name(&mut told, message.id)?;
-    let arguments = run.message_arguments(alloc, seq)?;
-    push_number(alloc, &mut told, Some(arguments.len() as u64))?;
+    let message = run.message(alloc, seq)?;
+    push_name(&mut told, message.reference.text)?;
+    push_name(&mut told, message.reference.id)?;
+    push_number(alloc, &mut told, Some(message.arguments.len() as u64))?;
     Ok(told)
 }
 

@@ -57,8 +57,12 @@ IsMessageReference message result =
     (option_map (λ text. text.now) message.text ≡ message_text result)
     × (option_map (λ id. id.now) message.id ≡ message_id result)
 
+-- the arguments of a message
+abbrev pub arguments_of : Option Data → List Data
+arguments_of message =
+    elements_or_none
+    (option_and_then as_array (option_and_then (get (codes "arguments")) message))
+
 -- `message.arguments`
 abbrev pub arguments_in : Data → List Data
-arguments_in result =
-    elements_or_none
-    (option_and_then as_array (option_and_then (get (codes "arguments")) (message_in result)))
+arguments_in result = arguments_of (message_in result)
