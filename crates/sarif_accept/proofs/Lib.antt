@@ -3,6 +3,7 @@ pub mod After
 pub mod EntryMatches
 pub mod EntryRead
 pub mod EntryWhole
+pub mod EveryRow
 pub mod FileRead
 pub mod FileText
 pub mod Flags

@@ -1,8 +1,7 @@
 -- How deep a new suppression file nests: at most as deep as a value that is read.
-use Rattle.std.proofs.Common.{ℕ, suc, ◌≤◌, Bool, true, false, List, [], ◌∷◌, ◌++◌, map, Option, Some, None, option_map, Ordering, Less, Equal, Greater, nat_cmp, bytes_eq, codes, arith, if◌then◌else◌}
+use Rattle.std.proofs.Common.{ℕ, suc, ◌≤◌, Bool, true, false, List, [], ◌∷◌, ◌++◌, map, Option, Some, None, Ordering, Less, Equal, Greater, nat_cmp, bytes_eq, codes, arith, if◌then◌else◌}
 use Rattle.std.specs.Prelude.{option_and_then, ⊤}
 use Rattle.std.specs.Cmp.Lexicographic.{slice_cmp}
-use Rattle.std.specs.List.{AllByRecursion}
 use Rattle.std.specs.Ordering.{match_ordering}
 use Rattle.serde_json.specs.Data.{Data, null, boolean, number, unsigned, string, array, object, Items, no_items, item, Members, no_members, member, put, depth, items_depth, members_depth}
 use Rattle.serde_json.specs.Find.{get, get_member, as_array}
@@ -10,12 +9,13 @@ use Rattle.serde_json.specs.Read.{max_depth}
 use Rattle.serde_json.specs.View.{items_of}
 use Rattle.json_parts.specs.Stripping.{is_fractional, stripped, stripped_items, stripped_members}
 use Rattle.json_parts.specs.Without.{without, without_member}
+use Rattle.json_parts.proofs.Keeping.{If}
 use Rattle.sarif_model.specs.Members.{elements}
 use Rattle.sarif_model.specs.declared.record.Record.{Record}
-use Rattle.sarif_entries.specs.declared.conditions.Conditions.{Conditions}
-use Rattle.sarif_accept.specs.Entry.{Row, with_value, members_from, texts_into, texts_put, texts_if_any, list_if_any, guid_text, entry_rows, entry_for, conditions_for}
+use Rattle.sarif_accept.specs.Entry.{members_from, texts_put, entry_rows, entry_for, conditions_for}
 use Rattle.sarif_accept.specs.Keeping.{chosen}
 use Rattle.sarif_accept.specs.NewFile.{stripped_in, entry_in, listed, entries_in, others_in, file_with, new_file}
+use Rattle.sarif_accept.proofs.EveryRow.{IsKept, IsOfEach, entry_keeps, texts_keep}
 
 -- ---- stripping and leaving out
 
@@ -138,63 +138,29 @@ listed_within n (Some (object ms)) h = omega arith
 
 -- ---- the entry that accepts a result
 
-into_depth : (ms : Members) (ps : List (List ℕ × List ℕ)) → members_depth ms ≤ 0 → members_depth (texts_into ms ps) ≤ 0
-into_depth ms [] h = h
-into_depth ms (p ∷ ps) h = into_depth (put p.0 (string p.1) ms) ps (put_depth p.0 (string p.1) ms 0 (omega arith) h)
-
-texts_depth : (ps : List (List ℕ × List ℕ)) → members_depth (texts_put ps) ≤ 0
-texts_depth ps = into_depth no_members ps (omega arith)
-
 strings_depth : (texts : List (List ℕ)) → items_depth (items_of (map string texts)) ≤ 0
 strings_depth [] = omega arith
 strings_depth (t ∷ ts) = let more = strings_depth ts in omega (arith, more)
 
-pairs_within : (ps : List (List ℕ × List ℕ)) → FoundWithin 1 (texts_if_any ps)
-pairs_within [] = tt
-pairs_within (p ∷ ps) = let h : members_depth (texts_put (p ∷ ps)) ≤ 0 = texts_depth (p ∷ ps) in omega (arith, h)
+put_keeps : (n : ℕ) → IsKept (λ d. depth d ≤ n) (λ ms. members_depth ms ≤ n)
+put_keeps n = record { none = omega arith; more = λ k d ms. put_depth k d ms n }
 
-list_within : (texts : List (List ℕ)) → FoundWithin 1 (list_if_any (map string texts))
-list_within [] = tt
-list_within (t ∷ ts) = let h : items_depth (items_of (map string (t ∷ ts))) ≤ 0 = strings_depth (t ∷ ts) in omega (arith, h)
+date_within : (until : Option ℕ) → If (λ n. depth (number (unsigned n)) ≤ 1) until
+date_within None = tt
+date_within (Some n) = omega arith
 
-text_within : {A : Type 0} (f : A → List ℕ) (o : Option A) → FoundWithin 1 (option_map (λ a. string (f a)) o)
-text_within f None = tt
-text_within f (Some a) = omega arith
-
-day_within : (o : Option ℕ) → FoundWithin 1 (option_map (λ n. number (unsigned n)) o)
-day_within None = tt
-day_within (Some n) = omega arith
-
-value_within : (name : List ℕ) (o : Option Data) (ms : Members) → FoundWithin 1 o → members_depth ms ≤ 1 → members_depth (with_value name o ms) ≤ 1
-value_within name None ms one rest = rest
-value_within name (Some d) ms one rest = put_depth name d ms 1 one rest
-
-also : {A B : Type 0} → A → B → A × B
-also a b = (a, b)
-
-from_rows : (rows : List Row) → AllByRecursion (λ row. FoundWithin 1 row.1) rows → members_depth (members_from rows) ≤ 1
-from_rows [] all = omega arith
-from_rows (row ∷ rows) all = value_within row.0 row.1 (members_from rows) all.0 (from_rows rows all.1)
-
-rows_within : (c : Conditions) (reason : Option (List ℕ)) (until : Option ℕ) → members_depth (members_from (entry_rows c reason until)) ≤ 1
-rows_within c reason until =
-    from_rows (entry_rows c reason until)
-    (also (day_within until)
-    (also (text_within (λ t. t) reason)
-    (also (text_within (λ t. t) c.tool)
-    (also (text_within (λ t. t) c.rule_id)
-    (also (text_within (λ t. t) c.uri)
-    (also (text_within guid_text c.guid)
-    (also (pairs_within c.full)
-    (also (pairs_within c.partial)
-    (also (text_within (λ t. t) c.message)
-    (also (text_within (λ t. t) c.message_id)
-    (also (list_within c.message_args) tt)))))))))))
+each_within : (until : Option ℕ) → IsOfEach (λ d. depth d ≤ 1) until
+each_within until = record {
+  date = date_within until;
+  text = λ s. omega arith;
+  pairs = λ ps. let h : members_depth (texts_put ps) ≤ 0 = texts_keep (put_keeps 0) (λ s. omega arith) ps in omega (arith, h);
+  list = λ texts. let h = strings_depth texts in omega (arith, h);
+}
 
 made_within : (rs : List Record) (reason : Option (List ℕ)) (until : Option ℕ) (n : ℕ) → 2 ≤ n → AreWithin n (map (λ r. entry_for r reason until) rs)
 made_within [] reason until n room = omega arith
 made_within (r ∷ rs) reason until n room =
-    let one = rows_within (conditions_for r) reason until in
+    let one : members_depth (members_from (entry_rows (conditions_for r) reason until)) ≤ 1 = entry_keeps (put_keeps 1) until (each_within until) (conditions_for r) reason in
     let more : items_depth (items_of (map (λ r. entry_for r reason until) rs)) ≤ n = made_within rs reason until n room in
     omega (arith, one, more, room)
 

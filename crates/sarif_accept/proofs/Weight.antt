@@ -9,7 +9,7 @@ use Rattle.json.specs.Print.{escape_letter, escape_byte, escape, token_text, sep
 use Rattle.json.specs.Layout.{Last, nothing, pretty, pretty_from, piece, step, gap, depth_at, is_value}
 use Rattle.json.specs.Tree.{json_tokens, items_tokens, members_tokens}
 use Rattle.serde_json.specs.Data as value
-use Rattle.serde_json.specs.Data.{Data, Items, no_items, item, Members, no_members, member, put}
+use Rattle.serde_json.specs.Data.{Data, Items, item, Members, no_members, member, put}
 use Rattle.serde_json.specs.Find.{get_member}
 use Rattle.serde_json.specs.View.{items_of}
 use Rattle.serde_json.specs.Written.{outline, items_outline, members_outline}

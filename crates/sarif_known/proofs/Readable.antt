@@ -80,15 +80,16 @@ at_ordered name d ps ordered is =
     let steps = bind_ok (of_kind BadFingerprint as_object (member_at name d)) pairs_of ps is in
     pairs_ordered steps.0 ps (object_ordered (get name d) steps.0 (get_ordered name d ordered) steps.1) steps.2
 
--- the facts about the members that are read from a result
-record AreSound (parts : Parts) : Type 0 where
-  guid : IfSome parts.guid (λ n. n < 2 ^ 128)
-  full : AreMembersOrdered (text_members parts.full)
-  partial : AreMembersOrdered (text_members parts.partial)
+-- what is read from a result, and from which member
+pub record AreReadFrom (d : Data) (parts : Parts) : Type 0 where
+  pub guid : IfSome parts.guid (λ n. n < 2 ^ 128)
+  pub held : own_statuses d ≡ Ok parts.held
+  pub full : pairs_at (codes "fingerprints") d ≡ Ok parts.full
+  pub partial : pairs_at (codes "partialFingerprints") d ≡ Ok parts.partial
 
-parts_sound : (d : Data) (parts : Parts) → IsOrdered d → parts_of d ≡ Ok parts → AreSound parts
+pub parts_read : (d : Data) (parts : Parts) → parts_of d ≡ Ok parts → AreReadFrom d parts
 unfolding parts_of own_fingerprints
-parts_sound d parts ordered is =
+parts_read d parts is =
     let present = bind_ok (check_present d) _ parts is in
     let kind = bind_ok (own_kind d) _ parts present.2 in
     let level = bind_ok (own_level d) _ parts kind.2 in
@@ -104,8 +105,9 @@ parts_sound d parts ordered is =
     let both = ok_is _ fingerprints.0 partial.2 in
     record {
       guid = subst (λ p. IfSome p.guid (λ n. n < 2 ^ 128)) whole (guid_is_small (member_at (codes "correlationGuid") d) guid.0 guid.1);
-      full = subst (λ p. AreMembersOrdered (text_members p.full)) whole (subst (λ f. AreMembersOrdered (text_members f.full)) both (at_ordered (codes "fingerprints") d full.0 ordered full.1));
-      partial = subst (λ p. AreMembersOrdered (text_members p.partial)) whole (subst (λ f. AreMembersOrdered (text_members f.partial)) both (at_ordered (codes "partialFingerprints") d partial.0 ordered partial.1));
+      held = subst (λ p. own_statuses d ≡ Ok p.held) whole held.1;
+      full = subst (λ p. pairs_at (codes "fingerprints") d ≡ Ok p.full) whole (subst (λ f. pairs_at (codes "fingerprints") d ≡ Ok f.full) both full.1);
+      partial = subst (λ p. pairs_at (codes "partialFingerprints") d ≡ Ok p.partial) whole (subst (λ f. pairs_at (codes "partialFingerprints") d ≡ Ok f.partial) both partial.1);
     }
 
 no_level : (fails : Bool) (own overriding default : Option Level) → fails ≡ false → first_level fails own overriding default ≡ NoLevel
@@ -118,9 +120,9 @@ level_right head parts level is passes =
     let overriding = bind_ok (overriding_level_at head.invocations parts.invocation descriptor.0) _ level descriptor.2 in
     sym (ok_is _ level overriding.2) ∙ no_level (is_fail parts.kind) _ _ _ passes
 
-by_sound : (head : RunHead) (tool : List ℕ) (parts : Parts) (r : Record) → AreSound parts → record_by head tool parts ≡ Ok r → IsOfTool tool r
+by_sound : (d : Data) (head : RunHead) (tool : List ℕ) (parts : Parts) (r : Record) → IsOrdered d → AreReadFrom d parts → record_by head tool parts ≡ Ok r → IsOfTool tool r
 unfolding record_by
-by_sound head tool parts r sound is =
+by_sound d head tool parts r ordered read is =
     let descriptor = bind_ok (descriptor_of head.components (reference_of parts)) _ r is in
     let level = bind_ok (level_of head parts) _ r descriptor.2 in
     let place = bind_ok (place_of head.artifacts parts) _ r level.2 in
@@ -128,7 +130,12 @@ by_sound head tool parts r sound is =
     subst (IsOfTool tool) whole
     (record {
       tool_is = refl;
-      readable = record { guid = sound.guid; level = level_right head parts level.0 level.1; full = sound.full; partial = sound.partial };
+      readable = record {
+        guid = read.guid;
+        level = level_right head parts level.0 level.1;
+        full = at_ordered (codes "fingerprints") d parts.full ordered read.full;
+        partial = at_ordered (codes "partialFingerprints") d parts.partial ordered read.partial;
+      };
     })
 
 -- ---- a log
@@ -153,7 +160,7 @@ record_sound run seq r ordered is =
     let head = bind_ok (head_of run) _ r is in
     let parts = bind_ok (parts_of (result_at run seq)) (record_by head.0 (tool_name run)) r head.2 in
     let result : IsOrdered (result_at run seq) = listed_ordered (get (codes "results") run) seq (get_ordered (codes "results") run ordered) in
-    by_sound head.0 (tool_name run) parts.0 r (parts_sound (result_at run seq) parts.0 result parts.1) parts.2
+    by_sound (result_at run seq) head.0 (tool_name run) parts.0 r result (parts_read (result_at run seq) parts.0 parts.1) parts.2
 
 some_ok : {A : Type 0} (o : Option A) (fault : Fault) (x : A) → at_whole (ok_or o fault) ≡ Ok x → o ≡ Some x
 some_ok None fault x is = let never : ⊥ = cc in absurd never

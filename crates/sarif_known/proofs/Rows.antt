@@ -20,7 +20,7 @@ by_ordering Greater false x y e = refl
 at_member : (q k : List ℕ) (d : Data) (ms : Members) → get_member q (member k d ms) ≡ (if bytes_eq q k then Some d else get_member q ms)
 at_member q k d ms = by_ordering (slice_cmp nat_cmp q k) (bytes_eq q k) (Some d) (get_member q ms) (is_eq-slice_cmp q k)
 
--- the same is found whether members are put among others or come before them
+-- a name finds the same value whether members are put among others or come before them
 get_same : (q : List ℕ) (rows : List Row) → get_member q (members_from rows) ≡ get_member q (put_from rows)
 get_same q [] = refl
 get_same q ((k, None) ∷ rows) = get_same q rows

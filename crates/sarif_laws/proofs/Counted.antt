@@ -3,28 +3,20 @@ use Rattle.std.proofs.Common.{◌≡◌, ◌+◌, Bool, true, false, not, ◌&&�
 use Rattle.std.specs.Prelude.{count_by, flat_map, option_and_then}
 use Rattle.std.proofs.lemmas.List.Sums.{sum_by-append, sum_by-cons}
 use Rattle.serde_json.specs.Data.{Data, Items, no_items, item}
-use Rattle.serde_json.specs.Find.{get, as_str, as_array}
+use Rattle.serde_json.specs.Find.{get, as_array}
 use Rattle.sarif_model.specs.declared.kinds.Level.{Level}
 use Rattle.sarif_model.specs.declared.kinds.State.{State}
-use Rattle.sarif_model.specs.Level.{level_name}
 use Rattle.sarif_model.specs.Members.{elements}
-use Rattle.sarif_model.specs.Run.{elements_or_none, is_text, results_of}
+use Rattle.sarif_model.specs.Run.{elements_or_none, results_of}
 use Rattle.sarif_counts.specs.declared.policy.Policy.{Policy}
 use Rattle.sarif_counts.specs.Policy.{count_if, hits_of, is_listed}
 use Rattle.sarif_counts.specs.Tally.{same_side}
 use Rattle.sarif_counts.specs.CountOf.{carries, count_in, count_of, results_in, suppresses, suppressions_in}
 use Rattle.sarif_findings.specs.Reported.{level_in, state_in}
 use Rattle.sarif_findings.proofs.ReportedMore.{items_in_array, items_or_none}
-use Rattle.sarif_findings.proofs.HitsCounted.{at_least_in, hits_add, hits_in, hits_one, hits_same, hits_zero, is_level, is_state, level_tells, one_of, state_tells}
+use Rattle.sarif_findings.proofs.HitsCounted.{at_least_in, hits_add, hits_in, hits_one, hits_same, hits_zero, one_of}
+use Rattle.sarif_findings.proofs.HitsReported.{carried}
 use Rattle.sarif_laws.specs.Hits.{fails_on, is_hit_in, lists}
-
-carried : (s : State) (l : Level) (result : Data)
-    → carries s l false result ≡ (is_state s (state_in result) && (is_level l (level_in result) && same_side false (suppresses (suppressions_in result))))
-carried s l result =
-    let state = state_tells s (option_and_then as_str (get (codes "baselineState") result)) in
-    let level = level_tells l (option_and_then as_str (get (codes "level") result)) in
-    ap (λ b. b && (is_text (level_name l) (option_and_then as_str (get (codes "level") result)) && same_side false (suppresses (suppressions_in result)))) state
-    ∙ ap (λ b. is_state s (state_in result) && (b && same_side false (suppresses (suppressions_in result)))) level
 
 severe_same : (policy : Policy) (level : Option Level) → at_least_in policy.fail_on level ≡ fails_on policy level
 severe_same policy None = refl

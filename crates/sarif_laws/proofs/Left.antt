@@ -1,5 +1,5 @@
 -- What is left of a result in the next merge.
-use Rattle.std.proofs.Common.{◌≡◌, Bool, true, false, ◌&&◌, ◌||◌, not, List, [], ◌∷◌, ◌++◌, map, Some, codes, bytes_eq, refl, sym, ap, ◌∙◌, append-nil, true≢false}
+use Rattle.std.proofs.Common.{◌≡◌, Bool, true, false, ◌&&◌, ◌||◌, not, List, [], ◌∷◌, ◌++◌, map, codes, bytes_eq, refl, sym, ap, ◌∙◌, append-nil, true≢false}
 use Rattle.std.specs.Prelude.{Result, Ok, Err, option_and_then}
 use Rattle.std.specs.List.{list_all}
 use Rattle.serde_json.specs.Data.{Data, null, boolean, number, string, array, object, Items, Members}
@@ -7,20 +7,17 @@ use Rattle.serde_json.specs.Find.{as_str}
 use Rattle.serde_json.specs.View.{items_of}
 use Rattle.sarif_model.specs.declared.fault.Fault.{Fault}
 use Rattle.sarif_model.specs.declared.kinds.Level.{Level}
-use Rattle.sarif_model.specs.declared.kinds.Level.TheVariants.{NoLevel, Note, Warning, Error}
 use Rattle.sarif_model.specs.declared.kinds.State.{State}
-use Rattle.sarif_model.specs.declared.kinds.State.TheVariants.{New, Unchanged, Updated, Absent}
 use Rattle.sarif_model.specs.declared.kinds.Status.{Status}
 use Rattle.sarif_model.specs.declared.record.Record.{Record}
-use Rattle.sarif_model.specs.Level.{level_name, level_named}
 use Rattle.sarif_model.specs.Members.{◌>>=◌, elements, read_each, result_map}
 use Rattle.sarif_model.specs.Run.{is_absent_result, is_text}
-use Rattle.sarif_model.specs.State.{state_name, state_named}
+use Rattle.sarif_model.specs.State.{state_name}
 use Rattle.sarif_model.specs.Suppression.{status_of}
 use Rattle.sarif_counts.specs.declared.policy.Policy.{Policy}
-use Rattle.sarif_counts.specs.CountOf.{items_in, suppresses}
+use Rattle.sarif_counts.specs.CountOf.{items_in}
 use Rattle.sarif_counts.specs.Policy.{is_at_least, is_listed}
-use Rattle.sarif_findings.specs.Reported.{is_active, level_in, state_in}
+use Rattle.sarif_findings.specs.Reported.{is_active, level_in}
 use Rattle.sarif_entries.specs.declared.entry.Entry.{Entry}
 use Rattle.sarif_entries.specs.File.{File}
 use Rattle.sarif_entries.specs.Matching.{is_empty}
@@ -31,10 +28,11 @@ use Rattle.sarif_suppress.proofs.WrittenList.{written_empty}
 use Rattle.sarif_suppress.proofs.ReadBack.{read_back}
 use Rattle.sarif_read.proofs.RunOf.{elements_items_of}
 use Rattle.sarif_results.specs.Annotated.{annotated_members, own_suppressions}
-use Rattle.sarif_results.proofs.AnnotatedResult.{level_found, list_found, state_found}
+use Rattle.sarif_results.proofs.AnnotatedResult.{list_found, state_found}
 use Rattle.sarif_results.proofs.CountedAgain.{counted_again}
 use Rattle.sarif_log.specs.LogBy.{listing_of}
 use Rattle.sarif_log.specs.MergedRuns.{written}
+use Rattle.sarif_log.proofs.Told.{active_told, level_told, state_told}
 use Rattle.sarif_accept.specs.Adding.{is_hit, may_hit, stays}
 use Rattle.sarif_laws.specs.Accepting.{IsLeft}
 use Rattle.sarif_laws.specs.Hits.{fails_on, is_hit_in, lists, stays_in, suppressions_listed}
@@ -52,28 +50,7 @@ left_same policy d stay = record {
 
 -- ---- what is found in a written result
 
-level_back : (level : Level) → level_named (level_name level) ≡ Some level
-level_back NoLevel = refl
-level_back Note = refl
-level_back Warning = refl
-level_back Error = refl
-
-state_back : (state : State) → state_named (state_name state) ≡ Some state
-state_back New = refl
-state_back Unchanged = refl
-state_back Updated = refl
-state_back Absent = refl
-
 module _ (level : Level) (state : State) (list : Items) (ms : Members) where
-  pub level_told : level_in (object (annotated_members level state list ms)) ≡ Some level
-  level_told = ap (λ o. option_and_then level_named (option_and_then as_str o)) (level_found level state list ms) ∙ level_back level
-
-  pub state_told : state_in (object (annotated_members level state list ms)) ≡ Some state
-  state_told = ap (λ o. option_and_then state_named (option_and_then as_str o)) (state_found level state list ms) ∙ state_back state
-
-  active_told : is_active (object (annotated_members level state list ms)) ≡ not (suppresses list)
-  active_told = ap (λ o. not (suppresses (items_in o))) (list_found level state list ms)
-
   list_told : suppressions_listed (object (annotated_members level state list ms)) ≡ elements list
   list_told = ap (λ o. elements (items_in o)) (list_found level state list ms)
 

@@ -1,5 +1,5 @@
 -- Numbers of a value that is read are in range, and stay so.
-use Rattle.std.proofs.Common.{◌≡◌, ℕ, zero, suc, ◌<◌, ◌≤◌, ◌^◌, ◌&&◌, ◌==◌, Bool, true, false, pos, negsuc, List, [], ◌∷◌, Option, Some, None, option_map, option_and_then, Ordering, Less, Equal, Greater, bytes_eq, refl, subst, arith, if◌then◌else◌}
+use Rattle.std.proofs.Common.{◌≡◌, ℕ, zero, suc, ◌<◌, ◌≤◌, ◌^◌, ◌&&◌, ◌==◌, Bool, true, false, pos, negsuc, List, [], ◌∷◌, Option, Some, None, Ordering, Less, Equal, Greater, bytes_eq, refl, subst, arith, if◌then◌else◌}
 use Rattle.std.specs.Prelude.{⊤, drop, nat_lt, nat_le, slice_index}
 use Rattle.std.specs.Cmp.Lexicographic.{slice_cmp}
 use Rattle.std.specs.Ordering.{nat_cmp, match_ordering}
@@ -10,10 +10,11 @@ use Rattle.fast_float.specs.Text.{Parts, digits_of, minus, nearest, scan, with_s
 use Rattle.json.specs.Json as json
 use Rattle.serde_json.specs.Data.{Num, unsigned, negative, float, Data, null, boolean, number, string, array, object, Items, no_items, item, Members, no_members, member, put}
 use Rattle.serde_json.specs.Find.{get_member}
-use Rattle.serde_json.specs.Read.{float_of, is_integer, number_from, number_of, of_items, of_json, of_members}
+use Rattle.serde_json.specs.Read.{float_of, is_integer, number_from, number_of, of_json}
 use Rattle.serde_json.specs.View.{items_of}
-use Rattle.json_parts.specs.Stripping.{is_fractional, stripped, stripped_items, stripped_members}
+use Rattle.json_parts.specs.Stripping.{stripped}
 use Rattle.json_parts.specs.Without.{without}
+use Rattle.json_parts.proofs.Keeping.{If, IsMade, json_has, stripping_keeps}
 use Rattle.sarif_model.specs.Members.{elements}
 
 -- an integer fits 64 bits
@@ -39,10 +40,6 @@ abbrev mutual
   pub AreMembersRanged : Members → Type 0
   AreMembersRanged no_members = ⊤
   AreMembersRanged (member k d ms) = IsRanged d × AreMembersRanged ms
-
-abbrev If : {A : Type 0} → (A → Type 0) → Option A → Type 0
-If P None = ⊤
-If P (Some a) = P a
 
 -- ---- numbers
 
@@ -92,58 +89,30 @@ pub put_ranged : (k : List ℕ) (d : Data) (ms : Members) → IsRanged d → Are
 put_ranged k d no_members here old = (here, tt)
 put_ranged k d (member l e ms) here old = put_at (slice_cmp nat_cmp k l) k l d e ms (put k d ms) here old (put_ranged k d ms here old.1)
 
-if_map : {A B : Type 0} (P : A → Type 0) (Q : B → Type 0) (f : A → B) → ((a : A) → P a → Q (f a)) → (o : Option A) → If P o → If Q (option_map f o)
-if_map P Q f so None all = tt
-if_map P Q f so (Some a) all = so a all
-
-if_then : {A B : Type 0} (P : A → Type 0) (Q : B → Type 0) (f : A → Option B) → ((a : A) → P a → If Q (f a)) → (o : Option A) → If P o → If Q (option_and_then f o)
-if_then P Q f so None all = tt
-if_then P Q f so (Some a) all = so a all
-
-mutual
-  json_ranged : (j : json.Json) → If IsRanged (of_json j)
-  json_ranged json.null = tt
-  json_ranged (json.boolean b) = tt
-  json_ranged (json.number s) = if_map IsRangedNumber IsRanged number (λ n fits. fits) (number_of s) (number_ranged s)
-  json_ranged (json.string s) = tt
-  json_ranged (json.array js) = if_map AreItemsRanged IsRanged array (λ ds all. all) (of_items js) (items_ranged js)
-  json_ranged (json.object ms) = if_map AreMembersRanged IsRanged object (λ ns all. all) (of_members ms no_members) (members_ranged ms no_members tt)
-
-  items_ranged : (js : json.Items) → If AreItemsRanged (of_items js)
-  items_ranged json.no_items = tt
-  items_ranged (json.item j js) =
-      if_then IsRanged AreItemsRanged (λ d. option_map (item d) (of_items js)) (λ d here. if_map AreItemsRanged AreItemsRanged (item d) (λ ds rest. (here, rest)) (of_items js) (items_ranged js)) (of_json j) (json_ranged j)
-
-  members_ranged : (ms : json.Members) (found : Members) → AreMembersRanged found → If AreMembersRanged (of_members ms found)
-  members_ranged json.no_members found all = all
-  members_ranged (json.member k j ms) found all =
-      if_then IsRanged AreMembersRanged (λ d. of_members ms (put k d found)) (λ d here. members_ranged ms (put k d found) (put_ranged k d found here all)) (of_json j) (json_ranged j)
+made_ranged : IsMade IsRanged
+made_ranged = record {
+  at_null = tt;
+  at_boolean = λ b. tt;
+  at_number = number_ranged;
+  at_string = λ s. tt;
+  at_none = tt;
+  at_item = λ d ds here rest. (here, rest);
+  at_empty = tt;
+  at_put = λ k d ms here all. put_ranged k d ms here all;
+}
 
 pub read_ranged : (j : json.Json) (d : Data) → of_json j ≡ Some d → IsRanged d
-read_ranged j d is = subst (If IsRanged) is (json_ranged j)
+read_ranged j d is = subst (If IsRanged) is (json_has IsRanged made_ranged j)
 
 -- ---- values that are taken from them
 
-mutual
-  pub stripped_ranged : (d : Data) → IsRanged d → IsRanged (stripped d)
-  stripped_ranged null is = tt
-  stripped_ranged (boolean b) is = tt
-  stripped_ranged (number n) is = is
-  stripped_ranged (string s) is = tt
-  stripped_ranged (array ds) is = stripped_items_ranged ds is
-  stripped_ranged (object ms) is = stripped_members_ranged ms is
-
-  stripped_items_ranged : (ds : Items) → AreItemsRanged ds → AreItemsRanged (stripped_items ds)
-  stripped_items_ranged no_items are = tt
-  stripped_items_ranged (item d ds) are = (stripped_ranged d are.0, stripped_items_ranged ds are.1)
-
-  stripped_members_ranged : (ms : Members) → AreMembersRanged ms → AreMembersRanged (stripped_members ms)
-  stripped_members_ranged no_members are = tt
-  stripped_members_ranged (member k d ms) are =
-      elim (is_fractional d) as (λ b. AreMembersRanged (if b then stripped_members ms else member k (stripped d) (stripped_members ms))) [
-        | true ↦ stripped_members_ranged ms are.1
-        | false ↦ (stripped_ranged d are.0, stripped_members_ranged ms are.1)
-      ]
+pub stripped_ranged : (d : Data) → IsRanged d → IsRanged (stripped d)
+stripped_ranged = stripping_keeps IsRanged (record {
+  parts = λ d ds is. is;
+  whole = λ d ds first rest. (first, rest);
+  inner = λ k d ms is. is;
+  outer = λ k d ms is first rest. (first, rest);
+})
 
 pub without_ranged : (name : List ℕ) (ms : Members) → AreMembersRanged ms → AreMembersRanged (without name ms)
 without_ranged name no_members are = tt

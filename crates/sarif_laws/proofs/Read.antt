@@ -1,6 +1,6 @@
 -- What is known of the record of a result that was read: its GUID, and the statuses of its own suppressions.
-use Rattle.std.proofs.Common.{◌≡◌, ℕ, ◌<◌, ◌^◌, Bool, true, false, ◌&&◌, List, [], ◌∷◌, map, length, Option, Some, None, codes, refl, subst, if◌then◌else◌}
-use Rattle.std.specs.Prelude.{Result, Ok, Err, IfSome, option_and_then}
+use Rattle.std.proofs.Common.{◌≡◌, ℕ, Bool, true, false, ◌&&◌, List, [], ◌∷◌, map, length, Option, Some, None, codes, refl, subst, if◌then◌else◌}
+use Rattle.std.specs.Prelude.{Result, Ok, Err, option_and_then}
 use Rattle.std.specs.List.{AllByRecursion, range_with_len}
 use Rattle.serde_json.specs.Data.{Data, null, boolean, number, string, array, object, Members}
 use Rattle.serde_json.specs.Find.{as_array, get_member}
@@ -8,7 +8,7 @@ use Rattle.sarif_model.specs.declared.fault.Fault.{Fault}
 use Rattle.sarif_model.specs.declared.fault.Fault.TheVariants.{BadSuppression}
 use Rattle.sarif_model.specs.declared.kinds.Status.{Status}
 use Rattle.sarif_model.specs.declared.record.Record.{Record}
-use Rattle.sarif_model.specs.Members.{◌>>=◌, are_objects, elements, elements_of, if_objects, member_at, of_kind, read_each, unless_null}
+use Rattle.sarif_model.specs.Members.{◌>>=◌, are_objects, elements, elements_of, if_objects, of_kind, read_each, unless_null}
 use Rattle.sarif_model.specs.Run.{is_absent_result, result_at, results_of}
 use Rattle.sarif_model.specs.Suppression.{status_of}
 use Rattle.sarif_counts.specs.CountOf.{items_in}
@@ -20,13 +20,13 @@ use Rattle.sarif_runs.specs.Descriptor.{descriptor_of, reference_of}
 use Rattle.sarif_runs.specs.Head.{head_of}
 use Rattle.sarif_runs.specs.Judging.{item_by, item_of, items_of, records_in, records_of, skips, with_record}
 use Rattle.sarif_runs.specs.Level.{level_of}
-use Rattle.sarif_runs.specs.OwnMembers.{check_present, own_fingerprints, own_guid, own_indexes, own_kind, own_level, own_location, own_message_and_rule, own_statuses, parts_of}
+use Rattle.sarif_runs.specs.OwnMembers.{own_statuses, parts_of}
 use Rattle.sarif_runs.specs.Place.{place_of}
 use Rattle.sarif_runs.specs.Placed.{Placed}
 use Rattle.sarif_runs.specs.Record.{record_by, record_in, record_of, tool_name}
 use Rattle.sarif_results.specs.Annotated.{own_suppressions}
 use Rattle.sarif_accept.specs.Until.{HasGuid}
-use Rattle.sarif_known.proofs.Readable.{guid_is_small}
+use Rattle.sarif_known.proofs.Readable.{AreReadFrom, parts_read}
 use Rattle.sarif_laws.proofs.Lists.{all_append}
 
 ok_is : {A E : Type 0} (x y : A) → ◌≡◌ {A = Result A E} (Ok x) (Ok y) → x ≡ y
@@ -50,33 +50,11 @@ held_read (Some (array ds)) held is = by_objects (are_objects (elements ds)) is
 
 -- ---- the record
 
-record ArePartsOf (d : Data) (parts : Parts) : Type 0 where
-  guid : IfSome parts.guid (λ n. n < 2 ^ 128)
-  held : own_statuses d ≡ Ok parts.held
-
-parts_are : (d : Data) (parts : Parts) → parts_of d ≡ Ok parts → ArePartsOf d parts
-unfolding parts_of
-parts_are d parts is =
-    let present = bind_ok (check_present d) _ parts is in
-    let kind = bind_ok (own_kind d) _ parts present.2 in
-    let level = bind_ok (own_level d) _ parts kind.2 in
-    let guid = bind_ok (own_guid d) _ parts level.2 in
-    let fingerprints = bind_ok (own_fingerprints d) _ parts guid.2 in
-    let held = bind_ok (own_statuses d) _ parts fingerprints.2 in
-    let said = bind_ok (own_message_and_rule d) _ parts held.2 in
-    let indexes = bind_ok (own_indexes d) _ parts said.2 in
-    let location = bind_ok (own_location d) _ parts indexes.2 in
-    let whole = ok_is _ parts location.2 in
-    record {
-      guid = subst (λ p. IfSome p.guid (λ n. n < 2 ^ 128)) whole (guid_is_small (member_at (codes "correlationGuid") d) guid.0 guid.1);
-      held = subst (λ p. own_statuses d ≡ Ok p.held) whole held.1;
-    }
-
 pub record IsRead (d : Data) (r : Record) : Type 0 where
   pub guid : HasGuid r
   pub held : own_statuses d ≡ Ok r.held
 
-by_parts : (d : Data) (head : RunHead) (tool : List ℕ) (parts : Parts) (r : Record) → ArePartsOf d parts → record_by head tool parts ≡ Ok r → IsRead d r
+by_parts : (d : Data) (head : RunHead) (tool : List ℕ) (parts : Parts) (r : Record) → AreReadFrom d parts → record_by head tool parts ≡ Ok r → IsRead d r
 unfolding record_by
 by_parts d head tool parts r are is =
     let descriptor = bind_ok (descriptor_of head.components (reference_of parts)) _ r is in
@@ -89,7 +67,7 @@ unfolding record_of record_in
 record_read run seq r is =
     let head = bind_ok (head_of run) _ r is in
     let parts = bind_ok (parts_of (result_at run seq)) (record_by head.0 (tool_name run)) r head.2 in
-    by_parts (result_at run seq) head.0 (tool_name run) parts.0 r (parts_are (result_at run seq) parts.0 parts.1) parts.2
+    by_parts (result_at run seq) head.0 (tool_name run) parts.0 r (parts_read (result_at run seq) parts.0 parts.1) parts.2
 
 -- the statuses are those of the suppressions that are written unchanged
 pub statuses_read : (ms : Members) (r : Record) → IsRead (object ms) r → read_each status_of (elements (own_suppressions ms)) ≡ Ok r.held

@@ -1,6 +1,6 @@
 -- In the new suppression file the names of objects rise, and numbers are in range.
-use Rattle.std.proofs.Common.{◌≡◌, ℕ, ◌<◌, ◌^◌, Bool, true, false, List, [], ◌∷◌, map, Option, Some, None, option_map, option_and_then, bytes_eq, codes, refl, arith, if◌then◌else◌}
-use Rattle.std.specs.Prelude.{⊤, unwrap_or}
+use Rattle.std.proofs.Common.{◌≡◌, ℕ, ◌<◌, ◌^◌, Bool, true, false, List, [], ◌∷◌, map, Option, Some, None, option_and_then, bytes_eq, codes, refl, arith, if◌then◌else◌}
+use Rattle.std.specs.Prelude.{unwrap_or}
 use Rattle.std.specs.Str.{is_utf8}
 use Rattle.std.specs.List.{AllByRecursion}
 use Rattle.json.specs.Json as json
@@ -13,6 +13,7 @@ use Rattle.json_parts.specs.Indexed.{json_of}
 use Rattle.json_parts.specs.Mark.{without_mark}
 use Rattle.json_parts.specs.Internal.Ordered.{AreItemsOrdered, AreMembersOrdered, IsBelow, IsOrdered}
 use Rattle.json_parts.specs.Without.{without, without_member}
+use Rattle.json_parts.proofs.Keeping.{If}
 use Rattle.json_parts.proofs.Order.{ordered_put, read_ordered}
 use Rattle.json_parts.proofs.Readings.{and_then_some}
 use Rattle.json_parts.proofs.Stripped.{get-IsOrdered}
@@ -20,10 +21,10 @@ use Rattle.sarif_model.specs.declared.record.Record.{Record}
 use Rattle.sarif_model.specs.Members.{elements}
 use Rattle.sarif_counts.specs.declared.upkeep.Renewal.{Renewal}
 use Rattle.sarif_read.proofs.RunOf.{stripped_ordered}
-use Rattle.sarif_entries.specs.declared.conditions.Conditions.{Conditions}
-use Rattle.sarif_accept.specs.Entry.{Row, conditions_for, entry_for, entry_rows, guid_text, list_if_any, members_from, texts_if_any, texts_into, texts_put}
+use Rattle.sarif_accept.specs.Entry.{conditions_for, entry_for, entry_rows, members_from, texts_put}
 use Rattle.sarif_accept.specs.Keeping.{chosen}
 use Rattle.sarif_accept.specs.NewFile.{entries_after, entries_in, entry_in, file_object, listed, new_file, others_in, stripped_in}
+use Rattle.sarif_accept.proofs.EveryRow.{IsKept, IsOfEach, entry_keeps, texts_keep}
 use Rattle.sarif_laws.proofs.Lists.{all_append}
 use Rattle.sarif_laws.proofs.Ranged.{AreItemsRanged, AreMembersRanged, IsRanged, list_ranged, member_ranged, put_ranged, read_ranged, stripped_ranged, without_ranged}
 
@@ -35,10 +36,6 @@ pub record IsSound (d : Data) : Type 0 where
 pub record AreSound (ms : Members) : Type 0 where
   pub rise : AreMembersOrdered ms
   pub fit : AreMembersRanged ms
-
-abbrev If : {A : Type 0} → (A → Type 0) → Option A → Type 0
-If P None = ⊤
-If P (Some a) = P a
 
 object_sound : (ms : Members) → AreSound ms → IsSound (object ms)
 object_sound ms are = record { rises = are.rise; fits = are.fit }
@@ -147,66 +144,34 @@ list_sound ds all = record { rises = rise ds all; fits = list_ranged ds (fit ds 
 string_sound : (s : List ℕ) → IsSound (string s)
 string_sound s = record { rises = tt; fits = tt }
 
-text_if : {A : Type 0} (f : A → List ℕ) (o : Option A) → If IsSound (option_map (λ x. string (f x)) o)
-text_if f None = tt
-text_if f (Some x) = string_sound (f x)
-
 strings_sound : (texts : List (List ℕ)) → AllByRecursion IsSound (map string texts)
 strings_sound [] = tt
 strings_sound (s ∷ texts) = (string_sound s, strings_sound texts)
 
-list_if : (ds : List Data) → AllByRecursion IsSound ds → If IsSound (list_if_any ds)
-list_if [] all = tt
-list_if (d ∷ ds) all = list_sound (d ∷ ds) all
-
-texts_sound : (ms : Members) (ps : List (List ℕ × List ℕ)) → AreSound ms → AreSound (texts_into ms ps)
-texts_sound ms [] are = are
-texts_sound ms (p ∷ ps) are = texts_sound (put p.0 (string p.1) ms) ps (put_sound p.0 (string p.1) ms (string_sound p.1) are)
-
-texts_if : (ps : List (List ℕ × List ℕ)) → If IsSound (texts_if_any ps)
-texts_if [] = tt
-texts_if (p ∷ ps) = object_sound (texts_put (p ∷ ps)) (texts_sound no_members (p ∷ ps) none_sound)
-
-abbrev RowsSound : List Row → Type 0
-RowsSound [] = ⊤
-RowsSound (row ∷ rows) = If IsSound row.1 × RowsSound rows
-
-rows_sound : (rows : List Row) → RowsSound rows → AreSound (members_from rows)
-rows_sound [] all = none_sound
-rows_sound ((name, None) ∷ rows) all = rows_sound rows all.1
-rows_sound ((name, Some d) ∷ rows) all = put_sound name d (members_from rows) all.0 (rows_sound rows all.1)
+put_keeps : IsKept IsSound AreSound
+put_keeps = record { none = none_sound; more = put_sound }
 
 -- the number of an expiry date is in range
 abbrev pub IsSmall : Option ℕ → Type 0
 IsSmall o = If (λ n. n < 2 ^ 64) o
 
-number_if : (until : Option ℕ) → IsSmall until → If IsSound (option_map (λ n. number (unsigned n)) until)
-number_if None small = tt
-number_if (Some n) small = record { rises = tt; fits = small }
+date_sound : (until : Option ℕ) → IsSmall until → If (λ n. IsSound (number (unsigned n))) until
+date_sound None small = tt
+date_sound (Some n) small = record { rises = tt; fits = small }
 
-conditions_sound : (c : Conditions) (reason : Option (List ℕ)) (until : Option ℕ) → IsSmall until → RowsSound (entry_rows c reason until)
-conditions_sound c reason until small = (
-  number_if until small,
-  (
-    text_if (λ s. s) reason,
-    (
-      text_if (λ s. s) c.tool,
-      (
-        text_if (λ s. s) c.rule_id,
-        (
-          text_if (λ s. s) c.uri,
-          (text_if guid_text c.guid, (texts_if c.full, (texts_if c.partial, (text_if (λ s. s) c.message, (text_if (λ s. s) c.message_id, (list_if (map string c.message_args) (strings_sound c.message_args), tt)))))),
-        ),
-      ),
-    ),
-  ),
-)
+each_sound : (until : Option ℕ) → IsSmall until → IsOfEach IsSound until
+each_sound until small = record {
+  date = date_sound until small;
+  text = string_sound;
+  pairs = λ ps. object_sound (texts_put ps) (texts_keep put_keeps string_sound ps);
+  list = λ texts. list_sound (map string texts) (strings_sound texts);
+}
 
 added_sound : (rs : List Record) (reason : Option (List ℕ)) (until : Option ℕ) → IsSmall until → AllByRecursion IsSound (map (λ r. entry_for r reason until) rs)
 added_sound [] reason until small = tt
 added_sound (r ∷ rs) reason until small =
     let c = conditions_for r in
-    (object_sound (members_from (entry_rows c reason until)) (rows_sound (entry_rows c reason until) (conditions_sound c reason until small)), added_sound rs reason until small)
+    (object_sound (members_from (entry_rows c reason until)) (entry_keeps put_keeps until (each_sound until small) c reason), added_sound rs reason until small)
 
 -- ---- the new file
 

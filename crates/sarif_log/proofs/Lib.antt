@@ -8,4 +8,5 @@ pub mod RunResults
 pub mod RunTexts
 pub mod Shared
 pub mod Sides
+pub mod Told
 pub mod WholeRunMembers

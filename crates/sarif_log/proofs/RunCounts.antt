@@ -1,5 +1,5 @@
 -- Drafts are counted as the runs of the merged log are.
-use Rattle.std.proofs.Common.{◌≡◌, ◌≤◌, ◌+◌, ◌++◌, ℕ, zero, suc, Bool, List, [], ◌∷◌, Option, Some, None, map, take, drop, length, length-append, refl, sym, ap, ◌∙◌, arith}
+use Rattle.std.proofs.Common.{◌≡◌, ◌+◌, ◌++◌, ℕ, zero, suc, Bool, List, [], ◌∷◌, Option, Some, None, map, take, drop, length, length-append, refl, sym, ap, ◌∙◌, arith}
 use Rattle.std.proofs.lemmas.List.{take-map, drop-map, length-take-le, length-drop}
 use Rattle.std.specs.List.{AllByRecursion, flat_map}
 use Rattle.serde_json.specs.Data.{Data, null, boolean, number, string, array, object, Items, Members}

@@ -19,7 +19,8 @@ use Rattle.sarif_results.specs.Drafts.{Listing}
 use Rattle.sarif_log.specs.MergedRuns.{written, written_all, annotated_items, own_results, with_results, bare, merged_run, merged_runs, keep_if, unmatched, with_absent, if_any, absent_runs}
 use Rattle.sarif_model.specs.Run.{present}
 use Rattle.sarif_results.proofs.WholeListing.{items_whole}
-use Rattle.sarif_results.proofs.WholeMembers.{put_whole, on_members_whole, list_float, found_whole, items_in_whole, array_whole, elements_whole, results_whole}
+use Rattle.json_parts.proofs.Keeping.{put_whole}
+use Rattle.sarif_results.proofs.WholeMembers.{on_members_whole, list_float, found_whole, items_in_whole, array_whole, elements_whole, results_whole}
 use Rattle.sarif_log.proofs.WholeRunMembers.{bare_whole, with_results_whole}
 
 both : (d : Data) (ds : List Data) → has_float d ≡ false → list_any has_float ds ≡ false → list_any has_float (d ∷ ds) ≡ false

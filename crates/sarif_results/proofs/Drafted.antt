@@ -12,7 +12,7 @@ use Rattle.sarif_results.specs.declared.draft.Draft.{Draft}
 use Rattle.sarif_results.specs.Drafts.{draft_by, drafted_members, listed_in}
 use Rattle.sarif_results.specs.Drafts.{Listing}
 use Rattle.sarif_model.proofs.PutAgain.{put_put}
-use Rattle.sarif_results.proofs.WholeMembers.{put_whole}
+use Rattle.json_parts.proofs.Keeping.{put_whole}
 
 -- what `finish_draft` makes
 abbrev pub finished : Level → Applied → Items → Members → Draft

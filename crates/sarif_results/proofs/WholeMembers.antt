@@ -1,10 +1,10 @@
--- Members without a number that has a fraction: what is found among them, put there, or left.
+-- Members without a number that has a fraction: what is found among them, or left.
 use Rattle.std.proofs.Common.{◌≡◌, ℕ, Bool, true, false, ◌||◌, List, Option, Some, None, option_and_then, Ordering, Less, Equal, Greater, nat_cmp, codes, bytes_eq, if◌then◌else◌, refl, ap, ◌∙◌}
 use Rattle.std.proofs.lemmas.Bool.{or_parts}
 use Rattle.std.specs.Cmp.Lexicographic.{slice_cmp}
 use Rattle.std.specs.List.{list_any}
 use Rattle.std.specs.Ordering.{match_ordering}
-use Rattle.serde_json.specs.Data.{Data, null, boolean, number, string, array, object, Items, no_items, item, Members, no_members, member, put}
+use Rattle.serde_json.specs.Data.{Data, null, boolean, number, string, array, object, Items, no_items, item, Members, no_members, member}
 use Rattle.serde_json.specs.Find.{as_array, get, get_member}
 use Rattle.serde_json.specs.Written.{has_float, items_have_float, members_have_float}
 use Rattle.sarif_model.specs.Members.{elements}
@@ -13,20 +13,7 @@ use Rattle.sarif_results.specs.Annotated.{on_members}
 use Rattle.sarif_counts.specs.CountOf.{items_in}
 use Rattle.json_parts.specs.Without.{without}
 
--- ---- what is put and what is left
-
-put_at : (o : Ordering) (k l : List ℕ) (d e : Data) (ms rest : Members)
-    → has_float d ≡ false → has_float e ≡ false → members_have_float ms ≡ false → members_have_float rest ≡ false
-    → members_have_float (match_ordering o (member k d (member l e ms)) (member l d ms) (member l e rest)) ≡ false
-put_at Less k l d e ms rest of_d of_e of_ms of_rest = rw (of_d, of_e, of_ms)
-put_at Equal k l d e ms rest of_d of_e of_ms of_rest = rw (of_d, of_ms)
-put_at Greater k l d e ms rest of_d of_e of_ms of_rest = rw (of_e, of_rest)
-
-pub put_whole : (k : List ℕ) (d : Data) (ms : Members) → has_float d ≡ false → members_have_float ms ≡ false → members_have_float (put k d ms) ≡ false
-put_whole k d no_members of_d of_ms = rw of_d
-put_whole k d (member l e ms) of_d of_ms =
-    let parts = or_parts (has_float e) (members_have_float ms) of_ms in
-    put_at (slice_cmp nat_cmp k l) k l d e ms (put k d ms) of_d parts.0 parts.1 (put_whole k d ms of_d parts.1)
+-- ---- what is left
 
 without_at : (same : Bool) (k : List ℕ) (d : Data) (ms : Members) → has_float d ≡ false → members_have_float ms ≡ false → members_have_float (if same then ms else member k d ms) ≡ false
 without_at true k d ms of_d of_ms = of_ms

@@ -1,6 +1,6 @@
 -- For the contracts between workers and the writing of the log. Internal: no public contract of the merge refers
 -- to this module. A draft is a written result without its baseline state, which is known only after matching.
-use Rattle.std.specs.Prelude.{◌≡◌, ◌+◌, false, ◌&&◌, List, [], ◌∷◌, ◌++◌, codes, unwrap_or, ⊤}
+use Rattle.std.specs.Prelude.{false, List, [], ◌∷◌, codes, unwrap_or, ⊤}
 use Rattle.std.specs.List.{AllByRecursion}
 use Rattle.serde_json.specs.Data.{Data, null, boolean, number, string, array, object, Items, Members, no_members, put}
 use Rattle.serde_json.specs.Find.{as_object}

@@ -1,6 +1,5 @@
 -- What the entries that last suppress, by the numbers of all entries that match.
-use Rattle.std.proofs.Common.{◌≡◌, ℕ, ◌+◌, Bool, true, false, not, ◌&&◌, ◌||◌, List, [], ◌∷◌, ◌++◌, map, filter, Some, refl, sym, ap, ◌∙◌, if◌then◌else◌}
-use Rattle.std.specs.Prelude.{slice_get}
+use Rattle.std.proofs.Common.{◌≡◌, ℕ, ◌+◌, Bool, true, false, not, ◌&&◌, ◌||◌, List, [], ◌∷◌, ◌++◌, map, filter, refl, ap, ◌∙◌, if◌then◌else◌}
 use Rattle.std.specs.List.{list_all, list_any}
 use Rattle.std.proofs.lemmas.List.Folds.{list_all-append}
 use Rattle.sarif_model.specs.declared.kinds.Status.{Status}
@@ -8,7 +7,7 @@ use Rattle.sarif_entries.specs.declared.entry.Entry.{Entry}
 use Rattle.sarif_entries.specs.Matching.{is_empty}
 use Rattle.sarif_suppress.specs.Numbers.{numbers_from, passes_at}
 use Rattle.sarif_suppress.specs.Suppressing.{is_accepted, statuses_suppress}
-use Rattle.sarif_suppress.proofs.Numbered.{IsPart, whole_is_part, all_numbers, list_all-map, is_empty-append}
+use Rattle.sarif_suppress.proofs.Numbered.{IsPart, whole_is_part, all_numbers, is_empty-append}
 
 any_numbers : (test picked : Entry → Bool) (whole : List Entry) (n : ℕ) (es : List Entry) → IsPart whole n es → list_any (passes_at test whole) (numbers_from picked n es) ≡ list_any test (filter picked es)
 any_numbers test picked whole n [] part = refl

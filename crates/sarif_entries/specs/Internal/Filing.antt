@@ -1,5 +1,5 @@
--- Where an entry is filed, so that a result is compared only with entries that may match it: under its most specific
--- condition.
+-- Under which condition an entry is filed: the most specific one. So a result is compared only with entries that may
+-- match it.
 use Rattle.std.specs.Prelude.{ℕ, Bool, false, not, ◌&&◌, List, [], ◌∷◌, ◌++◌, Option, Some, None, is_none, is_some, nat_eq, bytes_eq, slice_get, if◌then◌else◌}
 use Rattle.std.specs.Cmp.Lexicographic.{pointwise}
 use Rattle.std.specs.Option.{option_map_or}

@@ -17,7 +17,7 @@ present_counts runs = map (λ p. length (present (results_of p.run))) runs
 abbrev pub left_count : List Bool → ℕ
 left_count taken = length (not_taken taken taken)
 
--- these are the parts of these runs, each with the number of its results that are not taken
+-- whether the parts are those of the runs, each with the number of its results that are not taken
 abbrev pub AreLeftParts : List RunParts → List Bool → List Data → Type 0
 AreLeftParts [] taken [] = ⊤
 AreLeftParts [] taken (run ∷ runs) = ⊥

@@ -1,5 +1,5 @@
 -- How the results of all runs are shared among workers: as spots in one list, a range of them for each shard.
-use Rattle.std.specs.Prelude.{◌≡◌, ℕ, ◌+◌, ◌*◌, ◌<◌, List, ◌∷◌, ◌++◌, map}
+use Rattle.std.specs.Prelude.{ℕ, List, map}
 use Rattle.sarif_entries.specs.File.{File}
 use Rattle.sarif_results.specs.declared.outcome.Outcome.{Outcome}
 use Rattle.sarif_runs.specs.declared.spots.Spot.{Spot}

@@ -45,7 +45,7 @@ pub record IsTable {S H : Type 0} (entries : List Entry) (table : Table S H) : T
   pub rest : table.others.items ≡ numbers_from asks_for_none 0 entries
 
 -- the numbers of the entries that are filed under values of a result, except prefixes, and of the entries that are
--- filed nowhere
+-- not filed
 abbrev pub candidates : List Entry → Record → List ℕ
 candidates es r =
     option_map_or (λ guid. numbers_from (asks_for_guid guid) 0 es) r.guid []

@@ -1,4 +1,4 @@
-use Rattle.std.proofs.Common.{◌≡◌, false, codes, refl, sym, ap, ◌∙◌}
+use Rattle.std.proofs.Common.{false, codes, refl, sym, ap, ◌∙◌}
 use Rattle.serde_json.specs.Data.{null, put}
 use Rattle.serde_json.specs.Find.{get_member}
 use Rattle.serde_json.specs.View.{view, items_view, members_view}
@@ -8,7 +8,8 @@ use Rattle.sarif_results.specs.Annotated.{own_suppressions}
 use Rattle.sarif_results.specs.Drafts.{members_in, unapplied}
 use Rattle.sarif_results.proofs.Drafted.{draft_is}
 use Rattle.sarif_model.proofs.PutAgain.{items_of_elements}
-use Rattle.sarif_results.proofs.WholeMembers.{put_whole, found_whole, items_in_whole}
+use Rattle.json_parts.proofs.Keeping.{put_whole}
+use Rattle.sarif_results.proofs.WholeMembers.{found_whole, items_in_whole}
 use Rattle.sarif_results.proofs.draft.draft_absent.Goals as goal
 
 pub finish_draft-requires-clause-members : goal.finish_draft-requires-clause-members

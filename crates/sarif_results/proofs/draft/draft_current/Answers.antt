@@ -12,7 +12,8 @@ use Rattle.sarif_results.specs.Drafts.{members_in, applied_of}
 use Rattle.sarif_results.proofs.Drafted.{draft_is}
 use Rattle.sarif_read.proofs.RunOf.{elements_items_of}
 use Rattle.sarif_results.proofs.WholeListing.{suppressions_whole, items_whole}
-use Rattle.sarif_results.proofs.WholeMembers.{put_whole, found_whole, items_in_whole}
+use Rattle.json_parts.proofs.Keeping.{put_whole}
+use Rattle.sarif_results.proofs.WholeMembers.{found_whole, items_in_whole}
 use Rattle.sarif_results.proofs.draft.draft_current.Goals as goal
 
 pub finish_draft-requires-clause-members : goal.finish_draft-requires-clause-members

@@ -1,0 +1,76 @@
+-- A fact about each value that an entry may have, which putting a member keeps, is a fact about the entry that accepts a
+-- result.
+use Rattle.std.proofs.Common.{ℕ, List, [], ◌∷◌, map, Option, Some, None, option_map}
+use Rattle.std.specs.List.{AllByRecursion}
+use Rattle.serde_json.specs.Data.{Data, number, unsigned, string, array, object, Members, no_members, put}
+use Rattle.serde_json.specs.View.{items_of}
+use Rattle.json_parts.proofs.Keeping.{If}
+use Rattle.sarif_entries.specs.declared.conditions.Conditions.{Conditions}
+use Rattle.sarif_accept.specs.Entry.{Row, with_value, members_from, texts_into, texts_put, texts_if_any, list_if_any, guid_text, entry_rows}
+
+-- a fact about members that putting a member keeps, if its value has the other fact
+pub record IsKept (P : Data → Type 0) (Q : Members → Type 0) : Type 0 where
+  pub none : Q no_members
+  pub more : (k : List ℕ) (d : Data) (ms : Members) → P d → Q ms → Q (put k d ms)
+
+-- a fact about each value that an entry with this expiry date may have
+pub record IsOfEach (P : Data → Type 0) (until : Option ℕ) : Type 0 where
+  pub date : If (λ n. P (number (unsigned n))) until
+  pub text : (s : List ℕ) → P (string s)
+  pub pairs : (ps : List (List ℕ × List ℕ)) → P (object (texts_put ps))
+  pub list : (texts : List (List ℕ)) → P (array (items_of (map string texts)))
+
+module _ {P : Data → Type 0} {Q : Members → Type 0} (kept : IsKept P Q) where
+  texts_into_keep : ((s : List ℕ) → P (string s)) → (ms : Members) (ps : List (List ℕ × List ℕ)) → Q ms → Q (texts_into ms ps)
+  texts_into_keep text ms [] h = h
+  texts_into_keep text ms (p ∷ ps) h = texts_into_keep text (put p.0 (string p.1) ms) ps (kept.more p.0 (string p.1) ms (text p.1) h)
+
+  -- the members of a map of strings
+  pub texts_keep : ((s : List ℕ) → P (string s)) → (ps : List (List ℕ × List ℕ)) → Q (texts_put ps)
+  texts_keep text ps = texts_into_keep text no_members ps kept.none
+
+  value_keeps : (name : List ℕ) (o : Option Data) (ms : Members) → If P o → Q ms → Q (with_value name o ms)
+  value_keeps name None ms one rest = rest
+  value_keeps name (Some d) ms one rest = kept.more name d ms one rest
+
+  rows_keep : (rows : List Row) → AllByRecursion (λ row. If P row.1) rows → Q (members_from rows)
+  rows_keep [] all = kept.none
+  rows_keep (row ∷ rows) all = value_keeps row.0 row.1 (members_from rows) all.0 (rows_keep rows all.1)
+
+module _ {P : Data → Type 0} {until : Option ℕ} (each : IsOfEach P until) where
+  date_in : (o : Option ℕ) → If (λ n. P (number (unsigned n))) o → If P (option_map (λ n. number (unsigned n)) o)
+  date_in None h = tt
+  date_in (Some n) h = h
+
+  text_in : {A : Type 0} (f : A → List ℕ) (o : Option A) → If P (option_map (λ a. string (f a)) o)
+  text_in f None = tt
+  text_in f (Some a) = each.text (f a)
+
+  pairs_in : (ps : List (List ℕ × List ℕ)) → If P (texts_if_any ps)
+  pairs_in [] = tt
+  pairs_in (p ∷ ps) = each.pairs (p ∷ ps)
+
+  list_in : (texts : List (List ℕ)) → If P (list_if_any (map string texts))
+  list_in [] = tt
+  list_in (t ∷ ts) = each.list (t ∷ ts)
+
+  also : {A B : Type 0} → A → B → A × B
+  also a b = (a, b)
+
+  rows_have : (c : Conditions) (reason : Option (List ℕ)) → AllByRecursion (λ row. If P row.1) (entry_rows c reason until)
+  rows_have c reason =
+      also (date_in until each.date)
+      (also (text_in (λ t. t) reason)
+      (also (text_in (λ t. t) c.tool)
+      (also (text_in (λ t. t) c.rule_id)
+      (also (text_in (λ t. t) c.uri)
+      (also (text_in guid_text c.guid)
+      (also (pairs_in c.full)
+      (also (pairs_in c.partial)
+      (also (text_in (λ t. t) c.message)
+      (also (text_in (λ t. t) c.message_id)
+      (also (list_in c.message_args) tt))))))))))
+
+pub entry_keeps : {P : Data → Type 0} {Q : Members → Type 0} → IsKept P Q → (until : Option ℕ) → IsOfEach P until
+    → (c : Conditions) (reason : Option (List ℕ)) → Q (members_from (entry_rows c reason until))
+entry_keeps kept until each c reason = rows_keep kept (entry_rows c reason until) (rows_have each c reason)
