@@ -1,9 +1,9 @@
 //! That workers give the same log, work at once, and judge each shard of the results once.
-use sarif_counts::{Checks, Options, Policy};
+use sarif_counts::Policy;
 use sarif_gather::Gate;
 use sarif_merge::merge_to;
 use sarif_model::MergeFault;
-use sarif_streams::{Counted, Readers};
+use sarif_streams::Counted;
 use std::alloc::{AllocError, Global};
 use std::process::Abort;
 use std::sync::Wait;
@@ -11,7 +11,8 @@ use std::sync::atomic::{AtomicU64, Ordering};
 use std::test::Fail;
 use std::thread::Threads;
 use test_merges::{
-    NOTHING, Wanted, ZEROS, expect_log, log_of, merge, merge_watched, one_log, seed_of,
+    NOTHING, Texts, Wanted, expect_log, log_of, merge, merge_watched, one_log, options_by,
+    readers_of,
 };
 
 #[test]
@@ -84,24 +85,14 @@ fn two_workers_meet(rt: HostRuntime) -> Result<(), Fail> {
 /// The merged log of one log, from a reader into a writer that holds what it accepted.
 fn write_watched<G: Gate + Sync, R: Abort + AllocGlobal + Threads + Wait + Sync>(
     rt: &R,
-    log: &[u8],
+    log: &str,
     workers: u32,
     observer: &G,
 ) -> Result<Vec<u8>, MergeFault> {
     assert!(rt; 1 <= workers && workers <= 64);
     let mut taken = Vec::new(rt.alloc());
-    let mut readers = Readers {
-        logs: vec![in rt.alloc(); Counted::new(log)]?,
-        baselines: Vec::new(rt.alloc()),
-        suppressions: None,
-    };
-    let options = Options {
-        policy: Policy::default(),
-        checks: Checks::default(),
-        today: None,
-        workers,
-        seed: seed_of(ZEROS)?,
-    };
+    let mut readers = readers_of(rt.alloc(), Texts::of(log))?;
+    let options = options_by(Policy::default(), None, workers)?;
     merge_to(
         rt,
         rt.alloc(),
@@ -117,7 +108,7 @@ fn write_watched<G: Gate + Sync, R: Abort + AllocGlobal + Threads + Wait + Sync>
 fn two_workers_meet_over_what_a_reader_gives(rt: HostRuntime) -> Result<(), Fail> {
     let log = log_of(rt.alloc(), "lint: A; lint: A")?;
     let observer = Meeting::new();
-    let written = write_watched(&rt, log.as_str().as_bytes(), 2, &observer)?;
+    let written = write_watched(&rt, log.as_str(), 2, &observer)?;
     assert_eq!(rt; observer.misses.load(Ordering::SeqCst), 0);
     let given = one_log(rt.alloc(), "lint: A; lint: A")?;
     let merged = merge(&rt, &given)?;
