@@ -1,30 +1,29 @@
 -- The findings of results by their drafts are the findings of the written results.
 use Rattle.std.proofs.Common.{◌≡◌, ℕ, Bool, true, false, ◌&&◌, not, List, [], ◌∷◌, Some, None, map, length, codes, refl, sym, ap, ◌∙◌, arith}
-use Rattle.std.specs.Prelude.{option_and_then, if◌then◌else◌}
+use Rattle.std.specs.Prelude.{if◌then◌else◌}
 use Rattle.std.specs.List.{AllByRecursion, cons_option, filter_map}
 use Rattle.serde_json.specs.Data.{Data, null, boolean, number, string, array, object, Items, Members, put}
-use Rattle.serde_json.specs.Find.{as_str, get_member}
+use Rattle.serde_json.specs.Find.{get_member}
 use Rattle.serde_json.proofs.Views.{get_member-put_other}
 use Rattle.sarif_model.specs.declared.kinds.Level.{Level}
-use Rattle.sarif_model.specs.declared.kinds.Level.TheVariants.{NoLevel, Note, Warning, Error}
 use Rattle.sarif_model.specs.declared.kinds.State.{State}
-use Rattle.sarif_model.specs.declared.kinds.State.TheVariants.{New, Unchanged, Updated, Absent}
+use Rattle.sarif_model.specs.declared.kinds.State.TheVariants.{Absent}
 use Rattle.sarif_model.specs.declared.record.Record.{Record}
-use Rattle.sarif_model.specs.Level.{level_name, level_named}
-use Rattle.sarif_model.specs.State.{state_name, state_named}
+use Rattle.sarif_model.specs.Level.{level_name}
+use Rattle.sarif_model.specs.State.{state_name}
 use Rattle.sarif_suppress.specs.declared.suppressions.Applied.{Applied}
-use Rattle.sarif_counts.specs.CountOf.{items_in, suppresses}
+use Rattle.sarif_counts.specs.CountOf.{suppresses}
 use Rattle.sarif_counts.specs.Policy.{is_listed}
 use Rattle.sarif_findings.specs.declared.reporting.Reporting.{Reporting}
-use Rattle.sarif_findings.specs.Reported.{finding_by, finding_if, finding_of, is_active, level_in, state_in}
+use Rattle.sarif_findings.specs.Reported.{finding_by, finding_if, finding_of, state_in}
 use Rattle.sarif_prepare.proofs.ResultsAlike.{same_told, AreToldAlike}
 use Rattle.sarif_prepare.proofs.RunsAlike.{AreAlike}
 use Rattle.sarif_results.specs.Annotated.{annotated_members}
 use Rattle.sarif_results.specs.Drafts.{draft_by, drafts_by, listed_in, members_in, unapplied, IsObject}
+use Rattle.sarif_log.proofs.Told.{active_told, level_told, state_told}
 use Rattle.sarif_log.specs.Internal.Texts.{unless_taken}
 use Rattle.sarif_results.specs.Drafts.{Listing}
 use Rattle.sarif_log.specs.MergedRuns.{unmatched, written, written_all}
-use Rattle.sarif_results.proofs.AnnotatedResult.{level_found, list_found, state_found}
 use Rattle.sarif_prepare.specs.Internal.Telling.{told_as, told_each, with_run}
 
 -- ---- one result
@@ -46,29 +45,6 @@ alike level state list ms = record {
   message = kept (codes "message") level state list ms (λ e. cc) (λ e. cc) (λ e. cc);
   locations = kept (codes "locations") level state list ms (λ e. cc) (λ e. cc) (λ e. cc);
 }
-
-level_back : (level : Level) → level_named (level_name level) ≡ Some level
-level_back NoLevel = refl
-level_back Note = refl
-level_back Warning = refl
-level_back Error = refl
-
-state_back : (state : State) → state_named (state_name state) ≡ Some state
-state_back New = refl
-state_back Unchanged = refl
-state_back Updated = refl
-state_back Absent = refl
-
-level_told : (level : Level) (state : State) (list : Items) (ms : Members) → level_in (object (annotated_members level state list ms)) ≡ Some level
-level_told level state list ms =
-    ap (λ o. option_and_then level_named (option_and_then as_str o)) (level_found level state list ms) ∙ level_back level
-
-state_told : (level : Level) (state : State) (list : Items) (ms : Members) → state_in (object (annotated_members level state list ms)) ≡ Some state
-state_told level state list ms =
-    ap (λ o. option_and_then state_named (option_and_then as_str o)) (state_found level state list ms) ∙ state_back state
-
-active_told : (level : Level) (state : State) (list : Items) (ms : Members) → is_active (object (annotated_members level state list ms)) ≡ not (suppresses list)
-active_told level state list ms = ap (λ o. not (suppresses (items_in o))) (list_found level state list ms)
 
 object_told : (reporting : Reporting) (later run : Data) (level : Level) (state : State) (list : Items) (ms : Members) → AreAlike later run
     → finding_if reporting later (object (annotated_members level state list ms))
