@@ -1,19 +1,13 @@
 //! Merges of which something is requested for later merges: a new suppression file, or a known log.
-use sarif_counts::{
-    Checks, Knowing, KnownLog, Life, NewFile, Options, Policy, Renewal, States, Upkeep,
-};
-use sarif_gather::NoGate;
-use sarif_merge::merge_readers;
-use sarif_model::{MergeFault, Text};
+use sarif_counts::{Knowing, KnownLog, Life, NewFile, Options, Policy, Renewal, States, Upkeep};
 use sarif_prepare::Asked;
-use sarif_streams::{Counted, Readers};
 use serde_json::Value;
-use std::alloc::{AllocError, AllocGlobal, Global};
+use std::alloc::{AllocGlobal, Global};
 use std::process::Abort;
 use std::sync::Wait;
 use std::test::Fail;
 use std::thread::Threads;
-use test_merges::{ZEROS, log_of, seed_of};
+use test_merges::{Texts, log_of, merge_texts, options_by};
 
 /// The runs of a log, and those of a baseline and a suppression file if they are there.
 #[derive(Clone, Copy)]
@@ -57,42 +51,6 @@ fn asked_of<'o>(options: &'o Options, upkeep: &'o Upkeep) -> Asked<'o> {
     }
 }
 
-/// What is for later merges, of a merge of these JSON texts under this policy.
-fn life_of_texts<'c, R: Abort + AllocGlobal + Threads + Wait + Sync>(
-    rt: &R,
-    texts: Case<'c>,
-    policy: Policy,
-    upkeep: &Upkeep,
-) -> Result<Life, Fail> {
-    let alloc = rt.alloc();
-    let log: &'c [u8] = texts.runs.as_bytes();
-    let baseline: &'c [u8] = texts.baseline.as_bytes();
-    let file: &'c [u8] = texts.file.as_bytes();
-    let mut readers = Readers {
-        logs: vec![in alloc; Counted::new(log)]?,
-        baselines: if baseline.is_empty() {
-            Vec::new(alloc)
-        } else {
-            vec![in alloc; Counted::new(baseline)]?
-        },
-        suppressions: if file.is_empty() {
-            None
-        } else {
-            Some(Counted::new(file))
-        },
-    };
-    let options = Options {
-        policy,
-        checks: Checks::default(),
-        today: texts.today,
-        workers: 1,
-        seed: seed_of(ZEROS)?,
-    };
-    let asked = asked_of(&options, upkeep);
-    let (merged, ()) = merge_readers(rt, alloc, &mut readers, &asked, &NoGate, |_| Ok(()))?;
-    Ok(merged.life)
-}
-
 /// What is for later merges, of a merge under this policy.
 fn life_by<R: Abort + AllocGlobal + Threads + Wait + Sync>(
     rt: &R,
@@ -107,13 +65,14 @@ fn life_by<R: Abort + AllocGlobal + Threads + Wait + Sync>(
     } else {
         log_of(alloc, case.baseline)?
     };
-    let texts = Case {
-        runs: log.as_str(),
+    let texts = Texts {
+        log: log.as_str(),
         baseline: before.as_str(),
         file: case.file,
-        today: case.today,
     };
-    life_of_texts(rt, texts, policy, upkeep)
+    let options = options_by(policy, case.today, 1)?;
+    let merged = merge_texts(rt, texts, &asked_of(&options, upkeep))?;
+    Ok(merged.life)
 }
 
 /// A new suppression file alone.
