@@ -1,18 +1,15 @@
 //! The findings of a merge.
-use sarif_counts::{Checks, Options, Policy, States};
+use sarif_counts::{Options, Policy, States};
 use sarif_findings::{Finding, Reporting};
-use sarif_gather::NoGate;
-use sarif_merge::merge_readers;
 use sarif_model::{Level, MergeFault, Sequence, Text};
 use sarif_prepare::Asked;
 use sarif_shown::text_report;
-use sarif_streams::{Counted, Readers};
 use std::alloc::{AllocError, AllocGlobal, Global};
 use std::process::Abort;
 use std::sync::Wait;
 use std::test::Fail;
 use std::thread::Threads;
-use test_merges::{ZEROS, seed_of};
+use test_merges::{Texts, merge_texts, options_by};
 
 /// A result that the baseline has too, one that is suppressed, and one that is new.
 const LOG: &str = r#"{"version":"2.1.0","runs":[{"tool":{"driver":{"name":"T"}},"results":[
@@ -60,26 +57,15 @@ fn asked_by<'o>(options: &'o Options, made: &'o Option<Reporting>) -> Asked<'o> 
 }
 
 /// The findings of a log with this baseline.
-fn told_of<'s, R: Abort + AllocGlobal + Threads + Wait + Sync>(
+fn told_of<R: Abort + AllocGlobal + Threads + Wait + Sync>(
     rt: &R,
-    log: &'s str,
-    baseline: &'s str,
+    log: &str,
+    baseline: &str,
     workers: u32,
 ) -> Result<Vec<Finding>, MergeFault> {
     assert!(rt; 1 <= workers && workers <= 64);
     let alloc = rt.alloc();
-    let mut readers = Readers {
-        logs: vec![in alloc; Counted::new(log.as_bytes())]?,
-        baselines: vec![in alloc; Counted::new(baseline.as_bytes())]?,
-        suppressions: None,
-    };
-    let options = Options {
-        policy: strict(),
-        checks: Checks::default(),
-        today: None,
-        workers,
-        seed: seed_of(ZEROS)?,
-    };
+    let options = options_by(strict(), None, workers)?;
     let mut roots = Sequence::new(alloc);
     roots.push(Text::copy_of(alloc, "file:///b/")?)?;
     let reporting = Some(Reporting {
@@ -87,7 +73,12 @@ fn told_of<'s, R: Abort + AllocGlobal + Threads + Wait + Sync>(
         roots,
     });
     let asked = asked_by(&options, &reporting);
-    let (merged, ()) = merge_readers(rt, alloc, &mut readers, &asked, &NoGate, |_| Ok(()))?;
+    let texts = Texts {
+        log,
+        baseline,
+        file: "",
+    };
+    let merged = merge_texts(rt, texts, &asked)?;
     Ok(merged.findings)
 }
 

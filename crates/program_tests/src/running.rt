@@ -2,7 +2,8 @@
 use sarif_model::Level;
 use sarif_request::Request;
 use sarif_streams::{Counted, Readers};
-use std::alloc::{AllocError, Global};
+use std::alloc::{AllocError, AllocGlobal};
+use std::process::Abort;
 use std::sync::Wait;
 use std::test::Fail;
 use std::thread::Threads;
@@ -60,13 +61,13 @@ fn failing(good: u32) -> Given {
 }
 
 /// Runs a request over one log alone.
-fn run<T: Threads + Wait + Sync>(
+fn run<T: Threads + Wait + Sync + AllocGlobal>(
     threads: &T,
-    alloc: Global,
     request: &Request,
     log: Given,
     rooms: Rooms,
 ) -> Result<Ended, AllocError> {
+    let alloc = threads.alloc();
     let mut readers = Readers {
         logs: vec![in alloc; Counted::new(log)]?,
         baselines: Vec::new(alloc),
@@ -81,13 +82,13 @@ fn run<T: Threads + Wait + Sync>(
 }
 
 /// Runs over one log with a baseline and a suppression file.
-fn run_all<T: Threads + Wait + Sync>(
+fn run_all<T: Threads + Wait + Sync + AllocGlobal>(
     threads: &T,
-    alloc: Global,
     log: Given,
     baseline: Given,
     suppressions: Given,
 ) -> Result<Ended, AllocError> {
+    let alloc = threads.alloc();
     let mut readers = Readers {
         logs: vec![in alloc; Counted::new(log)]?,
         baselines: vec![in alloc; Counted::new(baseline)]?,
@@ -102,10 +103,17 @@ fn run_all<T: Threads + Wait + Sync>(
     run_over(threads, alloc, &setting, &mut readers, Vec::new(alloc))
 }
 
+/// Asserts that a run ended with this status, wrote no merged log, and reported this line.
+fn assert_stopped(rt: &impl Abort, ended: &Ended, status: u8, line: &[u8]) {
+    assert_eq!(rt; ended.status, status);
+    assert!(rt; ended.out.is_empty());
+    assert_eq!(rt; ended.complain.as_slice(), line);
+}
+
 #[test]
 fn one_new_warning_passes_a_gate_on_errors(rt: HostRuntime) -> Result<(), Fail> {
     let request = Request::of_standard_streams(rt.alloc(), seed()?)?;
-    let ended = run(&rt, rt.alloc(), &request, Given::whole(LOG), AMPLE)?;
+    let ended = run(&rt, &request, Given::whole(LOG), AMPLE)?;
     assert_eq!(rt; ended.status, 0);
     assert_eq!(rt; ended.out.as_slice(), MERGED.as_bytes());
     assert_eq!(rt; ended.say.as_slice(), SUMMARY.as_bytes());
@@ -117,7 +125,7 @@ fn one_new_warning_passes_a_gate_on_errors(rt: HostRuntime) -> Result<(), Fail> 
 fn a_gate_on_warnings_fails(rt: HostRuntime) -> Result<(), Fail> {
     let mut request = Request::of_standard_streams(rt.alloc(), seed()?)?;
     request.options.policy.fail_on = Level::Warning;
-    let ended = run(&rt, rt.alloc(), &request, Given::whole(LOG), AMPLE)?;
+    let ended = run(&rt, &request, Given::whole(LOG), AMPLE)?;
     assert_eq!(rt; ended.status, 1);
     assert!(rt; ended.say.ends_with(b"\ngate: fail, hits 1, max 0\n"));
     Ok(())
@@ -128,7 +136,7 @@ fn a_gate_that_lets_one_warning_pass(rt: HostRuntime) -> Result<(), Fail> {
     let mut request = Request::of_standard_streams(rt.alloc(), seed()?)?;
     request.options.policy.fail_on = Level::Warning;
     request.options.policy.max = 1;
-    let ended = run(&rt, rt.alloc(), &request, Given::whole(LOG), AMPLE)?;
+    let ended = run(&rt, &request, Given::whole(LOG), AMPLE)?;
     assert_eq!(rt; ended.status, 0);
     assert!(rt; ended.say.ends_with(b"\ngate: pass, hits 1, max 1\n"));
     Ok(())
@@ -137,14 +145,9 @@ fn a_gate_that_lets_one_warning_pass(rt: HostRuntime) -> Result<(), Fail> {
 #[test]
 fn a_second_read_that_fails(rt: HostRuntime) -> Result<(), Fail> {
     let request = Request::of_standard_streams(rt.alloc(), seed()?)?;
-    let ended = run(&rt, rt.alloc(), &request, failing(1), AMPLE)?;
-    assert_eq!(rt; ended.status, 3);
-    assert!(rt; ended.out.is_empty());
+    let ended = run(&rt, &request, failing(1), AMPLE)?;
+    assert_stopped(&rt, &ended, 3, b"sarif_gate: log 0: ReadFailed\n");
     assert!(rt; ended.say.is_empty());
-    assert_eq!(rt;
-        ended.complain.as_slice(),
-        b"sarif_gate: log 0: ReadFailed\n".as_slice()
-    );
     Ok(())
 }
 
@@ -153,15 +156,10 @@ fn a_second_read_that_fails(rt: HostRuntime) -> Result<(), Fail> {
 fn each_read_that_is_reached_may_fail(rt: HostRuntime) -> Result<(), Fail> {
     let request = Request::of_standard_streams(rt.alloc(), seed()?)?;
     for good in 0..12 {
-        let ended = run(&rt, rt.alloc(), &request, failing(good), AMPLE)?;
-        assert_eq!(rt; ended.status, 3);
-        assert!(rt; ended.out.is_empty());
-        assert_eq!(rt;
-            ended.complain.as_slice(),
-            b"sarif_gate: log 0: ReadFailed\n".as_slice()
-        );
+        let ended = run(&rt, &request, failing(good), AMPLE)?;
+        assert_stopped(&rt, &ended, 3, b"sarif_gate: log 0: ReadFailed\n");
     }
-    let ended = run(&rt, rt.alloc(), &request, failing(12), AMPLE)?;
+    let ended = run(&rt, &request, failing(12), AMPLE)?;
     assert_eq!(rt; ended.status, 0);
     Ok(())
 }
@@ -179,7 +177,6 @@ fn each_read_of_a_log_or_of_its_baseline_may_fail(rt: HostRuntime) -> Result<(),
         for good in 0..reads + 1 {
             let ended = run_all(
                 &rt,
-                rt.alloc(),
                 Given::failing_over(THREE, if is_log { good } else { 1000 }),
                 Given::failing_over(TWO, if is_log { 1000 } else { good }),
                 Given::whole(none),
@@ -200,7 +197,7 @@ fn each_read_of_a_log_or_of_its_baseline_may_fail(rt: HostRuntime) -> Result<(),
 fn a_write_that_fails_leaves_the_beginning(rt: HostRuntime) -> Result<(), Fail> {
     let request = Request::of_standard_streams(rt.alloc(), seed()?)?;
     let rooms = Rooms { out: 10, ..AMPLE };
-    let ended = run(&rt, rt.alloc(), &request, Given::whole(LOG), rooms)?;
+    let ended = run(&rt, &request, Given::whole(LOG), rooms)?;
     assert_eq!(rt; ended.status, 3);
     assert_eq!(rt; ended.out.as_slice(), b"{\"properti".as_slice());
     assert!(rt; ended.say.is_empty());
@@ -216,7 +213,7 @@ fn a_write_may_fail_at_each_byte(rt: HostRuntime) -> Result<(), Fail> {
     let request = Request::of_standard_streams(rt.alloc(), seed()?)?;
     for room in 0..MERGED.len() {
         let rooms = Rooms { out: room, ..AMPLE };
-        let ended = run(&rt, rt.alloc(), &request, Given::whole(LOG), rooms)?;
+        let ended = run(&rt, &request, Given::whole(LOG), rooms)?;
         assert_eq!(rt; ended.status, 3);
         assert_eq!(rt; ended.out.len(), room);
         assert!(rt; MERGED.as_bytes().starts_with(ended.out.as_slice()));
@@ -233,7 +230,7 @@ fn a_write_may_fail_at_each_byte(rt: HostRuntime) -> Result<(), Fail> {
 fn a_writer_that_takes_a_byte_at_a_time(rt: HostRuntime) -> Result<(), Fail> {
     let request = Request::of_standard_streams(rt.alloc(), seed()?)?;
     let rooms = Rooms { piece: 1, ..AMPLE };
-    let ended = run(&rt, rt.alloc(), &request, Given::whole(LOG), rooms)?;
+    let ended = run(&rt, &request, Given::whole(LOG), rooms)?;
     assert_eq!(rt; ended.status, 0);
     assert_eq!(rt; ended.out.as_slice(), MERGED.as_bytes());
     assert_eq!(rt; ended.say.as_slice(), SUMMARY.as_bytes());
@@ -245,7 +242,7 @@ fn a_lost_summary_is_told_by_the_status_alone(rt: HostRuntime) -> Result<(), Fai
     let request = Request::of_standard_streams(rt.alloc(), seed()?)?;
     for room in 0..SUMMARY.len() {
         let rooms = Rooms { say: room, ..AMPLE };
-        let ended = run(&rt, rt.alloc(), &request, Given::whole(LOG), rooms)?;
+        let ended = run(&rt, &request, Given::whole(LOG), rooms)?;
         assert_eq!(rt; ended.status, 3);
         assert_eq!(rt; ended.out.as_slice(), MERGED.as_bytes());
         assert_eq!(rt; ended.say.len(), room);
@@ -262,7 +259,7 @@ fn a_lost_complaint_changes_no_status(rt: HostRuntime) -> Result<(), Fail> {
         ..AMPLE
     };
     for log in [BROKEN, "{}"] {
-        let ended = run(&rt, rt.alloc(), &request, Given::whole(log), rooms)?;
+        let ended = run(&rt, &request, Given::whole(log), rooms)?;
         assert_eq!(rt; ended.status, 2);
         assert!(rt; ended.out.is_empty());
         assert!(rt; ended.say.is_empty());
@@ -275,17 +272,11 @@ fn a_lost_complaint_changes_no_status(rt: HostRuntime) -> Result<(), Fail> {
 fn a_baseline_is_read_before_a_result_is_judged(rt: HostRuntime) -> Result<(), Fail> {
     let ended = run_all(
         &rt,
-        rt.alloc(),
         Given::whole(BAD),
         Given::whole("{"),
         Given::whole("{}"),
     )?;
-    assert_eq!(rt; ended.status, 2);
-    assert!(rt; ended.out.is_empty());
-    assert_eq!(rt;
-        ended.complain.as_slice(),
-        b"sarif_gate: baseline 0: NotJson\n".as_slice()
-    );
+    assert_stopped(&rt, &ended, 2, b"sarif_gate: baseline 0: NotJson\n");
     Ok(())
 }
 
@@ -294,45 +285,24 @@ fn an_entry_without_a_condition_is_refused(rt: HostRuntime) -> Result<(), Fail> 
     let file = "{\"version\":1,\"suppressions\":[{}]}";
     let ended = run_all(
         &rt,
-        rt.alloc(),
         Given::whole(BAD),
         Given::whole(LOG),
         Given::whole(file),
     )?;
-    assert_eq!(rt; ended.status, 2);
-    assert!(rt; ended.out.is_empty());
-    assert_eq!(rt;
-        ended.complain.as_slice(),
-        b"sarif_gate: suppressions, entry 0: EmptyMatch\n".as_slice()
+    assert_stopped(
+        &rt,
+        &ended,
+        2,
+        b"sarif_gate: suppressions, entry 0: EmptyMatch\n",
     );
     Ok(())
 }
 
 #[test]
 fn a_failed_read_is_told_at_its_source(rt: HostRuntime) -> Result<(), Fail> {
-    let ended = run_all(
-        &rt,
-        rt.alloc(),
-        Given::whole(LOG),
-        failing(1),
-        Given::whole("{}"),
-    )?;
-    assert_eq!(rt; ended.status, 3);
-    assert_eq!(rt;
-        ended.complain.as_slice(),
-        b"sarif_gate: baseline 0: ReadFailed\n".as_slice()
-    );
-    let ended = run_all(
-        &rt,
-        rt.alloc(),
-        Given::whole(LOG),
-        Given::whole(LOG),
-        failing(1),
-    )?;
-    assert_eq!(rt; ended.status, 3);
-    assert_eq!(rt;
-        ended.complain.as_slice(),
-        b"sarif_gate: suppressions: ReadFailed\n".as_slice()
-    );
+    let ended = run_all(&rt, Given::whole(LOG), failing(1), Given::whole("{}"))?;
+    assert_stopped(&rt, &ended, 3, b"sarif_gate: baseline 0: ReadFailed\n");
+    let ended = run_all(&rt, Given::whole(LOG), Given::whole(LOG), failing(1))?;
+    assert_stopped(&rt, &ended, 3, b"sarif_gate: suppressions: ReadFailed\n");
     Ok(())
 }
