@@ -1,5 +1,6 @@
 //! Merges of what readers return.
-ghost use Rattle.std.specs.Prelude.{◌≡◌, ◌≤◌, ◌<◌, ◌^◌, [], ◌∷◌, map, IfOk};
+ghost use Rattle.std.specs.Prelude.{◌≡◌, ◌≤◌, ◌<◌, ◌^◌, ℕ, List, [], ◌∷◌, map, IfOk};
+ghost use Rattle.std.specs.Borrow.{Bor};
 ghost use Rattle.std.specs.List.{All};
 ghost use Rattle.sarif_model.specs.Limits.{most_workers};
 ghost use Rattle.sarif_streams.specs.Counted.{inner_of, failed_calls};
@@ -45,8 +46,9 @@ impl<'t> Texts<'t> {
 
 /// Returns readers of these sources.
 pub fn readers_of<'t>(alloc: Global, texts: Texts<'t>) -> Result<Readers<&'t [u8]>, AllocError>
-    ensures log { IfOk result
-        (λ readers. map (λ reader. (inner_of reader).now) readers.logs.items ≡ texts.log.now ∷ []) }
+    ensures log { IfOk result (λ readers.
+        map (λ reader. (inner_of {D = Bor (List ℕ)} reader).now) readers.logs.items
+        ≡ texts.log.now ∷ []) }
     ensures logs { IfOk result
         (λ readers. All (λ reader. failed_calls reader < 2 ^ 63) readers.logs.items) }
     ensures baselines { IfOk result
