@@ -48,7 +48,7 @@ impl<'t> Texts<'t> {
 pub fn readers_of<'t>(alloc: Global, texts: Texts<'t>) -> Result<Readers<&'t [u8]>, AllocError>
     ensures log { IfOk result (λ readers.
         map (λ reader. (inner_of {D = Bor (List ℕ)} reader).now) readers.logs.items
-        ≡ texts.log.now ∷ []) }
+        ≡ texts.entry.log.now ∷ []) }
     ensures logs { IfOk result
         (λ readers. All (λ reader. failed_calls reader < 2 ^ 63) readers.logs.items) }
     ensures baselines { IfOk result
