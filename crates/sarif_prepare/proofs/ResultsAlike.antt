@@ -14,7 +14,7 @@ use Rattle.sarif_findings.specs.Message.{arguments_in, arguments_of, message_of,
 use Rattle.sarif_findings.specs.Links.{unlinked}
 use Rattle.sarif_findings.specs.Placeholders.{filled}
 use Rattle.sarif_findings.specs.Reported.{help_in, link_of, path_in, shown_path, finding_of}
-use Rattle.sarif_prepare.proofs.RunsAlike.{AreAlike, run_same, text_same}
+use Rattle.sarif_prepare.proofs.RunsAlike.{AreAlike, AreStringsAlike, run_same, text_same}
 
 pub record AreNamedAlike (x y : Data) : Type 0 where
   pub rule_id : get (codes "ruleId") x ≡ get (codes "ruleId") y
@@ -74,12 +74,14 @@ strings_same run x y same =
     ap (λ d. if is_some d then component_of run x else driver_of run) (descriptor_same run x y same)
     ∙ ap (λ d. if is_some (descriptor_of run y) then d else driver_of run) (component_same run x y same)
 
+strings_alike : (run x y : Data) → AreNamedAlike x y → AreStringsAlike run run x y
+strings_alike run x y same = record { descriptor = descriptor_same run x y same; strings = strings_same run x y same }
+
 message_same : (run x y : Data) → AreNamedAlike x y → message_of run x ≡ message_of run y
 message_same run x y same =
-    let strings = record { descriptor = descriptor_same run x y same; strings = strings_same run x y same } in
     ap (λ o. filled (arguments_in o) (unlinked (arguments_in o) (chars (unwrap_or (option_and_then (text_by run x) o) [])))) same.message
     ∙ ap (λ text. filled (arguments_of y) (unlinked (arguments_of y) (chars (unwrap_or text []))))
-      (text_same run run x y (get (codes "message") y) strings)
+      (text_same run run x y (get (codes "message") y) (strings_alike run x y same))
 
 -- ---- the place
 

@@ -88,11 +88,13 @@ text_same a b x y None same = refl
 text_same a b x y (Some message) same =
     ap (option_or (text_in (codes "text") message)) (string_same a b x y (text_in (codes "id") message) same)
 
+strings_alike : (a b x : Data) → AreAlike a b → AreStringsAlike a b x x
+strings_alike a b x same = record { descriptor = descriptor_same a b x same; strings = strings_same a b x same }
+
 message_same : (a b x : Data) → AreAlike a b → message_of a x ≡ message_of b x
 message_same a b x same =
-    let strings = record { descriptor = descriptor_same a b x same; strings = strings_same a b x same } in
     ap (λ text. filled (arguments_of x) (unlinked (arguments_of x) (chars (unwrap_or text []))))
-      (text_same a b x x (get (codes "message") x) strings)
+      (text_same a b x x (get (codes "message") x) (strings_alike a b x same))
 
 -- ---- the whole
 
