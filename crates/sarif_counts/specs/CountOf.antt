@@ -1,5 +1,5 @@
 -- How many results a finished log holds, read from the log itself.
-use Rattle.std.specs.Prelude.{ℕ, ◌+◌, List, [], ◌∷◌, Bool, true, false, ◌&&◌, Option, Some, None, option_and_then, codes}
+use Rattle.std.specs.Prelude.{◌+◌, List, [], ◌∷◌, Bool, true, false, ◌&&◌, Option, Some, None, option_and_then, codes}
 use Rattle.serde_json.specs.Data.{Data, null, boolean, number, string, array, object, Items, no_items, item}
 use Rattle.serde_json.specs.Find.{get, as_str}
 use Rattle.sarif_model.specs.declared.kinds.Level.{Level}

@@ -1,4 +1,4 @@
--- A finding by what is read of its result is the finding of the result.
+-- A finding by what is read from its result is the finding of the result.
 use Rattle.std.proofs.Common.{◌≡◌, ℕ, List, [], Option, Some, None, chars, codes, is_some, option_map, refl, ap, ◌∙◌}
 use Rattle.std.specs.Prelude.{option_and_then, unwrap_or, if◌then◌else◌}
 use Rattle.std.specs.Option.{option_or}
@@ -15,11 +15,11 @@ use Rattle.sarif_findings.specs.declared.reporting.Reporting.{Reporting}
 use Rattle.sarif_findings.specs.declared.told_result.ToldResult.{ToldResult}
 use Rattle.sarif_findings.specs.Internal.Told.{IsTold}
 use Rattle.sarif_findings.specs.Links.{unlinked}
-use Rattle.sarif_findings.specs.Located.{own_id_at, component_at, rule_at, descriptor_at, descriptor_id_at, rule_id_at, help_at, strings_at, shared_string_at, looked_up_at, text_at, message_text_at, arguments_at, message_at, uri_at, path_at, line_at, column_at, finding_at}
+use Rattle.sarif_findings.specs.Located.{own_id_at, component_at, rule_at, descriptor_at, descriptor_id_at, rule_id_at, help_at, strings_at, looked_up_at, text_at, message_text_at, arguments_at, message_at, uri_at, path_at, line_at, column_at, finding_at}
 use Rattle.sarif_findings.specs.Lookup as Lookup
 use Rattle.sarif_findings.specs.Lookup.{artifact_uri, component_by, component_of, descriptor_of, driver_of, elements_in, location_uri, number_in, own_rule_id, position_in, position_number, rule_by, rule_id, rule_index, text_in, uri_of}
 use Rattle.sarif_findings.specs.Message as Message
-use Rattle.sarif_findings.specs.Message.{arguments_of, found_text, looked_up, message_of, own_string, string_named, strings_of, text_by}
+use Rattle.sarif_findings.specs.Message.{arguments_of, component_string, descriptor_string, found_text, looked_up, message_of, strings_of, text_by}
 use Rattle.sarif_findings.specs.Placeholders.{filled}
 use Rattle.sarif_findings.specs.Reported.{finding_of, help_in, link_of, only_with, path_in, line_in, column_in, shown_path}
 
@@ -106,8 +106,8 @@ string_same : (run result : Data) (r : RuleReference) (name : Option (List ℕ))
     → option_and_then (looked_up_at run r) name ≡ option_and_then (looked_up run result) name
 string_same run result r None is = refl
 string_same run result r (Some name) is =
-    ap (λ d. option_or (option_and_then (string_named (codes "messageStrings") name) d) (shared_string_at run r name)) (descriptor_same run result r is)
-    ∙ ap (λ d. option_or (own_string run result name) (option_and_then (string_named (codes "globalMessageStrings") name) d)) (strings_same run result r is)
+    ap (λ d. option_or (descriptor_string name d) (component_string name (strings_at run r))) (descriptor_same run result r is)
+    ∙ ap (λ d. option_or (descriptor_string name (descriptor_of run result)) (component_string name d)) (strings_same run result r is)
 
 text_found : (run result : Data) (message : Option Data)
     → option_or (string_in (codes "text") message) (option_and_then (looked_up run result) (string_in (codes "id") message))
@@ -137,7 +137,7 @@ message_same run result told is =
 
 -- ---- the whole
 
--- a finding by what was read of a result is the finding of the result
+-- a finding by what was read from a result is the finding of the result
 pub whole_at : (reporting : Reporting) (run result : Data) (told : ToldResult) (level : Level) (state : State) → IsTold told result
     → finding_at reporting run told level state ≡ finding_of reporting run result level state
 unfolding finding_at finding_of

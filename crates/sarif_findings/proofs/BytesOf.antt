@@ -1,4 +1,4 @@
--- What a test says of the bytes of characters, it says of the characters, if it is true for all from 128 on.
+-- A test has the same result on characters as on their bytes, if it is true for all from 128 on.
 use Rattle.std.proofs.Common.{◌≡◌, ◌<◌, ◌&&◌, ℕ, Bool, true, false, List, [], ◌∷◌, encode_utf8, refl, sym, ap, ◌∙◌}
 use Rattle.std.specs.Prelude.{encode_utf8_all}
 use Rattle.std.specs.List.{list_all}

@@ -1,6 +1,6 @@
--- The finding of a result by what is read of it: how it refers to its rule and to its message, the arguments of the
+-- The finding of a result by what is read from it: how it refers to its rule and to its message, the arguments of the
 -- message, and its first location.
-use Rattle.std.specs.Prelude.{ℕ, List, [], Option, chars, codes, is_some, map, option_map, option_and_then, unwrap_or, if◌then◌else◌}
+use Rattle.std.specs.Prelude.{ℕ, List, [], Option, chars, codes, map, option_map, option_and_then, unwrap_or}
 use Rattle.std.specs.Option.{option_or}
 use Rattle.serde_json.specs.Data.{Data}
 use Rattle.serde_json.specs.View.{view}
@@ -13,8 +13,8 @@ use Rattle.sarif_findings.specs.declared.finding.Finding.{Finding}
 use Rattle.sarif_findings.specs.declared.reporting.Reporting.{Reporting}
 use Rattle.sarif_findings.specs.declared.told_result.ToldResult.{ToldResult}
 use Rattle.sarif_findings.specs.Links.{unlinked}
-use Rattle.sarif_findings.specs.Lookup.{artifact_uri, component_by, driver_of, elements_in, position_number, rule_by, text_in}
-use Rattle.sarif_findings.specs.Message.{string_named}
+use Rattle.sarif_findings.specs.Lookup.{artifact_uri, component_by, elements_in, position_number, rule_by, text_in}
+use Rattle.sarif_findings.specs.Message.{component_string, descriptor_string, strings_by}
 use Rattle.sarif_findings.specs.Placeholders.{filled}
 use Rattle.sarif_findings.specs.Reported.{link_of, only_with, or_no_message, shown_path, tool_in}
 use Rattle.sarif_findings.specs.Shown.{shown}
@@ -52,20 +52,13 @@ help_at run rule = option_and_then link_of (help_uri_at run rule)
 
 -- the component whose strings a result's message may be one of
 abbrev pub strings_at : Data → RuleReference → Option Data
-strings_at run rule =
-    if is_some (descriptor_at run rule) then component_at run rule else driver_of run
-
-abbrev pub own_string_at : Data → RuleReference → List ℕ → Option (List ℕ)
-own_string_at run rule name =
-    option_and_then (string_named (codes "messageStrings") name) (descriptor_at run rule)
-
-abbrev pub shared_string_at : Data → RuleReference → List ℕ → Option (List ℕ)
-shared_string_at run rule name =
-    option_and_then (string_named (codes "globalMessageStrings") name) (strings_at run rule)
+strings_at run rule = strings_by run (descriptor_at run rule) (component_at run rule)
 
 -- the string with that name in the descriptor, otherwise in the component
 abbrev pub looked_up_at : Data → RuleReference → List ℕ → Option (List ℕ)
-looked_up_at run rule name = option_or (own_string_at run rule name) (shared_string_at run rule name)
+looked_up_at run rule name =
+    option_or (descriptor_string name (descriptor_at run rule))
+    (component_string name (strings_at run rule))
 
 -- the message's own text, otherwise the string that its id names
 abbrev pub text_at : Data → ToldResult → Option (List ℕ)
@@ -108,7 +101,7 @@ column_at reporting run location =
 
 -- ---- the whole
 
--- the finding of a result of this run of which this was read
+-- the finding of a result of this run from which this was read
 unfoldable pub finding_at : Reporting → Data → ToldResult → Level → State → Finding
 finding_at reporting run told level state = record {
   tool = shown (chars (tool_in run));

@@ -15,22 +15,28 @@ abbrev pub string_named : List ℕ → List ℕ → Data → Option (List ℕ)
 string_named table name d =
     option_and_then (text_in (codes "text")) (option_and_then (get name) (get table d))
 
--- the component whose strings a result's message may be one of
+-- the string with that name in a descriptor
+abbrev pub descriptor_string : List ℕ → Option Data → Option (List ℕ)
+descriptor_string name descriptor =
+    option_and_then (string_named (codes "messageStrings") name) descriptor
+
+-- the string with that name in a component
+abbrev pub component_string : List ℕ → Option Data → Option (List ℕ)
+component_string name component =
+    option_and_then (string_named (codes "globalMessageStrings") name) component
+
+-- the component whose strings a message may be one of: its rule's, if the rule has a descriptor, otherwise the driver
+abbrev pub strings_by : Data → Option Data → Option Data → Option Data
+strings_by run descriptor component = if is_some descriptor then component else driver_of run
+
 abbrev pub strings_of : Data → Data → Option Data
-strings_of run result =
-    if is_some (descriptor_of run result) then component_of run result else driver_of run
-
-abbrev pub own_string : Data → Data → List ℕ → Option (List ℕ)
-own_string run result name =
-    option_and_then (string_named (codes "messageStrings") name) (descriptor_of run result)
-
-abbrev pub shared_string : Data → Data → List ℕ → Option (List ℕ)
-shared_string run result name =
-    option_and_then (string_named (codes "globalMessageStrings") name) (strings_of run result)
+strings_of run result = strings_by run (descriptor_of run result) (component_of run result)
 
 -- the string with that name in the descriptor, otherwise in the component
 abbrev pub looked_up : Data → Data → List ℕ → Option (List ℕ)
-looked_up run result name = option_or (own_string run result name) (shared_string run result name)
+looked_up run result name =
+    option_or (descriptor_string name (descriptor_of run result))
+    (component_string name (strings_of run result))
 
 -- the message's own text, otherwise the string that its id names
 abbrev pub text_by : Data → Data → Data → Option (List ℕ)

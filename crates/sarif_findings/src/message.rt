@@ -43,7 +43,8 @@ fn strings_of<'a>(subject: &Subject<'a>) -> Option<&'a Value>
 fn own_string<'a>(subject: &Subject<'a>, name: &str) -> Option<&'a str>
     requires { IsDescribed subject.now }
     ensures { option_map (λ s. s.now) result
-        ≡ located.own_string_at (view subject.now.run.now) subject.now.told.now.rule name.now }
+        ≡ said.descriptor_string name.now
+            (located.descriptor_at (view subject.now.run.now) subject.now.told.now.rule) }
 {
     string_named(subject.descriptor?, "messageStrings", name)
 }
@@ -52,7 +53,8 @@ fn own_string<'a>(subject: &Subject<'a>, name: &str) -> Option<&'a str>
 fn shared_string<'a>(subject: &Subject<'a>, name: &str) -> Option<&'a str>
     requires { IsDescribed subject.now }
     ensures { option_map (λ s. s.now) result
-        ≡ located.shared_string_at (view subject.now.run.now) subject.now.told.now.rule name.now }
+        ≡ said.component_string name.now
+            (located.strings_at (view subject.now.run.now) subject.now.told.now.rule) }
 {
     string_named(strings_of(subject)?, "globalMessageStrings", name)
 }

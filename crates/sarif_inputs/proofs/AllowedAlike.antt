@@ -1,6 +1,6 @@
 -- If each source is read alike, the runs and the errors of the inputs are the same, whether external property files are
 -- allowed or not.
-use Rattle.std.proofs.Common.{◌≡◌, ℕ, ◌+◌, ◌++◌, Bool, true, false, List, [], ◌∷◌, length, refl, sym, ap, ap₂, ◌∙◌}
+use Rattle.std.proofs.Common.{◌≡◌, ℕ, ◌+◌, ◌++◌, true, false, List, [], ◌∷◌, length, refl, sym, ap, ap₂, ◌∙◌}
 use Rattle.std.specs.List.{AllByRecursion}
 use Rattle.serde_json.specs.Data.{Data}
 use Rattle.sarif_counts.specs.declared.checks.Checks.{Checks}
@@ -11,7 +11,7 @@ use Rattle.sarif_runs.specs.Judging.{faults_of_runs, run_values}
 use Rattle.sarif_runs.specs.Placed.{Placed}
 use Rattle.sarif_inputs.specs.Internal.Allowing.{IsReadAlike, allowing, checks_allowing}
 use Rattle.sarif_inputs.specs.Faults.{faults_of, file_faults, file_or_none, number_faults}
-use Rattle.sarif_inputs.specs.Inputs.{Inputs, all_runs, all_sources, baseline_runs, input_runs, must_succeed, numbered, placed, placed_from, readable}
+use Rattle.sarif_inputs.specs.Inputs.{Inputs, all_sources, baseline_runs, input_runs, must_succeed, numbered, placed, placed_from, readable}
 use Rattle.sarif_inputs.specs.SourceFaults.{limit_faults, reading_faults, source_faults}
 use Rattle.sarif_inputs.proofs.SourceSteps.{faults_append}
 

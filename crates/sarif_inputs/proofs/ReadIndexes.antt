@@ -1,5 +1,5 @@
 -- What the index of a source says about its bytes.
-use Rattle.std.proofs.Common.{◌≡◌, ◌≤◌, ◌⊎◌, ℕ, Bool, List, map, length, Result, inr, refl, ap, ◌∙◌}
+use Rattle.std.proofs.Common.{◌≡◌, ◌≤◌, ◌⊎◌, ℕ, Bool, List, map, length, inr, refl, ap, ◌∙◌}
 use Rattle.std.specs.Prelude.{Ok, Err, Some, IfOk}
 use Rattle.std.proofs.lemmas.Result.{IfErr-at_err}
 use Rattle.json.specs.Token.{Token}

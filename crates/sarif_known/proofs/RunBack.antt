@@ -6,7 +6,7 @@ use Rattle.serde_json.specs.Data.{Data, null}
 use Rattle.serde_json.specs.Find.{get, as_array}
 use Rattle.serde_json.specs.View.{items_of}
 use Rattle.sarif_model.specs.declared.fault.Fault.{Fault}
-use Rattle.sarif_model.specs.declared.fault.Fault.TheVariants.{BadLocation, BadMember, BadIndex}
+use Rattle.sarif_model.specs.declared.fault.Fault.TheVariants.{BadLocation}
 use Rattle.sarif_model.specs.declared.record.Record.{Record}
 use Rattle.sarif_model.specs.Members.{◌>>=◌, elements_of, of_kind, unless_null, are_objects, if_objects, read_each}
 use Rattle.sarif_model.specs.Run.{is_absent_result, results_array, results_of, result_at}

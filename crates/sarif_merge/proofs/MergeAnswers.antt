@@ -1,5 +1,5 @@
 -- The merge of what was read, from the runs and the suppression file of it.
-use Rattle.std.proofs.Common.{◌≡◌, ℕ, ◌≤◌, ◌++◌, ◌⊎◌, List, [], ◌∷◌, false, Option, Some, Result, Ok, length, map, arith, refl, sym, ap, subst, ◌∙◌}
+use Rattle.std.proofs.Common.{◌≡◌, ℕ, ◌≤◌, ◌++◌, List, [], false, Option, Some, Result, length, map, arith, refl, sym, ap, subst, ◌∙◌}
 use Rattle.std.proofs.lemmas.List.{length-map}
 use Rattle.std.proofs.lemmas.List.Concat.{flat_map-append}
 use Rattle.std.specs.Prelude.{nat_lt}
@@ -25,19 +25,14 @@ use Rattle.sarif_log.specs.declared.prepared.Prepared.{Prepared}
 use Rattle.sarif_log.specs.Assembled.{IsMergedBy}
 use Rattle.sarif_log.specs.Internal.Prepared.{IsPrepared}
 use Rattle.sarif_log.specs.LogBy.{leftover_runs, runs_by, runs_without_results}
-use Rattle.sarif_model.specs.FirstFault.{IsOutOfResources, first}
-use Rattle.sarif_inputs.specs.Faults.{faults_of, file_faults, file_or_none, number_faults}
+use Rattle.sarif_model.specs.FirstFault.{first}
+use Rattle.sarif_inputs.specs.Faults.{faults_of, file_or_none, number_faults}
 use Rattle.sarif_inputs.specs.Internal.Indexes.{AreIndexesOf}
 use Rattle.sarif_inputs.specs.Inputs.{Inputs, numbered, placed}
-use Rattle.sarif_inputs.specs.Internal.ReadSoFar.{sources_of}
-use Rattle.sarif_inputs.specs.SourceFaults.{source_faults}
-use Rattle.sarif_inputs.proofs.ReadFacts.{nothing_before}
-use Rattle.sarif_model.proofs.SourceAnswers.{still_first}
 use Rattle.sarif_counts.specs.declared.life.Life.{Life}
 use Rattle.sarif_counts.specs.declared.upkeep.Upkeep.{Upkeep}
 use Rattle.sarif_upkeep.specs.Life.{life_faults}
 use Rattle.sarif_prepare.specs.Kept.{merge_of, IsKept}
-use Rattle.sarif_merge.specs.Given.{given}
 use Rattle.sarif_merge.specs.Merged.{IsMerged}
 use Rattle.sarif_merge.specs.MergedLog.{file_in}
 use Rattle.sarif_merge.specs.Internal.Prepared.{IsPreparedFor}

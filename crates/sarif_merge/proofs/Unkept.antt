@@ -1,6 +1,6 @@
 -- Why there is nothing for later merges: no read or write failed.
-use Rattle.std.proofs.Common.{◌≡◌, ◌⊎◌, ◌++◌, ℕ, Bool, true, false, List, [], ◌∷◌, Option, Some, None, inl, inr, length, refl, ap, ◌∙◌, if◌then◌else◌}
-use Rattle.std.specs.Prelude.{nat_lt, option_map, Ok}
+use Rattle.std.proofs.Common.{◌≡◌, ◌++◌, ℕ, true, false, List, [], ◌∷◌, Option, Some, None, inl, inr, length, refl, ap, ◌∙◌, if◌then◌else◌}
+use Rattle.std.specs.Prelude.{nat_lt, Ok}
 use Rattle.std.specs.List.{AllByRecursion}
 use Rattle.serde_json.specs.Data.{Data}
 use Rattle.json_parts.specs.Indexed.{json_of}
@@ -12,7 +12,7 @@ use Rattle.sarif_model.specs.declared.merge_fault.Cause.TheVariants.{TooLong}
 use Rattle.sarif_model.specs.declared.merge_fault.Source.TheVariants.{Suppress, Known}
 use Rattle.sarif_model.specs.declared.fault.Fault.TheVariants.{TooMany}
 use Rattle.sarif_model.specs.FirstFault.{first}
-use Rattle.sarif_model.specs.MergeFault.{cause_of, exit_status, fault_at, out_of_memory}
+use Rattle.sarif_model.specs.MergeFault.{cause_of, exit_status, fault_at}
 use Rattle.sarif_counts.specs.declared.upkeep.Knowing.{Knowing}
 use Rattle.sarif_counts.specs.declared.upkeep.Renewal.{Renewal}
 use Rattle.sarif_counts.specs.declared.upkeep.Upkeep.{Upkeep}

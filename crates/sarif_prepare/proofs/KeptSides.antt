@@ -1,8 +1,8 @@
 -- The matched merge, as what is made for later merges sees it.
-use Rattle.std.proofs.Common.{◌≡◌, ◌≤◌, ◌+◌, ℕ, List, [], ◌∷◌, Option, Some, map, length, length-append, refl, sym, ap, ap₂, ◌∙◌, arith}
+use Rattle.std.proofs.Common.{◌≡◌, ◌+◌, ℕ, List, [], ◌∷◌, Option, Some, map, length, length-append, refl, sym, ap, ◌∙◌, arith}
 use Rattle.serde_json.specs.Data.{Data}
 use Rattle.sarif_model.specs.declared.record.Record.{Record}
-use Rattle.sarif_model.specs.Run.{present, results_of, results_total}
+use Rattle.sarif_model.specs.Run.{present, results_of}
 use Rattle.sarif_match.specs.Partners.{partners_of}
 use Rattle.std.specs.Prelude.{flat_map, option_map, unwrap_or}
 use Rattle.sarif_model.specs.declared.kinds.State.{State}

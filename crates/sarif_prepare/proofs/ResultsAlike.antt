@@ -1,5 +1,5 @@
 -- A finding depends on five members of its result, besides its level and its state.
-use Rattle.std.proofs.Common.{◌≡◌, ℕ, List, [], ◌∷◌, Option, Some, None, codes, refl, ap, ◌∙◌}
+use Rattle.std.proofs.Common.{◌≡◌, ℕ, List, [], Option, Some, None, codes, refl, ap, ◌∙◌}
 use Rattle.std.specs.Prelude.{chars, is_some, option_and_then, unwrap_or, if◌then◌else◌}
 use Rattle.std.specs.Option.{option_or}
 use Rattle.serde_json.specs.Data.{Data}
@@ -10,11 +10,11 @@ use Rattle.sarif_model.specs.Members.{first_of}
 use Rattle.sarif_model.specs.Run.{elements_or_none}
 use Rattle.sarif_findings.specs.declared.reporting.Reporting.{Reporting}
 use Rattle.sarif_findings.specs.Lookup.{text_in, number_in, own_rule_id, index_of_rule, rule_index, component_by, component_of, driver_of, rule_by, rule_in, descriptor_of, descriptor_id, rule_id, elements_in, location_uri, physical_location, position_in, position_number}
-use Rattle.sarif_findings.specs.Message.{string_named, strings_of, own_string, shared_string, looked_up, text_by, message_of, arguments_in, arguments_of}
+use Rattle.sarif_findings.specs.Message.{arguments_in, arguments_of, message_of, strings_of, text_by}
 use Rattle.sarif_findings.specs.Links.{unlinked}
 use Rattle.sarif_findings.specs.Placeholders.{filled}
 use Rattle.sarif_findings.specs.Reported.{help_in, link_of, path_in, shown_path, finding_of}
-use Rattle.sarif_prepare.proofs.RunsAlike.{run_same, AreAlike}
+use Rattle.sarif_prepare.proofs.RunsAlike.{AreAlike, AreStringsAlike, run_same, text_same}
 
 pub record AreNamedAlike (x y : Data) : Type 0 where
   pub rule_id : get (codes "ruleId") x ≡ get (codes "ruleId") y
@@ -74,24 +74,14 @@ strings_same run x y same =
     ap (λ d. if is_some d then component_of run x else driver_of run) (descriptor_same run x y same)
     ∙ ap (λ d. if is_some (descriptor_of run y) then d else driver_of run) (component_same run x y same)
 
-string_same : (run x y : Data) (name : List ℕ) → AreNamedAlike x y → looked_up run x name ≡ looked_up run y name
-string_same run x y name same =
-    ap (λ d. option_or (option_and_then (string_named (codes "messageStrings") name) d) (shared_string run x name)) (descriptor_same run x y same)
-    ∙ ap (λ d. option_or (own_string run y name) (option_and_then (string_named (codes "globalMessageStrings") name) d)) (strings_same run x y same)
-
-named_same : (run x y : Data) (o : Option (List ℕ)) → AreNamedAlike x y → option_and_then (looked_up run x) o ≡ option_and_then (looked_up run y) o
-named_same run x y None same = refl
-named_same run x y (Some name) same = string_same run x y name same
-
-text_same : (run x y : Data) (o : Option Data) → AreNamedAlike x y → option_and_then (text_by run x) o ≡ option_and_then (text_by run y) o
-text_same run x y None same = refl
-text_same run x y (Some message) same =
-    ap (option_or (text_in (codes "text") message)) (named_same run x y (text_in (codes "id") message) same)
+strings_alike : (run x y : Data) → AreNamedAlike x y → AreStringsAlike run run x y
+strings_alike run x y same = record { descriptor = descriptor_same run x y same; strings = strings_same run x y same }
 
 message_same : (run x y : Data) → AreNamedAlike x y → message_of run x ≡ message_of run y
 message_same run x y same =
     ap (λ o. filled (arguments_in o) (unlinked (arguments_in o) (chars (unwrap_or (option_and_then (text_by run x) o) [])))) same.message
-    ∙ ap (λ text. filled (arguments_of y) (unlinked (arguments_of y) (chars (unwrap_or text [])))) (text_same run x y (get (codes "message") y) same)
+    ∙ ap (λ text. filled (arguments_of y) (unlinked (arguments_of y) (chars (unwrap_or text []))))
+      (text_same run run x y (get (codes "message") y) (strings_alike run x y same))
 
 -- ---- the place
 

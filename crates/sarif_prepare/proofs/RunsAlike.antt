@@ -11,7 +11,7 @@ use Rattle.sarif_model.specs.Run.{elements_or_none}
 use Rattle.sarif_read.proofs.Beside.{bare_get}
 use Rattle.sarif_findings.specs.declared.reporting.Reporting.{Reporting}
 use Rattle.sarif_findings.specs.Lookup.{text_in, element_at, own_rule_id, rule_in, driver_of, extension_index, component_by, component_of, descriptor_of, rule_id, artifact_uri, location_uri, physical_location, number_in}
-use Rattle.sarif_findings.specs.Message.{string_named, strings_of, own_string, shared_string, looked_up, text_by, message_of, arguments_of}
+use Rattle.sarif_findings.specs.Message.{arguments_of, component_string, descriptor_string, looked_up, message_of, strings_of, text_by}
 use Rattle.sarif_findings.specs.Links.{unlinked}
 use Rattle.sarif_findings.specs.Placeholders.{filled}
 use Rattle.sarif_findings.specs.Reported.{tool_in, help_in, link_of, path_in, shown_path, finding_of}
@@ -69,23 +69,32 @@ strings_same a b x same =
     ∙ ap (λ d. if is_some (descriptor_of b x) then d else driver_of a) (component_same a b (extension_index x) same)
     ∙ ap (λ d. if is_some (descriptor_of b x) then component_of b x else d) (driver_same a b same)
 
-string_same : (a b x : Data) (name : List ℕ) → AreAlike a b → looked_up a x name ≡ looked_up b x name
-string_same a b x name same =
-    ap (λ d. option_or (option_and_then (string_named (codes "messageStrings") name) d) (shared_string a x name)) (descriptor_same a b x same)
-    ∙ ap (λ d. option_or (own_string b x name) (option_and_then (string_named (codes "globalMessageStrings") name) d)) (strings_same a b x same)
+-- both results find their strings in the same places
+pub record AreStringsAlike (a b x y : Data) : Type 0 where
+  pub descriptor : descriptor_of a x ≡ descriptor_of b y
+  pub strings : strings_of a x ≡ strings_of b y
 
-named_same : (a b x : Data) (o : Option (List ℕ)) → AreAlike a b → option_and_then (looked_up a x) o ≡ option_and_then (looked_up b x) o
-named_same a b x None same = refl
-named_same a b x (Some name) same = string_same a b x name same
+string_same : (a b x y : Data) (o : Option (List ℕ)) → AreStringsAlike a b x y
+    → option_and_then (looked_up a x) o ≡ option_and_then (looked_up b y) o
+string_same a b x y None same = refl
+string_same a b x y (Some name) same =
+    ap (λ d. option_or (descriptor_string name d) (component_string name (strings_of a x))) same.descriptor
+    ∙ ap (λ d. option_or (descriptor_string name (descriptor_of b y)) (component_string name d)) same.strings
 
-text_same : (a b x : Data) (o : Option Data) → AreAlike a b → option_and_then (text_by a x) o ≡ option_and_then (text_by b x) o
-text_same a b x None same = refl
-text_same a b x (Some message) same =
-    ap (option_or (text_in (codes "text") message)) (named_same a b x (text_in (codes "id") message) same)
+-- so an equal message has an equal text
+pub text_same : (a b x y : Data) (o : Option Data) → AreStringsAlike a b x y
+    → option_and_then (text_by a x) o ≡ option_and_then (text_by b y) o
+text_same a b x y None same = refl
+text_same a b x y (Some message) same =
+    ap (option_or (text_in (codes "text") message)) (string_same a b x y (text_in (codes "id") message) same)
+
+strings_alike : (a b x : Data) → AreAlike a b → AreStringsAlike a b x x
+strings_alike a b x same = record { descriptor = descriptor_same a b x same; strings = strings_same a b x same }
 
 message_same : (a b x : Data) → AreAlike a b → message_of a x ≡ message_of b x
 message_same a b x same =
-    ap (λ text. filled (arguments_of x) (unlinked (arguments_of x) (chars (unwrap_or text [])))) (text_same a b x (get (codes "message") x) same)
+    ap (λ text. filled (arguments_of x) (unlinked (arguments_of x) (chars (unwrap_or text []))))
+      (text_same a b x x (get (codes "message") x) (strings_alike a b x same))
 
 -- ---- the whole
 

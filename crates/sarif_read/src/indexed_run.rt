@@ -157,7 +157,7 @@ impl<'t, 'a> IndexedRun<'t, 'a> {
         }
     }
 
-    /// What reports read of the message of result `seq` of the run: values are made of its arguments alone. Returns
+    /// What reports read from the message of result `seq` of the run: values are made of its arguments alone. Returns
     /// `AllocError` if memory for them runs out.
     #[tactic(auto, using(crate::proofs::RunOf::count_results, crate::proofs::RunOf::nth_result))]
     pub fn message(&self, alloc: Global, seq: u32) -> Result<ReadMessage<'a>, AllocError>

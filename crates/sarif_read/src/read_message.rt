@@ -1,8 +1,8 @@
-//! What reports read of the message of a result.
+//! What reports read from the message of a result.
 use sarif_model::MessageReference;
 use serde_json::Value;
 
-/// What reports read of the message of a result (SARIF 2.1.0, "message object").
+/// What reports read from the message of a result (SARIF 2.1.0, "message object").
 #[derive(Drop)]
 pub struct ReadMessage<'a> {
     /// How the result refers to the text of its message.

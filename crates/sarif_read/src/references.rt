@@ -1,5 +1,5 @@
-//! How a result refers to its rule and to its message, read from the index of its log. No value is made of it but
-//! for the arguments of its message.
+//! How a result refers to its rule and to its message, read from the index of its log. A value is made only
+//! of the arguments of its message.
 ghost use Rattle.std.specs.Prelude.{◌≡◌, Some, codes, map, option_map, IfOk};
 ghost use Rattle.std.specs.Option.{option_or};
 ghost use Rattle.serde_json.specs.Find.{get, as_array};
@@ -97,7 +97,7 @@ fn arguments_of(alloc: Global, message: &Option<Node<'_, '_>>) -> Result<Vec<Val
     }
 }
 
-/// What reports read of the message of a result.
+/// What reports read from the message of a result.
 pub(crate) fn message_in<'a>(
     alloc: Global,
     found: &Node<'_, 'a>,

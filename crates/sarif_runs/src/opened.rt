@@ -202,7 +202,7 @@ impl<'t, 'a> OpenedRun<'t, 'a> {
         self.run.rule_reference(seq)
     }
 
-    /// What reports read of the message of result `seq` of the run, numbered from 0. Returns `AllocError` if memory
+    /// What reports read from the message of result `seq` of the run, numbered from 0. Returns `AllocError` if memory
     /// for its arguments runs out.
     pub fn message(&self, alloc: Global, seq: u32) -> Result<ReadMessage<'a>, AllocError>
         requires { seq < length (results_of (placed_of self.now).run) }

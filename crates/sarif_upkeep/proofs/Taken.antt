@@ -4,7 +4,7 @@ use Rattle.std.proofs.lemmas.List.{drop-map, map-append, take-map}
 use Rattle.serde_json.specs.Data.{Data}
 use Rattle.sarif_model.specs.declared.kinds.State.{State}
 use Rattle.sarif_model.specs.declared.record.Record.{Record}
-use Rattle.sarif_model.specs.Run.{present, results_of, results_total}
+use Rattle.sarif_model.specs.Run.{present, results_of}
 use Rattle.sarif_counts.specs.declared.policy.Policy.{Policy}
 use Rattle.std.proofs.lemmas.Bool.Decides.{nat_tests}
 use Rattle.std.specs.Prelude.{nat_lt}
@@ -28,7 +28,7 @@ use Rattle.sarif_known.specs.declared.chosen.KnownRun.{KnownRun}
 use Rattle.sarif_known.specs.Selected.{is_left_out, keep_unless, kept_of, known_of, unmatched_of}
 use Rattle.sarif_upkeep.specs.Heard.{tool_run}
 use Rattle.sarif_upkeep.specs.Known.{chosen_before, chosen_now, known_before, known_faults, known_now, runs_known}
-use Rattle.sarif_upkeep.specs.Merge.{present_counts, present_total, Merge}
+use Rattle.sarif_upkeep.specs.Merge.{present_counts, Merge}
 use Rattle.sarif_upkeep.proofs.Walked.{first_left}
 
 pub tools_are : (runs : List Placed) → map (λ p. tool_run p.run) runs ≡ map tool_run (run_values runs)

@@ -1,4 +1,4 @@
-//! What reports read of a result: how it refers to its rule and to its message, and its first location.
+//! What reports read from a result: how it refers to its rule and to its message, and its first location.
 ghost use Rattle.std.specs.Prelude.{◌<◌, length};
 ghost use Rattle.sarif_model.specs.Run.{results_of};
 ghost use Rattle.sarif_read.specs.Internal.Indexed.{run_of};
@@ -9,8 +9,8 @@ use sarif_read::{IndexedRun, index_log};
 use std::alloc::{AllocError, Global};
 use std::test::Fail;
 
-/// A run whose results refer to their rules and messages in each way: by members of their own, by `rule`, with members
-/// of wrong types, with a number that isn't whole, and not at all.
+/// A run whose results refer to their rules and messages in each way: by `ruleId` and `ruleIndex`, by `rule`, with
+/// members of wrong types, with a number that isn't whole, and not at all.
 const LOG: &str = r#"{"version":"2.1.0","runs":[{"tool":{"driver":{"name":"a"}},"results":[
     {"ruleId":"R1","ruleIndex":4,"message":{"text":"a \"b\"","id":"m","arguments":["x","y"]},
         "rule":{"id":"R2","index":7,"toolComponent":{"index":1}}},

@@ -1,4 +1,4 @@
--- What reports read of the message of a result (SARIF 2.1.0, "message object").
+-- What reports read from the message of a result (SARIF 2.1.0, "message object").
 use Rattle.std.specs.Prelude.{◌≡◌, map}
 use Rattle.serde_json.specs.Data.{Data}
 use Rattle.serde_json.specs.View.{view}

@@ -1,7 +1,7 @@
-use Rattle.std.proofs.Common.{◌≡◌, ◌≤◌, ◌+◌, ◌-◌, inl, inr, Some, length, map, sym, ap, ◌∙◌, subst, string_bytes, arith}
+use Rattle.std.proofs.Common.{◌≡◌, ◌+◌, ◌-◌, inl, inr, Some, length, map, sym, ap, ◌∙◌, subst, string_bytes, arith}
 use Rattle.std.proofs.lemmas.Result.{err_from_is_err_and}
 use Rattle.std.specs.Prelude.{◌<◌}
-use Rattle.sarif_model.specs.Limits.{most_bytes, most_results}
+use Rattle.sarif_model.specs.Limits.{most_bytes}
 use Rattle.sarif_runs.specs.Judging.{run_values}
 use Rattle.sarif_runs.specs.Internal.Opened.{placed_of}
 use Rattle.sarif_accept.specs.Heard.{heard_of}
@@ -12,7 +12,7 @@ use Rattle.sarif_known.specs.KnownLog.{known_log, known_text}
 use Rattle.sarif_known.specs.Laws.{CanBeRead}
 use Rattle.sarif_known.specs.Order.{known_runs}
 use Rattle.sarif_upkeep.specs.Heard.{tool_run}
-use Rattle.sarif_upkeep.specs.Known.{adopts, known_before, known_now, remembered}
+use Rattle.sarif_upkeep.specs.Known.{adopts, known_before, known_now}
 use Rattle.sarif_upkeep.proofs.Taken.{before_fewer, before_same, now_fewer, now_same, short_enough, too_long_is}
 use Rattle.sarif_upkeep.proofs.knowing.remember.Goals as goal
 

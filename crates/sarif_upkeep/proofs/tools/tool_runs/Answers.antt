@@ -1,4 +1,4 @@
-use Rattle.std.proofs.Common.{map, length, ap, ◌∙◌, arith, take_all}
+use Rattle.std.proofs.Common.{map, ap, ◌∙◌, arith, take_all}
 use Rattle.sarif_runs.specs.Internal.Opened.{placed_of}
 use Rattle.sarif_upkeep.specs.Heard.{tool_run}
 use Rattle.sarif_upkeep.proofs.Taken.{tools_are}

@@ -1,5 +1,4 @@
 use Rattle.std.proofs.Common.{◌≡◌, map, take}
-use Rattle.sarif_runs.specs.Judging.{run_values}
 use Rattle.sarif_runs.specs.Internal.Opened.{placed_of}
 use Rattle.sarif_upkeep.specs.Heard.{tool_run}
 use Rattle.sarif_upkeep.proofs.tools.tool_runs.Given as goal

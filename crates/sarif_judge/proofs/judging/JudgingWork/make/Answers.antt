@@ -1,4 +1,4 @@
-use Rattle.std.proofs.Common.{◌≡◌, ◌<◌, ◌≤◌, ◌+◌, ◌^◌, arith}
+use Rattle.std.proofs.Common.{◌<◌, ◌≤◌, ◌+◌, ◌^◌, arith}
 use Rattle.sarif_runs.proofs.AllSpots.{product_fits}
 use Rattle.sarif_judge.proofs.judging.JudgingWork.make.Goals as goal
 use Rattle.sarif_model.specs.Limits.{most_results}
