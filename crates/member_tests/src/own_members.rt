@@ -1,7 +1,8 @@
 //! A result's own members, read from JSON text.
+use sarif_members::Parts;
 use sarif_model::{Fault, Kind, Level, Message, Pairs, Refusal, Status, Text};
 use sarif_read::read_log;
-use sarif_runs::{Parts, read_parts};
+use sarif_runs::read_parts;
 use std::alloc::Global;
 use std::process::Abort;
 use std::test::Fail;

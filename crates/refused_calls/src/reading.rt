@@ -1,7 +1,8 @@
 //! Logs, runs and results.
+use sarif_members::Parts;
 use sarif_model::{Fault, Level, Place, Record, Refusal};
 use sarif_read::{Log, ReadFault, read_log, strip};
-use sarif_runs::{Descriptor, Parts, make_record, open_run, read_parts};
+use sarif_runs::{Descriptor, make_record, open_run, read_parts};
 use serde_json::Value;
 use std::alloc::{AllocError, Global};
 use std::hash::RandomState;

@@ -1,8 +1,9 @@
 //! Examples worked out by hand, and that each call succeeds if there is enough memory. A row is an expected value
 //! and a run, whose first result gives its descriptor, its level and its place, or an error.
+use sarif_members::Parts;
 use sarif_model::{Fault, Kind, Level, Place, Record, Refusal};
 use sarif_read::{Log, RawRun, read_log};
-use sarif_runs::{Descriptor, Parts, RunHead, make_record, open_run, read_parts};
+use sarif_runs::{Descriptor, RunHead, make_record, open_run, read_parts};
 use std::alloc::{AllocError, Global};
 use std::hash::RandomState;
 use std::io;

@@ -40,7 +40,7 @@ fn skips_absent(source: Source) -> bool
 }
 
 /// The item of a baseline result. Only the members of its value that the item needs are made.
-#[tactic(auto, using(sarif_runs::proofs::RecordMembers::absent_members))]
+#[tactic(auto, using(sarif_members::proofs::RecordMembers::absent_members))]
 fn judge_known(alloc: Global, opened: &OpenedRun<'_, '_>, seq: u32) -> Result<Item, AllocError>
     requires in_run { seq < length (results_of (placed_of opened.now).run) }
     requires known { skips (placed_of opened.now).source ≡ true }

@@ -19,12 +19,12 @@ use Rattle.sarif_model.specs.declared.kinds.Status.{Status}
 use Rattle.sarif_model.specs.declared.kinds.Status.TheVariants.{Accepted, UnderReview, Rejected}
 use Rattle.sarif_model.specs.declared.place.Place.{Place}
 use Rattle.sarif_model.specs.declared.record.Record.{Record}
-use Rattle.sarif_runs.specs.declared.parts.Parts.{Parts}
+use Rattle.sarif_members.specs.declared.parts.Parts.{Parts}
 use Rattle.sarif_model.specs.Guid.{guid_of_text}
-use Rattle.sarif_runs.specs.Fingerprints.{pairs_among, pairs_of}
+use Rattle.sarif_members.specs.Fingerprints.{pairs_among, pairs_of}
 use Rattle.sarif_model.specs.Members.{◌>>=◌, result_map, of_kind, or_wrong, unless_null, elements, are_objects, elements_of, if_objects, read_each}
 use Rattle.sarif_model.specs.Suppression.{status_of}
-use Rattle.sarif_runs.specs.OwnMembers.{check_present, as_kind, own_kind, as_level, own_level, as_guid, own_guid, own_fingerprints, own_statuses, text_of, own_message, own_rule_id, own_message_and_rule, own_indexes, own_location, parts_of}
+use Rattle.sarif_members.specs.OwnMembers.{check_present, as_kind, own_kind, as_level, own_level, as_guid, own_guid, own_fingerprints, own_statuses, text_of, own_message, own_rule_id, own_message_and_rule, own_indexes, own_location, parts_of}
 use Rattle.std.specs.Option.{option_or}
 use Rattle.sarif_known.specs.KnownResult.{members_from, message_rows, guid_text, text_members, texts_if_any, list_if_any, kind_unless_fail, level_if_fail, suppression_for, unless_empty, result_rows, known_result}
 use Rattle.sarif_accept.proofs.Rows.{found, text_back}

@@ -19,12 +19,12 @@ use Rattle.sarif_model.specs.Run.{elements_or_none, result_at, runs_of}
 use Rattle.sarif_read.specs.Reading.{at_whole, check_each, check_log, log_of, log_of_value, ok_or}
 use Rattle.sarif_read.proofs.RunOf.{stripped_ordered}
 use Rattle.sarif_runs.specs.declared.head.RunHead.{RunHead}
-use Rattle.sarif_runs.specs.declared.parts.Parts.{Parts}
+use Rattle.sarif_members.specs.declared.parts.Parts.{Parts}
 use Rattle.sarif_runs.specs.Descriptor.{descriptor_of, reference_of}
-use Rattle.sarif_runs.specs.Fingerprints.{pairs_at, pairs_of}
+use Rattle.sarif_members.specs.Fingerprints.{pairs_at, pairs_of}
 use Rattle.sarif_runs.specs.Head.{head_of}
 use Rattle.sarif_runs.specs.Level.{first_level, is_fail, level_of, overriding_level_at}
-use Rattle.sarif_runs.specs.OwnMembers.{as_guid, check_present, own_fingerprints, own_guid, own_indexes, own_kind, own_level, own_location, own_message_and_rule, own_statuses, parts_of}
+use Rattle.sarif_members.specs.OwnMembers.{as_guid, check_present, own_fingerprints, own_guid, own_indexes, own_kind, own_level, own_location, own_message_and_rule, own_statuses, parts_of}
 use Rattle.sarif_runs.specs.Place.{place_of}
 use Rattle.sarif_runs.specs.Record.{record_by, record_in, record_of, tool_name}
 use Rattle.sarif_known.specs.KnownResult.{text_members}

@@ -5,7 +5,7 @@ use Rattle.serde_json.specs.Data.{Data, Members, no_members, member}
 use Rattle.json_parts.specs.Internal.Ordered.{IsBelow, AreMembersOrdered}
 use Rattle.sarif_model.specs.declared.fault.Fault.{Fault}
 use Rattle.sarif_model.specs.Members.{◌>>=◌, result_map}
-use Rattle.sarif_runs.specs.Fingerprints.{text_or_null, with_pair, pairs_among}
+use Rattle.sarif_members.specs.Fingerprints.{text_or_null, with_pair, pairs_among}
 use Rattle.sarif_known.specs.KnownResult.{text_members}
 
 ok_same : (a b : List (List ℕ × List ℕ)) → ◌≡◌ {A = Result (List (List ℕ × List ℕ)) Fault} (Ok a) (Ok b) → a ≡ b

@@ -15,11 +15,11 @@ use Rattle.sarif_model.specs.Limits.{most_results}
 use Rattle.sarif_read.specs.Failed.{failed}
 use Rattle.sarif_runs.specs.declared.item.Item.TheVariants.{Sound, Skipped}
 use Rattle.sarif_runs.specs.declared.head.RunHead.{RunHead}
-use Rattle.sarif_runs.specs.declared.parts.Parts.{Parts}
+use Rattle.sarif_members.specs.declared.parts.Parts.{Parts}
 use Rattle.sarif_runs.specs.Head.{head_of}
 use Rattle.sarif_runs.specs.Judging.{first_bad, item_by, item_of, items_of as all_items, opened_of, records_in, run_faults, run_values, skips}
 use Rattle.sarif_runs.specs.Overrides.{invocations_of}
-use Rattle.sarif_runs.specs.OwnMembers.{parts_of}
+use Rattle.sarif_members.specs.OwnMembers.{parts_of}
 use Rattle.sarif_runs.specs.Place.{artifact_of, artifacts_of}
 use Rattle.sarif_runs.specs.Placed.{Placed}
 use Rattle.sarif_runs.specs.Record.{record_by, record_in, record_of, tool_name}

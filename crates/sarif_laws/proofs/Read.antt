@@ -15,12 +15,12 @@ use Rattle.sarif_counts.specs.CountOf.{items_in}
 use Rattle.sarif_read.proofs.WholeRuns.{bind_ok}
 use Rattle.sarif_runs.specs.declared.head.RunHead.{RunHead}
 use Rattle.sarif_runs.specs.declared.item.Item.TheVariants.{Skipped}
-use Rattle.sarif_runs.specs.declared.parts.Parts.{Parts}
+use Rattle.sarif_members.specs.declared.parts.Parts.{Parts}
 use Rattle.sarif_runs.specs.Descriptor.{descriptor_of, reference_of}
 use Rattle.sarif_runs.specs.Head.{head_of}
 use Rattle.sarif_runs.specs.Judging.{item_by, item_of, items_of, records_in, records_of, skips, with_record}
 use Rattle.sarif_runs.specs.Level.{level_of}
-use Rattle.sarif_runs.specs.OwnMembers.{own_statuses, parts_of}
+use Rattle.sarif_members.specs.OwnMembers.{own_statuses, parts_of}
 use Rattle.sarif_runs.specs.Place.{place_of}
 use Rattle.sarif_runs.specs.Placed.{Placed}
 use Rattle.sarif_runs.specs.Record.{record_by, record_in, record_of, tool_name}

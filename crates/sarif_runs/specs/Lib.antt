@@ -1,11 +1,9 @@
 pub mod Descriptor
-pub mod Fingerprints
 pub mod Head
 pub mod Internal
 pub mod Judging
 pub mod Level
 pub mod Overrides
-pub mod OwnMembers
 pub mod Place
 pub mod Placed
 pub mod Reading

@@ -7,7 +7,7 @@ use Rattle.sarif_model.specs.declared.fault.Fault.TheVariants.{BadLevel}
 use Rattle.sarif_model.specs.declared.refusal.Refusal.{Refusal}
 use Rattle.sarif_model.specs.declared.refusal.Refusal.TheVariants as refusal
 use Rattle.sarif_model.specs.Members.{member_at, of_kind, result_map}
-use Rattle.sarif_runs.specs.OwnMembers.{as_level}
+use Rattle.sarif_members.specs.OwnMembers.{as_level}
 
 -- the result of a call that allocates: the value, unless memory ran out
 abbrev pub Gives : {X : Type 0} → Result X (Refusal Fault) → Result X Fault → Type 0

@@ -2,10 +2,10 @@
 use Rattle.std.specs.Prelude.{ℕ, List, [], Option, Some, None, Result, Ok, option_map, unwrap_or}
 use Rattle.serde_json.specs.Data.{Data}
 use Rattle.sarif_model.specs.declared.fault.Fault.{Fault}
-use Rattle.sarif_runs.specs.declared.parts.Parts.{Parts}
+use Rattle.sarif_members.specs.declared.parts.Parts.{Parts}
 use Rattle.sarif_model.specs.declared.record.Record.{Record}
 use Rattle.sarif_model.specs.Members.{◌>>=◌}
-use Rattle.sarif_runs.specs.OwnMembers.{parts_of}
+use Rattle.sarif_members.specs.OwnMembers.{parts_of}
 use Rattle.sarif_model.specs.Driver.{driver_name}
 use Rattle.sarif_model.specs.Run.{result_at}
 use Rattle.sarif_runs.specs.declared.component.Descriptor.{Descriptor}

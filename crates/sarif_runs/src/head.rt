@@ -10,7 +10,7 @@ ghost use Rattle.sarif_runs.specs.Place.{place_of, place_by};
 
 use crate::component::{Component, Descriptor, Rule};
 use crate::invocation::Invocation;
-use crate::parts::Parts;
+use sarif_members::Parts;
 use sarif_model::{Fault, Kind, Level, Place, Refusal, Sequence, Text};
 use std::alloc::{AllocError, Global};
 

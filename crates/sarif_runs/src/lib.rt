@@ -1,5 +1,5 @@
-//! A run, opened: its rules, overrides and artifacts; a result's own members, and its record. `whole.rt` has the
-//! calls for whole runs, which the merge doesn't make.
+//! A run, opened: its rules, overrides and artifacts; and the record of a result. `whole.rt` has the calls for whole
+//! runs, which the merge doesn't make.
 #![tactic(auto)]
 
 mod component;
@@ -10,8 +10,6 @@ mod laws;
 mod making;
 mod open;
 mod opened;
-mod own_members;
-mod parts;
 mod reading;
 mod spots;
 mod whole;
@@ -20,11 +18,9 @@ pub use component::{Component, Descriptor, Rule};
 pub use head::RunHead;
 pub use invocation::{Invocation, Override};
 pub use item::Item;
-pub use laws::{external_files_change_no_record, same_members_give_the_same_pairs};
+pub use laws::external_files_change_no_record;
 pub use making::{copy_tool_name, make_record_of};
 pub use open::open_value;
 pub use opened::OpenedRun;
-pub use own_members::read_members;
-pub use parts::Parts;
 pub use spots::{Spot, list_spots};
 pub use whole::{make_record, open_run, read_parts};

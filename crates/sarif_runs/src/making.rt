@@ -6,14 +6,13 @@ ghost use Rattle.sarif_runs.specs.Reading.{Gives};
 ghost use Rattle.sarif_runs.specs.Record.{tool_name, rule_id_of, record_by, record_in};
 
 use crate::head::RunHead;
-use crate::own_members::read_members;
-use crate::parts::Parts;
+use sarif_members::{Parts, read_members};
 use sarif_model::{Fault, Record, Refusal, Text, driver_name};
 use serde_json::Value;
 use std::alloc::{AllocError, Global};
 
 /// Makes the record of a result of a run with that head and that tool (SARIF 2.1.0, "result object"). The errors
-/// are those of [`read_members`](sarif_runs::read_members), and then `BadIndex` if the component, the rule, the
+/// are those of [`read_members`](sarif_members::read_members), and then `BadIndex` if the component, the rule, the
 /// invocation or, without a `uri`, the artifact is past the end of its table. Returns `OutOfMemory` if memory runs
 /// out.
 #[tactic(auto, unfolding(crate::specs::Record::record_in))]

@@ -5,14 +5,13 @@ ghost use Rattle.serde_json.specs.View.{view};
 ghost use Rattle.sarif_model.specs.Internal.Refusal.{IfFault};
 ghost use Rattle.sarif_model.specs.Run.{results_of, result_at};
 ghost use Rattle.sarif_runs.specs.Head.{head_of};
-ghost use Rattle.sarif_runs.specs.OwnMembers.{parts_of};
+ghost use Rattle.sarif_members.specs.OwnMembers.{parts_of};
 ghost use Rattle.sarif_runs.specs.Record.{record_of};
 
 use crate::head::RunHead;
 use crate::making::{copy_tool_name, make_record_of};
 use crate::open::open_value;
-use crate::own_members::read_members;
-use crate::parts::Parts;
+use sarif_members::{Parts, read_members};
 use sarif_model::{Fault, Record, Refusal};
 use sarif_read::RawRun;
 use std::alloc::Global;
@@ -29,7 +28,7 @@ pub fn open_run(alloc: Global, seed: RandomState, run: &RawRun) -> Result<RunHea
 }
 
 /// The own members of result `seq` of `run`, numbered from 0 (SARIF 2.1.0, run object, "results property"), or its
-/// first error: the errors are those of [`read_members`](crate::read_members), in the same order, and
+/// first error: the errors are those of [`read_members`](sarif_members::read_members), in the same order, and
 /// `OutOfMemory` if memory runs out.
 pub fn read_parts(alloc: Global, run: &RawRun, seq: u32) -> Result<Parts, Refusal<Fault>>
     requires { seq < length (results_of (view run.now)) }

@@ -1,7 +1,7 @@
 use Rattle.std.proofs.Common.{sym, ◌∙◌}
 use Rattle.serde_json.specs.View.{view}
 use Rattle.sarif_runs.specs.Internal.Opened.{placed_of}
-use Rattle.sarif_runs.proofs.RecordMembers.{known_item}
+use Rattle.sarif_runs.proofs.KnownItems.{known_item}
 use Rattle.sarif_judge.proofs.judged_result.judge_known.Goals as goal
 
 -- src/outcome.rt:71:1

@@ -1,7 +1,7 @@
 //! The first location of a result.
 ghost use Rattle.std.specs.Prelude.{◌≡◌, Ok, Err, IfOk};
 ghost use Rattle.serde_json.specs.View.{view as seen};
-ghost use Rattle.sarif_runs.specs.OwnMembers.{own_location};
+ghost use Rattle.sarif_members.specs.OwnMembers.{own_location};
 ghost use Rattle.sarif_model.specs.Internal.Refusal.{IfFault};
 
 use sarif_model::members::{elements_at, first_object, index_within, object_within, text_within};

@@ -11,15 +11,15 @@ use Rattle.sarif_model.specs.declared.kinds.Kind.TheVariants.{Fail}
 use Rattle.sarif_model.specs.declared.kinds.Level.{Level}
 use Rattle.sarif_model.specs.declared.kinds.Status.{Status}
 use Rattle.sarif_model.specs.declared.message.Message.{Message}
-use Rattle.sarif_runs.specs.declared.own_members.fingerprints.Fingerprints.{Fingerprints}
-use Rattle.sarif_runs.specs.declared.own_members.message.MessageAndRule.{MessageAndRule}
-use Rattle.sarif_runs.specs.declared.own_members.indexes.Indexes.{Indexes}
-use Rattle.sarif_runs.specs.declared.own_members.location.Location.{Location}
-use Rattle.sarif_runs.specs.declared.parts.Parts.{Parts}
+use Rattle.sarif_members.specs.declared.own_members.fingerprints.Fingerprints.{Fingerprints}
+use Rattle.sarif_members.specs.declared.own_members.message.MessageAndRule.{MessageAndRule}
+use Rattle.sarif_members.specs.declared.own_members.indexes.Indexes.{Indexes}
+use Rattle.sarif_members.specs.declared.own_members.location.Location.{Location}
+use Rattle.sarif_members.specs.declared.parts.Parts.{Parts}
 use Rattle.sarif_model.specs.Kind.{kind_named}
 use Rattle.sarif_model.specs.Level.{level_named}
 use Rattle.sarif_model.specs.Guid.{guid_of_text}
-use Rattle.sarif_runs.specs.Fingerprints.{pairs_at}
+use Rattle.sarif_members.specs.Fingerprints.{pairs_at}
 use Rattle.sarif_model.specs.Suppression.{status_of}
 use Rattle.sarif_model.specs.Run.{is_absent_result}
 use Rattle.sarif_model.specs.Members.{◌>>=◌, result_map, of_kind, member_at, text_at, object_at, elements_at, objects_at, index_at, if_there, first_of, if_object, read_each}

@@ -1,8 +1,8 @@
 //! The message of a result, and the id of its rule.
 ghost use Rattle.std.specs.Prelude.{◌≡◌, Ok, Err, IfOk, map, option_map};
 ghost use Rattle.serde_json.specs.View.{view as seen};
-ghost use Rattle.sarif_runs.specs.OwnMembers.{own_message, own_rule_id, own_message_and_rule};
-ghost use Rattle.sarif_runs.specs.OwnMembers.{text_of, texts_within};
+ghost use Rattle.sarif_members.specs.OwnMembers.{own_message, own_rule_id, own_message_and_rule};
+ghost use Rattle.sarif_members.specs.OwnMembers.{text_of, texts_within};
 ghost use Rattle.sarif_model.specs.Members.{result_map, read_each};
 ghost use Rattle.sarif_model.specs.Internal.Refusal.{IfFault};
 

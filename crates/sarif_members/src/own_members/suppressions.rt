@@ -3,7 +3,7 @@ ghost use Rattle.std.specs.Prelude.{◌≡◌, Ok, Err, IfOk, map};
 ghost use Rattle.sarif_model.specs.Members.{read_each};
 ghost use Rattle.serde_json.specs.View.{view as seen};
 ghost use Rattle.sarif_model.specs.Suppression.{check_suppression_kind, status_of};
-ghost use Rattle.sarif_runs.specs.OwnMembers.{own_statuses};
+ghost use Rattle.sarif_members.specs.OwnMembers.{own_statuses};
 ghost use Rattle.sarif_model.specs.Internal.Refusal.{IfFault};
 
 use sarif_model::members::{member_at, objects_at};

@@ -3,7 +3,7 @@ use Rattle.serde_json.specs.View.{view as seen}
 use Rattle.sarif_model.specs.Members.{read_each}
 use Rattle.sarif_model.specs.Suppression.{status_of}
 use Rattle.sarif_model.proofs.ReadEach.{before}
-use Rattle.sarif_runs.proofs.own_members.suppressions.statuses_of.Given as goal
+use Rattle.sarif_members.proofs.own_members.suppressions.statuses_of.Given as goal
 
 abbrev pub invariant-loop-suppression : goal.invariant-loop-suppression
 invariant-loop-suppression l =

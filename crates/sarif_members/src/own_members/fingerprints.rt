@@ -1,8 +1,8 @@
 //! The fingerprints of a result.
 ghost use Rattle.std.specs.Prelude.{◌≡◌, Ok, Err, IfOk};
 ghost use Rattle.serde_json.specs.View.{view as seen, members_view};
-ghost use Rattle.sarif_runs.specs.Fingerprints.{pairs_at, pairs_among};
-ghost use Rattle.sarif_runs.specs.OwnMembers.{own_fingerprints};
+ghost use Rattle.sarif_members.specs.Fingerprints.{pairs_at, pairs_among};
+ghost use Rattle.sarif_members.specs.OwnMembers.{own_fingerprints};
 ghost use Rattle.sarif_model.specs.Internal.Refusal.{IfFault};
 
 use sarif_model::members::member_at;

@@ -1,9 +1,9 @@
 use Rattle.std.proofs.Common.{◌≡◌, map, drop}
 use Rattle.serde_json.specs.View.{view as seen}
 use Rattle.sarif_model.specs.Members.{read_each}
-use Rattle.sarif_runs.specs.OwnMembers.{text_of}
+use Rattle.sarif_members.specs.OwnMembers.{text_of}
 use Rattle.sarif_model.proofs.ReadEach.{before}
-use Rattle.sarif_runs.proofs.own_members.message.texts_of.Given as goal
+use Rattle.sarif_members.proofs.own_members.message.texts_of.Given as goal
 
 abbrev pub invariant-loop-value : goal.invariant-loop-value
 invariant-loop-value l =

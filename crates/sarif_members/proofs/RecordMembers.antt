@@ -1,25 +1,18 @@
--- The record of a result depends on thirteen of its members.
-use Rattle.std.proofs.Common.{◌≡◌, ℕ, true, false, ◌&&◌, List, [], ◌∷◌, codes, refl, sym, ap, ◌∙◌}
+-- What is read of a result depends on thirteen of its members.
+use Rattle.std.proofs.Common.{◌≡◌, ℕ, List, [], ◌∷◌, codes, refl, ap}
 use Rattle.std.specs.Prelude.{Ok, Err, option_and_then, unwrap_or, if◌then◌else◌}
 use Rattle.serde_json.specs.Data.{Data}
 use Rattle.serde_json.specs.Find.{get, as_str, as_array, as_object}
 use Rattle.sarif_model.specs.declared.fault.Fault.{Fault}
-use Rattle.sarif_model.specs.declared.fault.Fault.TheVariants.{AbsentInput, BadKind, BadLevel, BadGuid, BadFingerprint, BadSuppression, BadMember, BadIndex, BadLocation}
+use Rattle.sarif_model.specs.declared.fault.Fault.TheVariants.{AbsentInput, BadKind, BadLevel, BadGuid, BadFingerprint, BadSuppression, BadMember}
 use Rattle.sarif_model.specs.declared.kinds.Kind.TheVariants.{Fail}
-use Rattle.sarif_runs.specs.Fingerprints.{pairs_at, pairs_of}
-use Rattle.sarif_model.specs.Members.{◌>>=◌, result_map, unless_null, member_at, of_kind, text_at, object_at, elements_at, objects_at, index_at, index_of_member, itself_if_object, elements_of, if_objects, read_each}
-use Rattle.sarif_runs.specs.OwnMembers.{check_present, own_kind, as_kind, own_level, as_level, own_guid, as_guid, own_fingerprints, own_statuses, own_message, own_rule_id, own_message_and_rule, own_indexes, index_within, tool_component, own_location, parts_of}
+use Rattle.sarif_members.specs.Fingerprints.{pairs_at, pairs_of}
+use Rattle.sarif_model.specs.Members.{◌>>=◌, result_map, unless_null, member_at, of_kind, text_at, object_at, objects_at, itself_if_object, elements_of, if_objects, read_each}
+use Rattle.sarif_members.specs.OwnMembers.{check_present, own_kind, as_kind, own_level, as_level, own_guid, as_guid, own_fingerprints, own_statuses, own_message, own_rule_id, own_message_and_rule, own_indexes, own_location, parts_of}
 use Rattle.sarif_read.specs.Internal.Picked.{picked}
-use Rattle.sarif_model.specs.Run.{is_absent_result, is_text, result_at}
+use Rattle.sarif_model.specs.Run.{is_absent_result, is_text}
 use Rattle.sarif_model.specs.Suppression.{status_of}
 use Rattle.sarif_read.proofs.PickedMembers.{picked_get}
-use Rattle.sarif_runs.specs.Head.{head_of}
-use Rattle.sarif_runs.specs.Record.{record_by, record_in, record_of, tool_name}
-use Rattle.sarif_runs.specs.Internal.Found.{record_item}
-use Rattle.sarif_runs.specs.Judging.{item_by, item_of, skips}
-use Rattle.sarif_runs.specs.Placed.{Placed}
-use Rattle.sarif_runs.specs.declared.item.Item.{Item}
-use Rattle.sarif_runs.specs.declared.item.Item.TheVariants.{Skipped}
 
 pub record AreRecordedAlike (x y : Data) : Type 0 where
   pub state : get (codes "baselineState") x ≡ get (codes "baselineState") y
@@ -162,23 +155,5 @@ pub absent_members : (x : Data) → is_absent_result (picked record_names x) ≡
 absent_members x = absent_same (picked record_names x) x (picked_alike x)
 
 -- a result's own members depend only on these members
-own_members : (x : Data) → parts_of (picked record_names x) ≡ parts_of x
+pub own_members : (x : Data) → parts_of (picked record_names x) ≡ parts_of x
 own_members x = parts_same (picked record_names x) x (picked_alike x)
-
--- the item of a result's value depends only on these members
-recorded : (run found : Data) → record_item run (picked record_names found) ≡ record_item run found
-unfolding record_in
-recorded run found =
-    ap (λ parts. item_by (head_of run >>= λ head. parts >>= record_by head (tool_name run))) (own_members found)
-
--- the item of a baseline result depends only on these members
-pub known_item : (p : Placed) (seq : ℕ) (found : Data) (item : Item) → skips p.source ≡ true
-    → found ≡ picked record_names (result_at p.run seq) → is_absent_result found ≡ false
-    → item ≡ record_item p.run found → item ≡ item_of p seq
-unfolding record_of
-known_item p seq found item known is present made =
-    let x : Data = result_at p.run seq in
-    let there : is_absent_result x ≡ false = sym (absent_members x) ∙ ap is_absent_result (sym is) ∙ present in
-    let both : (skips p.source && is_absent_result x) ≡ false = ap (λ b. b && is_absent_result x) known ∙ there in
-    made ∙ ap (record_item p.run) is ∙ recorded p.run x
-    ∙ ap (λ b. if b then Skipped else item_by (record_of p.run seq)) (sym both)

@@ -3,7 +3,7 @@ use Rattle.std.proofs.Common.{◌≡◌, ℕ, List, [], ◌∷◌, ◌++◌, Non
 use Rattle.serde_json.specs.Data.{null, string, Members, no_members, member}
 use Rattle.sarif_model.specs.declared.fault.Fault.{Fault}
 use Rattle.sarif_model.specs.Members.{result_map}
-use Rattle.sarif_runs.specs.Fingerprints.{Pair, with_pair, pairs_among}
+use Rattle.sarif_members.specs.Fingerprints.{Pair, with_pair, pairs_among}
 use Rattle.sarif_model.proofs.ReadEach.{before, before-push}
 
 pub begins : (r : Result (List Pair) Fault) → before [] r ≡ r

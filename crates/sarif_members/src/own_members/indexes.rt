@@ -1,7 +1,7 @@
 //! The indexes of a result: of its rule, of the rule's component and of its invocation.
 ghost use Rattle.std.specs.Prelude.{◌≡◌};
 ghost use Rattle.serde_json.specs.View.{view as seen};
-ghost use Rattle.sarif_runs.specs.OwnMembers.{own_indexes};
+ghost use Rattle.sarif_members.specs.OwnMembers.{own_indexes};
 
 use sarif_model::Fault;
 use sarif_model::members::{index_at, index_within, member_at, member_within};

@@ -1,8 +1,8 @@
 //! A result's own members: nine checks, in order. Each reads what it checks.
 ghost use Rattle.std.specs.Prelude.{◌≡◌, Ok, Err, IfOk};
 ghost use Rattle.serde_json.specs.View.{view as seen};
-ghost use Rattle.sarif_runs.specs.OwnMembers.{check_present, own_kind, own_level, own_guid};
-ghost use Rattle.sarif_runs.specs.OwnMembers.{parts_of};
+ghost use Rattle.sarif_members.specs.OwnMembers.{check_present, own_kind, own_level, own_guid};
+ghost use Rattle.sarif_members.specs.OwnMembers.{parts_of};
 ghost use Rattle.sarif_model.specs.Internal.Refusal.{IfFault};
 
 mod fingerprints;
