@@ -7,7 +7,7 @@ use Rattle.sarif_model.specs.declared.record.Record.{Record}
 use Rattle.sarif_entries.specs.declared.entry.Entry.{Entry}
 use Rattle.sarif_entries.specs.File.{File}
 use Rattle.sarif_entries.specs.Matching.{is_empty, matches}
-use Rattle.sarif_suppress.specs.Numbers.{numbers_from}
+use Rattle.sarif_filing.specs.Numbers.{numbers_from}
 use Rattle.sarif_suppress.specs.Suppressing.{is_accepted, is_suppressed, statuses_suppress, statuses_of, matching, matching_numbers}
 use Rattle.sarif_accept.specs.Adding.{stays}
 

@@ -5,7 +5,8 @@ use Rattle.std.proofs.lemmas.List.Folds.{list_all-append}
 use Rattle.sarif_model.specs.declared.kinds.Status.{Status}
 use Rattle.sarif_entries.specs.declared.entry.Entry.{Entry}
 use Rattle.sarif_entries.specs.Matching.{is_empty}
-use Rattle.sarif_suppress.specs.Numbers.{numbers_from, passes_at}
+use Rattle.sarif_filing.specs.Numbers.{numbers_from}
+use Rattle.sarif_suppress.specs.Internal.Numbers.{passes_at}
 use Rattle.sarif_suppress.specs.Suppressing.{is_accepted, statuses_suppress}
 use Rattle.sarif_suppress.proofs.Numbered.{IsPart, whole_is_part, all_numbers, is_empty-append}
 

@@ -1,10 +1,8 @@
-pub mod Beginnings
-pub mod Begun
-pub mod Candidates
 pub mod ForGood
 pub mod KeySet
 pub mod Marked
 pub mod Numbered
 pub mod ReadBack
 pub mod Rising
+pub mod Selected
 pub mod WrittenList

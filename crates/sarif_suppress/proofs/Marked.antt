@@ -11,7 +11,7 @@ use Rattle.sarif_model.specs.declared.record.Record.{Record}
 use Rattle.sarif_entries.specs.declared.entry.Entry.{Entry}
 use Rattle.sarif_entries.specs.File.{File}
 use Rattle.sarif_entries.specs.Matching.{matches}
-use Rattle.sarif_suppress.specs.Numbers.{numbers_from}
+use Rattle.sarif_filing.specs.Numbers.{numbers_from}
 use Rattle.sarif_suppress.specs.Suppressing.{matching_numbers}
 use Rattle.sarif_suppress.specs.Internal.Marks.{marks_of, with_mark, with_marks}
 

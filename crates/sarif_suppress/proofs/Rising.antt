@@ -2,17 +2,18 @@
 use Rattle.std.proofs.Common.{◌≡◌, ℕ, zero, suc, ◌+◌, ◌<◌, ◌≤◌, Bool, true, false, ◌&&◌, ◌||◌, ⊎_elim, List, [], ◌∷◌, ◌++◌, filter, drop, get_or, length, Some, None, nat_eq, refl, sym, ap, ◌∙◌, arith, if◌then◌else◌}
 use Rattle.std.proofs.lemmas.Option.{slice_get_within}
 use Rattle.std.specs.BTreeSet.{insert_key}
-use Rattle.std.specs.List.{flat_map}
 use Rattle.std.specs.Option.{option_map_or}
 use Rattle.std.specs.Ordering.{nat_cmp, match_ordering}
 use Rattle.std.specs.declared.cmp.Ordering.TheVariants.{Less, Equal, Greater}
 use Rattle.std.specs.Prelude.{slice_get}
-use Rattle.std.proofs.lemmas.List.{append_assoc, drop_more}
+use Rattle.std.proofs.lemmas.List.{drop_more}
 use Rattle.std.proofs.lemmas.Bool.{cases_lt}
 use Rattle.std.proofs.lemmas.Bool.Decides.{nat_tests}
 use Rattle.sarif_entries.specs.declared.entry.Entry.{Entry}
-use Rattle.sarif_suppress.specs.Numbers.{numbers_from, passes_at, with_numbers}
-use Rattle.sarif_suppress.proofs.Numbered.{IsPart, whole_is_part, has}
+use Rattle.sarif_filing.specs.Numbers.{numbers_from}
+use Rattle.sarif_filing.proofs.Numbered.{has}
+use Rattle.sarif_suppress.specs.Internal.Numbers.{passes_at, with_numbers}
+use Rattle.sarif_suppress.proofs.Numbered.{IsPart, whole_is_part}
 
 -- the numbers of a list's places that pass the test, where the first has number n
 abbrev picks : {A : Type 0} → (ℕ → Bool) → ℕ → List A → List ℕ
@@ -170,12 +171,6 @@ found_step test old new ns i n within is added =
     let split : drop i ns ≡ n ∷ drop (i + 1) ns = drop_more ns i n within ∙ ap (λ m. m ∷ drop (i + 1) ns) (sym is) in
     rw (added, split) (
     elim (test n) as (λ b. with_numbers (if b then insert_key nat_cmp old n else old) (filter test (drop (i + 1) ns)) ≡ with_numbers old (if b then n ∷ filter test (drop (i + 1) ns) else filter test (drop (i + 1) ns))) [ true ↦ refl | false ↦ refl ])
-
--- the numbers under one key more are gone through
-pub under_step : {K : Type 0} (under : K → List ℕ) (old new : List ℕ) (ks : List K) (i : ℕ) (k : K) → i < length ks → k ≡ get_or ks i k → new ≡ old ++ under k → new ++ flat_map under (drop (i + 1) ks) ≡ old ++ flat_map under (drop i ks)
-under_step under old new ks i k within is added =
-    let split : drop i ks ≡ k ∷ drop (i + 1) ks = drop_more ks i k within ∙ ap (λ m. m ∷ drop (i + 1) ks) (sym is) in
-    rw (added, split) (append_assoc old (under k) (flat_map under (drop (i + 1) ks)))
 
 pub get_or_any : (ns : List ℕ) (i a b : ℕ) → i < length ns → get_or ns i a ≡ get_or ns i b
 get_or_any [] i a b within = absurd (omega (arith, within))

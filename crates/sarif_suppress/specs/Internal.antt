@@ -1,5 +1,4 @@
 -- Definitions for contracts within and between the crates, and for proofs. The merge theorem reaches none of them.
 pub mod Marks
-pub mod Prefixes
-pub mod Table
+pub mod Numbers
 pub mod Unseen

@@ -1,4 +1,3 @@
 pub mod Internal
-pub mod Numbers
 pub mod Suppressing
 pub mod Written

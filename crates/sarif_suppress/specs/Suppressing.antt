@@ -7,7 +7,7 @@ use Rattle.sarif_model.specs.declared.record.Record.{Record}
 use Rattle.sarif_entries.specs.declared.entry.Entry.{Entry}
 use Rattle.sarif_entries.specs.File.{File}
 use Rattle.sarif_entries.specs.Matching.{is_empty, matches}
-use Rattle.sarif_suppress.specs.Numbers.{numbers_from}
+use Rattle.sarif_filing.specs.Numbers.{numbers_from}
 
 -- the entries that match the result, in file order
 abbrev pub matching : File → Record → List Entry

@@ -2,7 +2,7 @@
 ghost use Rattle.std.specs.Prelude.{◌≡◌, ◌&&◌, ◌||◌, not, is_some};
 ghost use Rattle.std.specs.List.{list_all, list_any};
 ghost use Rattle.sarif_entries.specs.Matching.{is_empty};
-ghost use Rattle.sarif_suppress.specs.Numbers.{passes_at};
+ghost use Rattle.sarif_suppress.specs.Internal.Numbers.{passes_at};
 ghost use Rattle.sarif_suppress.specs.Suppressing as said;
 ghost use Rattle.sarif_suppress.specs.Suppressing.{is_lasting};
 

@@ -5,13 +5,10 @@
 mod lasting;
 mod laws;
 mod marks;
-mod numbers;
 mod objects;
-mod prefixes;
 mod read_file;
 mod select;
 mod suppressions;
-mod table;
 mod unseen;
 mod whole;
 

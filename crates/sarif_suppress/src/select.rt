@@ -4,7 +4,7 @@ ghost use Rattle.std.specs.BTreeSet.{insert_key, keys};
 ghost use Rattle.std.specs.Ordering.{nat_cmp};
 ghost use Rattle.std.specs.List.{list_all};
 ghost use Rattle.sarif_entries.specs.Matching.{is_empty, matches};
-ghost use Rattle.sarif_suppress.specs.Numbers.{passes_at, with_numbers};
+ghost use Rattle.sarif_suppress.specs.Internal.Numbers.{passes_at, with_numbers};
 ghost use Rattle.sarif_suppress.specs.Suppressing as said;
 
 use sarif_entries::Entry;

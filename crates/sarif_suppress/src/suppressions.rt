@@ -10,10 +10,9 @@ ghost use Rattle.sarif_model.specs.Limits.{most_entries};
 use crate::lasting::do_suppress_for_good;
 use crate::marks::Marks;
 use crate::objects::with_objects;
-use crate::prefixes::PrefixTable;
 use crate::select::{do_suppress, select};
-use crate::table::Table;
 use sarif_entries::Entry;
+use sarif_filing::{PrefixTable, Table};
 use sarif_model::{Record, Sequence};
 use serde_json::Value;
 use std::alloc::{AllocError, Global};
@@ -35,8 +34,8 @@ pub struct Suppressions<S: BuildHasher + Copy = RandomState> {
 impl<S: BuildHasher + Copy> Model for Suppressions<S> {
     ghost use Rattle.std.specs.Prelude.{◌≤◌, length};
     ghost use Rattle.sarif_entries.specs.File.{File};
-    ghost use Rattle.sarif_suppress.specs.Internal.Prefixes.{IsPrefixTable};
-    ghost use Rattle.sarif_suppress.specs.Internal.Table.{IsTable};
+    ghost use Rattle.sarif_filing.specs.Internal.Prefixes.{IsPrefixTable};
+    ghost use Rattle.sarif_filing.specs.Internal.Table.{IsTable};
     ghost use Rattle.sarif_model.specs.Limits.{most_entries};
 
     ghost Value = { File };

@@ -1,7 +1,7 @@
 use Rattle.std.proofs.Common.{◌≡◌, drop, filter}
 use Rattle.std.specs.BTreeSet.{keys}
 use Rattle.sarif_entries.specs.Matching.{matches}
-use Rattle.sarif_suppress.specs.Numbers.{passes_at, with_numbers}
+use Rattle.sarif_suppress.specs.Internal.Numbers.{passes_at, with_numbers}
 use Rattle.sarif_suppress.proofs.select.add_matching.Given as goal
 
 -- the numbers found, and then those found in what is left

@@ -2,11 +2,11 @@ use Rattle.std.proofs.Common.{◌≡◌, List, [], ◌++◌, ap, ◌∙◌}
 use Rattle.std.specs.Option.{option_map_or}
 use Rattle.sarif_model.specs.declared.record.Record.{Record}
 use Rattle.sarif_entries.specs.declared.entry.Entry.{Entry}
-use Rattle.sarif_suppress.specs.Internal.Table.{candidates}
+use Rattle.sarif_filing.specs.Internal.Table.{candidates}
 use Rattle.sarif_entries.specs.Matching.{matches}
-use Rattle.sarif_suppress.specs.Numbers.{numbers_from}
-use Rattle.sarif_suppress.specs.Internal.Prefixes.{found_for}
-use Rattle.sarif_suppress.proofs.Candidates.{selected}
+use Rattle.sarif_filing.specs.Numbers.{numbers_from}
+use Rattle.sarif_filing.specs.Internal.Prefixes.{found_for}
+use Rattle.sarif_suppress.proofs.Selected.{selected}
 use Rattle.sarif_suppress.proofs.Numbered.{verdict}
 use Rattle.sarif_suppress.proofs.suppressions.Suppressions.apply.Goals as goal
 

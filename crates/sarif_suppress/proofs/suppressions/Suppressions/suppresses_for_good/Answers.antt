@@ -2,7 +2,7 @@ use Rattle.std.proofs.Common.{◌≡◌, ◌∙◌, List}
 use Rattle.sarif_model.specs.declared.record.Record.{Record}
 use Rattle.sarif_entries.specs.declared.entry.Entry.{Entry}
 use Rattle.sarif_entries.specs.Matching.{matches}
-use Rattle.sarif_suppress.specs.Numbers.{numbers_from}
+use Rattle.sarif_filing.specs.Numbers.{numbers_from}
 use Rattle.sarif_suppress.specs.Suppressing.{is_lasting}
 use Rattle.sarif_suppress.proofs.ForGood.{lasting_verdict}
 use Rattle.sarif_suppress.proofs.suppressions.Suppressions.suppresses_for_good.Goals as goal

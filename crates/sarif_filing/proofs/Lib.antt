@@ -1,0 +1,4 @@
+pub mod Beginnings
+pub mod Begun
+pub mod Candidates
+pub mod Numbered
