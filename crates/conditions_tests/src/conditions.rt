@@ -1,11 +1,10 @@
 //! Which results an entry matches, condition by condition.
-use crate::files::{FileText, applied_of, file_of};
 use sarif_entries::FileFault;
 use sarif_model::{Record, Refusal, Sequence, Text};
 use std::alloc::{AllocError, Global};
 use std::process::Abort;
 use std::test::Fail;
-use test_suppress::result_at;
+use test_suppress::{FileText, applied_of, file_of, result_at};
 
 /// Adds a fingerprint.
 fn add_pair(

@@ -1,10 +1,9 @@
 //! Conditions on the message of a result, which version 4 has.
-use crate::files::{applied_of, expect_entries, file_of};
 use sarif_model::{Record, Sequence, Text};
 use std::alloc::{AllocError, Global};
 use std::process::Abort;
 use std::test::Fail;
-use test_suppress::result_at;
+use test_suppress::{applied_of, file_of, result_at};
 
 /// A result whose message has an id and these arguments, and no text.
 fn result_with(alloc: Global, id: &str, args: &[&str]) -> Result<Record, AllocError> {
@@ -58,27 +57,6 @@ fn an_id_and_arguments_are_conditions_of_their_own(rt: HostRuntime) -> Result<()
         assert_eq!(rt; suppresses(&rt, both, &finding)?, wanted[0]);
         assert_eq!(rt; suppresses(&rt, id, &finding)?, wanted[1]);
         assert_eq!(rt; suppresses(&rt, arguments, &finding)?, wanted[2]);
-    }
-    Ok(())
-}
-
-/// Entries of one file with a text, a URI, both or a prefix: each is found where its conditions hold.
-#[test]
-fn a_text_and_a_uri_are_looked_up_together_and_alone(rt: HostRuntime) -> Result<(), Fail> {
-    let entries = concat!(
-        r#"{"message":"m","uri":"a.c"},{"message":"m"},{"uri":"a.c"},{"message":"m","uri":"b.c"},"#,
-        r#"{"message":"n","uri":"a.c"},{"message":"m","uriPrefix":"a"},{"messageId":"i"},"#,
-        r#"{"message":"m","uri":"a.c","ruleId":"R2"}"#
-    );
-    for (uri, wanted) in [
-        (Some("a.c"), [0, 1, 2, 5].as_slice()),
-        (Some("b.c"), [1, 3].as_slice()),
-        (Some("ab.c"), [1, 5].as_slice()),
-        (None, [1].as_slice()),
-    ] {
-        let mut finding = result_at(rt.alloc(), "R1", uri)?;
-        finding.message.text = Some(Text::copy_of(rt.alloc(), "m")?);
-        expect_entries(&rt, file_of(4, entries), &finding, wanted)?;
     }
     Ok(())
 }

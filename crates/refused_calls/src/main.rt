@@ -1,23 +1,17 @@
-//! Makes public calls of the libraries, including calls that the merge does not make, and prints their results.
-//! Each line of standard input is a call and its input. In `tests/calls`, allocations of this program fail.
+//! Makes public calls of `sarif_gather` and whole merges, including calls that the merge does not make, and prints their
+//! results. Each line of standard input is a call and its input. In `tests/calls`, allocations of this program fail.
 #![tactic(auto)]
 
 mod collecting;
 mod gathering;
 mod mailing;
-mod matching;
 mod merging;
-mod reading;
-mod suppressing;
 
-use sarif_counts::{Counts, Policy, summary};
-use sarif_model::{Level, State};
 use std::alloc::{AllocError, Global};
 use std::hash::RandomState;
 use std::io;
 use std::sync::Wait;
 use std::thread::Threads;
-use suppressing::Asked;
 
 fn main(rt: HostRuntime) -> io::Result<()> {
     let seed = RandomState::new(&rt)?;
@@ -48,39 +42,6 @@ fn answer_to<R: Threads + Wait + Sync>(
         "gather_by_four" => gathering::gather_numbers(rt, alloc, 4),
         "merge_bytes" => merging::merged_bytes(rt, alloc, seed, given),
         "merge_to" => merging::merged_to(rt, alloc, seed, given),
-        _ => answer_of_values(alloc, seed, call, given),
-    }
-}
-
-// The result of a call of the crates that know nothing of threads.
-fn answer_of_values(
-    alloc: Global,
-    seed: RandomState,
-    call: &str,
-    given: &str,
-) -> Result<String, AllocError> {
-    match call {
-        "read_log" => reading::runs_in_words(alloc, given),
-        "strip" => reading::stripped(alloc, given),
-        "read_parts" => reading::parts_in_words(alloc, given),
-        "open_run" => reading::head_in_words(alloc, seed, given),
-        "make_record" => reading::record_in_words(alloc, seed, given),
-        "tiers" => matching::tiers_in_words(alloc, seed, given),
-        "key" => matching::keys_in_words(alloc, seed, given),
-        "match_all" => matching::partners_in_words(alloc, seed, given),
-        "read_rules" => suppressing::answer_of(alloc, given, Asked::Count),
-        "apply" => suppressing::applied_in_words(alloc, seed, given),
-        "object" => suppressing::answer_of(alloc, given, Asked::Object),
-        "summary" => summary_in_words(alloc),
         _ => String::from_str(alloc, "no such call"),
     }
-}
-
-// The summary of two results, on one line.
-fn summary_in_words(alloc: Global) -> Result<String, AllocError> {
-    let mut counts = Counts::new();
-    counts.add(State::New, Level::Error, false);
-    counts.add(State::Updated, Level::Note, true);
-    let text = summary(alloc, &counts, &Policy::default())?;
-    format!(in alloc; "{text:?}")
 }

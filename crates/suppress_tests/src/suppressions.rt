@@ -8,16 +8,7 @@ use serde_json::Value;
 use std::alloc::{AllocError, Global};
 use std::process::Abort;
 use std::test::Fail;
-use test_suppress::Plain;
-
-/// A suppression file as it is written, and the date for which it is read.
-#[derive(Clone, Copy)]
-struct FileText<'a> {
-    version: u32,
-    /// The entries, with commas between them.
-    entries: &'a str,
-    today: Option<u32>,
-}
+use test_suppress::{FileText, Plain, asked_of_file, file_of};
 
 /// What a file makes of a result.
 #[derive(Drop)]
@@ -31,11 +22,7 @@ struct Outcome {
 
 /// A file of version 1 with these entries, for no date.
 fn first_version(entries: &str) -> FileText<'_> {
-    FileText {
-        version: 1,
-        entries,
-        today: None,
-    }
+    file_of(1, entries)
 }
 
 /// The array that this JSON represents.
@@ -62,19 +49,6 @@ fn outcome_by(
     })
 }
 
-/// A question about a file that is not read yet.
-fn asked_of<A, Ask: FnOnce(&Plain) -> Result<A, AllocError>>(
-    alloc: Global,
-    file: FileText,
-    ask: Ask,
-) -> Result<A, Refusal<FileFault>>
-    requires { Ask.IsAlwaysCallable ask }
-{
-    let (version, entries) = (file.version, file.entries);
-    let text = format!(in alloc; "{{\"version\":{version},\"suppressions\":[{entries}]}}")?;
-    test_suppress::asked_of(alloc, text.as_str().as_bytes(), file.today, ask)
-}
-
 /// The effect of a file that is not read yet on a result with these own suppressions.
 fn outcome_of(
     alloc: Global,
@@ -82,7 +56,7 @@ fn outcome_of(
     finding: &Record,
     own: &str,
 ) -> Result<Outcome, Refusal<FileFault>> {
-    asked_of(alloc, file, |rules| outcome_by(alloc, rules, finding, own))
+    asked_of_file(alloc, file, |rules| outcome_by(alloc, rules, finding, own))
 }
 
 /// How many entries of the file match none of the results.
@@ -91,7 +65,7 @@ fn unused_of(
     file: FileText,
     findings: &[Record],
 ) -> Result<u32, Refusal<FileFault>> {
-    asked_of(alloc, file, |rules| Ok(rules.unused(findings)))
+    asked_of_file(alloc, file, |rules| Ok(rules.unused(findings)))
 }
 
 /// The same result with one more own suppression, of that status.

@@ -1,12 +1,12 @@
 //! Which entries a result meets, whether it is suppressed, and which entries no result uses.
-use super::{FileText, asked_of, expect_written, first_version, outcome_of, unused_of, with_own};
+use super::{expect_written, first_version, outcome_of, unused_of, with_own};
 use sarif_entries::FileFault;
 use sarif_model::{Refusal, Status};
 use sarif_suppress::Marks;
 use std::alloc::{AllocError, Global};
 use std::process::Abort;
 use std::test::Fail;
-use test_suppress::{Plain, asked_of_none, result_at};
+use test_suppress::{FileText, Plain, asked_of_file, asked_of_none, result_at};
 
 const IN_SOURCE: &str = "[{\"kind\":\"inSource\"}]";
 
@@ -116,7 +116,7 @@ fn unmarked_of(
     file: FileText,
     rule_ids: &[&str],
 ) -> Result<Vec<u32>, Refusal<FileFault>> {
-    asked_of(alloc, file, |rules| unmarked_by(alloc, rules, rule_ids))
+    asked_of_file(alloc, file, |rules| unmarked_by(alloc, rules, rule_ids))
 }
 
 #[test]
@@ -137,7 +137,7 @@ fn size_and_object(alloc: Global, rules: &Plain) -> Result<(u32, String), AllocE
 
 /// The same for a file that is not read yet.
 fn size_and_object_of(alloc: Global, file: FileText) -> Result<(u32, String), Refusal<FileFault>> {
-    asked_of(alloc, file, |rules| size_and_object(alloc, rules))
+    asked_of_file(alloc, file, |rules| size_and_object(alloc, rules))
 }
 
 /// The same without a file.

@@ -1,8 +1,8 @@
 //! Entries that name a URI prefix.
-use crate::files::{expect_entries, file_of};
+use crate::lookups::expect_entries;
 use std::process::Abort;
 use std::test::Fail;
-use test_suppress::result_at;
+use test_suppress::{file_of, result_at};
 
 /// Asserts the entries that match a result of the rule `R1` at each of these places.
 fn expect_at(

@@ -1,10 +1,22 @@
 //! Entries that are found by different conditions.
-use crate::files::{FileText, expect_entries, file_of};
-use sarif_model::{Sequence, Text};
+use sarif_model::{Record, Sequence, Text};
 use std::alloc::{AllocError, Global};
 use std::process::Abort;
 use std::test::Fail;
-use test_suppress::result_at;
+use test_suppress::{FileText, applied_of, file_of, result_at};
+
+/// Asserts which entries of the file match the result.
+pub(crate) fn expect_entries(
+    rt: &(impl Abort + AllocGlobal),
+    file: FileText,
+    finding: &Record,
+    wanted: &[u32],
+) -> Result<(), Fail> {
+    let applied = applied_of(rt.alloc(), file, finding)?;
+    let entries = file.entries;
+    assert!(rt; applied.entries.as_slice() == wanted, "{entries}");
+    Ok(())
+}
 
 /// Asserts which entries match a result at the place `a.c` with that rule id and GUID.
 fn expect_with_guid(
@@ -79,4 +91,25 @@ fn entries_are_found_by_whatever_they_ask_for(rt: HostRuntime) -> Result<(), Fai
     expect_with_fingerprints(&rt, file, "src/a.c", &second, &[0, 1, 5, 7])?;
     expect_with_fingerprints(&rt, file, "src/b.c", &[("f/v1", "x")], &[0, 1])?;
     expect_with_fingerprints(&rt, file, "lib/src/a.c", &[], &[0])
+}
+
+/// Entries of one file with a message, a URI, both or a prefix: each is found where its conditions hold.
+#[test]
+fn a_text_and_a_uri_are_looked_up_together_and_alone(rt: HostRuntime) -> Result<(), Fail> {
+    let entries = concat!(
+        r#"{"message":"m","uri":"a.c"},{"message":"m"},{"uri":"a.c"},{"message":"m","uri":"b.c"},"#,
+        r#"{"message":"n","uri":"a.c"},{"message":"m","uriPrefix":"a"},{"messageId":"i"},"#,
+        r#"{"message":"m","uri":"a.c","ruleId":"R2"}"#
+    );
+    for (uri, wanted) in [
+        (Some("a.c"), [0, 1, 2, 5].as_slice()),
+        (Some("b.c"), [1, 3].as_slice()),
+        (Some("ab.c"), [1, 5].as_slice()),
+        (None, [1].as_slice()),
+    ] {
+        let mut finding = result_at(rt.alloc(), "R1", uri)?;
+        finding.message.text = Some(Text::copy_of(rt.alloc(), "m")?);
+        expect_entries(&rt, file_of(4, entries), &finding, wanted)?;
+    }
+    Ok(())
 }
