@@ -1,4 +1,4 @@
--- The item of a result depends on thirteen of its members.
+-- The item of a result depends only on the members that its own members are read from.
 use Rattle.std.proofs.Common.{◌≡◌, ℕ, true, false, ◌&&◌, sym, ap, ◌∙◌}
 use Rattle.std.specs.Prelude.{if◌then◌else◌}
 use Rattle.serde_json.specs.Data.{Data}
