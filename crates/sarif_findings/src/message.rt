@@ -44,7 +44,7 @@ fn own_string<'a>(subject: &Subject<'a>, name: &str) -> Option<&'a str>
     requires { IsDescribed subject.now }
     ensures { option_map (λ s. s.now) result
         ≡ said.descriptor_string name.now
-            (located.descriptor_at (view subject.now.run.now) subject.now.told.now.rule) }
+        (located.descriptor_at (view subject.now.run.now) subject.now.told.now.rule) }
 {
     string_named(subject.descriptor?, "messageStrings", name)
 }
@@ -54,7 +54,7 @@ fn shared_string<'a>(subject: &Subject<'a>, name: &str) -> Option<&'a str>
     requires { IsDescribed subject.now }
     ensures { option_map (λ s. s.now) result
         ≡ said.component_string name.now
-            (located.strings_at (view subject.now.run.now) subject.now.told.now.rule) }
+        (located.strings_at (view subject.now.run.now) subject.now.told.now.rule) }
 {
     string_named(strings_of(subject)?, "globalMessageStrings", name)
 }
