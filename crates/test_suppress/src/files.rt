@@ -1,5 +1,9 @@
 //! Suppression files as they are written in tests, and what they make of a result.
-ghost use Rattle.std.specs.Prelude.{◌≡◌, None};
+ghost use Rattle.std.specs.Prelude.{◌≡◌, ℕ, List, IfOk, None, Ok};
+ghost use Rattle.sarif_entries.specs.File.{File};
+ghost use Rattle.sarif_entries.specs.File as said;
+ghost use Rattle.sarif_suppress.specs.Suppressing.{is_suppressed, matching_numbers};
+ghost use Rattle.test_suppress.specs.Asked.{IsAnswerFor};
 
 use crate::asking::{Plain, asked_of};
 use sarif_entries::FileFault;
@@ -38,10 +42,12 @@ pub fn asked_of_file<A, Ask: FnOnce(&Plain) -> Result<A, AllocError>>(
     ask: Ask,
 ) -> Result<A, Refusal<FileFault>>
     requires { Ask.IsAlwaysCallable ask }
+    ensures { IfOk result (λ answer. IsAnswerFor Ask.FnOnce ask file.entry.today (Ok answer)) }
 {
     let (version, entries) = (file.version, file.entries);
     let text = format!(in alloc; "{{\"version\":{version},\"suppressions\":[{entries}]}}")?;
-    asked_of(alloc, text.as_str().as_bytes(), file.today, ask)
+    let answer = asked_of(alloc, text.as_str().as_bytes(), file.today, ask)?;
+    Ok(answer)
 }
 
 /// Returns what the file makes of a result: which entries match it, and whether it is then suppressed. Returns an error
@@ -50,6 +56,12 @@ pub fn applied_of(
     alloc: Global,
     file: FileText,
     finding: &Record,
-) -> Result<Applied, Refusal<FileFault>> {
-    asked_of_file(alloc, file, |rules| rules.apply(alloc, finding))
+) -> Result<Applied, Refusal<FileFault>>
+    ensures { IfOk result (λ applied. (bytes : List ℕ) × (parsed : File)
+        × (said.file_of bytes file.entry.today ≡ Ok parsed)
+        × (applied.entries ≡ matching_numbers parsed finding.now)
+        × (applied.suppressed ≡ is_suppressed parsed finding.now)) }
+{
+    let applied = asked_of_file(alloc, file, |rules| rules.apply(alloc, finding))?;
+    Ok(applied)
 }
