@@ -81,7 +81,7 @@ message_same : (run x y : Data) → AreNamedAlike x y → message_of run x ≡ m
 message_same run x y same =
     ap (λ o. filled (arguments_in o) (unlinked (arguments_in o) (chars (unwrap_or (option_and_then (text_by run x) o) [])))) same.message
     ∙ ap (λ text. filled (arguments_of y) (unlinked (arguments_of y) (chars (unwrap_or text []))))
-      (text_same run run x y (get (codes "message") y) (strings_alike run x y same))
+    (text_same run run x y (get (codes "message") y) (strings_alike run x y same))
 
 -- ---- the place
 

@@ -94,7 +94,7 @@ strings_alike a b x same = record { descriptor = descriptor_same a b x same; str
 message_same : (a b x : Data) → AreAlike a b → message_of a x ≡ message_of b x
 message_same a b x same =
     ap (λ text. filled (arguments_of x) (unlinked (arguments_of x) (chars (unwrap_or text []))))
-      (text_same a b x x (get (codes "message") x) (strings_alike a b x same))
+    (text_same a b x x (get (codes "message") x) (strings_alike a b x same))
 
 -- ---- the whole
 
