@@ -1,6 +1,6 @@
 //! An indexed text, the values that are looked up in it and those that are made from it.
 use json::Scratch;
-use json_parts::{IndexFault, Node, index_text};
+use json_parts::{Index, IndexFault, Node, index_text};
 use serde_json::Value;
 use std::alloc::{AllocError, Global};
 use std::test::Fail;
@@ -8,6 +8,20 @@ use std::test::Fail;
 const LOG: &str = r#"{"runs":[{"tool":{"driver":{"name":"a\u0062","rank":1.5}},
     "results":[1,{"at":[[1e3],2]},-7],"guid":null,"share":0.5,"share":true}],
     "version":1,"version":"2.1.0","big":12345678901234567890,"twice":1,"twice":2.5}"#;
+
+// A description of the root of this index; `none` if there is no index.
+fn told_by<Tell: FnOnce(&Node<'_, '_>) -> Result<String, AllocError>>(
+    alloc: Global,
+    index: Result<Index<'_>, IndexFault>,
+    tell: Tell,
+) -> Result<String, AllocError>
+    requires { Tell.IsAlwaysCallable tell }
+{
+    match index {
+        Ok(index) => tell(&index.root()),
+        Err(_) => String::from_str(alloc, "none"),
+    }
+}
 
 // A description of the root of an indexed document; `none` if there is no index.
 fn told_of<Tell: FnOnce(&Node<'_, '_>) -> Result<String, AllocError>>(
@@ -18,10 +32,8 @@ fn told_of<Tell: FnOnce(&Node<'_, '_>) -> Result<String, AllocError>>(
     requires { Tell.IsAlwaysCallable tell }
 {
     let mut scratch = Scratch::new(alloc);
-    match index_text(alloc, text.as_bytes(), &mut scratch) {
-        Ok(index) => tell(&index.root()),
-        Err(_) => String::from_str(alloc, "none"),
-    }
+    let index = index_text(alloc, text.as_bytes(), &mut scratch);
+    told_by(alloc, index, tell)
 }
 
 fn member_in(alloc: Global, root: &Node<'_, '_>, name: &str) -> Result<String, AllocError> {
@@ -102,6 +114,10 @@ fn kinds_of(alloc: Global, node: &Node<'_, '_>) -> Result<String, AllocError> {
     Ok(told)
 }
 
+fn kinds(alloc: Global, text: &str) -> Result<String, AllocError> {
+    told_of(alloc, text, |root| kinds_of(alloc, root))
+}
+
 #[test]
 fn kinds_are_told(rt: HostRuntime) -> Result<(), Fail> {
     let alloc = rt.alloc();
@@ -114,15 +130,16 @@ fn kinds_are_told(rt: HostRuntime) -> Result<(), Fail> {
         ("1.5", "f"),
         ("true", ""),
     ] {
-        assert_eq!(rt;
-            told_of(alloc, text, |root| kinds_of(alloc, root))?.as_str(),
-            told
-        );
+        assert_eq!(rt; kinds(alloc, text)?.as_str(), told);
     }
-    assert_eq!(rt;
-        told_of(alloc, "[1,2,3]", |root| count_of(alloc, root))?.as_str(),
-        "3"
-    );
+    Ok(())
+}
+
+#[test]
+fn elements_are_counted(rt: HostRuntime) -> Result<(), Fail> {
+    let alloc = rt.alloc();
+    let told = told_of(alloc, "[1,2,3]", |root| count_of(alloc, root))?;
+    assert_eq!(rt; told.as_str(), "3");
     Ok(())
 }
 
@@ -152,13 +169,17 @@ fn nested(alloc: Global, depth: usize) -> Result<String, Fail> {
     Ok(text)
 }
 
+// Whether a text with arrays nested this deep has an index.
+fn has_index(alloc: Global, depth: usize) -> Result<bool, Fail> {
+    let text = nested(alloc, depth)?;
+    let mut scratch = Scratch::new(alloc);
+    Ok(index_text(alloc, text.as_bytes(), &mut scratch).is_ok())
+}
+
 #[test]
 fn texts_nest_127_deep(rt: HostRuntime) -> Result<(), Fail> {
     let alloc = rt.alloc();
-    let (most, more) = (nested(alloc, 127)?, nested(alloc, 128)?);
-    let mut scratch = Scratch::new(alloc);
-    assert!(rt; index_text(alloc, most.as_bytes(), &mut scratch).is_ok());
-    let mut other = Scratch::new(alloc);
-    assert!(rt; index_text(alloc, more.as_bytes(), &mut other).is_err());
+    assert!(rt; has_index(alloc, 127)?);
+    assert!(rt; !has_index(alloc, 128)?);
     Ok(())
 }

@@ -80,18 +80,31 @@ impl RandomSource for Bytes {
     }
 }
 
+// The result of a run for one of some seeds, if it isn't the wanted one.
+fn wrong_answer(alloc: Global, run: &RawRun, wanted: &str) -> Result<Option<String>, Fail> {
+    for byte in [0, 1, 255] {
+        let seed = RandomState::new(&Bytes(byte))?;
+        let answer = answer_in_words(alloc, seed, run)?;
+        if answer.as_str() != wanted {
+            return Ok(Some(answer));
+        }
+    }
+    Ok(None)
+}
+
+// The same for a run that isn't read yet.
+fn wrong_answer_of(alloc: Global, run: &str, wanted: &str) -> Result<Option<String>, Fail> {
+    let log = read_run(alloc, run)?;
+    let first = log.runs().first().ok_or("no run")?;
+    wrong_answer(alloc, first, wanted)
+}
+
 // The first row with a different result for one of some seeds, with that result.
 fn wrong_row(alloc: Global, rows: &str) -> Result<Option<String>, Fail> {
     for row in rows.lines() {
         let (wanted, run) = row.split_once('|').ok_or("no bar")?;
-        let log = read_run(alloc, run)?;
-        let first = log.runs().first().ok_or("no run")?;
-        for byte in [0, 1, 255] {
-            let seed = RandomState::new(&Bytes(byte))?;
-            let answer = answer_in_words(alloc, seed, first)?;
-            if answer.as_str() != wanted {
-                return Ok(Some(format!(in alloc; "{answer}|{run}")?));
-            }
+        if let Some(answer) = wrong_answer_of(alloc, run, wanted)? {
+            return Ok(Some(format!(in alloc; "{answer}|{run}")?));
         }
     }
     Ok(None)

@@ -42,33 +42,41 @@ pub const A: Sketch = Sketch {
     kind: Kind::Fail,
 };
 
-fn add(alloc: Global, pairs: &mut Pairs, pair: Option<(&str, &str)>) -> Result<(), AllocError> {
-    if let Some((name, value)) = pair {
-        pairs.push((Text::copy_of(alloc, name)?, Text::copy_of(alloc, value)?))?;
+/// The pairs among these, in their order.
+fn pairs_of(alloc: Global, pairs: &[Option<(&str, &str)>]) -> Result<Pairs, AllocError> {
+    let mut made = Sequence::new(alloc);
+    for pair in pairs {
+        if let Some((name, value)) = pair {
+            made.push((Text::copy_of(alloc, name)?, Text::copy_of(alloc, value)?))?;
+        }
     }
-    Ok(())
+    Ok(made)
+}
+
+fn message_of(alloc: Global, text: &str) -> Result<Message, AllocError> {
+    Ok(Message {
+        text: Some(Text::copy_of(alloc, text)?),
+        id: None,
+        args: Sequence::new(alloc),
+    })
 }
 
 pub fn record(alloc: Global, sketch: &Sketch) -> Result<Record, AllocError> {
-    let mut full = Sequence::new(alloc);
-    add(alloc, &mut full, sketch.full)?;
-    add(alloc, &mut full, sketch.second)?;
-    let mut partial = Sequence::new(alloc);
-    add(alloc, &mut partial, sketch.partial)?;
     let uri = match sketch.uri {
         Some(uri) => Some(Text::copy_of(alloc, uri)?),
         None => None,
     };
+    let tool = Text::copy_of(alloc, sketch.tool)?;
+    let rule_id = Text::copy_of(alloc, sketch.rule_id)?;
+    let message = message_of(alloc, sketch.text)?;
+    let partial = pairs_of(alloc, &[sketch.partial])?;
+    let full = pairs_of(alloc, &[sketch.full, sketch.second])?;
     Ok(Record {
-        tool: Text::copy_of(alloc, sketch.tool)?,
-        rule_id: Text::copy_of(alloc, sketch.rule_id)?,
+        tool,
+        rule_id,
         kind: sketch.kind,
         level: Level::Warning,
-        message: Message {
-            text: Some(Text::copy_of(alloc, sketch.text)?),
-            id: None,
-            args: Sequence::new(alloc),
-        },
+        message,
         place: Place { uri, base: None },
         guid: sketch.guid,
         full,

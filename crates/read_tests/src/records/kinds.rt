@@ -1,6 +1,12 @@
 //! The strings of each variant, there and back.
 use sarif_model::{Kind, Level, State, Status};
+use std::process::Abort;
 use std::test::Fail;
+
+fn expect_level(rt: &impl Abort, level: Level, text: &str) {
+    assert_eq!(rt; level.name(), text);
+    assert_eq!(rt; Level::from_name(text), Some(level), "{text}");
+}
 
 #[test]
 fn each_level_has_its_text(rt: HostRuntime) -> Result<(), Fail> {
@@ -10,13 +16,22 @@ fn each_level_has_its_text(rt: HostRuntime) -> Result<(), Fail> {
         (Level::Warning, "warning"),
         (Level::Error, "error"),
     ] {
-        assert_eq!(rt; level.name(), text);
-        assert_eq!(rt; Level::from_name(text), Some(level), "{text}");
+        expect_level(&rt, level, text);
     }
+    Ok(())
+}
+
+#[test]
+fn no_other_text_is_a_level(rt: HostRuntime) -> Result<(), Fail> {
     for text in ["", "Note", "noLevel", "high"] {
         assert_eq!(rt; Level::from_name(text), None, "{text}");
     }
     Ok(())
+}
+
+fn expect_kind(rt: &impl Abort, kind: Kind, text: &str) {
+    assert_eq!(rt; kind.name(), text);
+    assert_eq!(rt; Kind::from_name(text), Some(kind), "{text}");
 }
 
 #[test]
@@ -29,13 +44,22 @@ fn each_kind_has_its_text(rt: HostRuntime) -> Result<(), Fail> {
         (Kind::Review, "review"),
         (Kind::Fail, "fail"),
     ] {
-        assert_eq!(rt; kind.name(), text);
-        assert_eq!(rt; Kind::from_name(text), Some(kind), "{text}");
+        expect_kind(&rt, kind, text);
     }
+    Ok(())
+}
+
+#[test]
+fn no_other_text_is_a_kind(rt: HostRuntime) -> Result<(), Fail> {
     for text in ["", "Open", "undecided", "notapplicable"] {
         assert_eq!(rt; Kind::from_name(text), None, "{text}");
     }
     Ok(())
+}
+
+fn expect_state(rt: &impl Abort, state: State, text: &str) {
+    assert_eq!(rt; state.name(), text);
+    assert_eq!(rt; State::from_name(text), Some(state), "{text}");
 }
 
 #[test]
@@ -46,13 +70,22 @@ fn each_baseline_state_has_its_text(rt: HostRuntime) -> Result<(), Fail> {
         (State::Updated, "updated"),
         (State::Absent, "absent"),
     ] {
-        assert_eq!(rt; state.name(), text);
-        assert_eq!(rt; State::from_name(text), Some(state), "{text}");
+        expect_state(&rt, state, text);
     }
+    Ok(())
+}
+
+#[test]
+fn no_other_text_is_a_baseline_state(rt: HostRuntime) -> Result<(), Fail> {
     for text in ["", "New", "changed", "absent "] {
         assert_eq!(rt; State::from_name(text), None, "{text}");
     }
     Ok(())
+}
+
+fn expect_status(rt: &impl Abort, status: Status, text: &str) {
+    assert_eq!(rt; status.name(), text);
+    assert_eq!(rt; Status::from_name(text), Some(status), "{text}");
 }
 
 #[test]
@@ -62,9 +95,13 @@ fn each_status_has_its_text(rt: HostRuntime) -> Result<(), Fail> {
         (Status::UnderReview, "underReview"),
         (Status::Rejected, "rejected"),
     ] {
-        assert_eq!(rt; status.name(), text);
-        assert_eq!(rt; Status::from_name(text), Some(status), "{text}");
+        expect_status(&rt, status, text);
     }
+    Ok(())
+}
+
+#[test]
+fn no_other_text_is_a_status(rt: HostRuntime) -> Result<(), Fail> {
     for text in ["", "Accepted", "underreview", "new"] {
         assert_eq!(rt; Status::from_name(text), None, "{text}");
     }
