@@ -1,6 +1,8 @@
 //! Merges with baselines.
+use sarif_counts::Counts;
 use sarif_model::{Level, State};
 use std::alloc::{AllocError, Global};
+use std::process::Abort;
 use std::sync::Wait;
 use std::test::Fail;
 use std::thread::Threads;
@@ -219,6 +221,19 @@ fn many_equal(alloc: Global, times: u32) -> Result<String, AllocError> {
     Ok(runs)
 }
 
+/// Asserts that 20,000 results are unchanged, and that the last one is new.
+fn assert_one_is_new(rt: &impl Abort, counts: &Counts, log: &str) {
+    assert_eq!(rt; counts.get(State::Unchanged, Level::Warning, false), 20_000);
+    assert_eq!(rt; counts.get(State::New, Level::Warning, false), 1);
+    let end = concat!(
+        r#"{"baselineState":"unchanged","level":"warning","message":{"text":"m"},"ruleId":"R1","#,
+        r#""suppressions":[]},"#,
+        r#"{"baselineState":"new","level":"warning","message":{"text":"m"},"ruleId":"R1","#,
+        r#""suppressions":[]}],"tool":{"driver":{"name":"lint"}}}],"version":"2.1.0"}"#
+    );
+    assert!(rt; log.ends_with(end));
+}
+
 /// Each of 20,000 equal results has the one with its number in the baseline as its partner, and the one after them
 /// has none.
 #[test]
@@ -227,17 +242,6 @@ fn many_equal_results_are_paired_in_order(rt: HostRuntime) -> Result<(), Fail> {
     let baseline = many_equal(rt.alloc(), 20_000)?;
     let given = beside(rt.alloc(), current.as_str(), baseline.as_str())?;
     let merged = merge(&rt, &given)?;
-    assert_eq!(rt;
-        merged.counts.get(State::Unchanged, Level::Warning, false),
-        20_000
-    );
-    assert_eq!(rt; merged.counts.get(State::New, Level::Warning, false), 1);
-    let end = concat!(
-        r#"{"baselineState":"unchanged","level":"warning","message":{"text":"m"},"ruleId":"R1","#,
-        r#""suppressions":[]},"#,
-        r#"{"baselineState":"new","level":"warning","message":{"text":"m"},"ruleId":"R1","#,
-        r#""suppressions":[]}],"tool":{"driver":{"name":"lint"}}}],"version":"2.1.0"}"#
-    );
-    assert!(rt; merged.log.as_str().ends_with(end));
+    assert_one_is_new(&rt, &merged.counts, merged.log.as_str());
     Ok(())
 }

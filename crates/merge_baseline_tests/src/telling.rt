@@ -82,17 +82,32 @@ fn told_of<R: Abort + AllocGlobal + Threads + Wait + Sync>(
     Ok(merged.findings)
 }
 
-#[test]
-fn active_results_of_listed_states_are_told(rt: HostRuntime) -> Result<(), Fail> {
-    let findings = told_of(&rt, LOG, BASELINE, 1)?;
+/// Asserts that there are two findings, that only the first is a hit, and that their text report is `TOLD`.
+fn assert_told<R: Abort + AllocGlobal>(rt: &R, findings: &[Finding]) -> Result<(), AllocError> {
     assert_eq!(rt; findings.len(), 2);
     assert!(rt; findings[0].hit);
     assert!(rt; !findings[1].hit);
-    assert_eq!(rt;
-        text_report(rt.alloc(), findings.as_slice())?.as_str(),
-        TOLD
-    );
+    assert_eq!(rt; text_report(rt.alloc(), findings)?.as_str(), TOLD);
     Ok(())
+}
+
+#[test]
+fn active_results_of_listed_states_are_told(rt: HostRuntime) -> Result<(), Fail> {
+    let findings = told_of(&rt, LOG, BASELINE, 1)?;
+    assert_told(&rt, findings.as_slice())?;
+    Ok(())
+}
+
+/// How many findings a log has with this baseline, and their text report.
+fn report_of<R: Abort + AllocGlobal + Threads + Wait + Sync>(
+    rt: &R,
+    log: &str,
+    baseline: &str,
+    workers: u32,
+) -> Result<(usize, String), MergeFault> {
+    let findings = told_of(rt, log, baseline, workers)?;
+    let report = text_report(rt.alloc(), findings.as_slice())?;
+    Ok((findings.len(), report))
 }
 
 /// The result of that number, which is its message; every third is suppressed.
@@ -126,12 +141,9 @@ fn what_is_told_keeps_its_order_with_any_number_of_workers(rt: HostRuntime) -> R
     let alloc = rt.alloc();
     let (log, lines) = numbered_log(alloc, 500)?;
     for workers in 1..8 {
-        let findings = told_of(&rt, log.as_str(), NO_RUNS, workers)?;
-        assert_eq!(rt; findings.len(), 333);
-        assert_eq!(rt;
-            text_report(alloc, findings.as_slice())?.as_str(),
-            lines.as_str()
-        );
+        let (count, report) = report_of(&rt, log.as_str(), NO_RUNS, workers)?;
+        assert_eq!(rt; count, 333);
+        assert_eq!(rt; report.as_str(), lines.as_str());
     }
     Ok(())
 }

@@ -1,8 +1,10 @@
 //! Merges of logs without a baseline.
 use sarif_counts::{Policy, Verdict};
+use sarif_log::Merged;
 use sarif_model::{Level, State};
 use sarif_prepare::Asked;
 use std::alloc::{AllocError, Global};
+use std::process::Abort;
 use std::test::Fail;
 use test_merges::{
     Given, NOTHING, Texts, Wanted, expect_log, expect_part, expect_runs, log_of, log_with, merge,
@@ -21,16 +23,20 @@ const MERGED: &str = concat!(
     r#""version":"2.1.0"}"#
 );
 
-#[test]
-fn a_result_without_a_level_is_a_new_warning(rt: HostRuntime) -> Result<(), Fail> {
-    let given = one_log(rt.alloc(), "lint: M")?;
-    let merged = merge(&rt, &given)?;
+/// Asserts that this is the merge of that log: one new warning, which the gate lets pass.
+fn assert_is_warning(rt: &impl Abort, merged: &Merged) {
     assert_eq!(rt; merged.log.as_str(), MERGED);
     assert_eq!(rt; merged.counts.get(State::New, Level::Warning, false), 1);
     assert_eq!(rt; merged.counts.get(State::New, Level::Error, false), 0);
     assert_eq!(rt; merged.verdict, Verdict::Pass);
     assert_eq!(rt; merged.without, 0);
     assert_eq!(rt; merged.unused, 0);
+}
+
+#[test]
+fn a_result_without_a_level_is_a_new_warning(rt: HostRuntime) -> Result<(), Fail> {
+    let given = one_log(rt.alloc(), "lint: M")?;
+    assert_is_warning(&rt, &merge(&rt, &given)?);
     Ok(())
 }
 
@@ -43,9 +49,23 @@ fn a_log_that_a_reader_gives(rt: HostRuntime) -> Result<(), Fail> {
         reporting: None,
         upkeep: None,
     };
-    let merged = merge_texts(&rt, Texts::of(log.as_str()), &asked)?;
-    assert_eq!(rt; merged.log.as_str(), MERGED);
-    assert_eq!(rt; merged.verdict, Verdict::Pass);
+    assert_is_warning(&rt, &merge_texts(&rt, Texts::of(log.as_str()), &asked)?);
+    Ok(())
+}
+
+/// Asserts that a gate on warnings, which lets `max` of them pass, has one hit and this verdict.
+fn assert_strict<R: Abort + AllocGlobal>(
+    rt: &R,
+    merged: &Merged,
+    max: u32,
+    verdict: Verdict,
+) -> Result<(), AllocError> {
+    assert_eq!(rt; merged.verdict, verdict);
+    let name = verdict.name();
+    let numbers = format!(in rt.alloc(); "\"failOn\":\"warning\",\"hits\":1,\"max\":{max},")?;
+    assert!(rt; merged.log.as_str().contains(numbers.as_str()));
+    let end = format!(in rt.alloc(); "\"verdict\":\"{name}\"}}}},\"runs\":[")?;
+    assert!(rt; merged.log.as_str().contains(end.as_str()));
     Ok(())
 }
 
@@ -58,13 +78,7 @@ fn a_warning_fails_a_strict_gate(rt: HostRuntime) -> Result<(), Fail> {
             states: Policy::default().states,
             max,
         };
-        let merged = merge(&rt, &given)?;
-        assert_eq!(rt; merged.verdict, verdict);
-        let name = verdict.name();
-        let numbers = format!(in rt.alloc(); "\"failOn\":\"warning\",\"hits\":1,\"max\":{max},")?;
-        assert!(rt; merged.log.as_str().contains(numbers.as_str()));
-        let end = format!(in rt.alloc(); "\"verdict\":\"{name}\"}}}},\"runs\":[")?;
-        assert!(rt; merged.log.as_str().contains(end.as_str()));
+        assert_strict(&rt, &merge(&rt, &given)?, max, verdict)?;
     }
     Ok(())
 }

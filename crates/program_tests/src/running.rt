@@ -61,7 +61,7 @@ fn failing(good: u32) -> Given {
 }
 
 /// Runs a request over one log alone.
-fn run<T: Threads + Wait + Sync + AllocGlobal>(
+fn run_by<T: Threads + Wait + Sync + AllocGlobal>(
     threads: &T,
     request: &Request,
     log: Given,
@@ -81,9 +81,31 @@ fn run<T: Threads + Wait + Sync + AllocGlobal>(
     run_over(threads, alloc, &setting, &mut readers, Vec::new(alloc))
 }
 
-/// Runs over one log with a baseline and a suppression file.
-fn run_all<T: Threads + Wait + Sync + AllocGlobal>(
+/// Runs the request of the standard streams over one log alone.
+fn run<T: Threads + Wait + Sync + AllocGlobal>(
     threads: &T,
+    log: Given,
+    rooms: Rooms,
+) -> Result<Ended, AllocError> {
+    let request = Request::of_standard_streams(threads.alloc(), seed()?)?;
+    run_by(threads, &request, log, rooms)
+}
+
+/// Runs over the log with a gate on warnings, which lets `max` of them pass.
+fn run_strict<T: Threads + Wait + Sync + AllocGlobal>(
+    threads: &T,
+    max: u32,
+) -> Result<Ended, AllocError> {
+    let mut request = Request::of_standard_streams(threads.alloc(), seed()?)?;
+    request.options.policy.fail_on = Level::Warning;
+    request.options.policy.max = max;
+    run_by(threads, &request, Given::whole(LOG), AMPLE)
+}
+
+/// Runs a request over one log with a baseline and a suppression file.
+fn run_all_by<T: Threads + Wait + Sync + AllocGlobal>(
+    threads: &T,
+    request: &Request,
     log: Given,
     baseline: Given,
     suppressions: Given,
@@ -94,13 +116,50 @@ fn run_all<T: Threads + Wait + Sync + AllocGlobal>(
         baselines: vec![in alloc; Counted::new(baseline)]?,
         suppressions: Some(Counted::new(suppressions)),
     };
-    let request = Request::of_standard_streams(alloc, seed()?)?;
     let setting = Setting {
-        request: &request,
+        request,
         rooms: AMPLE,
         is_explained: false,
     };
     run_over(threads, alloc, &setting, &mut readers, Vec::new(alloc))
+}
+
+/// Runs the request of the standard streams over one log with a baseline and a suppression file.
+fn run_all<T: Threads + Wait + Sync + AllocGlobal>(
+    threads: &T,
+    log: Given,
+    baseline: Given,
+    suppressions: Given,
+) -> Result<Ended, AllocError> {
+    let request = Request::of_standard_streams(threads.alloc(), seed()?)?;
+    run_all_by(threads, &request, log, baseline, suppressions)
+}
+
+/// Asserts that a run passed, and wrote the merged log and its summary.
+fn assert_passed(rt: &impl Abort, ended: &Ended) {
+    assert_eq!(rt; ended.status, 0);
+    assert_eq!(rt; ended.out.as_slice(), MERGED.as_bytes());
+    assert_eq!(rt; ended.say.as_slice(), SUMMARY.as_bytes());
+    assert!(rt; ended.complain.is_empty());
+}
+
+/// Asserts that a run passed, wrote a merged log, and reported nothing.
+fn assert_quiet(rt: &impl Abort, ended: &Ended) {
+    assert_eq!(rt; ended.status, 0);
+    assert!(rt; !ended.out.is_empty());
+    assert!(rt; ended.complain.is_empty());
+}
+
+/// Asserts that a run wrote the first `room` bytes of the merged log, and reported that its writer failed.
+fn assert_cut(rt: &impl Abort, ended: &Ended, room: usize) {
+    assert_eq!(rt; ended.status, 3);
+    assert_eq!(rt; ended.out.len(), room);
+    assert!(rt; MERGED.as_bytes().starts_with(ended.out.as_slice()));
+    assert!(rt; ended.say.is_empty());
+    assert_eq!(rt;
+        ended.complain.as_slice(),
+        b"sarif_gate: output: WriteFailed\n".as_slice()
+    );
 }
 
 /// Asserts that a run ended with this status, wrote no merged log, and reported this line.
@@ -112,20 +171,13 @@ fn assert_stopped(rt: &impl Abort, ended: &Ended, status: u8, line: &[u8]) {
 
 #[test]
 fn one_new_warning_passes_a_gate_on_errors(rt: HostRuntime) -> Result<(), Fail> {
-    let request = Request::of_standard_streams(rt.alloc(), seed()?)?;
-    let ended = run(&rt, &request, Given::whole(LOG), AMPLE)?;
-    assert_eq!(rt; ended.status, 0);
-    assert_eq!(rt; ended.out.as_slice(), MERGED.as_bytes());
-    assert_eq!(rt; ended.say.as_slice(), SUMMARY.as_bytes());
-    assert!(rt; ended.complain.is_empty());
+    assert_passed(&rt, &run(&rt, Given::whole(LOG), AMPLE)?);
     Ok(())
 }
 
 #[test]
 fn a_gate_on_warnings_fails(rt: HostRuntime) -> Result<(), Fail> {
-    let mut request = Request::of_standard_streams(rt.alloc(), seed()?)?;
-    request.options.policy.fail_on = Level::Warning;
-    let ended = run(&rt, &request, Given::whole(LOG), AMPLE)?;
+    let ended = run_strict(&rt, 0)?;
     assert_eq!(rt; ended.status, 1);
     assert!(rt; ended.say.ends_with(b"\ngate: fail, hits 1, max 0\n"));
     Ok(())
@@ -133,10 +185,7 @@ fn a_gate_on_warnings_fails(rt: HostRuntime) -> Result<(), Fail> {
 
 #[test]
 fn a_gate_that_lets_one_warning_pass(rt: HostRuntime) -> Result<(), Fail> {
-    let mut request = Request::of_standard_streams(rt.alloc(), seed()?)?;
-    request.options.policy.fail_on = Level::Warning;
-    request.options.policy.max = 1;
-    let ended = run(&rt, &request, Given::whole(LOG), AMPLE)?;
+    let ended = run_strict(&rt, 1)?;
     assert_eq!(rt; ended.status, 0);
     assert!(rt; ended.say.ends_with(b"\ngate: pass, hits 1, max 1\n"));
     Ok(())
@@ -144,8 +193,7 @@ fn a_gate_that_lets_one_warning_pass(rt: HostRuntime) -> Result<(), Fail> {
 
 #[test]
 fn a_second_read_that_fails(rt: HostRuntime) -> Result<(), Fail> {
-    let request = Request::of_standard_streams(rt.alloc(), seed()?)?;
-    let ended = run(&rt, &request, failing(1), AMPLE)?;
+    let ended = run(&rt, failing(1), AMPLE)?;
     assert_stopped(&rt, &ended, 3, b"sarif_gate: log 0: ReadFailed\n");
     assert!(rt; ended.say.is_empty());
     Ok(())
@@ -154,12 +202,11 @@ fn a_second_read_that_fails(rt: HostRuntime) -> Result<(), Fail> {
 /// The log ends with the eleventh read, and one more is needed to see it.
 #[test]
 fn each_read_that_is_reached_may_fail(rt: HostRuntime) -> Result<(), Fail> {
-    let request = Request::of_standard_streams(rt.alloc(), seed()?)?;
     for good in 0..12 {
-        let ended = run(&rt, &request, failing(good), AMPLE)?;
+        let ended = run(&rt, failing(good), AMPLE)?;
         assert_stopped(&rt, &ended, 3, b"sarif_gate: log 0: ReadFailed\n");
     }
-    let ended = run(&rt, &request, failing(12), AMPLE)?;
+    let ended = run(&rt, failing(12), AMPLE)?;
     assert_eq!(rt; ended.status, 0);
     Ok(())
 }
@@ -181,13 +228,11 @@ fn each_read_of_a_log_or_of_its_baseline_may_fail(rt: HostRuntime) -> Result<(),
                 Given::failing_over(TWO, if is_log { 1000 } else { good }),
                 Given::whole(none),
             )?;
-            let is_whole = good == reads;
-            assert_eq!(rt; ended.status, if is_whole { 0 } else { 3 });
-            assert_eq!(rt; ended.out.is_empty(), !is_whole);
-            assert_eq!(rt;
-                ended.complain.as_slice(),
-                if is_whole { b"" } else { wanted }
-            );
+            if good < reads {
+                assert_stopped(&rt, &ended, 3, wanted);
+            } else {
+                assert_quiet(&rt, &ended);
+            }
         }
     }
     Ok(())
@@ -195,54 +240,35 @@ fn each_read_of_a_log_or_of_its_baseline_may_fail(rt: HostRuntime) -> Result<(),
 
 #[test]
 fn a_write_that_fails_leaves_the_beginning(rt: HostRuntime) -> Result<(), Fail> {
-    let request = Request::of_standard_streams(rt.alloc(), seed()?)?;
     let rooms = Rooms { out: 10, ..AMPLE };
-    let ended = run(&rt, &request, Given::whole(LOG), rooms)?;
-    assert_eq!(rt; ended.status, 3);
+    let ended = run(&rt, Given::whole(LOG), rooms)?;
     assert_eq!(rt; ended.out.as_slice(), b"{\"properti".as_slice());
-    assert!(rt; ended.say.is_empty());
-    assert_eq!(rt;
-        ended.complain.as_slice(),
-        b"sarif_gate: output: WriteFailed\n".as_slice()
-    );
+    assert_cut(&rt, &ended, 10);
     Ok(())
 }
 
 #[test]
 fn a_write_may_fail_at_each_byte(rt: HostRuntime) -> Result<(), Fail> {
-    let request = Request::of_standard_streams(rt.alloc(), seed()?)?;
     for room in 0..MERGED.len() {
         let rooms = Rooms { out: room, ..AMPLE };
-        let ended = run(&rt, &request, Given::whole(LOG), rooms)?;
-        assert_eq!(rt; ended.status, 3);
-        assert_eq!(rt; ended.out.len(), room);
-        assert!(rt; MERGED.as_bytes().starts_with(ended.out.as_slice()));
-        assert!(rt; ended.say.is_empty());
-        assert_eq!(rt;
-            ended.complain.as_slice(),
-            b"sarif_gate: output: WriteFailed\n".as_slice()
-        );
+        let ended = run(&rt, Given::whole(LOG), rooms)?;
+        assert_cut(&rt, &ended, room);
     }
     Ok(())
 }
 
 #[test]
 fn a_writer_that_takes_a_byte_at_a_time(rt: HostRuntime) -> Result<(), Fail> {
-    let request = Request::of_standard_streams(rt.alloc(), seed()?)?;
     let rooms = Rooms { piece: 1, ..AMPLE };
-    let ended = run(&rt, &request, Given::whole(LOG), rooms)?;
-    assert_eq!(rt; ended.status, 0);
-    assert_eq!(rt; ended.out.as_slice(), MERGED.as_bytes());
-    assert_eq!(rt; ended.say.as_slice(), SUMMARY.as_bytes());
+    assert_passed(&rt, &run(&rt, Given::whole(LOG), rooms)?);
     Ok(())
 }
 
 #[test]
 fn a_lost_summary_is_told_by_the_status_alone(rt: HostRuntime) -> Result<(), Fail> {
-    let request = Request::of_standard_streams(rt.alloc(), seed()?)?;
     for room in 0..SUMMARY.len() {
         let rooms = Rooms { say: room, ..AMPLE };
-        let ended = run(&rt, &request, Given::whole(LOG), rooms)?;
+        let ended = run(&rt, Given::whole(LOG), rooms)?;
         assert_eq!(rt; ended.status, 3);
         assert_eq!(rt; ended.out.as_slice(), MERGED.as_bytes());
         assert_eq!(rt; ended.say.len(), room);
@@ -253,17 +279,14 @@ fn a_lost_summary_is_told_by_the_status_alone(rt: HostRuntime) -> Result<(), Fai
 
 #[test]
 fn a_lost_complaint_changes_no_status(rt: HostRuntime) -> Result<(), Fail> {
-    let request = Request::of_standard_streams(rt.alloc(), seed()?)?;
     let rooms = Rooms {
         complain: 0,
         ..AMPLE
     };
     for log in [BROKEN, "{}"] {
-        let ended = run(&rt, &request, Given::whole(log), rooms)?;
-        assert_eq!(rt; ended.status, 2);
-        assert!(rt; ended.out.is_empty());
+        let ended = run(&rt, Given::whole(log), rooms)?;
+        assert_stopped(&rt, &ended, 2, b"");
         assert!(rt; ended.say.is_empty());
-        assert!(rt; ended.complain.is_empty());
     }
     Ok(())
 }
