@@ -1,8 +1,9 @@
 //! Pieces and the collector.
 ghost use Rattle.std.specs.Prelude.{◌≤◌, ◌<◌, ◌^◌, vec_len};
 
-use sarif_gather::{CollectFault, Collector, Piece, Refused, Why, collect};
+use sarif_gather::{CollectFault, Collector, Lists, Piece, Refused, Why, collect};
 use std::alloc::Global;
+use std::process::Abort;
 use std::test::Fail;
 
 fn item(run: u32, seq: u32, body: u8) -> Piece<u8, u8> {
@@ -23,21 +24,31 @@ fn refused(piece: Piece<u8, u8>, why: Why) -> Result<(), Refused<u8, u8>> {
     Err(Refused { piece, why })
 }
 
+// Checks what the collector answers to a piece.
+fn check_answer(
+    rt: &impl Abort,
+    all: &mut Collector<u8, u8>,
+    piece: Piece<u8, u8>,
+    answer: Result<(), Refused<u8, u8>>,
+) {
+    assert_eq!(rt; all.accept(piece), answer);
+}
+
 #[test]
 fn refused_piece_comes_back_with_the_first_reason(rt: HostRuntime) -> Result<(), Fail> {
     let mut all = collector(rt.alloc(), 2)?;
-    assert!(rt; all.accept(item(0, 0, 7)).is_ok());
-    let doubled = all.accept(item(0, 0, 8));
-    assert_eq!(rt; doubled, refused(item(0, 0, 8), Why::Double));
-    let strange = all.accept(item(2, 0, 8));
-    assert_eq!(rt; strange, refused(item(2, 0, 8), Why::Stranger));
-    let short = all.accept(close(0, 2, 1));
-    assert_eq!(rt; short, refused(close(0, 2, 1), Why::Short));
-    assert!(rt; all.accept(close(0, 1, 1)).is_ok());
-    let late = all.accept(item(0, 0, 9));
-    assert_eq!(rt; late, refused(item(0, 0, 9), Why::AfterClose));
-    let closed = all.accept(close(0, 1, 1));
-    assert_eq!(rt; closed, refused(close(0, 1, 1), Why::AfterClose));
+    check_answer(&rt, &mut all, item(0, 0, 7), Ok(()));
+    let double = refused(item(0, 0, 8), Why::Double);
+    check_answer(&rt, &mut all, item(0, 0, 8), double);
+    let stranger = refused(item(2, 0, 8), Why::Stranger);
+    check_answer(&rt, &mut all, item(2, 0, 8), stranger);
+    let short = refused(close(0, 2, 1), Why::Short);
+    check_answer(&rt, &mut all, close(0, 2, 1), short);
+    check_answer(&rt, &mut all, close(0, 1, 1), Ok(()));
+    let late = refused(item(0, 0, 9), Why::AfterClose);
+    check_answer(&rt, &mut all, item(0, 0, 9), late);
+    let closed = refused(close(0, 1, 1), Why::AfterClose);
+    check_answer(&rt, &mut all, close(0, 1, 1), closed);
     Ok(())
 }
 
@@ -74,16 +85,21 @@ fn items_come_out_in_the_order_of_their_numbers(rt: HostRuntime) -> Result<(), F
     ] {
         assert!(rt; all.accept(piece).is_ok());
     }
-    let Ok(mut lists) = all.finish() else {
+    let Ok(lists) = all.finish() else {
         panic!(rt; "the run is closed")
     };
+    check_run(&rt, lists, &[10, 11, 12, 13], 9);
+    Ok(())
+}
+
+// Checks that there is one run: these items, and this tail.
+fn check_run(rt: &impl Abort, mut lists: Lists<u8, u8>, wanted: &[u8], end: u8) {
     let Some((items, tail)) = lists.pop() else {
         panic!(rt; "there is a run")
     };
-    assert_eq!(rt; items.as_slice(), [10, 11, 12, 13].as_slice());
-    assert_eq!(rt; tail, 9);
+    assert_eq!(rt; items.as_slice(), wanted);
+    assert_eq!(rt; tail, end);
     assert!(rt; lists.pop().is_none());
-    Ok(())
 }
 
 // The outcome of the arrivals: how many runs they assemble to, or the error.
@@ -126,17 +142,12 @@ fn first_arrival_that_is_refused_is_told(rt: HostRuntime) -> Result<(), Fail> {
 fn run_that_is_out_of_order_comes_out_whole(rt: HostRuntime) -> Result<(), Fail> {
     let alloc = rt.alloc();
     let arrivals = vec![in alloc; item(0, 1, 11), item(0, 0, 10), close(0, 2, 5)]?;
-    let Ok(mut lists) = collect(alloc, 1, arrivals) else {
+    let Ok(lists) = collect(alloc, 1, arrivals) else {
         panic!(rt; "the arrivals are lawful")
     };
     assert!(rt; lists.runs() == 1);
     assert_eq!(rt; lists.items(0), [10, 11].as_slice());
     assert!(rt; *lists.tail(0) == 5);
-    let Some((items, tail)) = lists.pop() else {
-        panic!(rt; "there is a run")
-    };
-    assert_eq!(rt; items.as_slice(), [10, 11].as_slice());
-    assert_eq!(rt; tail, 5);
-    assert!(rt; lists.pop().is_none());
+    check_run(&rt, lists, &[10, 11], 5);
     Ok(())
 }

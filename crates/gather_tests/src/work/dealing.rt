@@ -3,6 +3,7 @@ ghost use Rattle.std.specs.Prelude.{◌≡◌, ◌≤◌, ◌<◌, ℕ, length, 
 ghost use Rattle.sarif_gather.specs.Hands.{IsHandOf, AreAllHands};
 
 use sarif_gather::{Deal, Hand};
+use std::process::Abort;
 use std::sync::atomic::{AtomicU64, Ordering};
 use std::test::Fail;
 use std::thread;
@@ -14,16 +15,26 @@ fn each_run_is_drawn_once_and_then_none(rt: HostRuntime) -> Result<(), Fail> {
     let (Some(mut b), Some(mut a)) = (hands.pop(), hands.pop()) else {
         panic!(rt; "there are two hands")
     };
-    assert_eq!(rt; deal.draw(&mut a), Some(0));
-    assert_eq!(rt; deal.draw(&mut b), Some(1));
-    assert_eq!(rt; deal.draw(&mut a), Some(2));
-    assert_eq!(rt; deal.draw(&mut b), None);
-    assert_eq!(rt; deal.draw(&mut a), None);
-    assert_eq!(rt; deal.draw(&mut a), None);
+    check_draws(&rt, &deal, &mut a, &mut b);
     hands.push(a)?;
     hands.push(b)?;
     assert_eq!(rt; deal.settle(hands), 3);
     Ok(())
+}
+
+// Two hands draw the three runs of a deal, and then none.
+fn check_draws(rt: &impl Abort, deal: &Deal, a: &mut Hand, b: &mut Hand)
+    requires a { IsHandOf deal.now a.old }
+    requires b { IsHandOf deal.now b.old }
+    ensures a { IsHandOf deal.now a.new }
+    ensures b { IsHandOf deal.now b.new }
+{
+    assert_eq!(rt; deal.draw(a), Some(0));
+    assert_eq!(rt; deal.draw(b), Some(1));
+    assert_eq!(rt; deal.draw(a), Some(2));
+    assert_eq!(rt; deal.draw(b), None);
+    assert_eq!(rt; deal.draw(a), None);
+    assert_eq!(rt; deal.draw(a), None);
 }
 
 const RUNS: u32 = 10_000;
