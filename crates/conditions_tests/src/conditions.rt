@@ -1,53 +1,17 @@
 //! Which results an entry matches, condition by condition.
-use sarif_entries::FileFault;
-use sarif_model::{Record, Refusal, Sequence, Text};
+use crate::verdicts::expect_all;
+use sarif_model::{Record, Sequence, Text};
 use std::alloc::{AllocError, Global};
 use std::process::Abort;
 use std::test::Fail;
-use test_suppress::{FileText, applied_of, file_of, result_at};
+use test_suppress::{FileText, result_at};
 
-/// Adds a fingerprint.
-fn add_pair(
-    alloc: Global,
-    pairs: &mut Sequence<(Text, Text)>,
-    name: &str,
-    value: &str,
-) -> Result<(), AllocError> {
-    let name = Text::copy_of(alloc, name)?;
-    pairs.push((name, Text::copy_of(alloc, value)?))
-}
-
-/// Returns whether the entry, alone in a file of version 2, suppresses the result; it must match it if and only if
-/// it suppresses it.
-fn is_suppressed_by(
-    alloc: Global,
-    entry: &str,
-    finding: &Record,
-) -> Result<Option<bool>, Refusal<FileFault>> {
-    let file = FileText {
-        today: Some(20250131),
-        ..file_of(2, entry)
-    };
-    let applied = applied_of(alloc, file, finding)?;
-    if applied.entries.as_slice().is_empty() == applied.suppressed {
-        return Ok(None);
-    }
-    Ok(Some(applied.suppressed))
-}
-
-/// Asserts that each of these entries, alone in a file, matches the result, or that none does.
-fn expect_all(
-    rt: &(impl Abort + AllocGlobal),
-    entries: &[&str],
-    finding: &Record,
-    matched: bool,
-) -> Result<(), Fail> {
-    for entry in entries {
-        let found = is_suppressed_by(rt.alloc(), entry, finding)?;
-        assert_eq!(rt; found, Some(matched), "{entry}");
-    }
-    Ok(())
-}
+/// A file of version 2 for the last day of January, which gets its entries later.
+const FILE: FileText<'static> = FileText {
+    version: 2,
+    entries: "",
+    today: Some(20250131),
+};
 
 /// Asserts that each of the first entries, alone in a file, matches the result, and that none of the
 /// others does.
@@ -57,8 +21,8 @@ fn expect_each(
     others: &[&str],
     finding: &Record,
 ) -> Result<(), Fail> {
-    expect_all(rt, matching, finding, true)?;
-    expect_all(rt, others, finding, false)
+    expect_all(rt, FILE, matching, finding, true)?;
+    expect_all(rt, FILE, others, finding, false)
 }
 
 #[test]
@@ -100,7 +64,7 @@ fn a_result_without_a_uri_meets_no_condition_on_it(rt: HostRuntime) -> Result<()
 fn a_result_without_a_guid_meets_no_condition_on_it(rt: HostRuntime) -> Result<(), Fail> {
     let finding = result_at(rt.alloc(), "R1", None)?;
     let other = ["{\"guid\":\"0F14D0AB-9605-4A62-A9E4-5ED26688389B\"}"];
-    expect_all(&rt, &other, &finding, false)
+    expect_all(&rt, FILE, &other, &finding, false)
 }
 
 #[test]
@@ -112,12 +76,23 @@ fn a_guid_is_compared_as_a_number(rt: HostRuntime) -> Result<(), Fail> {
     expect_each(&rt, &same, &other, &finding)
 }
 
+/// These names and values of fingerprints.
+fn pairs_of(alloc: Global, pairs: &[(&str, &str)]) -> Result<Sequence<(Text, Text)>, AllocError> {
+    let mut made = Sequence::new(alloc);
+    for (name, value) in pairs {
+        let name = Text::copy_of(alloc, name)?;
+        made.push((name, Text::copy_of(alloc, value)?))?;
+    }
+    Ok(made)
+}
+
 /// A result with two fingerprints and a partial one.
 fn fingerprinted(alloc: Global) -> Result<Record, AllocError> {
+    let full = pairs_of(alloc, &[("a/v1", "x"), ("a/v2", "y")])?;
+    let partial = pairs_of(alloc, &[("p/v1", "z")])?;
     let mut finding = result_at(alloc, "R1", None)?;
-    add_pair(alloc, &mut finding.full, "a/v1", "x")?;
-    add_pair(alloc, &mut finding.full, "a/v2", "y")?;
-    add_pair(alloc, &mut finding.partial, "p/v1", "z")?;
+    finding.full = full;
+    finding.partial = partial;
     Ok(finding)
 }
 

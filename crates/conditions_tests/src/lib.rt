@@ -6,3 +6,5 @@
 mod conditions;
 #[cfg(test)]
 mod messages;
+#[cfg(test)]
+mod verdicts;

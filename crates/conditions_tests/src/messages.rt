@@ -1,50 +1,66 @@
 //! Conditions on the message of a result, which version 4 has.
-use sarif_model::{Record, Sequence, Text};
+use crate::verdicts::expect_all;
+use sarif_model::{Message, Record, Sequence, Text};
 use std::alloc::{AllocError, Global};
 use std::process::Abort;
 use std::test::Fail;
-use test_suppress::{applied_of, file_of, result_at};
+use test_suppress::{FileText, result_at};
+
+/// These texts.
+fn texts_of(alloc: Global, texts: &[&str]) -> Result<Sequence<Text>, AllocError> {
+    let mut made = Sequence::new(alloc);
+    for text in texts {
+        made.push(Text::copy_of(alloc, text)?)?;
+    }
+    Ok(made)
+}
 
 /// A result whose message has an id and these arguments, and no text.
 fn result_with(alloc: Global, id: &str, args: &[&str]) -> Result<Record, AllocError> {
+    let message = Message {
+        text: None,
+        id: Some(Text::copy_of(alloc, id)?),
+        args: texts_of(alloc, args)?,
+    };
     let mut finding = result_at(alloc, "R1", None)?;
-    finding.message.text = None;
-    finding.message.id = Some(Text::copy_of(alloc, id)?);
-    finding.message.args = Sequence::new(alloc);
-    for arg in args {
-        finding.message.args.push(Text::copy_of(alloc, arg)?)?;
-    }
+    finding.message = message;
     Ok(finding)
 }
 
-/// Whether the entry, alone in a file of version 4, suppresses the result.
-fn suppresses(
+/// A file of version 4, which gets its entries later.
+const FILE: FileText<'static> = FileText {
+    version: 4,
+    entries: "",
+    today: None,
+};
+
+/// Asserts that each of these entries, alone in a file of version 4, matches the result, or that none does.
+fn expect_matches(
     rt: &(impl Abort + AllocGlobal),
-    entry: &str,
+    entries: &[&str],
     finding: &Record,
-) -> Result<bool, Fail> {
-    let applied = applied_of(rt.alloc(), file_of(4, entry), finding)?;
-    assert_eq!(rt; applied.entries.as_slice().is_empty(), !applied.suppressed);
-    Ok(applied.suppressed)
+    matched: bool,
+) -> Result<(), Fail> {
+    expect_all(rt, FILE, entries, finding, matched)
 }
 
 #[test]
 fn a_text_is_compared_byte_by_byte(rt: HostRuntime) -> Result<(), Fail> {
+    let entry = ["{\"message\":\"m\"}"];
     let mut finding = result_at(rt.alloc(), "R1", None)?;
     for (text, wanted) in [("m", true), ("M", false), ("", false), ("mm", false)] {
         finding.message.text = Some(Text::copy_of(rt.alloc(), text)?);
-        assert_eq!(rt; suppresses(&rt, "{\"message\":\"m\"}", &finding)?, wanted);
+        expect_matches(&rt, &entry, &finding, wanted)?;
     }
     let id_alone = result_with(rt.alloc(), "m", &[])?;
-    assert!(rt; !suppresses(&rt, "{\"message\":\"m\"}", &id_alone)?);
-    Ok(())
+    expect_matches(&rt, &entry, &id_alone, false)
 }
 
 #[test]
 fn an_id_and_arguments_are_conditions_of_their_own(rt: HostRuntime) -> Result<(), Fail> {
-    let both = "{\"messageId\":\"i\",\"messageArguments\":[\"u\",\"v\"]}";
-    let id = "{\"messageId\":\"i\"}";
-    let arguments = "{\"messageArguments\":[\"u\",\"v\"]}";
+    let both = ["{\"messageId\":\"i\",\"messageArguments\":[\"u\",\"v\"]}"];
+    let id = ["{\"messageId\":\"i\"}"];
+    let arguments = ["{\"messageArguments\":[\"u\",\"v\"]}"];
     let lists: [(&str, &[&str], [bool; 3]); 5] = [
         ("i", &["u", "v"], [true, true, true]),
         ("i", &["v", "u"], [false, true, false]),
@@ -54,9 +70,9 @@ fn an_id_and_arguments_are_conditions_of_their_own(rt: HostRuntime) -> Result<()
     ];
     for (name, args, wanted) in lists {
         let finding = result_with(rt.alloc(), name, args)?;
-        assert_eq!(rt; suppresses(&rt, both, &finding)?, wanted[0]);
-        assert_eq!(rt; suppresses(&rt, id, &finding)?, wanted[1]);
-        assert_eq!(rt; suppresses(&rt, arguments, &finding)?, wanted[2]);
+        expect_matches(&rt, &both, &finding, wanted[0])?;
+        expect_matches(&rt, &id, &finding, wanted[1])?;
+        expect_matches(&rt, &arguments, &finding, wanted[2])?;
     }
     Ok(())
 }
