@@ -6,7 +6,7 @@ use std::process::Abort;
 use std::test::Fail;
 use test_suppress::{FileText, result_at};
 
-/// These texts.
+/// Returns copies of these strings.
 fn texts_of(alloc: Global, texts: &[&str]) -> Result<Sequence<Text>, AllocError> {
     let mut made = Sequence::new(alloc);
     for text in texts {

@@ -12,7 +12,7 @@ fn verdict_by(alloc: Global, rules: &Plain, finding: &Record) -> Result<(bool, b
     Ok((!applied.entries.as_slice().is_empty(), applied.suppressed))
 }
 
-/// The same for a file that is not read yet.
+/// Returns whether an entry of the file, which is not read yet, matches the result, and whether it suppresses it.
 fn verdict_of(
     alloc: Global,
     file: FileText,
@@ -21,8 +21,8 @@ fn verdict_of(
     asked_of_file(alloc, file, |rules| verdict_by(alloc, rules, finding))
 }
 
-/// Returns whether the file suppresses the result; its entries must match it if and only if it does, or the answer is
-/// `None`.
+/// Returns whether the file suppresses the result, or `None` if an entry matches a result that isn't suppressed, or none
+/// matches one that is.
 fn is_suppressed_by(
     alloc: Global,
     file: FileText,

@@ -169,7 +169,7 @@ fn nested(alloc: Global, depth: usize) -> Result<String, Fail> {
     Ok(text)
 }
 
-// Whether a text with arrays nested this deep has an index.
+// Whether a document of arrays nested this deep has an index.
 fn has_index(alloc: Global, depth: usize) -> Result<bool, Fail> {
     let text = nested(alloc, depth)?;
     let mut scratch = Scratch::new(alloc);

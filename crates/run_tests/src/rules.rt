@@ -80,7 +80,7 @@ impl RandomSource for Bytes {
     }
 }
 
-// The result of a run for one of some seeds, if it isn't the wanted one.
+// The result of a run for one of some seeds, if it isn't the expected one.
 fn wrong_answer(alloc: Global, run: &RawRun, wanted: &str) -> Result<Option<String>, Fail> {
     for byte in [0, 1, 255] {
         let seed = RandomState::new(&Bytes(byte))?;
@@ -92,7 +92,7 @@ fn wrong_answer(alloc: Global, run: &RawRun, wanted: &str) -> Result<Option<Stri
     Ok(None)
 }
 
-// The same for a run that isn't read yet.
+// The result of a run that isn't read yet, if it isn't the expected one.
 fn wrong_answer_of(alloc: Global, run: &str, wanted: &str) -> Result<Option<String>, Fail> {
     let log = read_run(alloc, run)?;
     let first = log.runs().first().ok_or("no run")?;

@@ -24,7 +24,7 @@ fn refused(piece: Piece<u8, u8>, why: Why) -> Result<(), Refused<u8, u8>> {
     Err(Refused { piece, why })
 }
 
-// Checks what the collector answers to a piece.
+// Checks what the collector returns for a piece.
 fn check_answer(
     rt: &impl Abort,
     all: &mut Collector<u8, u8>,
