@@ -6,7 +6,7 @@ use std::process::Abort;
 use std::test::Fail;
 use test_suppress::{FileText, result_at};
 
-/// A file of version 2 for the last day of January, which gets its entries later.
+/// A file of version 2, read for 31 January 2025. Each row adds its entries.
 const FILE: FileText<'static> = FileText {
     version: 2,
     entries: "",
