@@ -21,8 +21,8 @@ fn verdict_of(
     asked_of_file(alloc, file, |rules| verdict_by(alloc, rules, finding))
 }
 
-/// Returns whether the file suppresses the result. Returns `None` if an entry matches a result that isn't suppressed, or
-/// if none matches one that is.
+/// Returns whether the file suppresses the result. Returns `None` if an entry matches a result that isn't suppressed,
+/// or if none matches one that is.
 fn is_suppressed_by(
     alloc: Global,
     file: FileText,
