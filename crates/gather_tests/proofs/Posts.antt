@@ -1,6 +1,6 @@
 -- All posts of a mailbox, in a list.
 use Rattle.std.proofs.Common.{◌≡◌, ℕ, ◌<◌, List, length, ap, ◌∙◌, subst, arith}
-use Rattle.std.specs.Prelude.{slice_get, slice_index_or}
+use Rattle.std.specs.Prelude.{slice_index_or}
 use Rattle.std.proofs.lemmas.Option.{slice_get_within, get_or_from_slice_get, slice_get-get_or}
 use Rattle.sarif_gather.specs.declared.mailbox.Mailbox.{Mailbox}
 use Rattle.sarif_gather.specs.declared.mailbox.ends.Post.{Post}

@@ -6,7 +6,7 @@ use Rattle.std.specs.Cmp.Lexicographic.{slice_cmp}
 use Rattle.std.specs.Ordering.{nat_cmp, match_ordering, ordering_reverse}
 use Rattle.json.specs.Token.{Token}
 use Rattle.json.specs.Json as json
-use Rattle.serde_json.specs.Data.{Data, number, Members, no_members, member, put}
+use Rattle.serde_json.specs.Data.{Data, Members, no_members, member, put}
 use Rattle.serde_json.specs.Read.{number_of, of_json}
 use Rattle.json_parts.specs.Indexed.{data_of, IsReadable}
 use Rattle.json_parts.specs.Internal.Ordered.{IsBelow, IsOrdered, AreMembersOrdered}

@@ -1,19 +1,14 @@
 -- The entry that is made for a result is read as it was meant.
-use Rattle.std.proofs.Common.{◌≡◌, ℕ, ◌<◌, ◌^◌, true, ◌&&◌, not, List, [], ◌∷◌, All, map, Option, Some, None, option_map, codes, refl, sym, ap, ◌∙◌, inl, arith, Ordering, Less, Equal, Greater, nat_cmp}
+use Rattle.std.proofs.Common.{◌≡◌, ℕ, ◌<◌, ◌^◌, true, ◌&&◌, not, List, [], ◌∷◌, map, Option, Some, None, option_map, codes, refl, sym, ap, ◌∙◌, arith, Ordering, Less, Equal, Greater, nat_cmp}
 use Rattle.std.specs.Prelude.{Ok, option_and_then, IfSome, is_none, is_some}
-use Rattle.std.specs.Int.{w128, to_be_bytes, from_be_bytes}
 use Rattle.std.specs.Cmp.Lexicographic.{slice_cmp}
 use Rattle.std.specs.Ordering.{match_ordering}
 use Rattle.std.proofs.lemmas.Bool.{and_from}
-use Rattle.std.proofs.lemmas.List.Elements.{All-from_recursion}
-use Rattle.uuid.specs.Text.{lower}
-use Rattle.uuid.proofs.RoundTrips.{parses_hyphenated}
-use Rattle.uuid.proofs.OrderLemmas.{from_be_bytes-to_be_bytes_16}
 use Rattle.serde_json.specs.Data.{Data, number, unsigned, string, object, Members, no_members, member, put}
 use Rattle.serde_json.specs.Find.{get_member, as_str, as_array}
-use Rattle.serde_json.specs.View.{items_of}
-use Rattle.sarif_model.specs.Guid.{guid_of_text}
-use Rattle.sarif_model.specs.Members.{◌>>=◌, of_kind, unless_null, text_at, or_wrong, elements, elements_of, read_each}
+use Rattle.sarif_model.proofs.Elements.{items_back}
+use Rattle.sarif_model.proofs.Guids.{guid_back}
+use Rattle.sarif_model.specs.Members.{◌>>=◌, of_kind, unless_null, text_at, or_wrong, elements_of, read_each}
 use Rattle.sarif_model.specs.declared.kinds.Status.TheVariants.{Accepted}
 use Rattle.sarif_model.specs.declared.fault.Fault.TheVariants.{BadEntry}
 use Rattle.sarif_model.specs.declared.record.Record.{Record}
@@ -22,21 +17,14 @@ use Rattle.sarif_entries.specs.declared.fault.FileFault.{FileFault}
 use Rattle.sarif_entries.specs.declared.version.Version.TheVariants.{Fourth}
 use Rattle.sarif_entries.specs.Entries.{unless_fault, text_or, texts_at, pairs_of, pairs_at, pairs_of_member, are_texts, day_at, day_of_member, is_day, guid_at, guid_or, check_members, conditions_of, members_of, entry_of}
 use Rattle.sarif_entries.specs.FileFault.{in_entry}
-use Rattle.sarif_accept.specs.Entry.{asked_of, list_if_any, texts_into, texts_put, texts_if_any, guid_text, conditions_for, members_from, entry_rows, entry_for}
+use Rattle.sarif_model.specs.Written.{list_if_any}
+use Rattle.sarif_model.specs.Guid.{guid_text}
+use Rattle.sarif_accept.specs.Entry.{asked_of, texts_into, texts_put, texts_if_any, conditions_for, members_from, entry_rows, entry_for}
 use Rattle.sarif_accept.specs.Adding.{as_read, entry_read}
 use Rattle.sarif_accept.specs.Until.{HasGuid, IsDated}
 use Rattle.sarif_accept.proofs.Rows.{and_both, found, get_row, text_back, known_rows}
 
 -- ---- GUIDs
-
-small_bytes : (n : ℕ) → All (λ b. b < 256) (to_be_bytes w128 n)
-small_bytes n = All-from_recursion (λ b. b < 256) (to_be_bytes w128 n) (omega arith, (omega arith, (omega arith, (omega arith, (omega arith, (omega arith, (omega arith, (omega arith, (omega arith, (omega arith, (omega arith, (omega arith, (omega arith, (omega arith, (omega arith, (omega arith, tt))))))))))))))))
-
-guid_back : (guid : ℕ) → guid < 2 ^ 128 → guid_of_text (guid_text guid) ≡ Some guid
-unfolding guid_of_text
-guid_back guid fits =
-    ap (option_map (from_be_bytes w128)) (sym (parses_hyphenated lower (to_be_bytes w128 guid) (inl refl) refl (small_bytes guid)))
-    ∙ ap Some (from_be_bytes-to_be_bytes_16 guid fits)
 
 or_guid : (wrong : FileFault) (o : Option ℕ) → IfSome o (λ guid. guid < 2 ^ 128) → ((of_kind wrong as_str (option_and_then unless_null (option_map (λ n. string (guid_text n)) o))) >>= guid_or wrong) ≡ Ok o
 or_guid wrong None fits = refl
@@ -66,10 +54,6 @@ pairs_back wrong [] = refl
 pairs_back wrong (p ∷ ps) = rw (all_texts (p ∷ ps)) refl
 
 -- ---- arguments
-
-pub items_back : (ds : List Data) → elements (items_of ds) ≡ ds
-items_back [] = refl
-items_back (d ∷ ds) = ap (λ l. d ∷ l) (items_back ds)
 
 texts_each : (wrong : FileFault) (texts : List (List ℕ)) → read_each (text_or wrong) (map string texts) ≡ Ok texts
 texts_each wrong [] = refl

@@ -22,7 +22,7 @@ use Rattle.sarif_accept.specs.Keeping.{chosen, is_kept}
 use Rattle.sarif_accept.specs.Adding.{How, Counts, entry_read, file_after, added_for}
 use Rattle.sarif_accept.specs.NewFile.{file_with}
 use Rattle.sarif_accept.specs.Until.{HasGuid, IsDated}
-use Rattle.sarif_accept.proofs.EntryRead.{items_back}
+use Rattle.sarif_model.proofs.Elements.{items_back}
 use Rattle.sarif_accept.proofs.Kept.{kept_read, read_behind, made_read}
 
 apart : codes "version" ≡ codes "suppressions" → ⊥

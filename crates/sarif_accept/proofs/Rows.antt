@@ -11,7 +11,8 @@ use Rattle.serde_json.proofs.Views.{get_member-put, get_member-put_other}
 use Rattle.sarif_model.specs.Members.{of_kind, unless_null}
 use Rattle.sarif_entries.specs.declared.version.Version.{Version}
 use Rattle.sarif_entries.specs.Entries.{has_member, are_members_of}
-use Rattle.sarif_accept.specs.Entry.{Row, members_from}
+use Rattle.sarif_model.specs.Written.{Row}
+use Rattle.sarif_accept.specs.Entry.{members_from}
 
 -- the value of the first row with that name
 abbrev pub found : List ℕ → List Row → Option Data

@@ -16,7 +16,8 @@ use Rattle.serde_json.specs.Written.{outline, items_outline, members_outline}
 use Rattle.serde_json.proofs.Views.{get_member-put}
 use Rattle.sarif_counts.specs.declared.upkeep.Renewal.{Renewal}
 use Rattle.sarif_model.specs.declared.record.Record.{Record}
-use Rattle.sarif_accept.specs.Entry.{Row, conditions_for, entry_for, entry_rows, members_from}
+use Rattle.sarif_model.specs.Written.{Row}
+use Rattle.sarif_accept.specs.Entry.{conditions_for, entry_for, entry_rows, members_from}
 use Rattle.sarif_accept.specs.NewFile.{entries_in, file_object, file_text, others_in}
 use Rattle.sarif_accept.specs.Keeping.{chosen}
 use Rattle.sarif_accept.specs.Renewed.{renewed_entries, renewed_file}

@@ -1,10 +1,9 @@
 -- The entry of the suppression file that accepts a result: it names what a baseline would match with the same finding
 -- in the same file.
 use Rattle.std.specs.Prelude.{ℕ, List, [], ◌∷◌, map, Option, Some, None, option_map, codes}
-use Rattle.std.specs.Int.{w128, to_be_bytes}
-use Rattle.uuid.specs.Text.{lower, hyphenated_text}
-use Rattle.serde_json.specs.Data.{Data, number, unsigned, string, array, object, Members, no_members, put}
-use Rattle.serde_json.specs.View.{items_of}
+use Rattle.serde_json.specs.Data.{Data, number, unsigned, string, object, Members, no_members, put}
+use Rattle.sarif_model.specs.Guid.{guid_text}
+use Rattle.sarif_model.specs.Written.{Row, list_if_any}
 use Rattle.sarif_model.specs.declared.record.Record.{Record}
 use Rattle.sarif_entries.specs.declared.conditions.Conditions.{Conditions}
 
@@ -51,10 +50,6 @@ asked_of r None [] [] = with_message r
 abbrev pub conditions_for : Record → Conditions
 conditions_for r = asked_of r r.guid r.full r.partial
 
--- a name, and its value if there is one
-abbrev pub Row : Type 0
-Row = List ℕ × Option Data
-
 abbrev pub with_value : List ℕ → Option Data → Members → Members
 with_value name None ms = ms
 with_value name (Some d) ms = put name d ms
@@ -76,14 +71,6 @@ texts_put ps = texts_into no_members ps
 abbrev pub texts_if_any : List (List ℕ × List ℕ) → Option Data
 texts_if_any [] = None
 texts_if_any (p ∷ ps) = Some (object (texts_put (p ∷ ps)))
-
-abbrev pub list_if_any : List Data → Option Data
-list_if_any [] = None
-list_if_any (d ∷ ds) = Some (array (items_of (d ∷ ds)))
-
--- a GUID in lower-case hexadecimal digits with hyphens (RFC 9562)
-abbrev pub guid_text : ℕ → List ℕ
-guid_text guid = hyphenated_text lower (to_be_bytes w128 guid)
 
 -- the conditions that an entry names, as its members
 abbrev pub condition_rows : Conditions → List Row

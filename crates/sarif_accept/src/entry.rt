@@ -3,6 +3,8 @@ ghost use Rattle.std.specs.Prelude.{◌≡◌, codes, map, option_map, IfOk, OnO
 ghost use Rattle.serde_json.specs.Data.{number, unsigned, string};
 ghost use Rattle.serde_json.specs.View.{view, members_view};
 ghost use Rattle.sarif_accept.specs.Internal.Asked.{conditions_in, members_but_place};
+ghost use Rattle.sarif_model.specs.Guid.{guid_text};
+ghost use Rattle.sarif_model.specs.Written.{list_if_any};
 ghost use Rattle.sarif_accept.specs.Entry as said;
 
 use crate::asked::{Asked, asked_of};
@@ -32,7 +34,7 @@ fn put_text(
 
 /// The GUID in lower-case hexadecimal digits with hyphens.
 fn text_of_guid(alloc: Global, guid: u128) -> Result<Value, AllocError>
-    ensures { IfOk result (λ value. view value ≡ string (said.guid_text guid)) }
+    ensures { IfOk result (λ value. view value ≡ string (guid_text guid)) }
 {
     let mut buffer = Uuid::encode_buffer();
     let text = Uuid::from_u128(guid).hyphenated().encode_lower(&mut buffer);
@@ -46,7 +48,7 @@ fn put_guid(
     guid: Option<u128>,
 ) -> Result<(), AllocError>
     ensures { OnOk result (members_view members.new.entries
-        ≡ said.with_value (codes "guid") (option_map (λ n. string (said.guid_text n)) guid)
+        ≡ said.with_value (codes "guid") (option_map (λ n. string (guid_text n)) guid)
         (members_view members.old.entries)) }
 {
     if let Some(guid) = guid {
@@ -122,7 +124,7 @@ fn put_arguments(
     texts: &[Text],
 ) -> Result<(), AllocError>
     ensures { OnOk result (members_view members.new.entries
-        ≡ said.with_value (codes "messageArguments") (said.list_if_any (map string texts.now))
+        ≡ said.with_value (codes "messageArguments") (list_if_any (map string texts.now))
         (members_view members.old.entries)) }
 {
     if !texts.is_empty() {

@@ -34,7 +34,7 @@ fn into_members(alloc: Global, value: Value) -> Map<String, Value>
 }
 
 /// The entries of a file.
-#[tactic(auto, using(crate::proofs::EntryRead::items_back))]
+#[tactic(auto, using(sarif_model::proofs::Elements::items_back))]
 pub(crate) fn entry_nodes<'t, 'a>(
     alloc: Global,
     file: &Node<'t, 'a>,

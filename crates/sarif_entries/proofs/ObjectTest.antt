@@ -10,7 +10,8 @@ use Rattle.serde_json.specs.Find.{as_object}
 use Rattle.serde_json.specs.Written.{has_float, members_have_float}
 use Rattle.sarif_model.specs.Status.{status_name}
 use Rattle.sarif_entries.specs.Entries.{with_pair}
-use Rattle.sarif_entries.specs.Object.{texts_of, text_members, object_of, is_string, are_just, is_object_of}
+use Rattle.sarif_model.specs.Written.{text_members}
+use Rattle.sarif_entries.specs.Object.{texts_of, object_of, is_string, are_just, is_object_of}
 
 string_means : (text : List ℕ) (d : Data) → Decides (is_string text d) (d ≡ string text)
 string_means text null = (λ t. absurd (false≢true t), λ e. cc)

@@ -4,6 +4,7 @@ use Rattle.std.specs.Option.{option_map_or}
 use Rattle.serde_json.specs.Data.{Data, string, object, Members, no_members, member}
 use Rattle.serde_json.specs.Find.{as_str, as_object}
 use Rattle.sarif_model.specs.Status.{status_name}
+use Rattle.sarif_model.specs.Written.{text_members}
 use Rattle.sarif_entries.specs.declared.entry.Entry.{Entry}
 use Rattle.sarif_entries.specs.Entries.{with_pair}
 
@@ -12,10 +13,6 @@ abbrev pub texts_of : Entry → List (List ℕ × List ℕ)
 texts_of e =
     with_pair (codes "justification") e.justification
     ((codes "kind", codes "external") ∷ (codes "status", status_name e.status) ∷ [])
-
-abbrev pub text_members : List (List ℕ × List ℕ) → Members
-text_members [] = no_members
-text_members (p ∷ ps) = member p.0 (string p.1) (text_members ps)
 
 -- the object that is written for an entry: `kind`, which is `external`, `status`, and `justification` if there is
 -- one

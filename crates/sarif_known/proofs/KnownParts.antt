@@ -1,15 +1,9 @@
 -- The members of a known result are read as they were written.
-use Rattle.std.proofs.Common.{◌≡◌, ℕ, ◌<◌, ◌^◌, true, List, [], ◌∷◌, map, All, Option, Some, None, option_map, codes, refl, sym, ap, ◌∙◌, inl, arith}
+use Rattle.std.proofs.Common.{◌≡◌, ℕ, ◌<◌, ◌^◌, true, List, [], ◌∷◌, map, Option, Some, None, option_map, codes, refl, ap, arith}
 use Rattle.std.specs.Prelude.{Ok, option_and_then, unwrap_or, IfSome, nat_lt}
-use Rattle.std.specs.Int.{w128, to_be_bytes, from_be_bytes}
 use Rattle.std.proofs.lemmas.Bool.Decides.{nat_tests}
-use Rattle.std.proofs.lemmas.List.Elements.{All-from_recursion}
-use Rattle.uuid.specs.Text.{lower}
-use Rattle.uuid.proofs.RoundTrips.{parses_hyphenated}
-use Rattle.uuid.proofs.OrderLemmas.{from_be_bytes-to_be_bytes_16}
-use Rattle.serde_json.specs.Data.{Data, string}
+use Rattle.serde_json.specs.Data.{string}
 use Rattle.serde_json.specs.Find.{get_member, as_str, as_object, as_array}
-use Rattle.serde_json.specs.View.{items_of}
 use Rattle.sarif_model.specs.declared.fault.Fault.TheVariants.{BadKind, BadLevel, BadGuid, BadFingerprint, BadSuppression, BadMember}
 use Rattle.sarif_model.specs.declared.kinds.Kind.{Kind}
 use Rattle.sarif_model.specs.declared.kinds.Kind.TheVariants.{Pass, Undecided, Informational, NotApplicable, Review, Fail}
@@ -20,13 +14,16 @@ use Rattle.sarif_model.specs.declared.kinds.Status.TheVariants.{Accepted, UnderR
 use Rattle.sarif_model.specs.declared.place.Place.{Place}
 use Rattle.sarif_model.specs.declared.record.Record.{Record}
 use Rattle.sarif_members.specs.declared.parts.Parts.{Parts}
-use Rattle.sarif_model.specs.Guid.{guid_of_text}
 use Rattle.sarif_members.specs.Fingerprints.{pairs_among, pairs_of}
-use Rattle.sarif_model.specs.Members.{◌>>=◌, result_map, of_kind, or_wrong, unless_null, elements, are_objects, elements_of, if_objects, read_each}
+use Rattle.sarif_model.specs.Members.{◌>>=◌, result_map, of_kind, or_wrong, unless_null, are_objects, elements_of, if_objects, read_each}
 use Rattle.sarif_model.specs.Suppression.{status_of}
+use Rattle.sarif_model.proofs.Elements.{items_back}
+use Rattle.sarif_model.proofs.Guids.{guid_back}
 use Rattle.sarif_members.specs.OwnMembers.{check_present, as_kind, own_kind, as_level, own_level, as_guid, own_guid, own_fingerprints, own_statuses, text_of, own_message, own_rule_id, own_message_and_rule, own_indexes, own_location, parts_of}
 use Rattle.std.specs.Option.{option_or}
-use Rattle.sarif_known.specs.KnownResult.{members_from, message_rows, guid_text, text_members, texts_if_any, list_if_any, kind_unless_fail, level_if_fail, suppression_for, unless_empty, result_rows, known_result}
+use Rattle.sarif_model.specs.Guid.{guid_text}
+use Rattle.sarif_model.specs.Written.{text_members, list_if_any}
+use Rattle.sarif_known.specs.KnownResult.{members_from, message_rows, texts_if_any, kind_unless_fail, level_if_fail, suppression_for, unless_empty, result_rows, known_result}
 use Rattle.sarif_accept.proofs.Rows.{found, text_back}
 use Rattle.sarif_known.proofs.Rows.{get_row}
 
@@ -92,18 +89,9 @@ level_back Fail Note = refl
 level_back Fail Warning = refl
 level_back Fail Error = refl
 
-small_bytes : (n : ℕ) → All (λ b. b < 256) (to_be_bytes w128 n)
-small_bytes n = All-from_recursion (λ b. b < 256) (to_be_bytes w128 n) (omega arith, (omega arith, (omega arith, (omega arith, (omega arith, (omega arith, (omega arith, (omega arith, (omega arith, (omega arith, (omega arith, (omega arith, (omega arith, (omega arith, (omega arith, (omega arith, tt))))))))))))))))
-
-guid_read : (guid : ℕ) → guid < 2 ^ 128 → guid_of_text (guid_text guid) ≡ Some guid
-unfolding guid_of_text
-guid_read guid fits =
-    ap (option_map (from_be_bytes w128)) (sym (parses_hyphenated lower (to_be_bytes w128 guid) (inl refl) refl (small_bytes guid)))
-    ∙ ap Some (from_be_bytes-to_be_bytes_16 guid fits)
-
-guid_back : (o : Option ℕ) → IfSome o (λ guid. guid < 2 ^ 128) → of_kind BadGuid as_guid (option_and_then unless_null (option_map (λ n. string (guid_text n)) o)) ≡ Ok o
-guid_back None fits = refl
-guid_back (Some guid) fits = ap (or_wrong BadGuid) (guid_read guid fits)
+some_guid_back : (o : Option ℕ) → IfSome o (λ guid. guid < 2 ^ 128) → of_kind BadGuid as_guid (option_and_then unless_null (option_map (λ n. string (guid_text n)) o)) ≡ Ok o
+some_guid_back None fits = refl
+some_guid_back (Some guid) fits = ap (or_wrong BadGuid) (guid_back guid fits)
 
 pairs_each : (ps : List (List ℕ × List ℕ)) → pairs_among (text_members ps) ≡ Ok ps
 pairs_each [] = refl
@@ -112,10 +100,6 @@ pairs_each (p ∷ ps) = rw (pairs_each ps) refl
 pairs_back : (ps : List (List ℕ × List ℕ)) → (of_kind BadFingerprint as_object (option_and_then unless_null (texts_if_any ps)) >>= pairs_of) ≡ Ok ps
 pairs_back [] = refl
 pairs_back (p ∷ ps) = pairs_each (p ∷ ps)
-
-pub items_back : (ds : List Data) → elements (items_of ds) ≡ ds
-items_back [] = refl
-items_back (d ∷ ds) = ap (λ l. d ∷ l) (items_back ds)
 
 all_objects : (held : List Status) → are_objects (map suppression_for held) ≡ true
 all_objects [] = refl
@@ -167,7 +151,7 @@ module _ (r : Record) (artifact : Option ℕ) where
   level_is = rw (at (codes "level")) (level_back r.kind r.level)
 
   guid_is : IfSome r.guid (λ guid. guid < 2 ^ 128) → own_guid (known_result r artifact) ≡ Ok r.guid
-  guid_is fits = rw (at (codes "correlationGuid")) (guid_back r.guid fits)
+  guid_is fits = rw (at (codes "correlationGuid")) (some_guid_back r.guid fits)
 
   fingerprints_is : own_fingerprints (known_result r artifact) ≡ Ok (record { full = r.full; partial = r.partial })
   unfolding own_fingerprints

@@ -15,7 +15,9 @@ use Rattle.sarif_model.specs.declared.record.Record.{Record}
 use Rattle.sarif_model.specs.Limits.{most_results}
 use Rattle.sarif_known.specs.Chosen.{Chosen, results_among}
 use Rattle.sarif_known.specs.KnownLog.{known_log}
-use Rattle.sarif_known.specs.KnownResult.{Row, guid_text, kind_unless_fail, known_result, level_if_fail, list_if_any, locations_for, members_from, message_rows, object_from, one_location, result_rows, suppression_for, text_members, texts_if_any, unless_empty, uri_rows}
+use Rattle.sarif_model.specs.Written.{Row, list_if_any, text_members}
+use Rattle.sarif_model.specs.Guid.{guid_text}
+use Rattle.sarif_known.specs.KnownResult.{kind_unless_fail, known_result, level_if_fail, locations_for, members_from, message_rows, object_from, one_location, result_rows, suppression_for, texts_if_any, unless_empty, uri_rows}
 use Rattle.sarif_known.specs.KnownRun.{artifact_at, base_alone, bases_alone, known_run, next_number, results_from, run_rows}
 use Rattle.sarif_known.specs.Laws.{IsOfTool, IsReadable}
 use Rattle.sarif_known.proofs.Plain.{IsPlain, AreItemsPlain, AreMembersPlain}

@@ -18,7 +18,7 @@ use Rattle.sarif_known.specs.KnownLog.{known_log, pretty_text}
 use Rattle.sarif_known.specs.KnownRun.{base_alone, known_run, next_number, results_from}
 use Rattle.sarif_known.specs.Laws.{CanBeRead}
 use Rattle.sarif_known.specs.Internal.Tokens.{data_tokens}
-use Rattle.sarif_known.proofs.KnownParts.{items_back}
+use Rattle.sarif_model.proofs.Elements.{items_back}
 use Rattle.sarif_known.proofs.KnownPlain.{log_plain}
 use Rattle.sarif_accept.proofs.Newline.{read_line}
 use Rattle.sarif_known.proofs.Plain.{plain_read, plain_stripped}

@@ -6,7 +6,7 @@ use Rattle.json_parts.specs.Internal.Ordered.{IsBelow, AreMembersOrdered}
 use Rattle.sarif_model.specs.declared.fault.Fault.{Fault}
 use Rattle.sarif_model.specs.Members.{◌>>=◌, result_map}
 use Rattle.sarif_members.specs.Fingerprints.{text_or_null, with_pair, pairs_among}
-use Rattle.sarif_known.specs.KnownResult.{text_members}
+use Rattle.sarif_model.specs.Written.{text_members}
 
 ok_same : (a b : List (List ℕ × List ℕ)) → ◌≡◌ {A = Result (List (List ℕ × List ℕ)) Fault} (Ok a) (Ok b) → a ≡ b
 ok_same a b e = cc

@@ -7,7 +7,8 @@ use Rattle.serde_json.specs.Data.{Data, Members, member}
 use Rattle.serde_json.specs.Find.{get_member}
 use Rattle.sarif_accept.specs.Entry.{members_from as put_from}
 use Rattle.sarif_accept.proofs.Rows.{are_apart, at_put, found, get_row as get_put}
-use Rattle.sarif_known.specs.KnownResult.{Row, members_from}
+use Rattle.sarif_model.specs.Written.{Row}
+use Rattle.sarif_known.specs.KnownResult.{members_from}
 
 by_ordering : (o : Ordering) (b : Bool) (x y : Option Data) → is_eq o ≡ b → match_ordering o y x y ≡ (if b then x else y)
 by_ordering Less true x y e = absurd (true≢false (sym e))

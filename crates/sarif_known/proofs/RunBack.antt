@@ -25,11 +25,13 @@ use Rattle.sarif_runs.specs.Placed.{Placed}
 use Rattle.sarif_runs.specs.Record.{record_by, record_in, record_of, tool_name}
 use Rattle.sarif_runs.specs.Rules.{components_of, rules_of}
 use Rattle.sarif_known.specs.Chosen.{Chosen, results_among}
-use Rattle.sarif_known.specs.KnownResult.{known_result, list_if_any}
+use Rattle.sarif_model.specs.Written.{list_if_any}
+use Rattle.sarif_known.specs.KnownResult.{known_result}
 use Rattle.sarif_known.specs.KnownRun.{base_alone, next_number, results_from, with_some, bases_alone, artifact_at, run_rows, known_run}
 use Rattle.sarif_known.specs.Laws.{IsOfTool, AreKnownAgain}
 use Rattle.sarif_known.proofs.KnownPlain.{next_small, number_small}
-use Rattle.sarif_known.proofs.KnownParts.{items_back, known_parts, parts_is, present_is}
+use Rattle.sarif_model.proofs.Elements.{items_back}
+use Rattle.sarif_known.proofs.KnownParts.{known_parts, parts_is, present_is}
 use Rattle.sarif_known.proofs.RecordBack.{HasArtifact, base_place, known_head, number_for, record_back}
 use Rattle.sarif_accept.proofs.Rows.{found}
 use Rattle.sarif_known.proofs.Rows.{get_row}

@@ -6,7 +6,7 @@ use Rattle.sarif_model.specs.declared.merge_fault.MergeFault.{MergeFault}
 use Rattle.sarif_model.specs.declared.record.Record.{Record}
 use Rattle.sarif_known.specs.Chosen.{Chosen}
 use Rattle.sarif_known.specs.KnownLog.{known_log, pretty_text, IsLost}
-use Rattle.sarif_known.specs.KnownResult.{list_if_any}
+use Rattle.sarif_model.specs.Written.{list_if_any}
 use Rattle.sarif_known.specs.KnownRun.{artifact_at, base_alone, bases_alone, known_run, results_from, with_some}
 use Rattle.sarif_known.specs.Internal.Tokens.{data_tokens, each_tokens, log_closing, log_opening, run_closing, run_opening, value_tokens}
 use Rattle.sarif_known.proofs.Lost.{part_lost}

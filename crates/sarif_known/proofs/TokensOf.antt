@@ -8,7 +8,9 @@ use Rattle.serde_json.specs.Data.{Data, string as text_data, array}
 use Rattle.serde_json.specs.View.{items_of}
 use Rattle.serde_json.specs.Written.{items_outline, members_outline}
 use Rattle.sarif_model.specs.declared.record.Record.{Record}
-use Rattle.sarif_known.specs.KnownResult.{Row, guid_text, kind_unless_fail, level_if_fail, locations_for, message_rows, one_location, suppression_for, unless_empty, uri_rows, members_from, object_from, text_members, texts_if_any, list_if_any, result_rows, known_result}
+use Rattle.sarif_model.specs.Written.{Row, text_members, list_if_any}
+use Rattle.sarif_model.specs.Guid.{guid_text}
+use Rattle.sarif_known.specs.KnownResult.{kind_unless_fail, level_if_fail, locations_for, message_rows, one_location, suppression_for, unless_empty, uri_rows, members_from, object_from, texts_if_any, result_rows, known_result}
 use Rattle.sarif_known.specs.Chosen.{Chosen}
 use Rattle.sarif_known.specs.KnownLog.{known_log}
 use Rattle.sarif_known.specs.KnownRun.{artifact_at, base_alone, bases_alone, known_run, next_number, results_from, run_rows, tool_named}

@@ -1,7 +1,5 @@
 -- A known result: what matching and states need, written from a record (SARIF 2.1.0, "result object").
 use Rattle.std.specs.Prelude.{ℕ, List, [], ◌∷◌, map, Option, Some, None, option_map, codes}
-use Rattle.std.specs.Int.{w128, to_be_bytes}
-use Rattle.uuid.specs.Text.{lower, hyphenated_text}
 use Rattle.serde_json.specs.Data.{Data, number, unsigned, string, array, object, Members, no_members, member}
 use Rattle.serde_json.specs.View.{items_of}
 use Rattle.sarif_model.specs.declared.kinds.Kind.{Kind}
@@ -11,15 +9,13 @@ use Rattle.sarif_model.specs.declared.kinds.Status.{Status}
 use Rattle.sarif_model.specs.declared.message.Message.{Message}
 use Rattle.sarif_model.specs.declared.place.Place.{Place}
 use Rattle.sarif_model.specs.declared.record.Record.{Record}
+use Rattle.sarif_model.specs.Guid.{guid_text}
 use Rattle.sarif_model.specs.Kind.{kind_name}
 use Rattle.sarif_model.specs.Level.{level_name}
 use Rattle.sarif_model.specs.Status.{status_name}
+use Rattle.sarif_model.specs.Written.{Row, text_members, list_if_any}
 
 -- ---- members
-
--- a name, with a value if there is one
-abbrev pub Row : Type 0
-Row = List ℕ × Option Data
 
 abbrev pub with_value : List ℕ → Option Data → Members → Members
 with_value name None ms = ms
@@ -34,26 +30,12 @@ members_from (row ∷ rows) = with_value row.0 row.1 (members_from rows)
 abbrev pub object_from : List Row → Data
 object_from rows = object (members_from rows)
 
--- strings under their names
-abbrev pub text_members : List (List ℕ × List ℕ) → Members
-text_members [] = no_members
-text_members (p ∷ ps) = member p.0 (string p.1) (text_members ps)
-
--- the same as an object, unless there is none
+-- strings under their names as an object, unless there is none
 abbrev pub texts_if_any : List (List ℕ × List ℕ) → Option Data
 texts_if_any [] = None
 texts_if_any (p ∷ ps) = Some (object (text_members (p ∷ ps)))
 
--- a list, unless it is empty
-abbrev pub list_if_any : List Data → Option Data
-list_if_any [] = None
-list_if_any (d ∷ ds) = Some (array (items_of (d ∷ ds)))
-
 -- ---- the members of a result
-
--- lower-case hexadecimal digits with hyphens (RFC 9562)
-abbrev pub guid_text : ℕ → List ℕ
-guid_text guid = hyphenated_text lower (to_be_bytes w128 guid)
 
 abbrev pub kind_unless_fail : Kind → Option Data
 kind_unless_fail Pass = Some (string (kind_name Pass))

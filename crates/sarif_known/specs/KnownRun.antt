@@ -4,7 +4,8 @@ use Rattle.serde_json.specs.Data.{Data, string, array, object, no_members, membe
 use Rattle.serde_json.specs.View.{items_of}
 use Rattle.sarif_model.specs.declared.record.Record.{Record}
 use Rattle.sarif_known.specs.Chosen.{Chosen}
-use Rattle.sarif_known.specs.KnownResult.{Row, known_result, list_if_any, object_from}
+use Rattle.sarif_model.specs.Written.{Row, list_if_any}
+use Rattle.sarif_known.specs.KnownResult.{known_result, object_from}
 
 -- the base of a place without a URI, which only an artifact can describe
 abbrev pub base_without : Option (List ℕ) → Option (List ℕ) → Option (List ℕ)

@@ -9,7 +9,7 @@ use Rattle.sarif_runs.specs.Judging.{faults_of_runs, records_of}
 use Rattle.sarif_runs.specs.Level.{is_fail}
 use Rattle.sarif_runs.specs.Placed.{Placed}
 use Rattle.sarif_known.specs.Chosen.{Chosen, results_among}
-use Rattle.sarif_known.specs.KnownResult.{text_members}
+use Rattle.sarif_model.specs.Written.{text_members}
 
 -- the facts about each record that was read: its GUID has 128 bits; it has a level only if its kind is fail; the names
 -- of its fingerprints strictly rise

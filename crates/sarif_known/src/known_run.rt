@@ -5,7 +5,7 @@ ghost use Rattle.serde_json.specs.Data.{member, no_members, object, string};
 ghost use Rattle.sarif_model.specs.Limits.{most_results};
 ghost use Rattle.sarif_known.specs.Chosen.{chosen_of};
 ghost use Rattle.sarif_known.specs.KnownLog.{too_long, IsLost};
-ghost use Rattle.sarif_known.specs.KnownResult.{list_if_any};
+ghost use Rattle.sarif_model.specs.Written.{list_if_any};
 ghost use Rattle.sarif_known.specs.KnownRun as said;
 ghost use Rattle.sarif_known.specs.KnownRun.{artifact_at, bases_alone, known_run, results_from, tool_named};
 ghost use Rattle.sarif_known.specs.Internal.Tokens.{data_tokens, each_tokens, run_closing, run_opening, value_tokens};

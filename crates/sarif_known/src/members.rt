@@ -2,8 +2,10 @@
 ghost use Rattle.std.specs.Prelude.{◌≡◌, ◌<◌, ◌++◌, ◌∷◌, [], Some, None, OnOk, codes, map, option_map};
 ghost use Rattle.json.specs.Token.{string as string_token, number as number_token};
 ghost use Rattle.serde_json.specs.Data.{string};
-ghost use Rattle.sarif_known.specs.KnownResult.{kind_unless_fail, level_if_fail, list_if_any, texts_if_any};
-ghost use Rattle.sarif_known.specs.KnownResult.{guid_text, suppression_for, unless_empty};
+ghost use Rattle.sarif_model.specs.Written.{list_if_any};
+ghost use Rattle.sarif_known.specs.KnownResult.{kind_unless_fail, level_if_fail, texts_if_any};
+ghost use Rattle.sarif_model.specs.Guid.{guid_text};
+ghost use Rattle.sarif_known.specs.KnownResult.{suppression_for, unless_empty};
 ghost use Rattle.sarif_known.specs.Internal.Tokens.{data_tokens, each_tokens, pairs_tokens, value_tokens};
 
 use crate::lines::Lines;

@@ -1,4 +1,4 @@
--- What is read of a result depends on thirteen of its members.
+-- What is read from a result depends on thirteen of its members.
 use Rattle.std.proofs.Common.{◌≡◌, ℕ, List, [], ◌∷◌, codes, refl, ap}
 use Rattle.std.specs.Prelude.{Ok, Err, option_and_then, unwrap_or, if◌then◌else◌}
 use Rattle.serde_json.specs.Data.{Data}

@@ -26,7 +26,7 @@ use Rattle.sarif_log.specs.Assembled.{IsMergedBy}
 use Rattle.sarif_log.specs.Internal.Prepared.{IsPrepared}
 use Rattle.sarif_log.specs.LogBy.{leftover_runs, runs_by, runs_without_results}
 use Rattle.sarif_model.specs.FirstFault.{first}
-use Rattle.sarif_inputs.specs.Faults.{faults_of, file_or_none, number_faults}
+use Rattle.sarif_inputs.specs.Faults.{file_or_none, number_faults}
 use Rattle.sarif_inputs.specs.Internal.Indexes.{AreIndexesOf}
 use Rattle.sarif_inputs.specs.Inputs.{Inputs, numbered, placed}
 use Rattle.sarif_counts.specs.declared.life.Life.{Life}

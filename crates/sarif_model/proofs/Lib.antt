@@ -1,4 +1,5 @@
 pub mod Elements
+pub mod Guids
 pub mod PutAgain
 pub mod QuietFaults
 pub mod ReadEach

@@ -12,3 +12,4 @@ pub mod Run
 pub mod State
 pub mod Status
 pub mod Suppression
+pub mod Written

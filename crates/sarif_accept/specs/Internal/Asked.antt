@@ -7,7 +7,8 @@ use Rattle.sarif_model.specs.declared.record.Record.{Record}
 use Rattle.sarif_entries.specs.declared.conditions.Conditions.{Conditions}
 use Rattle.sarif_accept.specs.contracts.asked.AskedPartialEq.TheImpl as derived
 use Rattle.sarif_accept.specs.declared.asked.Asked.{Asked}
-use Rattle.sarif_accept.specs.Entry.{conditions_for, members_from, texts_if_any, list_if_any}
+use Rattle.sarif_model.specs.Written.{list_if_any}
+use Rattle.sarif_accept.specs.Entry.{conditions_for, members_from, texts_if_any}
 use Rattle.sarif_accept.specs.Adding.{same_conditions, once_each}
 
 -- the conditions that it refers to

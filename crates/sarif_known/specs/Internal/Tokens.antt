@@ -5,7 +5,9 @@ use Rattle.json.specs.Tree.{json_tokens}
 use Rattle.serde_json.specs.Data.{Data, string as text}
 use Rattle.serde_json.specs.Written.{outline}
 use Rattle.sarif_model.specs.declared.record.Record.{Record}
-use Rattle.sarif_known.specs.KnownResult.{Row, guid_text, kind_unless_fail, level_if_fail, list_if_any, locations_for}
+use Rattle.sarif_model.specs.Written.{Row, list_if_any}
+use Rattle.sarif_model.specs.Guid.{guid_text}
+use Rattle.sarif_known.specs.KnownResult.{kind_unless_fail, level_if_fail, locations_for}
 use Rattle.sarif_known.specs.KnownRun.{artifact_at, bases_alone, tool_named}
 use Rattle.sarif_known.specs.KnownResult.{message_rows, object_from, suppression_for, texts_if_any, unless_empty}
 

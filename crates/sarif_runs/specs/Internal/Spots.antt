@@ -1,5 +1,5 @@
 -- How the results of all runs are shared among workers: as spots in one list, a range of them for each shard.
-use Rattle.std.specs.Prelude.{◌≡◌, ℕ, false, ◌+◌, ◌*◌, ◌<◌, List, [], ◌∷◌, ◌++◌, map, take, drop, length, slice_index_or}
+use Rattle.std.specs.Prelude.{ℕ, false, ◌+◌, ◌*◌, ◌<◌, List, [], ◌∷◌, ◌++◌, map, take, drop, length, slice_index_or}
 use Rattle.std.specs.List.{range_with_len}
 use Rattle.serde_json.specs.Data.{null}
 use Rattle.sarif_model.specs.Run.{results_of}

@@ -1,6 +1,6 @@
 use Rattle.std.proofs.Common.{◌≡◌, ap, ◌∙◌}
 use Rattle.uuid.specs.Text.{lower, hyphenated_text}
-use Rattle.sarif_accept.specs.Entry.{guid_text}
+use Rattle.sarif_model.specs.Guid.{guid_text}
 use Rattle.sarif_accept.proofs.entry.text_of_guid.Goals as goal
 
 pub returns : goal.returns

@@ -1,6 +1,6 @@
 use Rattle.std.proofs.Common.{◌∷◌, [], codes, map}
 use Rattle.json.specs.Token.{key, begin_array, begin_object}
-use Rattle.sarif_known.specs.KnownResult.{list_if_any}
+use Rattle.sarif_model.specs.Written.{list_if_any}
 use Rattle.sarif_known.specs.KnownRun.{artifact_at, bases_alone}
 use Rattle.sarif_known.specs.Internal.Tokens.{value_tokens}
 use Rattle.sarif_known.proofs.RunsAdded.{opening_lost}

@@ -1,4 +1,4 @@
-use Rattle.std.proofs.Common.{◌≡◌, ℕ, take}
+use Rattle.std.proofs.Common.{◌≡◌, take}
 use Rattle.std.specs.HashMap.{get}
 use Rattle.sarif_runs.specs.declared.component.Descriptor.{Descriptor}
 use Rattle.sarif_runs.specs.Overrides.{is_same_descriptor, first_for}

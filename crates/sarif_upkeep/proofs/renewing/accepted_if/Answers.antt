@@ -1,4 +1,4 @@
-use Rattle.std.proofs.Common.{length, map, sym, ap, ◌∙◌}
+use Rattle.std.proofs.Common.{length, sym, ap, ◌∙◌}
 use Rattle.std.proofs.lemmas.List.{length-map}
 use Rattle.sarif_results.specs.Drafts.{applied_of}
 use Rattle.sarif_upkeep.proofs.renewing.accepted_if.Goals as goal
