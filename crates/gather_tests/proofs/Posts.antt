@@ -2,11 +2,11 @@
 use Rattle.std.proofs.Common.{◌≡◌, ℕ, ◌<◌, List, length, ap, ◌∙◌, subst, arith}
 use Rattle.std.specs.Prelude.{slice_index_or}
 use Rattle.std.proofs.lemmas.Option.{slice_get_within, get_or_from_slice_get, slice_get-get_or}
-use Rattle.sarif_gather.specs.declared.mailbox.Mailbox.{Mailbox}
-use Rattle.sarif_gather.specs.declared.mailbox.ends.Post.{Post}
-use Rattle.sarif_gather.specs.declared.mailbox.ends.Desk.{Desk}
-use Rattle.sarif_gather.specs.Ends.{IsPostOf, AreNew, AreAllPosts, number_of}
-use Rattle.sarif_gather.proofs.Places.{at_below}
+use Rattle.sarif_dispatch.specs.declared.mailbox.Mailbox.{Mailbox}
+use Rattle.sarif_dispatch.specs.declared.mailbox.ends.Post.{Post}
+use Rattle.sarif_dispatch.specs.declared.mailbox.ends.Desk.{Desk}
+use Rattle.sarif_dispatch.specs.Ends.{IsPostOf, AreNew, AreAllPosts, number_of}
+use Rattle.sarif_dispatch.proofs.Places.{at_below}
 
 module _ {P : Type 0} (mailbox : Mailbox P) where
   pub new_posts : (room senders : ℕ) (posts : List (Post P)) (desk : Desk P) → AreNew room senders mailbox posts desk → AreAllPosts mailbox posts

@@ -1,5 +1,5 @@
 //! The collector.
-use sarif_gather::{CollectFault, Collector, Lists, Piece, Refused, Why, collect};
+use sarif_collect::{CollectFault, Collector, Lists, Piece, Refused, Why, collect};
 use std::alloc::{AllocError, Global};
 
 fn item(run: u32, seq: u32, body: u32) -> Piece<u32, u32> {

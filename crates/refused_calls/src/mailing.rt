@@ -1,7 +1,7 @@
 //! The mailbox.
-ghost use Rattle.sarif_gather.specs.Ends.{IsDeskOf, AreAllPosts};
+ghost use Rattle.sarif_dispatch.specs.Ends.{IsDeskOf, AreAllPosts};
 
-use sarif_gather::{Desk, Mailbox, Post};
+use sarif_dispatch::{Desk, Mailbox, Post};
 use std::alloc::{AllocError, Global};
 use std::sync::Wait;
 

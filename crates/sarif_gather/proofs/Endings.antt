@@ -2,14 +2,14 @@
 use Rattle.std.proofs.Common.{◌≡◌, ℕ, zero, suc, ◌+◌, ◌<◌, ◌≤◌, ◌⊎◌, false, List, [], ◌∷◌, ◌++◌, map, refl, sym, ap, ◌∙◌, subst, inl, inr, ⊎_elim, arith}
 use Rattle.std.proofs.lemmas.Bool.{cases_eq, cases_lt}
 use Rattle.std.proofs.lemmas.List.{map-append}
-use Rattle.sarif_gather.specs.declared.piece.Piece.{Piece}
-use Rattle.sarif_gather.specs.declared.piece.Parcel.{Parcel}
-use Rattle.sarif_gather.specs.declared.piece.Parcel.TheVariants.{Carry, End}
-use Rattle.sarif_gather.specs.Pieces.{ends_in, parcels_in}
-use Rattle.sarif_gather.specs.Senders.{of_sender}
-use Rattle.sarif_gather.proofs.Deliveries.{of_same, of_other, of-append}
-use Rattle.sarif_gather.proofs.Parcels.{ends_in-append}
-use Rattle.sarif_gather.proofs.Tallies.{rest_of}
+use Rattle.sarif_collect.specs.declared.piece.Piece.{Piece}
+use Rattle.sarif_collect.specs.declared.piece.Parcel.{Parcel}
+use Rattle.sarif_collect.specs.declared.piece.Parcel.TheVariants.{Carry, End}
+use Rattle.sarif_collect.specs.Pieces.{ends_in, parcels_in}
+use Rattle.sarif_dispatch.specs.Senders.{of_sender}
+use Rattle.sarif_dispatch.proofs.Deliveries.{of_same, of_other, of-append}
+use Rattle.sarif_collect.proofs.Parcels.{ends_in-append}
+use Rattle.sarif_dispatch.proofs.Tallies.{rest_of}
 
 module _ {T C : Type 0} where
   -- how many ends the senders below m have

@@ -3,24 +3,24 @@ use Rattle.std.proofs.Common.{◌≡◌, ℕ, ◌+◌, ◌<◌, ◌≤◌, true,
 use Rattle.std.specs.Prelude.{slice_get}
 use Rattle.std.proofs.lemmas.Bool.{OnFalse_at}
 use Rattle.std.proofs.lemmas.List.{length-map}
-use Rattle.sarif_gather.specs.declared.piece.Parcel.{Parcel}
-use Rattle.sarif_gather.specs.declared.mailbox.Mailbox.{Mailbox}
-use Rattle.sarif_gather.specs.declared.mailbox.ends.Post.{Post}
-use Rattle.sarif_gather.specs.declared.deal.hand.Hand.{Hand}
-use Rattle.sarif_gather.specs.declared.deal.state.Deal.{Deal}
+use Rattle.sarif_collect.specs.declared.piece.Parcel.{Parcel}
+use Rattle.sarif_dispatch.specs.declared.mailbox.Mailbox.{Mailbox}
+use Rattle.sarif_dispatch.specs.declared.mailbox.ends.Post.{Post}
+use Rattle.sarif_dispatch.specs.declared.deal.hand.Hand.{Hand}
+use Rattle.sarif_dispatch.specs.declared.deal.state.Deal.{Deal}
 use Rattle.sarif_gather.specs.declared.gathering.Gathered.{Gathered}
 use Rattle.sarif_gather.specs.declared.gathering.worker.Back.{Back}
-use Rattle.sarif_gather.specs.Claims.{times, total, once_below}
-use Rattle.sarif_gather.specs.Ends.{AreWhole, AreAllPosts, IsPostOf, sent_by, taken_by}
+use Rattle.sarif_dispatch.specs.Claims.{times, total, once_below}
+use Rattle.sarif_dispatch.specs.Ends.{AreWhole, AreAllPosts, IsPostOf, sent_by, taken_by}
 use Rattle.sarif_gather.specs.Internal.Gathered.{IsGathered}
-use Rattle.sarif_gather.specs.Hands.{drawn_by, is_marked, hands_of, IsHandOf, AreAllHands}
-use Rattle.sarif_gather.specs.Honest.{AreHonest}
-use Rattle.sarif_gather.specs.Held.{Held, empty_run, closed_run}
-use Rattle.sarif_gather.specs.Pieces.{pieces_of_runs, parcels_of, lists_of}
-use Rattle.sarif_gather.specs.Senders.{of_sender}
+use Rattle.sarif_dispatch.specs.Hands.{drawn_by, is_marked, hands_of, IsHandOf, AreAllHands}
+use Rattle.sarif_collect.specs.Honest.{AreHonest}
+use Rattle.sarif_collect.specs.Held.{Held, empty_run, closed_run}
+use Rattle.sarif_collect.specs.Pieces.{pieces_of_runs, parcels_of, lists_of}
+use Rattle.sarif_dispatch.specs.Senders.{of_sender}
 use Rattle.sarif_gather.proofs.Endings.{all_taken}
-use Rattle.sarif_gather.proofs.Honesty.{held_whole}
-use Rattle.sarif_gather.proofs.Places.{at_below, from_mapped, into_mapped}
+use Rattle.sarif_collect.proofs.Honesty.{held_whole}
+use Rattle.sarif_dispatch.proofs.Places.{at_below, from_mapped, into_mapped}
 
 module _ {A : Type 0} where
   pub total-map : {B : Type 0} (f : B → ℕ) (g : A → B) (xs : List A) → total f (map g xs) ≡ total (λ x. f (g x)) xs

@@ -3,26 +3,23 @@ ghost use Rattle.std.specs.Prelude.{◌≡◌, ◌≤◌, ◌<◌, ℕ, [], Some
 ghost use Rattle.std.specs.Prelude.{IfOk, IfSome};
 ghost use Rattle.std.specs.List.{list_any};
 ghost use Rattle.sarif_gather.specs.Internal.Begun.{AreNewcomers};
-ghost use Rattle.sarif_gather.specs.Ends.{IsPostOf, IsNewPost, number_of, sent_by};
-ghost use Rattle.sarif_gather.specs.Hands.{IsHandOf, drawn_by};
+ghost use Rattle.sarif_dispatch.specs.Ends.{IsPostOf, IsNewPost, number_of, sent_by};
+ghost use Rattle.sarif_dispatch.specs.Hands.{IsHandOf, drawn_by};
 ghost use Rattle.sarif_gather.specs.Internal.Served.{IsServed};
 ghost use Rattle.sarif_gather.specs.Internal.Gathered.{IsGathered};
-ghost use Rattle.sarif_gather.specs.Pieces.{lists_of};
-ghost use Rattle.sarif_gather.specs.Limits.{most_hands, most_room};
+ghost use Rattle.sarif_collect.specs.Pieces.{lists_of};
+ghost use Rattle.sarif_dispatch.specs.Limits.{most_hands, most_room};
 
 mod crew;
 mod receiving;
 mod worker;
 
-use crate::collector::Collector;
-use crate::deal::{Deal, Hand};
 use crate::gathering::crew::{Crew, Workplace};
 use crate::gathering::receiving::receive;
 use crate::gathering::worker::{Back, serve};
-use crate::lists::Lists;
-use crate::mailbox::{Desk, Mailbox, Post};
-use crate::piece::Parcel;
 use crate::work::{Gate, Work};
+use sarif_collect::{Collector, Lists, Parcel};
+use sarif_dispatch::{Deal, Desk, Hand, Mailbox, Post};
 use std::alloc::{AllocError, Global};
 use std::sync::Wait;
 use std::thread;

@@ -1,6 +1,6 @@
 //! What workers do, and who observes them.
 ghost use Rattle.std.specs.Prelude.{◌≡◌, ◌≤◌, ◌<◌, ℕ, IfOk};
-ghost use Rattle.sarif_gather.specs.Limits.{most_runs};
+ghost use Rattle.sarif_dispatch.specs.Limits.{most_runs};
 
 use std::alloc::{AllocError, Global};
 

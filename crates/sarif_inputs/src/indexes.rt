@@ -5,7 +5,7 @@ ghost use Rattle.json_parts.specs.Mark as said;
 
 use json::Scratch;
 use json_parts::{Index, IndexFault, index_text, without_mark};
-use sarif_gather::{Sharing, share_jobs};
+use sarif_share::{Sharing, share_jobs};
 use std::alloc::{AllocError, Global};
 use std::thread::Threads;
 

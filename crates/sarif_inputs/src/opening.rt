@@ -4,8 +4,8 @@ ghost use Rattle.sarif_runs.specs.Internal.Opened.{placed_of};
 ghost use Rattle.sarif_inputs.specs.Internal.ReadRun.{placed_read};
 
 use crate::read_run::ReadRun;
-use sarif_gather::{Sharing, share_jobs};
 use sarif_runs::OpenedRun;
+use sarif_share::{Sharing, share_jobs};
 use std::alloc::{AllocError, Global};
 use std::hash::RandomState;
 use std::thread::Threads;

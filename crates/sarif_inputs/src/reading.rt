@@ -6,9 +6,9 @@ ghost use Rattle.sarif_inputs.specs.Internal.Indexes.{AreIndexesOf};
 ghost use Rattle.sarif_inputs.specs.Internal.Parsed.{AreParsedFrom, AreReadFrom, IsParsedFrom, IsReadFrom};
 
 use json_parts::{Index, IndexFault};
-use sarif_gather::{Sharing, each_of, share_jobs};
 use sarif_model::Refusal;
 use sarif_read::{IndexedRun, ReadFault, index_log, refused_text};
+use sarif_share::{Sharing, each_of, share_jobs};
 use std::alloc::{AllocError, Global};
 use std::thread::Threads;
 

@@ -5,8 +5,8 @@ use Rattle.std.proofs.lemmas.List.{map-append, append-nil, drop-drop, take_all}
 use Rattle.std.proofs.lemmas.Grind.{common_steps}
 use Rattle.std.proofs.Math.Seq.{take-add}
 use Rattle.std.specs.List.{range_with_len, flat_map}
-use Rattle.sarif_gather.specs.Held.{Whole}
-use Rattle.sarif_gather.specs.Pieces.{lists_of, whole_run}
+use Rattle.sarif_collect.specs.Held.{Whole}
+use Rattle.sarif_collect.specs.Pieces.{lists_of, whole_run}
 use Rattle.sarif_entries.specs.File.{File}
 use Rattle.sarif_results.specs.declared.outcome.Outcome.{Outcome}
 use Rattle.sarif_runs.specs.declared.spots.Spot.{Spot}

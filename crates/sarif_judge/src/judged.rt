@@ -7,7 +7,7 @@ ghost use Rattle.sarif_results.specs.Internal.Outcomes.{all_outcomes};
 ghost use Rattle.sarif_model.specs.MergeFault.{IsQuiet};
 ghost use Rattle.sarif_model.specs.FirstFault.{Answers};
 ghost use Rattle.sarif_results.specs.Internal.Judged.{placed_in};
-ghost use Rattle.sarif_gather.specs.Limits.{most_room};
+ghost use Rattle.sarif_dispatch.specs.Limits.{most_room};
 ghost use Rattle.sarif_judge.specs.Internal.ResourceFault.{resource_fault_of};
 ghost use Rattle.sarif_model.specs.Limits.{most_results, most_runs, most_workers};
 

@@ -5,7 +5,7 @@ ghost use Rattle.sarif_runs.specs.Internal.Opened.{placed_of};
 ghost use Rattle.sarif_results.specs.Internal.OutcomesAt.{outcome_at};
 ghost use Rattle.sarif_runs.specs.Internal.Spots.{IsSpotOf};
 ghost use Rattle.sarif_model.specs.Limits.{most_results};
-ghost use Rattle.sarif_gather.specs.Limits.{most_runs};
+ghost use Rattle.sarif_dispatch.specs.Limits.{most_runs};
 
 use crate::chunk::chunk_of;
 use crate::judged_result::judge_result;

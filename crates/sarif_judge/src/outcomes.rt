@@ -4,7 +4,7 @@ ghost use Rattle.std.specs.List.{flat_map};
 ghost use Rattle.sarif_model.specs.Run.{results_total};
 ghost use Rattle.sarif_runs.specs.Internal.Opened.{placed_of};
 ghost use Rattle.sarif_results.specs.Internal.Outcomes.{all_outcomes};
-ghost use Rattle.sarif_gather.specs.Limits.{most_room};
+ghost use Rattle.sarif_dispatch.specs.Limits.{most_room};
 ghost use Rattle.sarif_judge.specs.Internal.Flattened.{flattened, flattened_from, within_shards};
 ghost use Rattle.sarif_model.specs.Limits.{most_results, most_runs, most_workers};
 

@@ -8,10 +8,10 @@ ghost use Rattle.sarif_runs.specs.Internal.Opened.{placed_of};
 ghost use Rattle.sarif_runs.specs.Internal.Spots.{IsSpotOf};
 
 use crate::leftover::Leftover;
-use sarif_gather::{Sharing, each_of, share_jobs};
 use sarif_model::Record;
 use sarif_results::{Draft, draft_absent};
 use sarif_runs::{OpenedRun, Spot};
+use sarif_share::{Sharing, each_of, share_jobs};
 use std::alloc::{AllocError, Global};
 use std::thread::Threads;
 

@@ -26,7 +26,7 @@ use Rattle.serde_json.specs.Written.{compact_text, items_text, comma_if}
 use Rattle.serde_json.proofs.OnLiterals.{serde_json_on_literals}
 use denote.Ref.{Bor}
 use denote.Param.Members.{Shared}
-use Rattle.sarif_gather.specs.Sharing.{AreJoined, GivesInParts, GivesPart, GivesParts}
+use Rattle.sarif_share.specs.Sharing.{AreJoined, GivesInParts, GivesPart, GivesParts}
 use Rattle.sarif_findings.specs.declared.finding.Finding.{Finding}
 use Rattle.sarif_reports.specs.declared.ranked.Ranked.{Ranked}
 use Rattle.sarif_reports.specs.Internal.GitlabObjects.{object_of, objects_after, joined_objects, before_part}

@@ -7,8 +7,8 @@ ghost use Rattle.sarif_reports.specs.GitlabParts.{quoted_text, identity_of, iden
 
 use crate::quoted::push_quoted;
 use sarif_findings::Finding;
-use sarif_gather::{Sharing, share_each};
 use sarif_model::Text;
+use sarif_share::{Sharing, share_each};
 use sha2::{Digest, Sha256};
 use std::alloc::{AllocError, Global};
 use std::thread::Threads;

@@ -4,13 +4,13 @@ ghost use Rattle.hex.specs.Hex.{encode_lower};
 ghost use Rattle.sha2.specs.Sha256.{sha256};
 ghost use Rattle.serde_json.specs.Written.{compact_text, comma_if};
 ghost use Rattle.sarif_reports.specs.GitlabReport as said;
-ghost use Rattle.sarif_gather.specs.Sharing.{AreJoined};
+ghost use Rattle.sarif_share.specs.Sharing.{AreJoined};
 ghost use Rattle.sarif_reports.specs.Internal.GitlabObjects.{object_of, joined_objects, before_part};
 ghost use Rattle.sarif_reports.specs.GitlabParts.{rank_text};
 
 use crate::quality::push_quality;
 use crate::ranked::Ranked;
-use sarif_gather::{Sharing, share_parts};
+use sarif_share::{Sharing, share_parts};
 use sha2::{Digest, Sha256};
 use std::alloc::{AllocError, Global};
 use std::thread::Threads;

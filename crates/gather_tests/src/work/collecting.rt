@@ -1,7 +1,7 @@
 //! Pieces and the collector.
 ghost use Rattle.std.specs.Prelude.{◌≤◌, ◌<◌, ◌^◌, vec_len};
 
-use sarif_gather::{CollectFault, Collector, Lists, Piece, Refused, Why, collect};
+use sarif_collect::{CollectFault, Collector, Lists, Piece, Refused, Why, collect};
 use std::alloc::Global;
 use std::process::Abort;
 use std::test::Fail;

@@ -1,8 +1,8 @@
 //! The deal.
 ghost use Rattle.std.specs.Prelude.{◌≡◌, ◌≤◌, ◌<◌, ℕ, length, vec_len, All, slice_index_or};
-ghost use Rattle.sarif_gather.specs.Hands.{IsHandOf, AreAllHands};
+ghost use Rattle.sarif_dispatch.specs.Hands.{IsHandOf, AreAllHands};
 
-use sarif_gather::{Deal, Hand};
+use sarif_dispatch::{Deal, Hand};
 use std::process::Abort;
 use std::sync::atomic::{AtomicU64, Ordering};
 use std::test::Fail;

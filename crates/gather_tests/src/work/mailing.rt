@@ -1,8 +1,9 @@
 //! The mailbox.
 ghost use Rattle.std.specs.Prelude.{◌≡◌, ◌≤◌, ◌<◌, ℕ, length, vec_len, All, slice_index_or};
-ghost use Rattle.sarif_gather.specs.Ends.{IsPostOf, IsDeskOf, AreAllPosts, number_of};
+ghost use Rattle.sarif_dispatch.specs.Ends.{IsPostOf, IsDeskOf, AreAllPosts, number_of};
 
-use sarif_gather::{Desk, Full, Mailbox, Parcel, Piece, Post};
+use sarif_collect::{Parcel, Piece};
+use sarif_dispatch::{Desk, Full, Mailbox, Post};
 use std::sync::Wait;
 use std::test::Fail;
 use std::thread;

@@ -1,5 +1,5 @@
 //! Calls that share a list among threads: they use as many threads as are worth starting, and no more.
-use sarif_gather::{Sharing, share_each, share_jobs, share_parts};
+use sarif_share::{Sharing, share_each, share_jobs, share_parts};
 use std::alloc::AllocError;
 use std::sync::atomic::{AtomicU64, Ordering};
 use std::test::Fail;

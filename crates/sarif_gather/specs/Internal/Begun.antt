@@ -1,13 +1,13 @@
 -- What the threads of a gathering begin with.
 use Rattle.std.specs.Prelude.{◌≡◌, ℕ, [], Some, slice_get, length}
-use Rattle.sarif_gather.specs.declared.piece.Parcel.{Parcel}
-use Rattle.sarif_gather.specs.declared.mailbox.Mailbox.{Mailbox}
-use Rattle.sarif_gather.specs.declared.mailbox.ends.Post.{Post}
-use Rattle.sarif_gather.specs.declared.deal.state.Deal.{Deal}
-use Rattle.sarif_gather.specs.declared.deal.hand.Hand.{Hand}
+use Rattle.sarif_collect.specs.declared.piece.Parcel.{Parcel}
+use Rattle.sarif_dispatch.specs.declared.mailbox.Mailbox.{Mailbox}
+use Rattle.sarif_dispatch.specs.declared.mailbox.ends.Post.{Post}
+use Rattle.sarif_dispatch.specs.declared.deal.state.Deal.{Deal}
+use Rattle.sarif_dispatch.specs.declared.deal.hand.Hand.{Hand}
 use Rattle.sarif_gather.specs.declared.gathering.crew.Crew.{Crew}
-use Rattle.sarif_gather.specs.Ends.{IsNewPost, IsDeskOf, taken_by}
-use Rattle.sarif_gather.specs.Hands.{IsHandOf, drawn_by}
+use Rattle.sarif_dispatch.specs.Ends.{IsNewPost, IsDeskOf, taken_by}
+use Rattle.sarif_dispatch.specs.Hands.{IsHandOf, drawn_by}
 
 -- post k has the number k and sent nothing; a hand drew nothing; there are as many of both; the desk took nothing
 pub record AreNewcomers {T C : Type 0} (mailbox : Mailbox (Parcel T C)) (deal : Deal)

@@ -1,14 +1,14 @@
 -- What the calling thread has once all workers are joined.
 use Rattle.std.specs.Prelude.{◌≡◌, ℕ, false, List, Some, slice_get, length}
-use Rattle.sarif_gather.specs.declared.piece.Parcel.{Parcel}
-use Rattle.sarif_gather.specs.declared.mailbox.Mailbox.{Mailbox}
-use Rattle.sarif_gather.specs.declared.deal.state.Deal.{Deal}
+use Rattle.sarif_collect.specs.declared.piece.Parcel.{Parcel}
+use Rattle.sarif_dispatch.specs.declared.mailbox.Mailbox.{Mailbox}
+use Rattle.sarif_dispatch.specs.declared.deal.state.Deal.{Deal}
 use Rattle.sarif_gather.specs.declared.gathering.Gathered.{Gathered}
 use Rattle.sarif_gather.specs.declared.gathering.worker.Back.{Back}
-use Rattle.sarif_gather.specs.Collecting.{all_after}
-use Rattle.sarif_gather.specs.Ends.{IsDeskOf, taken_by}
-use Rattle.sarif_gather.specs.Held.{Held}
-use Rattle.sarif_gather.specs.Pieces.{carried, ends_in, parcels_in}
+use Rattle.sarif_collect.specs.Collecting.{all_after}
+use Rattle.sarif_dispatch.specs.Ends.{IsDeskOf, taken_by}
+use Rattle.sarif_collect.specs.Held.{Held}
+use Rattle.sarif_collect.specs.Pieces.{carried, ends_in, parcels_in}
 use Rattle.sarif_gather.specs.Internal.Served.{IsServed}
 
 module _ {T C : Type 0} (count : ℕ → ℕ) (item : ℕ → ℕ → T) (end : ℕ → C) where

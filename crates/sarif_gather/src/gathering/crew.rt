@@ -1,12 +1,10 @@
 //! What the threads of a gathering share, and what they begin with.
 ghost use Rattle.std.specs.Prelude.{◌≡◌};
-ghost use Rattle.sarif_gather.specs.Hands.{runs_dealt};
+ghost use Rattle.sarif_dispatch.specs.Hands.{runs_dealt};
 
-use crate::collector::Collector;
-use crate::deal::{Deal, Hand};
-use crate::mailbox::{Desk, Mailbox, Post};
-use crate::piece::Parcel;
 use crate::work::Work;
+use sarif_collect::{Collector, Parcel};
+use sarif_dispatch::{Deal, Desk, Hand, Mailbox, Post};
 
 /// What all workers share: the work, who looks on, the deal of the work's runs, and the mailbox
 /// that takes their parcels.

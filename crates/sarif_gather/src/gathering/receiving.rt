@@ -1,14 +1,13 @@
 //! The calling thread, which takes what the workers send.
 ghost use Rattle.std.specs.Prelude.{◌≡◌, [], true};
 ghost use Rattle.std.specs.Bool.{OnTrue};
-ghost use Rattle.sarif_gather.specs.Collecting.{with_piece, all_after};
-ghost use Rattle.sarif_gather.specs.Ends.{IsDeskOf, taken_by};
-ghost use Rattle.sarif_gather.specs.Pieces.{carried, ends_in, parcels_in};
+ghost use Rattle.sarif_collect.specs.Collecting.{with_piece, all_after};
+ghost use Rattle.sarif_dispatch.specs.Ends.{IsDeskOf, taken_by};
+ghost use Rattle.sarif_collect.specs.Pieces.{carried, ends_in, parcels_in};
 
-use crate::collector::Collector;
-use crate::mailbox::{Desk, Mailbox};
-use crate::piece::{Parcel, Piece};
 use crate::work::Gate;
+use sarif_collect::{Collector, Parcel, Piece};
+use sarif_dispatch::{Desk, Mailbox};
 use std::sync::Wait;
 
 // Gives a piece to the collector, unless one was lost before. False where the collector lacks it.

@@ -1,17 +1,16 @@
 //! A worker, which reads the runs that it draws and sends them piece by piece.
 ghost use Rattle.std.specs.Prelude.{◌≡◌, ◌<◌, true, [], ◌++◌, map, OnOk};
 ghost use Rattle.std.specs.Bool.{OnTrue};
-ghost use Rattle.sarif_gather.specs.declared.piece.Parcel.TheVariants.{Carry};
-ghost use Rattle.sarif_gather.specs.Ends.{IsPostOf, number_of, sent_by};
-ghost use Rattle.sarif_gather.specs.Hands.{IsHandOf, drawn_by, is_marked};
-ghost use Rattle.sarif_gather.specs.Pieces.{pieces_of, pieces_of_runs};
+ghost use Rattle.sarif_collect.specs.declared.piece.Parcel.TheVariants.{Carry};
+ghost use Rattle.sarif_dispatch.specs.Ends.{IsPostOf, number_of, sent_by};
+ghost use Rattle.sarif_dispatch.specs.Hands.{IsHandOf, drawn_by, is_marked};
+ghost use Rattle.sarif_collect.specs.Pieces.{pieces_of, pieces_of_runs};
 ghost use Rattle.sarif_gather.specs.Internal.Served.{IsServed};
 
-use crate::deal::Hand;
 use crate::gathering::crew::Workplace;
-use crate::mailbox::Post;
-use crate::piece::{Parcel, Piece};
 use crate::work::{Gate, Work};
+use sarif_collect::{Parcel, Piece};
+use sarif_dispatch::{Hand, Post};
 use std::alloc::{AllocError, Global};
 use std::sync::Wait;
 

@@ -3,7 +3,7 @@ use Rattle.std.specs.Prelude.{List, map, reverse, ⊤}
 use Rattle.std.specs.declared.vec.Vec.{Vec}
 use Rattle.std.specs.declared.alloc.Global.{Global}
 use Rattle.std.specs.List.{flat_map}
-use Rattle.sarif_gather.specs.Held.{Whole}
+use Rattle.sarif_collect.specs.Held.{Whole}
 use Rattle.sarif_results.specs.declared.outcome.Outcome.{Outcome}
 
 -- one list of all

@@ -1,6 +1,6 @@
 use Rattle.std.proofs.Common.{◌∙◌, sym, subst}
-use Rattle.sarif_gather.specs.Ends.{AreAllPosts}
-use Rattle.sarif_gather.proofs.TwoPosts.{first_two, two_posts}
+use Rattle.sarif_dispatch.specs.Ends.{AreAllPosts}
+use Rattle.sarif_dispatch.proofs.TwoPosts.{first_two, two_posts}
 use Rattle.refused_calls.proofs.mailing.settle.Goals as goal
 
 pub settle_twice-requires-clause-posts : goal.settle_twice-requires-clause-posts

@@ -1,13 +1,13 @@
 use Rattle.std.proofs.Common.{◌≡◌, List, replicate, Some, None, sym, ap, ◌∙◌, subst, arith}
-use Rattle.sarif_gather.specs.declared.piece.Parcel.{Parcel}
-use Rattle.sarif_gather.specs.declared.mailbox.ends.Post.{Post}
-use Rattle.sarif_gather.specs.declared.deal.hand.Hand.{Hand}
-use Rattle.sarif_gather.specs.Ends.{AreAllPosts}
-use Rattle.sarif_gather.specs.Hands.{AreAllHands}
-use Rattle.sarif_gather.specs.Held.{empty_run, first_open}
-use Rattle.sarif_gather.specs.Pieces.{lists_of}
+use Rattle.sarif_collect.specs.declared.piece.Parcel.{Parcel}
+use Rattle.sarif_dispatch.specs.declared.mailbox.ends.Post.{Post}
+use Rattle.sarif_dispatch.specs.declared.deal.hand.Hand.{Hand}
+use Rattle.sarif_dispatch.specs.Ends.{AreAllPosts}
+use Rattle.sarif_dispatch.specs.Hands.{AreAllHands}
+use Rattle.sarif_collect.specs.Held.{empty_run, first_open}
+use Rattle.sarif_collect.specs.Pieces.{lists_of}
 use Rattle.sarif_gather.proofs.Gatherings.{gathered_at, all_posts, all_hands, all_collected}
-use Rattle.sarif_gather.proofs.Wholes.{wholes_again, no_open}
+use Rattle.sarif_collect.proofs.Wholes.{wholes_again, no_open}
 use Rattle.sarif_gather.proofs.gathering.gather.Goals as goal
 
 pub settle-requires-clause-posts : goal.settle-requires-clause-posts

@@ -2,10 +2,10 @@ use Rattle.std.proofs.Common.{◌≡◌, ◌<◌, ℕ, false, Some, length, get_
 use Rattle.std.specs.Prelude.{slice_get}
 use Rattle.std.specs.List.{list_any}
 use Rattle.std.proofs.lemmas.Option.{slice_get_within, slice_get_read, get_or_from_slice_get}
-use Rattle.sarif_gather.specs.declared.piece.Parcel.{Parcel}
+use Rattle.sarif_collect.specs.declared.piece.Parcel.{Parcel}
 use Rattle.sarif_gather.specs.declared.gathering.worker.Back.{Back}
 use Rattle.sarif_gather.specs.Internal.Served.{IsServed}
-use Rattle.sarif_gather.proofs.Places.{none_passes}
+use Rattle.sarif_dispatch.proofs.Places.{none_passes}
 use Rattle.sarif_gather.proofs.gathering.gather_in.Goals as goal
 
 pub returns : goal.returns

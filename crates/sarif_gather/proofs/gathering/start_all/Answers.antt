@@ -1,8 +1,8 @@
 use Rattle.std.proofs.Common.{◌∷◌, [], suc, length, sym, ap, ◌∙◌, subst, ⊎_elim, arith}
 use Rattle.std.specs.Prelude.{slice_get}
 use Rattle.std.proofs.lemmas.List.{length_push}
-use Rattle.sarif_gather.specs.Ends.{IsNewPost}
-use Rattle.sarif_gather.proofs.Places.{slice_get_push, slice_get_last, slice_get_longer}
+use Rattle.sarif_dispatch.specs.Ends.{IsNewPost}
+use Rattle.sarif_dispatch.proofs.Places.{slice_get_push, slice_get_last, slice_get_longer}
 use Rattle.sarif_gather.proofs.gathering.start_all.Goals as goal
 
 pub start_one-started-requires-clause-hand : goal.start_one-started-requires-clause-hand

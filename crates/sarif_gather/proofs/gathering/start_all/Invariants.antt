@@ -2,8 +2,8 @@ use Rattle.std.proofs.Common.{◌≡◌, ◌+◌, ◌≤◌, ℕ, [], length, ve
 use Rattle.std.specs.Prelude.{slice_get}
 use Rattle.std.specs.Vec.{vec_capacity}
 use Rattle.std.specs.Vec.Iter.{into_iter_items}
-use Rattle.sarif_gather.specs.Ends.{IsNewPost}
-use Rattle.sarif_gather.specs.Hands.{IsHandOf, drawn_by}
+use Rattle.sarif_dispatch.specs.Ends.{IsNewPost}
+use Rattle.sarif_dispatch.specs.Hands.{IsHandOf, drawn_by}
 use Rattle.sarif_gather.proofs.gathering.start_all.Given as goal
 
 abbrev pub invariant-loop-post : goal.invariant-loop-post

@@ -1,5 +1,5 @@
 use Rattle.sarif_reports.specs.GitlabParts.{identity_with}
-use Rattle.sarif_gather.proofs.Sharings.{each_mapped}
+use Rattle.sarif_share.proofs.Sharings.{each_mapped}
 use Rattle.sarif_reports.proofs.identities.identities_of.Goals as goal
 
 pub returns : goal.returns

@@ -1,6 +1,6 @@
 use Rattle.std.proofs.Common.{rules, ◌≡◌, ◌++◌, ◌∷◌, [], sym, ap, ◌∙◌, subst, append_assoc, string_bytes}
-use Rattle.sarif_gather.specs.Sharing.{AreJoined}
-use Rattle.sarif_gather.proofs.Sharings.{joined_more}
+use Rattle.sarif_share.specs.Sharing.{AreJoined}
+use Rattle.sarif_share.proofs.Sharings.{joined_more}
 use Rattle.sarif_reports.proofs.objects.joined.Goals as goal
 
 pub loop-text-preserved : goal.loop-text-preserved

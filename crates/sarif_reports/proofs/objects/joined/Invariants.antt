@@ -1,5 +1,5 @@
 use Rattle.std.proofs.Common.{◌≡◌, ◌++◌, string_bytes}
-use Rattle.sarif_gather.specs.Sharing.{AreJoined}
+use Rattle.sarif_share.specs.Sharing.{AreJoined}
 use Rattle.sarif_reports.proofs.objects.joined.Given as goal
 
 abbrev pub invariant-loop-text : goal.invariant-loop-text

@@ -1,6 +1,6 @@
 use Rattle.std.proofs.Common.{rules, ◌≡◌, ◌<◌, ◌++◌, false, length, map, string_bytes}
 use Rattle.std.proofs.lemmas.Result.{IfOk-weaker}
-use Rattle.sarif_gather.specs.Sharing.{AreJoined}
+use Rattle.sarif_share.specs.Sharing.{AreJoined}
 use Rattle.sarif_reports.specs.Internal.GitlabObjects.{object_of, joined_objects}
 use Rattle.sarif_reports.proofs.GitlabMore.{joined_parts}
 use Rattle.sarif_reports.proofs.objects.objects_of.Goals as goal

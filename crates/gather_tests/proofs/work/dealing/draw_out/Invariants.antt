@@ -1,4 +1,4 @@
-use Rattle.sarif_gather.specs.Hands.{IsHandOf}
+use Rattle.sarif_dispatch.specs.Hands.{IsHandOf}
 use Rattle.gather_tests.proofs.work.dealing.draw_out.Given as goal
 
 abbrev pub invariant-loop : goal.invariant-loop

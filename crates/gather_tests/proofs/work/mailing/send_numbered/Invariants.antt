@@ -1,5 +1,5 @@
 use Rattle.std.proofs.Common.{◌≡◌}
-use Rattle.sarif_gather.specs.Ends.{IsPostOf, number_of}
+use Rattle.sarif_dispatch.specs.Ends.{IsPostOf, number_of}
 use Rattle.gather_tests.proofs.work.mailing.send_numbered.Given as goal
 
 abbrev pub invariant-loop-number : goal.invariant-loop-number

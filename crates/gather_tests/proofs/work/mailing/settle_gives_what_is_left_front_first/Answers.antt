@@ -1,6 +1,6 @@
 use Rattle.std.proofs.Common.{◌∙◌, sym, subst}
-use Rattle.sarif_gather.specs.Ends.{AreAllPosts}
-use Rattle.sarif_gather.proofs.TwoPosts.{first_two, two_posts}
+use Rattle.sarif_dispatch.specs.Ends.{AreAllPosts}
+use Rattle.sarif_dispatch.proofs.TwoPosts.{first_two, two_posts}
 use Rattle.gather_tests.proofs.work.mailing.settle_gives_what_is_left_front_first.Goals as goal
 
 pub settle-requires-clause-posts : goal.settle-requires-clause-posts

@@ -1,4 +1,4 @@
-use Rattle.sarif_gather.specs.Ends.{IsDeskOf}
+use Rattle.sarif_dispatch.specs.Ends.{IsDeskOf}
 use Rattle.gather_tests.proofs.work.mailing.take_most.Given as goal
 
 abbrev pub invariant-loop : goal.invariant-loop

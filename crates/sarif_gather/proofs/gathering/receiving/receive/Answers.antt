@@ -1,9 +1,9 @@
 use Rattle.std.proofs.Common.{◌+◌, sym, ap, ◌∙◌, arith}
 use Rattle.std.proofs.lemmas.Bool.{true≢false, OnTrue_at, OnTrue_from}
-use Rattle.sarif_gather.specs.Collecting.{with_piece, all_after}
-use Rattle.sarif_gather.specs.Ends.{taken_by}
-use Rattle.sarif_gather.specs.Pieces.{carried, ends_in, parcels_in}
-use Rattle.sarif_gather.proofs.Parcels.{carried_push, ends_push, all_after_push, carried_end, ends_end}
+use Rattle.sarif_collect.specs.Collecting.{with_piece, all_after}
+use Rattle.sarif_dispatch.specs.Ends.{taken_by}
+use Rattle.sarif_collect.specs.Pieces.{carried, ends_in, parcels_in}
+use Rattle.sarif_collect.proofs.Parcels.{carried_push, ends_push, all_after_push, carried_end, ends_end}
 use Rattle.sarif_gather.proofs.gathering.receiving.receive.Goals as goal
 
 pub loop-preserved-in_default-Carry : goal.loop-preserved-in_default-Carry

@@ -1,8 +1,8 @@
 use Rattle.std.proofs.Common.{◌≡◌, ◌≤◌}
 use Rattle.std.specs.Bool.{OnTrue}
-use Rattle.sarif_gather.specs.Collecting.{all_after}
-use Rattle.sarif_gather.specs.Ends.{IsDeskOf, taken_by}
-use Rattle.sarif_gather.specs.Pieces.{carried, ends_in, parcels_in}
+use Rattle.sarif_collect.specs.Collecting.{all_after}
+use Rattle.sarif_dispatch.specs.Ends.{IsDeskOf, taken_by}
+use Rattle.sarif_collect.specs.Pieces.{carried, ends_in, parcels_in}
 use Rattle.sarif_gather.proofs.gathering.receiving.receive.Given as goal
 
 abbrev pub invariant-loop : goal.invariant-loop

@@ -1,8 +1,8 @@
 use Rattle.std.proofs.Common.{◌∷◌, ◌++◌, [], ap, ◌∙◌}
-use Rattle.sarif_gather.specs.declared.piece.Piece.TheVariants.{Item}
-use Rattle.sarif_gather.specs.declared.piece.Parcel.TheVariants.{Carry}
-use Rattle.sarif_gather.specs.Ends.{sent_by}
-use Rattle.sarif_gather.proofs.Parcels.{one_more}
+use Rattle.sarif_collect.specs.declared.piece.Piece.TheVariants.{Item}
+use Rattle.sarif_collect.specs.declared.piece.Parcel.TheVariants.{Carry}
+use Rattle.sarif_dispatch.specs.Ends.{sent_by}
+use Rattle.sarif_collect.proofs.Parcels.{one_more}
 use Rattle.sarif_gather.proofs.gathering.worker.send_run.Goals as goal
 
 pub loop-seq-preserved : goal.loop-seq-preserved

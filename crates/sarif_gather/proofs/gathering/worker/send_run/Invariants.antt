@@ -1,8 +1,8 @@
 use Rattle.std.proofs.Common.{◌≡◌, ◌++◌, map}
 use Rattle.std.specs.List.{range_with_len}
-use Rattle.sarif_gather.specs.declared.piece.Piece.TheVariants.{Item}
-use Rattle.sarif_gather.specs.declared.piece.Parcel.TheVariants.{Carry}
-use Rattle.sarif_gather.specs.Ends.{IsPostOf, number_of, sent_by}
+use Rattle.sarif_collect.specs.declared.piece.Piece.TheVariants.{Item}
+use Rattle.sarif_collect.specs.declared.piece.Parcel.TheVariants.{Carry}
+use Rattle.sarif_dispatch.specs.Ends.{IsPostOf, number_of, sent_by}
 use Rattle.sarif_gather.proofs.gathering.worker.send_run.Given as goal
 
 abbrev pub invariant-loop-seq : goal.invariant-loop-seq

@@ -1,8 +1,8 @@
 use Rattle.std.proofs.Common.{◌≡◌, map}
-use Rattle.sarif_gather.specs.declared.piece.Parcel.TheVariants.{Carry}
-use Rattle.sarif_gather.specs.Ends.{IsPostOf, number_of, sent_by}
-use Rattle.sarif_gather.specs.Hands.{IsHandOf, drawn_by}
-use Rattle.sarif_gather.specs.Pieces.{pieces_of_runs}
+use Rattle.sarif_collect.specs.declared.piece.Parcel.TheVariants.{Carry}
+use Rattle.sarif_dispatch.specs.Ends.{IsPostOf, number_of, sent_by}
+use Rattle.sarif_dispatch.specs.Hands.{IsHandOf, drawn_by}
+use Rattle.sarif_collect.specs.Pieces.{pieces_of_runs}
 use Rattle.sarif_gather.proofs.gathering.worker.send_runs.Given as goal
 
 abbrev pub invariant-loop : goal.invariant-loop

@@ -2,7 +2,7 @@ use Rattle.std.proofs.Common.{◌<◌, ◌≤◌, ◌+◌, ◌^◌, arith}
 use Rattle.sarif_runs.proofs.AllSpots.{product_fits}
 use Rattle.sarif_judge.proofs.judging.JudgingWork.make.Goals as goal
 use Rattle.sarif_model.specs.Limits.{most_results}
-use Rattle.sarif_gather.specs.Limits.{most_runs}
+use Rattle.sarif_dispatch.specs.Limits.{most_runs}
 
 pub overflow_mul-start : goal.overflow_mul-start
 overflow_mul-start c =

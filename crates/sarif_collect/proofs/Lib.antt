@@ -1,0 +1,11 @@
+pub mod AllRuns
+pub mod Arrivals
+pub mod Arrived
+pub mod Bodies
+pub mod Honesty
+pub mod Lawfulness
+pub mod Numbering
+pub mod Parcels
+pub mod RunByRun
+pub mod Runs
+pub mod Wholes

@@ -1,0 +1,10 @@
+pub mod Arriving
+pub mod Collecting
+pub mod Held
+pub mod Honest
+pub mod Lawful
+pub mod Laws
+pub mod Numbers
+pub mod Piece
+pub mod Pieces
+pub mod Slot

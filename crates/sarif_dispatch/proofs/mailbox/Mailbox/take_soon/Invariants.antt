@@ -1,0 +1,6 @@
+use Rattle.std.proofs.Common.{◌≡◌}
+use Rattle.sarif_dispatch.specs.Ends.{IsDeskOf, taken_by}
+use Rattle.sarif_dispatch.proofs.mailbox.Mailbox.take_soon.Given as goal
+
+abbrev pub invariant-loop : goal.invariant-loop
+invariant-loop g l = IsDeskOf l.self l.desk × (taken_by l.desk ≡ taken_by l.fn.desk)

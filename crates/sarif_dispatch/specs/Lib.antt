@@ -1,0 +1,6 @@
+pub mod Claims
+pub mod Delivery
+pub mod Ends
+pub mod Hands
+pub mod Limits
+pub mod Senders

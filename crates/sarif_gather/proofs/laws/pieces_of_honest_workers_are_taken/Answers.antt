@@ -1,5 +1,0 @@
-use Rattle.sarif_gather.proofs.Honesty.{taken}
-use Rattle.sarif_gather.proofs.laws.pieces_of_honest_workers_are_taken.Goals as goal
-
-pub returns : goal.returns
-returns g c = λ count item end runs shares arrived honest. taken count item end runs shares arrived honest

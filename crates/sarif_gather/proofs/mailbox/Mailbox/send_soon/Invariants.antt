@@ -1,6 +1,0 @@
-use Rattle.std.proofs.Common.{◌≡◌}
-use Rattle.sarif_gather.specs.Ends.{IsPostOf, number_of, sent_by}
-use Rattle.sarif_gather.proofs.mailbox.Mailbox.send_soon.Given as goal
-
-abbrev pub invariant-loop : goal.invariant-loop
-invariant-loop g l = IsPostOf l.self l.post × (number_of l.post ≡ number_of l.fn.post) × (sent_by l.post ≡ sent_by l.fn.post) × (l.parcel ≡ l.fn.parcel)

@@ -1,5 +1,0 @@
-use Rattle.sarif_gather.proofs.Deliveries.{takes}
-use Rattle.sarif_gather.proofs.mailbox.Mailbox.take_one.Goals as goal
-
-pub pop_as-taken-requires-clause-rule : goal.pop_as-taken-requires-clause-rule
-pop_as-taken-requires-clause-rule g c = takes _ _ _ _ _ c.args.desk.now.own

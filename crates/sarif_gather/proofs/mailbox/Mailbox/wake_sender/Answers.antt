@@ -1,5 +1,0 @@
-use Rattle.sarif_gather.proofs.Deliveries.{takes}
-use Rattle.sarif_gather.proofs.mailbox.Mailbox.wake_sender.Goals as goal
-
-pub len_as-waiting-requires-clause-rule : goal.len_as-waiting-requires-clause-rule
-len_as-waiting-requires-clause-rule g c = (takes _ _ _ _ _ c.args.desk.now.own).1
