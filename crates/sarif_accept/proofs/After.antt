@@ -5,21 +5,23 @@ use Rattle.std.specs.List.{list_any, list_all}
 use Rattle.std.proofs.lemmas.List.{map-append}
 use Rattle.std.proofs.lemmas.List.Elements.{filter-append}
 use Rattle.std.proofs.lemmas.List.Folds.{list_all-append, list_any-append, list_any_at}
+use Rattle.std.proofs.lemmas.Bool.{or_right, or_left, and_parts}
 use Rattle.serde_json.specs.Data.{Data}
 use Rattle.sarif_model.specs.declared.kinds.State.{State}
 use Rattle.sarif_model.specs.declared.kinds.Status.{Status}
 use Rattle.sarif_model.specs.declared.record.Record.{Record}
+use Rattle.sarif_model.specs.Status.{is_accepted}
 use Rattle.sarif_entries.specs.declared.entry.Entry.{Entry}
 use Rattle.sarif_entries.specs.File.{File}
 use Rattle.sarif_entries.specs.Matching.{is_empty, matches, is_expired, hold}
-use Rattle.sarif_suppress.specs.Suppressing.{matching, is_accepted, statuses_suppress, statuses_of, is_suppressed, is_unused}
+use Rattle.sarif_suppress.specs.Suppressing.{matching, statuses_suppress, statuses_of, is_suppressed, is_unused}
 use Rattle.sarif_entries.specs.Object.{is_object_of, object_of}
 use Rattle.sarif_suppress.specs.Written.{with_object, with_objects, suppressions_of}
+use Rattle.sarif_suppress.proofs.Numbered.{is_empty-append}
 use Rattle.sarif_accept.specs.Entry.{conditions_for}
 use Rattle.sarif_accept.specs.Keeping.{Heard, is_kept}
 use Rattle.sarif_accept.specs.Adding.{How, Counts, is_hit, stays, is_said, once_each, entry_read, accepted_among, added_for, file_after}
 use Rattle.sarif_accept.specs.Until.{IsUntil}
-use Rattle.sarif_accept.proofs.Rows.{and_both}
 use Rattle.sarif_accept.proofs.EntryMatches.{matches_is}
 use Rattle.sarif_accept.proofs.SameConditions.{same_conditions-Decides}
 
@@ -34,18 +36,6 @@ said_matches today reason until r (x ∷ xs) is said =
       | true ↦ λ same _. rw ((same_conditions-Decides (conditions_for x) (conditions_for r)).0 same, matches_is r reason today until is) refl
       | false ↦ λ _ more. or_right _ _ (said_matches today reason until r xs is more)
     ] refl said
-  where
-    or_right : (a b : Bool) → b ≡ true → (a || b) ≡ true
-    or_right true b e = refl
-    or_right false b e = e
-
-or_left : (a b : Bool) → a ≡ true → (a || b) ≡ true
-or_left true b e = refl
-or_left false b e = absurd (true≢false (sym e))
-
-or_second : (a b : Bool) → b ≡ true → (a || b) ≡ true
-or_second true b e = refl
-or_second false b e = e
 
 -- a record that is among the earlier ones is still found
 found_before : (q : Record → Bool) (before rs : List Record) → list_any q before ≡ true → list_any q (before ++ once_each before rs) ≡ true
@@ -60,7 +50,7 @@ once_said before [] r i within is = absurd (omega arith)
 once_said before (x ∷ xs) r zero within is =
     elim (list_any (is_said x) before) as (λ b. list_any (is_said x) before ≡ b → list_any (is_said r) (before ++ (if b then once_each before xs else x ∷ once_each (before ++ x ∷ []) xs)) ≡ true) [
       | true ↦ λ there. found_before (is_said r) before xs (rw (← is) there)
-      | false ↦ λ _. list_any-append (is_said r) before (x ∷ once_each (before ++ x ∷ []) xs) ∙ or_second (list_any (is_said r) before) _ (or_left (is_said r x) _ (ap (is_said r) is ∙ said_itself r))
+      | false ↦ λ _. list_any-append (is_said r) before (x ∷ once_each (before ++ x ∷ []) xs) ∙ or_right (list_any (is_said r) before) _ (or_left (is_said r x) _ (ap (is_said r) is ∙ said_itself r))
     ] refl
 once_said before (x ∷ xs) r (suc i) within is =
     elim (list_any (is_said x) before) as (λ b. list_any (is_said x) before ≡ b → list_any (is_said r) (before ++ (if b then once_each before xs else x ∷ once_each (before ++ x ∷ []) xs)) ≡ true) [
@@ -88,7 +78,7 @@ among_accepted counts file (x ∷ xs) (s ∷ ss) r state (suc i) within inside i
 keeps_matching : (prune : Bool) (heard : Heard) (file : File) (rs : List Record) (r : Record) (i : ℕ) → i < length rs → get_or rs i r ≡ r
     → (e : Entry) → matches file.today e r ≡ true → is_kept prune heard file rs e ≡ true
 keeps_matching prune heard file rs r i within is e fits =
-    let unexpired = and_both (not (is_expired file.today e)) (hold e.conditions r) fits in
+    let unexpired = and_parts (not (is_expired file.today e)) (hold e.conditions r) fits in
     let used : list_any (λ x. matches file.today e x) rs ≡ true = list_any_at (λ x. matches file.today e x) rs i r within (rw is fits) in
     ap (λ b. not (prune && (is_expired file.today e || (not b && heard e.conditions.tool)))) used ∙ by_tests prune (is_expired file.today e) unexpired.0
   where
@@ -124,10 +114,6 @@ made_accepted test reason until (x ∷ xs) = elim (test (entry_read x reason unt
 none_made : (test : Entry → Bool) (es : List Entry) → is_empty (map (λ e. e.status) (filter test es)) ≡ not (list_any test es)
 none_made test [] = refl
 none_made test (e ∷ es) = elim (test e) as (λ b. is_empty (map (λ e. e.status) (if b then e ∷ filter test es else filter test es)) ≡ not (b || list_any test es)) [ true ↦ refl | false ↦ none_made test es ]
-
-is_empty-append : {A : Type 0} (xs ys : List A) → is_empty (xs ++ ys) ≡ (is_empty xs && is_empty ys)
-is_empty-append [] ys = refl
-is_empty-append (x ∷ xs) ys = refl
 
 -- with more statuses that are all accepted
 with_accepted : (old new : List Status) → list_all is_accepted new ≡ true → statuses_suppress (old ++ new) ≡ (statuses_suppress old || (list_all is_accepted old && not (is_empty new)))

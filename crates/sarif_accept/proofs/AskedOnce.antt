@@ -22,7 +22,7 @@ same_text (Some a) (Some b) = refl
 same_said : (a b : Asked) → same_asked a b ≡ same_conditions (conditions_in a) (conditions_in b)
 same_said a b = rw (same_text a.uri b.uri, same_text a.message b.message, same_text a.message_id b.message_id) refl
 
-either : (a b : Bool) → cond a true b ≡ (b || (a || false))
+pub either : (a b : Bool) → cond a true b ≡ (b || (a || false))
 either true true = refl
 either true false = refl
 either false true = refl

@@ -1,10 +1,10 @@
 -- The entry that is made for a result matches it until its expiry date.
-use Rattle.std.proofs.Common.{◌≡◌, ℕ, ◌≤◌, Bool, true, false, ◌||◌, List, [], ◌∷◌, Option, Some, None, bytes_eq, refl, sym, ap, ◌∙◌, arith, Ordering, Less, Equal, Greater, is_eq, nat_cmp}
+use Rattle.std.proofs.Common.{◌≡◌, ℕ, ◌≤◌, true, false, List, [], ◌∷◌, Option, Some, None, bytes_eq, refl, sym, ap, ◌∙◌, arith, Ordering, Less, Equal, Greater, is_eq, nat_cmp}
 use Rattle.std.specs.Prelude.{nat_eq, nat_lt}
 use Rattle.std.specs.List.{list_any}
 use Rattle.std.specs.Cmp.Lexicographic.{slice_cmp}
 use Rattle.std.specs.Ordering.{match_ordering}
-use Rattle.std.proofs.lemmas.Bool.{and_from}
+use Rattle.std.proofs.lemmas.Bool.{and_from, or_right, and_parts}
 use Rattle.std.proofs.lemmas.Bool.Decides.{nat_tests}
 use Rattle.std.proofs.lemmas.Map.Text.{is_eq-slice_cmp}
 use Rattle.std.proofs.lemmas.Slice.Eq.{bytes_eq-Decides, slice_eq-Decides}
@@ -16,7 +16,6 @@ use Rattle.sarif_entries.specs.Matching.{is_there, are_wanted, is_pair, are_amon
 use Rattle.sarif_accept.specs.Entry.{asked_of, texts_into, texts_put}
 use Rattle.sarif_accept.specs.Adding.{as_read, entry_read}
 use Rattle.sarif_accept.specs.Until.{IsUntil}
-use Rattle.sarif_accept.proofs.Rows.{and_both}
 
 same_text : (text : List ℕ) → bytes_eq text text ≡ true
 same_text text = (bytes_eq-Decides text text).1 refl
@@ -32,24 +31,19 @@ wanted_itself (t ∷ ts) = (slice_eq-Decides bytes_eq-Decides (t ∷ ts) (t ∷ 
 more_among : (q : List ℕ × List ℕ) (ps among : List (List ℕ × List ℕ)) → are_among ps among ≡ true → are_among ps (q ∷ among) ≡ true
 more_among q [] among all = refl
 more_among q (p ∷ ps) among all =
-    let both = and_both (list_any (λ x. is_pair x p) among) (are_among ps among) all in
+    let both = and_parts (list_any (λ x. is_pair x p) among) (are_among ps among) all in
     and_from _ _ (or_right (is_pair q p) _ both.0) (more_among q ps among both.1)
-  where
-    or_right : (a b : Bool) → b ≡ true → (a || b) ≡ true
-    or_right true b e = refl
-    or_right false b e = e
-
 itself_among : (ps : List (List ℕ × List ℕ)) → are_among ps ps ≡ true
 itself_among [] = refl
 itself_among (p ∷ ps) = and_from _ _ (rw (same_text p.0, same_text p.1) refl) (more_among p ps ps (itself_among ps))
 
 rest_among : (name : List ℕ) (o : Option (List ℕ)) (ps among : List (List ℕ × List ℕ)) → are_among (with_pair name o ps) among ≡ true → are_among ps among ≡ true
 rest_among name None ps among all = all
-rest_among name (Some text) ps among all = (and_both _ (are_among ps among) all).1
+rest_among name (Some text) ps among all = (and_parts _ (are_among ps among) all).1
 
 change_among : (name : List ℕ) (o : Option (List ℕ)) (ps qs among : List (List ℕ × List ℕ)) → are_among (with_pair name o ps) among ≡ true → are_among qs among ≡ true → are_among (with_pair name o qs) among ≡ true
 change_among name None ps qs among all new = new
-change_among name (Some text) ps qs among all new = and_from _ _ (and_both _ (are_among ps among) all).0 new
+change_among name (Some text) ps qs among all new = and_from _ _ (and_parts _ (are_among ps among) all).0 new
 
 put_among_on : (o : Ordering) (k v l : List ℕ) (e : Data) (ms : Members) (among : List (List ℕ × List ℕ)) → list_any (λ x. is_pair x (k, v)) among ≡ true
     → slice_cmp nat_cmp k l ≡ o → are_among (pairs_of (member l e ms)) among ≡ true → are_among (pairs_of (put k (string v) ms)) among ≡ true
@@ -68,7 +62,7 @@ put_among k v (member l e ms) among here all = put_among_on (slice_cmp nat_cmp k
 into_among : (ms : Members) (ps among : List (List ℕ × List ℕ)) → are_among (pairs_of ms) among ≡ true → are_among ps among ≡ true → are_among (pairs_of (texts_into ms ps)) among ≡ true
 into_among ms [] among before all = before
 into_among ms (p ∷ ps) among before all =
-    let both = and_both (list_any (λ x. is_pair x p) among) (are_among ps among) all in
+    let both = and_parts (list_any (λ x. is_pair x p) among) (are_among ps among) all in
     into_among (put p.0 (string p.1) ms) ps among (put_among p.0 p.1 ms among both.0 before) both.1
 
 texts_among : (ps among : List (List ℕ × List ℕ)) → are_among ps among ≡ true → are_among (pairs_of (texts_put ps)) among ≡ true

@@ -3,7 +3,7 @@ use Rattle.std.proofs.Common.{◌≡◌, ℕ, ◌<◌, ◌^◌, true, ◌&&◌, 
 use Rattle.std.specs.Prelude.{Ok, option_and_then, IfSome, is_none, is_some}
 use Rattle.std.specs.Cmp.Lexicographic.{slice_cmp}
 use Rattle.std.specs.Ordering.{match_ordering}
-use Rattle.std.proofs.lemmas.Bool.{and_from}
+use Rattle.std.proofs.lemmas.Bool.{and_from, and_parts}
 use Rattle.serde_json.specs.Data.{Data, number, unsigned, string, object, Members, no_members, member, put}
 use Rattle.serde_json.specs.Find.{get_member, as_str, as_array}
 use Rattle.sarif_model.proofs.Elements.{items_back}
@@ -22,7 +22,7 @@ use Rattle.sarif_model.specs.Guid.{guid_text}
 use Rattle.sarif_accept.specs.Entry.{asked_of, texts_into, texts_put, texts_if_any, conditions_for, members_from, entry_rows, entry_for}
 use Rattle.sarif_accept.specs.Adding.{as_read, entry_read}
 use Rattle.sarif_accept.specs.Until.{HasGuid, IsDated}
-use Rattle.sarif_accept.proofs.Rows.{and_both, found, get_row, text_back, known_rows}
+use Rattle.sarif_accept.proofs.Rows.{found, get_row, text_back, known_rows}
 
 -- ---- GUIDs
 
@@ -35,12 +35,12 @@ or_guid wrong (Some guid) fits = ap (or_wrong wrong) (guid_back guid fits)
 texts_put_on : (o : Ordering) (k l : List ℕ) (v : List ℕ) (e : Data) (ms : Members) → are_texts (member l e ms) ≡ true → are_texts (put k (string v) ms) ≡ true
     → are_texts (match_ordering o (member k (string v) (member l e ms)) (member l (string v) ms) (member l e (put k (string v) ms))) ≡ true
 texts_put_on Less k l v e ms all later = all
-texts_put_on Equal k l v e ms all later = (and_both _ (are_texts ms) all).1
-texts_put_on Greater k l v e ms all later = and_from _ _ (and_both _ (are_texts ms) all).0 later
+texts_put_on Equal k l v e ms all later = (and_parts _ (are_texts ms) all).1
+texts_put_on Greater k l v e ms all later = and_from _ _ (and_parts _ (are_texts ms) all).0 later
 
 put_texts : (k v : List ℕ) (ms : Members) → are_texts ms ≡ true → are_texts (put k (string v) ms) ≡ true
 put_texts k v no_members all = refl
-put_texts k v (member l e ms) all = texts_put_on (slice_cmp nat_cmp k l) k l v e ms all (put_texts k v ms (and_both _ (are_texts ms) all).1)
+put_texts k v (member l e ms) all = texts_put_on (slice_cmp nat_cmp k l) k l v e ms all (put_texts k v ms (and_parts _ (are_texts ms) all).1)
 
 into_texts : (ms : Members) (ps : List (List ℕ × List ℕ)) → are_texts ms ≡ true → are_texts (texts_into ms ps) ≡ true
 into_texts ms [] all = all

@@ -6,6 +6,7 @@ use Rattle.std.specs.Cmp.Lexicographic.{slice_cmp}
 use Rattle.std.specs.Ordering.{match_ordering}
 use Rattle.std.proofs.lemmas.Map.Text.{is_eq-slice_cmp}
 use Rattle.std.proofs.lemmas.Slice.Eq.{bytes_eq-Decides}
+use Rattle.std.proofs.lemmas.Bool.{and_parts}
 use Rattle.serde_json.specs.Data.{Data, null, boolean, number, unsigned, negative, float, string, array, object, Items, no_items, item, Members, no_members, member}
 use Rattle.serde_json.specs.Find.{get, get_member, as_str, as_array}
 use Rattle.json_parts.specs.Internal.Ordered.{IsOrdered, AreMembersOrdered}
@@ -24,7 +25,6 @@ use Rattle.sarif_entries.specs.Entries.{is_first_member, is_second_member, has_m
 use Rattle.sarif_entries.specs.File.{entries_from}
 use Rattle.sarif_entries.specs.FileFault.{in_entry}
 use Rattle.sarif_accept.specs.NewFile.{entry_in}
-use Rattle.sarif_accept.proofs.Rows.{and_both}
 use Rattle.sarif_accept.proofs.Kept.{all_known, parts}
 
 -- if two steps together succeeded, both did
@@ -196,7 +196,7 @@ unknown_on Greater q l e found is known unknown none = none
 unknown_missing : (q : List ℕ) (ms : Members) → are_members_of Fourth ms ≡ true → has_member Fourth q ≡ false → get_member q ms ≡ None
 unknown_missing q no_members all unknown = refl
 unknown_missing q (member l e ms) all unknown =
-    let parts = and_both (has_member Fourth l) (are_members_of Fourth ms) all in
+    let parts = and_parts (has_member Fourth l) (are_members_of Fourth ms) all in
     unknown_on (slice_cmp nat_cmp q l) q l e (get_member q ms) refl parts.0 unknown (unknown_missing q ms parts.1 unknown)
 
 -- what is found under a name stays, if it does under each known one

@@ -6,9 +6,9 @@ use Rattle.serde_json.specs.Data.{Data, number, unsigned, string, array, object,
 use Rattle.serde_json.specs.View.{items_of}
 use Rattle.json_parts.proofs.Keeping.{If}
 use Rattle.sarif_entries.specs.declared.conditions.Conditions.{Conditions}
-use Rattle.sarif_model.specs.Written.{Row, list_if_any}
+use Rattle.sarif_model.specs.Written.{Row, list_if_any, with_value}
 use Rattle.sarif_model.specs.Guid.{guid_text}
-use Rattle.sarif_accept.specs.Entry.{with_value, members_from, texts_into, texts_put, texts_if_any, entry_rows}
+use Rattle.sarif_accept.specs.Entry.{members_from, texts_into, texts_put, texts_if_any, entry_rows}
 
 -- a fact about members that putting a member keeps, if its value has the other fact
 pub record IsKept (P : Data → Type 0) (Q : Members → Type 0) : Type 0 where

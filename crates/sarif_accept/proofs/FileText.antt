@@ -32,7 +32,7 @@ begins_brace (json.string s) ms is = let never : ⊥ = cc in absurd never
 begins_brace (json.array js) ms is = let never : ⊥ = cc in absurd never
 begins_brace (json.object js) ms is = (_, refl)
 
-without_brace : (rest : List ℕ) → without_mark (123 ∷ rest) ≡ 123 ∷ rest
+pub without_brace : (rest : List ℕ) → without_mark (123 ∷ rest) ≡ 123 ∷ rest
 without_brace rest = refl
 
 pub text_reads : (b : List ℕ) (ms : Members) → b ≡ pretty (tokens b) → IsInOrder b (object ms) → IsUtf8 b → read b ≡ Some (object ms)

@@ -15,12 +15,13 @@ use Rattle.json_parts.proofs.Order.{read_ordered}
 use Rattle.json_parts.proofs.Readings.{and_then_some}
 use Rattle.json_parts.proofs.Stripped.{get-IsOrdered}
 use Rattle.sarif_model.specs.Members.{elements}
+use Rattle.sarif_model.specs.Run.{elements_or_none}
 use Rattle.sarif_entries.specs.declared.entry.Entry.{Entry}
 use Rattle.sarif_entries.specs.declared.fault.FileFault.{FileFault}
 use Rattle.sarif_entries.specs.declared.version.Version.{Version}
 use Rattle.sarif_entries.specs.declared.version.Version.TheVariants.{First}
 use Rattle.sarif_entries.specs.File.{File, entries_from, file_of, file_of_value, value_or, check_list, list_or, check_version, check_count}
-use Rattle.sarif_accept.specs.NewFile.{file_object, entries_in, entry_in, listed}
+use Rattle.sarif_accept.specs.NewFile.{file_object, entries_in, entry_in}
 use Rattle.sarif_accept.specs.Given.{file_given}
 use Rattle.sarif_accept.proofs.EntryWhole.{both, entries_whole}
 
@@ -38,7 +39,7 @@ elements_ordered : (ds : Items) → AreItemsOrdered ds → AllByRecursion IsOrde
 elements_ordered no_items are = tt
 elements_ordered (item d ds) are = (are.0, elements_ordered ds are.1)
 
-list_ordered : (o : Option Data) → ((d : Data) → o ≡ Some d → IsOrdered d) → AllByRecursion IsOrdered (listed (option_and_then as_array o))
+list_ordered : (o : Option Data) → ((d : Data) → o ≡ Some d → IsOrdered d) → AllByRecursion IsOrdered (elements_or_none (option_and_then as_array o))
 list_ordered None is = tt
 list_ordered (Some null) is = tt
 list_ordered (Some (boolean b)) is = tt
@@ -48,7 +49,7 @@ list_ordered (Some (array ds)) is = elements_ordered ds (is (array ds) refl)
 list_ordered (Some (object ms)) is = tt
 
 -- the list that is checked is the one that is read
-checked_list : (o : Option Items) (ds : List Data) → list_or o ≡ Ok ds → listed o ≡ ds
+pub checked_list : (o : Option Items) (ds : List Data) → list_or o ≡ Ok ds → elements_or_none o ≡ ds
 checked_list None ds is = let never : ⊥ = cc in absurd never
 checked_list (Some items) ds is = cc
 
@@ -70,7 +71,7 @@ read_of_value d today file ordered is =
     let s2 = both (check_version d) _ file s1.second in
     let s3 = both (check_count s1.value) _ file s2.second in
     let s4 = both (entries_from s2.value today 0 s1.value) _ file s3.second in
-    let same : listed (option_and_then as_array (get (codes "suppressions") d)) ≡ s1.value = checked_list _ s1.value s1.first in
+    let same : elements_or_none (option_and_then as_array (get (codes "suppressions") d)) ≡ s1.value = checked_list _ s1.value s1.first in
     let whole : map entry_in s1.value ≡ s1.value =
     entries_whole s2.value today 0 s1.value s4.value (rw (← same) (list_ordered (get (codes "suppressions") d) (λ e. get-IsOrdered (codes "suppressions") d e ordered))) s4.first in
     let entries_are : entries_in d ≡ s1.value = ap (map entry_in) same ∙ whole in

@@ -4,17 +4,17 @@ use Rattle.std.specs.Prelude.{IfSome, slice_index}
 use Rattle.std.specs.Int.{w128, from_be_bytes}
 use Rattle.std.specs.List.{list_all}
 use Rattle.std.proofs.lemmas.Bool.Decides.{nat_tests}
+use Rattle.std.proofs.lemmas.Bool.{and_parts}
 use Rattle.uuid.specs.Text.{parsed, parsed_simple, parsed_hyphenated, parsed_braced, parsed_urn, byte_of_digits, value_of, is_hex_digit, by_index, digits_of, has_urn_prefix, open_brace, close_brace}
 use Rattle.sarif_model.specs.Guid.{guid_of_text}
-use Rattle.sarif_accept.proofs.Rows.{and_both}
 
 small_value : (c : ℕ) → is_hex_digit c ≡ true → value_of c < 16
 small_value c is = grind (arith, nat_tests)
 
 at_digit : (hex : List ℕ) (k : ℕ) → list_all is_hex_digit hex ≡ true → k < length hex → value_of (slice_index hex k) < 16
 at_digit [] k all within = absurd (omega arith)
-at_digit (x ∷ xs) zero all within = small_value x (and_both (is_hex_digit x) (list_all is_hex_digit xs) all).0
-at_digit (x ∷ xs) (suc k) all within = at_digit xs k (and_both (is_hex_digit x) (list_all is_hex_digit xs) all).1 (omega arith)
+at_digit (x ∷ xs) zero all within = small_value x (and_parts (is_hex_digit x) (list_all is_hex_digit xs) all).0
+at_digit (x ∷ xs) (suc k) all within = at_digit xs k (and_parts (is_hex_digit x) (list_all is_hex_digit xs) all).1 (omega arith)
 
 small_byte : (hex : List ℕ) (k : ℕ) → length hex ≡ 32 → list_all is_hex_digit hex ≡ true → k < 16 → byte_of_digits hex k < 256
 small_byte hex k long all within =
@@ -45,7 +45,7 @@ either false o so = tt
 
 simple_fits : (hex : List ℕ) → FitsIfSome (parsed_simple hex)
 simple_fits hex = either ((length hex == 32) && list_all is_hex_digit hex) (Some (by_index 16 (byte_of_digits hex))) (λ is.
-    let both = and_both (length hex == 32) (list_all is_hex_digit hex) is in
+    let both = and_parts (length hex == 32) (list_all is_hex_digit hex) is in
     small_number hex (grind (arith, nat_tests)) both.1)
 
 hyphenated_fits : (s : List ℕ) → FitsIfSome (parsed_hyphenated s)

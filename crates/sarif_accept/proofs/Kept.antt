@@ -1,7 +1,7 @@
 -- Entries of a file of an earlier version are the same in version 4.
 use Rattle.std.proofs.Common.{◌≡◌, ℕ, ◌+◌, Bool, true, false, ◌&&◌, ◌||◌, not, List, [], ◌∷◌, ◌++◌, map, Option, Some, None, codes, refl, sym, ◌∙◌, if◌then◌else◌, true≢false}
 use Rattle.std.specs.Prelude.{⊤, Result, Ok, Err, filter, option_and_then}
-use Rattle.std.proofs.lemmas.Bool.{and_from}
+use Rattle.std.proofs.lemmas.Bool.{and_from, and_parts}
 use Rattle.serde_json.specs.Data.{Data, Items, Members, no_members, member}
 use Rattle.serde_json.specs.Find.{as_object, as_str, as_number, as_u64, as_array}
 use Rattle.std.specs.Prelude.{is_some, is_none}
@@ -25,7 +25,6 @@ use Rattle.sarif_accept.specs.Adding.{entry_read}
 use Rattle.sarif_accept.specs.Keeping.{chosen}
 use Rattle.sarif_accept.specs.Until.{HasGuid, IsDated}
 use Rattle.sarif_accept.proofs.EntryRead.{entry_is}
-use Rattle.sarif_accept.proofs.Rows.{and_both}
 
 -- ---- members
 
@@ -41,7 +40,7 @@ known_by_fourth Fourth name is = is
 pub all_known : (version : Version) (ms : Members) → are_members_of version ms ≡ true → are_members_of Fourth ms ≡ true
 all_known version no_members is = refl
 all_known version (member name d ms) is =
-    let both = and_both (has_member version name) (are_members_of version ms) is in
+    let both = and_parts (has_member version name) (are_members_of version ms) is in
     and_from _ _ (known_by_fourth version name both.0) (all_known version ms both.1)
 
 -- ---- if there is no error, it makes no difference which error would be returned

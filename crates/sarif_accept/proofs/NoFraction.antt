@@ -10,9 +10,10 @@ use Rattle.json_parts.specs.Without.{without_member}
 use Rattle.json_parts.proofs.Keeping.{If, put_whole}
 use Rattle.sarif_read.proofs.NoFraction.{no_fraction_members}
 use Rattle.sarif_model.specs.declared.record.Record.{Record}
+use Rattle.sarif_model.specs.Run.{elements_or_none}
 use Rattle.sarif_accept.specs.Entry.{members_from, entry_rows, entry_for, conditions_for}
 use Rattle.sarif_accept.specs.Keeping.{chosen}
-use Rattle.sarif_accept.specs.NewFile.{stripped_in, entry_in, listed, entries_in, others_in, entries_after, new_file}
+use Rattle.sarif_accept.specs.NewFile.{stripped_in, entry_in, entries_in, others_in, entries_after, new_file}
 use Rattle.sarif_accept.proofs.EveryRow.{IsKept, IsOfEach, entry_keeps, texts_keep}
 
 -- ---- what is stripped
@@ -75,5 +76,5 @@ pub new_whole : (d : Data) (kept : List Bool) (rs : List Record) (reason : Optio
     → has_float (new_file d kept (map (λ r. entry_for r reason until) rs)) ≡ false
 new_whole d kept rs reason until =
     put_whole (codes "suppressions") (array (items_of (entries_after d kept (map (λ r. entry_for r reason until) rs)))) (put (codes "version") (number (unsigned 4)) (others_in d))
-    (both_whole (chosen kept (entries_in d)) (map (λ r. entry_for r reason until) rs) (chosen_whole kept (entries_in d) (objects_whole (listed (option_and_then as_array (get (codes "suppressions") d))))) (made_whole rs reason until))
+    (both_whole (chosen kept (entries_in d)) (map (λ r. entry_for r reason until) rs) (chosen_whole kept (entries_in d) (objects_whole (elements_or_none (option_and_then as_array (get (codes "suppressions") d))))) (made_whole rs reason until))
     (put_whole (codes "version") (number (unsigned 4)) (others_in d) refl (in_whole (without_member (codes "suppressions") d)))

@@ -2,8 +2,8 @@
 use Rattle.std.proofs.Common.{◌≡◌, ℕ, List, [], ◌∷◌, length, map, Some, refl, sym, ap, ◌∙◌, arith}
 use Rattle.serde_json.specs.Data.{Data, string, array, object, Members, put}
 use Rattle.serde_json.specs.View.{items_of}
-use Rattle.sarif_model.specs.Written.{list_if_any}
-use Rattle.sarif_accept.specs.Entry.{with_value, texts_put, texts_if_any}
+use Rattle.sarif_model.specs.Written.{list_if_any, with_value}
+use Rattle.sarif_accept.specs.Entry.{texts_put, texts_if_any}
 
 any_pairs : (ps : List (List ℕ × List ℕ)) → (length ps ≡ 0 → ⊥) → texts_if_any ps ≡ Some (object (texts_put ps))
 any_pairs [] some = absurd (some refl)

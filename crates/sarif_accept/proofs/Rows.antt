@@ -3,7 +3,7 @@ use Rattle.std.proofs.Common.{◌≡◌, ℕ, Bool, true, false, ◌&&◌, not, 
 use Rattle.std.specs.Prelude.{Ok, option_and_then}
 use Rattle.std.specs.Cmp.Lexicographic.{slice_cmp}
 use Rattle.std.specs.Ordering.{match_ordering}
-use Rattle.std.proofs.lemmas.Bool.{and_from}
+use Rattle.std.proofs.lemmas.Bool.{and_from, and_parts}
 use Rattle.std.proofs.lemmas.Slice.Eq.{bytes_eq-Decides}
 use Rattle.serde_json.specs.Data.{Data, Members, no_members, member, string, put}
 use Rattle.serde_json.specs.Find.{get_member, as_str}
@@ -28,11 +28,6 @@ abbrev pub are_apart : List Row → Bool
 are_apart [] = true
 are_apart (row ∷ rows) = lacks row.0 rows && are_apart rows
 
-pub and_both : (a b : Bool) → (a && b) ≡ true → (a ≡ true) × (b ≡ true)
-and_both true true e = (refl, refl)
-and_both true false e = absurd (true≢false (sym e))
-and_both false b e = absurd (true≢false (sym e))
-
 -- a member that was set is found, and no other changes
 pub at_put : (q k : List ℕ) (d : Data) (ms : Members) → get_member q (put k d ms) ≡ (if bytes_eq q k then Some d else get_member q ms)
 at_put q k d ms =
@@ -44,9 +39,9 @@ at_put q k d ms =
 -- a name that no row has isn't found among its members
 missing : (q : List ℕ) (rows : List Row) → lacks q rows ≡ true → get_member q (members_from rows) ≡ None
 missing q [] e = refl
-missing q ((k, None) ∷ rows) e = missing q rows (and_both (not (bytes_eq q k)) (lacks q rows) e).1
+missing q ((k, None) ∷ rows) e = missing q rows (and_parts (not (bytes_eq q k)) (lacks q rows) e).1
 missing q ((k, Some d) ∷ rows) e =
-    let both = and_both (not (bytes_eq q k)) (lacks q rows) e in
+    let both = and_parts (not (bytes_eq q k)) (lacks q rows) e in
     at_put q k d (members_from rows) ∙ no_row d (get_member q (members_from rows)) (bytes_eq q k) both.0 (missing q rows both.1)
   where
     no_row : (d : Data) (o : Option Data) (b : Bool) → not b ≡ true → o ≡ None → (if b then Some d else o) ≡ None
@@ -61,10 +56,10 @@ here_none q k o f same is =
 pub get_row : (q : List ℕ) (rows : List Row) → are_apart rows ≡ true → get_member q (members_from rows) ≡ found q rows
 get_row q [] e = refl
 get_row q ((k, None) ∷ rows) e =
-    let both = and_both (lacks k rows) (are_apart rows) e in
+    let both = and_parts (lacks k rows) (are_apart rows) e in
     here_none q k (get_member q (members_from rows)) (found q rows) (λ same. rw ((bytes_eq-Decides q k).0 same) (missing k rows both.0)) (get_row q rows both.1)
 get_row q ((k, Some d) ∷ rows) e =
-    let both = and_both (lacks k rows) (are_apart rows) e in
+    let both = and_parts (lacks k rows) (are_apart rows) e in
     at_put q k d (members_from rows) ∙ ap (λ o. if bytes_eq q k then Some d else o) (get_row q rows both.1)
 
 -- a string is read as itself
@@ -82,17 +77,17 @@ put_on : (o : Ordering) (version : Version) (k l : List ℕ) (d e : Data) (ms : 
     → are_members_of version (put k d ms) ≡ true
     → are_members_of version (match_ordering o (member k d (member l e ms)) (member l d ms) (member l e (put k d ms))) ≡ true
 put_on Less version k l d e ms is has all later = and_from _ _ has all
-put_on Equal version k l d e ms is has all later = and_from _ _ (and_both (has_member version l) (are_members_of version ms) all).0 (and_both (has_member version l) (are_members_of version ms) all).1
-put_on Greater version k l d e ms is has all later = and_from _ _ (and_both (has_member version l) (are_members_of version ms) all).0 later
+put_on Equal version k l d e ms is has all later = and_from _ _ (and_parts (has_member version l) (are_members_of version ms) all).0 (and_parts (has_member version l) (are_members_of version ms) all).1
+put_on Greater version k l d e ms is has all later = and_from _ _ (and_parts (has_member version l) (are_members_of version ms) all).0 later
 
 put_known : (version : Version) (k : List ℕ) (d : Data) (ms : Members) → has_member version k ≡ true → are_members_of version ms ≡ true → are_members_of version (put k d ms) ≡ true
 put_known version k d no_members has all = and_from _ _ has refl
 put_known version k d (member l e ms) has all =
-    put_on (slice_cmp nat_cmp k l) version k l d e ms refl has all (put_known version k d ms has (and_both (has_member version l) (are_members_of version ms) all).1)
+    put_on (slice_cmp nat_cmp k l) version k l d e ms refl has all (put_known version k d ms has (and_parts (has_member version l) (are_members_of version ms) all).1)
 
 pub known_rows : (version : Version) (rows : List Row) → are_known version rows ≡ true → are_members_of version (members_from rows) ≡ true
 known_rows version [] e = refl
-known_rows version ((k, None) ∷ rows) e = known_rows version rows (and_both (has_member version k) (are_known version rows) e).1
+known_rows version ((k, None) ∷ rows) e = known_rows version rows (and_parts (has_member version k) (are_known version rows) e).1
 known_rows version ((k, Some d) ∷ rows) e =
-    let both = and_both (has_member version k) (are_known version rows) e in
+    let both = and_parts (has_member version k) (are_known version rows) e in
     put_known version k d (members_from rows) both.0 (known_rows version rows both.1)

@@ -9,6 +9,8 @@ use Rattle.std.proofs.lemmas.Bool.Decides.{nat_tests, Decides-and}
 use Rattle.std.proofs.lemmas.Slice.Eq.{bytes_eq-Decides, slice_eq-Decides}
 use Rattle.sarif_entries.specs.declared.conditions.Conditions.{Conditions}
 use Rattle.sarif_entries.specs.Matching.{is_pair}
+use Rattle.sarif_entries.proofs.MessageKeys.{key-Decides}
+use Rattle.sarif_entries.proofs.Meaning.{pair_means}
 use Rattle.sarif_accept.specs.Adding.{same_conditions}
 
 option-Decides : {A : Type 0} {E : A → A → Bool} → ((a b : A) → Decides (E a b) (a ≡ b)) → (a b : Option A) → Decides (option_eq E a b) (a ≡ b)
@@ -20,16 +22,8 @@ option-Decides each (Some a) (Some b) = (λ t. ap Some ((each a b).0 t), λ e. (
 nat-Decides : (a b : ℕ) → Decides (nat_eq a b) (a ≡ b)
 nat-Decides a b = (λ t. grind (arith, nat_tests), λ e. grind (arith, nat_tests))
 
-pair-Decides : (a b : List ℕ × List ℕ) → Decides (is_pair a b) (a ≡ b)
-pair-Decides a b =
-    let both = Decides-and _ _ (bytes_eq-Decides a.0 b.0) (bytes_eq-Decides a.1 b.1) in
-    (λ t. let same = both.0 t in λ i. (same.0 i, same.1 i), λ e. both.1 (ap (λ p. p.0) e, ap (λ p. p.1) e))
-
 pairs-Decides : (a b : List (List ℕ × List ℕ)) → Decides (pointwise is_pair a b) (a ≡ b)
-pairs-Decides a b = slice_eq-Decides pair-Decides a b _ refl
-
-texts-Decides : (a b : List (List ℕ)) → Decides (pointwise bytes_eq a b) (a ≡ b)
-texts-Decides a b = slice_eq-Decides bytes_eq-Decides a b _ refl
+pairs-Decides a b = slice_eq-Decides pair_means a b _ refl
 
 text-Decides : (a b : Option (List ℕ)) → Decides (option_eq bytes_eq a b) (a ≡ b)
 text-Decides = option-Decides bytes_eq-Decides
@@ -51,7 +45,7 @@ parts-Decides a b =
     (Decides-and _ _ (pairs-Decides a.full b.full)
     (Decides-and _ _ (pairs-Decides a.partial b.partial)
     (Decides-and _ _ (text-Decides a.message b.message)
-    (Decides-and _ _ (text-Decides a.message_id b.message_id) (texts-Decides a.message_args b.message_args)))))))))
+    (Decides-and _ _ (text-Decides a.message_id b.message_id) (key-Decides a.message_args b.message_args)))))))))
 
 pub same_conditions-Decides : (a b : Conditions) → Decides (same_conditions a b) (a ≡ b)
 same_conditions-Decides a b = (

@@ -12,9 +12,10 @@ use Rattle.json_parts.specs.Without.{without, without_member}
 use Rattle.json_parts.proofs.Keeping.{If}
 use Rattle.sarif_model.specs.Members.{elements}
 use Rattle.sarif_model.specs.declared.record.Record.{Record}
+use Rattle.sarif_model.specs.Run.{elements_or_none}
 use Rattle.sarif_accept.specs.Entry.{members_from, texts_put, entry_rows, entry_for, conditions_for}
 use Rattle.sarif_accept.specs.Keeping.{chosen}
-use Rattle.sarif_accept.specs.NewFile.{stripped_in, entry_in, listed, entries_in, others_in, file_with, new_file}
+use Rattle.sarif_accept.specs.NewFile.{stripped_in, entry_in, entries_in, others_in, file_with, new_file}
 use Rattle.sarif_accept.proofs.EveryRow.{IsKept, IsOfEach, entry_keeps, texts_keep}
 
 -- ---- stripping and leaving out
@@ -127,7 +128,7 @@ get_within k (string s) n h = tt
 get_within k (array ds) n h = tt
 get_within k (object ms) n h = member_within k ms n (omega (arith, h))
 
-listed_within : (n : ℕ) (o : Option Data) → FoundWithin (suc (suc n)) o → AreWithin (suc n) (map entry_in (listed (option_and_then as_array o)))
+listed_within : (n : ℕ) (o : Option Data) → FoundWithin (suc (suc n)) o → AreWithin (suc n) (map entry_in (elements_or_none (option_and_then as_array o)))
 listed_within n None h = omega arith
 listed_within n (Some null) h = omega arith
 listed_within n (Some (boolean b)) h = omega arith

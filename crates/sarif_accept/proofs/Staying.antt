@@ -4,11 +4,12 @@ use Rattle.std.specs.Prelude.{filter}
 use Rattle.std.specs.List.{list_all}
 use Rattle.sarif_model.specs.declared.kinds.Status.{Status}
 use Rattle.sarif_model.specs.declared.record.Record.{Record}
+use Rattle.sarif_model.specs.Status.{is_accepted}
 use Rattle.sarif_entries.specs.declared.entry.Entry.{Entry}
 use Rattle.sarif_entries.specs.File.{File}
 use Rattle.sarif_entries.specs.Matching.{is_empty, matches}
 use Rattle.sarif_filing.specs.Numbers.{numbers_from}
-use Rattle.sarif_suppress.specs.Suppressing.{is_accepted, is_suppressed, statuses_suppress, statuses_of, matching, matching_numbers}
+use Rattle.sarif_suppress.specs.Suppressing.{is_suppressed, statuses_suppress, statuses_of, matching, matching_numbers}
 use Rattle.sarif_accept.specs.Adding.{stays}
 
 same_numbers : (test : Entry → Bool) (n : ℕ) (es : List Entry) → is_empty (map (λ e. e.status) (filter test es)) ≡ is_empty (numbers_from test n es)

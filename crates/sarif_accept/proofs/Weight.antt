@@ -4,6 +4,7 @@ use Rattle.std.specs.Prelude.{nat_lt}
 use Rattle.std.specs.Char.{digit_char}
 use Rattle.std.specs.Cmp.Lexicographic.{slice_cmp}
 use Rattle.std.specs.Ordering.{match_ordering}
+use Rattle.std.proofs.lemmas.Bool.{and_parts}
 use Rattle.json.specs.Token.{Token, begin_object, end_object, begin_array, end_array, key, string, number, boolean, null, bad}
 use Rattle.json.specs.Print.{escape_letter, escape_byte, escape, token_text, separator, begins}
 use Rattle.json.specs.Layout.{Last, nothing, pretty, pretty_from, piece, step, gap, depth_at, is_value}
@@ -23,7 +24,7 @@ use Rattle.sarif_accept.specs.Keeping.{chosen}
 use Rattle.sarif_accept.specs.Renewed.{renewed_entries, renewed_file}
 use Rattle.sarif_accept.specs.Internal.Weighing.{weight_if, weight_of, weights_of}
 use Rattle.sarif_accept.proofs.Flags.{left_of}
-use Rattle.sarif_accept.proofs.Rows.{and_both, are_apart, found, get_row, lacks}
+use Rattle.sarif_accept.proofs.Rows.{are_apart, found, get_row, lacks}
 
 -- ---- tokens and their text
 
@@ -53,7 +54,7 @@ one_byte x = by_tests (nat_lt 0 (escape_letter x)) (nat_lt x 32)
     by_tests false true = omega arith
     by_tests false false = omega arith
 
-escaped : (s : List ℕ) → length s ≤ length (escape s)
+pub escaped : (s : List ℕ) → length s ≤ length (escape s)
 escaped [] = omega arith
 escaped (x ∷ s) = omega (arith, one_byte x, escaped s, length-append (escape_byte x) (escape s))
 
@@ -163,7 +164,7 @@ rows_weight (row ∷ rows) = some_weight row.1 + rows_weight rows
 not_found : (q : List ℕ) (rows : List Row) → lacks q rows ≡ true → found q rows ≡ None
 not_found q [] e = refl
 not_found q (row ∷ rows) e =
-    let both = and_both (not (bytes_eq q row.0)) (lacks q rows) e in
+    let both = and_parts (not (bytes_eq q row.0)) (lacks q rows) e in
     by_test (bytes_eq q row.0) both.0 (not_found q rows both.1)
   where
     by_test : (b : Bool) → not b ≡ true → found q rows ≡ None → (if b then row.1 else found q rows) ≡ None
@@ -174,9 +175,9 @@ not_found q (row ∷ rows) e =
 rows_heavy : (rows : List Row) → are_apart rows ≡ true → rows_weight rows ≤ members_weight (members_from rows)
 unfolding rows_weight some_weight
 rows_heavy [] e = omega arith
-rows_heavy ((k, None) ∷ rows) e = omega (arith, rows_heavy rows (and_both (lacks k rows) (are_apart rows) e).1)
+rows_heavy ((k, None) ∷ rows) e = omega (arith, rows_heavy rows (and_parts (lacks k rows) (are_apart rows) e).1)
 rows_heavy ((k, Some d) ∷ rows) e =
-    let both = and_both (lacks k rows) (are_apart rows) e in
+    let both = and_parts (lacks k rows) (are_apart rows) e in
     omega (arith, rows_heavy rows both.1, put_weight k d (members_from rows) (get_row k rows both.1 ∙ not_found k rows both.0))
 
 text_weight : (o : Option (List ℕ)) → some_weight (option_map value.string o) ≡ weight_if o

@@ -6,15 +6,16 @@ use Rattle.std.specs.Option.{option_eq}
 use Rattle.sarif_model.specs.declared.kinds.State.{State}
 use Rattle.sarif_model.specs.declared.kinds.Status.TheVariants.{Accepted}
 use Rattle.sarif_model.specs.declared.record.Record.{Record}
+use Rattle.sarif_model.specs.Status.{is_accepted}
 use Rattle.sarif_counts.specs.declared.policy.Policy.{Policy}
 use Rattle.sarif_counts.specs.declared.upkeep.Renewal.{Renewal}
-use Rattle.sarif_counts.specs.Policy.{is_listed, is_at_least}
+use Rattle.sarif_counts.specs.Policy.{are_hits}
 use Rattle.sarif_entries.specs.declared.conditions.Conditions.{Conditions}
 use Rattle.sarif_entries.specs.declared.entry.Entry.{Entry}
 use Rattle.sarif_entries.specs.Entries.{pairs_of}
 use Rattle.sarif_entries.specs.File.{File}
 use Rattle.sarif_entries.specs.Matching.{is_pair}
-use Rattle.sarif_suppress.specs.Suppressing.{statuses_of, is_accepted, is_suppressed}
+use Rattle.sarif_suppress.specs.Suppressing.{statuses_of, is_suppressed}
 use Rattle.sarif_accept.specs.Entry.{texts_put, conditions_for}
 use Rattle.sarif_accept.specs.Keeping.{Heard, is_kept}
 
@@ -24,9 +25,9 @@ use Rattle.sarif_accept.specs.Keeping.{Heard, is_kept}
 abbrev pub Counts : Type 0
 Counts = Record → State → Bool
 
--- the policy's: the state is listed, and the level is at least that of the policy
+-- the policy's, by the state and the level
 abbrev pub may_hit : Policy → Counts
-may_hit policy r state = is_listed policy.states state && is_at_least policy.fail_on r.level
+may_hit policy r state = are_hits policy state r.level
 
 abbrev pub is_hit : Counts → File → Record → State → Bool
 is_hit counts file r state = counts r state && not (is_suppressed file r)

@@ -3,7 +3,7 @@
 use Rattle.std.specs.Prelude.{ℕ, List, [], ◌∷◌, map, Option, Some, None, option_map, codes}
 use Rattle.serde_json.specs.Data.{Data, number, unsigned, string, object, Members, no_members, put}
 use Rattle.sarif_model.specs.Guid.{guid_text}
-use Rattle.sarif_model.specs.Written.{Row, list_if_any}
+use Rattle.sarif_model.specs.Written.{Row, list_if_any, with_value}
 use Rattle.sarif_model.specs.declared.record.Record.{Record}
 use Rattle.sarif_entries.specs.declared.conditions.Conditions.{Conditions}
 
@@ -49,10 +49,6 @@ asked_of r None [] [] = with_message r
 
 abbrev pub conditions_for : Record → Conditions
 conditions_for r = asked_of r r.guid r.full r.partial
-
-abbrev pub with_value : List ℕ → Option Data → Members → Members
-with_value name None ms = ms
-with_value name (Some d) ms = put name d ms
 
 -- the members that have a value
 abbrev pub members_from : List Row → Members

@@ -2,7 +2,7 @@
 use Rattle.std.specs.Prelude.{ℕ, Bool, List, [], ◌∷◌, ◌++◌, map, Option, Some, None, option_and_then, unwrap_or, codes}
 use Rattle.json.specs.Layout.{pretty}
 use Rattle.json.specs.Tree.{json_tokens}
-use Rattle.serde_json.specs.Data.{Data, number, unsigned, array, object, Items, Members, no_members, put}
+use Rattle.serde_json.specs.Data.{Data, number, unsigned, array, object, Members, no_members, put}
 use Rattle.serde_json.specs.Find.{get, as_array, as_object}
 use Rattle.serde_json.specs.View.{items_of}
 use Rattle.serde_json.specs.Written.{outline}
@@ -10,7 +10,7 @@ use Rattle.json_parts.specs.Indexed.{json_of}
 use Rattle.json_parts.specs.Mark.{without_mark}
 use Rattle.json_parts.specs.Stripping.{stripped}
 use Rattle.json_parts.specs.Without.{without_member}
-use Rattle.sarif_model.specs.Members.{elements}
+use Rattle.sarif_model.specs.Run.{elements_or_none}
 use Rattle.sarif_accept.specs.Keeping.{chosen}
 
 -- the object that a suppression file is; without a file an object without members
@@ -22,17 +22,13 @@ file_object (Some bytes) = unwrap_or (json_of (without_mark bytes)) (object no_m
 abbrev pub stripped_in : Data → Members
 stripped_in d = unwrap_or (as_object (stripped d)) no_members
 
-abbrev pub listed : Option Items → List Data
-listed None = []
-listed (Some ds) = elements ds
-
 -- an entry, stripped as the members of a log are: an entry of a file without errors is unchanged
 abbrev pub entry_in : Data → Data
 entry_in d = object (stripped_in d)
 
 -- its entries, as the new file has them
 abbrev pub entries_in : Data → List Data
-entries_in d = map entry_in (listed (option_and_then as_array (get (codes "suppressions") d)))
+entries_in d = map entry_in (elements_or_none (option_and_then as_array (get (codes "suppressions") d)))
 
 -- its other members, stripped
 abbrev pub others_in : Data → Members

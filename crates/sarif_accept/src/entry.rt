@@ -4,7 +4,7 @@ ghost use Rattle.serde_json.specs.Data.{number, unsigned, string};
 ghost use Rattle.serde_json.specs.View.{view, members_view};
 ghost use Rattle.sarif_accept.specs.Internal.Asked.{conditions_in, members_but_place};
 ghost use Rattle.sarif_model.specs.Guid.{guid_text};
-ghost use Rattle.sarif_model.specs.Written.{list_if_any};
+ghost use Rattle.sarif_model.specs.Written.{list_if_any, with_value};
 ghost use Rattle.sarif_accept.specs.Entry as said;
 
 use crate::asked::{Asked, asked_of};
@@ -22,7 +22,7 @@ fn put_text(
     text: Option<&Text>,
 ) -> Result<(), AllocError>
     ensures { OnOk result (members_view members.new.entries
-        ≡ said.with_value name.now (option_map string (option_map (λ t. t.now) text.entry))
+        ≡ with_value name.now (option_map string (option_map (λ t. t.now) text.entry))
         (members_view members.old.entries)) }
 {
     if let Some(text) = text {
@@ -48,7 +48,7 @@ fn put_guid(
     guid: Option<u128>,
 ) -> Result<(), AllocError>
     ensures { OnOk result (members_view members.new.entries
-        ≡ said.with_value (codes "guid") (option_map (λ n. string (guid_text n)) guid)
+        ≡ with_value (codes "guid") (option_map (λ n. string (guid_text n)) guid)
         (members_view members.old.entries)) }
 {
     if let Some(guid) = guid {
@@ -65,7 +65,7 @@ fn put_day(
     day: Option<u32>,
 ) -> Result<(), AllocError>
     ensures { OnOk result (members_view members.new.entries
-        ≡ said.with_value (codes "expires") (option_map (λ n. number (unsigned n)) day)
+        ≡ with_value (codes "expires") (option_map (λ n. number (unsigned n)) day)
         (members_view members.old.entries)) }
 {
     if let Some(day) = day {
@@ -95,7 +95,7 @@ fn put_pairs(
     pairs: &[(Text, Text)],
 ) -> Result<(), AllocError>
     ensures { OnOk result (members_view members.new.entries
-        ≡ said.with_value name.now (said.texts_if_any pairs.now)
+        ≡ with_value name.now (said.texts_if_any pairs.now)
         (members_view members.old.entries)) }
 {
     if !pairs.is_empty() {
@@ -124,7 +124,7 @@ fn put_arguments(
     texts: &[Text],
 ) -> Result<(), AllocError>
     ensures { OnOk result (members_view members.new.entries
-        ≡ said.with_value (codes "messageArguments") (list_if_any (map string texts.now))
+        ≡ with_value (codes "messageArguments") (list_if_any (map string texts.now))
         (members_view members.old.entries)) }
 {
     if !texts.is_empty() {

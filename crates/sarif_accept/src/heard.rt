@@ -16,7 +16,7 @@ use std::marker::Model;
 pub struct ToolRun {
     /// The driver's `name`.
     pub tool: Text,
-    /// Whether the analysis failed: a run that says so, or that has no results.
+    /// Whether the analysis failed: a run that says so, or whose `results` are missing or null.
     pub failed: bool,
 }
 

@@ -7,6 +7,7 @@ ghost use Rattle.json_parts.specs.Indexed.{data_of};
 ghost use Rattle.sarif_accept.specs.Internal.Flags.{if_marked};
 ghost use Rattle.sarif_accept.specs.Keeping.{chosen};
 ghost use Rattle.sarif_accept.specs.NewFile as said;
+ghost use Rattle.sarif_model.specs.Run.{elements_or_none};
 
 use crate::marked::is_marked;
 use json::Scratch;
@@ -40,7 +41,7 @@ pub(crate) fn entry_nodes<'t, 'a>(
     file: &Node<'t, 'a>,
 ) -> Result<Vec<Node<'t, 'a>>, AllocError>
     ensures { IfOk result (λ nodes. map data_of nodes.items
-        ≡ said.listed (option_and_then as_array (get (codes "suppressions") (data_of file.now)))) }
+        ≡ elements_or_none (option_and_then as_array (get (codes "suppressions") (data_of file.now)))) }
 {
     match file.get("suppressions") {
         Some(list) => match list.items(alloc)? {

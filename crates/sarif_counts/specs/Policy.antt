@@ -1,5 +1,6 @@
 -- What the gate fails on. The gate is this project's own: SARIF has none.
-use Rattle.std.specs.Prelude.{ℕ, ◌+◌, List, Bool, true, false, codes, nat_lt, nat_le, if◌then◌else◌}
+use Rattle.std.specs.Prelude.{ℕ, ◌+◌, ◌&&◌, List, Bool, true, false, codes, nat_lt, if◌then◌else◌}
+use Rattle.sarif_model.specs.Level.{is_at_least}
 use Rattle.sarif_model.specs.declared.kinds.Level.{Level}
 use Rattle.sarif_model.specs.declared.kinds.Level.TheVariants.{NoLevel, Note, Warning, Error}
 use Rattle.sarif_model.specs.declared.kinds.State.{State}
@@ -24,15 +25,10 @@ is_listed states Unchanged = states.unchanged
 is_listed states Updated = states.updated
 is_listed states Absent = states.absent
 
--- levels rise from none to error (SARIF 2.1.0, "level property")
-abbrev pub severity : Level → ℕ
-severity NoLevel = 0
-severity Note = 1
-severity Warning = 2
-severity Error = 3
-
-abbrev pub is_at_least : Level → Level → Bool
-is_at_least least level = nat_le (severity least) (severity level)
+-- whether active results of this state and level are hits
+abbrev pub are_hits : Policy → State → Level → Bool
+are_hits policy state level =
+    is_listed policy.states state && is_at_least policy.fail_on level
 
 -- how many results have a state and a level, and are suppressed (true) or active (false)
 abbrev pub Count : Type 0

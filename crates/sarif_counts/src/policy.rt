@@ -1,7 +1,7 @@
 //! What the gate fails on.
 ghost use Rattle.std.specs.Prelude.{◌≡◌, ◌&&◌};
 ghost use Rattle.sarif_counts.specs.Policy as said;
-ghost use Rattle.sarif_counts.specs.Policy.{default_policy, is_at_least, is_listed, verdict_name};
+ghost use Rattle.sarif_counts.specs.Policy.{default_policy, are_hits, is_listed, verdict_name};
 
 use sarif_model::{Level, State};
 
@@ -44,24 +44,12 @@ pub struct Policy {
     pub max: u32,
 }
 
-/// Levels rise from `none` to `error` (SARIF 2.1.0, "level property").
-fn severity(level: Level) -> u8
-    ensures { result ≡ said.severity level }
-{
-    match level {
-        Level::NoLevel => 0,
-        Level::Note => 1,
-        Level::Warning => 2,
-        Level::Error => 3,
-    }
-}
-
 impl Policy {
     /// Returns whether an active result of this state and level is a hit.
     pub fn counts(self, state: State, level: Level) -> bool
-        ensures { result ≡ (is_listed self.states state && is_at_least self.fail_on level) }
+        ensures { result ≡ are_hits self state level }
     {
-        self.states.lists(state) && severity(self.fail_on) <= severity(level)
+        self.states.lists(state) && level.is_at_least(self.fail_on)
     }
 }
 

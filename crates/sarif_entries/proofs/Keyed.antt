@@ -10,8 +10,9 @@ use Rattle.sarif_model.specs.declared.kinds.Status.{Status}
 use Rattle.sarif_model.specs.declared.kinds.Status.TheVariants.{Accepted, UnderReview, Rejected}
 use Rattle.sarif_model.specs.contracts.kinds.StatusPartialEq.TheImpl as status
 use Rattle.sarif_entries.specs.declared.key.Key.{Key}
-use Rattle.sarif_entries.specs.Internal.Keys.{texts_with, justification_of, has_key, same_key, text_in, status_in}
+use Rattle.sarif_entries.specs.Internal.Keys.{texts_with, justification_of, has_key, same_key, status_in}
 use Rattle.sarif_model.specs.Written.{text_members}
+use Rattle.sarif_model.specs.Members.{text_in}
 use Rattle.sarif_entries.proofs.ObjectTest.{texts_mean}
 
 -- ---- what equality of keys means

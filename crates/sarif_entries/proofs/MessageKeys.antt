@@ -14,7 +14,7 @@ use Rattle.sarif_entries.specs.Matching.{is_there, are_wanted, is_empty}
 abbrev is_in : List (List ℕ) → List (List (List ℕ)) → Bool
 is_in own keys = list_any (λ key. pointwise bytes_eq own key) keys
 
-key-Decides : (a b : List (List ℕ)) → Decides (pointwise bytes_eq a b) (a ≡ b)
+pub key-Decides : (a b : List (List ℕ)) → Decides (pointwise bytes_eq a b) (a ≡ b)
 key-Decides a b = slice_eq-Decides bytes_eq-Decides a b _ refl
 
 itself : (key : List (List ℕ)) → pointwise bytes_eq key key ≡ true

@@ -142,7 +142,7 @@ abbrev pub status_or : FileFault → Option (List ℕ) → Result Status FileFau
 status_or wrong None = Ok Accepted
 status_or wrong (Some text) = status_of_name wrong (status_named text)
 
--- the status of that name; absent it is `accepted`
+-- the status of that name; `accepted` if it is missing
 abbrev pub status_at : FileFault → List ℕ → Data → Result Status FileFault
 status_at wrong name d = text_at wrong name d >>= status_or wrong
 

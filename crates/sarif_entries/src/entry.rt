@@ -12,7 +12,7 @@ pub struct Entry {
     pub conditions: Conditions,
     /// `expires`: the last date on which it suppresses, as the number YYYYMMDD.
     pub expires: Option<u32>,
-    /// `status`; absent it is `accepted`.
+    /// `status`; `accepted` if it is missing.
     pub status: Status,
     /// `justification`.
     pub justification: Option<Text>,

@@ -2,9 +2,10 @@
 ghost use Rattle.std.specs.Prelude.{◌≡◌, false, map, option_map};
 ghost use Rattle.std.specs.Option.{option_map_or};
 ghost use Rattle.serde_json.specs.View.{view, members_view};
-ghost use Rattle.sarif_entries.specs.Internal.Keys.{texts_with, justification_of, has_key, same_key, status_in, text_in};
+ghost use Rattle.sarif_entries.specs.Internal.Keys.{texts_with, justification_of, has_key, same_key, status_in};
 ghost use Rattle.sarif_entries.specs.Object as said;
 ghost use Rattle.sarif_entries.specs.declared.key.Key.{Key};
+ghost use Rattle.sarif_model.specs.Members.{text_in};
 
 use crate::entry::Entry;
 use sarif_model::{Status, Text};

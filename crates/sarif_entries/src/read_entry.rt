@@ -10,7 +10,9 @@ use crate::entry::Entry;
 use crate::fault::FileFault;
 use crate::version::Version;
 use sarif_model::members::{elements_at, member_at, text_at};
-use sarif_model::{FIRST_DAY, Fault, LAST_DAY, Pairs, Refusal, Sequence, Status, Text, read_guid};
+use sarif_model::{
+    FIRST_DAY, Fault, LAST_DAY, Pairs, Refusal, Sequence, Status, Text, copy_if_there, read_guid,
+};
 use serde_json::{Map, Value};
 use std::alloc::{AllocError, Global};
 
@@ -42,16 +44,6 @@ fn check_members(version: Version, wrong: FileFault, entry: &Value) -> Result<()
     }
 }
 
-/// A copy of a string, if there is one.
-fn copied(alloc: Global, text: Option<&str>) -> Result<Option<Text>, AllocError>
-    ensures { IfOk result (λ copy. copy ≡ option_map (λ s. s.now) text.entry) }
-{
-    match text {
-        Some(text) => Ok(Some(Text::copy_of(alloc, text)?)),
-        None => Ok(None),
-    }
-}
-
 /// The string `name` of an entry.
 fn own_text_at(
     alloc: Global,
@@ -64,7 +56,7 @@ fn own_text_at(
         (λ fault. told.text_at wrong name.now (view entry.now) ≡ Err fault) }
 {
     let text = text_at(entry, name, wrong)?;
-    Ok(copied(alloc, text)?)
+    Ok(copy_if_there(alloc, text)?)
 }
 
 /// The GUID `name` of an entry.
@@ -206,7 +198,7 @@ fn day_at(entry: &Value, name: &str, wrong: FileFault) -> Result<Option<u32>, Fi
     }
 }
 
-/// The status `name` of an entry; absent it is `accepted`.
+/// The status `name` of an entry; `accepted` if it is missing.
 fn status_at(entry: &Value, name: &str, wrong: FileFault) -> Result<Status, FileFault>
     ensures { result ≡ said.status_at wrong name.now (view entry.now) }
 {

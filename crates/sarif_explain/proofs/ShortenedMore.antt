@@ -3,6 +3,7 @@ use Rattle.std.specs.Prelude.{◌≡◌, ℕ, zero, suc, ◌-◌, List, [], ◌�
 use Rattle.std.proofs.Common.{refl, sym, ◌∙◌, ap, append_assoc, append-nil, arith}
 use Rattle.std.proofs.lemmas.Str.{chars_past_char}
 use Rattle.std.proofs.StrCases.{chars_of_empty}
+use Rattle.sarif_findings.proofs.ShownMore.{one_less}
 use Rattle.sarif_explain.specs.Internal.Lines.{shortened}
 
 shortened-nil : (room : ℕ) → shortened room [] ≡ []
@@ -17,9 +18,6 @@ shortened-full c cs = refl
 shortened-cons : (room c : ℕ) (cs : List ℕ) → shortened (suc room) (c ∷ cs) ≡ encode_utf8 c ++ shortened room cs
 unfolding shortened
 shortened-cons room c cs = refl
-
-one_less : (n : ℕ) → (n ≡ 0 → ⊥) → n ≡ suc (n - 1)
-one_less n some = omega (arith, some)
 
 -- there is no room for a character
 pub ends_short : (kept text left whole : List ℕ) (c room : ℕ) → IsUtf8 text → text ≡ encode_utf8 c ++ left

@@ -2,10 +2,11 @@
 use Rattle.std.proofs.Common.{◌≡◌, ℕ, List, slice_get, Option, Some, None, option_map, option_and_then, codes, refl, ap, ◌∙◌}
 use Rattle.std.specs.Option.{option_flatten}
 use Rattle.std.proofs.lemmas.Option.{slice_get-map}
+use Rattle.sarif_model.specs.Members.{text_in}
 use Rattle.serde_json.specs.Data.{Data}
 use Rattle.serde_json.specs.Find.{get}
 use Rattle.sarif_findings.specs.Internal.ArtifactsOf.{artifact_paths, path_of_artifact}
-use Rattle.sarif_findings.specs.Lookup.{artifact_uri, elements_in, text_in}
+use Rattle.sarif_findings.specs.Lookup.{artifact_uri, elements_in}
 use Rattle.sarif_findings.specs.PathOf.{decoded}
 
 path_of_some : (artifact : Option Data) → option_flatten (option_map path_of_artifact artifact)

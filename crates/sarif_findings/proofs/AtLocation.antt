@@ -11,13 +11,14 @@ use Rattle.sarif_model.specs.declared.references.RuleReference.{RuleReference}
 use Rattle.sarif_model.specs.Internal.FirstLocation.{IsFirstLocation, first_artifact, first_region, string_in, integer_in}
 use Rattle.sarif_model.specs.Internal.References.{IsRuleReference, rule_in, component_in, message_in, message_text}
 use Rattle.sarif_model.specs.Run.{elements_or_none}
+use Rattle.sarif_model.specs.Members.{text_in}
 use Rattle.sarif_findings.specs.declared.reporting.Reporting.{Reporting}
 use Rattle.sarif_findings.specs.declared.told_result.ToldResult.{ToldResult}
 use Rattle.sarif_findings.specs.Internal.Told.{IsTold}
 use Rattle.sarif_findings.specs.Links.{unlinked}
 use Rattle.sarif_findings.specs.Located.{own_id_at, component_at, rule_at, descriptor_at, descriptor_id_at, rule_id_at, help_at, strings_at, looked_up_at, text_at, message_text_at, arguments_at, message_at, uri_at, path_at, line_at, column_at, finding_at}
 use Rattle.sarif_findings.specs.Lookup as Lookup
-use Rattle.sarif_findings.specs.Lookup.{artifact_uri, component_by, component_of, descriptor_of, driver_of, elements_in, location_uri, number_in, own_rule_id, position_in, position_number, rule_by, rule_id, rule_index, text_in, uri_of}
+use Rattle.sarif_findings.specs.Lookup.{artifact_uri, component_by, component_of, descriptor_of, driver_of, elements_in, location_uri, number_in, own_rule_id, position_in, position_number, rule_by, rule_id, rule_index, uri_of}
 use Rattle.sarif_findings.specs.Message as Message
 use Rattle.sarif_findings.specs.Message.{arguments_of, component_string, descriptor_string, found_text, looked_up, message_of, strings_of, text_by}
 use Rattle.sarif_findings.specs.Placeholders.{filled}

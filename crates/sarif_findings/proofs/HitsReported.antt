@@ -11,14 +11,16 @@ use Rattle.sarif_model.specs.Level.{level_name}
 use Rattle.sarif_model.specs.Members.{elements}
 use Rattle.sarif_model.specs.Run.{elements_or_none}
 use Rattle.sarif_model.specs.Run.{runs_of}
-use Rattle.sarif_counts.specs.Policy.{count_if, hits_of, is_at_least, is_listed}
+use Rattle.sarif_model.specs.Level.{is_at_least}
+use Rattle.sarif_counts.specs.Policy.{count_if, hits_of, is_listed}
 use Rattle.sarif_counts.specs.Tally.{same_side}
 use Rattle.sarif_counts.specs.CountOf.{carries, count_in, count_of, results_in, suppresses, suppressions_in}
 use Rattle.sarif_model.specs.Run.{is_text}
+use Rattle.sarif_model.proofs.Elements.{items_or_none}
 use Rattle.sarif_findings.specs.declared.finding.Finding.{Finding}
 use Rattle.sarif_findings.specs.declared.reporting.Reporting.{Reporting}
 use Rattle.sarif_findings.specs.Reported.{reported_of, reported_in, finding_if, finding_by, finding_of, level_in, state_in}
-use Rattle.sarif_findings.proofs.ReportedMore.{items_in_array, items_or_none}
+use Rattle.sarif_findings.proofs.ReportedMore.{items_in_array}
 use Rattle.sarif_findings.proofs.HitsCounted.{state_tells, level_tells, hits_add, hits_zero, hits_same, zero_if, hits_one, is_state, is_level, one_of, hits_in}
 
 abbrev hit_of : Option Finding → ℕ
@@ -82,7 +84,7 @@ in_items reporting run (item d ds) =
     first ∙ ap (λ n. n + hits_among (filter_map (finding_if reporting run) (elements ds))) (sym one)
     ∙ ap (λ n. hits_of (λ s l x. count_if (carries s l x d) 1) reporting.policy + n) rest ∙ sym whole
 
-elements_there : (o : Option Items) → elements_or_none o ≡ elements (items_or_none o)
+pub elements_there : (o : Option Items) → elements_or_none o ≡ elements (items_or_none o)
 elements_there None = refl
 elements_there (Some ds) = refl
 

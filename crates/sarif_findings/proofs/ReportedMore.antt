@@ -1,13 +1,10 @@
 -- Reported results.
 use Rattle.std.proofs.Common.{◌≡◌, Option, Some, None, refl}
 use Rattle.std.specs.Prelude.{option_and_then}
-use Rattle.serde_json.specs.Data.{Data, null, boolean, number, string, array, object, Items, no_items}
+use Rattle.sarif_model.proofs.Elements.{items_or_none}
+use Rattle.serde_json.specs.Data.{Data, null, boolean, number, string, array, object}
 use Rattle.serde_json.specs.Find.{as_array}
 use Rattle.sarif_counts.specs.CountOf.{items_in}
-
-abbrev pub items_or_none : Option Items → Items
-items_or_none None = no_items
-items_or_none (Some ds) = ds
 
 -- a value that is not an array has no items
 pub items_in_array : (o : Option Data) → items_in o ≡ items_or_none (option_and_then as_array o)

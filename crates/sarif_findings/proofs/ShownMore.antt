@@ -35,7 +35,7 @@ pub keeps_end : (old new : ShownText) (c : ℕ) (cs : List ℕ) → old.full ≡
 keeps_end old new c cs going none text full =
     rw (going, none, text, full, kept-full c cs, encodes-one 0x2026) (sym (append-nil _))
 
-one_less : (n : ℕ) → (n ≡ 0 → ⊥) → n ≡ suc (n - 1)
+pub one_less : (n : ℕ) → (n ≡ 0 → ⊥) → n ≡ suc (n - 1)
 one_less n some = omega (arith, some)
 
 -- there is

@@ -8,11 +8,12 @@ use Rattle.serde_json.specs.Data.{Data}
 use Rattle.serde_json.specs.Find.{get}
 use Rattle.sarif_model.specs.declared.kinds.Level.{Level}
 use Rattle.sarif_model.specs.declared.kinds.State.{State}
+use Rattle.sarif_model.specs.Members.{none_if_empty}
 use Rattle.sarif_findings.specs.declared.finding.Finding.{Finding}
 use Rattle.sarif_findings.specs.declared.reporting.Reporting.{Reporting}
 use Rattle.sarif_findings.specs.Lookup.{position_number, position_in, number_in, physical_location, uri_of}
 use Rattle.sarif_findings.specs.Shown.{shown, kept}
-use Rattle.sarif_findings.specs.Reported.{reported_of, finding_of, or_no_message, none_if_empty, shown_path, only_with, path_in, line_in}
+use Rattle.sarif_findings.specs.Reported.{reported_of, finding_of, or_no_message, shown_path, only_with, path_in, line_in}
 use Rattle.sarif_findings.proofs.EachFinding.{each_finding}
 
 abbrev pub IsShown : List ℕ → Type 0

@@ -8,15 +8,17 @@ use Rattle.sarif_model.specs.declared.first_location.FirstLocation.{FirstLocatio
 use Rattle.sarif_model.specs.declared.kinds.Level.{Level}
 use Rattle.sarif_model.specs.declared.kinds.State.{State}
 use Rattle.sarif_model.specs.declared.references.RuleReference.{RuleReference}
-use Rattle.sarif_counts.specs.Policy.{is_at_least}
+use Rattle.sarif_model.specs.Level.{is_at_least}
+use Rattle.sarif_model.specs.Members.{text_in}
+use Rattle.sarif_model.specs.Driver.{tool_name}
 use Rattle.sarif_findings.specs.declared.finding.Finding.{Finding}
 use Rattle.sarif_findings.specs.declared.reporting.Reporting.{Reporting}
 use Rattle.sarif_findings.specs.declared.told_result.ToldResult.{ToldResult}
 use Rattle.sarif_findings.specs.Links.{unlinked}
-use Rattle.sarif_findings.specs.Lookup.{artifact_uri, component_by, elements_in, position_number, rule_by, text_in}
+use Rattle.sarif_findings.specs.Lookup.{artifact_uri, component_by, elements_in, position_number, rule_by}
 use Rattle.sarif_findings.specs.Message.{component_string, descriptor_string, strings_by}
 use Rattle.sarif_findings.specs.Placeholders.{filled}
-use Rattle.sarif_findings.specs.Reported.{link_of, only_with, or_no_message, shown_path, tool_in}
+use Rattle.sarif_findings.specs.Reported.{link_of, only_with, or_no_message, shown_path}
 use Rattle.sarif_findings.specs.Shown.{shown}
 
 -- ---- the rule
@@ -104,7 +106,7 @@ column_at reporting run location =
 -- the finding of a result of this run from which this was read
 unfoldable pub finding_at : Reporting → Data → ToldResult → Level → State → Finding
 finding_at reporting run told level state = record {
-  tool = shown (chars (tool_in run));
+  tool = shown (chars (tool_name run));
   rule = shown (chars (rule_id_at run told.rule));
   level = level;
   state = state;

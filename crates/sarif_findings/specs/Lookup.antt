@@ -3,12 +3,9 @@
 use Rattle.std.specs.Prelude.{ℕ, ◌^◌, Bool, ◌&&◌, nat_lt, nat_le, List, [], Option, Some, None, codes, find, slice_get, option_and_then, unwrap_or, if◌then◌else◌}
 use Rattle.std.specs.Option.{option_or}
 use Rattle.serde_json.specs.Data.{Data}
-use Rattle.serde_json.specs.Find.{get, as_str, as_array, as_number, as_u64}
-use Rattle.sarif_model.specs.Members.{first_of}
+use Rattle.serde_json.specs.Find.{get, as_array, as_number, as_u64}
+use Rattle.sarif_model.specs.Members.{first_of, text_in}
 use Rattle.sarif_model.specs.Run.{elements_or_none, is_text}
-
-abbrev pub text_in : List ℕ → Data → Option (List ℕ)
-text_in name d = option_and_then as_str (get name d)
 
 abbrev pub number_in : List ℕ → Data → Option ℕ
 number_in name d = option_and_then as_u64 (option_and_then as_number (get name d))

@@ -2,10 +2,11 @@
 -- lookup"). Strings are lists of characters here.
 use Rattle.std.specs.Prelude.{ℕ, List, [], Option, Some, None, codes, chars, option_and_then, unwrap_or, is_some, if◌then◌else◌}
 use Rattle.std.specs.Option.{option_or}
+use Rattle.sarif_model.specs.Members.{text_in}
 use Rattle.serde_json.specs.Data.{Data}
 use Rattle.serde_json.specs.Find.{get}
 use Rattle.sarif_findings.specs.Links.{unlinked}
-use Rattle.sarif_findings.specs.Lookup.{text_in, elements_in, descriptor_of, component_of, driver_of}
+use Rattle.sarif_findings.specs.Lookup.{elements_in, descriptor_of, component_of, driver_of}
 use Rattle.sarif_findings.specs.Placeholders.{filled}
 
 -- ---- the text

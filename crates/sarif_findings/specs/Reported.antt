@@ -1,18 +1,20 @@
 -- The reported results of a merged log, in the order of the log: the active results whose baseline state the
 -- policy lists.
-use Rattle.std.specs.Prelude.{ℕ, Bool, not, ◌&&◌, ◌||◌, nat_eq, bytes_eq, List, [], ◌∷◌, Option, Some, None, codes, chars, flat_map, option_and_then, unwrap_or, if◌then◌else◌}
+use Rattle.std.specs.Prelude.{ℕ, Bool, not, ◌&&◌, ◌||◌, nat_eq, bytes_eq, List, [], ◌∷◌, Option, Some, None, codes, chars, flat_map, option_and_then, if◌then◌else◌}
 use Rattle.std.specs.List.{filter_map, starts_with}
 use Rattle.serde_json.specs.Data.{Data}
 use Rattle.sarif_model.specs.declared.kinds.Level.{Level}
 use Rattle.sarif_model.specs.declared.kinds.State.{State}
 use Rattle.sarif_model.specs.Level.{level_named}
 use Rattle.sarif_model.specs.State.{state_named}
-use Rattle.sarif_model.specs.Driver.{driver_name}
-use Rattle.sarif_counts.specs.Policy.{is_listed, is_at_least}
+use Rattle.sarif_model.specs.Driver.{tool_name}
+use Rattle.sarif_model.specs.Level.{is_at_least}
+use Rattle.sarif_model.specs.Members.{text_in, none_if_empty}
+use Rattle.sarif_counts.specs.Policy.{is_listed}
 use Rattle.sarif_counts.specs.CountOf.{suppressions_in, suppresses}
 use Rattle.sarif_findings.specs.declared.finding.Finding.{Finding}
 use Rattle.sarif_findings.specs.declared.reporting.Reporting.{Reporting}
-use Rattle.sarif_findings.specs.Lookup.{text_in, elements_in, rule_id, help_uri, uri_of, position_in}
+use Rattle.sarif_findings.specs.Lookup.{elements_in, rule_id, help_uri, uri_of, position_in}
 use Rattle.sarif_findings.specs.Message.{message_of}
 use Rattle.sarif_findings.specs.PathOf.{path_chars}
 use Rattle.sarif_findings.specs.Shown.{shown}
@@ -30,10 +32,6 @@ is_active result = not (suppresses (suppressions_in result))
 abbrev pub or_no_message : List ℕ → List ℕ
 or_no_message [] = codes "(no message)"
 or_no_message (b ∷ bs) = b ∷ bs
-
-abbrev pub none_if_empty : List ℕ → Option (List ℕ)
-none_if_empty [] = None
-none_if_empty (b ∷ bs) = Some (b ∷ bs)
 
 -- a URI as it is shown; an empty path is treated as missing
 abbrev pub shown_path : List (List ℕ) → List ℕ → Option (List ℕ)
@@ -69,13 +67,10 @@ link_of uri = if is_link uri then Some uri else None
 abbrev pub help_in : Data → Data → Option (List ℕ)
 help_in run result = option_and_then link_of (help_uri run result)
 
-abbrev pub tool_in : Data → List ℕ
-tool_in run = unwrap_or (driver_name run) []
-
 -- the finding of a result of this run
 unfoldable pub finding_of : Reporting → Data → Data → Level → State → Finding
 finding_of reporting run result level state = record {
-  tool = shown (chars (tool_in run));
+  tool = shown (chars (tool_name run));
   rule = shown (chars (rule_id run result));
   level = level;
   state = state;

@@ -5,6 +5,7 @@ ghost use Rattle.serde_json.specs.View.{view};
 ghost use Rattle.sarif_findings.specs.Located as located;
 ghost use Rattle.sarif_findings.specs.Lookup as said;
 ghost use Rattle.sarif_findings.specs.Internal.Subject.{IsDescribed};
+ghost use Rattle.sarif_model.specs.Members.{text_in};
 
 use crate::subject::Subject;
 use sarif_model::RuleReference;
@@ -12,7 +13,7 @@ use serde_json::Value;
 
 /// The string `name` of an object.
 pub(crate) fn text_in<'a>(value: &'a Value, name: &str) -> Option<&'a str>
-    ensures { option_map (λ s. s.now) result ≡ said.text_in name.now (view value.now) }
+    ensures { option_map (λ s. s.now) result ≡ text_in name.now (view value.now) }
 {
     value.get(name)?.as_str()
 }

@@ -5,11 +5,11 @@ ghost use Rattle.serde_json.specs.Find.{get};
 ghost use Rattle.serde_json.specs.View.{view};
 ghost use Rattle.sarif_findings.specs.Located.{descriptor_at};
 ghost use Rattle.sarif_findings.specs.Lookup as said;
-ghost use Rattle.sarif_findings.specs.Reported.{tool_in};
 ghost use Rattle.sarif_findings.specs.Internal.RulesOf.{rules_in, rules_of, extensions_of};
 ghost use Rattle.sarif_findings.specs.PathOf.{decoded};
 ghost use Rattle.sarif_findings.specs.Shown.{shown};
 ghost use Rattle.sarif_findings.specs.Internal.Subject.{IsDescribed};
+ghost use Rattle.sarif_model.specs.Driver.{tool_name};
 
 use crate::artifacts::paths_of_artifacts;
 use crate::lookup::{driver_of, elements_in};
@@ -41,7 +41,7 @@ impl<'r> Model for NamedRun<'r> {
     ghost use Rattle.serde_json.specs.declared.value.Value.{Value as Json};
     ghost use Rattle.serde_json.specs.View.{view as seen};
     ghost use Rattle.sarif_findings.specs.Lookup.{driver_of};
-    ghost use Rattle.sarif_findings.specs.Reported.{tool_in};
+    ghost use Rattle.sarif_findings.specs.Reported.{tool_name};
     ghost use Rattle.sarif_findings.specs.Internal.RulesOf.{rules_in, rules_of, extensions_of};
     ghost use Rattle.sarif_findings.specs.Internal.ArtifactsOf.{artifact_paths};
     ghost use Rattle.sarif_findings.specs.Shown.{shown};
@@ -52,7 +52,7 @@ impl<'r> Model for NamedRun<'r> {
 
     ghost view = { λ named. named.run.now };
 
-    ghost invariant = { λ named. (named.tool ≡ shown (chars (tool_in (seen named.run.now))))
+    ghost invariant = { λ named. (named.tool ≡ shown (chars (tool_name (seen named.run.now))))
         × (map seen named.driver ≡ rules_of (driver_of (seen named.run.now)))
         × (map (map seen) named.extensions.items
         ≡ map rules_in (extensions_of (get (codes "tool") (seen named.run.now))))
@@ -60,7 +60,7 @@ impl<'r> Model for NamedRun<'r> {
 }
 
 fn tool_name(run: &Value) -> &str
-    ensures { result.now ≡ tool_in (view run.now) }
+    ensures { result.now ≡ tool_name (view run.now) }
 {
     driver_name(run).unwrap_or("")
 }
@@ -132,7 +132,7 @@ impl<'r> NamedRun<'r> {
 
     /// The name of its tool as it is shown.
     pub(crate) fn tool(&self) -> &Text
-        ensures { result.now ≡ shown (chars (tool_in (view self.now))) }
+        ensures { result.now ≡ shown (chars (tool_name (view self.now))) }
     {
         &self.tool
     }

@@ -2,7 +2,6 @@
 ghost use Rattle.std.specs.Prelude.{◌≡◌, IfOk, string_bytes};
 ghost use Rattle.sarif_findings.specs.Located.{finding_at, help_at, message_at};
 ghost use Rattle.serde_json.specs.View.{view};
-ghost use Rattle.sarif_counts.specs.Policy.{severity as rank};
 ghost use Rattle.sarif_findings.specs.Shown.{shown as text_shown};
 ghost use Rattle.sarif_findings.specs.Reported as said;
 ghost use Rattle.sarif_findings.specs.Internal.Subject.{IsDescribed};
@@ -19,17 +18,6 @@ use crate::told_result::ToldResult;
 use sarif_model::{Level, State, Text};
 use serde_json::Value;
 use std::alloc::{AllocError, Global};
-
-fn severity(level: Level) -> u8
-    ensures { result ≡ rank level }
-{
-    match level {
-        Level::NoLevel => 0,
-        Level::Note => 1,
-        Level::Warning => 2,
-        Level::Error => 3,
-    }
-}
 
 /// Whether an address is one of the web, all of whose characters are shown.
 fn is_link(alloc: Global, uri: &str) -> Result<bool, AllocError>
@@ -100,7 +88,7 @@ pub fn finding_of(
     let message = message_in(alloc, &subject)?;
     let help = help_in(alloc, &subject)?;
     let Spot { path, line, column } = spot_of(alloc, reporting, run, &told.location)?;
-    let hit = severity(reporting.policy.fail_on) <= severity(level);
+    let hit = level.is_at_least(reporting.policy.fail_on);
     Ok(Finding {
         tool,
         rule,

@@ -7,6 +7,7 @@ ghost use Rattle.sarif_findings.specs.PathOf as path_of;
 ghost use Rattle.sarif_findings.specs.PathOf.{without_here, without_root};
 ghost use Rattle.sarif_findings.specs.Reported as said;
 ghost use Rattle.sarif_findings.specs.Shown.{shown as text_shown};
+ghost use Rattle.sarif_model.specs.Members.{none_if_empty};
 
 use crate::named_run::NamedRun;
 use crate::path::{decoded, push_path};
@@ -34,7 +35,7 @@ fn text_of_path(alloc: Global, roots: &[Text], path: &str) -> Result<String, All
 }
 
 fn shown_path(alloc: Global, roots: &[Text], path: &str) -> Result<Option<Text>, AllocError>
-    ensures { IfOk result (λ o. o ≡ said.none_if_empty
+    ensures { IfOk result (λ o. o ≡ none_if_empty
         (text_shown (without_here (chars (without_root roots.now path.now))))) }
 {
     let shown = text_of_path(alloc, roots, path)?;

@@ -84,7 +84,7 @@ impl Ended<'_, '_> {
             return Ok(false);
         }
         let bytes = match &self.readers.suppressions {
-            Some(file) => file.inner().bytes(),
+            Some(file) => file.inner().bytes().ok_or(AllocError)?,
             None => &[],
         };
         Ok(!is_past_limit(alloc, fault.cause, bytes)?)
@@ -153,7 +153,8 @@ fn name_or_none(name: Option<&Text>) -> &str {
     }
 }
 
-/// Returns the explanation of an error in a source with this name, from the bytes and the error that were kept.
+/// Returns the explanation of an error in a source with this name, from the bytes and the error that were kept. Returns
+/// `AllocError` also if memory for the bytes ran out while they were read.
 fn of_kept<'a, D>(
     alloc: Global,
     fault: &MergeFault,
@@ -164,7 +165,8 @@ fn of_kept<'a, D>(
     match source {
         Some(source) => {
             let kept = source.inner();
-            of_source(alloc, fault, file, kept.bytes(), kept.error())
+            let bytes = kept.bytes().ok_or(AllocError)?;
+            of_source(alloc, fault, file, bytes, kept.error())
         }
         None => of_source(alloc, fault, file, &[], None),
     }

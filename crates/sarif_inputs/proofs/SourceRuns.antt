@@ -2,9 +2,9 @@
 use Rattle.std.proofs.Common.{◌≡◌, false, ℕ, ◌+◌, List, [], ◌∷◌, ◌++◌, map, length, refl, sym, ap, ◌∙◌, arith, add-zero, length-append}
 use Rattle.std.proofs.lemmas.List.{map-append, length-map}
 use Rattle.std.specs.List.{list_any}
+use Rattle.std.proofs.lemmas.Bool.{or_parts}
 use Rattle.serde_json.specs.Written.{has_float}
 use Rattle.sarif_counts.specs.declared.checks.Checks.{Checks}
-use Rattle.sarif_read.proofs.NoFraction.{neither}
 use Rattle.serde_json.specs.Data.{Data}
 use Rattle.sarif_read.specs.Internal.Indexed.{run_of}
 use Rattle.sarif_read.specs.declared.indexed_run.IndexedRun.{IndexedRun}
@@ -69,5 +69,5 @@ counted_more checks old new source ds same =
 
 -- if no run of some runs holds a number with a fraction, one of them holds none
 pub whole_at : (vs : List IndexedRun) (v : IndexedRun) (ws : List IndexedRun) → list_any has_float (map run_of (vs ++ v ∷ ws)) ≡ false → has_float (run_of v) ≡ false
-whole_at [] v ws h = (neither (has_float (run_of v)) (list_any has_float (map run_of ws)) h).0
-whole_at (w ∷ vs) v ws h = whole_at vs v ws (neither (has_float (run_of w)) (list_any has_float (map run_of (vs ++ v ∷ ws))) h).1
+whole_at [] v ws h = (or_parts (has_float (run_of v)) (list_any has_float (map run_of ws)) h).0
+whole_at (w ∷ vs) v ws h = whole_at vs v ws (or_parts (has_float (run_of w)) (list_any has_float (map run_of (vs ++ v ∷ ws))) h).1

@@ -8,6 +8,7 @@ use Rattle.std.proofs.lemmas.Grind.{common_steps}
 use Rattle.std.proofs.lemmas.List.Quantifiers.{position-Some}
 use Rattle.std.proofs.lemmas.List.Sums.{fails_before_first}
 use Rattle.std.proofs.lemmas.Slice.Eq.{bytes_eq-Decides}
+use Rattle.std.proofs.lemmas.Bool.{or_parts, or_right}
 use Rattle.sarif_model.specs.declared.record.Record.{Record}
 use Rattle.sarif_entries.specs.Matching.{is_empty}
 use Rattle.sarif_known.specs.declared.chosen.KnownRun.{KnownRun}
@@ -70,11 +71,6 @@ any_end x (z ∷ before) y is = by_first (bytes_eq x z) (list_any (bytes_eq x) b
 any_last : (x y : List ℕ) (before : List (List ℕ)) → bytes_eq x y ≡ true → list_any (bytes_eq x) (before ++ y ∷ []) ≡ true
 any_last x y [] is = rw is refl
 any_last x y (z ∷ before) is = or_right (bytes_eq x z) _ (any_last x y before is)
-  where
-    or_right : (a b : Bool) → b ≡ true → (a || b) ≡ true
-    or_right true b is = refl
-    or_right false b is = is
-
 -- a tool that came before doesn't come again
 later_differ : (x : List ℕ) (before ys : List (List ℕ)) → list_any (bytes_eq x) before ≡ true → AreApart before ys → list_any (bytes_eq x) ys ≡ false
 later_differ x before [] there apart = refl
@@ -97,13 +93,8 @@ module _ (run : Chosen) (some : is_empty run.records ≡ false) (rest : List Cho
   none_taken : (tools : List (List ℕ)) → list_any (bytes_eq run.tool) tools ≡ false → map (runs_of_tool (run ∷ rest)) tools ≡ map (runs_of_tool rest) tools
   none_taken [] none = refl
   none_taken (t ∷ tools) none =
-      let parts = neither (bytes_eq run.tool t) (list_any (bytes_eq run.tool) tools) none in
+      let parts = or_parts (bytes_eq run.tool t) (list_any (bytes_eq run.tool) tools) none in
       ap₂ (λ x xs. x ∷ xs) (left_out t parts.0) (none_taken tools parts.1)
-    where
-      neither : (a b : Bool) → (a || b) ≡ false → (a ≡ false) × (b ≡ false)
-      neither true b is = absurd (true≢false is)
-      neither false b is = (refl, is)
-
   -- a run that is put into its group is before those that come later
   pub step_groups : (before tools : List (List ℕ)) (groups : List (List Chosen)) → AreApart before tools
       → side_by_side (spread tools run groups) (map (runs_of_tool rest) tools) ≡ side_by_side groups (map (runs_of_tool (run ∷ rest)) tools)

@@ -15,7 +15,7 @@ use Rattle.sarif_model.specs.declared.place.Place.{Place}
 use Rattle.sarif_model.specs.declared.record.Record.{Record}
 use Rattle.sarif_members.specs.declared.parts.Parts.{Parts}
 use Rattle.sarif_members.specs.Fingerprints.{pairs_among, pairs_of}
-use Rattle.sarif_model.specs.Members.{◌>>=◌, result_map, of_kind, or_wrong, unless_null, are_objects, elements_of, if_objects, read_each}
+use Rattle.sarif_model.specs.Members.{◌>>=◌, result_map, of_kind, or_wrong, unless_null, are_objects, elements_of, if_objects, read_each, none_if_empty}
 use Rattle.sarif_model.specs.Suppression.{status_of}
 use Rattle.sarif_model.proofs.Elements.{items_back}
 use Rattle.sarif_model.proofs.Guids.{guid_back}
@@ -35,10 +35,6 @@ level_read NotApplicable level = None
 level_read Review level = None
 level_read Fail level = Some level
 
-abbrev pub id_read : List ℕ → Option (List ℕ)
-id_read [] = None
-id_read (b ∷ bs) = Some (b ∷ bs)
-
 abbrev pub uri_read : Place → Option ℕ → Option (List ℕ)
 uri_read place (Some n) = None
 uri_read place None = place.uri
@@ -56,7 +52,7 @@ abbrev pub known_parts : Record → Option ℕ → Parts
 known_parts r artifact = record {
   kind = r.kind;
   level = level_read r.kind r.level;
-  rule_id = id_read r.rule_id;
+  rule_id = none_if_empty r.rule_id;
   rule_index = None;
   component = None;
   invocation = None;
@@ -126,7 +122,7 @@ texts_back : (texts : List (List ℕ)) → (elements_of (of_kind BadMember as_ar
 texts_back [] = refl
 texts_back (t ∷ ts) = rw (items_back (map string ts)) (texts_each (t ∷ ts))
 
-id_back : (id : List ℕ) → of_kind BadMember as_str (option_and_then unless_null (unless_empty id)) ≡ Ok (id_read id)
+id_back : (id : List ℕ) → of_kind BadMember as_str (option_and_then unless_null (unless_empty id)) ≡ Ok (none_if_empty id)
 id_back [] = refl
 id_back (b ∷ bs) = refl
 
@@ -165,11 +161,11 @@ module _ (r : Record) (artifact : Option ℕ) where
   unfolding own_message
   message_is = rw (at (codes "message"), at_message (codes "text"), at_message (codes "id"), at_message (codes "arguments"), text_back BadMember r.message.text, text_back BadMember r.message.id, texts_back r.message.args) refl
 
-  rule_is : own_rule_id (known_result r artifact) ≡ Ok (id_read r.rule_id)
+  rule_is : own_rule_id (known_result r artifact) ≡ Ok (none_if_empty r.rule_id)
   unfolding own_rule_id
-  rule_is = rw (at (codes "ruleId"), at (codes "rule"), id_back r.rule_id) (ap Ok (own_alone (id_read r.rule_id)))
+  rule_is = rw (at (codes "ruleId"), at (codes "rule"), id_back r.rule_id) (ap Ok (own_alone (none_if_empty r.rule_id)))
 
-  message_and_rule_is : own_message_and_rule (known_result r artifact) ≡ Ok (record { message = r.message; rule_id = id_read r.rule_id })
+  message_and_rule_is : own_message_and_rule (known_result r artifact) ≡ Ok (record { message = r.message; rule_id = none_if_empty r.rule_id })
   unfolding own_message_and_rule
   message_and_rule_is = rw (message_is, rule_is, at (codes "provenance")) refl
 

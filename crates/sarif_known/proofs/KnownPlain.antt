@@ -3,6 +3,7 @@ use Rattle.std.proofs.Common.{◌≡◌, ℕ, suc, ◌+◌, ◌^◌, ◌<◌, �
 use Rattle.std.specs.Prelude.{⊤, IfSome}
 use Rattle.std.specs.List.{AllByRecursion}
 use Rattle.std.specs.Cmp.Lexicographic.{slice_cmp}
+use Rattle.std.proofs.lemmas.Bool.{and_parts}
 use Rattle.serde_json.specs.Data.{Data, number, unsigned, string, Members, no_members, member}
 use Rattle.serde_json.specs.View.{items_of}
 use Rattle.json_parts.specs.Internal.Ordered.{IsBelow, AreMembersOrdered}
@@ -45,11 +46,6 @@ abbrev ArePlain : List Row → Type 0
 ArePlain [] = ⊤
 ArePlain (row ∷ rows) = IfPlain row.1 × ArePlain rows
 
-both : (a b : Bool) → (a && b) ≡ true → (a ≡ true) × (b ≡ true)
-both true true is = (refl, refl)
-both true false is = (refl, is)
-both false b is = absurd (true≢false (sym is))
-
 less_is : (o : Ordering) → is_less o ≡ true → o ≡ Less
 less_is Less is = refl
 less_is Equal is = absurd (true≢false (sym is))
@@ -57,16 +53,16 @@ less_is Greater is = absurd (true≢false (sym is))
 
 rows_below : (name : List ℕ) (rows : List Row) → is_below name rows ≡ true → IsBelow name (members_from rows)
 rows_below name [] is = tt
-rows_below name ((k, None) ∷ rows) is = rows_below name rows (both (is_less (slice_cmp nat_cmp name k)) (is_below name rows) is).1
+rows_below name ((k, None) ∷ rows) is = rows_below name rows (and_parts (is_less (slice_cmp nat_cmp name k)) (is_below name rows) is).1
 rows_below name ((k, Some d) ∷ rows) is =
-    let parts = both (is_less (slice_cmp nat_cmp name k)) (is_below name rows) is in
+    let parts = and_parts (is_less (slice_cmp nat_cmp name k)) (is_below name rows) is in
     (less_is (slice_cmp nat_cmp name k) parts.0, rows_below name rows parts.1)
 
 rows_plain : (rows : List Row) → do_rise rows ≡ true → ArePlain rows → AreMembersPlain (members_from rows)
 rows_plain [] rise plain = tt
-rows_plain ((k, None) ∷ rows) rise plain = rows_plain rows (both (is_below k rows) (do_rise rows) rise).1 plain.1
+rows_plain ((k, None) ∷ rows) rise plain = rows_plain rows (and_parts (is_below k rows) (do_rise rows) rise).1 plain.1
 rows_plain ((k, Some d) ∷ rows) rise plain =
-    let parts = both (is_below k rows) (do_rise rows) rise in
+    let parts = and_parts (is_below k rows) (do_rise rows) rise in
     (rows_below k rows parts.0, plain.0, rows_plain rows parts.1 plain.1)
 
 -- ---- lists

@@ -1,6 +1,7 @@
 -- The least length of the JSON of tokens.
 use Rattle.std.proofs.Common.{◌≡◌, ℕ, ◌+◌, ◌≤◌, ◌<◌, ◌/◌, ◌%◌, nat_lt, Bool, true, false, cond, List, [], ◌∷◌, ◌++◌, length, fold, refl, sym, ap, ◌∙◌, subst, arith, append_assoc, append-nil, length-append}
 use Rattle.std.specs.Char.{digit_char}
+use Rattle.sarif_accept.proofs.Weight.{escaped}
 use Rattle.json.specs.Token.{Token}
 use Rattle.json.specs.Print.{escape, escape_byte, escape_letter, quoted, token_text}
 use Rattle.json.specs.Layout.{Last, step, piece, pretty, pretty_from, nothing}
@@ -16,18 +17,10 @@ one_at_least x =
     some_bytes (nat_lt 0 (escape_letter x)) (nat_lt x 32) (92 ∷ escape_letter x ∷ []) (92 ∷ 117 ∷ 48 ∷ 48 ∷ digit_char (x / 16) ∷ digit_char (x % 16) ∷ []) (x ∷ [])
     (omega arith) (omega arith) (omega arith)
 
-escaped_is_longer : (s : List ℕ) → length s ≤ length (escape s)
-escaped_is_longer [] = omega arith
-escaped_is_longer (x ∷ xs) =
-    let first = one_at_least x in
-    let rest = escaped_is_longer xs in
-    let whole : length (escape (x ∷ xs)) ≡ length (escape_byte x) + length (escape xs) = length-append (escape_byte x) (escape xs) in
-    omega (arith, first, rest, whole)
-
 -- a string is shorter than its text
 pub quoted_is_longer : (s : List ℕ) → length s ≤ length (quoted s)
 quoted_is_longer s =
-    let inner = escaped_is_longer s in
+    let inner = escaped s in
     let whole : length (escape s ++ 34 ∷ []) ≡ length (escape s) + 1 = length-append (escape s) (34 ∷ []) in
     omega (arith, inner, whole)
 

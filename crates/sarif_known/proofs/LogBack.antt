@@ -21,6 +21,7 @@ use Rattle.sarif_known.specs.Internal.Tokens.{data_tokens}
 use Rattle.sarif_model.proofs.Elements.{items_back}
 use Rattle.sarif_known.proofs.KnownPlain.{log_plain}
 use Rattle.sarif_accept.proofs.Newline.{read_line}
+use Rattle.sarif_accept.proofs.FileText.{without_brace}
 use Rattle.sarif_known.proofs.Plain.{plain_read, plain_stripped}
 use Rattle.sarif_known.proofs.RunBack.{at, driver_is, results_are, count_is}
 use Rattle.sarif_known.proofs.Shallow.{log_within}
@@ -31,16 +32,13 @@ begins_brace : (runs : List Chosen) → (rest : List ℕ) × (pretty_text (known
 unfolding pretty_from
 begins_brace runs = (_, refl)
 
-no_mark : (rest : List ℕ) → without_mark (123 ∷ rest) ≡ 123 ∷ rest
-no_mark rest = refl
-
 -- the text with its newline is read as the log
 pub text_read : (runs : List Chosen) (text : List ℕ) → CanBeRead runs → text ≡ pretty_text (known_log runs) → tokens text ≡ data_tokens (known_log runs) → IsUtf8 (text ++ 10 ∷ [])
     → json_of (without_mark (text ++ 10 ∷ [])) ≡ Some (known_log runs)
 text_read runs text can is are utf8 =
     let begins = begins_brace runs in
     let opens : text ≡ 123 ∷ begins.0 = is ∙ begins.1 in
-    let bare : without_mark (text ++ 10 ∷ []) ≡ text ++ 10 ∷ [] = ap (λ l. without_mark (l ++ 10 ∷ [])) opens ∙ no_mark (begins.0 ++ 10 ∷ []) ∙ sym (ap (λ l. l ++ 10 ∷ []) opens) in
+    let bare : without_mark (text ++ 10 ∷ []) ≡ text ++ 10 ∷ [] = ap (λ l. without_mark (l ++ 10 ∷ [])) opens ∙ without_brace (begins.0 ++ 10 ∷ []) ∙ sym (ap (λ l. l ++ 10 ∷ []) opens) in
     ap json_of bare ∙ rw (is_utf8-from_IsUtf8 (text ++ 10 ∷ []) utf8) (read_line text ∙ plain_read (known_log runs) text (log_plain runs can.each can.few_results) (log_within runs) are)
 
 -- ---- its runs

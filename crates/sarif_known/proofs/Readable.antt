@@ -26,8 +26,9 @@ use Rattle.sarif_runs.specs.Head.{head_of}
 use Rattle.sarif_runs.specs.Level.{first_level, is_fail, level_of, overriding_level_at}
 use Rattle.sarif_members.specs.OwnMembers.{as_guid, check_present, own_fingerprints, own_guid, own_indexes, own_kind, own_level, own_location, own_message_and_rule, own_statuses, parts_of}
 use Rattle.sarif_runs.specs.Place.{place_of}
-use Rattle.sarif_runs.specs.Record.{record_by, record_in, record_of, tool_name}
+use Rattle.sarif_runs.specs.Record.{record_by, record_in, record_of}
 use Rattle.sarif_model.specs.Written.{text_members}
+use Rattle.sarif_model.specs.Driver.{tool_name}
 use Rattle.sarif_known.specs.Laws.{IsOfTool}
 use Rattle.sarif_accept.proofs.GivenFile.{json_ordered}
 use Rattle.sarif_accept.proofs.GuidFits.{guid_fits}

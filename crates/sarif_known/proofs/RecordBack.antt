@@ -7,6 +7,7 @@ use Rattle.sarif_model.specs.declared.kinds.Level.{Level}
 use Rattle.sarif_model.specs.declared.kinds.Level.TheVariants.{NoLevel}
 use Rattle.sarif_model.specs.declared.place.Place.{Place}
 use Rattle.sarif_model.specs.declared.record.Record.{Record}
+use Rattle.sarif_model.specs.Members.{none_if_empty}
 use Rattle.sarif_runs.specs.declared.head.RunHead.{RunHead}
 use Rattle.sarif_runs.specs.Descriptor.{descriptor_of}
 use Rattle.sarif_runs.specs.Level.{is_fail, first_level}
@@ -14,7 +15,7 @@ use Rattle.sarif_runs.specs.Place.{place_by}
 use Rattle.sarif_runs.specs.Record.{record_by, rule_id_of}
 use Rattle.sarif_known.specs.KnownRun.{base_alone, base_without}
 use Rattle.sarif_known.specs.Laws.{IsReadable}
-use Rattle.sarif_known.proofs.KnownParts.{level_read, id_read, uri_read, base_read, known_parts}
+use Rattle.sarif_known.proofs.KnownParts.{level_read, uri_read, base_read, known_parts}
 
 -- a place without a URI
 abbrev pub base_place : List ℕ → Place
@@ -34,7 +35,7 @@ level_back NotApplicable level none = sym (none refl)
 level_back Review level none = sym (none refl)
 level_back Fail level none = refl
 
-id_back : (id : List ℕ) → rule_id_of ([] ∷ []) (id_read id) None ≡ id
+id_back : (id : List ℕ) → rule_id_of ([] ∷ []) (none_if_empty id) None ≡ id
 id_back [] = refl
 id_back (b ∷ bs) = refl
 
@@ -60,4 +61,4 @@ pub record_back : (bases : List (List ℕ)) (n : ℕ) (r : Record) → IsReadabl
     → record_by (known_head bases) r.tool (known_parts r (number_for n r)) ≡ Ok r
 unfolding record_by
 record_back bases n r readable there =
-    rw (no_descriptor (id_read r.rule_id), place_back bases n r.place.uri r.place.base there, level_back r.kind r.level readable.level, id_back r.rule_id) refl
+    rw (no_descriptor (none_if_empty r.rule_id), place_back bases n r.place.uri r.place.base there, level_back r.kind r.level readable.level, id_back r.rule_id) refl

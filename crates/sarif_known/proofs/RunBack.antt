@@ -10,7 +10,7 @@ use Rattle.sarif_model.specs.declared.fault.Fault.TheVariants.{BadLocation}
 use Rattle.sarif_model.specs.declared.record.Record.{Record}
 use Rattle.sarif_model.specs.Members.{◌>>=◌, elements_of, of_kind, unless_null, are_objects, if_objects, read_each}
 use Rattle.sarif_model.specs.Run.{is_absent_result, results_array, results_of, result_at}
-use Rattle.sarif_model.specs.Driver.{driver_name}
+use Rattle.sarif_model.specs.Driver.{driver_name, tool_name}
 use Rattle.sarif_model.specs.Limits.{most_results}
 use Rattle.sarif_read.specs.Failed.{failed}
 use Rattle.sarif_runs.specs.declared.item.Item.TheVariants.{Sound, Skipped}
@@ -22,7 +22,7 @@ use Rattle.sarif_runs.specs.Overrides.{invocations_of}
 use Rattle.sarif_members.specs.OwnMembers.{parts_of}
 use Rattle.sarif_runs.specs.Place.{artifact_of, artifacts_of}
 use Rattle.sarif_runs.specs.Placed.{Placed}
-use Rattle.sarif_runs.specs.Record.{record_by, record_in, record_of, tool_name}
+use Rattle.sarif_runs.specs.Record.{record_by, record_in, record_of}
 use Rattle.sarif_runs.specs.Rules.{components_of, rules_of}
 use Rattle.sarif_known.specs.Chosen.{Chosen, results_among}
 use Rattle.sarif_model.specs.Written.{list_if_any}

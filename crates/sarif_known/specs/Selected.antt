@@ -3,22 +3,18 @@ use Rattle.std.specs.Prelude.{Bool, true, false, not, ◌&&◌, ◌||◌, List, 
 use Rattle.sarif_model.specs.declared.record.Record.{Record}
 use Rattle.sarif_model.specs.declared.kinds.State.{State}
 use Rattle.sarif_model.specs.declared.kinds.State.TheVariants.{New, Unchanged, Updated, Absent}
-use Rattle.sarif_counts.specs.Policy.{is_listed, is_at_least}
 use Rattle.sarif_counts.specs.declared.policy.Policy.{Policy}
 use Rattle.sarif_entries.specs.File.{File}
 use Rattle.sarif_suppress.specs.Suppressing.{is_suppressed, lasting}
+use Rattle.sarif_accept.specs.Adding.{may_hit}
 
 -- suppressed, and active without the entries that have an expiry date
 abbrev pub is_accepted_for_now : File → Record → Bool
 is_accepted_for_now file r = is_suppressed file r && not (is_suppressed (lasting file) r)
 
--- results of this state and level count, if they are active
-abbrev pub counts : Policy → Record → State → Bool
-counts policy r state = is_listed policy.states state && is_at_least policy.fail_on r.level
-
 -- a hit, or suppressed
 abbrev pub is_hit_or_suppressed : File → Policy → Record → State → Bool
-is_hit_or_suppressed file policy r state = is_suppressed file r || counts policy r state
+is_hit_or_suppressed file policy r state = is_suppressed file r || may_hit policy r state
 
 abbrev pub is_new : State → Bool
 is_new New = true

@@ -10,11 +10,12 @@ ghost use Rattle.sarif_model.specs.declared.record.Record.{Record};
 ghost use Rattle.sarif_read.specs.Reading.{log_of};
 ghost use Rattle.sarif_runs.specs.Judging.{run_values};
 ghost use Rattle.sarif_runs.specs.Placed.{Placed};
-ghost use Rattle.sarif_runs.specs.Record.{record_of, tool_name};
+ghost use Rattle.sarif_runs.specs.Record.{record_of};
 ghost use Rattle.sarif_known.specs.Chosen.{Chosen};
 ghost use Rattle.sarif_known.specs.KnownLog.{known_log};
 ghost use Rattle.sarif_known.specs.KnownRun.{known_run};
 ghost use Rattle.sarif_known.specs.Laws.{AreAlike, AreKnownAgain, CanBeRead, IsOfTool};
+ghost use Rattle.sarif_model.specs.Driver.{tool_name};
 
 /// What is known is read again: the known log is read without an error, and the records of its results are exactly
 /// those that were written, in their order. `known_text` ensures the premise.

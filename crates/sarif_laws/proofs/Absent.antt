@@ -10,9 +10,9 @@ use Rattle.sarif_model.specs.declared.kinds.State.TheVariants.{Absent}
 use Rattle.sarif_model.specs.declared.record.Record.{Record}
 use Rattle.sarif_model.specs.Members.{elements}
 use Rattle.sarif_model.specs.Run.{elements_or_none, is_absent_result, present, results_of}
+use Rattle.sarif_model.proofs.Elements.{items_back}
 use Rattle.sarif_counts.specs.declared.policy.Policy.{Policy}
 use Rattle.sarif_entries.specs.Matching.{is_empty}
-use Rattle.sarif_read.proofs.RunOf.{elements_items_of}
 use Rattle.sarif_results.specs.Annotated.{own_suppressions}
 use Rattle.sarif_log.specs.MergedRuns.{absent_runs, bare, if_any, keep_if, unmatched, with_absent, written}
 use Rattle.sarif_laws.specs.Hits.{is_hit_in, stays_in, suppressions_listed}
@@ -58,7 +58,7 @@ module _ (policy : Policy) where
   run_stays ds (array es) all = tt
   run_stays ds (object ms) all =
       let found : results_of (with_absent ds (object ms)) ≡ ds =
-      ap (λ o. elements_or_none (option_and_then as_array o)) (get_member-put (codes "results") (array (items_of ds)) (bare ms)) ∙ elements_items_of ds in
+      ap (λ o. elements_or_none (option_and_then as_array o)) (get_member-put (codes "results") (array (items_of ds)) (bare ms)) ∙ items_back ds in
       subst (AllByRecursion (StaysIfHit policy)) (sym found) all
 
   if_any_stay : (ds : List Data) (run : Data) (runs : List Data) → AllByRecursion (StaysIfHit policy) ds → AllByRecursion (λ x. AllByRecursion (StaysIfHit policy) (results_of x)) runs

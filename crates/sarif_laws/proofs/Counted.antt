@@ -7,15 +7,16 @@ use Rattle.serde_json.specs.Find.{get, as_array}
 use Rattle.sarif_model.specs.declared.kinds.Level.{Level}
 use Rattle.sarif_model.specs.declared.kinds.State.{State}
 use Rattle.sarif_model.specs.Members.{elements}
-use Rattle.sarif_model.specs.Run.{elements_or_none, results_of}
+use Rattle.sarif_model.specs.Run.{results_of}
+use Rattle.sarif_model.proofs.Elements.{items_or_none}
 use Rattle.sarif_counts.specs.declared.policy.Policy.{Policy}
 use Rattle.sarif_counts.specs.Policy.{count_if, hits_of, is_listed}
 use Rattle.sarif_counts.specs.Tally.{same_side}
 use Rattle.sarif_counts.specs.CountOf.{carries, count_in, count_of, results_in, suppresses, suppressions_in}
 use Rattle.sarif_findings.specs.Reported.{level_in, state_in}
-use Rattle.sarif_findings.proofs.ReportedMore.{items_in_array, items_or_none}
+use Rattle.sarif_findings.proofs.ReportedMore.{items_in_array}
 use Rattle.sarif_findings.proofs.HitsCounted.{at_least_in, hits_add, hits_in, hits_one, hits_same, hits_zero, one_of}
-use Rattle.sarif_findings.proofs.HitsReported.{carried}
+use Rattle.sarif_findings.proofs.HitsReported.{carried, elements_there}
 use Rattle.sarif_laws.specs.Hits.{fails_on, is_hit_in, lists}
 
 severe_same : (policy : Policy) (level : Option Level) → at_least_in policy.fail_on level ≡ fails_on policy level
@@ -49,10 +50,6 @@ in_items policy (item d ds) =
     ∙ ap (λ n. n + hits_of (count_in ds) policy) (one_hit policy d)
     ∙ ap (λ n. cond (is_hit_in policy d) 1 0 + n) (in_items policy ds)
     ∙ sym (sum_by-cons (λ x. cond (is_hit_in policy x) 1 0) d (elements ds))
-
-elements_there : (o : Option Items) → elements_or_none o ≡ elements (items_or_none o)
-elements_there None = refl
-elements_there (Some ds) = refl
 
 in_run : (policy : Policy) (run : Data) → hits_of (count_in (results_in run)) policy ≡ count_by (is_hit_in policy) (results_of run)
 in_run policy run =

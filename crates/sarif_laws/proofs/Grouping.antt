@@ -3,6 +3,7 @@ use Rattle.std.proofs.Common.{◌≡◌, ◌+◌, ◌≤◌, ℕ, Bool, true, fa
 use Rattle.std.specs.List.{flat_map, list_any}
 use Rattle.std.proofs.lemmas.List.Folds.{list_any-append}
 use Rattle.std.proofs.lemmas.Slice.Eq.{bytes_eq-Decides}
+use Rattle.std.proofs.lemmas.Bool.{or_parts, or_left}
 use Rattle.sarif_entries.specs.Matching.{is_empty}
 use Rattle.sarif_known.specs.Chosen.{Chosen, results_among}
 use Rattle.sarif_known.specs.Internal.Groups.{AreApart}
@@ -13,12 +14,8 @@ use Rattle.sarif_known.proofs.Grouped.{tools_apart}
 not_later : (tool : List ℕ) (before tools : List (List ℕ)) → list_any (bytes_eq tool) before ≡ true → AreApart before tools → list_any (bytes_eq tool) tools ≡ false
 not_later tool before [] there apart = refl
 not_later tool before (x ∷ xs) there apart =
-    by_test (bytes_eq tool x) refl (not_later tool (before ++ x ∷ []) xs (list_any-append (bytes_eq tool) before (x ∷ []) ∙ or_first (list_any (bytes_eq tool) before) (list_any (bytes_eq tool) (x ∷ [])) there) apart.1)
+    by_test (bytes_eq tool x) refl (not_later tool (before ++ x ∷ []) xs (list_any-append (bytes_eq tool) before (x ∷ []) ∙ or_left (list_any (bytes_eq tool) before) (list_any (bytes_eq tool) (x ∷ [])) there) apart.1)
   where
-    or_first : (a b : Bool) → a ≡ true → (a || b) ≡ true
-    or_first true b is = refl
-    or_first false b is = absurd (true≢false (sym is))
-
     by_test : (b : Bool) → bytes_eq tool x ≡ b → list_any (bytes_eq tool) xs ≡ false → (b || list_any (bytes_eq tool) xs) ≡ false
     by_test true is rest =
         let same : tool ≡ x = (bytes_eq-Decides tool x).0 is in
@@ -42,13 +39,8 @@ module _ (weight : Chosen → ℕ) where
     none_more : (tools : List (List ℕ)) → list_any (bytes_eq run.tool) tools ≡ false → flat_map (runs_of_tool (run ∷ all)) tools ≡ flat_map (runs_of_tool all) tools
     none_more [] none = refl
     none_more (t ∷ ts) none =
-        let parts = neither (bytes_eq run.tool t) (list_any (bytes_eq run.tool) ts) none in
+        let parts = or_parts (bytes_eq run.tool t) (list_any (bytes_eq run.tool) ts) none in
         ap (λ l. l ++ flat_map (runs_of_tool (run ∷ all)) ts) (other_tool t parts.0) ∙ ap (λ l. runs_of_tool all t ++ l) (none_more ts parts.1)
-      where
-        neither : (a b : Bool) → (a || b) ≡ false → (a ≡ false) × (b ≡ false)
-        neither true b is = absurd (true≢false is)
-        neither false b is = (refl, is)
-
     one_of : (b : Bool) (tool : List ℕ) → total (if b then run ∷ runs_of_tool all tool else runs_of_tool all tool) ≤ weight run + total (runs_of_tool all tool)
     one_of true tool = omega arith
     one_of false tool = omega arith

@@ -1,18 +1,19 @@
 -- The runs that become known can be read again.
 use Rattle.std.proofs.Common.{◌≡◌, ◌≤◌, ◌&&◌, ◌++◌, ℕ, zero, suc, Bool, true, false, not, List, [], ◌∷◌, length, take, drop, Option, Some, refl, sym, ap, subst, ◌∙◌, arith, if◌then◌else◌}
-use Rattle.std.specs.Prelude.{filter, bytes_eq}
+use Rattle.std.specs.Prelude.{bytes_eq}
 use Rattle.std.specs.List.{AllByRecursion, flat_map}
 use Rattle.std.proofs.Math.Seq.{take-append_seam, drop-append_seam}
+use Rattle.sarif_log.proofs.Sides.{few_kept}
 use Rattle.serde_json.specs.Data.{Data}
 use Rattle.sarif_model.specs.declared.kinds.State.{State}
 use Rattle.sarif_model.specs.declared.record.Record.{Record}
 use Rattle.sarif_model.specs.Run.{is_absent_result, present, results_of, results_total}
+use Rattle.sarif_model.specs.Driver.{tool_name}
 use Rattle.sarif_counts.specs.declared.policy.Policy.{Policy}
 use Rattle.sarif_entries.specs.File.{File}
 use Rattle.sarif_entries.specs.Matching.{is_empty}
 use Rattle.sarif_runs.specs.Judging.{faults_of_runs, items_of, records_in, records_of, run_faults, run_values, skips}
 use Rattle.sarif_runs.specs.Placed.{Placed}
-use Rattle.sarif_runs.specs.Record.{tool_name}
 use Rattle.sarif_results.proofs.JudgedCounts.{no_faults_here, no_faults_left, records_of_baseline, records_of_log}
 use Rattle.sarif_known.specs.Chosen.{Chosen, results_among}
 use Rattle.sarif_known.specs.Laws.{IsOfTool}
@@ -105,16 +106,8 @@ part_few zero rs = omega arith
 part_few (suc n) [] = omega arith
 part_few (suc n) (r ∷ rs) = omega (arith, part_few n rs)
 
-fewer_chosen : (keep : Data → Bool) (ds : List Data) → length (filter keep ds) ≤ length ds
-fewer_chosen keep [] = omega arith
-fewer_chosen keep (d ∷ ds) = one (keep d) (fewer_chosen keep ds)
-  where
-    one : (b : Bool) → length (filter keep ds) ≤ length ds → length (if b then d ∷ filter keep ds else filter keep ds) ≤ suc (length ds)
-    one true few = omega (arith, few)
-    one false few = omega (arith, few)
-
 fewer_present : (ds : List Data) → length (present ds) ≤ length ds
-fewer_present ds = fewer_chosen (λ d. not (is_absent_result d)) ds
+fewer_present ds = few_kept (λ d. not (is_absent_result d)) ds
 
 pub now_few : (file : File) (policy : Policy) (adopt : Bool) (runs : List Data) (rs : List Record) (states : List State) → results_among (chosen_now file policy adopt runs rs states) ≤ results_total runs
 now_few file policy adopt [] rs states = omega arith

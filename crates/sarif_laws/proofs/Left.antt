@@ -16,17 +16,18 @@ use Rattle.sarif_model.specs.State.{state_name}
 use Rattle.sarif_model.specs.Suppression.{status_of}
 use Rattle.sarif_counts.specs.declared.policy.Policy.{Policy}
 use Rattle.sarif_counts.specs.CountOf.{items_in}
-use Rattle.sarif_counts.specs.Policy.{is_at_least, is_listed}
+use Rattle.sarif_model.specs.Level.{is_at_least}
+use Rattle.sarif_model.proofs.Elements.{items_back}
+use Rattle.sarif_model.specs.Status.{is_accepted}
+use Rattle.sarif_counts.specs.Policy.{is_listed}
 use Rattle.sarif_findings.specs.Reported.{is_active, level_in}
-use Rattle.sarif_entries.specs.declared.entry.Entry.{Entry}
 use Rattle.sarif_entries.specs.File.{File}
 use Rattle.sarif_entries.specs.Matching.{is_empty}
-use Rattle.sarif_suppress.specs.Suppressing.{is_accepted, is_suppressed, matching, statuses_of, statuses_suppress}
+use Rattle.sarif_suppress.specs.Suppressing.{is_suppressed, matching, statuses_of, statuses_suppress}
 use Rattle.sarif_suppress.specs.Written.{suppressions_of}
 use Rattle.sarif_suppress.proofs.Numbered.{is_empty-append}
 use Rattle.sarif_suppress.proofs.WrittenList.{written_empty}
-use Rattle.sarif_suppress.proofs.ReadBack.{read_back}
-use Rattle.sarif_read.proofs.RunOf.{elements_items_of}
+use Rattle.sarif_suppress.proofs.ReadBack.{read_back, empty_map}
 use Rattle.sarif_results.specs.Annotated.{annotated_members, own_suppressions}
 use Rattle.sarif_results.proofs.AnnotatedResult.{list_found, state_found}
 use Rattle.sarif_results.proofs.CountedAgain.{counted_again}
@@ -75,15 +76,11 @@ by_statuses : (ss : List Status) → statuses_suppress ss ≡ false → not (is_
 by_statuses [] active = refl
 by_statuses (s ∷ ss) active = sym (ap not active)
 
-no_status : (es : List Entry) → is_empty es ≡ is_empty (map (λ e. e.status) es)
-no_status [] = refl
-no_status (e ∷ es) = refl
-
 -- a result that isn't suppressed has suppressions if and only if it stays
 has_some : (file : File) (r : Record) (own : List Data) → read_each status_of own ≡ Ok r.held → is_suppressed file r ≡ false → not (is_empty (suppressions_of own file r)) ≡ stays file r
 has_some file r own read active =
     let es = matching file r in
-    ap not (written_empty own es ∙ ap (λ b. b && is_empty es) (none_read own r.held read) ∙ ap (λ b. is_empty r.held && b) (no_status es)
+    ap not (written_empty own es ∙ ap (λ b. b && is_empty es) (none_read own r.held read) ∙ ap (λ b. is_empty r.held && b) (empty_map es)
     ∙ sym (is_empty-append r.held (map (λ e. e.status) es)))
     ∙ by_statuses (statuses_of file r) active
 
@@ -115,7 +112,7 @@ module _ (policy : Policy) (r : Record) (state : State) where
     listed_by : suppressions_listed (object (annotated_members r.level state (items_of (suppressions_of (elements (own_suppressions ms)) file r)) ms)) ≡ suppressions_of (elements (own_suppressions ms)) file r
     listed_by =
         list_told r.level state (items_of (suppressions_of (elements (own_suppressions ms)) file r)) ms
-        ∙ elements_items_of (suppressions_of (elements (own_suppressions ms)) file r)
+        ∙ items_back (suppressions_of (elements (own_suppressions ms)) file r)
 
     stays_when : bytes_eq (codes "absent") (state_name state) ≡ false
         → stays_in policy (object (annotated_members r.level state (items_of (suppressions_of (elements (own_suppressions ms)) file r)) ms)) ≡ (is_hit (may_hit policy) file r state && stays file r)

@@ -6,12 +6,13 @@ use Rattle.serde_json.specs.Data.{Data, null}
 use Rattle.sarif_model.specs.declared.merge_fault.Source.{Source}
 use Rattle.sarif_model.specs.declared.record.Record.{Record}
 use Rattle.sarif_model.specs.Run.{results_of}
+use Rattle.sarif_model.specs.Driver.{tool_name}
 use Rattle.sarif_counts.specs.declared.checks.Checks.{Checks}
 use Rattle.sarif_read.specs.declared.read_fault.ReadFault.{ReadFault}
 use Rattle.sarif_read.specs.Reading.{log_of}
 use Rattle.sarif_runs.specs.Judging.{items_of, records_in}
 use Rattle.sarif_runs.specs.Placed.{Placed}
-use Rattle.sarif_runs.specs.Record.{record_of, tool_name}
+use Rattle.sarif_runs.specs.Record.{record_of}
 use Rattle.sarif_inputs.specs.Inputs.{Sourced, placed, placed_from, readable, runs_in}
 use Rattle.sarif_known.specs.Laws.{IsOfTool}
 use Rattle.sarif_known.proofs.Readable.{read_sound}

@@ -11,6 +11,7 @@ use Rattle.sarif_model.specs.declared.record.Record.{Record}
 use Rattle.sarif_model.specs.Members.{◌>>=◌, are_objects, elements, elements_of, if_objects, of_kind, read_each, unless_null}
 use Rattle.sarif_model.specs.Run.{is_absent_result, result_at, results_of}
 use Rattle.sarif_model.specs.Suppression.{status_of}
+use Rattle.sarif_model.specs.Driver.{tool_name}
 use Rattle.sarif_counts.specs.CountOf.{items_in}
 use Rattle.sarif_read.proofs.WholeRuns.{bind_ok}
 use Rattle.sarif_runs.specs.declared.head.RunHead.{RunHead}
@@ -23,7 +24,7 @@ use Rattle.sarif_runs.specs.Level.{level_of}
 use Rattle.sarif_members.specs.OwnMembers.{own_statuses, parts_of}
 use Rattle.sarif_runs.specs.Place.{place_of}
 use Rattle.sarif_runs.specs.Placed.{Placed}
-use Rattle.sarif_runs.specs.Record.{record_by, record_in, record_of, tool_name}
+use Rattle.sarif_runs.specs.Record.{record_by, record_in, record_of}
 use Rattle.sarif_results.specs.Annotated.{own_suppressions}
 use Rattle.sarif_accept.specs.Until.{HasGuid}
 use Rattle.sarif_known.proofs.Readable.{AreReadFrom, parts_read}

@@ -19,11 +19,12 @@ use Rattle.json_parts.proofs.Readings.{and_then_some}
 use Rattle.json_parts.proofs.Stripped.{get-IsOrdered}
 use Rattle.sarif_model.specs.declared.record.Record.{Record}
 use Rattle.sarif_model.specs.Members.{elements}
+use Rattle.sarif_model.specs.Run.{elements_or_none}
 use Rattle.sarif_counts.specs.declared.upkeep.Renewal.{Renewal}
 use Rattle.sarif_read.proofs.RunOf.{stripped_ordered}
 use Rattle.sarif_accept.specs.Entry.{conditions_for, entry_for, entry_rows, members_from, texts_put}
 use Rattle.sarif_accept.specs.Keeping.{chosen}
-use Rattle.sarif_accept.specs.NewFile.{entries_after, entries_in, entry_in, file_object, listed, new_file, others_in, stripped_in}
+use Rattle.sarif_accept.specs.NewFile.{entries_after, entries_in, entry_in, file_object, new_file, others_in, stripped_in}
 use Rattle.sarif_accept.proofs.EveryRow.{IsKept, IsOfEach, entry_keeps, texts_keep}
 use Rattle.sarif_laws.proofs.Lists.{all_append}
 use Rattle.sarif_laws.proofs.Ranged.{AreItemsRanged, AreMembersRanged, IsRanged, list_ranged, member_ranged, put_ranged, read_ranged, stripped_ranged, without_ranged}
@@ -109,7 +110,7 @@ elements_sound : (ds : Items) → AreItemsOrdered ds → AreItemsRanged ds → A
 elements_sound no_items rise fit = tt
 elements_sound (item d ds) rise fit = (record { rises = rise.0; fits = fit.0 }, elements_sound ds rise.1 fit.1)
 
-listed_sound : (o : Option Data) → If IsSound o → AllByRecursion IsSound (listed (option_and_then as_array o))
+listed_sound : (o : Option Data) → If IsSound o → AllByRecursion IsSound (elements_or_none (option_and_then as_array o))
 listed_sound None is = tt
 listed_sound (Some null) is = tt
 listed_sound (Some (boolean b)) is = tt
@@ -179,7 +180,7 @@ pub new_sound : (given : Option (List ℕ)) (kept : List Bool) (added : List Rec
     → IsSound (new_file (file_object given) kept (map (λ r. entry_for r renewal.reason renewal.until) added))
 new_sound given kept added renewal small =
     let d = file_object given in
-    let old = chosen_sound kept (entries_in d) (entries_sound (listed (option_and_then as_array (get (codes "suppressions") d))) (listed_sound (get (codes "suppressions") d) (get_sound (codes "suppressions") d (file_sound given)))) in
+    let old = chosen_sound kept (entries_in d) (entries_sound (elements_or_none (option_and_then as_array (get (codes "suppressions") d))) (listed_sound (get (codes "suppressions") d) (get_sound (codes "suppressions") d (file_sound given)))) in
     let new = map (λ r. entry_for r renewal.reason renewal.until) added in
     let all = all_append IsSound (chosen kept (entries_in d)) new old (added_sound added renewal.reason renewal.until small) in
     let others = stripped_sound (without_member (codes "suppressions") d) (without_sound (codes "suppressions") d (file_sound given)) in

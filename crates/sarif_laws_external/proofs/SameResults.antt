@@ -3,7 +3,7 @@ use Rattle.std.proofs.Common.{◌≡◌, ℕ, ◌+◌, Bool, not, cond, List, []
 use Rattle.std.proofs.lemmas.List.{map-append}
 use Rattle.std.proofs.lemmas.List.Sums.{sum_by-cons}
 use Rattle.std.specs.Prelude.{option_and_then}
-use Rattle.serde_json.specs.Data.{Data, null, boolean, number, string, array, object, Items, no_items, Members}
+use Rattle.serde_json.specs.Data.{Data, null, boolean, number, string, array, object, Items, Members}
 use Rattle.serde_json.specs.Find.{as_array, get}
 use Rattle.serde_json.specs.View.{items_of}
 use Rattle.serde_json.proofs.Views.{get_member-put}
@@ -12,6 +12,7 @@ use Rattle.sarif_model.specs.declared.kinds.Level.{Level}
 use Rattle.sarif_model.specs.declared.kinds.State.{State}
 use Rattle.sarif_model.specs.declared.record.Record.{Record}
 use Rattle.sarif_model.specs.Run.{present, results_array, results_of}
+use Rattle.sarif_model.proofs.Elements.{items_or_none}
 use Rattle.sarif_counts.specs.CountOf.{count_in, count_of, items_in}
 use Rattle.sarif_counts.specs.Gate.{gate_of}
 use Rattle.sarif_counts.specs.Policy.{Count}
@@ -112,10 +113,6 @@ module _ (file : File) (current baseline : List Placed) where
       ∙ sym (map-append results_array (current_runs file current baseline) (leftover_runs current baseline))
 
 -- ---- counts
-
-abbrev items_or_none : Option Items → Items
-items_or_none None = no_items
-items_or_none (Some ds) = ds
 
 in_array : (found : Option Data) → items_in found ≡ items_or_none (option_and_then as_array found)
 in_array None = refl

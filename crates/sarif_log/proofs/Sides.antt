@@ -38,7 +38,7 @@ pub results_long : (runs : List Data) → length (flat_map results_of runs) ≡ 
 results_long [] = refl
 results_long (run ∷ runs) = length-append (results_of run) (flat_map results_of runs) ∙ ap (λ n. length (results_of run) + n) (results_long runs)
 
-few_kept : (keep : Data → Bool) (ds : List Data) → length (filter keep ds) ≤ length ds
+pub few_kept : (keep : Data → Bool) (ds : List Data) → length (filter keep ds) ≤ length ds
 few_kept keep [] = omega arith
 few_kept keep (d ∷ ds) = one (keep d) (few_kept keep ds) where
   one : (kept : Bool) → length (filter keep ds) ≤ length ds → length (cond kept (d ∷ filter keep ds) (filter keep ds)) ≤ suc (length ds)

@@ -9,8 +9,9 @@ use Rattle.sarif_model.specs.declared.kinds.Kind.TheVariants.{Pass, Undecided, I
 use Rattle.sarif_model.specs.declared.kinds.Level.{Level}
 use Rattle.sarif_model.specs.declared.kinds.Level.TheVariants.{NoLevel, Note, Warning, Error}
 use Rattle.sarif_model.specs.declared.kinds.State.TheVariants.{Unchanged, Updated}
+use Rattle.sarif_model.specs.Level.{severity}
 use Rattle.sarif_match.specs.KeyParts.{message_eq, place_eq}
-use Rattle.sarif_match.specs.State.{kind_number, level_number, is_unchanged, state_of, IsUnchanged}
+use Rattle.sarif_match.specs.State.{kind_number, is_unchanged, state_of, IsUnchanged}
 use Rattle.sarif_match.proofs.PartsLemmas.{message_same, message_refl, place_same, place_refl}
 
 -- the kind with this number
@@ -31,7 +32,7 @@ kind_at-number Fail = refl
 level_at : ℕ → Level
 level_at n = cond (n == 0) NoLevel (cond (n == 1) Note (cond (n == 2) Warning Error))
 
-level_at-number : (l : Level) → level_at (level_number l) ≡ l
+level_at-number : (l : Level) → level_at (severity l) ≡ l
 unfolding level_at
 level_at-number NoLevel = refl
 level_at-number Note = refl
@@ -48,7 +49,7 @@ from_unchanged false e = updated_is_no_unchanged e
 pub unchanged_is_equal : (current partner : Record) → state_of current (Some partner) ≡ Unchanged → IsUnchanged current partner
 unchanged_is_equal current partner e =
     let kinds = kind_number current.kind == kind_number partner.kind in
-    let levels = level_number current.level == level_number partner.level in
+    let levels = severity current.level == severity partner.level in
     let messages = message_eq current.message partner.message in
     let places = place_eq current.place partner.place in
     let all = and_parts kinds (levels && (messages && places)) (from_unchanged (is_unchanged current partner) e) in
@@ -56,7 +57,7 @@ unchanged_is_equal current partner e =
     let last = and_parts messages places rest.1 in
     record {
       kind = sym (kind_at-number current.kind) ∙ ap kind_at ((Decides-eqb (kind_number current.kind) (kind_number partner.kind)).0 all.0) ∙ kind_at-number partner.kind;
-      level = sym (level_at-number current.level) ∙ ap level_at ((Decides-eqb (level_number current.level) (level_number partner.level)).0 rest.0) ∙ level_at-number partner.level;
+      level = sym (level_at-number current.level) ∙ ap level_at ((Decides-eqb (severity current.level) (severity partner.level)).0 rest.0) ∙ level_at-number partner.level;
       message = message_same current.message partner.message last.0;
       place = place_same current.place partner.place last.1;
     }
@@ -64,7 +65,7 @@ unchanged_is_equal current partner e =
 pub equal_is_unchanged : (current partner : Record) → IsUnchanged current partner → state_of current (Some partner) ≡ Unchanged
 equal_is_unchanged current partner h =
     let kinds : (kind_number current.kind == kind_number partner.kind) ≡ true = eq-eqb (kind_number current.kind) (kind_number partner.kind) (ap kind_number h.kind) in
-    let levels : (level_number current.level == level_number partner.level) ≡ true = eq-eqb (level_number current.level) (level_number partner.level) (ap level_number h.level) in
+    let levels : (severity current.level == severity partner.level) ≡ true = eq-eqb (severity current.level) (severity partner.level) (ap severity h.level) in
     let messages : message_eq current.message partner.message ≡ true = ap (message_eq current.message) (sym h.message) ∙ message_refl current.message in
     let places : place_eq current.place partner.place ≡ true = ap (place_eq current.place) (sym h.place) ∙ place_refl current.place in
-    ap (λ (b : Bool). cond (b && ((level_number current.level == level_number partner.level) && (message_eq current.message partner.message && place_eq current.place partner.place))) Unchanged Updated) kinds ∙ ap (λ (b : Bool). cond (b && (message_eq current.message partner.message && place_eq current.place partner.place)) Unchanged Updated) levels ∙ ap (λ (b : Bool). cond (b && place_eq current.place partner.place) Unchanged Updated) messages ∙ ap (λ (b : Bool). cond b Unchanged Updated) places
+    ap (λ (b : Bool). cond (b && ((severity current.level == severity partner.level) && (message_eq current.message partner.message && place_eq current.place partner.place))) Unchanged Updated) kinds ∙ ap (λ (b : Bool). cond (b && (message_eq current.message partner.message && place_eq current.place partner.place)) Unchanged Updated) levels ∙ ap (λ (b : Bool). cond (b && place_eq current.place partner.place) Unchanged Updated) messages ∙ ap (λ (b : Bool). cond b Unchanged Updated) places

@@ -3,13 +3,12 @@ use Rattle.std.specs.Prelude.{◌≡◌, ℕ, Bool, Option, Some, None, ◌&&◌
 use Rattle.sarif_model.specs.declared.record.Record.{Record}
 use Rattle.sarif_model.specs.declared.kinds.Kind.{Kind}
 use Rattle.sarif_model.specs.declared.kinds.Kind.TheVariants.{Pass, Undecided, Informational, NotApplicable, Review, Fail}
-use Rattle.sarif_model.specs.declared.kinds.Level.{Level}
-use Rattle.sarif_model.specs.declared.kinds.Level.TheVariants.{NoLevel, Note, Warning, Error}
+use Rattle.sarif_model.specs.Level.{severity}
 use Rattle.sarif_model.specs.declared.kinds.State.{State}
 use Rattle.sarif_model.specs.declared.kinds.State.TheVariants.{New, Unchanged, Updated}
 use Rattle.sarif_match.specs.KeyParts.{place_eq, message_eq}
 
--- the number of each kind and level, in the order of their declaration
+-- the number of each kind, in the order of their declaration
 abbrev pub kind_number : Kind → ℕ
 kind_number Pass = 0
 kind_number Undecided = 1
@@ -18,17 +17,11 @@ kind_number NotApplicable = 3
 kind_number Review = 4
 kind_number Fail = 5
 
-abbrev pub level_number : Level → ℕ
-level_number NoLevel = 0
-level_number Note = 1
-level_number Warning = 2
-level_number Error = 3
-
 -- whether kind, effective level, message and place are equal
 abbrev pub is_unchanged : Record → Record → Bool
 is_unchanged current partner =
     (kind_number current.kind == kind_number partner.kind)
-    && ((level_number current.level == level_number partner.level)
+    && ((severity current.level == severity partner.level)
     && (message_eq current.message partner.message && place_eq current.place partner.place))
 
 -- the state of a current result with this match

@@ -31,7 +31,7 @@ check_present result = if is_absent_result result then Err AbsentInput else Ok t
 abbrev pub as_kind : Data → Option Kind
 as_kind d = option_and_then kind_named (as_str d)
 
--- absent it is `fail`
+-- `fail` if it is missing
 abbrev pub own_kind : Data → Result Kind Fault
 own_kind result =
     result_map (λ kind. unwrap_or kind Fail)

@@ -35,7 +35,7 @@ fn check_is_present(result_value: &Value) -> Result<(), Fault>
     }
 }
 
-/// The kind of a result, or `BadKind`; absent it is `fail` (SARIF 2.1.0, result object, "kind
+/// The kind of a result, or `BadKind`; `fail` if it is missing (SARIF 2.1.0, result object, "kind
 /// property").
 fn read_kind(result_value: &Value) -> Result<Kind, Fault>
     ensures { result ≡ own_kind (seen result_value.now) }

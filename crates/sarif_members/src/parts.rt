@@ -5,7 +5,7 @@ use sarif_model::{Kind, Level, Message, Pairs, Sequence, Status, Text};
 /// absent or -1 is `None`.
 #[derive(Debug, Drop)]
 pub struct Parts {
-    /// `kind`; absent it is `fail`.
+    /// `kind`; `fail` if it is missing.
     pub kind: Kind,
     /// `level`, as it is written.
     pub level: Option<Level>,

@@ -18,6 +18,7 @@ use Rattle.sarif_match.specs.State.{state_of}
 use Rattle.sarif_model.specs.declared.merge_fault.At.{At}
 use Rattle.sarif_model.specs.declared.merge_fault.At.TheVariants.{Single}
 use Rattle.sarif_model.specs.declared.merge_fault.Source.TheVariants.{Log, Baseline}
+use Rattle.sarif_model.proofs.Elements.{items_back}
 use Rattle.sarif_runs.specs.declared.item.Item.{Item}
 use Rattle.sarif_runs.specs.declared.item.Item.TheVariants.{Skipped}
 use Rattle.sarif_runs.specs.Judging.{faults_of_runs, first_bad, item_by, item_of, items_of, opening_fault, records_in, records_of, run_faults, skips, with_record, run_values}
@@ -25,7 +26,6 @@ use Rattle.sarif_runs.specs.Placed.{Placed}
 use Rattle.sarif_results.specs.Drafts.{Listing}
 use Rattle.sarif_log.specs.MergedRuns.{annotated_items, bare, merged_run, merged_runs, own_results, with_results, written, written_all}
 use Rattle.json_parts.specs.Without.{without}
-use Rattle.sarif_read.proofs.RunOf.{elements_items_of}
 use Rattle.sarif_log.proofs.RunResults.{still_out, taken_out}
 use Rattle.sarif_log.specs.LogBy.{listing_of, partner_in, states_from, states_of}
 use Rattle.sarif_results.proofs.JudgedCounts.{no_fault, no_faults_here, no_faults_left, records_of_log, records_of_logs}
@@ -72,7 +72,7 @@ module _ (listed : Listing) where
       ap (λ found. elements_or_none (option_and_then as_array found)) none ∙ sym (nothing_written rs ss)
   found_results rs ss (Some ds) ms none =
       ap (λ found. elements_or_none (option_and_then as_array found)) (get_member-put (codes "results") (array (items_as_data (written_all listed rs ss (elements ds)))) ms)
-      ∙ elements_items_of (written_all listed rs ss (elements ds))
+      ∙ items_back (written_all listed rs ss (elements ds))
 
   -- a run is written with its results
   merged_results : (rs : List Record) (ss : List State) (run : Data) → results_of (merged_run listed rs ss run) ≡ written_all listed rs ss (results_of run)

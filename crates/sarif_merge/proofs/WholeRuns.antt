@@ -3,6 +3,7 @@ use Rattle.std.proofs.Common.{◌≡◌, Bool, true, false, not, List, [], ◌�
 use Rattle.std.proofs.lemmas.Bool.{or_parts}
 use Rattle.std.specs.List.{list_any}
 use Rattle.std.specs.Prelude.{Option, Some, None}
+use Rattle.sarif_read.proofs.WholeRuns.{any_element}
 use Rattle.serde_json.specs.Data.{Data, string, array, Items, Members, put}
 use Rattle.serde_json.specs.Find.{get_member}
 use Rattle.serde_json.specs.View.{items_of}
@@ -20,7 +21,7 @@ use Rattle.sarif_log.specs.MergedRuns.{written, written_all, annotated_items, ow
 use Rattle.sarif_model.specs.Run.{present}
 use Rattle.sarif_results.proofs.WholeListing.{items_whole}
 use Rattle.json_parts.proofs.Keeping.{put_whole}
-use Rattle.sarif_results.proofs.WholeMembers.{on_members_whole, list_float, found_whole, items_in_whole, array_whole, elements_whole, results_whole}
+use Rattle.sarif_results.proofs.WholeMembers.{on_members_whole, list_float, found_whole, items_in_whole, array_whole, results_whole}
 use Rattle.sarif_log.proofs.WholeRunMembers.{bare_whole, with_results_whole}
 
 both : (d : Data) (ds : List Data) → has_float d ≡ false → list_any has_float ds ≡ false → list_any has_float (d ∷ ds) ≡ false
@@ -34,7 +35,7 @@ module _ (listed : Listing) (adds_none : (r : Record) (own : List Data) → list
   members_whole r state ms of_ms =
       let own = elements (own_suppressions ms) in
       let list = items_of (listed r own) in
-      let of_own : list_any has_float own ≡ false = elements_whole (own_suppressions ms) ∙ items_in_whole (get_member (codes "suppressions") ms) (found_whole (codes "suppressions") ms of_ms) in
+      let of_own : list_any has_float own ≡ false = any_element (own_suppressions ms) ∙ items_in_whole (get_member (codes "suppressions") ms) (found_whole (codes "suppressions") ms of_ms) in
       let of_list : items_have_float list ≡ false = items_whole (listed r own) ∙ adds_none r own of_own in
       put_whole (codes "baselineState") (string (state_name state)) (put (codes "level") (string (level_name r.level)) (put (codes "suppressions") (array list) ms)) refl
       (put_whole (codes "level") (string (level_name r.level)) (put (codes "suppressions") (array list) ms) refl
@@ -55,7 +56,7 @@ module _ (listed : Listing) (adds_none : (r : Record) (own : List Data) → list
   annotated_whole : (rs : List Record) (states : List State) (list : Option Items) → list_float list ≡ false → list_float (annotated_items listed rs states list) ≡ false
   annotated_whole rs states None of_list = refl
   annotated_whole rs states (Some ds) of_list =
-      items_whole (written_all listed rs states (elements ds)) ∙ written_all_whole rs states (elements ds) (elements_whole ds ∙ of_list)
+      items_whole (written_all listed rs states (elements ds)) ∙ written_all_whole rs states (elements ds) (any_element ds ∙ of_list)
 
   merged_members_whole : (rs : List Record) (states : List State) (ms : Members) → members_have_float ms ≡ false
       → members_have_float (with_results (annotated_items listed rs states (own_results ms)) (bare ms)) ≡ false

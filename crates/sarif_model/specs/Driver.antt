@@ -1,5 +1,5 @@
 -- The driver of the tool of a run (SARIF 2.1.0, "run object", "tool object", "toolComponent object").
-use Rattle.std.specs.Prelude.{ℕ, List, Option, codes, option_and_then}
+use Rattle.std.specs.Prelude.{ℕ, List, [], Option, codes, option_and_then, unwrap_or}
 use Rattle.serde_json.specs.Data.{Data}
 use Rattle.serde_json.specs.Find.{get, as_str}
 
@@ -11,3 +11,7 @@ driver_name run =
     option_and_then as_str
     (option_and_then (get (codes "name"))
     (option_and_then (get (codes "driver")) (get (codes "tool") run)))
+
+-- the same, or the empty string if it is missing
+abbrev pub tool_name : Data → List ℕ
+tool_name run = unwrap_or (driver_name run) []

@@ -1,4 +1,4 @@
-use Rattle.std.specs.Prelude.{ℕ, List, Option, Some, None, codes, bytes_eq, if◌then◌else◌}
+use Rattle.std.specs.Prelude.{ℕ, Bool, nat_le, List, Option, Some, None, codes, bytes_eq, if◌then◌else◌}
 use Rattle.sarif_model.specs.declared.kinds.Level.{Level}
 use Rattle.sarif_model.specs.declared.kinds.Level.TheVariants.{NoLevel, Note, Warning, Error}
 
@@ -17,3 +17,13 @@ level_named text =
     if bytes_eq text (level_name Warning) then Some Warning else (
     if bytes_eq text (level_name Error) then Some Error else (
     None))))
+
+-- levels rise from none to error (SARIF 2.1.0, "level property")
+abbrev pub severity : Level → ℕ
+severity NoLevel = 0
+severity Note = 1
+severity Warning = 2
+severity Error = 3
+
+abbrev pub is_at_least : Level → Level → Bool
+is_at_least least level = nat_le (severity least) (severity level)

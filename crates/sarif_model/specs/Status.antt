@@ -1,4 +1,4 @@
-use Rattle.std.specs.Prelude.{ℕ, List, Option, Some, None, codes, bytes_eq, if◌then◌else◌}
+use Rattle.std.specs.Prelude.{ℕ, Bool, true, false, List, Option, Some, None, codes, bytes_eq, if◌then◌else◌}
 use Rattle.sarif_model.specs.declared.kinds.Status.{Status}
 use Rattle.sarif_model.specs.declared.kinds.Status.TheVariants.{Accepted, UnderReview, Rejected}
 
@@ -15,3 +15,9 @@ status_named text =
     if bytes_eq text (status_name UnderReview) then Some UnderReview else (
     if bytes_eq text (status_name Rejected) then Some Rejected else (
     None)))
+
+-- the status doesn't prevent a suppression
+abbrev pub is_accepted : Status → Bool
+is_accepted Accepted = true
+is_accepted UnderReview = false
+is_accepted Rejected = false

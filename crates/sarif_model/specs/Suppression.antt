@@ -25,7 +25,7 @@ check_suppression_kind suppression =
 abbrev pub as_status : Data → Option Status
 as_status d = option_and_then status_named (as_str d)
 
--- its status; absent it is accepted
+-- its status; accepted if it is missing
 abbrev pub status_of : Data → Result Status Fault
 status_of suppression = do
   _ ← check_suppression_kind suppression

@@ -12,14 +12,15 @@ pub enum Fault {
     #[error("NotLog")]
     NotLog = 2,
     /// `version`, which must be there, is not supported: a log or a baseline must have the string
-    /// `2.1.0`, the suppression file the integer 1 or 2.
+    /// `2.1.0`, the suppression file the integer 1, 2 or 4.
     #[error("WrongVersion")]
     WrongVersion = 3,
     /// A run that is not an object, or whose `tool.driver.name`, which is required, is not a string, or whose
     /// `results` are not an array of objects.
     #[error("BadRun")]
     BadRun = 4,
-    /// A run that names external property files: its `externalPropertyFileReferences` is not an empty object.
+    /// A run that names external property files: its `externalPropertyFileReferences` is not an empty object. If such
+    /// files are allowed, it names one for a part that is read.
     #[error("ExternalProperties")]
     ExternalProperties = 5,
     /// `tool.extensions` that is not an array of objects, `rules` of the driver or of an extension that is not an
@@ -81,8 +82,8 @@ pub enum Fault {
     /// An entry of the suppression file that expires, if the merge has no date of today.
     #[error("NeedsToday")]
     NeedsToday = 20,
-    /// A run whose analysis failed, if success is required: `executionSuccessful` of an invocation is false, or the run
-    /// has no results.
+    /// A run whose analysis failed, if success is required: `executionSuccessful` of an invocation is false, or
+    /// `results` are missing or null.
     #[error("NotSuccessful")]
     NotSuccessful = 21,
 }

@@ -1,9 +1,10 @@
 //! The values of `level`, `kind`, `baselineState` and a suppression's `status`, as types.
 ghost use Rattle.std.specs.Prelude.{◌≡◌};
-ghost use Rattle.sarif_model.specs.Level.{level_name, level_named};
+ghost use Rattle.sarif_model.specs.Level.{level_name, level_named, is_at_least};
+ghost use Rattle.sarif_model.specs.Level as said;
 ghost use Rattle.sarif_model.specs.Kind.{kind_name, kind_named};
 ghost use Rattle.sarif_model.specs.State.{state_name, state_named};
-ghost use Rattle.sarif_model.specs.Status.{status_name, status_named};
+ghost use Rattle.sarif_model.specs.Status.{status_name, status_named, is_accepted};
 
 /// The severity of a result, in rising order (SARIF 2.1.0, "level property").
 #[derive(Clone, Copy, Debug, PartialEq, Eq, PartialOrd, Ord, Hash)]
@@ -45,6 +46,24 @@ impl Level {
             Some(Level::Error)
         } else {
             None
+        }
+    }
+
+    /// Returns whether this level is the level `least` or a greater one.
+    pub fn is_at_least(self, least: Level) -> bool
+        ensures { result ≡ is_at_least least self }
+    {
+        least.severity() <= self.severity()
+    }
+
+    fn severity(self) -> u8
+        ensures { result ≡ said.severity self }
+    {
+        match self {
+            Level::NoLevel => 0,
+            Level::Note => 1,
+            Level::Warning => 2,
+            Level::Error => 3,
         }
     }
 }
@@ -182,6 +201,16 @@ impl Status {
             Some(Status::Rejected)
         } else {
             None
+        }
+    }
+
+    /// Returns whether a suppression of this status is in effect.
+    pub fn is_accepted(self) -> bool
+        ensures { result ≡ is_accepted self }
+    {
+        match self {
+            Status::Accepted => true,
+            Status::UnderReview | Status::Rejected => false,
         }
     }
 }

@@ -9,6 +9,6 @@ pub struct Message {
     pub text: Option<Text>,
     /// `id`.
     pub id: Option<Text>,
-    /// `arguments`; absent it is empty.
+    /// `arguments`; empty if it is missing.
     pub args: Sequence<Text>,
 }

@@ -12,7 +12,7 @@ pub struct Record {
     pub tool: Text,
     /// `ruleId`, otherwise `rule.id`, otherwise the descriptor's `id`, otherwise the empty string.
     pub rule_id: Text,
-    /// `kind`; absent it is `fail`.
+    /// `kind`; `fail` if it is missing.
     pub kind: Kind,
     /// The effective level.
     pub level: Level,

@@ -12,7 +12,7 @@ use Rattle.sarif_model.specs.State.{state_name}
 use Rattle.sarif_counts.specs.declared.policy.Policy.{Policy}
 use Rattle.sarif_counts.specs.declared.policy.Verdict.{Verdict}
 use Rattle.sarif_counts.specs.Counts.{same_state}
-use Rattle.sarif_counts.specs.Policy.{Count, hits_of, is_at_least, is_listed, verdict_of, verdict_name}
+use Rattle.sarif_counts.specs.Policy.{Count, hits_of, verdict_of, verdict_name, are_hits}
 use Rattle.sarif_counts.specs.Tally.{same_level}
 use Rattle.sarif_shown.specs.CountRow.{numbers_of}
 use Rattle.sarif_shown.specs.declared.count_row.Row.{Row}
@@ -62,11 +62,6 @@ strong n = if n == 0 then codes "0" else codes "<b>" ++ (decimal n ++ codes "</b
 abbrev pub number_cell : Bool → ℕ → List ℕ
 number_cell true n = codes "<td class=\"on\">" ++ (strong n ++ codes "</td>")
 number_cell false n = codes "<td>" ++ (decimal n ++ codes "</td>")
-
--- whether the active results of this state and level are hits
-abbrev pub are_hits : Policy → State → Level → Bool
-are_hits policy state level =
-    is_listed policy.states state && is_at_least policy.fail_on level
 
 unfoldable pub level_cells : Policy → State → Row → List ℕ
 level_cells policy state row =

@@ -1,7 +1,6 @@
 //! The counts of a page.
 ghost use Rattle.std.specs.Prelude.{◌≡◌, ◌++◌, false, IfOk, OnOk, string_bytes};
 ghost use Rattle.sarif_counts.specs.Counts.{count_at};
-ghost use Rattle.sarif_counts.specs.Policy.{severity as rank};
 ghost use Rattle.sarif_page.specs.HtmlReport as said;
 
 use crate::html_fixed::{counts_begin, counts_end};
@@ -38,24 +37,6 @@ fn number_cell(alloc: Global, are_hits: bool, number: u32) -> Result<String, All
     format!(in alloc; "<td class=\"on\">{number}</td>")
 }
 
-fn severity(level: Level) -> u8
-    ensures { result ≡ rank level }
-{
-    match level {
-        Level::NoLevel => 0,
-        Level::Note => 1,
-        Level::Warning => 2,
-        Level::Error => 3,
-    }
-}
-
-/// Whether the active results of this state and level are hits.
-fn are_hits(policy: &Policy, state: State, level: Level) -> bool
-    ensures { result ≡ said.are_hits policy.now state level }
-{
-    policy.states.lists(state) && severity(policy.fail_on) <= severity(level)
-}
-
 /// The cells of a state's active results, by level.
 #[tactic(auto, unfolding(crate::specs::HtmlReport::level_cells))]
 fn level_cells(
@@ -66,10 +47,10 @@ fn level_cells(
 ) -> Result<String, AllocError>
     ensures { IfOk result (λ s. string_bytes s ≡ said.level_cells policy.now state row.now) }
 {
-    let error = number_cell(alloc, are_hits(policy, state, Level::Error), row.error)?;
-    let warning = number_cell(alloc, are_hits(policy, state, Level::Warning), row.warning)?;
-    let note = number_cell(alloc, are_hits(policy, state, Level::Note), row.note)?;
-    let none = number_cell(alloc, are_hits(policy, state, Level::NoLevel), row.none)?;
+    let error = number_cell(alloc, policy.counts(state, Level::Error), row.error)?;
+    let warning = number_cell(alloc, policy.counts(state, Level::Warning), row.warning)?;
+    let note = number_cell(alloc, policy.counts(state, Level::Note), row.note)?;
+    let none = number_cell(alloc, policy.counts(state, Level::NoLevel), row.none)?;
     format!(in alloc; "{error}{warning}{note}{none}")
 }
 

@@ -1,5 +1,5 @@
 -- The drafts that were made of the results of faultless runs.
-use Rattle.std.proofs.Common.{◌≡◌, ℕ, zero, suc, ◌+◌, Bool, true, false, ◌&&◌, not, cond, if◌then◌else◌, List, [], ◌∷◌, ◌++◌, map, filter, length, drop, Option, Some, None, Result, Ok, Err, refl, sym, ap, ◌∙◌, arith}
+use Rattle.std.proofs.Common.{◌≡◌, ℕ, zero, suc, ◌+◌, Bool, true, false, ◌&&◌, not, cond, if◌then◌else◌, List, [], ◌∷◌, ◌++◌, map, length, drop, Option, Some, None, Result, Ok, Err, refl, sym, ap, ◌∙◌, arith}
 use Rattle.std.proofs.lemmas.List.{drop_more}
 use Rattle.std.specs.List.{AllByRecursion, range_with_len, flat_map}
 use Rattle.serde_json.specs.Data.{Data, null}
@@ -21,7 +21,7 @@ use Rattle.sarif_results.specs.declared.draft.Draft.{Draft}
 use Rattle.sarif_results.specs.Drafts.{applied_of, draft_by, drafts_by, members_in, Listing}
 use Rattle.sarif_prepare.specs.Internal.Halves.{drafts_in, with_draft}
 use Rattle.sarif_log.specs.LogBy.{listing_of}
-use Rattle.sarif_results.proofs.JudgedCounts.{no_fault, no_faults_here, no_faults_left, records_of_log, records_of_baseline}
+use Rattle.sarif_results.proofs.JudgedCounts.{no_fault, no_faults_here, no_faults_left, records_of_log, records_of_baseline, kept}
 
 drafts_append : (os ps : List Outcome) → drafts_in (os ++ ps) ≡ drafts_in os ++ drafts_in ps
 drafts_append [] ps = refl
@@ -34,9 +34,6 @@ drafts_append (o ∷ os) ps = one_more o.draft (drafts_append os ps) where
 abbrev drafts_at : File → Bool → List Record → List Data → List Draft
 drafts_at file true rs ds = []
 drafts_at file false rs ds = drafts_by (listing_of file) (applied_of file) rs ds
-
-abbrev kept : Bool → List Data → List Data
-kept skip ds = filter (λ d. not (skip && is_absent_result d)) ds
 
 one : (file : File) (skip : Bool) (absent : Bool) (found : Result Record Fault) (at : ℕ → At) (n : ℕ) (items : List Item) (ds : List Draft) (d : Data) (rest : List Data)
     → first_bad at n ((if skip && absent then Skipped else item_by found) ∷ items) ≡ []

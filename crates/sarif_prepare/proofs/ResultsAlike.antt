@@ -6,10 +6,10 @@ use Rattle.serde_json.specs.Data.{Data}
 use Rattle.serde_json.specs.Find.{get, as_str, as_array, as_number, as_u64}
 use Rattle.sarif_model.specs.declared.kinds.Level.{Level}
 use Rattle.sarif_model.specs.declared.kinds.State.{State}
-use Rattle.sarif_model.specs.Members.{first_of}
+use Rattle.sarif_model.specs.Members.{first_of, text_in}
 use Rattle.sarif_model.specs.Run.{elements_or_none}
 use Rattle.sarif_findings.specs.declared.reporting.Reporting.{Reporting}
-use Rattle.sarif_findings.specs.Lookup.{text_in, number_in, own_rule_id, index_of_rule, rule_index, component_by, component_of, driver_of, rule_by, rule_in, descriptor_of, descriptor_id, rule_id, elements_in, location_uri, physical_location, position_in, position_number}
+use Rattle.sarif_findings.specs.Lookup.{number_in, own_rule_id, index_of_rule, rule_index, component_by, component_of, driver_of, rule_by, rule_in, descriptor_of, descriptor_id, rule_id, elements_in, location_uri, physical_location, position_in, position_number}
 use Rattle.sarif_findings.specs.Message.{arguments_in, arguments_of, message_of, strings_of, text_by}
 use Rattle.sarif_findings.specs.Links.{unlinked}
 use Rattle.sarif_findings.specs.Placeholders.{filled}

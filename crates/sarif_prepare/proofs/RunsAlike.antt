@@ -8,20 +8,22 @@ use Rattle.sarif_model.specs.declared.kinds.Level.{Level}
 use Rattle.sarif_model.specs.declared.kinds.State.{State}
 use Rattle.sarif_read.specs.Internal.Bare.{bare}
 use Rattle.sarif_model.specs.Run.{elements_or_none}
+use Rattle.sarif_model.specs.Members.{text_in}
+use Rattle.sarif_model.specs.Driver.{tool_name}
 use Rattle.sarif_read.proofs.Beside.{bare_get}
 use Rattle.sarif_findings.specs.declared.reporting.Reporting.{Reporting}
-use Rattle.sarif_findings.specs.Lookup.{text_in, element_at, own_rule_id, rule_in, driver_of, extension_index, component_by, component_of, descriptor_of, rule_id, artifact_uri, location_uri, physical_location, number_in}
+use Rattle.sarif_findings.specs.Lookup.{element_at, own_rule_id, rule_in, driver_of, extension_index, component_by, component_of, descriptor_of, rule_id, artifact_uri, location_uri, physical_location, number_in}
 use Rattle.sarif_findings.specs.Message.{arguments_of, component_string, descriptor_string, looked_up, message_of, strings_of, text_by}
 use Rattle.sarif_findings.specs.Links.{unlinked}
 use Rattle.sarif_findings.specs.Placeholders.{filled}
-use Rattle.sarif_findings.specs.Reported.{tool_in, help_in, link_of, path_in, shown_path, finding_of}
+use Rattle.sarif_findings.specs.Reported.{help_in, link_of, path_in, shown_path, finding_of}
 
 -- two runs have the same tool and the same artifacts
 pub record AreAlike (a b : Data) : Type 0 where
   pub tool : get (codes "tool") a ≡ get (codes "tool") b
   pub artifacts : get (codes "artifacts") a ≡ get (codes "artifacts") b
 
-tool_same : (a b : Data) → AreAlike a b → tool_in a ≡ tool_in b
+tool_same : (a b : Data) → AreAlike a b → tool_name a ≡ tool_name b
 tool_same a b same =
     ap (λ tool. unwrap_or (option_and_then as_str (option_and_then (get (codes "name")) (option_and_then (get (codes "driver")) tool))) []) same.tool
 

@@ -16,7 +16,6 @@ use Rattle.sarif_model.specs.declared.kinds.State.TheVariants.{Absent}
 use Rattle.sarif_model.specs.declared.record.Record.{Record}
 use Rattle.sarif_model.specs.Members.{elements}
 use Rattle.sarif_model.specs.Run.{elements_or_none, result_at, results_of, results_total}
-use Rattle.sarif_read.proofs.RunOf.{elements_items_of}
 use Rattle.sarif_suppress.specs.declared.suppressions.Applied.{Applied}
 use Rattle.sarif_runs.specs.declared.spots.Spot.{Spot}
 use Rattle.sarif_runs.specs.Judging.{run_values}
@@ -33,6 +32,7 @@ use Rattle.sarif_log.specs.Internal.Texts.{present_results, unless_taken}
 use Rattle.sarif_results.specs.Drafts.{Listing}
 use Rattle.sarif_log.specs.MergedRuns.{absent_runs, annotated_items, bare, if_any, merged_run, merged_runs, unmatched, with_absent, with_results, written_all}
 use Rattle.sarif_model.specs.Run.{present}
+use Rattle.sarif_model.proofs.Elements.{items_back}
 use Rattle.sarif_log.specs.MergedRuns as runs
 use Rattle.sarif_log.proofs.RunResults.{still_out, taken_out}
 use Rattle.sarif_log.proofs.RunTexts.{drafts_front, drafts_back, present_objects}
@@ -67,7 +67,7 @@ of_results : (reporting : Reporting) (xs : List Data) (ms : Members)
 of_results reporting xs ms =
     let run = object (with_results (Some (items_of xs)) (bare ms)) in
     ap (λ o. filter_map (finding_if reporting run) (elements_or_none (option_and_then as_array o))) (get_member-put (codes "results") (array (items_of xs)) (bare ms))
-    ∙ ap (filter_map (finding_if reporting run)) (elements_items_of xs)
+    ∙ ap (filter_map (finding_if reporting run)) (items_back xs)
 
 found_told : (reporting : Reporting) (listed : Listing) (applied : Record → Applied) (rs : List Record) (ss : List State) (ms : Members) (found : Option Items)
     → length rs ≡ length (elements_or_none found) → length ss ≡ length (elements_or_none found) → AllByRecursion IsObject (elements_or_none found)

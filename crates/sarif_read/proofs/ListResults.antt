@@ -5,8 +5,8 @@ use Rattle.serde_json.specs.Find.{get, as_null, as_array}
 use Rattle.serde_json.specs.View.{items_of}
 use Rattle.sarif_model.specs.declared.fault.Fault.TheVariants.{BadRun}
 use Rattle.sarif_model.specs.Members.{are_objects}
+use Rattle.sarif_model.proofs.Elements.{items_back}
 use Rattle.sarif_read.specs.Reading.{check_results}
-use Rattle.sarif_read.proofs.RunOf.{elements_items_of}
 
 pub is_null_at : (d : Data) → is_some (as_null d) ≡ true → d ≡ null
 is_null_at null h = refl
@@ -51,8 +51,8 @@ array_listed run d ds is h = rw (is_array_at d (items_of ds) h) at is
 pub results_objects : (run d : Data) (ds : List Data) (b : Bool) → Some d ≡ get (codes "results") run → Some (items_of ds) ≡ as_array d → b ≡ are_objects ds
     → check_results run ≡ (if b then Ok tt else Err BadRun)
 results_objects run d ds true is h objects =
-    rw (← array_listed run d ds is h, elements_items_of ds, ← objects) refl
+    rw (← array_listed run d ds is h, items_back ds, ← objects) refl
 results_objects run d ds false is h objects =
-    rw (← array_listed run d ds is h, elements_items_of ds, ← objects) refl
+    rw (← array_listed run d ds is h, items_back ds, ← objects) refl
 
 pub ruleset list_steps = (results_missing, results_null, null_listed, results_wrong, array_listed, results_objects)

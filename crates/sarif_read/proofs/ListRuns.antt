@@ -8,8 +8,8 @@ use Rattle.serde_json.specs.View.{items_of}
 use Rattle.sarif_model.specs.declared.fault.Fault.TheVariants.{NotLog}
 use Rattle.sarif_read.specs.Reading.{check_runs}
 use Rattle.sarif_model.specs.Run.{runs_of}
+use Rattle.sarif_model.proofs.Elements.{items_back}
 use Rattle.sarif_read.specs.Internal.Listed.{value_at}
-use Rattle.sarif_read.proofs.RunOf.{elements_items_of}
 use Rattle.sarif_read.proofs.ListResults.{is_null_at, is_array_at}
 
 pub runs_missing : (log : Data) → None ≡ get (codes "runs") log → check_runs log ≡ Err NotLog
@@ -42,7 +42,7 @@ pub runs_array : (log d : Data) (ds : List Data) → Some d ≡ get (codes "runs
 runs_array log d ds is h = rw (← array_runs log d ds is h) refl
 
 pub array_elements : (log d : Data) (ds : List Data) → Some d ≡ get (codes "runs") log → Some (items_of ds) ≡ as_array d → ds ≡ runs_of log
-array_elements log d ds is h = rw (← array_runs log d ds is h) (sym (elements_items_of ds))
+array_elements log d ds is h = rw (← array_runs log d ds is h) (sym (items_back ds))
 
 pub ruleset list_steps = (runs_missing, runs_null, no_runs, runs_wrong, runs_array, array_elements)
 

@@ -1,12 +1,9 @@
 -- Stripping leaves no number with a fraction, and nothing for a second stripping.
-use Rattle.std.proofs.Common.{◌≡◌, Bool, true, false, ◌||◌, if◌then◌else◌, refl, ap}
+use Rattle.std.proofs.Common.{◌≡◌, true, false, if◌then◌else◌, refl, ap}
+use Rattle.std.proofs.lemmas.Bool.{or_parts}
 use Rattle.serde_json.specs.Data.{Data, null, boolean, number, string, array, object, Items, no_items, item, Members, no_members, member}
 use Rattle.serde_json.specs.Written.{has_float, items_have_float, members_have_float}
 use Rattle.sarif_read.specs.Stripping.{is_fractional, any_fractional, stripped, stripped_items, stripped_members}
-
-pub neither : (a b : Bool) → (a || b) ≡ false → (a ≡ false) × (b ≡ false)
-neither true b h = cc
-neither false b h = (refl, h)
 
 mutual
   pub no_fraction : (d : Data) → is_fractional d ≡ false → has_float (stripped d) ≡ false
@@ -20,7 +17,7 @@ mutual
   pub no_fraction_items : (ds : Items) → any_fractional ds ≡ false → items_have_float (stripped_items ds) ≡ false
   no_fraction_items no_items whole = refl
   no_fraction_items (item d ds) whole =
-      let both = neither (is_fractional d) (any_fractional ds) whole in rw (no_fraction d both.0, no_fraction_items ds both.1) refl
+      let both = or_parts (is_fractional d) (any_fractional ds) whole in rw (no_fraction d both.0, no_fraction_items ds both.1) refl
 
   pub no_fraction_members : (ms : Members) → members_have_float (stripped_members ms) ≡ false
   no_fraction_members no_members = refl

@@ -30,6 +30,7 @@ use Rattle.sarif_read.specs.Internal.Bare.{bare, is_bare}
 use Rattle.sarif_read.specs.Internal.Listed.{value_at, nodes_of, listed_member}
 use Rattle.sarif_read.specs.Internal.Indexed.{with_member, run_of}
 use Rattle.sarif_model.specs.Limits.{most_results}
+use Rattle.sarif_model.proofs.Elements.{items_back}
 
 same_name : (k l : List ℕ) → slice_cmp nat_cmp k l ≡ Equal → bytes_eq k l ≡ true
 same_name k l is = sym (is_eq-slice_cmp k l) ∙ ap is_eq is
@@ -103,18 +104,14 @@ bare_run run = sym (bare_with (listed_member run.results) (view run.bare) run.be
 found_results : (run : IndexedRun) → get (codes "results") (run_of run) ≡ listed_member run.results
 found_results run = get_with (listed_member run.results) (view run.bare) run.beside
 
-pub elements_items_of : (ds : List Data) → elements (items_of ds) ≡ ds
-elements_items_of [] = refl
-elements_items_of (d ∷ ds) = ap (λ es. d ∷ es) (elements_items_of ds)
-
 -- the elements of an array that was found
 pub elements_found : (values each : List Data) (found : Option Items) → values ≡ each → Some (items_of each) ≡ found → values ≡ elements_or_none found
-elements_found values each found are is = are ∙ sym (elements_items_of each) ∙ ap elements_or_none is
+elements_found values each found are is = are ∙ sym (items_back each) ∙ ap elements_or_none is
 
 pub listed_values : (listed : Listed) → elements_or_none (option_and_then as_array (listed_member listed)) ≡ map value_at (nodes_of listed)
 listed_values Missing = refl
 listed_values Null = refl
-listed_values (Array nodes) = elements_items_of (map value_at nodes.items)
+listed_values (Array nodes) = items_back (map value_at nodes.items)
 
 pub results_run : (run : IndexedRun) → results_of (run_of run) ≡ map value_at (nodes_of run.results)
 results_run run =

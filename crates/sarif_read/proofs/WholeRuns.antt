@@ -6,6 +6,7 @@ use Rattle.std.specs.declared.cmp.Ordering.TheVariants.{Less, Equal, Greater}
 use Rattle.std.specs.Cmp.Lexicographic.{slice_cmp}
 use Rattle.std.specs.Ordering.{nat_cmp}
 use Rattle.std.specs.List.{list_any}
+use Rattle.std.proofs.lemmas.Bool.{or_parts}
 use Rattle.serde_json.specs.Data.{Data, null, boolean, number, string, array, object, Items, no_items, item, Members, no_members, member}
 use Rattle.serde_json.specs.Find.{get_member, as_array}
 use Rattle.serde_json.specs.Written.{has_float, items_have_float, members_have_float}
@@ -17,9 +18,9 @@ use Rattle.sarif_model.specs.Run.{runs_of}
 use Rattle.sarif_read.specs.Reading.{log_of, log_of_value, at_whole, ok_or, check_log, check_each}
 use Rattle.json_parts.specs.Indexed.{json_of}
 use Rattle.json_parts.specs.Mark.{without_mark}
-use Rattle.sarif_read.proofs.NoFraction.{neither, no_fraction_members}
+use Rattle.sarif_read.proofs.NoFraction.{no_fraction_members}
 
-any_element : (ds : Items) → list_any has_float (elements ds) ≡ items_have_float ds
+pub any_element : (ds : Items) → list_any has_float (elements ds) ≡ items_have_float ds
 any_element no_items = refl
 any_element (item d ds) = ap (λ b. has_float d || b) (any_element ds)
 
@@ -32,7 +33,7 @@ found_whole : (k : List ℕ) (ms : Members) → members_have_float ms ≡ false 
 unfolding WholeIf
 found_whole k no_members h = tt
 found_whole k (member own d ms) h =
-    let both = neither (has_float d) (members_have_float ms) h in
+    let both = or_parts (has_float d) (members_have_float ms) h in
     elim (slice_cmp nat_cmp k own) as (λ o. WholeIf (match_ordering o (get_member k ms) (Some d) (get_member k ms))) [
       | Less ↦ found_whole k ms both.1
       | Equal ↦ both.0

@@ -3,7 +3,8 @@ ghost use Rattle.std.specs.Prelude.{◌≡◌, map, IfOk, OnOk};
 ghost use Rattle.serde_json.specs.Find.{get};
 ghost use Rattle.serde_json.specs.View.{view, members_view};
 ghost use Rattle.sarif_read.specs.Internal.Listed.{value_at};
-ghost use Rattle.sarif_read.specs.Internal.Picked.{picked, with_own};
+ghost use Rattle.sarif_read.specs.Internal.Picked.{picked};
+ghost use Rattle.sarif_model.specs.Written.{with_value};
 
 use crate::nodes::kept_member;
 use json_parts::Node;
@@ -18,7 +19,7 @@ fn copy_member(
     node: &Node<'_, '_>,
     name: &str,
 ) -> Result<(), AllocError>
-    ensures { OnOk result (members_view members.new.entries ≡ with_own name.now
+    ensures { OnOk result (members_view members.new.entries ≡ with_value name.now
         (get name.now (value_at node.now)) (members_view members.old.entries)) }
 {
     if let Some(member) = kept_member(node, name) {

@@ -31,7 +31,7 @@ fn is_any_unsuccessful(invocations: &[Value]) -> bool
 }
 
 /// Whether one of the invocations of a run was not successful.
-#[tactic(auto, using(crate::proofs::RunOf::elements_items_of))]
+#[tactic(auto, using(sarif_model::proofs::Elements::items_back))]
 pub(crate) fn has_unsuccessful(run: &Value) -> bool
     ensures { result ≡ list_any said.is_unsuccessful (said.invocations_in (view run.now)) }
 {

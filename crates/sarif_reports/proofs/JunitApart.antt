@@ -3,7 +3,7 @@ use Rattle.std.proofs.Common.{◌≡◌, ◌<◌, ◌≤◌, ◌^◌, ◌+◌, �
 use Rattle.std.specs.Prelude.{encode_utf8_all, nat_lt}
 use Rattle.std.specs.Char.{encode_utf8, is_ascii_digit}
 use Rattle.std.specs.List.{AllByRecursion, list_all, sum_by}
-use Rattle.std.proofs.lemmas.Bool.{and_from, and_parts, eqb-true, false_from_ne_true, ltb-true, not-true, or_parts, true≢false}
+use Rattle.std.proofs.lemmas.Bool.{and_from, and_parts, eqb-true, false_from_ne_true, ltb-true, not-true, or_parts, true≢false, or_right}
 use Rattle.std.proofs.lemmas.Bool.Decides.{nat_tests}
 use Rattle.std.proofs.lemmas.List.{length-append}
 use Rattle.std.proofs.lemmas.List.Folds.{flat_map-map}
@@ -65,12 +65,8 @@ ascii_all (w ∷ ws) h =
 ascii_lines : (ws : List ℕ) → list_all is_line_ascii ws ≡ true → IsLines ws
 ascii_lines ws h = (ws, ascii_bytes ws h, ascii_all ws h)
 
-or_second : (a b : Bool) → b ≡ true → (a || b) ≡ true
-or_second true b h = refl
-or_second false b h = h
-
 char_lines : (c : ℕ) → is_seen c ≡ true → IsLines (encode_utf8 c)
-char_lines c seen = (c ∷ [], append-nil (encode_utf8 c), and_from (c == 10 || is_seen c) true (or_second (c == 10) (is_seen c) seen) refl)
+char_lines c seen = (c ∷ [], append-nil (encode_utf8 c), and_from (c == 10 || is_seen c) true (or_right (c == 10) (is_seen c) seen) refl)
 
 page_lines : (b0 b1 b2 b3 b4 : Bool) (c : ℕ) → is_seen c ≡ true
     → IsLines (if b0 then codes "&amp;" else (if b1 then codes "&lt;" else (if b2 then codes "&gt;" else (if b3 then codes "&quot;" else (if b4 then codes "&#39;" else encode_utf8 c)))))
@@ -195,7 +191,7 @@ plains_ascii (w ∷ ws) h =
     let parts = and_parts (is_plain w) (list_all is_plain ws) h in
     let tests = and_parts (is_seen w) (not (w == 35) && nat_lt w 128) parts.0 in
     and_from (is_line_ascii w) (list_all is_line_ascii ws)
-    (and_from (nat_lt w 128) (w == 10 || is_seen w) (and_parts (not (w == 35)) (nat_lt w 128) tests.1).1 (or_second (w == 10) (is_seen w) tests.0))
+    (and_from (nat_lt w 128) (w == 10 || is_seen w) (and_parts (not (w == 35)) (nat_lt w 128) tests.1).1 (or_right (w == 10) (is_seen w) tests.0))
     (plains_ascii ws parts.1)
 
 number_piece : (n : ℕ) → n < 2 ^ 64 → Piece 0 0 0 (decimal n)

@@ -16,7 +16,7 @@ use Rattle.sarif_shown.specs.Facts.{Facts}
 use Rattle.sarif_reports.specs.MarkdownLaws.{AreSmall}
 use Rattle.sarif_reports.specs.MarkdownReport.{count_row, counts_table, heading, in_table, left_out, line_if, markdown_of, notes, others_line, paragraph, result_row, results_table, table_of}
 use Rattle.sarif_shown.specs.Sentences.{counted, entries_text, gate_end, gate_text, hits_text, more_hits, more_of_both, more_others, more_text, runs_text}
-use Rattle.sarif_reports.proofs.TableRows.{hits_few, results_parted, table_fits}
+use Rattle.sarif_reports.proofs.TableRows.{hits_few, results_parted, table_fits, state_few}
 
 -- two strings in sequence
 two : (m n : ℕ) (a b : List ℕ) → length a ≤ m → length b ≤ n → length (a ++ b) ≤ m + n
@@ -89,12 +89,6 @@ others_few others m =
 
 -- ---- the counts
 
-name_few : (s : State) → length (state_name s) ≤ 9
-name_few New = omega arith
-name_few Unchanged = omega arith
-name_few Updated = omega arith
-name_few Absent = omega arith
-
 begin_few : (name : List ℕ) (error warning : ℕ) → length name ≤ 9 → error < 2 ^ 32 → warning < 2 ^ 32 → length (row_begin name error warning) ≤ 40
 begin_few name error warning n e w =
     two 2 38 (codes "| ") _ (omega arith) (two 9 29 name _ n (two 3 26 (codes " | ") _ (omega arith)
@@ -112,7 +106,7 @@ row_few s numbers small =
     let n = small Note true in
     let o = small NoLevel true in
     two 40 50 (row_begin (state_name s) (numbers Error false) (numbers Warning false)) _
-    (begin_few (state_name s) (numbers Error false) (numbers Warning false) (name_few s) (small Error false) (small Warning false))
+    (begin_few (state_name s) (numbers Error false) (numbers Warning false) (state_few s) (small Error false) (small Warning false))
     (end_few (numbers Note false) (numbers NoLevel false) (suppressed_of numbers) (small Note false) (small NoLevel false) (omega (arith, e, w, n, o)))
 
 counts_few : (count : Count) → ((s : State) (l : Level) (b : Bool) → count s l b < 2 ^ 32) → length (counts_table count) ≤ 440

@@ -216,7 +216,7 @@ level_few Note = omega arith
 level_few Warning = omega arith
 level_few Error = omega arith
 
-state_few : (s : State) → length (state_name s) ≤ 9
+pub state_few : (s : State) → length (state_name s) ≤ 9
 state_few New = omega arith
 state_few Unchanged = omega arith
 state_few Updated = omega arith

@@ -6,7 +6,7 @@ use Rattle.serde_json.specs.Find.{get}
 use Rattle.serde_json.specs.View.{items_of}
 use Rattle.sarif_counts.specs.CountOf as counts
 use Rattle.sarif_model.specs.Members.{◌>>=◌, of_kind, or_wrong, unless_null, read_each, result_map}
-use Rattle.sarif_model.specs.Status.{status_named}
+use Rattle.sarif_model.specs.Status.{status_named, is_accepted}
 use Rattle.sarif_model.specs.Suppression.{status_of, as_status, check_suppression_kind}
 use Rattle.sarif_model.specs.declared.fault.Fault.{Fault}
 use Rattle.sarif_model.specs.declared.fault.Fault.TheVariants.{BadSuppression}
@@ -14,7 +14,7 @@ use Rattle.sarif_model.specs.declared.kinds.Status.{Status}
 use Rattle.sarif_model.specs.declared.kinds.Status.TheVariants.{Accepted, UnderReview, Rejected}
 use Rattle.sarif_model.specs.declared.record.Record.{Record}
 use Rattle.sarif_entries.specs.File.{File}
-use Rattle.sarif_suppress.specs.Suppressing.{is_accepted, is_suppressed, statuses_suppress}
+use Rattle.sarif_suppress.specs.Suppressing.{is_suppressed, statuses_suppress}
 use Rattle.sarif_suppress.specs.Written.{suppressions_of}
 
 one_status : (a b : Status) → ◌≡◌ {A = Result Status Fault} (Ok a) (Ok b) → a ≡ b

@@ -20,7 +20,7 @@ use Rattle.sarif_model.specs.Run.{present}
 -- ---- for one run
 
 -- the results that are judged, where those that are absent already are skipped or not
-abbrev kept : Bool → List Data → List Data
+abbrev pub kept : Bool → List Data → List Data
 kept skip ds = filter (λ d. not (skip && is_absent_result d)) ds
 
 one : (skipped : Bool) (found : Result Record Fault) (at : ℕ → At) (n : ℕ) (items : List Item) (d : Data) (ds : List Data)

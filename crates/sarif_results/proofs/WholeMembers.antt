@@ -1,13 +1,13 @@
 -- Members without a number that has a fraction: what is found among them, or left.
-use Rattle.std.proofs.Common.{◌≡◌, ℕ, Bool, true, false, ◌||◌, List, Option, Some, None, option_and_then, Ordering, Less, Equal, Greater, nat_cmp, codes, bytes_eq, if◌then◌else◌, refl, ap, ◌∙◌}
+use Rattle.std.proofs.Common.{◌≡◌, ℕ, Bool, true, false, List, Option, Some, None, option_and_then, Ordering, Less, Equal, Greater, nat_cmp, codes, bytes_eq, if◌then◌else◌, refl, ◌∙◌}
 use Rattle.std.proofs.lemmas.Bool.{or_parts}
 use Rattle.std.specs.Cmp.Lexicographic.{slice_cmp}
 use Rattle.std.specs.List.{list_any}
 use Rattle.std.specs.Ordering.{match_ordering}
-use Rattle.serde_json.specs.Data.{Data, null, boolean, number, string, array, object, Items, no_items, item, Members, no_members, member}
+use Rattle.sarif_read.proofs.WholeRuns.{any_element}
+use Rattle.serde_json.specs.Data.{Data, null, boolean, number, string, array, object, Items, Members, no_members, member}
 use Rattle.serde_json.specs.Find.{as_array, get, get_member}
 use Rattle.serde_json.specs.Written.{has_float, items_have_float, members_have_float}
-use Rattle.sarif_model.specs.Members.{elements}
 use Rattle.sarif_model.specs.Run.{elements_or_none, results_of}
 use Rattle.sarif_results.specs.Annotated.{on_members}
 use Rattle.sarif_counts.specs.CountOf.{items_in}
@@ -81,13 +81,9 @@ array_whole (Some (string s)) of_d = refl
 array_whole (Some (array ds)) of_d = of_d
 array_whole (Some (object ms)) of_d = refl
 
-pub elements_whole : (ds : Items) → list_any has_float (elements ds) ≡ items_have_float ds
-elements_whole no_items = refl
-elements_whole (item d ds) = ap (λ b. has_float d || b) (elements_whole ds)
-
 or_none_whole : (found : Option Items) → list_float found ≡ false → list_any has_float (elements_or_none found) ≡ false
 or_none_whole None of_ds = refl
-or_none_whole (Some ds) of_ds = elements_whole ds ∙ of_ds
+or_none_whole (Some ds) of_ds = any_element ds ∙ of_ds
 
 pub results_whole : (run : Data) → has_float run ≡ false → list_any has_float (results_of run) ≡ false
 results_whole run of_run =

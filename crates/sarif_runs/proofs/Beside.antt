@@ -1,5 +1,6 @@
 -- A run's head and its tool's name do not depend on the run's results.
 use Rattle.std.proofs.Common.{◌≡◌, [], refl, ap, codes, unwrap_or}
+use Rattle.sarif_model.specs.Driver.{tool_name}
 use Rattle.serde_json.specs.Data.{Data}
 use Rattle.sarif_read.specs.Internal.Bare.{bare}
 use Rattle.sarif_read.proofs.Beside.{bare_get, bare_driver_name}
@@ -7,7 +8,6 @@ use Rattle.sarif_runs.specs.Rules.{components_of}
 use Rattle.sarif_runs.specs.Place.{artifacts_of}
 use Rattle.sarif_runs.specs.Overrides.{invocations_of}
 use Rattle.sarif_runs.specs.Head.{head_of}
-use Rattle.sarif_runs.specs.Record.{tool_name}
 
 pub bare_tool_name : (run : Data) → tool_name (bare run) ≡ tool_name run
 bare_tool_name run = ap (λ name. unwrap_or name []) (bare_driver_name run)

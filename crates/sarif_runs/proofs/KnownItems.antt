@@ -4,10 +4,11 @@ use Rattle.std.specs.Prelude.{if◌then◌else◌}
 use Rattle.serde_json.specs.Data.{Data}
 use Rattle.sarif_model.specs.Members.{◌>>=◌}
 use Rattle.sarif_model.specs.Run.{is_absent_result, result_at}
+use Rattle.sarif_model.specs.Driver.{tool_name}
 use Rattle.sarif_read.specs.Internal.Picked.{picked}
 use Rattle.sarif_members.proofs.RecordMembers.{record_names, absent_members, own_members}
 use Rattle.sarif_runs.specs.Head.{head_of}
-use Rattle.sarif_runs.specs.Record.{record_by, record_in, record_of, tool_name}
+use Rattle.sarif_runs.specs.Record.{record_by, record_in, record_of}
 use Rattle.sarif_runs.specs.Internal.Found.{record_item}
 use Rattle.sarif_runs.specs.Judging.{item_by, item_of, skips}
 use Rattle.sarif_runs.specs.Placed.{Placed}

@@ -6,7 +6,7 @@ use Rattle.sarif_members.specs.declared.parts.Parts.{Parts}
 use Rattle.sarif_model.specs.declared.record.Record.{Record}
 use Rattle.sarif_model.specs.Members.{◌>>=◌}
 use Rattle.sarif_members.specs.OwnMembers.{parts_of}
-use Rattle.sarif_model.specs.Driver.{driver_name}
+use Rattle.sarif_model.specs.Driver.{tool_name}
 use Rattle.sarif_model.specs.Run.{result_at}
 use Rattle.sarif_runs.specs.declared.component.Descriptor.{Descriptor}
 use Rattle.sarif_runs.specs.declared.component.Rule.{Rule}
@@ -15,10 +15,6 @@ use Rattle.sarif_runs.specs.Descriptor.{reference_of, descriptor_of}
 use Rattle.sarif_runs.specs.Level.{rule_at, level_of}
 use Rattle.sarif_runs.specs.Place.{place_of}
 use Rattle.sarif_runs.specs.Head.{head_of}
-
--- the driver's name
-abbrev pub tool_name : Data → List ℕ
-tool_name run = unwrap_or (driver_name run) []
 
 -- the id of a descriptor's rule
 abbrev pub descriptor_id : List (List Rule) → Option Descriptor → Option (List ℕ)

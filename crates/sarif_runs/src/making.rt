@@ -3,7 +3,8 @@ ghost use Rattle.std.specs.Prelude.{◌≡◌, Ok, Err, IfOk};
 ghost use Rattle.serde_json.specs.View.{view};
 ghost use Rattle.sarif_model.specs.Internal.Refusal.{IfFault};
 ghost use Rattle.sarif_runs.specs.Reading.{Gives};
-ghost use Rattle.sarif_runs.specs.Record.{tool_name, rule_id_of, record_by, record_in};
+ghost use Rattle.sarif_runs.specs.Record.{rule_id_of, record_by, record_in};
+ghost use Rattle.sarif_model.specs.Driver.{tool_name};
 
 use crate::head::RunHead;
 use sarif_members::{Parts, read_members};

@@ -16,7 +16,7 @@ use crate::reading::{level_within, objects_within};
 use sarif_model::members::{
     elements_at, index_within, object_at, object_within, objects_at, text_at, text_within,
 };
-use sarif_model::{Fault, Place, Refusal, Sequence, Text};
+use sarif_model::{Fault, Place, Refusal, Sequence, Text, copy_if_there};
 use serde_json::Value;
 use std::alloc::{AllocError, Global};
 use std::hash::RandomState;
@@ -158,16 +158,6 @@ fn read_artifact(alloc: Global, artifact: &Value) -> Result<Place, Refusal<Fault
     let uri = copy_if_there(alloc, uri)?;
     let base = copy_if_there(alloc, base)?;
     Ok(Place { uri, base })
-}
-
-/// A copy of a string, if there is one.
-fn copy_if_there(alloc: Global, text: Option<&str>) -> Result<Option<Text>, AllocError>
-    ensures { IfOk result (λ copy. copy ≡ option_map (λ s. s.now) text.entry) }
-{
-    match text {
-        Some(text) => Ok(Some(Text::copy_of(alloc, text)?)),
-        None => Ok(None),
-    }
 }
 
 #[tactic(auto, unfolding(crate::specs::Overrides::invocations_of))]

@@ -4,8 +4,8 @@ ghost use Rattle.serde_json.specs.View.{view};
 ghost use Rattle.serde_json.specs.Written.{has_float};
 ghost use Rattle.sarif_read.specs.Internal.Indexed.{run_of};
 ghost use Rattle.sarif_runs.specs.Head.{head_of};
-ghost use Rattle.sarif_runs.specs.Record.{tool_name};
 ghost use Rattle.sarif_model.specs.Limits.{most_results};
+ghost use Rattle.sarif_model.specs.Driver.{tool_name};
 
 use crate::head::RunHead;
 use crate::item::Item;

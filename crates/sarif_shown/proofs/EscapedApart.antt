@@ -9,6 +9,7 @@ use Rattle.std.proofs.lemmas.Fmt.{decimal_by_steps}
 use Rattle.sarif_shown.specs.declared.escaping.Escaping.TheVariants.{Markdown, Page}
 use Rattle.sarif_shown.specs.Escaped.{escaped, page_char, markdown_char, is_mark}
 use Rattle.sarif_shown.specs.EscapedLaws.{is_element_text, has_no_mark, ends_number}
+use Rattle.sarif_shown.proofs.TextApart.{remainder}
 use Rattle.sarif_findings.proofs.HighBytes.{high_apart, char_kept}
 
 -- ---- in a page
@@ -74,9 +75,6 @@ digits_more [] d h e = rw e refl
 digits_more (c ∷ ds) d h e =
     let parts = and_parts (is_ascii_digit c) (list_all is_ascii_digit ds) h in
     and_from _ _ parts.0 (digits_more ds d parts.1 e)
-
-remainder : (n : ℕ) → n % 10 < 10
-remainder n = omega arith
 
 pub decimal_digits : (n : ℕ) → n < 2 ^ 64 → list_all is_ascii_digit (decimal n) ≡ true
 decimal_digits n small =

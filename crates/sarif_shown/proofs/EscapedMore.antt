@@ -7,6 +7,7 @@ use Rattle.std.proofs.lemmas.List.{drop_all, drop_more}
 use Rattle.std.proofs.lemmas.List.Edits.{between_more, between_none}
 use Rattle.std.proofs.lemmas.List.Folds.{drop_split}
 use Rattle.std.proofs.lemmas.Str.{encode_ascii, encodes-chars}
+use Rattle.std.proofs.lemmas.Bool.{or_parts}
 use Rattle.sarif_shown.specs.declared.escaping.Escaping.{Escaping}
 use Rattle.sarif_shown.specs.declared.escaping.Escaping.TheVariants.{Message, Property, Markdown, Page, Place, IssueMessage, IssueProperty}
 use Rattle.sarif_shown.specs.Escaped.{escaped, escaped_char}
@@ -141,13 +142,9 @@ all_added way bs added i old text new front end utf8 held e =
 
 -- ---- a string in which nothing is replaced
 
-or_false : (a b : Bool) → (a || b) ≡ false → (a ≡ false) × (b ≡ false)
-or_false true b none = cc
-or_false false b none = (refl, none)
-
 none_here : (way : Escaping) (b : ℕ) (bs : List ℕ) → (escapes way b || list_any (escapes way) bs) ≡ false
     → (escapes way b ≡ false) × (list_any (escapes way) bs ≡ false)
-none_here way b bs none = or_false (escapes way b) (list_any (escapes way) bs) none
+none_here way b bs none = or_parts (escapes way b) (list_any (escapes way) bs) none
 
 none_in : (way : Escaping) (bs : List ℕ) → list_any (escapes way) bs ≡ false → flat_map (escaped_byte way) bs ≡ bs
 none_in way [] none = refl

@@ -21,7 +21,7 @@ halves_by : (b : Bool) (f : Finding) (hs os : List Finding) (n : ℕ) → length
 halves_by true f hs os n e = omega (arith, e)
 halves_by false f hs os n e = omega (arith, e)
 
-halves : (fs : List Finding) → length (hits_among fs) + length (others_among fs) ≡ length fs
+pub halves : (fs : List Finding) → length (hits_among fs) + length (others_among fs) ≡ length fs
 halves [] = omega arith
 halves (f ∷ fs) =
     let more = halves_by f.hit f (hits_among fs) (others_among fs) (length fs) (halves fs) in

@@ -8,11 +8,12 @@ use Rattle.std.proofs.lemmas.List.Elements.{All-from_recursion}
 use Rattle.serde_json.specs.Data.{Data}
 use Rattle.sarif_model.specs.declared.kinds.Level.{Level}
 use Rattle.sarif_model.specs.declared.kinds.State.{State}
+use Rattle.sarif_model.specs.Members.{none_if_empty}
 use Rattle.sarif_findings.specs.declared.reporting.Reporting.{Reporting}
 use Rattle.sarif_findings.specs.Lookup.{uri_of}
 use Rattle.sarif_findings.specs.PathOf.{after_here, begins_here, decoded, is_removed, path_chars, without_here, without_root}
 use Rattle.sarif_findings.specs.Placeholders.{first_is}
-use Rattle.sarif_findings.specs.Reported.{finding_of, none_if_empty, reported_of, shown_path}
+use Rattle.sarif_findings.specs.Reported.{finding_of, reported_of, shown_path}
 use Rattle.sarif_findings.specs.Shown.{is_concealed, kept, parted_signs, plain, shown, shown_chars}
 use Rattle.sarif_findings.proofs.CharsBack.{chars_back}
 use Rattle.sarif_findings.proofs.EachFinding.{each_finding}

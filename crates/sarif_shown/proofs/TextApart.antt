@@ -182,7 +182,7 @@ plain_push (c ∷ ds) d h e =
     let parts = and_parts (is_plain c) (list_all is_plain ds) h in
     and_from (is_plain c) (list_all is_plain (ds ++ d ∷ [])) parts.0 (plain_push ds d parts.1 e)
 
-remainder : (n : ℕ) → n % 10 < 10
+pub remainder : (n : ℕ) → n % 10 < 10
 remainder n = omega arith
 
 pub decimal_plain : (n : ℕ) → n < 2 ^ 64 → list_all is_plain (decimal n) ≡ true

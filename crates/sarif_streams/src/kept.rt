@@ -2,7 +2,7 @@
 ghost use Rattle.std.specs.Prelude.{◌≡◌, Some, None, IfOk, IfErr, OnOk, OnErr, option_map, take};
 ghost use Rattle.std.specs.Io.{ReadsAtMost, WritesAtMost};
 ghost use Rattle.std.specs.Io.KnownBytes.{Keeps, ReadConsumes, WriteAppends};
-ghost use Rattle.sarif_streams.specs.Internal.Kept.{KeepsMore, bytes_or_none, kept_bytes, kept_in};
+ghost use Rattle.sarif_streams.specs.Internal.Kept.{KeepsMore, kept_bytes, kept_in};
 
 use std::io::{self, Read, Write};
 
@@ -29,13 +29,13 @@ impl<D> Kept<D> {
         }
     }
 
-    /// What was read and kept.
-    pub fn bytes(&self) -> &[u8]
-        ensures { result.now ≡ bytes_or_none (kept_bytes self.now) }
+    /// What was read and kept. Returns `None` if this was not requested, or if memory for it ran out.
+    pub fn bytes(&self) -> Option<&[u8]>
+        ensures { option_map (λ bytes. bytes.now) result ≡ kept_bytes self.now }
     {
         match &self.bytes {
-            Some(bytes) => bytes.as_slice(),
-            None => &[],
+            Some(bytes) => Some(bytes.as_slice()),
+            None => None,
         }
     }
 

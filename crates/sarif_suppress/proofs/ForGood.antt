@@ -3,11 +3,12 @@ use Rattle.std.proofs.Common.{◌≡◌, ℕ, ◌+◌, Bool, true, false, not, �
 use Rattle.std.specs.List.{list_all, list_any}
 use Rattle.std.proofs.lemmas.List.Folds.{list_all-append}
 use Rattle.sarif_model.specs.declared.kinds.Status.{Status}
+use Rattle.sarif_model.specs.Status.{is_accepted}
 use Rattle.sarif_entries.specs.declared.entry.Entry.{Entry}
 use Rattle.sarif_entries.specs.Matching.{is_empty}
 use Rattle.sarif_filing.specs.Numbers.{numbers_from}
 use Rattle.sarif_suppress.specs.Internal.Numbers.{passes_at}
-use Rattle.sarif_suppress.specs.Suppressing.{is_accepted, statuses_suppress}
+use Rattle.sarif_suppress.specs.Suppressing.{statuses_suppress}
 use Rattle.sarif_suppress.proofs.Numbered.{IsPart, whole_is_part, all_numbers, is_empty-append}
 
 any_numbers : (test picked : Entry → Bool) (whole : List Entry) (n : ℕ) (es : List Entry) → IsPart whole n es → list_any (passes_at test whole) (numbers_from picked n es) ≡ list_any test (filter picked es)

@@ -7,11 +7,12 @@ use Rattle.std.proofs.lemmas.List.{append_assoc, length-append}
 use Rattle.std.proofs.lemmas.List.Folds.{list_all-append}
 use Rattle.std.proofs.lemmas.Option.{slice_get-get_or}
 use Rattle.sarif_model.specs.declared.kinds.Status.{Status}
+use Rattle.sarif_model.specs.Status.{is_accepted}
 use Rattle.sarif_entries.specs.declared.entry.Entry.{Entry}
 use Rattle.sarif_entries.specs.Matching.{is_empty}
 use Rattle.sarif_filing.specs.Numbers.{numbers_from}
 use Rattle.sarif_suppress.specs.Internal.Numbers.{passes_at}
-use Rattle.sarif_suppress.specs.Suppressing.{is_accepted, statuses_suppress}
+use Rattle.sarif_suppress.specs.Suppressing.{statuses_suppress}
 use Rattle.sarif_suppress.specs.Written.{with_object, with_object_if, with_objects, with_objects_at}
 use Rattle.serde_json.specs.Data.{Data}
 

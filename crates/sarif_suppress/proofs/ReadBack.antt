@@ -10,10 +10,11 @@ use Rattle.sarif_model.specs.declared.fault.Fault.{Fault}
 use Rattle.sarif_model.specs.declared.kinds.Status.{Status}
 use Rattle.sarif_model.specs.declared.kinds.Status.TheVariants.{Accepted, UnderReview, Rejected}
 use Rattle.sarif_model.specs.declared.record.Record.{Record}
+use Rattle.sarif_model.specs.Status.{is_accepted}
 use Rattle.sarif_entries.specs.declared.entry.Entry.{Entry}
 use Rattle.sarif_entries.specs.File.{File}
 use Rattle.sarif_entries.specs.Matching.{is_empty}
-use Rattle.sarif_suppress.specs.Suppressing.{matching, is_accepted, statuses_suppress, is_suppressed}
+use Rattle.sarif_suppress.specs.Suppressing.{matching, statuses_suppress, is_suppressed}
 use Rattle.sarif_entries.specs.Object.{object_of}
 use Rattle.sarif_suppress.specs.Written.{with_objects, suppressions_of}
 use Rattle.sarif_suppress.proofs.Numbered.{is_empty-append}
@@ -100,6 +101,6 @@ read_back own file r held =
     always [] = refl
     always (s ∷ ss) = always ss
 
-    empty_map : (es : List Entry) → is_empty es ≡ is_empty (map (λ e. e.status) es)
+    pub empty_map : (es : List Entry) → is_empty es ≡ is_empty (map (λ e. e.status) es)
     empty_map [] = refl
     empty_map (e ∷ es) = refl

@@ -1,9 +1,9 @@
 -- What a suppression file makes of a result (SARIF 2.1.0, result object, "suppressions property").
-use Rattle.std.specs.Prelude.{ℕ, Bool, true, false, not, ◌&&◌, List, ◌++◌, map, filter, count_by, is_some}
+use Rattle.std.specs.Prelude.{ℕ, Bool, not, ◌&&◌, List, ◌++◌, map, filter, count_by, is_some}
 use Rattle.std.specs.List.{list_any, list_all}
 use Rattle.sarif_model.specs.declared.kinds.Status.{Status}
-use Rattle.sarif_model.specs.declared.kinds.Status.TheVariants.{Accepted, UnderReview, Rejected}
 use Rattle.sarif_model.specs.declared.record.Record.{Record}
+use Rattle.sarif_model.specs.Status.{is_accepted}
 use Rattle.sarif_entries.specs.declared.entry.Entry.{Entry}
 use Rattle.sarif_entries.specs.File.{File}
 use Rattle.sarif_entries.specs.Matching.{is_empty, matches}
@@ -16,11 +16,6 @@ matching file r = filter (λ e. matches file.today e r) file.entries
 -- their numbers, which rise
 abbrev pub matching_numbers : File → Record → List ℕ
 matching_numbers file r = numbers_from (λ e. matches file.today e r) 0 file.entries
-
-abbrev pub is_accepted : Status → Bool
-is_accepted Accepted = true
-is_accepted UnderReview = false
-is_accepted Rejected = false
 
 -- whether suppressions of these statuses suppress: there is at least one, and none is rejected or under review
 abbrev pub statuses_suppress : List Status → Bool

@@ -5,8 +5,9 @@ ghost use Rattle.sarif_entries.specs.Matching.{is_empty};
 ghost use Rattle.sarif_suppress.specs.Internal.Numbers.{passes_at};
 ghost use Rattle.sarif_suppress.specs.Suppressing as said;
 ghost use Rattle.sarif_suppress.specs.Suppressing.{is_lasting};
+ghost use Rattle.sarif_model.specs.Status.{is_accepted};
 
-use crate::select::{all_accepted, is_accepted};
+use crate::select::all_accepted;
 use sarif_entries::Entry;
 use sarif_model::Status;
 
@@ -23,10 +24,10 @@ fn is_lasting_at(entries: &[Entry], number: u32) -> bool
 /// Whether the entry with this number has an expiry date, or is accepted.
 fn is_passing_at(entries: &[Entry], number: u32) -> bool
     ensures { result
-        ≡ passes_at (λ e. not (is_lasting e) || said.is_accepted e.status) entries.now number }
+        ≡ passes_at (λ e. not (is_lasting e) || is_accepted e.status) entries.now number }
 {
     match entries.get(number as usize) {
-        Some(entry) => entry.expires.is_some() || is_accepted(entry.status),
+        Some(entry) => entry.expires.is_some() || entry.status.is_accepted(),
         None => false,
     }
 }
@@ -41,7 +42,7 @@ fn is_any_lasting(entries: &[Entry], numbers: &[u32]) -> bool
 /// Whether each of the entries with these numbers has an expiry date, or is accepted.
 fn are_passing(entries: &[Entry], numbers: &[u32]) -> bool
     ensures { result
-        ≡ list_all (passes_at (λ e. not (is_lasting e) || said.is_accepted e.status) entries.now)
+        ≡ list_all (passes_at (λ e. not (is_lasting e) || is_accepted e.status) entries.now)
         numbers.now }
 {
     numbers.iter().all(|number| is_passing_at(entries, *number))
@@ -52,8 +53,8 @@ fn are_passing(entries: &[Entry], numbers: &[u32]) -> bool
 pub(crate) fn do_suppress_for_good(held: &[Status], entries: &[Entry], numbers: &[u32]) -> bool
     ensures { result ≡ ((not (is_empty held.now)
         || list_any (passes_at is_lasting entries.now) numbers.now)
-        && (list_all said.is_accepted held.now
-        && list_all (passes_at (λ e. not (is_lasting e) || said.is_accepted e.status) entries.now)
+        && (list_all is_accepted held.now
+        && list_all (passes_at (λ e. not (is_lasting e) || is_accepted e.status) entries.now)
         numbers.now)) }
 {
     (!held.is_empty() || is_any_lasting(entries, numbers))

@@ -18,5 +18,6 @@ pub use laws::{
 };
 pub use marks::Marks;
 pub use read_file::read_rules_with;
+pub use select::all_accepted;
 pub use suppressions::{Applied, Suppressions};
 pub use whole::read_rules;

@@ -6,6 +6,7 @@ ghost use Rattle.std.specs.List.{list_all};
 ghost use Rattle.sarif_entries.specs.Matching.{is_empty, matches};
 ghost use Rattle.sarif_suppress.specs.Internal.Numbers.{passes_at, with_numbers};
 ghost use Rattle.sarif_suppress.specs.Suppressing as said;
+ghost use Rattle.sarif_model.specs.Status.{is_accepted};
 
 use sarif_entries::Entry;
 use sarif_model::{Record, Sequence, Status};
@@ -84,29 +85,19 @@ fn sequence_of(alloc: Global, numbers: &[u32]) -> Result<Sequence<u32>, AllocErr
     Ok(found)
 }
 
-/// Whether the status doesn't hinder a suppression.
-pub(crate) fn is_accepted(status: Status) -> bool
-    ensures { result ≡ said.is_accepted status }
+/// Returns whether all of these statuses are accepted.
+pub fn all_accepted(statuses: &[Status]) -> bool
+    ensures { result ≡ list_all is_accepted statuses.now }
 {
-    match status {
-        Status::Accepted => true,
-        Status::UnderReview | Status::Rejected => false,
-    }
-}
-
-/// Whether all of these statuses are accepted.
-pub(crate) fn all_accepted(statuses: &[Status]) -> bool
-    ensures { result ≡ list_all said.is_accepted statuses.now }
-{
-    statuses.iter().all(|status| is_accepted(*status))
+    statuses.iter().all(|status| status.is_accepted())
 }
 
 /// Whether there is an entry with this number and it is accepted.
 fn is_accepted_at(entries: &[Entry], number: u32) -> bool
-    ensures { result ≡ passes_at (λ e. said.is_accepted e.status) entries.now number }
+    ensures { result ≡ passes_at (λ e. is_accepted e.status) entries.now number }
 {
     match entries.get(number as usize) {
-        Some(entry) => is_accepted(entry.status),
+        Some(entry) => entry.status.is_accepted(),
         None => false,
     }
 }
@@ -114,7 +105,7 @@ fn is_accepted_at(entries: &[Entry], number: u32) -> bool
 /// Whether the entries with these numbers are accepted.
 fn are_accepted(entries: &[Entry], numbers: &[u32]) -> bool
     ensures { result
-        ≡ list_all (passes_at (λ e. said.is_accepted e.status) entries.now) numbers.now }
+        ≡ list_all (passes_at (λ e. is_accepted e.status) entries.now) numbers.now }
 {
     numbers
         .iter()
@@ -124,8 +115,8 @@ fn are_accepted(entries: &[Entry], numbers: &[u32]) -> bool
 /// Whether suppressions of these statuses, and then of the entries with these numbers, suppress.
 pub(crate) fn do_suppress(held: &[Status], entries: &[Entry], numbers: &[u32]) -> bool
     ensures { result ≡ (if is_empty held.now && is_empty numbers.now then false
-        else (list_all said.is_accepted held.now
-        && list_all (passes_at (λ e. said.is_accepted e.status) entries.now) numbers.now)) }
+        else (list_all is_accepted held.now
+        && list_all (passes_at (λ e. is_accepted e.status) entries.now) numbers.now)) }
 {
     if held.is_empty() && numbers.is_empty() {
         return false;

@@ -4,22 +4,24 @@ use Rattle.std.proofs.lemmas.List.{length-map}
 use Rattle.std.proofs.lemmas.List.Sums.{length-filter}
 use Rattle.std.specs.Borrow.{Bor}
 use Rattle.std.specs.Prelude.{Ok, count_by, option_and_then, option_map, unwrap_or, codes}
-use Rattle.serde_json.specs.Data.{Data, Items, object, no_members}
+use Rattle.serde_json.specs.Data.{Data, object, no_members}
 use Rattle.serde_json.specs.Find.{as_array, get}
 use Rattle.json_parts.specs.Indexed.{json_of}
 use Rattle.json_parts.specs.Mark.{without_mark}
 use Rattle.sarif_model.specs.declared.record.Record.{Record}
+use Rattle.sarif_model.specs.Run.{elements_or_none}
 use Rattle.sarif_counts.specs.declared.upkeep.Renewal.{Renewal}
 use Rattle.sarif_counts.specs.Policy.{count_if}
 use Rattle.sarif_entries.specs.declared.entry.Entry.{Entry}
 use Rattle.sarif_entries.specs.declared.version.Version.{Version}
 use Rattle.sarif_entries.specs.Entries.{entry_of}
-use Rattle.sarif_entries.specs.File.{check_count, check_list, check_version, entries_from, file_of, file_of_value, list_or, value_or, File}
+use Rattle.sarif_entries.specs.File.{check_count, check_list, check_version, entries_from, file_of, file_of_value, value_or, File}
 use Rattle.sarif_read.proofs.WholeRuns.{bind_ok}
 use Rattle.sarif_accept.specs.Adding.{once_each}
 use Rattle.sarif_accept.specs.Entry.{entry_for}
 use Rattle.sarif_accept.specs.Keeping.{chosen, is_kept}
-use Rattle.sarif_accept.specs.NewFile.{entries_after, entries_in, file_object, listed, new_file, stripped_in}
+use Rattle.sarif_accept.specs.NewFile.{entries_after, entries_in, file_object, new_file, stripped_in}
+use Rattle.sarif_accept.proofs.GivenFile.{checked_list}
 use Rattle.sarif_upkeep.specs.Heard.{heard}
 use Rattle.sarif_upkeep.specs.Internal.IsMatched.{IsFileOf}
 use Rattle.sarif_upkeep.specs.Internal.Making.{entries_of, file_of as made_of}
@@ -41,10 +43,6 @@ found_value : (o : Option Data) (d : Data) → value_or o ≡ Ok d → unwrap_or
 found_value None d is = let never : ⊥ = cc in absurd never
 found_value (Some x) d is = cc
 
-found_list : (o : Option Items) (ds : List Data) → list_or o ≡ Ok ds → listed o ≡ ds
-found_list None ds is = let never : ⊥ = cc in absurd never
-found_list (Some xs) ds is = cc
-
 read_long : (bytes : List ℕ) (file : File) → file_of bytes file.today ≡ Ok file → length file.entries ≡ length (entries_in (file_object (Some bytes)))
 unfolding file_of file_of_value
 read_long bytes file is =
@@ -57,8 +55,8 @@ read_long bytes file is =
     let same : ◌≡◌ {A = File} (record { entries = es.0; today = file.today }) file = cc es.2 in
     ap (λ (f : File). length f.entries) (sym same)
     ∙ entries_long version.0 file.today 0 list.0 es.0 es.1
-    ∙ ap length (sym (found_list (option_and_then as_array (get (codes "suppressions") d)) list.0 list.1))
-    ∙ sym (length-map (listed (option_and_then as_array (get (codes "suppressions") d))) (λ e. object (stripped_in e)))
+    ∙ ap length (sym (checked_list (option_and_then as_array (get (codes "suppressions") d)) list.0 list.1))
+    ∙ sym (length-map (elements_or_none (option_and_then as_array (get (codes "suppressions") d))) (λ e. object (stripped_in e)))
     ∙ ap (λ x. length (entries_in x)) (sym (found_value (json_of (without_mark bytes)) d parsed.1))
 
 pub values_long : (bytes : Option (List ℕ)) (file : File) → IsFileOf bytes file → length file.entries ≡ length (entries_in (file_object bytes))

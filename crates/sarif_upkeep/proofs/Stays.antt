@@ -4,10 +4,11 @@ use Rattle.std.proofs.Math.Dec.{eqb-suc-zero}
 use Rattle.std.specs.List.{list_all}
 use Rattle.sarif_model.specs.declared.kinds.Status.{Status}
 use Rattle.sarif_model.specs.declared.record.Record.{Record}
+use Rattle.sarif_model.specs.Status.{is_accepted}
 use Rattle.sarif_suppress.specs.declared.suppressions.Applied.{Applied}
 use Rattle.sarif_entries.specs.File.{File}
 use Rattle.sarif_entries.specs.Matching.{is_empty}
-use Rattle.sarif_suppress.specs.Suppressing.{is_accepted, matching_numbers, statuses_suppress}
+use Rattle.sarif_suppress.specs.Suppressing.{matching_numbers, statuses_suppress}
 use Rattle.sarif_results.specs.Drafts.{applied_of}
 use Rattle.sarif_accept.specs.Adding.{stays}
 use Rattle.sarif_accept.proofs.Staying.{stays_with_some}

@@ -10,6 +10,7 @@ use Rattle.std.proofs.lemmas.Bool.Decides.{nat_tests}
 use Rattle.std.specs.Prelude.{nat_lt}
 use Rattle.sarif_model.specs.FirstFault.{first}
 use Rattle.sarif_model.specs.Limits.{most_bytes}
+use Rattle.sarif_model.specs.Driver.{tool_name}
 use Rattle.sarif_counts.specs.declared.upkeep.Knowing.{Knowing}
 use Rattle.sarif_accept.specs.declared.heard.ToolRun.{ToolRun}
 use Rattle.sarif_accept.specs.Heard.{heard_of}
@@ -19,7 +20,6 @@ use Rattle.sarif_runs.specs.declared.opened.OpenedRun.{OpenedRun}
 use Rattle.sarif_runs.specs.Judging.{run_values}
 use Rattle.sarif_runs.specs.Internal.Opened.{placed_of}
 use Rattle.sarif_runs.specs.Placed.{Placed}
-use Rattle.sarif_runs.specs.Record.{tool_name}
 use Rattle.sarif_results.specs.declared.draft.Draft.{Draft}
 use Rattle.sarif_results.specs.Drafts.{applied_of}
 use Rattle.sarif_known.specs.Chosen.{all_chosen, chosen_of, results_among, Chosen}

@@ -1,9 +1,9 @@
 -- Which tools were heard in the input runs: only of these it is known what they no longer find (SARIF 2.1.0, invocation
 -- object, "executionSuccessful property"; run object, "results property").
 use Rattle.std.specs.Prelude.{ℕ, Bool, List, Option, map}
+use Rattle.sarif_model.specs.Driver.{tool_name}
 use Rattle.serde_json.specs.Data.{Data}
 use Rattle.sarif_read.specs.Failed.{failed}
-use Rattle.sarif_runs.specs.Record.{tool_name}
 use Rattle.sarif_accept.specs.declared.heard.ToolRun.{ToolRun}
 use Rattle.sarif_accept.specs.Heard.{heard_of}
 

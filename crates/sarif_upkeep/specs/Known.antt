@@ -10,11 +10,11 @@ use Rattle.sarif_model.specs.declared.record.Record.{Record}
 use Rattle.sarif_model.specs.Limits.{most_bytes}
 use Rattle.sarif_model.specs.MergeFault.{fault_at}
 use Rattle.sarif_model.specs.Run.{present, results_of}
+use Rattle.sarif_model.specs.Driver.{tool_name}
 use Rattle.sarif_counts.specs.declared.life.KnownLog.{KnownLog}
 use Rattle.sarif_counts.specs.declared.policy.Policy.{Policy}
 use Rattle.sarif_counts.specs.declared.upkeep.Knowing.{Knowing}
 use Rattle.sarif_counts.specs.declared.upkeep.Knowing.TheVariants.{Matched, Adopted}
-use Rattle.sarif_runs.specs.Record.{tool_name}
 use Rattle.sarif_entries.specs.File.{File}
 use Rattle.sarif_known.specs.Chosen.{results_among, Chosen}
 use Rattle.sarif_known.specs.KnownLog.{known_text}

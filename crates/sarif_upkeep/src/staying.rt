@@ -1,6 +1,5 @@
 //! The hits that stay.
 ghost use Rattle.std.specs.Prelude.{◌≡◌, ◌≤◌, ◌&&◌, not, length, map};
-ghost use Rattle.std.specs.List.{list_all};
 ghost use Rattle.sarif_model.specs.declared.kinds.State.TheVariants.{Absent};
 ghost use Rattle.sarif_counts.specs.Policy.{count_if};
 ghost use Rattle.sarif_entries.specs.File.{File};
@@ -13,6 +12,7 @@ use crate::accepting::{has_suppressions, is_hit};
 use sarif_counts::Policy;
 use sarif_model::{Record, State, Status};
 use sarif_results::Draft;
+use sarif_suppress::all_accepted;
 
 /// How many hits with suppressions this result is: 1 or 0.
 fn count_one(policy: Policy, record: &Record, draft: &Draft, state: State) -> usize
@@ -47,23 +47,6 @@ pub(crate) fn staying_among(
         count += count_one(policy, record, &drafts[number], states[number]);
     }
     count
-}
-
-/// Whether the status doesn't prevent a suppression.
-fn is_accepted(status: Status) -> bool
-    ensures { result ≡ suppressing.is_accepted status }
-{
-    match status {
-        Status::Accepted => true,
-        Status::UnderReview | Status::Rejected => false,
-    }
-}
-
-/// Whether all of these statuses are accepted.
-fn all_accepted(statuses: &[Status]) -> bool
-    ensures { result ≡ list_all suppressing.is_accepted statuses.now }
-{
-    statuses.iter().all(|status| is_accepted(*status))
 }
 
 /// Whether suppressions of these statuses suppress: there is one, and all are accepted.

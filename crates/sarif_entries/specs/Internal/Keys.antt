@@ -2,9 +2,10 @@
 use Rattle.std.specs.Prelude.{ℕ, Bool, false, List, [], ◌∷◌, Option, option_and_then, option_map, codes}
 use Rattle.std.specs.Option.{option_map_or}
 use Rattle.serde_json.specs.Data.{Data}
-use Rattle.serde_json.specs.Find.{get, as_str, as_object}
+use Rattle.serde_json.specs.Find.{as_object}
 use Rattle.sarif_model.specs.Status.{status_name, status_named}
 use Rattle.sarif_model.specs.declared.kinds.Status.{Status}
+use Rattle.sarif_model.specs.Members.{text_in}
 use Rattle.sarif_entries.specs.contracts.key.KeyPartialEq.TheImpl as derived
 use Rattle.sarif_entries.specs.declared.key.Key.{Key}
 use Rattle.sarif_entries.specs.Entries.{with_pair}
@@ -31,10 +32,6 @@ has_key key d = is_object_with key.status (justification_of key) d
 -- whether two keys are equal, part by part
 abbrev pub same_key : Key → Key → Bool
 same_key = derived.ghosts.eq
-
--- the text of that name
-abbrev pub text_in : List ℕ → Data → Option (List ℕ)
-text_in name d = option_and_then as_str (get name d)
 
 -- the status of that name
 abbrev pub status_in : Data → Option Status

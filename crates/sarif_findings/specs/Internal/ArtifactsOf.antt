@@ -1,8 +1,9 @@
 -- The artifacts of a run, their URIs read as paths.
 use Rattle.std.specs.Prelude.{ℕ, List, Option, codes, map, option_map, option_and_then}
+use Rattle.sarif_model.specs.Members.{text_in}
 use Rattle.serde_json.specs.Data.{Data}
 use Rattle.serde_json.specs.Find.{get}
-use Rattle.sarif_findings.specs.Lookup.{text_in, elements_in}
+use Rattle.sarif_findings.specs.Lookup.{elements_in}
 use Rattle.sarif_findings.specs.PathOf.{decoded}
 
 -- `location.uri`

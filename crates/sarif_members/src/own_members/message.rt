@@ -57,7 +57,7 @@ fn read_texts(
     }
 }
 
-/// The message of a result; absent it is empty.
+/// The message of a result; empty if it is missing.
 #[tactic(auto, unfolding(crate::specs::OwnMembers::own_message))]
 fn read_message(alloc: Global, result_value: &Value) -> Result<Message, Refusal<Fault>>
     ensures ok { IfOk result (λ message. own_message (seen result_value.now) ≡ Ok message) }

@@ -21,7 +21,7 @@ fn check_kind(suppression: &Value) -> Result<(), Fault>
     }
 }
 
-/// The status of a suppression; absent it is accepted.
+/// The status of a suppression; accepted if it is missing.
 fn read_status(suppression: &Value) -> Result<Status, Fault>
     ensures { result ≡ status_of (seen suppression.now) }
 {

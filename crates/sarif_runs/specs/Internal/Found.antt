@@ -1,8 +1,9 @@
 -- The item of a result's value.
 use Rattle.serde_json.specs.Data.{Data}
 use Rattle.sarif_model.specs.Members.{◌>>=◌}
+use Rattle.sarif_model.specs.Driver.{tool_name}
 use Rattle.sarif_runs.specs.Head.{head_of}
-use Rattle.sarif_runs.specs.Record.{record_in, tool_name}
+use Rattle.sarif_runs.specs.Record.{record_in}
 use Rattle.sarif_runs.specs.declared.item.Item.{Item}
 use Rattle.sarif_runs.specs.Judging.{item_by}
 

@@ -1,5 +1,5 @@
 -- What is read or written, and the bytes that are kept.
-use Rattle.std.specs.Prelude.{◌≡◌, ℕ, ◌++◌, List, [], ⊤, Option, Some, None, option_map}
+use Rattle.std.specs.Prelude.{◌≡◌, ℕ, ◌++◌, List, ⊤, Option, Some, None, option_map}
 use Rattle.sarif_streams.specs.declared.kept.Kept.{Kept}
 
 abbrev pub kept_in : {D : Type 0} → Kept D → D
@@ -8,11 +8,6 @@ kept_in kept = kept.inner
 -- the bytes that were read and kept; None if none are kept
 abbrev pub kept_bytes : {D : Type 0} → Kept D → Option (List ℕ)
 kept_bytes kept = option_map (λ v. v.items) kept.bytes
-
--- these bytes, or no bytes if none are kept
-abbrev pub bytes_or_none : Option (List ℕ) → List ℕ
-bytes_or_none None = []
-bytes_or_none (Some bytes) = bytes
 
 -- more bytes are kept after those that were kept, unless none are kept any more
 abbrev pub KeepsMore : Option (List ℕ) → Option (List ℕ) → List ℕ → Type 0

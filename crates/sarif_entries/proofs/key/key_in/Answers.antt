@@ -1,6 +1,7 @@
 use Rattle.std.proofs.Common.{rules, ◌≡◌, None, Some, codes, true, false}
+use Rattle.sarif_model.specs.Members.{text_in}
 use Rattle.serde_json.specs.View.{view}
-use Rattle.sarif_entries.specs.Internal.Keys.{justification_of, has_key, status_in, text_in}
+use Rattle.sarif_entries.specs.Internal.Keys.{justification_of, has_key, status_in}
 use Rattle.sarif_entries.specs.declared.key.Key.{Key}
 use Rattle.sarif_entries.proofs.Keyed.{told_by, no_status, no_other}
 use Rattle.sarif_entries.proofs.key.key_in.Goals as goal

@@ -5,12 +5,12 @@ use Rattle.serde_json.specs.Find.{get_member}
 use Rattle.serde_json.specs.View.{view, items_of, items_view, members_view}
 use Rattle.serde_json.specs.Written.{has_float, items_have_float, members_have_float}
 use Rattle.sarif_model.specs.Members.{elements}
+use Rattle.sarif_model.proofs.Elements.{items_back}
 use Rattle.sarif_suppress.specs.Suppressing.{matching_numbers}
 use Rattle.sarif_suppress.specs.Written.{suppressions_of}
 use Rattle.sarif_results.specs.Annotated.{own_suppressions}
 use Rattle.sarif_results.specs.Drafts.{members_in, applied_of}
 use Rattle.sarif_results.proofs.Drafted.{draft_is}
-use Rattle.sarif_read.proofs.RunOf.{elements_items_of}
 use Rattle.sarif_results.proofs.WholeListing.{suppressions_whole, items_whole}
 use Rattle.json_parts.proofs.Keeping.{put_whole}
 use Rattle.sarif_results.proofs.WholeMembers.{found_whole, items_in_whole}
@@ -41,7 +41,7 @@ returns c =
     let own = map view c.in_ok-own.own.items in
     let a = c.in_ok-applied.applied in
     let listed = c.in_ok-list.ensures r c.in_ok-applied.ensures.entries in
-    let owned : own ≡ elements (own_suppressions ms) = sym (elements_items_of own) ∙ ap elements (c.in_ok-own.ensures.taken ∙ ap own_suppressions there) in
+    let owned : own ≡ elements (own_suppressions ms) = sym (items_back own) ∙ ap elements (c.in_ok-own.ensures.taken ∙ ap own_suppressions there) in
     draft_is (λ r own. suppressions_of own file r) (applied_of file) r ms (members_view c.take_suppressions.new.members.entries) c.in_ok-draft.draft a (items_view c.in_ok-list.list.items)
     c.in_ok-draft.ensures
     (c.in_ok-own.ensures.left ∙ ap (λ ns. put (codes "suppressions") null ns) there)
