@@ -2,6 +2,7 @@
 
 from cases import *
 from cases_output import OLD, linked
+from cases_outputs import explains
 from cases_words import merging
 
 GUID = "0f14d0ab-9605-4a62-a9e4-5ed26688389b"
@@ -93,6 +94,17 @@ def refusals():
         yield memory(name, [NOW], 4, **given, **refused(fault))
 
 
+def explanations():
+    """Errors with their explanations."""
+    bad = log({**RUN, "results": [*results("now"), plain(level="high")]})
+    rows = {
+        "a result that is rejected": (bad, explains("log 0, run 0, result 6: BadLevel", found='"high"')),
+        "a log that is no JSON": (NOW[:-1], explains("log 0: NotJson", line=True)),
+    }
+    for name, (text, check) in rows.items():
+        yield memory(f"{name}, explained", [text], 4, more=["--explain"], status=2, stdout=b"", check=check)
+
+
 def words():
     files = {"a": NOW, **OLD_OUTPUT}
     rows = {
@@ -133,5 +145,5 @@ def later_merges():
 
 
 def cases():
-    for part in (merges, refusals, words, outputs, later_merges):
+    for part in (merges, refusals, explanations, words, outputs, later_merges):
         yield from part()
