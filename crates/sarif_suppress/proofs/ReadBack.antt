@@ -87,6 +87,10 @@ were_read (d ∷ ds) statuses read =
       | Err fault ↦ λ is no. let never : ⊥ = cc in absurd never
     ] refl read
 
+pub empty_map : (es : List Entry) → is_empty es ≡ is_empty (map (λ e. e.status) es)
+empty_map [] = refl
+empty_map (e ∷ es) = refl
+
 pub read_back : (own : List Data) (file : File) (r : Record) → read_each status_of own ≡ Ok r.held → result_map statuses_suppress (read_each status_of (suppressions_of own file r)) ≡ Ok (is_suppressed file r)
 read_back own file r held =
     let es : List Entry = matching file r in
@@ -100,7 +104,3 @@ read_back own file r held =
     always : (statuses : List Status) → list_all (λ _. true) statuses ≡ true
     always [] = refl
     always (s ∷ ss) = always ss
-
-    pub empty_map : (es : List Entry) → is_empty es ≡ is_empty (map (λ e. e.status) es)
-    empty_map [] = refl
-    empty_map (e ∷ es) = refl
