@@ -41,7 +41,7 @@ impl<'r> Model for NamedRun<'r> {
     ghost use Rattle.serde_json.specs.declared.value.Value.{Value as Json};
     ghost use Rattle.serde_json.specs.View.{view as seen};
     ghost use Rattle.sarif_findings.specs.Lookup.{driver_of};
-    ghost use Rattle.sarif_findings.specs.Reported.{tool_name};
+    ghost use Rattle.sarif_model.specs.Driver.{tool_name};
     ghost use Rattle.sarif_findings.specs.Internal.RulesOf.{rules_in, rules_of, extensions_of};
     ghost use Rattle.sarif_findings.specs.Internal.ArtifactsOf.{artifact_paths};
     ghost use Rattle.sarif_findings.specs.Shown.{shown};
