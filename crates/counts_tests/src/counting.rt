@@ -113,3 +113,12 @@ gate: pass, hits 0, max 0
     assert!(rt; failed.as_str().ends_with("\ngate: fail, hits 1, max 0\n"));
     Ok(())
 }
+
+#[test]
+fn levels_rise_from_none_to_error(rt: HostRuntime) {
+    for (number, level) in LEVELS.iter().enumerate() {
+        for (least_number, least) in LEVELS.iter().enumerate() {
+            assert_eq!(rt; level.is_at_least(*least), least_number <= number);
+        }
+    }
+}

@@ -2,7 +2,7 @@
 use super::{expect_written, first_version, outcome_of, unused_of, with_own};
 use sarif_entries::FileFault;
 use sarif_model::{Refusal, Status};
-use sarif_suppress::Marks;
+use sarif_suppress::{Marks, all_accepted};
 use std::alloc::{AllocError, Global};
 use std::process::Abort;
 use std::test::Fail;
@@ -160,5 +160,15 @@ fn without_a_file_there_are_no_entries(rt: HostRuntime) -> Result<(), Fail> {
     let (size, object) = size_and_object_of_none(rt.alloc())?;
     assert_eq!(rt; size, 0);
     assert_eq!(rt; object.as_str(), "");
+    Ok(())
+}
+
+#[test]
+fn suppressions_are_in_effect_if_all_are_accepted(rt: HostRuntime) -> Result<(), Fail> {
+    let accepted = Status::Accepted;
+    assert!(rt; all_accepted(&[]));
+    assert!(rt; all_accepted(&[accepted, accepted]));
+    assert!(rt; !all_accepted(&[accepted, Status::UnderReview]));
+    assert!(rt; !all_accepted(&[Status::Rejected, accepted]));
     Ok(())
 }
