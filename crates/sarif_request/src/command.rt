@@ -39,7 +39,7 @@ Exit status:
 
 Examples:
   sarif_gate --out merged.sarif --text - scan.sarif
-  sarif_gate --baseline accepted.sarif --fail-on warning --out merged.sarif scan.sarif";
+  sarif_gate --baseline known.sarif --fail-on warning --out merged.sarif scan.sarif";
 
 static LEVELS: [&str; 4] = ["error", "warning", "note", "none"];
 

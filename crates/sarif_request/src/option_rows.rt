@@ -13,7 +13,7 @@ pub enum Group {
     Gate,
     /// What is written for people and services.
     Outputs,
-    /// What is written for later runs.
+    /// What is written for later merges.
     Upkeep,
     /// Everything else.
     Other,
