@@ -62,7 +62,7 @@ pub struct OptionRow {
     pub id: &'static str,
     /// What the help calls the value.
     pub value: &'static str,
-    /// The help text of the option, in lines of at most 74 columns, and of at most 65 in the group of inputs.
+    /// The help text of the option, in lines of at most 75 columns, and of at most 65 in the group of inputs.
     pub help: &'static str,
     /// Where the help shows the option.
     pub group: Group,
