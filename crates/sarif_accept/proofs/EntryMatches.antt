@@ -33,6 +33,7 @@ more_among q [] among all = refl
 more_among q (p ∷ ps) among all =
     let both = and_parts (list_any (λ x. is_pair x p) among) (are_among ps among) all in
     and_from _ _ (or_right (is_pair q p) _ both.0) (more_among q ps among both.1)
+
 itself_among : (ps : List (List ℕ × List ℕ)) → are_among ps ps ≡ true
 itself_among [] = refl
 itself_among (p ∷ ps) = and_from _ _ (rw (same_text p.0, same_text p.1) refl) (more_among p ps ps (itself_among ps))

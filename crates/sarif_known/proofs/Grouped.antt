@@ -71,6 +71,7 @@ any_end x (z ∷ before) y is = by_first (bytes_eq x z) (list_any (bytes_eq x) b
 any_last : (x y : List ℕ) (before : List (List ℕ)) → bytes_eq x y ≡ true → list_any (bytes_eq x) (before ++ y ∷ []) ≡ true
 any_last x y [] is = rw is refl
 any_last x y (z ∷ before) is = or_right (bytes_eq x z) _ (any_last x y before is)
+
 -- a tool that came before doesn't come again
 later_differ : (x : List ℕ) (before ys : List (List ℕ)) → list_any (bytes_eq x) before ≡ true → AreApart before ys → list_any (bytes_eq x) ys ≡ false
 later_differ x before [] there apart = refl
@@ -95,6 +96,7 @@ module _ (run : Chosen) (some : is_empty run.records ≡ false) (rest : List Cho
   none_taken (t ∷ tools) none =
       let parts = or_parts (bytes_eq run.tool t) (list_any (bytes_eq run.tool) tools) none in
       ap₂ (λ x xs. x ∷ xs) (left_out t parts.0) (none_taken tools parts.1)
+
   -- a run that is put into its group is before those that come later
   pub step_groups : (before tools : List (List ℕ)) (groups : List (List Chosen)) → AreApart before tools
       → side_by_side (spread tools run groups) (map (runs_of_tool rest) tools) ≡ side_by_side groups (map (runs_of_tool (run ∷ rest)) tools)

@@ -41,6 +41,7 @@ module _ (weight : Chosen → ℕ) where
     none_more (t ∷ ts) none =
         let parts = or_parts (bytes_eq run.tool t) (list_any (bytes_eq run.tool) ts) none in
         ap (λ l. l ++ flat_map (runs_of_tool (run ∷ all)) ts) (other_tool t parts.0) ∙ ap (λ l. runs_of_tool all t ++ l) (none_more ts parts.1)
+
     one_of : (b : Bool) (tool : List ℕ) → total (if b then run ∷ runs_of_tool all tool else runs_of_tool all tool) ≤ weight run + total (runs_of_tool all tool)
     one_of true tool = omega arith
     one_of false tool = omega arith
