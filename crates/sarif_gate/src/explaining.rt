@@ -72,7 +72,7 @@ impl Ended<'_, '_> {
         }
     }
 
-    /// Returns the name of the file of an output beside the merged log, if it was requested.
+    /// Returns the name of the file of an output besides the merged log, if it was requested.
     fn name_for(&self, report: Report) -> Option<&Text> {
         destination_of(report, self.request.reports.as_slice())
     }

@@ -17,7 +17,7 @@ each_read allow [] (r ∷ rs) read = absurd read
 each_read allow (p ∷ shown) [] read = absurd read
 each_read allow (p ∷ shown) (r ∷ rs) read = (read.0, each_read allow shown rs read.1)
 
--- what was read of references to these was read of these
+-- what was read from references to these was read from these
 pub read_shown : (allow : Bool) (shown : List (Bor Found)) (ps : List Found) (rs : List Parsed) → map (λ p. p.now) shown ≡ ps → AllZip (λ p r. IsReadFrom allow p.now r) shown rs → AreReadFrom allow ps rs
 read_shown allow shown ps rs is read = subst (λ qs. AreReadFrom allow qs rs) is (each_read allow shown rs read)
 

@@ -45,7 +45,7 @@ fn fault_of_run(run: &OpenedRun<'_, '_>, outcomes: &[Outcome]) -> Option<MergeFa
     }
 }
 
-/// The first error of the runs in order, regardless of which result was judged first.
+/// The first error of the runs in order. The order in which results were judged doesn't matter.
 pub(crate) fn fault_of_runs(
     runs: &[OpenedRun<'_, '_>],
     mut outcomes: &[Outcome],

@@ -27,7 +27,7 @@ use Rattle.sarif_laws.proofs.OfTool.{IsSoundRun, own_records}
 abbrev pub IsChosenSound : Chosen → Type 0
 IsChosenSound run = AllByRecursion (IsOfTool run.tool) run.records
 
--- ---- of which tools
+-- ---- the tools
 
 module _ (P : Record → Type 0) where
   kept_unless : (gone : Bool) (r : Record) (rs : List Record) → P r → AllByRecursion P rs → AllByRecursion P (keep_unless gone r rs)

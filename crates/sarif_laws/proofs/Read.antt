@@ -1,4 +1,4 @@
--- What is known of the record of a result that was read: its GUID, and the statuses of its own suppressions.
+-- What is known about the record of a result that was read: its GUID, and the statuses of its own suppressions.
 use Rattle.std.proofs.Common.{◌≡◌, ℕ, Bool, true, false, ◌&&◌, List, [], ◌∷◌, map, length, Option, Some, None, codes, refl, subst, if◌then◌else◌}
 use Rattle.std.specs.Prelude.{Result, Ok, Err, option_and_then}
 use Rattle.std.specs.List.{AllByRecursion, range_with_len}
@@ -83,7 +83,7 @@ module _ (P : Record → Type 0) where
   with_each false (Ok r) rs here rest = (here r refl, rest)
   with_each false (Err fault) rs here rest = rest
 
-  -- what is so of each record that is read of a run
+  -- what is true for each record that is read from a run
   pub in_run : (p : Placed) → ((seq : ℕ) (r : Record) → record_of p.run seq ≡ Ok r → P r) → (seqs : List ℕ) → AllByRecursion P (records_in (map (item_of p) seqs))
   in_run p each [] = tt
   in_run p each (seq ∷ seqs) =

@@ -1,4 +1,4 @@
--- A value is read of its text, if the names of its objects rise and its numbers are integers in range.
+-- A value is read from its text, if the names of its objects rise and its numbers are integers in range.
 use Rattle.std.proofs.Common.{◌≡◌, ℕ, ◌≤◌, true, false, pos, negsuc, List, [], ◌∷◌, ◌++◌, Some, option_map, option_and_then, refl, sym, ap, subst, ◌∙◌, append-nil, true≢false}
 use Rattle.std.specs.Str.{IsUtf8, is_utf8}
 use Rattle.std.proofs.lemmas.Bool.{or_parts}

@@ -8,7 +8,7 @@ use Rattle.sarif_known.specs.KnownRun.{known_run}
 use Rattle.sarif_known.specs.Laws.{AreKnownAgain}
 
 -- these bytes are read without an error, as the log of these runs; wherever the runs are read, none has an error, and the
--- records of their results are just those of these runs, in order
+-- records of their results are exactly those of these runs, in order
 pub record IsKnownAgain (runs : List Chosen) (text : List ℕ) : Type 0 where
   pub log : (allow : Bool) → log_of allow text ≡ Ok (map known_run runs)
   pub again : (placed : List Placed) → run_values placed ≡ map known_run runs

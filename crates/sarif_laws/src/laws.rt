@@ -62,7 +62,7 @@ pub fn pruning_changes_no_run()
 {}
 
 /// The bytes that a merge gives as its known log are read without an error, if they are UTF-8, as each string is. Wherever
-/// its runs are read, none has an error, and the records of their results are just those of the results that become or
+/// its runs are read, none has an error, and the records of their results are exactly those of the results that become or
 /// stay known, in order.
 pub fn the_known_log_is_read_again()
     ensures { (inputs : Inputs) (policy : Policy) (knowing : Knowing) → faults_of inputs ≡ []
@@ -71,7 +71,7 @@ pub fn the_known_log_is_read_again()
         (remembered (merge_in inputs policy) knowing).text }
 {}
 
-/// The list of unused entries has a line for each entry that the gate counts as unused.
+/// The list of unused entries has a line for each entry that the gate treats as unused.
 pub fn each_unused_entry_has_a_line()
     ensures { (inputs : Inputs) (policy : Policy) → faults_of inputs ≡ []
         → lines_in (life.unused_in (merge_in inputs policy)) ≡ log.unused_in inputs }

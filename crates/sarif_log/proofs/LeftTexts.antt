@@ -85,7 +85,7 @@ full_parts [] taken (run ∷ runs) parts = absurd parts
 full_parts (p ∷ all) taken [] parts = absurd parts
 full_parts (p ∷ all) taken (run ∷ runs) parts = (parts.0, refl, full_parts all (drop (length (present (results_of run))) taken) runs parts.2)
 
--- the first run of those of which only the unmatched results have a draft
+-- the first of the runs; only unmatched results have a draft
 front : (p : RunParts) (all : List RunParts) (these_ds bs : List Draft) → count_in_parts p ≡ length these_ds
     → left_texts (p ∷ all) (these_ds ++ bs) (map absent (these_ds ++ bs))
     ≡ text_if (list_any is_some (map absent these_ds)) (parts_text p these_ds (map absent these_ds)) (left_texts all bs (map absent bs))

@@ -25,7 +25,7 @@ use Rattle.sarif_log.specs.MergedRuns.{merged_runs, absent_runs}
 abbrev pub partner_in : List Record → Option ℕ → Option Record
 partner_in bs partner = option_and_then (slice_get bs) partner
 
--- the baseline state of each of these current results, of which the first has number n
+-- the baseline state of each of these current results; the first has number n
 abbrev pub states_from : List Record → List (Option ℕ) → ℕ → List Record → List State
 states_from bs partners n [] = []
 states_from bs partners n (r ∷ rs) =

@@ -2,7 +2,7 @@
 use sarif_counts::{Counts, Life};
 use sarif_findings::Finding;
 
-/// What is known of a merge before the text of its log is made: what its other outputs are made of.
+/// What is known about a merge before the text of its log is made. Its other outputs are made from it.
 #[derive(Clone, Copy)]
 pub struct Facts<'m> {
     /// The results of the log, counted.

@@ -27,8 +27,8 @@ pub struct Side {
     pub states: Vec<Option<State>>,
 }
 
-/// Returns the text of the log with this gate, the runs of the logs, and those runs of the baselines of which some
-/// result has a state. Returns `AllocError` if memory for it runs out.
+/// Returns the text of the log with this gate, the runs of the logs, and those runs of the baselines that have a
+/// result with a state. Returns `AllocError` if memory for it runs out.
 pub fn log_text(
     alloc: Global,
     gate: &Value,

@@ -57,8 +57,8 @@ pub(crate) fn push_runs(
     Ok(())
 }
 
-/// Adds the texts of only those runs of which some result has a state, as [`push_runs`] does, after others if
-/// there are any.
+/// Adds the texts of only those runs that have a result with a state, as [`push_runs`] does, after others if there
+/// are any.
 pub(crate) fn push_left_runs(
     alloc: Global,
     text: &mut String,

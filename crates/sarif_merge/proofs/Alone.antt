@@ -1,4 +1,4 @@
--- A merge of which nothing was requested for later merges.
+-- A merge from which nothing was requested for later merges.
 use Rattle.std.proofs.Common.{◌≡◌, ◌⊎◌, ℕ, List, Option, Some, inl, inr}
 use Rattle.std.specs.Prelude.{None}
 use Rattle.sarif_counts.specs.declared.checks.Checks.{Checks}

@@ -150,7 +150,7 @@ fn current_side(
     })
 }
 
-/// What is told of the results of logs and baselines, once they are matched.
+/// What is reported about the results of logs and baselines, once they are matched.
 #[derive(Drop)]
 struct Told {
     paired: Paired,

@@ -256,7 +256,7 @@ fn text_in(alloc: Global, matches: &ArgMatches<'_>, id: &str) -> Result<Text, Al
     Text::copy_of(alloc, matches.get_str(id).unwrap_or(""))
 }
 
-/// Returns the outputs that are requested beside the merged log, in the order in which they are written.
+/// Returns the outputs that are requested besides the merged log, in the order in which they are written.
 fn reports_of(alloc: Global, matches: &ArgMatches<'_>) -> Result<Vec<Wanted<Text>>, AllocError>
     ensures { IfOk result
         (λ reports. reports.items ≡ reports_in (rows_of (found_of matches.now))) }

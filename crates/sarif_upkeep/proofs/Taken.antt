@@ -35,7 +35,7 @@ pub tools_are : (runs : List Placed) → map (λ p. tool_run p.run) runs ≡ map
 tools_are [] = refl
 tools_are (p ∷ ps) = ap (λ l. tool_run p.run ∷ l) (tools_are ps)
 
--- one more record, of which a draft says what the file makes
+-- one more record, whose draft says what the file makes of it
 pub record NextRecord (file : File) (rs : List Record) (n : ℕ) (draft : Draft) : Type 0 where
   pub here : Record
   pub entries : draft.applied.entries ≡ matching_numbers file here

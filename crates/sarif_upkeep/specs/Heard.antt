@@ -7,7 +7,7 @@ use Rattle.sarif_read.specs.Failed.{failed}
 use Rattle.sarif_accept.specs.declared.heard.ToolRun.{ToolRun}
 use Rattle.sarif_accept.specs.Heard.{heard_of}
 
--- what a run says of its tool
+-- what a run says about its tool
 abbrev pub tool_run : Data → ToolRun
 tool_run run = record { tool = tool_name run; failed = failed run }
 

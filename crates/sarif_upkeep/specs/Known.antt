@@ -28,7 +28,7 @@ abbrev pub adopts : Knowing → Bool
 adopts Matched = false
 adopts Adopted = true
 
--- of each input run the results that become known; the records and states are those of all results
+-- for each input run the results that become known; the records and states are those of all results
 abbrev pub chosen_now : File → Policy → Bool → List Data → List Record → List State
     → List Chosen
 chosen_now file policy adopt [] rs states = []
@@ -40,7 +40,7 @@ chosen_now file policy adopt (run ∷ runs) rs states =
     }
     ∷ chosen_now file policy adopt runs (drop n rs) (drop n states)
 
--- of each baseline run the results that stay known; the records and marks are those of all results that aren't absent
+-- for each baseline run the results that stay known; the records and marks are those of all results that aren't absent
 -- already
 abbrev pub chosen_before : (Option (List ℕ) → Bool) → List Data → List Record → List Bool
     → List Chosen

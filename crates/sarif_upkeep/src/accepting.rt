@@ -17,7 +17,7 @@ pub(crate) fn is_hit(policy: Policy, record: &Record, draft: &Draft, state: Stat
     policy.counts(state, record.level) && !draft.applied.suppressed
 }
 
-/// Whether a hit has suppressions, so that it stays a hit whatever is accepted.
+/// Whether a hit has suppressions, so that it stays a hit, regardless of what is accepted.
 pub(crate) fn has_suppressions(record: &Record, draft: &Draft) -> bool
     ensures { (file : File) → draft.now.applied ≡ applied_of file «record».now
         → draft.now.applied.suppressed ≡ false → result ≡ stays file «record».now }

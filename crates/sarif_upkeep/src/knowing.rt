@@ -65,7 +65,7 @@ fn split_results<'a, 's>(
     (these, others)
 }
 
-/// Of each of these input runs the results that become known; `results` are those of all these runs.
+/// For each of these input runs the results that become known; `results` are those of all these runs.
 fn known_now<'m>(
     alloc: Global,
     choice: &Choice<'_>,
@@ -92,7 +92,7 @@ fn known_now<'m>(
     Ok(chosen)
 }
 
-/// Of each baseline run the results that stay known.
+/// For each baseline run the results that stay known.
 fn known_before<'m>(
     alloc: Global,
     before: &Before<'m, '_, '_>,

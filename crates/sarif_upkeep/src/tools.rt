@@ -14,7 +14,7 @@ use sarif_suppress::{Marks, Suppressions};
 use std::alloc::{AllocError, Global};
 use std::hash::RandomState;
 
-/// What each of these runs says of its tool.
+/// What each of these runs says about its tool.
 fn tool_runs(alloc: Global, runs: &[OpenedRun<'_, '_>]) -> Result<Vec<ToolRun>, AllocError>
     ensures { IfOk result
         (λ made. made.items ≡ map tool_run (run_values (map placed_of runs.now))) }

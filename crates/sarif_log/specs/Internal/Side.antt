@@ -14,6 +14,6 @@ pub record IsSide (side : Side) : Type 0 where
 abbrev pub texts_of_runs : Side → List (List ℕ)
 texts_of_runs side = runs_texts side.runs.items side.drafts.items side.states.items
 
--- the texts of the runs of which some result is written
+-- the texts of the runs that have a written result
 abbrev pub texts_of_left : Side → List (List ℕ)
 texts_of_left side = left_texts side.runs.items side.drafts.items side.states.items

@@ -94,7 +94,7 @@ abbrev pub text_if : Bool → List ℕ → List (List ℕ) → List (List ℕ)
 text_if true t ts = t ∷ ts
 text_if false t ts = ts
 
--- the same for only those runs of which some result is written
+-- the texts of only those runs that have a written result
 abbrev pub left_texts : List RunParts → List Draft → List (Option State) → List (List ℕ)
 left_texts [] drafts states = []
 left_texts (parts ∷ more) drafts states =

@@ -11,7 +11,7 @@ use Rattle.sarif_upkeep.specs.declared.matched.Before.{Before}
 use Rattle.sarif_upkeep.specs.declared.matched.Current.{Current}
 use Rattle.sarif_upkeep.specs.declared.matched.Matched.{Matched}
 
--- the file was read of these bytes; without a file there are no entries
+-- the file was read from these bytes; without a file there are no entries
 abbrev pub IsFileOf : Option (List ℕ) → File → Type 0
 IsFileOf None file = file.entries ≡ []
 IsFileOf (Some bytes) file = file_of bytes file.today ≡ Ok file

@@ -13,7 +13,7 @@ use Rattle.sarif_model.specs.MergeFault.{fault_at, out_of_memory}
 use Rattle.sarif_counts.specs.declared.upkeep.Renewal.{Renewal}
 use Rattle.sarif_accept.specs.Renewed.{renewed_entries, renewed_file}
 
--- the rejection for a refusal of the new file
+-- the error of a merge whose new file is rejected
 abbrev pub rejected : Refusal Cause → MergeFault
 rejected (refusal.Fault cause) = fault_at (Whole Suppress) cause
 rejected refusal.OutOfMemory = out_of_memory
