@@ -7,6 +7,7 @@ use Rattle.sarif_model.specs.declared.record.Record.{Record}
 use Rattle.sarif_model.specs.Run.{results_of}
 use Rattle.sarif_counts.specs.declared.policy.Policy.{Policy}
 use Rattle.sarif_counts.specs.declared.policy.Verdict.TheVariants.{Pass}
+use Rattle.sarif_counts.specs.declared.upkeep.Knowing.{Knowing}
 use Rattle.sarif_counts.specs.CountOf.{count_of}
 use Rattle.sarif_counts.specs.Policy.{verdict_of}
 use Rattle.sarif_findings.specs.Reported.{state_in}
@@ -20,7 +21,7 @@ use Rattle.sarif_log.specs.MergedRuns.{written}
 use Rattle.sarif_merge.specs.Life.{merge_in}
 use Rattle.sarif_merge.specs.MergedLog.{current_of, runs_written}
 use Rattle.sarif_merge.specs.OwnResult.{IsResult, baseline_of, number_among_all, partner_at, run_at}
-use Rattle.sarif_upkeep.specs.Known.{known_before}
+use Rattle.sarif_upkeep.specs.Known.{known_before, remembered}
 use Rattle.sarif_laws.specs.NextMerge.{absent_written, merged_result}
 
 -- an accepted merge of the same logs with this log as the only baseline; its suppression file, its date and its checks
@@ -29,6 +30,10 @@ pub record IsNextWith (inputs : Inputs) (known : List ℕ) (later : Inputs) : Ty
   pub logs : later.logs ≡ inputs.logs
   pub baseline : later.baselines ≡ known ∷ []
   pub faultless : faults_of later ≡ []
+
+-- the text of the known log of these inputs
+abbrev pub text_known : Inputs → Policy → Knowing → List ℕ
+text_known inputs policy knowing = (remembered (merge_in inputs policy) knowing).text
 
 -- the results of the baselines that stay known
 abbrev pub results_kept : Inputs → Policy → List Record

@@ -19,7 +19,7 @@ ghost use Rattle.sarif_merge.specs.Life.{merge_in};
 ghost use Rattle.sarif_merge.specs.MergedLog as log;
 ghost use Rattle.sarif_merge.specs.OwnResult.{baseline_of};
 ghost use Rattle.sarif_laws.specs.Accepting.{LeavesWhatStays};
-ghost use Rattle.sarif_laws.specs.Adopting.{HasNothingNew, IsNextWith, results_kept};
+ghost use Rattle.sarif_laws.specs.Adopting.{HasNothingNew, IsNextWith, results_kept, text_known};
 ghost use Rattle.sarif_laws.specs.Hits.{is_hit_in};
 ghost use Rattle.sarif_laws.specs.KnownAgain.{IsKnownAgain};
 ghost use Rattle.sarif_laws.specs.Lines.{lines_in};
@@ -80,11 +80,18 @@ pub fn the_known_log_is_read_again()
 /// suppression file, its date and its checks may differ. Then the match of each current result has the same record, so
 /// each is unchanged. The absent results are exactly those of the baselines that stay known, of each tool in their order.
 /// So the gate passes if its policy lists neither unchanged nor absent results.
+///
+/// `bytes`: the baseline is any bytes that are read as the known log. `text`: it is the text that the merge gives.
 pub fn adopting_leaves_nothing_new()
-    ensures { (inputs : Inputs) (policy : Policy) (knowing : Knowing) (known : List ℕ) (later : Inputs)
+    ensures bytes { (inputs : Inputs) (policy : Policy) (knowing : Knowing) (known : List ℕ) (later : Inputs)
         → faults_of inputs ≡ [] → (remembered (merge_in inputs policy) knowing).left_out ≡ 0
         → IsKnownAgain (runs_known (merge_in inputs policy) knowing) known
         → IsNextWith inputs known later → HasNothingNew (results_kept inputs policy) later }
+    ensures text { (inputs : Inputs) (policy : Policy) (knowing : Knowing) (later : Inputs)
+        → faults_of inputs ≡ [] → IsUtf8 (text_known inputs policy knowing)
+        → (remembered (merge_in inputs policy) knowing).left_out ≡ 0
+        → IsNextWith inputs (text_known inputs policy knowing) later
+        → HasNothingNew (results_kept inputs policy) later }
 {}
 
 /// The known log may take the place of any baseline with the same records: let two merges differ only in their baselines,
