@@ -10,7 +10,6 @@ use Rattle.sarif_model.specs.declared.record.Record.{Record}
 use Rattle.sarif_model.specs.Run.{result_at, results_of}
 use Rattle.sarif_model.specs.State.{state_name}
 use Rattle.sarif_counts.specs.declared.policy.Policy.{Policy}
-use Rattle.sarif_counts.specs.declared.policy.Verdict.TheVariants.{Pass, Fail}
 use Rattle.sarif_counts.specs.declared.upkeep.Renewal.{Renewal}
 use Rattle.sarif_counts.specs.CountOf.{count_of}
 use Rattle.sarif_counts.specs.Policy.{hits_of}
@@ -34,7 +33,7 @@ use Rattle.sarif_laws.specs.Accepting.{IsLeft, LeavesWhatStays}
 use Rattle.sarif_laws.specs.Hits.{is_hit_in, stays_in}
 use Rattle.sarif_laws.specs.NextMerge.{IsNewFile, absent_written, merged_result, merged_run_at, with_file}
 use Rattle.sarif_laws.proofs.Absent.{StaysIfHit, absent_stay}
-use Rattle.sarif_laws.proofs.Counted.{hits_counted}
+use Rattle.sarif_laws.proofs.Counted.{hits_counted, none_fails}
 use Rattle.sarif_laws.proofs.FileAfter.{faultless_later, later_file, later_is, same_today}
 use Rattle.sarif_laws.proofs.Left.{left_by, left_same}
 use Rattle.sarif_laws.proofs.Lists.{all_at, same_counts}
@@ -68,7 +67,7 @@ pub runs_long : (inputs : Inputs) → length (runs_written inputs) ≡ length (i
 runs_long inputs = length-append (written_inputs inputs) (absent_written inputs) ∙ ap (λ n. n + length (absent_written inputs)) (runs_same inputs)
 
 -- past the results of an input run
-no_result : (inputs : Inputs) (k seq : ℕ) → k < length (input_runs inputs) → length (results_of (run_at inputs k)) ≤ seq → result_at (written_run inputs k) seq ≡ null
+pub no_result : (inputs : Inputs) (k seq : ℕ) → k < length (input_runs inputs) → length (results_of (run_at inputs k)) ≤ seq → result_at (written_run inputs k) seq ≡ null
 no_result inputs k seq there past = get_or_past (results_of (written_run inputs k)) seq null (omega (arith, past, results_same inputs k there))
 
 module _ (inputs : Inputs) (text : List ℕ) where
@@ -165,13 +164,6 @@ module _ (inputs : Inputs) (policy : Policy) (renewal : Renewal) (text : List �
       hits_counted policy (runs_written (with_file inputs text))
       ∙ same_counts (is_hit_in policy) (stays_in policy) (runs_written (with_file inputs text)) (runs_written inputs) (same_runs inputs text) (same_results inputs text) (λ k seq. (left_at k seq).hit)
 
-  none_fails : (hits : ℕ) → hits ≡ 0 → (if nat_lt policy.max hits then Fail else Pass) ≡ Pass
-  none_fails hits zero_hits = by_test (nat_lt policy.max hits) refl
-    where
-      by_test : (b : Bool) → nat_lt policy.max hits ≡ b → (if b then Fail else Pass) ≡ Pass
-      by_test true over = absurd (omega (arith, ltb-true policy.max hits over, zero_hits))
-      by_test false over = refl
-
   pub law_of_accepting : LeavesWhatStays inputs policy text
   law_of_accepting = record {
     faultless = later_none;
@@ -180,5 +172,5 @@ module _ (inputs : Inputs) (policy : Policy) (renewal : Renewal) (text : List �
     results = left_at;
     absent = refl;
     hits = later_hits;
-    verdict = λ nothing. none_fails (hits_of (count_of (runs_written (with_file inputs text))) policy) (later_hits ∙ nothing);
+    verdict = λ nothing. none_fails policy (hits_of (count_of (runs_written (with_file inputs text))) policy) (later_hits ∙ nothing);
   }

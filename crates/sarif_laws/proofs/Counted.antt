@@ -1,6 +1,7 @@
 -- The gate counts the hits of a merged log.
-use Rattle.std.proofs.Common.{◌≡◌, ◌+◌, Bool, true, false, not, ◌&&◌, cond, List, [], ◌∷◌, Option, Some, None, codes, refl, ap, sym, ◌∙◌}
-use Rattle.std.specs.Prelude.{count_by, flat_map, option_and_then}
+use Rattle.std.proofs.Common.{◌≡◌, ◌+◌, ℕ, Bool, true, false, not, ◌&&◌, cond, List, [], ◌∷◌, Option, Some, None, codes, refl, ap, sym, ◌∙◌, arith, if◌then◌else◌}
+use Rattle.std.specs.Prelude.{count_by, flat_map, nat_lt, option_and_then}
+use Rattle.std.proofs.lemmas.Bool.{ltb-true}
 use Rattle.std.proofs.lemmas.List.Sums.{sum_by-append, sum_by-cons}
 use Rattle.serde_json.specs.Data.{Data, Items, no_items, item}
 use Rattle.serde_json.specs.Find.{get, as_array}
@@ -10,6 +11,7 @@ use Rattle.sarif_model.specs.Members.{elements}
 use Rattle.sarif_model.specs.Run.{results_of}
 use Rattle.sarif_model.proofs.Elements.{items_or_none}
 use Rattle.sarif_counts.specs.declared.policy.Policy.{Policy}
+use Rattle.sarif_counts.specs.declared.policy.Verdict.TheVariants.{Fail, Pass}
 use Rattle.sarif_counts.specs.Policy.{count_if, hits_of, is_listed}
 use Rattle.sarif_counts.specs.Tally.{same_side}
 use Rattle.sarif_counts.specs.CountOf.{carries, count_in, count_of, results_in, suppresses, suppressions_in}
@@ -65,3 +67,11 @@ hits_counted policy (run ∷ runs) =
     ∙ ap (λ n. n + hits_of (count_of runs) policy) (in_run policy run)
     ∙ ap (λ n. count_by (is_hit_in policy) (results_of run) + n) (hits_counted policy runs)
     ∙ sym (sum_by-append (λ x. cond (is_hit_in policy x) 1 0) (results_of run) (flat_map results_of runs))
+
+-- without hits the gate passes
+pub none_fails : (policy : Policy) (hits : ℕ) → hits ≡ 0 → (if nat_lt policy.max hits then Fail else Pass) ≡ Pass
+none_fails policy hits none = by_test (nat_lt policy.max hits) refl
+  where
+    by_test : (b : Bool) → nat_lt policy.max hits ≡ b → (if b then Fail else Pass) ≡ Pass
+    by_test true over = absurd (omega (arith, ltb-true policy.max hits over, none))
+    by_test false over = refl

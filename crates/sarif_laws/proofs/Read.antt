@@ -30,7 +30,7 @@ use Rattle.sarif_accept.specs.Until.{HasGuid}
 use Rattle.sarif_known.proofs.Readable.{AreReadFrom, parts_read}
 use Rattle.sarif_laws.proofs.Lists.{all_append}
 
-ok_is : {A E : Type 0} (x y : A) → ◌≡◌ {A = Result A E} (Ok x) (Ok y) → x ≡ y
+pub ok_is : {A E : Type 0} (x y : A) → ◌≡◌ {A = Result A E} (Ok x) (Ok y) → x ≡ y
 ok_is x y is = cc
 
 -- ---- the statuses of its own suppressions

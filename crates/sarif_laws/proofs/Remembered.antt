@@ -79,7 +79,7 @@ all_within runs results (s ∷ rest) few few_results none =
 
 -- ---- the runs without errors
 
-all_faultless : (inputs : Inputs) → faults_of inputs ≡ [] → (source_faults 0 0 (all_sources inputs) ≡ []) × (faults_of_runs (all_runs inputs) ≡ [])
+pub all_faultless : (inputs : Inputs) → faults_of inputs ≡ [] → (source_faults 0 0 (all_sources inputs) ≡ []) × (faults_of_runs (all_runs inputs) ≡ [])
 all_faultless inputs none =
     let runs = faults_of_runs (all_runs inputs) in
     let files = file_faults (file_or_none inputs.suppressions inputs.today) in
@@ -88,7 +88,7 @@ all_faultless inputs none =
     let after_baselines = no_faults_left (number_faults Baseline inputs.baselines) (sources ++ (files ++ runs)) after_logs in
     (no_faults_here sources (files ++ runs) after_baselines, no_faults_left files runs (no_faults_left sources (files ++ runs) after_baselines))
 
-faultless_before : (inputs : Inputs) → faults_of inputs ≡ [] → faults_of_runs (baseline_runs inputs) ≡ []
+pub faultless_before : (inputs : Inputs) → faults_of inputs ≡ [] → faults_of_runs (baseline_runs inputs) ≡ []
 faultless_before inputs none =
     no_faults_left (faults_of_runs (input_runs inputs)) (faults_of_runs (baseline_runs inputs)) (sym (flat_map-append run_faults (input_runs inputs) (baseline_runs inputs)) ∙ (all_faultless inputs none).1)
 

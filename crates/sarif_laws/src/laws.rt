@@ -9,6 +9,7 @@ ghost use Rattle.sarif_counts.specs.declared.upkeep.Renewal.{Renewal};
 ghost use Rattle.sarif_counts.specs.CountOf.{count_of};
 ghost use Rattle.sarif_counts.specs.Policy.{hits_of};
 ghost use Rattle.sarif_accept.specs.Until.{IsDated, IsUntil};
+ghost use Rattle.sarif_known.specs.Laws.{AreAlike};
 ghost use Rattle.sarif_upkeep.specs.Known.{remembered, runs_known};
 ghost use Rattle.sarif_upkeep.specs.Life as life;
 ghost use Rattle.sarif_upkeep.specs.Renewed.{renewal_faults, renewed};
@@ -16,12 +17,15 @@ ghost use Rattle.sarif_inputs.specs.Faults.{faults_of};
 ghost use Rattle.sarif_inputs.specs.Inputs.{Inputs};
 ghost use Rattle.sarif_merge.specs.Life.{merge_in};
 ghost use Rattle.sarif_merge.specs.MergedLog as log;
+ghost use Rattle.sarif_merge.specs.OwnResult.{baseline_of};
 ghost use Rattle.sarif_laws.specs.Accepting.{LeavesWhatStays};
+ghost use Rattle.sarif_laws.specs.Adopting.{HasNothingNew, IsNextWith, results_kept, text_known};
 ghost use Rattle.sarif_laws.specs.Hits.{is_hit_in};
 ghost use Rattle.sarif_laws.specs.KnownAgain.{IsKnownAgain};
 ghost use Rattle.sarif_laws.specs.Lines.{lines_in};
 ghost use Rattle.sarif_laws.specs.NextMerge.{IsNewFile};
 ghost use Rattle.sarif_laws.specs.Pruning.{ChangesNoResult};
+ghost use Rattle.sarif_laws.specs.SameBaseline.{HasSameResults, with_baselines};
 
 /// The gate counts the hits of a merged log: its number of hits is how many results of the runs are hits.
 pub fn the_gate_counts_the_hits()
@@ -69,6 +73,35 @@ pub fn the_known_log_is_read_again()
         → IsUtf8 (remembered (merge_in inputs policy) knowing).text
         → IsKnownAgain (runs_known (merge_in inputs policy) knowing)
         (remembered (merge_in inputs policy) knowing).text }
+{}
+
+/// The law of adopting. Let inputs have no errors, and let their known log leave no current result out, for example because
+/// new results are adopted. Let another merge have the same logs, the known log as its only baseline and no errors; its
+/// suppression file, its date and its checks may differ. Then the match of each current result has the same record, so
+/// each is unchanged. The absent results are exactly those of the baselines that stay known, of each tool in their order.
+/// So the gate passes if its policy lists neither unchanged nor absent results.
+///
+/// `bytes`: the baseline is any bytes that are read as the known log. `text`: it is the text that the merge gives.
+pub fn adopting_leaves_nothing_new()
+    ensures bytes { (inputs : Inputs) (policy : Policy) (knowing : Knowing) (known : List ℕ) (later : Inputs)
+        → faults_of inputs ≡ [] → (remembered (merge_in inputs policy) knowing).left_out ≡ 0
+        → IsKnownAgain (runs_known (merge_in inputs policy) knowing) known
+        → IsNextWith inputs known later → HasNothingNew (results_kept inputs policy) later }
+    ensures text { (inputs : Inputs) (policy : Policy) (knowing : Knowing) (later : Inputs)
+        → faults_of inputs ≡ [] → IsUtf8 (text_known inputs policy knowing)
+        → (remembered (merge_in inputs policy) knowing).left_out ≡ 0
+        → IsNextWith inputs (text_known inputs policy knowing) later
+        → HasNothingNew (results_kept inputs policy) later }
+{}
+
+/// The known log may take the place of any baseline with the same records: let two merges differ only in their baselines,
+/// and let the records of the results of these be equal except for the statuses of their own suppressions. Then the input
+/// runs are written the same, each result with its level, its state and its suppressions, and the same baseline results
+/// are matched.
+pub fn own_suppressions_of_a_baseline_change_no_result()
+    ensures { (inputs : Inputs) (baselines : List (List ℕ))
+        → AreAlike (baseline_of inputs) (baseline_of (with_baselines inputs baselines))
+        → HasSameResults inputs (with_baselines inputs baselines) }
 {}
 
 /// The list of unused entries has a line for each entry that the gate treats as unused.

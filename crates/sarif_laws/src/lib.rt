@@ -1,9 +1,11 @@
-//! Laws of whole merges: what accepting results and pruning the suppression file change in the next merge.
+//! Laws of whole merges: what accepting results, pruning the suppression file and adopting results change in the next
+//! merge.
 #![tactic(auto)]
 
 mod laws;
 
 pub use laws::{
-    accepting_leaves_the_hits_that_stay, each_unused_entry_has_a_line, pruning_changes_no_run,
+    accepting_leaves_the_hits_that_stay, adopting_leaves_nothing_new, each_unused_entry_has_a_line,
+    own_suppressions_of_a_baseline_change_no_result, pruning_changes_no_run,
     the_gate_counts_the_hits, the_known_log_is_read_again, the_new_file_is_read_as_itself,
 };

@@ -1,0 +1,256 @@
+-- The law of adopting.
+use Rattle.std.proofs.Common.{◌≡◌, ◌+◌, ◌<◌, ◌≤◌, ◌&&◌, ◌++◌, ℕ, zero, suc, Bool, true, false, List, [], ◌∷◌, map, length, take, drop, get_or, Some, Ok, refl, sym, ap, ap₂, subst, ◌∙◌, arith, length-append, append-nil}
+use Rattle.std.specs.Prelude.{cond, count_by, flat_map, nat_lt}
+use Rattle.std.specs.List.{AllByRecursion, AllZip}
+use Rattle.std.proofs.lemmas.Bool.{ltb-false, ltb-true}
+use Rattle.std.proofs.lemmas.List.{get_or_past, length-map, take-append-drop}
+use Rattle.std.proofs.lemmas.List.Concat.{flat_map-append}
+use Rattle.std.proofs.lemmas.List.Sums.{sum_by-append, sum_by-cons}
+use Rattle.std.proofs.lemmas.Option.{slice_get-get_or}
+use Rattle.serde_json.specs.Data.{Data, null, boolean, number, string, array, object}
+use Rattle.serde_json.specs.View.{items_of}
+use Rattle.sarif_model.specs.declared.kinds.State.{State}
+use Rattle.sarif_model.specs.declared.kinds.State.TheVariants.{Absent, Unchanged}
+use Rattle.sarif_model.specs.declared.merge_fault.Source.TheVariants.{Baseline}
+use Rattle.sarif_model.specs.declared.record.Record.{Record}
+use Rattle.sarif_model.specs.Members.{elements}
+use Rattle.sarif_model.specs.Run.{result_at, results_of}
+use Rattle.sarif_counts.specs.declared.policy.Policy.{Policy}
+use Rattle.sarif_counts.specs.declared.upkeep.Knowing.{Knowing}
+use Rattle.sarif_counts.specs.CountOf.{count_of}
+use Rattle.sarif_counts.specs.Policy.{hits_of}
+use Rattle.sarif_entries.specs.File.{File}
+use Rattle.sarif_findings.specs.Reported.{is_active, level_in, state_in}
+use Rattle.sarif_match.specs.State.{state_of}
+use Rattle.sarif_match.proofs.StateLemmas.{equal_is_unchanged}
+use Rattle.sarif_runs.specs.Judging.{run_values}
+use Rattle.sarif_runs.specs.Record.{record_of}
+use Rattle.sarif_results.specs.Annotated.{own_suppressions}
+use Rattle.sarif_results.specs.Drafts.{IsObject, IsRun, Listing}
+use Rattle.sarif_known.specs.Chosen.{Chosen, results_among}
+use Rattle.sarif_known.specs.KnownResult.{known_result}
+use Rattle.sarif_known.specs.KnownRun.{known_run}
+use Rattle.sarif_known.specs.Laws.{IsOfTool}
+use Rattle.sarif_known.specs.Selected.{is_left_out, keep_unless, known_of, unmatched_of}
+use Rattle.sarif_read.specs.Reading.{log_of}
+use Rattle.sarif_inputs.specs.Faults.{faults_of}
+use Rattle.sarif_inputs.specs.Inputs.{Inputs, baseline_runs, baseline_sources, input_runs, log_sources, numbered, placed, placed_from, readable}
+use Rattle.sarif_inputs.proofs.ReadFacts.{baseline_sides, log_sides}
+use Rattle.sarif_inputs.proofs.SourceRuns.{data_placed}
+use Rattle.sarif_log.specs.LogBy.{listing_of, taken_of}
+use Rattle.sarif_log.specs.MergedRuns.{absent_runs, written}
+use Rattle.sarif_log.proofs.Told.{state_told}
+use Rattle.sarif_merge.specs.Life.{merge_in}
+use Rattle.sarif_merge.specs.MergedLog.{current_of, file_given, runs_written, written_inputs}
+use Rattle.sarif_merge.specs.OwnResult.{IsResult, baseline_of, number_among_all, partner_at, run_at, written_run}
+use Rattle.sarif_merge.proofs.OwnResult.{faultless_runs, own_result, runs_same}
+use Rattle.sarif_merge.proofs.ReadObjects.{objects_in}
+use Rattle.sarif_upkeep.specs.Heard.{heard}
+use Rattle.sarif_upkeep.specs.Known.{adopts, chosen_now, known_before, known_now, remembered, runs_known}
+use Rattle.sarif_upkeep.proofs.Taken.{known_fewer}
+use Rattle.sarif_laws.specs.Adopting.{HasNothingNew, IsAbsentOf, IsNextWith, of_tool, results_kept, results_unmatched}
+use Rattle.sarif_laws.specs.Hits.{fails_on, is_hit_in, lists}
+use Rattle.sarif_laws.specs.KnownAgain.{IsKnownAgain}
+use Rattle.sarif_laws.specs.NextMerge.{absent_written}
+use Rattle.sarif_laws.proofs.AbsentKept.{absent_zip}
+use Rattle.sarif_laws.proofs.Accepted.{input_run, no_result}
+use Rattle.sarif_laws.proofs.Adopted.{matched, same_long, unmatched}
+use Rattle.sarif_laws.proofs.ByTool.{IsOfOne, known_of_tool, records_among}
+use Rattle.sarif_laws.proofs.Counted.{hits_counted, none_fails}
+use Rattle.sarif_laws.proofs.KnownRuns.{before_sound, IsChosenSound, now_sound}
+use Rattle.sarif_laws.proofs.Lists.{same_counts}
+use Rattle.sarif_laws.proofs.OfTool.{sources_sound}
+use Rattle.sarif_laws.proofs.Places.{has_place}
+use Rattle.sarif_laws.proofs.Remembered.{faultless_before}
+use Rattle.sarif_laws.proofs.SameLogs.{same_current}
+
+-- ---- nothing is left out
+
+whole_list : (file : File) (policy : Policy) (adopt : Bool) (rs : List Record) (states : List State) → length rs ≤ length (known_of file policy adopt rs states) → known_of file policy adopt rs states ≡ rs
+whole_list file policy adopt [] states long = refl
+whole_list file policy adopt (r ∷ rs) [] long = absurd (omega (arith, long))
+whole_list file policy adopt (r ∷ rs) (state ∷ states) long = by_test (is_left_out file policy adopt r state) long (whole_list file policy adopt rs states)
+  where
+    by_test : (b : Bool) → suc (length rs) ≤ length (keep_unless b r (known_of file policy adopt rs states)) → (length rs ≤ length (known_of file policy adopt rs states) → known_of file policy adopt rs states ≡ rs)
+        → keep_unless b r (known_of file policy adopt rs states) ≡ r ∷ rs
+    by_test true long rest = absurd (omega (arith, long, known_fewer file policy adopt rs states))
+    by_test false long rest = ap (λ l. r ∷ l) (rest (omega (arith, long)))
+
+fewer_chosen : (file : File) (policy : Policy) (adopt : Bool) (runs : List Data) (rs : List Record) (states : List State) → results_among (chosen_now file policy adopt runs rs states) ≤ length rs
+fewer_chosen file policy adopt [] rs states = omega arith
+fewer_chosen file policy adopt (run ∷ runs) rs states =
+    let n = length (results_of run) in
+    omega (arith, known_fewer file policy adopt (take n rs) (take n states), fewer_chosen file policy adopt runs (drop n rs) (drop n states), ap length (take-append-drop n rs), length-append (take n rs) (drop n rs))
+
+whole_now : (file : File) (policy : Policy) (adopt : Bool) (runs : List Data) (rs : List Record) (states : List State) → length rs ≤ results_among (chosen_now file policy adopt runs rs states)
+    → records_among (chosen_now file policy adopt runs rs states) ≡ rs
+whole_now file policy adopt [] [] states long = refl
+whole_now file policy adopt [] (r ∷ rs) states long = absurd (omega (arith, long))
+whole_now file policy adopt (run ∷ runs) rs states long =
+    let n = length (results_of run) in
+    let parts = ap length (take-append-drop n rs) in
+    let sum = length-append (take n rs) (drop n rs) in
+    let first = known_fewer file policy adopt (take n rs) (take n states) in
+    let others = fewer_chosen file policy adopt runs (drop n rs) (drop n states) in
+    ap₂ (λ xs ys. xs ++ ys) (whole_list file policy adopt (take n rs) (take n states) (omega (arith, long, parts, sum, first, others)))
+    (whole_now file policy adopt runs (drop n rs) (drop n states) (omega (arith, long, parts, sum, first, others)))
+    ∙ take-append-drop n rs
+
+of_one : (tool : List ℕ) (rs : List Record) → AllByRecursion (IsOfTool tool) rs → AllByRecursion (λ r. r.tool ≡ tool) rs
+of_one tool [] all = tt
+of_one tool (r ∷ rs) all = (all.0.tool_is, of_one tool rs all.1)
+
+all_of_one : (runs : List Chosen) → AllByRecursion IsChosenSound runs → AllByRecursion IsOfOne runs
+all_of_one [] all = tt
+all_of_one (run ∷ runs) all = (of_one run.tool run.records all.0, all_of_one runs all.1)
+
+-- ---- objects
+
+get_object : (ds : List Data) (n : ℕ) → n < length ds → AllByRecursion IsObject ds → IsObject (get_or ds n null)
+get_object [] n within all = absurd (omega (arith, within))
+get_object (d ∷ ds) zero within all = all.0
+get_object (d ∷ ds) (suc n) within all = get_object ds n (omega (arith, within)) all.1
+
+run_objects : (runs : List Data) (k : ℕ) → k < length runs → AllByRecursion IsRun runs → AllByRecursion IsObject (results_of (get_or runs k null))
+run_objects [] k within all = absurd (omega (arith, within))
+run_objects (run ∷ runs) zero within all = all.0.1
+run_objects (run ∷ runs) (suc k) within all = run_objects runs k (omega (arith, within)) all.1
+
+state_written : (listed : Listing) (r : Record) (state : State) (d : Data) → IsObject d → state_in (written listed r state d) ≡ Some state
+state_written listed r state null never = absurd never
+state_written listed r state (boolean b) never = absurd never
+state_written listed r state (number n) never = absurd never
+state_written listed r state (string s) never = absurd never
+state_written listed r state (array ds) never = absurd never
+state_written listed r state (object ms) is = state_told r.level state (items_of (listed r (elements (own_suppressions ms)))) ms
+
+-- ---- hits
+
+module _ (policy : Policy) where
+  not_listed : (state : State) (d : Data) → state_in d ≡ Some state → lists policy (Some state) ≡ false → is_hit_in policy d ≡ false
+  not_listed state d is none =
+      ap (λ o. (lists policy o && fails_on policy (level_in d)) && is_active d) is ∙ ap (λ b. (b && fails_on policy (level_in d)) && is_active d) none
+
+  none_absent : (rs : List Record) (ds : List Data) → AllZip IsAbsentOf rs ds → policy.states.absent ≡ false → count_by (is_hit_in policy) ds ≡ 0
+  none_absent [] [] all none = refl
+  none_absent [] (d ∷ ds) all none = absurd all
+  none_absent (r ∷ rs) [] all none = absurd all
+  none_absent (r ∷ rs) (d ∷ ds) all none =
+      sum_by-cons (λ x. cond (is_hit_in policy x) 1 0) d ds
+      ∙ ap (λ b. cond b 1 0 + count_by (is_hit_in policy) ds)
+      (ap (is_hit_in policy) all.0.1 ∙ not_listed Absent (written (λ _ own. own) r Absent (known_result r all.0.0)) (state_written (λ _ own. own) r Absent (known_result r all.0.0) tt) none)
+      ∙ ap (λ n. 0 + n) (none_absent rs ds all.1 none)
+
+none_at_all : (ds : List Data) → count_by (λ _. false) ds ≡ 0
+none_at_all [] = refl
+none_at_all (d ∷ ds) = sum_by-cons (λ _. cond false 1 0) d ds ∙ ap (λ n. 0 + n) (none_at_all ds)
+
+-- ---- the law
+
+zip_long : (rs : List Record) (ds : List Data) → AllZip IsAbsentOf rs ds → length ds ≡ length rs
+zip_long [] [] all = refl
+zip_long [] (d ∷ ds) all = absurd all
+zip_long (r ∷ rs) [] all = absurd all
+zip_long (r ∷ rs) (d ∷ ds) all = ap suc (zip_long rs ds all.1)
+
+module _ (inputs : Inputs) (policy : Policy) (knowing : Knowing) (known : List ℕ) (later : Inputs) (sound : faults_of inputs ≡ [])
+    (whole : (remembered (merge_in inputs policy) knowing).left_out ≡ 0) (again : IsKnownAgain (runs_known (merge_in inputs policy) knowing) known) (next : IsNextWith inputs known later) where
+  abbrev runs : List Chosen
+  runs = runs_known (merge_in inputs policy) knowing
+
+  now_own : AllByRecursion IsOfOne (known_now (merge_in inputs policy) (adopts knowing))
+  now_own =
+      let m = merge_in inputs policy in
+      all_of_one (known_now m (adopts knowing)) (now_sound m.file m.policy (adopts knowing) (input_runs inputs) m.states (faultless_runs inputs sound) (log_sides inputs.checks 0 inputs.logs) (sources_sound (log_sources inputs)))
+
+  before_own : AllByRecursion IsOfOne (known_before (merge_in inputs policy))
+  before_own =
+      let m = merge_in inputs policy in
+      all_of_one (known_before m) (before_sound (heard m.runs) (baseline_runs inputs) m.taken (faultless_before inputs sound) (baseline_sides inputs.checks 0 inputs.baselines) (sources_sound (baseline_sources inputs)))
+
+  all_now : records_among (known_now (merge_in inputs policy) (adopts knowing)) ≡ current_of later
+  all_now =
+      let m = merge_in inputs policy in
+      whole_now m.file m.policy (adopts knowing) m.runs m.records m.states (omega (arith, whole)) ∙ same_current inputs later next.logs sound next.faultless
+
+  -- the runs of the known log
+  baseline_is : run_values (baseline_runs later) ≡ map known_run runs
+  baseline_is =
+      let allow = later.checks.allow_external in
+      let read = readable (log_of allow known) in
+      ap (λ bs. run_values (placed (numbered later.checks Baseline 0 bs))) next.baseline
+      ∙ ap run_values (append-nil (placed_from later.checks (Baseline 0) 0 read))
+      ∙ data_placed later.checks (Baseline 0) 0 read
+      ∙ ap readable (again.log allow)
+
+  records_are : baseline_of later ≡ records_among runs
+  records_are = (again.again (baseline_runs later) baseline_is).records
+
+  same_tools : (tool : List ℕ) → of_tool tool (baseline_of later) ≡ of_tool tool (current_of later ++ results_kept inputs policy)
+  same_tools tool =
+      let m = merge_in inputs policy in
+      ap (of_tool tool) records_are ∙ known_of_tool tool (known_now m (adopts knowing)) (known_before m) now_own before_own
+      ∙ ap (λ l. of_tool tool (l ++ results_kept inputs policy)) all_now
+
+  matched_there : (k seq : ℕ) (r : Record) → IsResult later k seq → record_of (run_at later k) seq ≡ Ok r → partner_at later (number_among_all later k seq) ≡ Some r
+  matched_there k seq r there is =
+      let place = number_among_all later k seq in
+      let at = has_place later k seq r next.faultless there is in
+      matched (current_of later) (results_kept inputs policy) (baseline_of later) same_tools place r (slice_get-get_or (current_of later) place r at.in_records ∙ ap Some at.record_is)
+
+  unchanged_written : (k seq : ℕ) → IsResult later k seq → state_in (result_at (written_run later k) seq) ≡ Some Unchanged
+  unchanged_written k seq there =
+      let own = own_result later k seq next.faultless there in
+      let r = own.0 in
+      let d = result_at (run_at later k) seq in
+      let in_runs : k < length (run_values (input_runs later)) = omega (arith, there.0, length-map (input_runs later) (λ p. p.run)) in
+      let has = get_object (results_of (run_at later k)) seq there.1 (run_objects (run_values (input_runs later)) k in_runs (objects_in (log_sources later))) in
+      ap state_in own.2
+      ∙ ap (λ partner. state_in (written (listing_of (file_given later)) r (state_of r partner) d)) (matched_there k seq r there own.1)
+      ∙ ap (λ state. state_in (written (listing_of (file_given later)) r state d)) (equal_is_unchanged r r (record { kind = refl; level = refl; message = refl; place = refl }))
+      ∙ state_written (listing_of (file_given later)) r Unchanged d has
+
+  others_there : (tool : List ℕ) → of_tool tool (results_unmatched later) ≡ of_tool tool (results_kept inputs policy)
+  others_there = unmatched (current_of later) (results_kept inputs policy) (baseline_of later) same_tools
+
+  absent_there : AllZip IsAbsentOf (results_unmatched later) (flat_map results_of (absent_written later))
+  absent_there =
+      let taken = taken_of (current_of later) (baseline_of later) in
+      subst (λ bs. AllZip IsAbsentOf (unmatched_of bs taken) (flat_map results_of (absent_runs bs taken (run_values (baseline_runs later))))) (sym records_are)
+      (subst (λ vs. AllZip IsAbsentOf (unmatched_of (records_among runs) taken) (flat_map results_of (absent_runs (records_among runs) taken vs))) (sym baseline_is) (absent_zip runs taken))
+
+  module _ (any : Policy) (current : any.states.unchanged ≡ false) (gone : any.states.absent ≡ false) where
+    no_hit : (k seq : ℕ) → is_hit_in any (result_at (written_run later k) seq) ≡ false
+    no_hit k seq = by_run (nat_lt k (length (input_runs later))) refl (nat_lt seq (length (results_of (run_at later k)))) refl
+      where
+        by_run : (a : Bool) → nat_lt k (length (input_runs later)) ≡ a → (b : Bool) → nat_lt seq (length (results_of (run_at later k))) ≡ b → is_hit_in any (result_at (written_run later k) seq) ≡ false
+        by_run true run true result =
+            let there : IsResult later k seq = (ltb-true k (length (input_runs later)) run, ltb-true seq (length (results_of (run_at later k))) result) in
+            not_listed any Unchanged (result_at (written_run later k) seq) (unchanged_written k seq there) current
+        by_run true run false result =
+            ap (is_hit_in any) (no_result later k seq (ltb-true k (length (input_runs later)) run) (ltb-false seq (length (results_of (run_at later k))) result))
+        by_run false run b result =
+            let past = ltb-false k (length (input_runs later)) run in
+            ap (λ run. is_hit_in any (result_at run seq)) (get_or_past (written_inputs later) k null (omega (arith, past, runs_same later)))
+
+    no_hits : hits_of (count_of (runs_written later)) any ≡ 0
+    no_hits =
+        let hit = is_hit_in any in
+        let one = λ (d : Data). cond (hit d) 1 0 in
+        let here : count_by hit (flat_map results_of (written_inputs later)) ≡ 0 =
+        same_counts hit (λ _. false) (written_inputs later) (written_inputs later) refl (λ k. refl) no_hit ∙ none_at_all (flat_map results_of (written_inputs later)) in
+        let there = none_absent any (results_unmatched later) (flat_map results_of (absent_written later)) absent_there gone in
+        hits_counted any (runs_written later)
+        ∙ ap (count_by hit) (flat_map-append results_of (written_inputs later) (absent_written later))
+        ∙ sum_by-append one (flat_map results_of (written_inputs later)) (flat_map results_of (absent_written later))
+        ∙ ap₂ (λ m n. m + n) here there
+
+  pub law_of_adopting : HasNothingNew (results_kept inputs policy) later
+  law_of_adopting = record {
+    matched = matched_there;
+    unchanged = λ k seq there. ap (λ run. state_in (result_at run seq)) (input_run later k there.0) ∙ unchanged_written k seq there;
+    others = others_there;
+    absent = absent_there;
+    count = zip_long (results_unmatched later) (flat_map results_of (absent_written later)) absent_there ∙ same_long (results_unmatched later) (results_kept inputs policy) others_there;
+    verdict = λ any current gone. none_fails any (hits_of (count_of (runs_written later)) any) (no_hits any current gone);
+  }

@@ -1,0 +1,97 @@
+-- The same logs have the same records with any checks of their runs.
+use Rattle.std.proofs.Common.{◌≡◌, ℕ, ◌+◌, Bool, List, [], ◌∷◌, ◌++◌, length, refl, sym, ap, ap₂, subst, ◌∙◌}
+use Rattle.std.specs.Prelude.{Result, Ok, Err}
+use Rattle.std.specs.List.{AllByRecursion}
+use Rattle.std.proofs.lemmas.List.Concat.{flat_map-append}
+use Rattle.serde_json.specs.Data.{Data}
+use Rattle.json_parts.specs.Indexed.{json_of}
+use Rattle.json_parts.specs.Mark.{without_mark}
+use Rattle.sarif_model.specs.declared.fault.Fault.TheVariants.{NotJson}
+use Rattle.sarif_model.specs.declared.merge_fault.Source.{Source}
+use Rattle.sarif_model.specs.declared.merge_fault.Source.TheVariants.{Log}
+use Rattle.sarif_model.specs.Run.{results_total, runs_of}
+use Rattle.sarif_counts.specs.declared.checks.Checks.{Checks}
+use Rattle.sarif_read.specs.declared.read_fault.ReadFault.{ReadFault}
+use Rattle.sarif_read.specs.Reading.{at_whole, check_each, check_log, log_of, log_of_value, ok_or}
+use Rattle.sarif_read.specs.Stripping.{stripped}
+use Rattle.sarif_read.proofs.WholeRuns.{bind_ok}
+use Rattle.sarif_runs.specs.Judging.{items_of, records_in, records_of}
+use Rattle.sarif_results.proofs.JudgedCounts.{no_faults_here, no_faults_left}
+use Rattle.sarif_inputs.specs.Faults.{faults_of}
+use Rattle.sarif_inputs.specs.Inputs.{Inputs, Sourced, all_sources, baseline_sources, log_sources, must_succeed, numbered, placed, placed_from, readable, runs_in}
+use Rattle.sarif_inputs.specs.SourceFaults.{limit_faults, reading_faults, source_faults}
+use Rattle.sarif_merge.specs.MergedLog.{current_of}
+use Rattle.sarif_laws.proofs.Read.{ok_is}
+use Rattle.sarif_laws.proofs.Remembered.{all_faultless}
+
+-- ---- each source is read
+
+abbrev IsReadable : Sourced → Type 0
+IsReadable s = (runs : List Data) × (log_of s.checks.allow_external s.bytes ≡ Ok runs)
+
+reading_ok : (source : Source) (r : Result (List Data) ReadFault) → reading_faults source r ≡ [] → (runs : List Data) × (r ≡ Ok runs)
+reading_ok source (Ok runs) none = (runs, refl)
+reading_ok source (Err fault) none = let never : ⊥ = cc in absurd never
+
+each_read : (runs results : ℕ) (sources : List Sourced) → source_faults runs results sources ≡ [] → AllByRecursion IsReadable sources
+each_read runs results [] none = tt
+each_read runs results (s ∷ rest) none =
+    let here = runs_in s in
+    let now = runs + length here in
+    let all = results + results_total here in
+    let reading = reading_faults s.source (log_of s.checks.allow_external s.bytes) in
+    let limits = limit_faults s.source now all in (
+      reading_ok s.source (log_of s.checks.allow_external s.bytes) (no_faults_here reading limits (no_faults_here (reading ++ limits) (source_faults now all rest) none)),
+      each_read now all rest (no_faults_left (reading ++ limits) (source_faults now all rest) none),
+    )
+
+all_front : (xs ys : List Sourced) → AllByRecursion IsReadable (xs ++ ys) → AllByRecursion IsReadable xs
+all_front [] ys all = tt
+all_front (x ∷ xs) ys all = (all.0, all_front xs ys all.1)
+
+logs_read : (inputs : Inputs) → faults_of inputs ≡ [] → AllByRecursion IsReadable (log_sources inputs)
+logs_read inputs none = all_front (log_sources inputs) (baseline_sources inputs) (each_read 0 0 (all_sources inputs) (all_faultless inputs none).0)
+
+-- ---- as the same runs
+
+value_runs : (allow : Bool) (d : Data) (runs : List Data) → log_of_value allow d ≡ Ok runs → runs ≡ runs_of d
+unfolding log_of_value
+value_runs allow d runs is =
+    let checked = bind_ok (at_whole (check_log d)) _ runs is in
+    let each = bind_ok (check_each allow 0 0 (runs_of d)) _ runs checked.2 in
+    sym (ok_is (runs_of d) runs each.2)
+
+one_log : (a b : Bool) (bytes : List ℕ) (xs ys : List Data) → log_of a bytes ≡ Ok xs → log_of b bytes ≡ Ok ys → xs ≡ ys
+unfolding log_of
+one_log a b bytes xs ys first second =
+    let one = bind_ok (at_whole (ok_or (json_of (without_mark bytes)) NotJson)) _ xs first in
+    let other = bind_ok (at_whole (ok_or (json_of (without_mark bytes)) NotJson)) _ ys second in
+    let same : one.0 ≡ other.0 = ok_is one.0 other.0 (sym one.1 ∙ other.1) in
+    value_runs a (stripped one.0) xs one.2 ∙ ap (λ d. runs_of (stripped d)) same ∙ sym (value_runs b (stripped other.0) ys other.2)
+
+-- ---- with the same records
+
+module _ (c d : Checks) where
+  placed_same : (k n : ℕ) (runs : List Data) → records_of (placed_from c (Log k) n runs) ≡ records_of (placed_from d (Log k) n runs)
+  placed_same k n [] = refl
+  placed_same k n (run ∷ runs) =
+      ap (λ l. records_in (items_of (record { source = Log k; number = n; must_succeed = must_succeed c (Log k); run = run })) ++ l) (placed_same k (n + 1) runs)
+
+  same_records : (k : ℕ) (logs : List (List ℕ)) → AllByRecursion IsReadable (numbered c Log k logs) → AllByRecursion IsReadable (numbered d Log k logs) → records_of (placed (numbered c Log k logs)) ≡ records_of (placed (numbered d Log k logs))
+  same_records k [] here there = refl
+  same_records k (bytes ∷ logs) here there =
+      let xs = here.0.0 in
+      let ys = there.0.0 in
+      let same : xs ≡ ys = one_log c.allow_external d.allow_external bytes xs ys here.0.1 there.0.1 in
+      flat_map-append (λ p. records_in (items_of p)) (placed_from c (Log k) 0 (readable (log_of c.allow_external bytes))) (placed (numbered c Log (k + 1) logs))
+      ∙ ap₂ (λ rs more. rs ++ more)
+      (ap (λ r. records_of (placed_from c (Log k) 0 (readable r))) here.0.1 ∙ placed_same k 0 xs ∙ ap (λ runs. records_of (placed_from d (Log k) 0 runs)) same ∙ sym (ap (λ r. records_of (placed_from d (Log k) 0 (readable r))) there.0.1))
+      (same_records (k + 1) logs here.1 there.1)
+      ∙ sym (flat_map-append (λ p. records_in (items_of p)) (placed_from d (Log k) 0 (readable (log_of d.allow_external bytes))) (placed (numbered d Log (k + 1) logs)))
+
+pub same_current : (inputs later : Inputs) → later.logs ≡ inputs.logs → faults_of inputs ≡ [] → faults_of later ≡ [] → current_of inputs ≡ current_of later
+same_current inputs later same first second =
+    let one = logs_read inputs first in
+    let other = subst (λ logs. AllByRecursion IsReadable (numbered later.checks Log 0 logs)) same (logs_read later second) in
+    same_records inputs.checks later.checks 0 inputs.logs one other
+    ∙ sym (ap (λ logs. records_of (placed (numbered later.checks Log 0 logs))) same)
