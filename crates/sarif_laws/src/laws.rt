@@ -83,7 +83,8 @@ pub fn the_known_log_is_read_again()
 ///
 /// `bytes`: the baseline is any bytes that are read as the known log. `text`: it is the text that the merge gives.
 pub fn adopting_leaves_nothing_new()
-    ensures bytes { (inputs : Inputs) (policy : Policy) (knowing : Knowing) (known : List ℕ) (later : Inputs)
+    ensures bytes { (inputs : Inputs) (policy : Policy) (knowing : Knowing)
+        (known : List ℕ) (later : Inputs)
         → faults_of inputs ≡ [] → (remembered (merge_in inputs policy) knowing).left_out ≡ 0
         → IsKnownAgain (runs_known (merge_in inputs policy) knowing) known
         → IsNextWith inputs known later → HasNothingNew (results_kept inputs policy) later }
