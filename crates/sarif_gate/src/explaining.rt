@@ -108,7 +108,7 @@ impl Ended<'_, '_> {
                 of_kept(alloc, fault, name, readers.baselines.get(number as usize))
             }
             Source::Suppress => of_kept(alloc, fault, name, readers.suppressions.as_ref()),
-            Source::Output => of_kept(alloc, fault, name, Some(&self.writers.out)),
+            Source::Output => of_written(alloc, fault, name, Some(&self.writers.out)),
             Source::Known => of_output(alloc, fault, name),
         }
     }
@@ -121,7 +121,7 @@ impl Ended<'_, '_> {
         };
         let name = self.name_for(report);
         let writer = destination_of(report, self.writers.reports.as_slice());
-        of_kept(alloc, &fault, name, writer)
+        of_written(alloc, &fault, name, writer)
     }
 }
 
@@ -170,6 +170,20 @@ fn of_kept<'a, D>(
         }
         None => of_source(alloc, fault, file, &[], None),
     }
+}
+
+/// Returns the explanation of an output with this name that was not written, from the error that was kept.
+fn of_written<'a, D>(
+    alloc: Global,
+    fault: &MergeFault,
+    name: Option<&'a Text>,
+    output: Option<&'a Counted<Kept<D>>>,
+) -> Result<String, AllocError> {
+    let error = match output {
+        Some(output) => output.inner().error(),
+        None => None,
+    };
+    of_source(alloc, fault, name_or_none(name), &[], error)
 }
 
 /// Returns the explanation of an error in a source with this name, these bytes and this system error.
