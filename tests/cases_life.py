@@ -270,6 +270,18 @@ def pruning():
     )
 
 
+def nothing_more():
+    """Only what is requested is made."""
+    yield life(
+        "without options for later merges nothing is made for them",
+        "",
+        log(run("lint", FINDING)),
+        status=1,
+        stderr=b"",
+        gone=["n", "k", "u"],
+    )
+
+
 def unused_entries():
     given = [
         {"tool": "b"},
@@ -393,6 +405,7 @@ def left_out():
         words,
         log(run("lint", FINDING)),
         {"s": rules(until, version=2)},
+        said=["sarif_gate: 0 known, 1 left out, 0 kept"],
         made={"k": pretty(known())},
     )
     yield life(
@@ -400,6 +413,7 @@ def left_out():
         words,
         log(run("lint", FINDING)),
         {"s": rules(until, {"ruleId": "R1"}, version=2)},
+        said=["sarif_gate: 1 known, 0 left out, 0 kept"],
         made={"k": pretty(known(rerun("lint", FINDING)))},
     )
     accepted = [{"kind": "external", "status": "accepted"}]
@@ -419,6 +433,14 @@ def left_out():
         said=["sarif_gate: 2 known, 1 left out, 0 kept"],
         last="gate: fail, hits 2, max 0",
         made={"k": pretty(known(rerun("lint", KNOWN_FINDING, other("R2"))))},
+    )
+    yield life(
+        "a new hit is known if it is adopted",
+        "--known k --adopt",
+        log(run("lint", FINDING)),
+        status=1,
+        said=["sarif_gate: 1 known, 0 left out, 0 kept"],
+        made={"k": pretty(known(rerun("lint", FINDING)))},
     )
     yield life(
         "a new suppressed finding isn't known",
@@ -450,6 +472,15 @@ def left_out():
 
 def kept_known():
     gone = {"baselineState": "absent"}
+    yield life(
+        "a tool without a log is not forgotten",
+        "--known k --adopt --baseline b",
+        log(run("lint", FINDING)),
+        {"b": log(run("b", ruled()), run("lint", ruled()), run("b", FINDING), run("c"))},
+        status=1,
+        said=["sarif_gate: 3 known, 0 left out, 2 kept"],
+        made={"k": pretty(known(rerun("b", KNOWN_FINDING), rerun("b", FINDING), rerun("lint", FINDING)))},
+    )
     yield life(
         "tools that no input run has stay known",
         "--known k --adopt --baseline b --baseline c",
@@ -618,6 +649,7 @@ def cases():
     yield from entries_of_results()
     yield from new_files()
     yield from pruning()
+    yield from nothing_more()
     yield from unused_entries()
     yield from written_known()
     yield from left_out()
