@@ -364,6 +364,14 @@ def written_known():
         {"kind": "inSource", "status": None},
     ]
     statuses = [{"kind": "external", "status": it} for it in ("accepted", "rejected", "accepted")]
+    yield life("no runs at all", "--known k --adopt", log(), made={"k": pretty(known())})
+    yield life(
+        "the statuses of its own suppressions alone",
+        "--known k --adopt",
+        log(run("lint", {**FINDING, "suppressions": held})),
+        status=1,
+        made={"k": pretty(known(rerun("lint", {**FINDING, "suppressions": statuses})))},
+    )
     yield life(
         "the statuses of its own suppressions",
         "--known k --adopt --suppress s",
@@ -501,6 +509,20 @@ def kept_known():
             )
         },
     )
+    # Tools in the order of the baseline and then of the log; input runs of a tool before its baseline runs; no run
+    # without results. The run of b failed, so its baseline results are kept.
+    failed = {"invocations": [{"executionSuccessful": False}]}
+    numbered = lambda tool, number: rerun(tool, {"level": "warning", "message": {}, "ruleId": number})
+    tools = known(*(numbered(*it) for it in (("b", "5"), ("b", "1"), ("b", "2"), ("lint", "4"), ("c", "3"))))
+    yield life(
+        "runs are listed tool by tool",
+        "--known k --adopt --baseline b",
+        log(run("c", {"ruleId": "3"}), run("lint", {"ruleId": "4"}), run("lint"), run("b", {"ruleId": "5"}, **failed)),
+        {"b": log(run("b", {"ruleId": "1"}), run("lint"), run("b", {"ruleId": "2"}))},
+        made={"k": pretty(tools)},
+    )
+    words = "--known k --adopt --baseline b"
+    yield life("a known log is its own known log", words, log(), {"b": pretty(tools)}, made={"k": pretty(tools)})
     bare_run = {"tool": {"driver": {"name": "lint"}}}
     yield life(
         "a tool with a failed run stays known",
