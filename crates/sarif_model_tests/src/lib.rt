@@ -1,4 +1,4 @@
-//! Tests of the words of the model, of counts, the gate and the summary, and of reading sources and writing outputs. They
+//! Tests of the names of the model, of counts, the gate and the summary, and of reading sources and writing outputs. They
 //! are in a separate crate, so that no library is proved a second time for its tests.
 #![tactic(auto)]
 
