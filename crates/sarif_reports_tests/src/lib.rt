@@ -1,12 +1,9 @@
-//! Tests of the reports, through what their crate makes public. They are in a separate crate, so that the library
-//! isn't proved a second time for its tests.
+//! Tests of findings and of the page that no merge can show, since it rejects the log or has no such option. Scripts over
+//! the program have the other rows of reports. They are in a separate crate, so that no library is proved a second time for
+//! its tests.
 #![tactic(auto)]
 
 #[cfg(test)]
-mod junit;
+mod findings;
 #[cfg(test)]
-mod listing;
-#[cfg(test)]
-mod reports;
-#[cfg(test)]
-mod samples;
+mod pages;

@@ -118,10 +118,11 @@ fn record_holds_what_the_result_and_its_run_say(rt: HostRuntime) -> Result<(), F
     let first = log.runs().first().ok_or("no run")?;
     let seed = RandomState::new(&rt)?;
     let made = record_of(rt.alloc(), seed, first).ok().ok_or("no record")?;
-    check_record(&rt, &made)
+    check_record(&rt, &made);
+    Ok(())
 }
 
-fn check_record(rt: &impl Abort, made: &Record) -> Result<(), Fail> {
+fn check_record(rt: &impl Abort, made: &Record) {
     assert_eq!(rt; made.tool.as_str(), "lint");
     assert_eq!(rt; made.rule_id.as_str(), "R1");
     assert_eq!(rt; made.kind, Kind::Undecided);
@@ -134,7 +135,6 @@ fn check_record(rt: &impl Abort, made: &Record) -> Result<(), Fail> {
     assert_eq!(rt; made.full.as_slice().len(), 1);
     assert!(rt; made.partial.as_slice().is_empty());
     assert_eq!(rt; made.held.as_slice().len(), 1);
-    Ok(())
 }
 
 fn record_of(alloc: Global, seed: RandomState, run: &RawRun) -> Result<Record, Refusal<Fault>> {
@@ -153,24 +153,10 @@ BadIndex|{"tool":{"driver":{"name":"lint"}},"results":[{"ruleIndex":-2}]}
 0.1 error - -|{"tool":{"driver":{"name":"lint","rules":[{"id":"R1","defaultConfiguration":{"level":"note"}},{"id":"R2","defaultConfiguration":{"level":"error"}}]}},"results":[{"ruleId":"R1","ruleIndex":1}]}
 BadIndex|{"tool":{"driver":{"name":"lint","rules":[{"id":"R1","defaultConfiguration":{"level":"note"}},{"id":"R2","defaultConfiguration":{"level":"error"}}]}},"results":[{"ruleIndex":2}]}"#;
 
-#[test]
-fn rules_are_found_by_index_or_by_their_first_id(rt: HostRuntime) -> Result<(), Fail> {
-    let wrong = wrong_row(rt.alloc(), BY_INDEX_OR_ID)?;
-    assert_eq!(rt; wrong, None);
-    Ok(())
-}
-
 const BY_COMPONENT: &str =
     r#"1.0 error - -|{"tool":{"driver":{"name":"lint"},"extensions":[{"rules":[{"id":"E1","defaultConfiguration":{"level":"error"}}]}]},"results":[{"rule":{"id":"E1","toolComponent":{"index":0}}}]}
 none warning - -|{"tool":{"driver":{"name":"lint"},"extensions":[{"rules":[{"id":"E1","defaultConfiguration":{"level":"error"}}]}]},"results":[{"ruleId":"E1"}]}
 BadIndex|{"tool":{"driver":{"name":"lint"},"extensions":[{"rules":[{"id":"E1","defaultConfiguration":{"level":"error"}}]}]},"results":[{"rule":{"toolComponent":{"index":1}}}]}"#;
-
-#[test]
-fn ids_are_looked_up_in_the_component_that_is_named(rt: HostRuntime) -> Result<(), Fail> {
-    let wrong = wrong_row(rt.alloc(), BY_COMPONENT)?;
-    assert_eq!(rt; wrong, None);
-    Ok(())
-}
 
 const OVERRIDES: &str =
     r#"0.0 note - -|{"tool":{"driver":{"name":"lint","rules":[{"id":"R1","defaultConfiguration":{"level":"note"}}]}},"invocations":[{"ruleConfigurationOverrides":[{"descriptor":{"index":0},"configuration":{"enabled":true}}]}],"results":[{"message":{"text":"m"},"ruleId":"R1","provenance":{"invocationIndex":0}}]}
@@ -180,24 +166,10 @@ const OVERRIDES: &str =
 0.0 error - -|{"tool":{"driver":{"name":"lint","rules":[{"id":"R1","defaultConfiguration":{"level":"note"}}]}},"invocations":[{"ruleConfigurationOverrides":[{"configuration":{"level":"none"}},{"descriptor":{"index":0},"configuration":{"level":"error"}}]}],"results":[{"message":{"text":"m"},"ruleId":"R1","provenance":{"invocationIndex":0}}]}
 0.0 note - -|{"tool":{"driver":{"name":"lint","rules":[{"id":"R1","defaultConfiguration":{"level":"note"}}]}},"invocations":[{"ruleConfigurationOverrides":[]},{"ruleConfigurationOverrides":[{"descriptor":{"index":0},"configuration":{"level":"error"}}]}],"results":[{"message":{"text":"m"},"ruleId":"R1","provenance":{"invocationIndex":0}}]}"#;
 
-#[test]
-fn first_override_of_the_invocation_goes_before_the_default(rt: HostRuntime) -> Result<(), Fail> {
-    let wrong = wrong_row(rt.alloc(), OVERRIDES)?;
-    assert_eq!(rt; wrong, None);
-    Ok(())
-}
-
 const KINDS: &str =
     r#"none none - -|{"tool":{"driver":{"name":"lint"}},"results":[{"kind":"pass","level":"error"}]}
 none error - -|{"tool":{"driver":{"name":"lint"}},"results":[{"level":"error"}]}
 BadIndex|{"tool":{"driver":{"name":"lint"}},"results":[{"kind":"pass","provenance":{"invocationIndex":0}}]}"#;
-
-#[test]
-fn level_is_none_unless_the_kind_is_fail(rt: HostRuntime) -> Result<(), Fail> {
-    let wrong = wrong_row(rt.alloc(), KINDS)?;
-    assert_eq!(rt; wrong, None);
-    Ok(())
-}
 
 const PLACES: &str =
     r#"none warning a.c -|{"tool":{"driver":{"name":"lint"}},"artifacts":[{"location":{"uri":"a.c"}},{"location":{"uriBaseId":"B","index":0}}],"results":[{"locations":[{"physicalLocation":{"artifactLocation":{"index":0}}}]}]}
@@ -210,13 +182,6 @@ none warning - -|{"tool":{"driver":{"name":"lint"}},"artifacts":[{"location":{"u
 none warning - B|{"tool":{"driver":{"name":"lint"}},"artifacts":[{"location":{"uri":"a.c"}},{"location":{"uriBaseId":"B","index":0}}],"results":[{"locations":[{"physicalLocation":{"artifactLocation":{"index":1}}}]}]}
 none warning b.c S|{"tool":{"driver":{"name":"lint"}},"artifacts":[{"location":{"uri":"a.c"}},{"location":{"uriBaseId":"B","index":0}}],"results":[{"locations":[{"physicalLocation":{"artifactLocation":{"uri":"b.c","uriBaseId":"S"}}}]}]}"#;
 
-#[test]
-fn place_is_the_own_uri_or_that_of_the_artifact(rt: HostRuntime) -> Result<(), Fail> {
-    let wrong = wrong_row(rt.alloc(), PLACES)?;
-    assert_eq!(rt; wrong, None);
-    Ok(())
-}
-
 const ONE_ARTIFACT: &str =
     r#"none warning a.c -|{"tool":{"driver":{"name":"lint"}},"artifacts":[{"location":{"uri":"a.c"}}],"results":[{"locations":[{"physicalLocation":{"artifactLocation":{"index":0}}}]}]}
 none warning b.c -|{"tool":{"driver":{"name":"lint"}},"artifacts":[{"location":{"uri":"a.c"}}],"results":[{"locations":[{"physicalLocation":{"artifactLocation":{"uri":"b.c","index":0}}}]}]}
@@ -224,13 +189,6 @@ BadIndex|{"tool":{"driver":{"name":"lint"}},"artifacts":[{"location":{"uri":"a.c
 none warning a.c -|{"tool":{"driver":{"name":"lint"}},"artifacts":[{"location":{"uri":"a.c"}}],"results":[{"locations":[{"physicalLocation":{"artifactLocation":{"uriBaseId":"S","index":0}}}]}]}
 none warning b.c -|{"tool":{"driver":{"name":"lint"}},"artifacts":[{"location":{"uri":"a.c"}}],"results":[{"locations":[{"physicalLocation":{"artifactLocation":{"uri":"b.c","index":9}}}]}]}
 BadIndex|{"tool":{"driver":{"name":"lint"}},"artifacts":[{"location":{"uri":"a.c"}}],"results":[{"locations":[{"physicalLocation":{"artifactLocation":{"uri":"b.c","index":-2}}}]}]}"#;
-
-#[test]
-fn place_beside_one_artifact(rt: HostRuntime) -> Result<(), Fail> {
-    let wrong = wrong_row(rt.alloc(), ONE_ARTIFACT)?;
-    assert_eq!(rt; wrong, None);
-    Ok(())
-}
 
 const RESULT_FAULTS: &str =
     r#"BadKind|{"tool":{"driver":{"name":"lint"}},"results":[{"kind":"bad","correlationGuid":"x"}]}
@@ -240,13 +198,6 @@ BadMember|{"tool":{"driver":{"name":"lint"}},"results":[{"message":{"arguments":
 none warning - -|{"tool":{"driver":{"name":"lint"}},"results":[{"message":{"arguments":[1.5]}}]}
 none warning - -|{"tool":{"driver":{"name":"lint"}},"results":[{"locations":[]}]}
 BadLocation|{"tool":{"driver":{"name":"lint"}},"results":[{"locations":[null]}]}"#;
-
-#[test]
-fn members_of_a_result_are_refused_in_order(rt: HostRuntime) -> Result<(), Fail> {
-    let wrong = wrong_row(rt.alloc(), RESULT_FAULTS)?;
-    assert_eq!(rt; wrong, None);
-    Ok(())
-}
 
 const RULE_FAULTS: &str = r#"BadRules|{"tool":{"driver":{"name":"lint","rules":{}}},"results":[{}]}
 BadRules|{"tool":{"driver":{"name":"lint","rules":[null]}},"results":[{}]}
@@ -260,26 +211,12 @@ BadRules|{"tool":{"driver":{"name":"lint"},"extensions":[{"rules":1}]},"results"
 BadRules|{"tool":{"driver":{"name":"lint"},"extensions":[{},{"rules":[{"id":null}]}]},"results":[{}]}
 BadLevel|{"tool":{"driver":{"name":"lint"},"extensions":[{"rules":[{"id":"R","defaultConfiguration":{"level":"high"}}]}]},"results":[{}]}"#;
 
-#[test]
-fn a_rule_at_fault_is_named_of_driver_and_extension(rt: HostRuntime) -> Result<(), Fail> {
-    let wrong = wrong_row(rt.alloc(), RULE_FAULTS)?;
-    assert_eq!(rt; wrong, None);
-    Ok(())
-}
-
 const ARTIFACT_FAULTS: &str =
     r#"BadLocation|{"tool":{"driver":{"name":"lint"}},"artifacts":{},"results":[{}]}
 BadLocation|{"tool":{"driver":{"name":"lint"}},"artifacts":[null],"results":[{}]}
 BadLocation|{"tool":{"driver":{"name":"lint"}},"artifacts":[{"location":1}],"results":[{}]}
 BadLocation|{"tool":{"driver":{"name":"lint"}},"artifacts":[{"location":{"uri":1}}],"results":[{}]}
 BadLocation|{"tool":{"driver":{"name":"lint"}},"artifacts":[{"location":{"uriBaseId":1}}],"results":[{}]}"#;
-
-#[test]
-fn an_artifact_at_fault_is_named(rt: HostRuntime) -> Result<(), Fail> {
-    let wrong = wrong_row(rt.alloc(), ARTIFACT_FAULTS)?;
-    assert_eq!(rt; wrong, None);
-    Ok(())
-}
 
 const OVERRIDE_FAULTS: &str =
     r#"BadMember|{"tool":{"driver":{"name":"lint"}},"invocations":{},"results":[{}]}
@@ -296,13 +233,6 @@ BadIndex|{"tool":{"driver":{"name":"lint"}},"invocations":[{"ruleConfigurationOv
 BadIndex|{"tool":{"driver":{"name":"lint"}},"invocations":[{"ruleConfigurationOverrides":[{"descriptor":{"toolComponent":{"index":4294967296}}}]}],"results":[{}]}
 BadLevel|{"tool":{"driver":{"name":"lint","rules":[{"id":"R1","defaultConfiguration":{"level":"note"}}]}},"invocations":[{"ruleConfigurationOverrides":[{"descriptor":{"index":0},"configuration":{"level":"high"}}]}],"results":[{}]}"#;
 
-#[test]
-fn an_override_at_fault_is_named(rt: HostRuntime) -> Result<(), Fail> {
-    let wrong = wrong_row(rt.alloc(), OVERRIDE_FAULTS)?;
-    assert_eq!(rt; wrong, None);
-    Ok(())
-}
-
 const TWO_FAULTS: &str =
     r#"BadLevel|{"tool":{"driver":{"name":"lint","rules":[{"id":"R","defaultConfiguration":{"level":"high"}},1]}},"results":[{}]}
 BadRules|{"tool":{"driver":{"name":"lint","rules":[1,{"id":"R","defaultConfiguration":{"level":"high"}}]}},"results":[{}]}
@@ -318,9 +248,38 @@ BadIndex|{"tool":{"driver":{"name":"lint"}},"invocations":[{"ruleConfigurationOv
 BadMember|{"tool":{"driver":{"name":"lint"}},"invocations":[{"ruleConfigurationOverrides":[{"descriptor":{"index":0}}]},{"ruleConfigurationOverrides":1}],"results":[{}]}
 BadLocation|{"tool":{"driver":{"name":"lint"}},"artifacts":[1],"results":[{"kind":"bad"}]}"#;
 
+/// All tables, each with what its rows show.
+const TABLES: [(&str, &str); 11] = [
+    (
+        "rules are found by index or by their first id",
+        BY_INDEX_OR_ID,
+    ),
+    (
+        "ids are looked up in the component that is named",
+        BY_COMPONENT,
+    ),
+    (
+        "the first override of the invocation comes before the default",
+        OVERRIDES,
+    ),
+    ("the level is none unless the kind is fail", KINDS),
+    ("a place has the own URI or that of the artifact", PLACES),
+    ("places with one artifact", ONE_ARTIFACT),
+    ("members of a result are checked in order", RESULT_FAULTS),
+    (
+        "errors of rules of the driver and of extensions",
+        RULE_FAULTS,
+    ),
+    ("errors of artifacts", ARTIFACT_FAULTS),
+    ("errors of overrides", OVERRIDE_FAULTS),
+    ("the first of two errors is reported", TWO_FAULTS),
+];
+
 #[test]
-fn of_two_faults_the_first_is_named(rt: HostRuntime) -> Result<(), Fail> {
-    let wrong = wrong_row(rt.alloc(), TWO_FAULTS)?;
-    assert_eq!(rt; wrong, None);
+fn each_row_gives_its_answer(rt: HostRuntime) -> Result<(), Fail> {
+    for (shows, rows) in TABLES {
+        let wrong = wrong_row(rt.alloc(), rows)?;
+        assert_eq!(rt; wrong, None, "{shows}");
+    }
     Ok(())
 }

@@ -1,5 +1,6 @@
-//! Tests of applying the suppression file: whether a result is suppressed, the suppressions that entries add, and which
-//! entries match no result. The tests are in a separate crate, so that no library is proved a second time for its tests.
+//! Tests of suppression files that no merge shows: own suppressions that a merge rejects, marks, no file, and a date that
+//! the command line rejects. Scripts over the program have the other rows. They are in a separate crate, so that no library
+//! is proved a second time for its tests.
 #![tactic(auto)]
 
 #[cfg(test)]

@@ -1,28 +1,17 @@
-//! Suppression files with results that were computed by hand. Each call succeeds if there is enough memory.
-mod applying;
-mod objects;
-
-use sarif_entries::FileFault;
-use sarif_model::{Record, Refusal, Sequence, Status};
+//! Suppression files with results that were computed by hand.
+use sarif_entries::{FileFault, entries_of_file};
+use sarif_model::{Record, Refusal, Status};
+use sarif_suppress::{Marks, all_accepted};
 use serde_json::Value;
 use std::alloc::{AllocError, Global};
-use std::process::Abort;
 use std::test::Fail;
-use test_suppress::{FileText, Plain, asked_of_file, file_of};
+use test_suppress::{FileText, Plain, asked_of_file, asked_of_none, file_of, result_at};
 
-/// What a file makes of a result.
-#[derive(Drop)]
-struct Outcome {
-    /// The numbers of the entries that match.
-    entries: Sequence<u32>,
-    suppressed: bool,
-    /// The list of suppressions that is written.
-    list: String,
-}
-
-/// A file of version 1 with these entries, for no date.
-fn first_version(entries: &str) -> FileText<'_> {
-    file_of(1, entries)
+/// A result of the rule `R1` with an accepted own suppression.
+fn accepted(alloc: Global) -> Result<Record, AllocError> {
+    let mut finding = result_at(alloc, "R1", None)?;
+    finding.held.push(Status::Accepted)?;
+    Ok(finding)
 }
 
 /// The array that this JSON represents.
@@ -33,57 +22,130 @@ fn array_of(alloc: Global, text: &str) -> Vec<Value> {
     }
 }
 
-/// The effect of a file on a result with these own suppressions.
-fn outcome_by(
+/// The written suppressions of a result with these own suppressions, and whether it is suppressed.
+fn written_by(
     alloc: Global,
     rules: &Plain,
     finding: &Record,
     own: &str,
-) -> Result<Outcome, AllocError> {
+) -> Result<(String, bool), AllocError> {
     let applied = rules.apply(alloc, finding)?;
     let list = rules.written(alloc, array_of(alloc, own), &applied)?;
-    Ok(Outcome {
-        list: Value::Array(list).to_string(alloc)?,
-        entries: applied.entries,
-        suppressed: applied.suppressed,
-    })
+    Ok((Value::Array(list).to_string(alloc)?, applied.suppressed))
 }
 
-/// The effect of a file that is not read yet on a result with these own suppressions.
-fn outcome_of(
+/// The same for a file that is not read yet.
+fn written_of(
     alloc: Global,
     file: FileText,
     finding: &Record,
     own: &str,
-) -> Result<Outcome, Refusal<FileFault>> {
-    asked_of_file(alloc, file, |rules| outcome_by(alloc, rules, finding, own))
+) -> Result<(String, bool), Refusal<FileFault>> {
+    asked_of_file(alloc, file, |rules| written_by(alloc, rules, finding, own))
 }
 
-/// How many entries of the file match none of the results.
-fn unused_of(
-    alloc: Global,
-    file: FileText,
-    findings: &[Record],
-) -> Result<u32, Refusal<FileFault>> {
-    asked_of_file(alloc, file, |rules| Ok(rules.unused(findings)))
-}
+/// Own suppressions of other types, and the object of an entry in an array.
+const OWN: &str =
+    r#"7,"accepted",null,[{"justification":"j","kind":"external","status":"accepted"}]"#;
 
-/// The same result with one more own suppression, of that status.
-fn with_own(mut finding: Record, status: Status) -> Result<Record, AllocError> {
-    finding.held.push(status)?;
-    Ok(finding)
-}
+/// One entry, five and seven that match the result, and the objects that are written of them.
+const FILES: [(&str, &str, bool); 3] = [
+    (
+        r#"{"ruleId":"R1","justification":"j"}"#,
+        r#"{"justification":"j","kind":"external","status":"accepted"}"#,
+        true,
+    ),
+    (
+        r#"{"ruleId":"R1","justification":"j"},{"tool":"lint","justification":"j"},{"ruleId":"R1","justification":"j"},{"tool":"lint","justification":"j"},{"ruleId":"R1","justification":"j"}"#,
+        r#"{"justification":"j","kind":"external","status":"accepted"}"#,
+        true,
+    ),
+    (
+        r#"{"ruleId":"R1","justification":"a"},{"ruleId":"R1"},{"ruleId":"R1","justification":"b"},{"tool":"lint","justification":"a"},{"tool":"lint","status":"underReview","justification":"a"},{"tool":"lint"},{"tool":"lint","justification":""}"#,
+        r#"{"justification":"a","kind":"external","status":"accepted"},{"kind":"external","status":"accepted"},{"justification":"b","kind":"external","status":"accepted"},{"justification":"a","kind":"external","status":"underReview"},{"justification":"","kind":"external","status":"accepted"}"#,
+        false,
+    ),
+];
 
-/// Asserts the written suppressions of a result with these own suppressions, and whether it is suppressed.
-fn expect_written(
-    rt: &(impl Abort + AllocGlobal),
-    file: FileText,
-    finding: &Record,
-    own: &str,
-    wanted: (&str, bool),
-) -> Result<(), Fail> {
-    let outcome = outcome_of(rt.alloc(), file, finding, own)?;
-    assert_eq!(rt; outcome.suppressed, wanted.1);
-    assert_eq!(rt; outcome.list.as_str(), wanted.0);
+#[test]
+fn own_values_of_any_type_stay(rt: HostRuntime) -> Result<(), Fail> {
+    let alloc = rt.alloc();
+    let own = format!(in alloc; "[{OWN}]")?;
+    let finding = accepted(alloc)?;
+    for (entries, added, suppressed) in FILES {
+        let wanted = format!(in alloc; "[{OWN},{added}]")?;
+        let (list, found) = written_of(alloc, file_of(1, entries), &finding, own.as_str())?;
+        assert_eq!(rt; list.as_str(), wanted.as_str());
+        assert_eq!(rt; found, suppressed);
+    }
     Ok(())
+}
+
+/// Sets the marks of a result with that rule id.
+fn mark(alloc: Global, rules: &Plain, marks: &mut Marks, rule_id: &str) -> Result<(), AllocError> {
+    let finding = result_at(alloc, rule_id, None)?;
+    let applied = rules.apply(alloc, &finding)?;
+    marks.set(&applied);
+    Ok(())
+}
+
+/// How many entries are unmarked before any of these results, and after each of them.
+fn unmarked_by(alloc: Global, rules: &Plain, rule_ids: &[&str]) -> Result<Vec<u32>, AllocError> {
+    let mut marks = rules.marks(alloc)?;
+    let mut counts = vec![in alloc; marks.unused()]?;
+    for rule_id in rule_ids {
+        mark(alloc, rules, &mut marks, rule_id)?;
+        counts.push(marks.unused())?;
+    }
+    Ok(counts)
+}
+
+/// The same for a file that is not read yet.
+fn unmarked_of(
+    alloc: Global,
+    file: FileText,
+    rule_ids: &[&str],
+) -> Result<Vec<u32>, Refusal<FileFault>> {
+    asked_of_file(alloc, file, |rules| unmarked_by(alloc, rules, rule_ids))
+}
+
+#[test]
+fn marks_count_what_no_result_used(rt: HostRuntime) -> Result<(), Fail> {
+    let file = file_of(
+        1,
+        "{\"ruleId\":\"R1\"},{\"ruleId\":\"R2\"},{\"tool\":\"lint\"}",
+    );
+    let counts = unmarked_of(rt.alloc(), file, &["R3", "R1"])?;
+    assert!(rt; counts.as_slice() == [3, 2, 1].as_slice());
+    Ok(())
+}
+
+/// How many entries there are without a file.
+fn size_of_none(alloc: Global) -> Result<(u32, bool), AllocError> {
+    asked_of_none(alloc, |rules| Ok((rules.len(), rules.is_empty())))
+}
+
+#[test]
+fn without_a_file_there_are_no_entries(rt: HostRuntime) -> Result<(), Fail> {
+    assert_eq!(rt; size_of_none(rt.alloc())?, (0, true));
+    Ok(())
+}
+
+#[test]
+fn suppressions_are_in_effect_if_all_are_accepted(rt: HostRuntime) -> Result<(), Fail> {
+    let accepted = Status::Accepted;
+    assert!(rt; all_accepted(&[]));
+    assert!(rt; all_accepted(&[accepted, accepted]));
+    assert!(rt; !all_accepted(&[accepted, Status::UnderReview]));
+    assert!(rt; !all_accepted(&[Status::Rejected, accepted]));
+    Ok(())
+}
+
+/// An entry with an expiry date.
+const DATED: &str = r#"{"version":2,"suppressions":[{"uriPrefix":"gen/","expires":20250131}]}"#;
+
+#[test]
+fn any_number_serves_as_todays_date(rt: HostRuntime) {
+    let fault = entries_of_file(rt.alloc(), DATED.as_bytes(), Some(0)).err();
+    assert!(rt; fault.is_none());
 }

@@ -73,17 +73,6 @@ fn expect_text(text: &str, wanted: &str) -> Result<(), Fail>
     Err(Fail::new(format_args!("{text}\nin place of\n{wanted}")))
 }
 
-/// Fails unless these inputs are rejected with this string.
-pub fn expect_refusal<R: AllocGlobal + Threads + Wait + Sync>(
-    rt: &R,
-    given: &Given,
-    wanted: &str,
-) -> Result<(), Fail> {
-    let fault = merge(rt, given).err().ok_or("accepted")?;
-    let text = format!(in rt.alloc(); "{fault}")?;
-    expect_text(text.as_str(), wanted)
-}
-
 /// Fails unless the gate passes, the merged log is this JSON, and the numbers of runs without results and of unused
 /// suppressions are the expected ones.
 fn expect_merged(merged: &Merged, text: &str, wanted: Wanted) -> Result<(), Fail>
@@ -136,17 +125,4 @@ pub fn expect_log<R: AllocGlobal + Threads + Wait + Sync>(
     let runs = json_of_runs(rt.alloc(), runs)?;
     let log = expect_runs(rt, given, wanted, runs.as_str())?;
     Ok(log)
-}
-
-/// Fails unless the merged log has this part.
-pub fn expect_part<R: AllocGlobal + Threads + Wait + Sync>(
-    rt: &R,
-    given: &Given,
-    part: &str,
-) -> Result<(), Fail> {
-    let merged = merge(rt, given)?;
-    if merged.log.as_str().contains(part) {
-        return Ok(());
-    }
-    Err(Fail::new(format_args!("without {part}")))
 }
