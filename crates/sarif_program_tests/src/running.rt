@@ -7,7 +7,7 @@ use std::process::Abort;
 use std::sync::Wait;
 use std::test::Fail;
 use std::thread::Threads;
-use test_program::{AMPLE, Ended, Given, Rooms, Setting, run_over, seed};
+use test_program::{AMPLE, Ended, Given, Rooms, Setting, plain_request, run_over};
 
 /// The log of one result without a level, merged: a new warning.
 const MERGED: &str = "{\"properties\":{\"gate\":{\"counts\":{\
@@ -87,7 +87,7 @@ fn run<T: Threads + Wait + Sync + AllocGlobal>(
     log: Given,
     rooms: Rooms,
 ) -> Result<Ended, AllocError> {
-    let request = Request::of_standard_streams(threads.alloc(), seed()?)?;
+    let request = plain_request(threads.alloc())?;
     run_by(threads, &request, log, rooms)
 }
 
@@ -96,7 +96,7 @@ fn run_strict<T: Threads + Wait + Sync + AllocGlobal>(
     threads: &T,
     max: u32,
 ) -> Result<Ended, AllocError> {
-    let mut request = Request::of_standard_streams(threads.alloc(), seed()?)?;
+    let mut request = plain_request(threads.alloc())?;
     request.options.policy.fail_on = Level::Warning;
     request.options.policy.max = max;
     run_by(threads, &request, Given::whole(LOG), AMPLE)
@@ -131,7 +131,7 @@ fn run_all<T: Threads + Wait + Sync + AllocGlobal>(
     baseline: Given,
     suppressions: Given,
 ) -> Result<Ended, AllocError> {
-    let request = Request::of_standard_streams(threads.alloc(), seed()?)?;
+    let request = plain_request(threads.alloc())?;
     run_all_by(threads, &request, log, baseline, suppressions)
 }
 
