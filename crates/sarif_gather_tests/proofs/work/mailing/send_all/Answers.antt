@@ -1,8 +1,8 @@
 use Rattle.std.proofs.Common.{length, drop, sym, ap, subst, arith}
 use Rattle.std.proofs.lemmas.List.{take_at}
 use Rattle.sarif_dispatch.specs.Ends.{AreAllPosts}
-use Rattle.gather_tests.proofs.Posts.{posts_kept}
-use Rattle.gather_tests.proofs.work.mailing.send_all.Goals as goal
+use Rattle.sarif_gather_tests.proofs.Posts.{posts_kept}
+use Rattle.sarif_gather_tests.proofs.work.mailing.send_all.Goals as goal
 
 pub returns : goal.returns
 returns g c =

@@ -1,5 +1,5 @@
-use Rattle.gather_tests.proofs.Posts.{new_posts}
-use Rattle.gather_tests.proofs.work.mailing.what_four_senders_sent_arrives_whole_and_in_order.Goals as goal
+use Rattle.sarif_gather_tests.proofs.Posts.{new_posts}
+use Rattle.sarif_gather_tests.proofs.work.mailing.what_four_senders_sent_arrives_whole_and_in_order.Goals as goal
 
 pub join-posts-requires-after_bounds : goal.join-posts-requires-after_bounds
 join-posts-requires-after_bounds g c κs within =
