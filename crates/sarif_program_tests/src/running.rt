@@ -1,5 +1,6 @@
 //! What is written and reported, and with which exit status.
-use sarif_model::Level;
+use sarif_model::{At, Cause, Fault, Level, MergeFault, Source};
+use sarif_program::{Complaint, Complaints};
 use sarif_request::Request;
 use sarif_streams::{Counted, Readers};
 use std::alloc::{AllocError, AllocGlobal};
@@ -288,6 +289,20 @@ fn a_lost_complaint_changes_no_status(rt: HostRuntime) -> Result<(), Fail> {
         assert_stopped(&rt, &ended, 2, b"");
         assert!(rt; ended.say.is_empty());
     }
+    Ok(())
+}
+
+#[test]
+fn the_longest_error_line_is_written(rt: HostRuntime) -> Result<(), Fail> {
+    let most = u32::MAX;
+    let fault = MergeFault {
+        at: At::Single(Source::Baseline(most), most, most),
+        cause: Cause::Of(Fault::ExternalProperties),
+    };
+    let mut complaints = Complaints::new(Vec::new(rt.alloc()));
+    complaints.complain(Complaint::Fault(fault));
+    let line = b"sarif_gate: baseline 4294967295, run 4294967295, result 4294967295: ExternalProperties\n";
+    assert_eq!(rt; complaints.out.inner().as_slice(), line.as_slice());
     Ok(())
 }
 
