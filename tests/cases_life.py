@@ -312,6 +312,13 @@ def unused_entries():
         status=1,
         made={"u": lines.encode()},
     )
+    yield life(
+        "no unused entry empties an old list",
+        "--suppress s --unused u",
+        log(run("lint", FINDING)),
+        {"s": rules({"tool": "lint"}), "u": b"old\n"},
+        made={"u": b""},
+    )
 
 
 # ---- What is known

@@ -9,7 +9,7 @@ use std::cell::RefCell;
 use std::sync::Wait;
 use std::test::Fail;
 use std::thread::Threads;
-use test_program::{Ended, Given, Narrow, Setting, run_over, seed};
+use test_program::{Ended, Given, Narrow, Setting, plain_request, run_over};
 
 /// A log of three errors: two of one rule, which differ in their rank, and one of another rule.
 const HITS: &str = concat!(
@@ -87,7 +87,7 @@ const AMPLE: Rooms = Rooms {
 
 /// The request to accept all hits.
 fn accepting(alloc: Global) -> Result<Request, AllocError> {
-    let mut request = Request::of_standard_streams(alloc, seed()?)?;
+    let mut request = plain_request(alloc)?;
     request.upkeep.renewal = Some(Renewal {
         accept: true,
         prune: false,
@@ -99,7 +99,7 @@ fn accepting(alloc: Global) -> Result<Request, AllocError> {
 
 /// The request to know all results.
 fn adopting(alloc: Global) -> Result<Request, AllocError> {
-    let mut request = Request::of_standard_streams(alloc, seed()?)?;
+    let mut request = plain_request(alloc)?;
     request.upkeep.known = Some(Knowing::Adopted);
     Ok(request)
 }

@@ -1,5 +1,6 @@
 //! What is written and reported, and with which exit status.
-use sarif_model::Level;
+use sarif_model::{At, Cause, Fault, Level, MergeFault, Source};
+use sarif_program::{Complaint, Complaints};
 use sarif_request::Request;
 use sarif_streams::{Counted, Readers};
 use std::alloc::{AllocError, AllocGlobal};
@@ -7,7 +8,7 @@ use std::process::Abort;
 use std::sync::Wait;
 use std::test::Fail;
 use std::thread::Threads;
-use test_program::{AMPLE, Ended, Given, Rooms, Setting, run_over, seed};
+use test_program::{AMPLE, Ended, Given, Rooms, Setting, plain_request, run_over};
 
 /// The log of one result without a level, merged: a new warning.
 const MERGED: &str = "{\"properties\":{\"gate\":{\"counts\":{\
@@ -87,7 +88,7 @@ fn run<T: Threads + Wait + Sync + AllocGlobal>(
     log: Given,
     rooms: Rooms,
 ) -> Result<Ended, AllocError> {
-    let request = Request::of_standard_streams(threads.alloc(), seed()?)?;
+    let request = plain_request(threads.alloc())?;
     run_by(threads, &request, log, rooms)
 }
 
@@ -96,7 +97,7 @@ fn run_strict<T: Threads + Wait + Sync + AllocGlobal>(
     threads: &T,
     max: u32,
 ) -> Result<Ended, AllocError> {
-    let mut request = Request::of_standard_streams(threads.alloc(), seed()?)?;
+    let mut request = plain_request(threads.alloc())?;
     request.options.policy.fail_on = Level::Warning;
     request.options.policy.max = max;
     run_by(threads, &request, Given::whole(LOG), AMPLE)
@@ -131,7 +132,7 @@ fn run_all<T: Threads + Wait + Sync + AllocGlobal>(
     baseline: Given,
     suppressions: Given,
 ) -> Result<Ended, AllocError> {
-    let request = Request::of_standard_streams(threads.alloc(), seed()?)?;
+    let request = plain_request(threads.alloc())?;
     run_all_by(threads, &request, log, baseline, suppressions)
 }
 
@@ -288,6 +289,20 @@ fn a_lost_complaint_changes_no_status(rt: HostRuntime) -> Result<(), Fail> {
         assert_stopped(&rt, &ended, 2, b"");
         assert!(rt; ended.say.is_empty());
     }
+    Ok(())
+}
+
+#[test]
+fn the_longest_error_line_is_written(rt: HostRuntime) -> Result<(), Fail> {
+    let most = u32::MAX;
+    let fault = MergeFault {
+        at: At::Single(Source::Baseline(most), most, most),
+        cause: Cause::Of(Fault::ExternalProperties),
+    };
+    let mut complaints = Complaints::new(Vec::new(rt.alloc()));
+    complaints.complain(Complaint::Fault(fault));
+    let line = b"sarif_gate: baseline 4294967295, run 4294967295, result 4294967295: ExternalProperties\n";
+    assert_eq!(rt; complaints.out.inner().as_slice(), line.as_slice());
     Ok(())
 }
 

@@ -12,4 +12,4 @@ mod words;
 
 pub use request::Request;
 pub use wanted::Wanted;
-pub use words::{WordsFault, read_words};
+pub use words::{WordsFault, plain_words, read_words};

@@ -7,6 +7,7 @@ ghost use Rattle.sarif_request.specs.Words.{words_status, Tells, IsAsked, AsksFo
 ghost use Rattle.sarif_request.specs.Words.{fail_on_in, is_set, reports_in, states_in, values_of};
 ghost use Rattle.sarif_reports.specs.Report.{report_name};
 ghost use Rattle.sarif_request.specs.Words.{AreGiven, IsRenewal, is_given, known_in, wanted_if};
+ghost use Rattle.sarif_request.specs.Words as said;
 
 use crate::clash::{Clash, clash_of};
 use crate::command::command;
@@ -19,6 +20,7 @@ use clap::error::ErrorKind;
 use sarif_counts::{Checks, Knowing, Options, Policy, Renewal, States, Upkeep};
 use sarif_model::{Level, MOST_WORKERS, Text};
 use sarif_reports::Report;
+use sarif_streams::STANDARD;
 use std::alloc::{AllocError, AllocFailed, Global};
 use std::hash::RandomState;
 
@@ -54,6 +56,19 @@ impl From<AllocError> for WordsFault {
     fn from(_error: AllocError) -> WordsFault {
         WordsFault::OutOfMemory
     }
+}
+
+/// Returns the arguments that are read if there are none: one worker merges one log from standard input to standard
+/// output. Returns `AllocError` if memory for them runs out.
+pub fn plain_words(alloc: Global) -> Result<Vec<String>, AllocError>
+    ensures { IfOk result (λ words. map string_bytes words.items ≡ said.plain_words) }
+{
+    let workers = String::from_str(alloc, "--workers")?;
+    let one = String::from_str(alloc, "1")?;
+    let out = String::from_str(alloc, "--out")?;
+    let output = String::from_str(alloc, STANDARD)?;
+    let log = String::from_str(alloc, STANDARD)?;
+    vec![in alloc; workers, one, out, output, log]
 }
 
 /// Returns the request of the arguments after the program's name. The tables of the merge hash with `seed`.

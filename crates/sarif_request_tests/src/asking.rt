@@ -1,11 +1,11 @@
 //! What arguments request.
-use sarif_counts::{Checks, Options, States};
+use sarif_counts::{Checks, Options, Policy, States};
 use sarif_model::{Level, Text};
 use sarif_reports::Report;
 use sarif_request::{Request, WordsFault};
 use std::process::Abort;
 use std::test::Fail;
-use test_request::{accepted, expect_usage, read, usage_in};
+use test_request::{accepted, expect_usage, plain, read, usage_in};
 
 /// Returns whether these are exactly the names.
 fn are_named(found: &[Text], names: &[&str]) -> bool {
@@ -55,6 +55,36 @@ fn check_default_options(rt: &impl Abort, options: &Options) -> Result<(), Fail>
         updated: true,
     };
     assert_eq!(rt; options.policy.states, states);
+    Ok(())
+}
+
+#[test]
+fn no_arguments_merge_one_log_between_the_standard_streams(rt: HostRuntime) -> Result<(), Fail> {
+    let request = plain(&rt)?;
+    check_plain_files(&rt, &request)?;
+    check_plain_options(&rt, &request)
+}
+
+fn check_plain_files(rt: &impl Abort, request: &Request) -> Result<(), Fail> {
+    assert!(rt; are_named(&request.logs, &["-"]));
+    assert!(rt; request.baselines.is_empty());
+    assert!(rt; request.suppress.is_none());
+    assert!(rt; request.out.as_str() == "-");
+    assert!(rt; request.reports.is_empty());
+    assert!(rt; request.roots.is_empty());
+    assert!(rt; !request.explain);
+    Ok(())
+}
+
+fn check_plain_options(rt: &impl Abort, request: &Request) -> Result<(), Fail> {
+    let options = &request.options;
+    assert_eq!(rt; options.today, None);
+    assert_eq!(rt; options.workers, 1);
+    assert_eq!(rt; options.policy, Policy::default());
+    assert_eq!(rt; options.checks, Checks::default());
+    assert!(rt; request.upkeep.renewal.is_none());
+    assert!(rt; !request.upkeep.unused);
+    assert_eq!(rt; request.upkeep.known, None);
     Ok(())
 }
 
