@@ -1,5 +1,6 @@
 //! The smallest source of each cause, with the complete expected explanation.
 mod files;
+mod forms;
 mod logs;
 mod outputs;
 mod results;
@@ -17,6 +18,7 @@ fn told(alloc: Global, at: At, cause: Cause, text: &str) -> Result<String, Fail>
         file: "found.sarif",
         bytes: text.as_bytes(),
         system: None,
+        is_folder: false,
     };
     Ok(explanation(alloc, &MergeFault { at, cause }, &source)?)
 }

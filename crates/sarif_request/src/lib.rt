@@ -3,8 +3,10 @@
 
 mod clash;
 mod command;
+mod expected;
 mod listing;
 mod option_rows;
+mod repeated;
 mod request;
 mod together;
 mod wanted;

@@ -11,6 +11,7 @@ ghost use Rattle.sarif_request.specs.Words as said;
 
 use crate::clash::{Clash, clash_of};
 use crate::command::command;
+use crate::expected::sentence_with_expected;
 use crate::listing::states_of;
 use crate::request::Request;
 use crate::together::{Given, misfit_of};
@@ -88,8 +89,8 @@ pub fn read_words(alloc: Global, seed: RandomState, words: &[String]) -> Result<
                 return Err(usage_of(told_of(alloc, misfit.sentence())));
             }
             let request = request_of(alloc, seed, &matches, states)?;
-            if let Some(clash) = clash_of(&request) {
-                return Err(usage_of(told_clash(alloc, clash, &request)));
+            if let Some(clash) = clash_of(alloc, &request)? {
+                return Err(usage_of(told_clash(alloc, clash, &request, words)));
             }
             Ok(request)
         }
@@ -111,10 +112,46 @@ fn usage_of(told: Result<Text, AllocError>) -> WordsFault
     }
 }
 
-/// Returns the message about a clash of names.
-fn told_clash(alloc: Global, clash: Clash, request: &Request) -> Result<Text, AllocError> {
-    let sentence = clash.sentence(alloc, request)?;
+/// Returns the message about a clash of names in these arguments.
+fn told_clash(
+    alloc: Global,
+    clash: Clash,
+    request: &Request,
+    words: &[String],
+) -> Result<Text, AllocError> {
+    let mut sentence = clash.sentence(alloc, request)?;
+    if clash.is_repeat() && logs_follow_baseline(words) {
+        sentence.push_str("; --baseline takes one file, and the files after it are logs")?;
+    }
     told_of(alloc, sentence.as_str())
+}
+
+/// Returns whether two or more logs directly follow the file of one `--baseline`.
+fn logs_follow_baseline(words: &[String]) -> bool {
+    for (at, word) in words.iter().enumerate() {
+        let next = at + 1;
+        let follow = match word.as_str() {
+            "--baseline" => are_logs(words, next + 1),
+            other => other.starts_with("--baseline=") && are_logs(words, next),
+        };
+        if follow {
+            return true;
+        }
+    }
+    false
+}
+
+/// Returns whether these arguments have two logs at this position.
+fn are_logs(words: &[String], at: usize) -> bool {
+    is_log(words, at) && is_log(words, at + 1)
+}
+
+/// Returns whether these arguments have a log at this position, and not an option.
+fn is_log(words: &[String], at: usize) -> bool {
+    match words.get(at) {
+        Some(word) => word.as_str() == STANDARD || !word.as_str().starts_with('-'),
+        None => false,
+    }
 }
 
 /// Returns the message with this sentence.
@@ -398,7 +435,13 @@ fn is_asked(kind: ErrorKind) -> bool
     kind == ErrorKind::DisplayHelp || kind == ErrorKind::DisplayVersion
 }
 
-/// Returns the parser's text for its result.
+/// Returns the parser's text for its result. If a number or a date is invalid, it says what is expected.
 fn text_of(alloc: Global, error: &clap::Error) -> Result<Text, AllocError> {
-    Text::from_string(error.to_string(alloc)?)
+    let text = error.to_string(alloc)?;
+    if error.kind() == ErrorKind::ValueValidation {
+        if let Some(sentence) = sentence_with_expected(alloc, text.as_str())? {
+            return told_of(alloc, sentence.as_str());
+        }
+    }
+    Text::from_string(text)
 }

@@ -172,15 +172,15 @@ fn an_expiry_date_is_a_date_from_today_on(rt: HostRuntime) -> Result<(), Fail> {
         ),
         (
             "--until 20261301 --today 20260101",
-            "invalid value for '--until <YYYYMMDD>': expected a date, for example 20270101",
+            "invalid value for '--until <YYYYMMDD>': expected a date as YYYYMMDD, for example 20251128",
         ),
         (
             "--until 20260132 --today 20260101",
-            "invalid value for '--until <YYYYMMDD>': expected a date, for example 20270101",
+            "invalid value for '--until <YYYYMMDD>': expected a date as YYYYMMDD, for example 20251128",
         ),
         (
             "--until 20260100 --today 20250101",
-            "invalid value for '--until <YYYYMMDD>': expected a date, for example 20270101",
+            "invalid value for '--until <YYYYMMDD>': expected a date as YYYYMMDD, for example 20251128",
         ),
     ] {
         let line = format!(in rt.alloc(); "--out o a --suppress-out n --accept {more}")?;

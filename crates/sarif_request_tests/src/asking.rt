@@ -295,6 +295,54 @@ fn wrong_words_are_usage(rt: HostRuntime) -> Result<(), Fail> {
 }
 
 #[test]
+fn an_invalid_number_or_date_says_what_is_expected(rt: HostRuntime) -> Result<(), Fail> {
+    for (words, told) in [
+        (
+            "--today 2026-11-28",
+            "invalid value '2026-11-28' for '--today <YYYYMMDD>': expected a date as YYYYMMDD, for \
+             example 20251128",
+        ),
+        (
+            "--today=",
+            "invalid value '' for '--today <YYYYMMDD>': expected a date as YYYYMMDD, for example \
+             20251128",
+        ),
+        (
+            "--until 0",
+            "invalid value '0' for '--until <YYYYMMDD>': expected a date as YYYYMMDD, for example \
+             20251128",
+        ),
+        (
+            "--max 10%",
+            "invalid value '10%' for '--max <NUMBER>': expected a number from 0 to 4294967295",
+        ),
+        (
+            "--max=-1",
+            "invalid value '-1' for '--max <NUMBER>': expected a number from 0 to 4294967295",
+        ),
+        (
+            "--max 4294967296",
+            "invalid value '4294967296' for '--max <NUMBER>': expected a number from 0 to \
+             4294967295",
+        ),
+        (
+            "--workers 65",
+            "invalid value '65' for '--workers <NUMBER>': expected a number from 1 to 64",
+        ),
+        // A value that looks like the end of another message.
+        (
+            "--max=x'for'--today<YYYYMMDD>':y",
+            "invalid value 'x'for'--today<YYYYMMDD>':y' for '--max <NUMBER>': expected a number \
+             from 0 to 4294967295",
+        ),
+    ] {
+        let line = format!(in rt.alloc(); "a --out o {words}")?;
+        expect_usage(&rt, line.as_str(), told)?;
+    }
+    Ok(())
+}
+
+#[test]
 fn names_that_clash_are_usage(rt: HostRuntime) -> Result<(), Fail> {
     for (line, told) in [
         (
@@ -346,6 +394,20 @@ fn names_that_clash_are_usage(rt: HostRuntime) -> Result<(), Fail> {
             "a --out o --baseline b --html b",
             "--html would overwrite the baseline b",
         ),
+    ] {
+        assert!(rt; usage_in(&rt, line)?.contains(told), "{line}");
+    }
+    Ok(())
+}
+
+#[test]
+fn a_name_that_is_passed_twice_is_usage(rt: HostRuntime) -> Result<(), Fail> {
+    for (line, told) in [
+        ("a a --out o", "the log a is passed twice"),
+        ("a b c b --out o", "the log b is passed twice"),
+        // The first of two names that are repeated.
+        ("b a b a --out o", "the log b is passed twice"),
+        ("b a a b --out o", "the log b is passed twice"),
         (
             "- - --out o",
             "standard input (-) can be only one of the logs",
@@ -354,8 +416,57 @@ fn names_that_clash_are_usage(rt: HostRuntime) -> Result<(), Fail> {
             "- a - --out o",
             "standard input (-) can be only one of the logs",
         ),
+        (
+            "a --baseline b --baseline b --out o",
+            "the baseline b is passed twice",
+        ),
+        (
+            "a --baseline b --baseline c --baseline=b --out o",
+            "the baseline b is passed twice",
+        ),
+        // As a baseline, - is a file.
+        ("a --baseline - --baseline - --out o", "the baseline - is passed twice"),
+        // Logs come first, then baselines, and outputs last.
+        (
+            "a a --baseline b --baseline b --out a",
+            "the log a is passed twice",
+        ),
+        (
+            "a --baseline b --baseline b --out a --text a --suppress a",
+            "the baseline b is passed twice",
+        ),
+        ("a a --out s --suppress s", "the log a is passed twice"),
     ] {
-        assert!(rt; usage_in(&rt, line)?.contains(told), "{line}");
+        expect_usage(&rt, line, told)?;
+    }
+    Ok(())
+}
+
+#[test]
+fn a_baseline_before_several_logs_is_told(rt: HostRuntime) -> Result<(), Fail> {
+    for (line, told) in [
+        (
+            "--baseline a b c b c --out o",
+            "the log b is passed twice; --baseline takes one file, and the files after it are logs",
+        ),
+        (
+            "--out o --baseline=a b b",
+            "the log b is passed twice; --baseline takes one file, and the files after it are logs",
+        ),
+        (
+            "--baseline a --baseline a b c --out o",
+            "the baseline a is passed twice; --baseline takes one file, and the files after it are logs",
+        ),
+        // One log after a baseline.
+        ("--baseline a b --out o b", "the log b is passed twice"),
+        (
+            "--out o --baseline=a b --max 0 b",
+            "the log b is passed twice",
+        ),
+        // Another option before the logs.
+        ("--out o b b", "the log b is passed twice"),
+    ] {
+        expect_usage(&rt, line, told)?;
     }
     Ok(())
 }
@@ -365,15 +476,18 @@ fn names_that_may_stand_together_do(rt: HostRuntime) -> Result<(), Fail> {
     for line in [
         // A baseline is replaced by the merged log.
         "a --baseline b --out b",
-        // A log is named twice.
-        "a a --out o",
+        // A file is a log and a baseline.
+        "a --baseline a --out o",
+        "a b --baseline b --baseline a --out o",
         // Standard input, standard output and files of that name.
         "- --out -",
         "- --out o --github -",
         "a --baseline - --out o --text -",
         "- --suppress - --out o",
-        "a --baseline - --baseline - --out o",
+        "- --baseline - --out o",
         // A name is compared byte for byte.
+        "a ./a A --out o",
+        "a --baseline b --baseline ./b --baseline B --out o",
         "a --out o --text ./o",
         "a --out o --text O",
         // The root is not a file name.

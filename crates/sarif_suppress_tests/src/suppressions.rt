@@ -34,7 +34,7 @@ fn written_by(
     Ok((Value::Array(list).to_string(alloc)?, applied.suppressed))
 }
 
-/// The same for a file that is not read yet.
+/// The written suppressions by a file that is not read yet, and whether the result is suppressed.
 fn written_of(
     alloc: Global,
     file: FileText,
@@ -48,7 +48,7 @@ fn written_of(
 const OWN: &str =
     r#"7,"accepted",null,[{"justification":"j","kind":"external","status":"accepted"}]"#;
 
-/// One entry, five and seven that match the result, and the objects that are written of them.
+/// One entry, five and seven that match the result, and the objects that are written for them.
 const FILES: [(&str, &str, bool); 3] = [
     (
         r#"{"ruleId":"R1","justification":"j"}"#,
@@ -100,7 +100,7 @@ fn unmarked_by(alloc: Global, rules: &Plain, rule_ids: &[&str]) -> Result<Vec<u3
     Ok(counts)
 }
 
-/// The same for a file that is not read yet.
+/// Returns those numbers for a file that is not read yet.
 fn unmarked_of(
     alloc: Global,
     file: FileText,

@@ -49,7 +49,7 @@ fn a_log_is_an_object_with_runs(rt: HostRuntime) -> Result<(), Fail> {
   where: 
   found: []
   wanted: an object with runs, an array or null
-  advice: check that you passed the right file, and that the analyser writes SARIF 2.1.0
+  advice: this is JSON, but not a SARIF log: check that you passed the right file, and that the analyser writes SARIF 2.1.0
 "#,
         ),
         (
@@ -58,7 +58,7 @@ fn a_log_is_an_object_with_runs(rt: HostRuntime) -> Result<(), Fail> {
   where: 
   found: nothing
   wanted: the member runs, an array of runs, or null
-  advice: check that you passed the right file, and that the analyser writes SARIF 2.1.0
+  advice: this is JSON, but not a SARIF log: check that you passed the right file, and that the analyser writes SARIF 2.1.0
 "#,
         ),
         (
@@ -158,7 +158,8 @@ fn the_system_says_why_a_call_failed(rt: HostRuntime) -> Result<(), Fail> {
     let read = FaultSource {
         file: "a\nb.sarif",
         bytes: b"{",
-        system: Some("Is a directory (os error 21)"),
+        system: Some("Permission denied (os error 13)"),
+        is_folder: false,
     };
     let fault = MergeFault {
         at: At::Whole(Source::Baseline(2)),
@@ -168,7 +169,7 @@ fn the_system_says_why_a_call_failed(rt: HostRuntime) -> Result<(), Fail> {
         explanation(alloc, &fault, &read)?.as_str(),
         r#"  file: a b.sarif
   wanted: a file that exists and can be read to its end
-  system: Is a directory (os error 21)
+  system: Permission denied (os error 13)
   advice: check that the file exists, is not a folder and is readable
 "#
     );
@@ -176,6 +177,7 @@ fn the_system_says_why_a_call_failed(rt: HostRuntime) -> Result<(), Fail> {
         file: "merged.sarif",
         bytes: &[],
         system: Some("No space left on device"),
+        is_folder: false,
     };
     let fault = MergeFault {
         at: At::Whole(Source::Output),
@@ -212,6 +214,7 @@ fn faults_of_no_input_have_two_lines(rt: HostRuntime) -> Result<(), Fail> {
             file: "",
             bytes: &[],
             system: Some("no failed call"),
+            is_folder: true,
         };
         let fault = MergeFault {
             at: At::Nowhere,
