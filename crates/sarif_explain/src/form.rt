@@ -98,7 +98,7 @@ fn are_json_lines(alloc: Global, text: &[u8]) -> Result<bool, AllocError> {
     let Ok(text) = str::from_utf8(text) else {
         return Ok(false);
     };
-    let mut count = 0u32;
+    let mut is_second = false;
     for line in text.lines() {
         let line = line.trim_ascii();
         if line.is_empty() {
@@ -107,10 +107,10 @@ fn are_json_lines(alloc: Global, text: &[u8]) -> Result<bool, AllocError> {
         if !is_object(alloc, line)? {
             return Ok(false);
         }
-        count += 1;
-        if count == 2 {
+        if is_second {
             return Ok(true);
         }
+        is_second = true;
     }
     Ok(false)
 }

@@ -89,7 +89,8 @@ pub fn read_words(alloc: Global, seed: RandomState, words: &[String]) -> Result<
                 return Err(usage_of(told_of(alloc, misfit.sentence())));
             }
             let request = request_of(alloc, seed, &matches, states)?;
-            if let Some(clash) = clash_of(alloc, &request)? {
+            let found = clash_of(alloc, &request)?;
+            if let Some(clash) = found {
                 return Err(usage_of(told_clash(alloc, clash, &request, words)));
             }
             Ok(request)
@@ -128,30 +129,26 @@ fn told_clash(
 
 /// Returns whether two or more logs directly follow the file of one `--baseline`.
 fn logs_follow_baseline(words: &[String]) -> bool {
-    for (at, word) in words.iter().enumerate() {
-        let next = at + 1;
-        let follow = match word.as_str() {
-            "--baseline" => are_logs(words, next + 1),
-            other => other.starts_with("--baseline=") && are_logs(words, next),
-        };
-        if follow {
-            return true;
+    for part in words.windows(4) {
+        if let [option, _, first, second] = part {
+            if option.as_str() == "--baseline" && is_log(first) && is_log(second) {
+                return true;
+            }
+        }
+    }
+    for part in words.windows(3) {
+        if let [option, first, second] = part {
+            if option.as_str().starts_with("--baseline=") && is_log(first) && is_log(second) {
+                return true;
+            }
         }
     }
     false
 }
 
-/// Returns whether these arguments have two logs at this position.
-fn are_logs(words: &[String], at: usize) -> bool {
-    is_log(words, at) && is_log(words, at + 1)
-}
-
-/// Returns whether these arguments have a log at this position, and not an option.
-fn is_log(words: &[String], at: usize) -> bool {
-    match words.get(at) {
-        Some(word) => word.as_str() == STANDARD || !word.as_str().starts_with('-'),
-        None => false,
-    }
+/// Returns whether this argument is the name of a log, and not an option.
+fn is_log(word: &String) -> bool {
+    word.as_str() == STANDARD || !word.as_str().starts_with('-')
 }
 
 /// Returns the message with this sentence.
