@@ -68,7 +68,8 @@ pub fn plain_words(alloc: Global) -> Result<Vec<String>, AllocError>
     let out = String::from_str(alloc, "--out")?;
     let output = String::from_str(alloc, STANDARD)?;
     let log = String::from_str(alloc, STANDARD)?;
-    vec![in alloc; workers, one, out, output, log]
+    let words = vec![in alloc; workers, one, out, output, log]?;
+    Ok(words)
 }
 
 /// Returns the request of the arguments after the program's name. The tables of the merge hash with `seed`.
