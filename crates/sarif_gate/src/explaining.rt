@@ -194,19 +194,31 @@ fn of_source(
     bytes: &[u8],
     error: Option<io::Error>,
 ) -> Result<String, AllocError> {
-    let mut source = FaultSource {
-        file,
-        bytes,
-        system: None,
-        is_folder: false,
-    };
     match error {
         Some(error) => {
+            let is_folder = error.kind() == io::ErrorKind::IsADirectory;
             let system = error.to_string(alloc)?;
-            source.system = Some(system.as_str());
-            source.is_folder = error.kind() == io::ErrorKind::IsADirectory;
-            explanation(alloc, fault, &source)
+            by_system(alloc, fault, file, bytes, Some(system.as_str()), is_folder)
         }
-        None => explanation(alloc, fault, &source),
+        None => by_system(alloc, fault, file, bytes, None, false),
     }
+}
+
+/// Returns the explanation of an error in a source with this name, these bytes and this system message, which may be a
+/// folder.
+fn by_system<'a>(
+    alloc: Global,
+    fault: &MergeFault,
+    file: &'a str,
+    bytes: &'a [u8],
+    system: Option<&'a str>,
+    is_folder: bool,
+) -> Result<String, AllocError> {
+    let source = FaultSource {
+        file,
+        bytes,
+        system,
+        is_folder,
+    };
+    explanation(alloc, fault, &source)
 }

@@ -2,8 +2,28 @@
 use sarif_counts::{Counts, Policy, States};
 use sarif_page::html_report;
 use sarif_shown::Told;
+use std::alloc::{AllocError, Global};
 use std::hash::RandomState;
 use std::test::Fail;
+
+/// Returns the page of a log without findings.
+fn empty_page<'a>(
+    alloc: Global,
+    seed: RandomState,
+    counts: &'a Counts,
+    policy: &'a Policy,
+) -> Result<String, AllocError> {
+    let told = Told {
+        counts,
+        policy,
+        findings: &[],
+        without: 0,
+        unused: 0,
+        life: None,
+        seed,
+    };
+    html_report(alloc, &told)
+}
 
 #[test]
 fn no_result_is_a_hit_if_no_state_counts(rt: HostRuntime) -> Result<(), Fail> {
@@ -16,16 +36,8 @@ fn no_result_is_a_hit_if_no_state_counts(rt: HostRuntime) -> Result<(), Fail> {
         },
         ..Policy::default()
     };
-    let told = Told {
-        counts: &Counts::new(),
-        policy: &policy,
-        findings: &[],
-        without: 0,
-        unused: 0,
-        life: None,
-        seed: RandomState::new(&rt)?,
-    };
-    let page = html_report(rt.alloc(), &told)?;
+    let counts = Counts::new();
+    let page = empty_page(rt.alloc(), RandomState::new(&rt)?, &counts, &policy)?;
     assert!(rt; page.contains("<p>No state counts, so no result is a hit.</p>"));
     Ok(())
 }

@@ -301,7 +301,7 @@ fn outputs_for_later_merges_replace_no_input(rt: HostRuntime) -> Result<(), Fail
         ),
         (
             "--out o --known b --baseline b --baseline b a",
-            "--known would overwrite the baseline b, which is not the only baseline",
+            "the baseline b is passed twice",
         ),
     ] {
         expect_usage(&rt, line, told)?;
@@ -319,7 +319,7 @@ fn outputs_that_may_replace_an_input_do(rt: HostRuntime) -> Result<(), Fail> {
         "--out - --known k -",
         "--out o --known - -",
         "--out o --suppress s --unused - -",
-        "--out o --baseline - --baseline - --known - a",
+        "--out o --baseline - --baseline c --known - a",
         "--out o --suppress - --suppress-out - --prune a",
     ] {
         accepted(&rt, line)?;
