@@ -73,9 +73,8 @@ pub fn gitlab_reports_read_back()
         ≡ Some (outline (array (items_after [] (reported_of reporting log)))) }
 {}
 
-/// The report in JUnit XML has one test case per reported result, and one if nothing is reported. The failed and
-/// the skipped ones are the hits. One fails exactly if the verdict is fail. So no log adds, hides or changes a test
-/// case.
+/// The report in JUnit XML has one test case per reported result, and one if nothing is reported. There are as many
+/// failed and skipped ones as hits. One fails exactly if the verdict is fail. So no log adds or hides a test case.
 pub fn junit_cases_are_results()
     ensures cases { (reporting : Reporting) (log : Data)
         → length (reported_of reporting log) < 2 ^ 64

@@ -98,8 +98,8 @@ pub fn github_lines_begin_with_commands()
 {}
 
 /// The report for Azure Pipelines has one line per reported result. Each begins with the command
-/// `##vso[task.logissue type=`, has no other two adjacent `#` and no control character. A reader finds only the
-/// properties of its result: no log adds a command or a property, or ends one. Its first lines are those of the hits.
+/// `##vso[task.logissue type=`, has no other two adjacent `#` and no control character. A reader finds as many
+/// properties as its result has: no log adds a command or a property. Its first lines are those of the hits.
 pub fn azure_lines_are_commands()
     ensures lines { (reporting : Reporting) (log : Data) →
         AreIssues (length (reported_of reporting log))
