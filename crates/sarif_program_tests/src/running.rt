@@ -301,7 +301,8 @@ fn the_longest_error_line_is_written(rt: HostRuntime) -> Result<(), Fail> {
     };
     let mut complaints = Complaints::new(Vec::new(rt.alloc()));
     complaints.complain(Complaint::Fault(fault));
-    let line = b"sarif_gate: baseline 4294967295, run 4294967295, result 4294967295: ExternalProperties\n";
+    let line =
+        b"sarif_gate: baseline 4294967295, run 4294967295, result 4294967295: ExternalProperties\n";
     assert_eq!(rt; complaints.out.inner().as_slice(), line.as_slice());
     Ok(())
 }

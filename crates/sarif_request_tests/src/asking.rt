@@ -425,7 +425,10 @@ fn a_name_that_is_passed_twice_is_usage(rt: HostRuntime) -> Result<(), Fail> {
             "the baseline b is passed twice",
         ),
         // As a baseline, - is a file.
-        ("a --baseline - --baseline - --out o", "the baseline - is passed twice"),
+        (
+            "a --baseline - --baseline - --out o",
+            "the baseline - is passed twice",
+        ),
         // Logs come first, then baselines, and outputs last.
         (
             "a a --baseline b --baseline b --out a",
