@@ -5,6 +5,8 @@
 #[cfg(test)]
 mod conditions;
 #[cfg(test)]
+mod kinds;
+#[cfg(test)]
 mod messages;
 #[cfg(test)]
 mod verdicts;

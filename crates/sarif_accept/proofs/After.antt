@@ -12,6 +12,8 @@ use Rattle.sarif_model.specs.declared.kinds.Status.{Status}
 use Rattle.sarif_model.specs.declared.record.Record.{Record}
 use Rattle.sarif_model.specs.Status.{is_accepted}
 use Rattle.sarif_entries.specs.declared.entry.Entry.{Entry}
+use Rattle.sarif_entries.specs.declared.condition.ConditionKind.TheVariants as kinds
+use Rattle.sarif_entries.specs.Condition.{text_in}
 use Rattle.sarif_entries.specs.File.{File}
 use Rattle.sarif_entries.specs.Matching.{is_empty, matches, is_expired, hold}
 use Rattle.sarif_suppress.specs.Suppressing.{matching, statuses_suppress, statuses_of, is_suppressed, is_unused}
@@ -80,7 +82,7 @@ keeps_matching : (prune : Bool) (heard : Heard) (file : File) (rs : List Record)
 keeps_matching prune heard file rs r i within is e fits =
     let unexpired = and_parts (not (is_expired file.today e)) (hold e.conditions r) fits in
     let used : list_any (λ x. matches file.today e x) rs ≡ true = list_any_at (λ x. matches file.today e x) rs i r within (rw is fits) in
-    ap (λ b. not (prune && (is_expired file.today e || (not b && heard e.conditions.tool)))) used ∙ by_tests prune (is_expired file.today e) unexpired.0
+    ap (λ b. not (prune && (is_expired file.today e || (not b && heard (text_in kinds.Tool e.conditions))))) used ∙ by_tests prune (is_expired file.today e) unexpired.0
   where
     by_tests : (p x : Bool) → not x ≡ true → not (p && (x || false)) ≡ true
     by_tests p true e = absurd (true≢false (sym e))
@@ -213,9 +215,9 @@ same_list how counts file rs states r i own within is none =
     ∙ ap (λ l. matching file r ++ filter test (map (λ x. entry_read x how.renewal.reason how.renewal.until) l)) nothing ∙ append-nil (matching file r))
 
 -- an entry that stays unused where the file was pruned isn't expired, and names no tool that was heard
-pub unused_stays : (heard : Heard) (file : File) (rs : List Record) (e : Entry) → is_kept true heard file rs e ≡ true → is_unused file rs e ≡ true → (is_expired file.today e ≡ false) × (heard e.conditions.tool ≡ false)
+pub unused_stays : (heard : Heard) (file : File) (rs : List Record) (e : Entry) → is_kept true heard file rs e ≡ true → is_unused file rs e ≡ true → (is_expired file.today e ≡ false) × (heard (text_in kinds.Tool e.conditions) ≡ false)
 unused_stays heard file rs e kept unused =
-    by_tests (is_expired file.today e) (is_unused file rs e) (heard e.conditions.tool) kept unused
+    by_tests (is_expired file.today e) (is_unused file rs e) (heard (text_in kinds.Tool e.conditions)) kept unused
   where
     by_tests : (x u h : Bool) → not (x || (u && h)) ≡ true → u ≡ true → (x ≡ false) × (h ≡ false)
     by_tests true u h e f = absurd (true≢false (sym e))
