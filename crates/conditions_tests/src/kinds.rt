@@ -4,7 +4,7 @@ use sarif_model::Text;
 use std::test::Fail;
 use test_suppress::result_at;
 
-/// An entry whose conditions are in another order than that in which they are read, and a map that is no condition.
+/// An entry whose conditions are in another order than that in which they are read, and a map that is empty.
 const FILE: &str = "{\"version\":4,\"suppressions\":[{\"messageArguments\":[\"x\"],\"uri\":\"a.c\",\
     \"tool\":\"lint\",\"fingerprints\":{},\"status\":null}]}";
 

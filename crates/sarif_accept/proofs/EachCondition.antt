@@ -1,4 +1,4 @@
--- What is proved once for each condition: what the entry that accepts a result names is read again as it was, holds of the
+-- What is proved once for each condition: what the entry that accepts a result names is read again as it was, is true for the
 -- result, and has a member as long as its string.
 use Rattle.std.proofs.Common.{◌≡◌, ℕ, ◌<◌, ◌≤◌, ◌^◌, Bool, true, false, List, [], ◌∷◌, map, Option, Some, None, option_map, bytes_eq, refl, ap, ◌∙◌, arith, if◌then◌else◌}
 use Rattle.std.specs.Prelude.{nat_eq, IfSome}
@@ -91,7 +91,7 @@ pub is_written : (kind : ConditionKind) → IsWritten (form_of kind)
 is_written kinds.Tool = λ text. (refl, refl)
 is_written _ = λ value. (refl, refl)
 
--- ---- what the entry names holds of the result
+-- ---- what the entry names is true for the result
 
 module _ (r : Record) where
   abbrev Held : Option Condition → Type 0
