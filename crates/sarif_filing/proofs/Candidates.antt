@@ -271,7 +271,7 @@ module _ (e : Entry) (r : Record) (begun : Bool) where
   is_filed None [] (q ∷ p) m u ru px t i ws n parts found =
       or_left (is_asked e r) begun (in_partial by_guid by_full by_partial by_message by_uri by_rule by_tool (asks_for_none e) (rw (n.guid, n.full, n.partial) (its_pair q r.partial (and_parts (list_any (λ o. is_pair o q) r.partial) (are_among p r.partial) parts.partial).0)))
   is_filed None [] [] (Some m) u ru px t i ws n parts found =
-      or_left (is_asked e r) begun (in_message by_guid by_full by_partial by_message by_uri by_rule by_tool (asks_for_none e) (rw (n.guid, n.full, n.partial, n.message, n.uri, n.id, n.args) (in_message_keys r u (Some m) i ws parts.uri parts.message parts.id parts.args refl)))
+      or_left (is_asked e r) begun (in_message by_guid by_full by_partial by_message by_uri by_rule by_tool (asks_for_none e) (rw (n.guid, n.full, n.partial, n.message, n.uri, n.args) (in_message_keys r u (Some m) i ws parts.uri parts.message parts.id parts.args refl)))
   is_filed None [] [] None u ru px t (Some i) ws n parts found =
       or_left (is_asked e r) begun (in_message by_guid by_full by_partial by_message by_uri by_rule by_tool (asks_for_none e) (rw (n.guid, n.full, n.partial, n.message, n.uri, n.id, n.args) (in_message_keys r u None (Some i) ws parts.uri parts.message parts.id parts.args refl)))
   is_filed None [] [] None u ru px t None (w ∷ ws) n parts found =
