@@ -270,6 +270,18 @@ def pruning():
     )
 
 
+def nothing_more():
+    """Only what is requested is made."""
+    yield life(
+        "without options for later merges nothing is made for them",
+        "",
+        log(run("lint", FINDING)),
+        status=1,
+        stderr=b"",
+        gone=["n", "k", "u"],
+    )
+
+
 def unused_entries():
     given = [
         {"tool": "b"},
@@ -299,6 +311,13 @@ def unused_entries():
         {"s": rules(*wide)},
         status=1,
         made={"u": lines.encode()},
+    )
+    yield life(
+        "no unused entry empties an old list",
+        "--suppress s --unused u",
+        log(run("lint", FINDING)),
+        {"s": rules({"tool": "lint"}), "u": b"old\n"},
+        made={"u": b""},
     )
 
 
@@ -352,6 +371,14 @@ def written_known():
         {"kind": "inSource", "status": None},
     ]
     statuses = [{"kind": "external", "status": it} for it in ("accepted", "rejected", "accepted")]
+    yield life("no runs at all", "--known k --adopt", log(), made={"k": pretty(known())})
+    yield life(
+        "the statuses of its own suppressions alone",
+        "--known k --adopt",
+        log(run("lint", {**FINDING, "suppressions": held})),
+        status=1,
+        made={"k": pretty(known(rerun("lint", {**FINDING, "suppressions": statuses})))},
+    )
     yield life(
         "the statuses of its own suppressions",
         "--known k --adopt --suppress s",
@@ -393,6 +420,7 @@ def left_out():
         words,
         log(run("lint", FINDING)),
         {"s": rules(until, version=2)},
+        said=["sarif_gate: 0 known, 1 left out, 0 kept"],
         made={"k": pretty(known())},
     )
     yield life(
@@ -400,6 +428,7 @@ def left_out():
         words,
         log(run("lint", FINDING)),
         {"s": rules(until, {"ruleId": "R1"}, version=2)},
+        said=["sarif_gate: 1 known, 0 left out, 0 kept"],
         made={"k": pretty(known(rerun("lint", FINDING)))},
     )
     accepted = [{"kind": "external", "status": "accepted"}]
@@ -419,6 +448,14 @@ def left_out():
         said=["sarif_gate: 2 known, 1 left out, 0 kept"],
         last="gate: fail, hits 2, max 0",
         made={"k": pretty(known(rerun("lint", KNOWN_FINDING, other("R2"))))},
+    )
+    yield life(
+        "a new hit is known if it is adopted",
+        "--known k --adopt",
+        log(run("lint", FINDING)),
+        status=1,
+        said=["sarif_gate: 1 known, 0 left out, 0 kept"],
+        made={"k": pretty(known(rerun("lint", FINDING)))},
     )
     yield life(
         "a new suppressed finding isn't known",
@@ -451,6 +488,15 @@ def left_out():
 def kept_known():
     gone = {"baselineState": "absent"}
     yield life(
+        "a tool without a log is not forgotten",
+        "--known k --adopt --baseline b",
+        log(run("lint", FINDING)),
+        {"b": log(run("b", ruled()), run("lint", ruled()), run("b", FINDING), run("c"))},
+        status=1,
+        said=["sarif_gate: 3 known, 0 left out, 2 kept"],
+        made={"k": pretty(known(rerun("b", KNOWN_FINDING), rerun("b", FINDING), rerun("lint", FINDING)))},
+    )
+    yield life(
         "tools that no input run has stay known",
         "--known k --adopt --baseline b --baseline c",
         log(run("lint", FINDING)),
@@ -470,6 +516,20 @@ def kept_known():
             )
         },
     )
+    # Tools in the order of the baseline and then of the log; input runs of a tool before its baseline runs; no run
+    # without results. The run of b failed, so its baseline results are kept.
+    failed = {"invocations": [{"executionSuccessful": False}]}
+    numbered = lambda tool, number: rerun(tool, {"level": "warning", "message": {}, "ruleId": number})
+    tools = known(*(numbered(*it) for it in (("b", "5"), ("b", "1"), ("b", "2"), ("lint", "4"), ("c", "3"))))
+    yield life(
+        "runs are listed tool by tool",
+        "--known k --adopt --baseline b",
+        log(run("c", {"ruleId": "3"}), run("lint", {"ruleId": "4"}), run("lint"), run("b", {"ruleId": "5"}, **failed)),
+        {"b": log(run("b", {"ruleId": "1"}), run("lint"), run("b", {"ruleId": "2"}))},
+        made={"k": pretty(tools)},
+    )
+    words = "--known k --adopt --baseline b"
+    yield life("a known log is its own known log", words, log(), {"b": pretty(tools)}, made={"k": pretty(tools)})
     bare_run = {"tool": {"driver": {"name": "lint"}}}
     yield life(
         "a tool with a failed run stays known",
@@ -618,6 +678,7 @@ def cases():
     yield from entries_of_results()
     yield from new_files()
     yield from pruning()
+    yield from nothing_more()
     yield from unused_entries()
     yield from written_known()
     yield from left_out()

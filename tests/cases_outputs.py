@@ -1,5 +1,6 @@
 """Cases of the options for reports: files, standard streams, outputs that can't be written, explanations."""
 
+import gzip
 import os
 import re
 import stat
@@ -141,7 +142,7 @@ def told_of_words():
     )
     given = {"status": 2, "stdout": b""}
     yield one("what is said of an unknown option", ["--frobnicate"], stderr=unknown.encode(), **given)
-    bad = f"error: invalid value '0' for '--workers <NUMBER>': 0 is not in 1..=64{more}"
+    bad = f"error: invalid value '0' for '--workers <NUMBER>': expected a number from 1 to 64{more}"
     words = ["--workers", "0", "--out", "o", "a"]
     yield one("what is said of a wrong value", words, stderr=bad.encode(), **given)
 
@@ -433,6 +434,41 @@ def explained_inputs(bad):
     yield explained("an entry without a condition", files, "suppressions, entry 1: EmptyMatch", words, file="s", **where)
 
 
+def explained_forms():
+    """Files that are not what a merge expects: a merged log, other JSON, a folder, and what isn't JSON."""
+    absent = merged(gate(absent=[1, 0, 0, 0]), written("lint", marked("absent", **plain())))
+    told = {"file": "a", "advice": "this is a merged log; pass the logs of the analysers"}
+    yield explained("a merged log as a log", {"a": absent}, "log 0, run 0, result 0: AbsentInput", **told)
+    told["advice"] = "this is a suppression file; pass it with --suppress"
+    yield explained("a suppression file as a log", {"a": rules()}, "log 0: NotLog", **told)
+    told["advice"] = (
+        "this is JSON, but not a SARIF log: check that you passed the right file, and that the analyser writes "
+        "SARIF 2.1.0"
+    )
+    yield explained("a status file as a log", {"a": b'{"status":"completed"}'}, "log 0: NotLog", **told)
+    told["advice"] = "pass the file itself, not the folder that it is in"
+    told.update(file=".", found="a folder", system="Is a directory (os error 21)")
+    yield explained("a folder as a log", {}, "log 0: ReadFailed (.)", ["--out", "o", "."], **told)
+    words = ["--baseline", ".", "--out", "o", "a"]
+    yield explained("a folder as a baseline", {}, "baseline 0: ReadFailed (.)", words, **told)
+    for found, given in FORMS:
+        told = {"file": "a", "line": True, "column": True, "found": found, "advice": True}
+        yield explained(f"{found} as a log", {"a": given}, "log 0: NotJson", **told)
+
+
+# What isn't JSON, as --explain names it.
+FORMS = [
+    ("an empty file", b""),
+    ("a file with only white space", b"\r\n"),
+    ("a gzip file", gzip.compress(ONE)),
+    ("a ZIP file", b"PK\x03\x04\x14\x00\x00\x00"),
+    ("text in UTF-16", ONE.decode().encode("utf-16")),
+    ("text in UTF-16", ONE.decode().encode("utf-16-be")),
+    ("an HTML page", b"<!doctype html>\n<title>Sign in</title>\n"),
+    ("JSON Lines, an object on each line", b'{"ruleId":"a"}\n{"ruleId":"b"}\n'),
+]
+
+
 def explanations():
     eight = [plain() for _ in range(7)] + [plain(correlationGuid="x")]
     bad = log(run("lint", *eight))
@@ -453,6 +489,7 @@ def explanations():
     yield one("the same, not explained", words, stderr=line(place), **given)
     yield from explained_outputs()
     yield from explained_inputs(bad)
+    yield from explained_forms()
     evil = plain(correlationGuid="x\n\x1b[31m##\u202e")
     yield explained(
         "a value that tries to write lines",

@@ -133,10 +133,76 @@ def usage():
             stdout=b"",
             check=says_usage,
         )
+    yield from twice()
+    for words, told in EXPECTED:
+        yield usual(
+            f"what is said of {words}",
+            ["a", "--out", "o", *words.split()],
+            status=2,
+            stdout=b"",
+            check=lambda answer, told=told: says_usage(answer) + says_if_ours(answer, told),
+        )
     yield usual("no log is bad usage", ["--out", "o"], status=2, stdout=b"", check=says_usage)
     yield usual("no output is bad usage", ["a"], status=2, stdout=b"", check=says_usage)
     for word in ("--help", "-h"):
         yield usual(f"{word} is help", [word], stderr=b"", check=says_help)
+
+
+# What is said of a value that isn't a number or a date.
+A_DATE = "expected a date as YYYYMMDD, for example 20251128"
+A_NUMBER = "expected a number from 0 to 4294967295"
+EXPECTED = [
+    ("--today 2026-11-28", f"invalid value '2026-11-28' for '--today <YYYYMMDD>': {A_DATE}"),
+    ("--until 28.11.2026", f"invalid value '28.11.2026' for '--until <YYYYMMDD>': {A_DATE}"),
+    ("--max 10%", f"invalid value '10%' for '--max <NUMBER>': {A_NUMBER}"),
+    ("--max 4294967296", f"invalid value '4294967296' for '--max <NUMBER>': {A_NUMBER}"),
+    ("--workers four", "invalid value 'four' for '--workers <NUMBER>': expected a number from 1 to 64"),
+]
+
+# Arguments with a name that is twice among the logs or twice among the baselines, and what is said of it.
+ONE_FILE = "; --baseline takes one file, and the files after it are logs"
+TWICE = [
+    ("--out o a a", "the log a is passed twice"),
+    ("--out o b a c a", "the log a is passed twice"),
+    ("a --out o b b a", "the log a is passed twice"),
+    ("--out o - a -", "standard input (-) can be only one of the logs"),
+    ("--baseline b --baseline b --out o a", "the baseline b is passed twice"),
+    ("--baseline b --baseline c --baseline=b --out o a", "the baseline b is passed twice"),
+    ("--baseline - --baseline - --out o a", "the baseline - is passed twice"),
+    ("--baseline a b c b c --out o", f"the log b is passed twice{ONE_FILE}"),
+    ("--out o --baseline=a b c b", f"the log b is passed twice{ONE_FILE}"),
+    ("--baseline a --baseline a b c --out o", f"the baseline a is passed twice{ONE_FILE}"),
+    ("--baseline a b --out o b", "the log b is passed twice"),
+    # Before what is wrong with outputs, and logs before baselines.
+    ("--baseline b --baseline b --out a a a", "the log a is passed twice"),
+    ("--baseline b --baseline b --suppress o --text o --out o a", "the baseline b is passed twice"),
+]
+
+
+def twice():
+    for words, told in TWICE:
+        yield usual(
+            f"{words} has a name twice",
+            words.split(),
+            status=2,
+            stdout=b"",
+            check=lambda answer, told=told: says_usage(answer) + says_if_ours(answer, told),
+        )
+    many = [f"{number:0200}" for number in range(5_000)]
+    yield usual(
+        "the first of 5,000 long names, and again the last",
+        ["--out", "o", *many, many[0]],
+        status=2,
+        stdout=b"",
+        check=says_usage,
+    )
+
+
+def says_if_ours(answer, told):
+    """What our program says of its arguments; the second merger says only what it takes."""
+    wanted = f"error: {told}\n\nFor more information, try '--help'.\n".encode()
+    is_other = answer.stderr.startswith(b"Usage:")
+    return [f"{answer.stderr} and not {wanted}"] * (not is_other and answer.stderr != wanted)
 
 
 def says_usage(answer):
@@ -203,14 +269,14 @@ def files():
     yield one(
         "an old output is replaced", ["--out", "o", "a"], files={"o": b"x" * 9999}, out=ONE_MERGED
     )
-    yield one(
-        "a baseline may be its own output",
-        ["--baseline", "o", "--out", "o", "a"],
-        files={"o": ONE},
-        out=ONE_MERGED.replace(b'"new":{"active":[0,1', b'"new":{"active":[0,0')
+    known = (
+        ONE_MERGED.replace(b'"new":{"active":[0,1', b'"new":{"active":[0,0')
         .replace(b'"unchanged":{"active":[0,0', b'"unchanged":{"active":[0,1')
-        .replace(b'"baselineState":"new"', b'"baselineState":"unchanged"'),
+        .replace(b'"baselineState":"new"', b'"baselineState":"unchanged"')
     )
+    words = ["--baseline", "o", "--out", "o", "a"]
+    yield one("a baseline may be its own output", words, files={"o": ONE}, out=known)
+    yield one("a log may be a baseline too", ["--baseline", "a", "--out", "o", "a"], out=known)
     yield one(
         "no log is its own output",
         ["--out", "a", "a"],
@@ -284,7 +350,7 @@ def many():
     skipped = log(run("b", *[{"baselineState": "absent"}] * 2))
     fault = refused("baseline 0: TooMany")
     yield merging("baseline", "skipped results count", [bare(999_999)], [skipped], **fault)
-    names = ["a"] * 1_001
+    names = [f"n{number}" for number in range(1_001)]
     yield Case(
         "many",
         "1,001 logs, before any is read",

@@ -714,7 +714,9 @@ class Request:
         )
 
     def have_clash(self):
-        """Returns whether an output has the name of an input or of another output, where it may not."""
+        """Returns whether two logs or two baselines have one name, or an output has a name that it may not have."""
+        if len(set(self.logs)) < len(self.logs) or len(set(self.baselines)) < len(self.baselines):
+            return True
         outputs = ("out", "suppress-out", "known", *REPORTS, "unused")
         names = [it for it in outputs if it in self.given]
         files = [self.given[it] for it in names]

@@ -1,6 +1,6 @@
 """What the page of a merged log has to show, in plain Python.
 
-It follows the section on the page in docs/formats.md sentence by sentence, and takes the reported results from
+It follows crates/sarif_page/README.md sentence by sentence, and takes the reported results from
 `reference_reports.Reports`. It shares no code with the program.
 """
 

@@ -4,8 +4,8 @@
 tests/reference_reports.py text|github|markdown|gitlab|junit|azure [--fail-on L] [--max N] [--states LIST]
     [--root PREFIX].. LOG
 
-It follows the chapter on reports in docs/formats.md sentence by sentence. Its only inputs are the finished
-merged log and the policy. It shares no code with the program, so that a mistake in either shows as a difference.
+It follows the chapter on reports in docs/formats.md and crates/sarif_reports/README.md sentence by sentence. Its
+only inputs are the finished merged log and the policy. It shares no code with the program, so that a mistake in either shows as a difference.
 """
 
 import argparse

@@ -1,8 +1,5 @@
 //! Whole merges by four workers, of bytes and from readers into a writer.
-ghost use Rattle.std.specs.Prelude.{◌<◌, ◌^◌};
-ghost use Rattle.std.specs.List.{All};
-ghost use Rattle.sarif_streams.specs.Counted.{failed_calls};
-ghost use Rattle.sarif_streams.specs.OptionalReader.{failed_calls_if};
+ghost use Rattle.sarif_streams.specs.Room.{HaveRoom};
 
 use sarif_counts::{Checks, Options, Policy};
 use sarif_gather::NoGate;
@@ -111,9 +108,7 @@ fn write_merged<R: Threads + Wait + Sync>(
     seed: RandomState,
     readers: &mut Readers<&[u8]>,
 ) -> Result<String, AllocError>
-    requires logs { All (λ reader. failed_calls reader < 2 ^ 63) readers.old.logs.items }
-    requires baselines { All (λ reader. failed_calls reader < 2 ^ 63) readers.old.baselines.items }
-    requires suppressions { failed_calls_if readers.old.suppressions < 2 ^ 63 }
+    requires { HaveRoom readers.old }
 {
     // The writer has its memory before, since without it a write fails.
     let mut taken = Vec::with_capacity(alloc, ROOM)?;

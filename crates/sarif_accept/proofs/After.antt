@@ -1,5 +1,5 @@
 -- What a longer file makes of results.
-use Rattle.std.proofs.Common.{◌≡◌, ℕ, ◌<◌, zero, suc, Bool, true, false, ◌&&◌, ◌||◌, not, List, [], ◌∷◌, ◌++◌, length, map, get_or, Option, refl, sym, ap, ◌∙◌, arith, if◌then◌else◌, true≢false, append_assoc, append-nil}
+use Rattle.std.proofs.Common.{◌≡◌, ◌⊎◌, inl, inr, ℕ, ◌<◌, zero, suc, Bool, true, false, ◌&&◌, ◌||◌, not, List, [], ◌∷◌, ◌++◌, length, map, get_or, Option, refl, sym, ap, ◌∙◌, arith, if◌then◌else◌, true≢false, append_assoc, append-nil}
 use Rattle.std.specs.Prelude.{filter}
 use Rattle.std.specs.List.{list_any, list_all}
 use Rattle.std.proofs.lemmas.List.{map-append}
@@ -224,3 +224,16 @@ unused_stays heard file rs e kept unused =
     by_tests false true true e f = absurd (true≢false (sym e))
     by_tests false true false e f = (refl, refl)
     by_tests false false h e f = absurd (true≢false (sym f))
+
+-- the other way: an entry stays if it isn't expired, and matches a result or names a tool that wasn't heard
+pub unexpired_stays : (heard : Heard) (file : File) (rs : List Record) (e : Entry) → is_expired file.today e ≡ false → (is_unused file rs e ≡ false) ⊎ (heard (text_in kinds.Tool e.conditions) ≡ false)
+    → is_kept true heard file rs e ≡ true
+unexpired_stays heard file rs e valid why =
+    by_tests (is_expired file.today e) (is_unused file rs e) (heard (text_in kinds.Tool e.conditions)) valid why
+  where
+    by_tests : (x u h : Bool) → x ≡ false → (u ≡ false) ⊎ (h ≡ false) → not (x || (u && h)) ≡ true
+    by_tests true u h valid why = absurd (true≢false valid)
+    by_tests false false h valid why = refl
+    by_tests false true false valid why = refl
+    by_tests false true true valid (inl used) = absurd (true≢false used)
+    by_tests false true true valid (inr unheard) = absurd (true≢false unheard)

@@ -1,5 +1,5 @@
 //! Laws of accepting and pruning, each the contract of a function that does nothing.
-ghost use Rattle.std.specs.Prelude.{◌≡◌, ◌≤◌, ◌<◌, ◌^◌, ◌++◌, ◌∷◌, ◌&&◌, [], ℕ, List, Option, Ok, Some, true, false, not, length, map, get_or, IfSome};
+ghost use Rattle.std.specs.Prelude.{◌≡◌, ◌≤◌, ◌<◌, ◌^◌, ◌++◌, ◌∷◌, ◌&&◌, ◌⊎◌, [], ℕ, List, Option, Ok, Some, true, false, not, length, map, get_or, IfSome};
 ghost use Rattle.std.specs.List.{AllByRecursion};
 ghost use Rattle.serde_json.specs.Data.{Data, Members};
 ghost use Rattle.json_parts.specs.Indexed.{json_of};
@@ -81,8 +81,10 @@ pub fn a_new_file_keeps_suppressions()
 {}
 
 /// Without accepting, the new file adds the same suppressions to each current result as the old one. An entry that pruning
-/// keeps although it matches no current result isn't expired, and its tool wasn't heard.
-#[tactic(auto, using(crate::proofs::After::same_list, crate::proofs::After::unused_stays))]
+/// keeps although it matches no current result isn't expired, and its tool wasn't heard. The other way round, pruning keeps
+/// each entry that isn't expired if it matches a current result, or if its tool wasn't heard. Without pruning each entry is
+/// kept.
+#[tactic(auto, using(crate::proofs::After::same_list, crate::proofs::After::unused_stays, crate::proofs::After::unexpired_stays))]
 pub fn pruning_changes_no_result()
     ensures same { (how : How) (counts : Counts) (file : File) (rs : List Record)
         (states : List State) (r : Record) (i : ℕ) (own : List Data)
@@ -92,6 +94,12 @@ pub fn pruning_changes_no_result()
     ensures unused { (heard : Heard) (file : File) (rs : List Record) (e : Entry)
         → is_kept true heard file rs e ≡ true → is_unused file rs e ≡ true
         → (is_expired file.today e ≡ false) × (heard (text_in kinds.Tool e.conditions) ≡ false) }
+    ensures kept { (heard : Heard) (file : File) (rs : List Record) (e : Entry)
+        → is_expired file.today e ≡ false
+        → (is_unused file rs e ≡ false) ⊎ (heard (text_in kinds.Tool e.conditions) ≡ false)
+        → is_kept true heard file rs e ≡ true }
+    ensures unpruned { (heard : Heard) (file : File) (rs : List Record) (e : Entry)
+        → is_kept false heard file rs e ≡ true }
 {}
 
 /// The new file of one that was read is read for the same date: its entries are those that were kept, and then those

@@ -1,4 +1,5 @@
 //! What to do about an error: the table of sentences.
+use crate::hint::Hint;
 use sarif_model::{At, Cause, Fault, MergeFault, Source};
 
 /// What to do about an input past a limit.
@@ -35,7 +36,7 @@ fn advice_on_version(at: At, is_missing: bool) -> &'static str {
 }
 
 /// Returns what to do about an error in what was read.
-fn advice_on_fault(fault: Fault, at: At, is_missing: bool) -> &'static str {
+fn advice_on_fault(fault: Fault, at: At, hint: Hint) -> &'static str {
     match fault {
         Fault::NotJson => {
             "fix the file there, or check that the analyser ended normally and wrote the whole \
@@ -44,7 +45,7 @@ fn advice_on_fault(fault: Fault, at: At, is_missing: bool) -> &'static str {
         Fault::NotLog => {
             "check that you passed the right file, and that the analyser writes SARIF 2.1.0"
         }
-        Fault::WrongVersion => advice_on_version(at, is_missing),
+        Fault::WrongVersion => advice_on_version(at, hint == Hint::Missing),
         Fault::BadRun | Fault::BadRules => {
             "report it to the developers of the analyser, or fix the run before the merge"
         }
@@ -81,10 +82,28 @@ fn advice_on_fault(fault: Fault, at: At, is_missing: bool) -> &'static str {
     }
 }
 
-/// Returns the sentence that says what to do about an error. If `is_missing` is set, a member is missing.
-pub(crate) fn advice_on(fault: &MergeFault, is_missing: bool) -> &'static str {
+/// Returns the sentence that says what to do about an error, if that follows from the hint alone.
+fn advice_by_hint(hint: Hint) -> Option<&'static str> {
+    match hint {
+        Hint::None | Hint::Missing => None,
+        Hint::MergedLog => Some("this is a merged log; pass the logs of the analysers"),
+        Hint::SuppressionFile => Some("this is a suppression file; pass it with --suppress"),
+        Hint::OtherJson => Some(
+            "this is JSON, but not a SARIF log: check that you passed the right file, and that the \
+             analyser writes SARIF 2.1.0",
+        ),
+        Hint::Form(form) => Some(form.advice()),
+        Hint::Folder => Some("pass the file itself, not the folder that it is in"),
+    }
+}
+
+/// Returns the sentence that says what to do about an error, by what was found in the source.
+pub(crate) fn advice_on(fault: &MergeFault, hint: Hint) -> &'static str {
+    if let Some(advice) = advice_by_hint(hint) {
+        return advice;
+    }
     match fault.cause {
-        Cause::Of(wrong) => advice_on_fault(wrong, fault.at, is_missing),
+        Cause::Of(wrong) => advice_on_fault(wrong, fault.at, hint),
         Cause::TooLong => SPLIT,
         Cause::ReadFailed => "check that the file exists, is not a folder and is readable",
         Cause::WriteFailed => {

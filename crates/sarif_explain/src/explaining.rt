@@ -1,5 +1,7 @@
 //! The explanation of an error.
 use crate::advice::advice_on;
+use crate::form::form_of;
+use crate::hint::{Hint, hint_of};
 use crate::lines::{push_line, push_number, shortened};
 use crate::misfit::Misfit;
 use crate::wanted::Wanted;
@@ -18,6 +20,8 @@ pub struct FaultSource<'a> {
     pub bytes: &'a [u8],
     /// The system's message for the last failed call.
     pub system: Option<&'a str>,
+    /// Whether that message says that the file is a folder.
+    pub is_folder: bool,
 }
 
 /// Adds what was found: the text of the value, or that there is nothing.
@@ -57,44 +61,64 @@ fn push_misfit(alloc: Global, lines: &mut String, misfit: &Misfit<'_>) -> Result
     push_wanted(alloc, lines, misfit)
 }
 
-/// Adds the position of a JSON error, if that is the error, and what is expected.
+/// Adds the position of a JSON error, if that is the error, the form of the file, if it is known, and what is expected.
+/// Returns what the advice depends on.
 fn push_stop(
     alloc: Global,
     lines: &mut String,
     fault: &MergeFault,
     error: &Error,
-) -> Result<(), AllocError> {
+    bytes: &[u8],
+) -> Result<Hint, AllocError> {
     if error.is_memory() {
         return Err(AllocError);
     }
+    let mut hint = Hint::None;
     if fault.cause == Cause::Of(Fault::NotJson) {
         push_number(alloc, lines, "line", error.line())?;
         push_number(alloc, lines, "column", error.column())?;
+        if let Some(form) = form_of(alloc, bytes)? {
+            push_line(alloc, lines, "found", form.name())?;
+            hint = Hint::Form(form);
+        }
     }
-    push_sentence(alloc, lines, wanted_by(fault))
+    push_sentence(alloc, lines, wanted_by(fault))?;
+    Ok(hint)
 }
 
-/// Adds the position of the error, what was found there, and what is expected. Returns whether a member is missing.
+/// Adds what is expected after an error that is not one in what was read, and what was found if that is a folder.
+/// Returns what the advice depends on.
+fn push_unread(
+    alloc: Global,
+    lines: &mut String,
+    fault: &MergeFault,
+    is_folder: bool,
+) -> Result<Hint, AllocError> {
+    let is_folder = is_folder && fault.cause == Cause::ReadFailed;
+    if is_folder {
+        push_line(alloc, lines, "found", "a folder")?;
+    }
+    push_sentence(alloc, lines, wanted_by(fault))?;
+    Ok(if is_folder { Hint::Folder } else { Hint::None })
+}
+
+/// Adds the position of the error, what was found there, and what is expected. Returns what the advice depends on.
 fn push_spot(
     alloc: Global,
     lines: &mut String,
     fault: &MergeFault,
-    bytes: &[u8],
-) -> Result<bool, AllocError> {
+    source: &FaultSource<'_>,
+) -> Result<Hint, AllocError> {
     let Cause::Of(wrong) = fault.cause else {
-        push_sentence(alloc, lines, wanted_by(fault))?;
-        return Ok(false);
+        return push_unread(alloc, lines, fault, source.is_folder);
     };
-    match Value::from_slice(alloc, without_mark(bytes)) {
+    match Value::from_slice(alloc, without_mark(source.bytes)) {
         Ok(value) => {
             let misfit = misfit_of(alloc, &value, fault.at, wrong)?;
             push_misfit(alloc, lines, &misfit)?;
-            Ok(misfit.missing.is_some())
+            Ok(hint_of(&value, wrong, misfit.missing.is_some()))
         }
-        Err(error) => {
-            push_stop(alloc, lines, fault, &error)?;
-            Ok(false)
-        }
+        Err(error) => push_stop(alloc, lines, fault, &error, source.bytes),
     }
 }
 
@@ -116,8 +140,8 @@ fn push_system(
 /// Returns the lines of an explanation. Each line is two spaces, a name, a colon, a space, a string and a newline.
 /// The known lines are in this order: `file`; `where`, a JSON pointer (RFC 6901) to the invalid value, or to the
 /// object in which a member is missing; `line` and `column` of a JSON error; `found`, the beginning of the value's
-/// compact JSON, or `nothing`; `wanted`; `system`; `advice`. Strings are shown as in reports. Returns `AllocError`
-/// if memory runs out.
+/// compact JSON, `nothing`, the form of a file that is not JSON, or a folder; `wanted`; `system`; `advice`. Strings are
+/// shown as in reports. Returns `AllocError` if memory runs out.
 pub fn explanation(
     alloc: Global,
     fault: &MergeFault,
@@ -127,9 +151,9 @@ pub fn explanation(
     if !source.file.is_empty() {
         push_line(alloc, &mut lines, "file", source.file)?;
     }
-    let is_missing = push_spot(alloc, &mut lines, fault, source.bytes)?;
+    let hint = push_spot(alloc, &mut lines, fault, source)?;
     push_system(alloc, &mut lines, fault.cause, source.system)?;
-    let advice = advice_on(fault, is_missing);
+    let advice = advice_on(fault, hint);
     push_line(alloc, &mut lines, "advice", advice)?;
     Ok(lines)
 }

@@ -7,6 +7,8 @@ mod checks;
 mod entry;
 mod explaining;
 mod fitting;
+mod form;
+mod hint;
 mod lines;
 mod misfit;
 mod output;

@@ -14,7 +14,6 @@ use Rattle.sarif_program.specs.Run.{IsRun, Views}
 use Rattle.sarif_program.specs.Writing.{writer_failures}
 use Rattle.sarif_request.specs.declared.request.Request.{Request}
 use Rattle.sarif_request.specs.declared.words.WordsFault.{WordsFault}
-use Rattle.sarif_request.specs.Plain.{IsPlain}
 use Rattle.sarif_request.specs.Words.{Answers, words_status}
 use Rattle.sarif_streams.specs.declared.input.Input.{Input}
 use Rattle.sarif_streams.specs.declared.kept.Kept.{Kept}
@@ -81,12 +80,7 @@ unmade_status = exit_status OutOfMemory
 abbrev pub IsServed : Request → ℕ → Type 0
 IsServed request status = IsRunOf request status ⊎ (status ≡ unmade_status)
 
--- and for arguments: what they request; or, if they make no request, it reports why
+-- and for arguments that are read: what they request; or, if they make no request, it reports why
 abbrev pub AreServed : List (List ℕ) → ℕ → Type 0
 AreServed words status = (asked : Result Request WordsFault) × Answers words asked
     × MatchResult asked (λ request. IsServed request status) (λ fault. status ≡ words_status fault)
-
--- and without arguments
-abbrev pub IsServedPlain : ℕ → Type 0
-IsServedPlain status = ((request : Request) × IsPlain request × IsRunOf request status)
-    ⊎ (status ≡ unmade_status)

@@ -194,27 +194,19 @@ fn of_source(
     bytes: &[u8],
     error: Option<io::Error>,
 ) -> Result<String, AllocError> {
+    let mut source = FaultSource {
+        file,
+        bytes,
+        system: None,
+        is_folder: false,
+    };
     match error {
         Some(error) => {
             let system = error.to_string(alloc)?;
-            by_system(alloc, fault, file, bytes, Some(system.as_str()))
+            source.system = Some(system.as_str());
+            source.is_folder = error.kind() == io::ErrorKind::IsADirectory;
+            explanation(alloc, fault, &source)
         }
-        None => by_system(alloc, fault, file, bytes, None),
+        None => explanation(alloc, fault, &source),
     }
-}
-
-/// Returns the explanation of an error in a source with this name, these bytes and this system message.
-fn by_system<'a>(
-    alloc: Global,
-    fault: &MergeFault,
-    file: &'a str,
-    bytes: &'a [u8],
-    system: Option<&'a str>,
-) -> Result<String, AllocError> {
-    let source = FaultSource {
-        file,
-        bytes,
-        system,
-    };
-    explanation(alloc, fault, &source)
 }

@@ -1,8 +1,9 @@
 //! Merges SARIF 2.1.0 logs, and fails if too many new or updated results are left.
 #![tactic(auto)]
 
-ghost use Rattle.std.specs.Prelude.{◌≡◌, [], map, string_bytes};
-ghost use Rattle.sarif_gate.specs.Served.{AreServed, IsServed, IsServedPlain, unmade_status};
+ghost use Rattle.std.specs.Prelude.{◌≡◌, map, string_bytes};
+ghost use Rattle.sarif_gate.specs.Served.{AreServed, IsServed, unmade_status};
+ghost use Rattle.sarif_request.specs.Words.{words_read};
 
 mod explaining;
 mod job;
@@ -13,7 +14,7 @@ mod sources;
 use job::Job;
 use sarif_model::MergeFault;
 use sarif_program::{Complaint, Complaints, ExitStatus, seed_of};
-use sarif_request::{Request, WordsFault, read_words};
+use sarif_request::{Request, WordsFault, plain_words, read_words};
 use std::alloc::AllocError;
 use std::hash::RandomState;
 use std::io::IsTerminal;
@@ -41,34 +42,22 @@ fn words_of(rt: &HostRuntime) -> io::Result<(Vec<String>, RandomState)> {
     Ok((words, seed_of(rt)?))
 }
 
-/// Does what the arguments request. Without arguments it merges one log from standard input to standard output.
+/// Does what the arguments request. Without arguments it does what `plain_words` request: it merges one log from
+/// standard input to standard output.
 fn run<T: Threads + Wait + Sync>(
     rt: &HostRuntime,
     threads: &T,
     seed: RandomState,
     words: &[String],
 ) -> ExitStatus
-    ensures plain { words.now ≡ [] → IsServedPlain result }
-    ensures asked { (words.now ≡ [] → ⊥) → AreServed (map string_bytes words.now) result }
+    ensures { AreServed (words_read (map string_bytes words.now)) result }
 {
-    if words.is_empty() {
-        tell_terminal(rt);
-        run_streams(rt, threads, seed)
-    } else {
-        run_words(rt, threads, seed, words)
+    if !words.is_empty() {
+        return run_words(rt, threads, seed, words);
     }
-}
-
-/// Merges one log from standard input to standard output, and writes the summary or the error to standard error.
-fn run_streams<T: Threads + Wait + Sync>(
-    rt: &HostRuntime,
-    threads: &T,
-    seed: RandomState,
-) -> ExitStatus
-    ensures { IsServedPlain result }
-{
-    match Request::of_standard_streams(rt.alloc(), seed) {
-        Ok(request) => serve(rt, threads, &request),
+    tell_terminal(rt);
+    match plain_words(rt.alloc()) {
+        Ok(plain) => run_words(rt, threads, seed, plain.as_slice()),
         Err(error) => tell_unmade(rt, error),
     }
 }

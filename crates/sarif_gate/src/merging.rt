@@ -1,8 +1,8 @@
 //! The merge of streams, with or without an explanation.
-ghost use Rattle.std.specs.Prelude.{◌≡◌, ◌<◌, ◌^◌, None};
-ghost use Rattle.std.specs.List.{All};
+ghost use Rattle.std.specs.Prelude.{◌≡◌, None};
 ghost use Rattle.sarif_streams.specs.Counted.{failed_calls};
-ghost use Rattle.sarif_streams.specs.OptionalReader.{failed_calls_if};
+ghost use Rattle.sarif_streams.specs.Room.{HaveRoom};
+ghost use Rattle.sarif_program.specs.Writing.{WritersHaveRoom};
 ghost use Rattle.sarif_gate.specs.Served.{HasRun};
 
 use crate::explaining::Ended;
@@ -24,12 +24,8 @@ pub fn merge_streams<'a, T: Threads + Wait + Sync>(
     readers: &mut Readers<Source<'a>>,
     writers: &mut Outputs<'a>,
 ) -> ExitStatus
-    requires logs { All (λ reader. failed_calls reader < 2 ^ 63) readers.old.logs.items }
-    requires baselines { All (λ reader. failed_calls reader < 2 ^ 63) readers.old.baselines.items }
-    requires suppressions { failed_calls_if readers.old.suppressions < 2 ^ 63 }
-    requires writes { failed_calls writers.old.out < 2 ^ 63 }
-    requires reports { All (λ report. failed_calls report.to < 2 ^ 63) writers.old.reports.items }
-    requires says { failed_calls writers.old.say < 2 ^ 63 }
+    requires readers { HaveRoom readers.old }
+    requires writers { WritersHaveRoom writers.old }
     ensures { HasRun «request».now readers.old readers.new writers.old writers.new result }
 {
     let mut complaints = complaints_of(rt, request);

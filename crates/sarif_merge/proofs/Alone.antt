@@ -1,8 +1,8 @@
 -- A merge from which nothing was requested for later merges.
 use Rattle.std.proofs.Common.{◌≡◌, ◌⊎◌, ℕ, List, Option, Some, inl, inr}
 use Rattle.std.specs.Prelude.{None}
-use Rattle.sarif_counts.specs.declared.checks.Checks.{Checks}
 use Rattle.sarif_counts.specs.declared.life.Life.{Life}
+use Rattle.sarif_counts.specs.declared.options.Options.{Options}
 use Rattle.sarif_counts.specs.declared.policy.Policy.{Policy}
 use Rattle.sarif_counts.specs.declared.upkeep.Upkeep.{Upkeep}
 use Rattle.sarif_findings.specs.declared.reporting.Reporting.{Reporting}
@@ -16,28 +16,28 @@ use Rattle.sarif_streams.specs.declared.readers.Readers.{Readers}
 use Rattle.sarif_merge.specs.FromReaders.{IsMergedFrom, IsMergedWith, IsRefused, IsRefusedWith}
 
 -- the merge that was read is that of the log alone
-pub merged_alone : {R : Type 0} → (remaining : R → Option (List ℕ)) → (old new : Readers R) → (today : Option ℕ) → (checks : Checks) → (policy : Policy) → (asked : Option Reporting) → (upkeep : Option Upkeep) → (merged : Merged)
-    → IsMergedWith remaining old new today checks policy asked upkeep merged → IsMergedFrom remaining old new today checks policy asked merged
-merged_alone remaining old new today checks policy asked upkeep merged with_life = (with_life.0, with_life.1, with_life.2)
+pub merged_alone : {R : Type 0} → (remaining : R → Option (List ℕ)) → (old new : Readers R) → (options : Options) → (asked : Option Reporting) → (upkeep : Option Upkeep) → (merged : Merged)
+    → IsMergedWith remaining old new options asked upkeep merged → IsMergedFrom remaining old new options asked merged
+merged_alone remaining old new options asked upkeep merged with_life = (with_life.0, with_life.1, with_life.2)
 
 -- there is nothing for later merges
 pub life_alone : (inputs : Inputs) (policy : Policy) (life : Life) → IsLifeOf inputs policy None life → life ≡ no_life
 life_alone inputs policy life kept = kept.is
 
-pub kept_alone : {R : Type 0} → (remaining : R → Option (List ℕ)) → (old new : Readers R) → (today : Option ℕ) → (checks : Checks) → (policy : Policy) → (asked : Option Reporting) → (merged : Merged)
-    → IsMergedWith remaining old new today checks policy asked None merged → merged.life ≡ no_life
-kept_alone remaining old new today checks policy asked merged with_life = with_life.3.is
+pub kept_alone : {R : Type 0} → (remaining : R → Option (List ℕ)) → (old new : Readers R) → (options : Options) → (asked : Option Reporting) → (merged : Merged)
+    → IsMergedWith remaining old new options asked None merged → merged.life ≡ no_life
+kept_alone remaining old new options asked merged with_life = with_life.3.is
 
 -- and it is rejected for no other reason
-pub refused_alone : {R : Type 0} → (remaining : R → Option (List ℕ)) → (old new : Readers R) → (today : Option ℕ) → (checks : Checks) → (policy : Policy) → (fault : MergeFault)
-    → IsRefusedWith remaining old new today checks policy None fault → IsRefused remaining old new today checks fault
-refused_alone remaining old new today checks policy fault refused = elim refused [ inl same ↦ same | inr large ↦ let never : ⊥ = cc large.1.3 in absurd never ]
+pub refused_alone : {R : Type 0} → (remaining : R → Option (List ℕ)) → (old new : Readers R) → (options : Options) → (fault : MergeFault)
+    → IsRefusedWith remaining old new options None fault → IsRefused remaining old new options fault
+refused_alone remaining old new options fault refused = elim refused [ inl same ↦ same | inr large ↦ let never : ⊥ = cc large.1.3 in absurd never ]
 
 pub refusal_alone : (inputs : Inputs) (policy : Policy) (fault : MergeFault) → IsRefusal inputs policy None fault → IsOutOfResources fault ⊎ (first_fault inputs ≡ Some fault)
 refusal_alone inputs policy fault (inl same) = same
 refusal_alone inputs policy fault (inr large) = let never : ⊥ = cc large.1 in absurd never
 
 -- what rejects the merge of the log alone rejects the merge
-pub refused_first : {R : Type 0} → (remaining : R → Option (List ℕ)) → (old new : Readers R) → (today : Option ℕ) → (checks : Checks) → (policy : Policy) → (upkeep : Option Upkeep) → (fault : MergeFault)
-    → IsRefused remaining old new today checks fault → IsRefusedWith remaining old new today checks policy upkeep fault
-refused_first remaining old new today checks policy upkeep fault refused = inl refused
+pub refused_first : {R : Type 0} → (remaining : R → Option (List ℕ)) → (old new : Readers R) → (options : Options) → (upkeep : Option Upkeep) → (fault : MergeFault)
+    → IsRefused remaining old new options fault → IsRefusedWith remaining old new options upkeep fault
+refused_first remaining old new options upkeep fault refused = inl refused

@@ -7,8 +7,7 @@ use Rattle.sarif_model.specs.declared.refusal.Refusal.{Refusal}
 use Rattle.sarif_streams.specs.declared.readers.ReadersFault.{ReadersFault}
 use Rattle.sarif_streams.specs.ReadersFault.{fault_of_readers}
 use Rattle.sarif_streams.specs.WereRead.{SourceContents, HasStoppedAt, WereRead}
-use Rattle.sarif_counts.specs.declared.checks.Checks.{Checks}
-use Rattle.sarif_counts.specs.declared.policy.Policy.{Policy}
+use Rattle.sarif_counts.specs.declared.options.Options.{Options}
 use Rattle.sarif_counts.specs.declared.upkeep.Upkeep.{Upkeep}
 use Rattle.sarif_findings.specs.declared.reporting.Reporting.{Reporting}
 use Rattle.sarif_log.specs.declared.merged.Merged.{Merged}
@@ -30,10 +29,10 @@ IsStopped remaining old new fault =
 -- all sources were read, and the merge of what was read is rejected: memory ran out, a thread could not be
 -- started, or this is the first error
 abbrev pub IsAtFault : {R : Type 0} → (R → Option (List ℕ)) → Readers R → Readers R
-    → Option ℕ → Checks → MergeFault → Type 0
-IsAtFault remaining old new today checks fault =
+    → Options → MergeFault → Type 0
+IsAtFault remaining old new options fault =
     (contents : SourceContents) × WereRead remaining old new contents
-    × (IsOutOfResources fault ⊎ (first_fault (given_by contents today checks) ≡ Some fault))
+    × (IsOutOfResources fault ⊎ (first_fault (given_by contents options) ≡ Some fault))
 
 -- neither logs nor baselines are too many
 abbrev pub AreFew : {R : Type 0} → Readers R → Type 0
@@ -42,42 +41,47 @@ AreFew all = (length all.logs.items ≤ most_sources) × (length all.baselines.i
 -- a rejection before anything is written: too many sources, otherwise what ended reading, otherwise the first
 -- error of what was read
 abbrev pub IsRefused : {R : Type 0} → (R → Option (List ℕ)) → Readers R → Readers R
-    → Option ℕ → Checks → MergeFault → Type 0
-IsRefused remaining old new today checks fault =
+    → Options → MergeFault → Type 0
+IsRefused remaining old new options fault =
     IsTooMany (length old.logs.items) (length old.baselines.items) fault
     ⊎ (AreFew old × (IsStopped remaining old new fault
-    ⊎ IsAtFault remaining old new today checks fault))
+    ⊎ IsAtFault remaining old new options fault))
 
 -- all sources were read, and this is the merge of what was read
 abbrev pub IsMergedFrom : {R : Type 0} → (R → Option (List ℕ)) → Readers R → Readers R
-    → Option ℕ → Checks → Policy → Option Reporting → Merged → Type 0
-IsMergedFrom remaining old new today checks policy asked merged =
+    → Options → Option Reporting → Merged → Type 0
+IsMergedFrom remaining old new options asked merged =
     (contents : SourceContents) × WereRead remaining old new contents
-    × IsMerged (given_by contents today checks) policy asked merged
+    × IsMerged (given_by contents options) options.policy asked merged
 
 -- the same, with what is for later merges
 abbrev pub IsMergedWith : {R : Type 0} → (R → Option (List ℕ)) → Readers R → Readers R
-    → Option ℕ → Checks → Policy → Option Reporting → Option Upkeep → Merged → Type 0
-IsMergedWith remaining old new today checks policy asked upkeep merged =
+    → Options → Option Reporting → Option Upkeep → Merged → Type 0
+IsMergedWith remaining old new options asked upkeep merged =
     (contents : SourceContents) × WereRead remaining old new contents
-    × IsMerged (given_by contents today checks) policy asked merged
-    × IsLifeOf (given_by contents today checks) policy upkeep merged.life
+    × IsMerged (given_by contents options) options.policy asked merged
+    × IsLifeOf (given_by contents options) options.policy upkeep merged.life
+
+-- the first file that was requested for later merges and is too large to be read again
+abbrev pub IsTooLargeWith : SourceContents → Options → Option Upkeep → MergeFault → Type 0
+IsTooLargeWith contents options upkeep fault =
+    IsTooLarge (given_by contents options) options.policy upkeep fault
 
 -- a rejection before anything is written, of a merge with what is for later merges: after the errors of the inputs
 -- comes what is too large to be read again
 abbrev pub IsRefusedWith : {R : Type 0} → (R → Option (List ℕ)) → Readers R → Readers R
-    → Option ℕ → Checks → Policy → Option Upkeep → MergeFault → Type 0
-IsRefusedWith remaining old new today checks policy upkeep fault =
-    IsRefused remaining old new today checks fault
+    → Options → Option Upkeep → MergeFault → Type 0
+IsRefusedWith remaining old new options upkeep fault =
+    IsRefused remaining old new options fault
     ⊎ (AreFew old × ((contents : SourceContents) × WereRead remaining old new contents
-    × (faults_of (given_by contents today checks) ≡ [])
-    × IsTooLarge (given_by contents today checks) policy upkeep fault))
+    × (faults_of (given_by contents options) ≡ [])
+    × IsTooLargeWith contents options upkeep fault))
 
 -- all sources were read, they have no errors, and a proper prefix of the text was written
 abbrev pub IsPartlyWritten : {R : Type 0} → (R → Option (List ℕ)) → Readers R → Readers R
-    → Option ℕ → Checks → Policy → Option (List ℕ) → Option (List ℕ) → Type 0
-IsPartlyWritten remaining old new today checks policy before after =
+    → Options → Option (List ℕ) → Option (List ℕ) → Type 0
+IsPartlyWritten remaining old new options before after =
     (contents : SourceContents) × WereRead remaining old new contents
-    × (faults_of (given_by contents today checks) ≡ [])
-    × ((n : ℕ) × (n < length (output_text (given_by contents today checks) policy))
-    × Appends before after (take n (output_text (given_by contents today checks) policy)))
+    × (faults_of (given_by contents options) ≡ [])
+    × ((n : ℕ) × (n < length (output_text (given_by contents options) options.policy))
+    × Appends before after (take n (output_text (given_by contents options) options.policy)))

@@ -1,27 +1,26 @@
 -- What a merge is given.
-use Rattle.std.specs.Prelude.{ℕ, List, Option}
+use Rattle.std.specs.Prelude.{ℕ, Option}
 use Rattle.sarif_streams.specs.declared.readers.SourceBytes.{SourceBytes}
 use Rattle.sarif_streams.specs.WereRead.{SourceContents, contents_of}
 use Rattle.sarif_inputs.specs.Inputs.{Inputs}
 use Rattle.sarif_counts.specs.declared.checks.Checks.{Checks}
 use Rattle.sarif_counts.specs.declared.options.Options.{Options}
 
--- what is given as these bytes
-abbrev pub given : List (List ℕ) → List (List ℕ) → Option (List ℕ) → Option ℕ → Checks → Inputs
-given logs baselines suppressions today checks =
+-- the inputs of a merge of these sources, with today's date and what is required of runs
+abbrev pub inputs_with : SourceContents → Option ℕ → Checks → Inputs
+inputs_with contents today checks =
     record {
-      logs = logs;
-      baselines = baselines;
-      suppressions = suppressions;
+      logs = contents.logs;
+      baselines = contents.baselines;
+      suppressions = contents.suppressions;
       today = today;
       checks = checks;
     }
 
--- the same for a date, and for what is required of runs
-abbrev pub given_by : SourceContents → Option ℕ → Checks → Inputs
-given_by contents today checks =
-    given contents.logs contents.baselines contents.suppressions today checks
+-- the inputs of a merge of these sources under these options
+abbrev pub given_by : SourceContents → Options → Inputs
+given_by contents options = inputs_with contents options.today options.checks
 
--- the inputs of a merge of these sources
+-- the inputs of a merge of sources that are held as bytes
 abbrev pub inputs_of : SourceBytes → Options → Inputs
-inputs_of sources options = given_by (contents_of sources) options.today options.checks
+inputs_of sources options = given_by (contents_of sources) options

@@ -1,10 +1,9 @@
 //! The merge from readers into a writer.
 ghost use Rattle.std.specs.Prelude.{◌≡◌, ◌<◌, ◌≤◌, ◌^◌, false, Ok, None, IfOk, IfErr, length};
-ghost use Rattle.std.specs.List.{All};
 ghost use Rattle.std.specs.Io.KnownBytes.{Appends};
 ghost use Rattle.sarif_streams.specs.Counted.{inner_of, failed_calls, RisesIf};
 ghost use Rattle.sarif_model.specs.MergeFault.{read_failed_in, write_failed_in};
-ghost use Rattle.sarif_streams.specs.OptionalReader.{failed_calls_if};
+ghost use Rattle.sarif_streams.specs.Room.{HaveRoom};
 ghost use Rattle.sarif_log.specs.Beside.{IsMadeBy};
 ghost use Rattle.sarif_prepare.specs.Asked.{reporting_in, upkeep_in};
 ghost use Rattle.sarif_merge.specs.FromReaders.{IsMergedFrom, IsMergedWith, IsPartlyWritten, IsRefused, IsRefusedWith, IsStopped};
@@ -34,9 +33,7 @@ use std::thread::Threads;
 fn read_all<R: Read>(alloc: Global, readers: &mut Readers<R>) -> Result<SourceBytes, MergeFault>
     requires few_logs { length readers.old.logs.items ≤ most_sources }
     requires few_baselines { length readers.old.baselines.items ≤ most_sources }
-    requires logs { All (λ reader. failed_calls reader < 2 ^ 63) readers.old.logs.items }
-    requires baselines { All (λ reader. failed_calls reader < 2 ^ 63) readers.old.baselines.items }
-    requires suppressions { failed_calls_if readers.old.suppressions < 2 ^ 63 }
+    requires room { HaveRoom readers.old }
     ensures read { IfOk result
         (λ sources. WereRead R.remaining readers.old readers.new (contents_of sources)) }
     ensures few_logs { IfOk result (λ sources. length sources.logs.items ≤ most_sources) }
@@ -76,20 +73,16 @@ pub fn merge_readers<
     observer: &G,
     tell: Tell,
 ) -> Result<(Merged, B), MergeFault>
-    requires logs { All (λ reader. failed_calls reader < 2 ^ 63) readers.old.logs.items }
-    requires baselines { All (λ reader. failed_calls reader < 2 ^ 63) readers.old.baselines.items }
-    requires suppressions { failed_calls_if readers.old.suppressions < 2 ^ 63 }
+    requires room { HaveRoom readers.old }
     requires tells { Tell.IsAlwaysCallable tell }
     // Ok is returned only if all sources were read and have no errors; the result is the merge of these, with its
     // findings and with what is for later merges.
     ensures merged { IfOk result (λ made. IsMergedWith R.remaining readers.old readers.new
-        asked.now.options.now.today asked.now.options.now.checks asked.now.options.now.policy
-        (reporting_in asked.now) (upkeep_in asked.now) made.0) }
+        asked.now.options.now (reporting_in asked.now) (upkeep_in asked.now) made.0) }
     // And what was made of it.
     ensures told { IfOk result (λ made. IsMadeBy Tell.FnOnce tell made.0 (Ok made.1)) }
     ensures refused { IfErr result (IsRefusedWith R.remaining readers.old readers.new
-        asked.now.options.now.today asked.now.options.now.checks asked.now.options.now.policy
-        (upkeep_in asked.now)) }
+        asked.now.options.now (upkeep_in asked.now)) }
     // A failed read is reported as such, and only one.
     ensures read_failed { RisesIf (read_failed_in result)
         (failures readers.old) (failures readers.new) }
@@ -114,14 +107,11 @@ pub fn merge_to<R: Read, W: Write, G: Gate + Sync, T: Threads + Wait + Sync>(
     options: &Options,
     observer: &G,
 ) -> Result<Merged, MergeFault>
-    requires logs { All (λ reader. failed_calls reader < 2 ^ 63) readers.old.logs.items }
-    requires baselines { All (λ reader. failed_calls reader < 2 ^ 63) readers.old.baselines.items }
-    requires suppressions { failed_calls_if readers.old.suppressions < 2 ^ 63 }
+    requires room { HaveRoom readers.old }
     requires writes { failed_calls out.old < 2 ^ 63 }
     // Ok is returned only if all sources were read and have no errors; the result is the merge of these.
     ensures merged { IfOk result
-        (IsMergedFrom R.remaining readers.old readers.new options.now.today options.now.checks
-        options.now.policy None) }
+        (IsMergedFrom R.remaining readers.old readers.new options.now None) }
     // Nothing is for later merges.
     ensures life { IfOk result (λ merged. merged.life ≡ no_life) }
     // The text was written, and nothing else.
@@ -129,12 +119,12 @@ pub fn merge_to<R: Read, W: Write, G: Gate + Sync, T: Threads + Wait + Sync>(
         (W.contents (inner_of out.new)) merged.log) }
     // A rejection before writing, and its cause.
     ensures refused { IfErr result (λ fault. (fault.cause ≡ WriteFailed → ⊥) → IsRefused R.remaining
-        readers.old readers.new options.now.today options.now.checks fault) }
+        readers.old readers.new options.now fault) }
     ensures untouched { IfErr result
         (λ fault. (fault.cause ≡ WriteFailed → ⊥) → out.new ≡ out.old) }
     // A rejection while writing.
     ensures part { IfErr result (λ fault. fault.cause ≡ WriteFailed → IsPartlyWritten R.remaining
-        readers.old readers.new options.now.today options.now.checks options.now.policy
+        readers.old readers.new options.now
         (W.contents (inner_of out.old)) (W.contents (inner_of out.new))) }
     ensures place { IfErr result (λ fault. fault.cause ≡ WriteFailed → fault.at ≡ Whole Output) }
     ensures read_failed { RisesIf (read_failed_in result)

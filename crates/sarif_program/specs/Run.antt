@@ -1,32 +1,36 @@
--- What one run of a request does: the contract of `run_request` as one fact, for what cites it.
-use Rattle.std.specs.Prelude.{◌≡◌, ◌<◌, ◌≤◌, ◌+◌, ◌⊎◌, ◌↔◌, ℕ, List, [], Option, None, Some, nat_eq}
+-- What one run of a request does.
+use Rattle.std.specs.Prelude.{◌≡◌, ◌<◌, ◌≤◌, ◌+◌, ◌^◌, ◌⊎◌, ◌↔◌, ℕ, List, Option, None, Some, nat_eq}
 use Rattle.std.specs.Io.KnownBytes.{Appends}
 use Rattle.std.specs.List.{AllZip}
 use Rattle.sarif_counts.specs.Counts.{count_at}
 use Rattle.sarif_counts.specs.Summary.{summary_of}
-use Rattle.sarif_inputs.specs.Faults.{faults_of}
 use Rattle.sarif_log.specs.declared.merged.Merged.{Merged}
 use Rattle.sarif_merge.specs.FromReaders.{IsMergedWith}
-use Rattle.sarif_merge.specs.Given.{given_by}
-use Rattle.sarif_merge.specs.Life.{IsTooLarge}
-use Rattle.sarif_model.specs.declared.merge_fault.MergeFault.{MergeFault}
 use Rattle.sarif_request.specs.declared.request.Request.{Request}
 use Rattle.sarif_streams.specs.declared.readers.Readers.{Readers}
-use Rattle.sarif_streams.specs.Counted.{inner_of, RisesIf}
-use Rattle.sarif_streams.specs.WereRead.{failures, AllTell, NoNumberFalls, SourceContents, WereRead}
+use Rattle.sarif_streams.specs.Counted.{failed_calls, inner_of, RisesIf}
+use Rattle.sarif_streams.specs.Room.{HaveRoom}
+use Rattle.sarif_streams.specs.WereRead.{failures, NoNumberFalls}
 use Rattle.sarif_program.specs.declared.complaint.Complaints.{Complaints}
 use Rattle.sarif_program.specs.declared.writers.Writers.{Writers}
 use Rattle.sarif_program.specs.Lost.{HasLost, Held, texts_of_merge}
 use Rattle.sarif_program.specs.Notes.{AreNoted, lines_of}
-use Rattle.sarif_program.specs.Rejected.{IsRejected}
+use Rattle.sarif_program.specs.Rejected.{HasNoMerge, IsRejected, WereFaulty}
 use Rattle.sarif_program.specs.Reports.{IsWritten, report_for, reporting_for}
 use Rattle.sarif_program.specs.Status.{verdict_status}
-use Rattle.sarif_program.specs.Writing.{NoWriterFalls, ReaderRises, WriterRises, writer_failures}
+use Rattle.sarif_program.specs.Writing.{NoWriterFalls, ReaderRises, WriterRises, WritersHaveRoom, writer_failures}
 
 -- what a reader has left, and what the writers hold, if they say so
 pub record Views (R W S P E : Type 0) : Type 0 where
   pub remaining : R → Option (List ℕ)
   pub held : Held W S P E
+
+abbrev pub views_of : {R W S P E : Type 0} → (R → Option (List ℕ)) → (W → Option (List ℕ))
+    → (S → Option (List ℕ)) → (P → Option (List ℕ)) → (E → Option (List ℕ)) → Views R W S P E
+views_of remaining log summary report messages = record {
+  remaining = remaining;
+  held = record { log = log; report = report; summary = summary; messages = messages };
+}
 
 -- the sources, the outputs and the error messages of a run
 pub record Streams (R W S P E : Type 0) : Type 0 where
@@ -34,17 +38,27 @@ pub record Streams (R W S P E : Type 0) : Type 0 where
   pub writers : Writers W S P
   pub complaints : Complaints E
 
+abbrev pub streams : {R W S P E : Type 0} → Readers R → Writers W S P → Complaints E
+    → Streams R W S P E
+streams readers writers complaints =
+    record { readers = readers; writers = writers; complaints = complaints }
+
+-- one more failed call of each reader and of each writer can be counted
+pub record AllHaveRoom {R W S P E : Type 0} (all : Streams R W S P E) : Type 0 where
+  pub readers : HaveRoom all.readers
+  pub writers : WritersHaveRoom all.writers
+  pub messages : failed_calls all.complaints.out < 2 ^ 63
+
 -- the merge of what was read
 abbrev pub IsMergeOf : {R W S P E : Type 0} → Views R W S P E → Request → Streams R W S P E
     → Streams R W S P E → Merged → Type 0
 IsMergeOf views request old new merged =
-    IsMergedWith views.remaining old.readers new.readers request.options.today
-    request.options.checks request.options.policy (reporting_for request old.writers.reports.items)
-    (Some request.upkeep) merged
+    IsMergedWith views.remaining old.readers new.readers request.options
+    (reporting_for request old.writers.reports.items) (Some request.upkeep) merged
 
 -- the status is that of the verdict of this merge of what was read; the log, the other outputs, the lines on what is
 -- for later merges and the summary were written
-pub record IsAccepted {R W S P E : Type 0} (views : Views R W S P E) (request : Request)
+pub record IsAcceptedAs {R W S P E : Type 0} (views : Views R W S P E) (request : Request)
     (old new : Streams R W S P E) (status : ℕ) (merged : Merged) : Type 0 where
   pub verdict : status ≡ verdict_status merged.verdict
   pub from : IsMergeOf views request old new merged
@@ -57,33 +71,38 @@ pub record IsAccepted {R W S P E : Type 0} (views : Views R W S P E) (request : 
       (summary_of (count_at merged.counts) request.options.policy)
   pub noted : AreNoted views.held.messages (lines_of merged.life) old.complaints new.complaints
 
--- the status, and what was read, written and reported
+-- there is such a merge
+abbrev pub IsAccepted : {R W S P E : Type 0} → Views R W S P E → Request → Streams R W S P E
+    → Streams R W S P E → ℕ → Type 0
+IsAccepted views request old new status =
+    (merged : Merged) × IsAcceptedAs views request old new status merged
+
+-- there is a merge of what was read, and one of its outputs or its summary was lost
+abbrev pub IsCutShort : {R W S P E : Type 0} → Views R W S P E → Request → Streams R W S P E
+    → Streams R W S P E → Type 0
+IsCutShort views request old new = (merged : Merged) × IsMergeOf views request old new merged
+    × HasLost views.held (texts_of_merge request merged) old.writers new.writers
+    old.complaints new.complaints
+
+-- no error is reported, and nothing at all if nothing is for later merges
+pub record IsQuiet {E : Type 0} (request : Request) (old new : Complaints E) : Type 0 where
+  pub last : new.last ≡ old.last
+  pub silent : request.upkeep.renewal ≡ None → request.upkeep.known ≡ None → new ≡ old
+
+-- the status, and what was read, written and reported: the contract of `run_request` as one fact, for what cites it
 pub record IsRun {R W S P E : Type 0} (views : Views R W S P E) (request : Request)
     (old new : Streams R W S P E) (status : ℕ) : Type 0 where
-  pub accepted : status < 2 → (merged : Merged) × IsAccepted views request old new status merged
+  pub accepted : status < 2 → IsAccepted views request old new status
   pub exactly : (status ≡ 3)
       ↔ (ReaderRises old.readers new.readers ⊎ WriterRises old.writers new.writers)
   pub failed : RisesIf (nat_eq status 3) (failures old.readers + writer_failures old.writers)
       (failures new.readers + writer_failures new.writers)
-  pub untouched : status ≡ 2 → new.writers ≡ old.writers
-  pub unread : failures new.readers ≡ failures old.readers + 1 → new.writers ≡ old.writers
-  pub rejected : (status ≡ 2) ⊎ (failures new.readers ≡ failures old.readers + 1)
-      → (fault : MergeFault) × IsRejected views.remaining views.held.messages request
-      old.readers new.readers old.complaints new.complaints status fault
-  pub lost : WriterRises old.writers new.writers → (merged : Merged)
-      × IsMergeOf views request old new merged
-      × HasLost views.held (texts_of_merge request merged) old.writers new.writers
-      old.complaints new.complaints
-  pub quiet : status < 2 → new.complaints.last ≡ old.complaints.last
-  pub silent : status < 2 → request.upkeep.renewal ≡ None → request.upkeep.known ≡ None
-      → new.complaints ≡ old.complaints
+  pub untouched : HasNoMerge status old.readers new.readers → new.writers ≡ old.writers
+  pub rejected : HasNoMerge status old.readers new.readers
+      → IsRejected views.remaining views.held.messages request
+      old.readers new.readers old.complaints new.complaints status
+  pub lost : WriterRises old.writers new.writers → IsCutShort views request old new
+  pub quiet : status < 2 → IsQuiet request old.complaints new.complaints
   pub risen : NoNumberFalls old.readers new.readers × NoWriterFalls old.writers new.writers
-  pub faulty : (contents : SourceContents) → AllTell views.remaining old.readers
-      → WereRead views.remaining old.readers new.readers contents
-      → (faults_of (given_by contents request.options.today request.options.checks) ≡ [] → ⊥)
-      → status ≡ 2
-  pub too_large : (contents : SourceContents) → AllTell views.remaining old.readers
-      → WereRead views.remaining old.readers new.readers contents → (fault : MergeFault)
-      → IsTooLarge (given_by contents request.options.today request.options.checks)
-      request.options.policy (Some request.upkeep) fault → status ≡ 2
+  pub faulty : WereFaulty views.remaining request old.readers new.readers → status ≡ 2
   pub known : status ≤ 3

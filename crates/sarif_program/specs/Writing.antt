@@ -1,5 +1,6 @@
 -- What takes the outputs of a run, and how many of its calls failed.
-use Rattle.std.specs.Prelude.{ℕ, ◌+◌, ◌≤◌, ◌<◌, ◌⊎◌, List, [], ◌∷◌, map}
+use Rattle.std.specs.Prelude.{ℕ, ◌+◌, ◌^◌, ◌≤◌, ◌<◌, ◌⊎◌, List, [], ◌∷◌, map}
+use Rattle.std.specs.List.{All}
 use Rattle.sarif_request.specs.declared.wanted.Wanted.{Wanted}
 use Rattle.sarif_streams.specs.declared.counted.Counted.{Counted}
 use Rattle.sarif_streams.specs.declared.readers.Readers.{Readers}
@@ -8,6 +9,12 @@ use Rattle.sarif_streams.specs.Failing.{NoneFalls}
 use Rattle.sarif_streams.specs.OptionalReader.{failed_calls_if}
 use Rattle.sarif_program.specs.Reports.{report_failures}
 use Rattle.sarif_program.specs.declared.writers.Writers.{Writers}
+
+-- one more failed call of each of these writers can be counted
+pub record WritersHaveRoom {W S P : Type 0} (writers : Writers W S P) : Type 0 where
+  pub out : failed_calls writers.out < 2 ^ 63
+  pub reports : All (λ wanted. failed_calls wanted.to < 2 ^ 63) writers.reports.items
+  pub say : failed_calls writers.say < 2 ^ 63
 
 -- how many calls of the writers of a run failed
 abbrev pub writer_failures : {W S P : Type 0} → Writers W S P → ℕ

@@ -1,6 +1,5 @@
 //! How a run ends: the messages and the exit status.
 ghost use Rattle.std.specs.Prelude.{◌≡◌, ◌<◌, ◌≤◌, ◌^◌, ℕ, List, nat_eq, length};
-ghost use Rattle.std.specs.List.{All};
 ghost use Rattle.std.specs.Io.KnownBytes.{Appends};
 ghost use Rattle.sarif_streams.specs.Counted.{inner_of, failed_calls, RisesIf};
 ghost use Rattle.sarif_model.specs.MergeFault.{exit_status};
@@ -10,7 +9,7 @@ ghost use Rattle.sarif_program.specs.Lost.{HasLost, complaint_of};
 ghost use Rattle.sarif_program.specs.Notes.{AreNoted};
 ghost use Rattle.sarif_program.specs.Reports.{AreTaken, texts_for};
 ghost use Rattle.sarif_program.specs.Status.{verdict_status};
-ghost use Rattle.sarif_program.specs.Writing.{NoWriterFalls, writer_failures};
+ghost use Rattle.sarif_program.specs.Writing.{NoWriterFalls, WritersHaveRoom, writer_failures};
 ghost use Rattle.sarif_program.specs.declared.complaint.Complaint.TheVariants.{Fault};
 
 use crate::complaint::{Complaint, Complaints};
@@ -60,10 +59,8 @@ pub(crate) fn accept<W: Write, S: Write, P: Write, E: Write>(
     writers: &mut Writers<W, S, P>,
     complaints: &mut Complaints<E>,
 ) -> ExitStatus
-    requires out { failed_calls writers.old.out < 2 ^ 63 }
-    requires reports { All (λ wanted. failed_calls wanted.to < 2 ^ 63) writers.old.reports.items }
+    requires room { WritersHaveRoom writers.old }
     requires number { length texts.now.reports.items ≡ length writers.old.reports.items }
-    requires say { failed_calls writers.old.say < 2 ^ 63 }
     requires complain { failed_calls complaints.old.out < 2 ^ 63 }
     ensures status { result < 2 → result ≡ verdict_status merged.now.verdict }
     ensures written { result < 2 → Appends (W.contents (inner_of writers.old.out))

@@ -7,7 +7,7 @@ ghost use Rattle.sarif_reports.specs.declared.report.Report.{Report as Output};
 ghost use Rattle.sarif_streams.specs.Failing.{NoneFalls};
 ghost use Rattle.sarif_program.specs.Lost.{IsCut, IsLostAt, IsLostIn};
 ghost use Rattle.sarif_program.specs.Reports.{AreTaken, report_failures, texts_for};
-ghost use Rattle.sarif_program.specs.Writing.{NoWriterFalls, writer_failures, writers_in};
+ghost use Rattle.sarif_program.specs.Writing.{NoWriterFalls, WritersHaveRoom, writer_failures, writers_in};
 
 use crate::telling::Texts;
 use crate::writers::Writers;
@@ -87,8 +87,7 @@ pub(crate) fn put_outputs<W: Write, S, P: Write>(
     log: &Text,
     texts: &Texts,
 ) -> Result<(), Lost>
-    requires out { failed_calls writers.old.out < 2 ^ 63 }
-    requires reports { All (λ wanted. failed_calls wanted.to < 2 ^ 63) writers.old.reports.items }
+    requires room { WritersHaveRoom writers.old }
     requires number { length texts.now.reports.items ≡ length writers.old.reports.items }
     ensures log { OnOk result (Appends (W.contents (inner_of writers.old.out))
         (W.contents (inner_of writers.new.out)) log.now) }

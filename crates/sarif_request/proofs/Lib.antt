@@ -1,6 +1,7 @@
 pub mod Added
 pub mod Asked
 pub mod Numbers
+pub mod Repeats
 pub mod Rows
 pub mod Told
 pub mod WantedMore

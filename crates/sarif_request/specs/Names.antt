@@ -1,12 +1,12 @@
 -- Which names in the arguments clash.
-use Rattle.std.specs.Prelude.{Bool, List, [], ◌∷◌, Option, Some, None, ◌&&◌, ◌||◌, length, map, not, true, false, codes, bytes_eq, count_by, nat_eq, nat_lt, if◌then◌else◌}
+use Rattle.std.specs.Prelude.{Bool, List, [], ◌∷◌, Option, Some, None, ◌&&◌, ◌||◌, length, map, not, is_some, true, false, codes, bytes_eq, nat_eq, if◌then◌else◌}
 use Rattle.std.specs.List.{list_any}
 use Rattle.std.specs.Option.{option_map_or}
 use Rattle.clap.specs.Words.{Text}
 use Rattle.sarif_reports.specs.declared.report.Report.{Report}
 use Rattle.sarif_reports.specs.declared.report.Report.TheVariants as report
 use Rattle.sarif_request.specs.declared.clash.Clash.{Clash}
-use Rattle.sarif_request.specs.declared.clash.Clash.TheVariants.{Suppressions, Outputs, Log, Inputs, StandardInput}
+use Rattle.sarif_request.specs.declared.clash.Clash.TheVariants.{RepeatedLog, RepeatedBaseline, Suppressions, Outputs, Log, Inputs}
 use Rattle.sarif_request.specs.declared.request.Request.{Request}
 use Rattle.sarif_request.specs.declared.wanted.Wanted.{Wanted}
 
@@ -56,10 +56,14 @@ replaces_suppressions names = option_map_or
     (λ name. bytes_eq names.out name || list_any (replaces_file name) names.reports)
     names.suppress false
 
+-- the first of these names that a later one repeats
+abbrev pub first_repeated : List Text → Option Text
+first_repeated [] = None
+first_repeated (name ∷ others) = if is_among name others then Some name else first_repeated others
+
 -- two of these have one name
 abbrev pub have_one_name : List Text → Bool
-have_one_name [] = false
-have_one_name (name ∷ others) = is_among name others || have_one_name others
+have_one_name names = is_some (first_repeated names)
 
 -- the merged log has the name of a log; standard output has no name
 abbrev pub replaces_log : Names → Bool
@@ -80,16 +84,18 @@ replaces_input names wanted = not (bytes_eq wanted.to standard)
 abbrev pub replaces_inputs : Names → Bool
 replaces_inputs names = list_any (replaces_input names) names.reports
 
--- standard input is more than one of the logs
-abbrev pub reads_twice : Names → Bool
-reads_twice names = nat_lt 1 (count_by (λ log. bytes_eq log standard) names.logs)
-
--- why the names clash, if they do
-abbrev pub clash_of : Names → Option Clash
-clash_of names =
+-- why the name of an output clashes with another name, if it does
+abbrev pub output_clash : Names → Option Clash
+output_clash names =
     if replaces_suppressions names then Some Suppressions else (
     if have_one_name (outputs_of names) then Some Outputs else (
     if replaces_log names then Some Log else (
     if replaces_inputs names then Some Inputs else (
-    if reads_twice names then Some StandardInput else (
-    None)))))
+    None))))
+
+-- why the names clash, if they do
+abbrev pub clash_of : Names → Option Clash
+clash_of names =
+    if have_one_name names.logs then Some RepeatedLog else (
+    if have_one_name names.baselines then Some RepeatedBaseline else (
+    output_clash names))

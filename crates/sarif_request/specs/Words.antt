@@ -28,6 +28,16 @@ use Rattle.sarif_request.specs.Listing.{states_listed}
 use Rattle.sarif_request.specs.Names.{Names, clash_of}
 use Rattle.sarif_request.specs.Together.{misfit_of}
 
+-- the arguments that are read if there are none: one worker merges one log from standard input to standard output
+abbrev pub plain_words : List Text
+plain_words =
+    codes "--workers" ∷ codes "1" ∷ codes "--out" ∷ codes "-" ∷ codes "-" ∷ []
+
+-- the arguments that are read
+abbrev pub words_read : List Text → List Text
+words_read [] = plain_words
+words_read (word ∷ words) = word ∷ words
+
 -- the program's exit status
 abbrev pub words_status : WordsFault → ℕ
 words_status (Usage text) = 2

@@ -1,8 +1,9 @@
 //! Names in the arguments that clash.
-ghost use Rattle.std.specs.Prelude.{◌≡◌, Option, map};
+ghost use Rattle.std.specs.Prelude.{◌≡◌, IfOk, Option, map};
 ghost use Rattle.std.specs.List.{list_any};
 ghost use Rattle.sarif_request.specs.Names as said;
 
+use crate::repeated::first_repeated;
 use crate::request::Request;
 use crate::wanted::Wanted;
 use sarif_model::Text;
@@ -13,6 +14,10 @@ use std::alloc::{AllocError, Global};
 /// Why names clash.
 #[derive(Clone, Copy, Debug, PartialEq, Eq)]
 pub enum Clash {
+    /// Two logs have the same name.
+    RepeatedLog,
+    /// Two baselines have the same name.
+    RepeatedBaseline,
     /// An output would overwrite the suppression file.
     Suppressions,
     /// Two outputs have the same name.
@@ -21,8 +26,6 @@ pub enum Clash {
     Log,
     /// Another output would overwrite a log or a baseline.
     Inputs,
-    /// Standard input is more than one of the logs.
-    StandardInput,
 }
 
 /// An output of a request.
@@ -35,18 +38,50 @@ struct Output<'a> {
 }
 
 impl Clash {
+    /// Returns whether two inputs have the same name.
+    pub fn is_repeat(self) -> bool {
+        matches!(self, Clash::RepeatedLog | Clash::RepeatedBaseline)
+    }
+
     /// Returns the sentence for users, which names the options and the file of this request that clash. Returns
     /// `AllocError` if memory runs out.
     pub fn sentence(self, alloc: Global, request: &Request) -> Result<String, AllocError> {
         match self {
+            Clash::RepeatedLog => repeated_log_told(alloc, request),
+            Clash::RepeatedBaseline => repeated_baseline_told(alloc, request),
             Clash::Suppressions => suppressions_told(alloc, request),
             Clash::Outputs => outputs_told(alloc, request),
             Clash::Log => log_told(alloc, request),
             Clash::Inputs => inputs_told(alloc, request),
-            Clash::StandardInput => {
-                String::from_str(alloc, "standard input (-) can be only one of the logs")
-            }
         }
+    }
+}
+
+/// Names the first log that is passed twice.
+fn repeated_log_told(alloc: Global, request: &Request) -> Result<String, AllocError> {
+    let name = repeated_name(alloc, request, &request.logs)?;
+    if name == STANDARD {
+        String::from_str(alloc, "standard input (-) can be only one of the logs")
+    } else {
+        format!(in alloc; "the log {name} is passed twice")
+    }
+}
+
+/// Names the first baseline that is passed twice.
+fn repeated_baseline_told(alloc: Global, request: &Request) -> Result<String, AllocError> {
+    let name = repeated_name(alloc, request, &request.baselines)?;
+    format!(in alloc; "the baseline {name} is passed twice")
+}
+
+/// Returns the first of these names of a request that is repeated, or the empty string if they all differ.
+fn repeated_name<'a>(
+    alloc: Global,
+    request: &Request,
+    names: &'a Vec<Text>,
+) -> Result<&'a str, AllocError> {
+    match first_repeated(alloc, request.options.seed, names.as_slice())? {
+        Some(name) => Ok(name.as_str()),
+        None => Ok(""),
     }
 }
 
@@ -150,9 +185,30 @@ fn input_told(
     }
 }
 
-/// Returns why the names of this request clash, or `None` if they don't. Names are compared byte for byte.
-pub fn clash_of(request: &Request) -> Option<Clash>
-    ensures { result ≡ said.clash_of (said.names_of request.now) }
+/// Returns why the names of this request clash, or `None` if they don't. Names are compared byte for byte. Returns
+/// `AllocError` if memory runs out.
+pub fn clash_of(alloc: Global, request: &Request) -> Result<Option<Clash>, AllocError>
+    ensures { IfOk result (λ clash. clash ≡ said.clash_of (said.names_of request.now)) }
+{
+    if have_repeats(alloc, request, &request.logs)? {
+        Ok(Some(Clash::RepeatedLog))
+    } else if have_repeats(alloc, request, &request.baselines)? {
+        Ok(Some(Clash::RepeatedBaseline))
+    } else {
+        Ok(output_clash(request))
+    }
+}
+
+/// Whether two of these names of a request are the same.
+fn have_repeats(alloc: Global, request: &Request, names: &Vec<Text>) -> Result<bool, AllocError>
+    ensures { IfOk result (λ is. is ≡ said.have_one_name names.now.items) }
+{
+    Ok(first_repeated(alloc, request.options.seed, names.as_slice())?.is_some())
+}
+
+/// Returns why the name of an output clashes with another name, or `None` if none does.
+fn output_clash(request: &Request) -> Option<Clash>
+    ensures { result ≡ said.output_clash (said.names_of request.now) }
 {
     if replaces_suppressions(request) {
         Some(Clash::Suppressions)
@@ -162,8 +218,6 @@ pub fn clash_of(request: &Request) -> Option<Clash>
         Some(Clash::Log)
     } else if replaces_inputs(request) {
         Some(Clash::Inputs)
-    } else if reads_twice(request) {
-        Some(Clash::StandardInput)
     } else {
         None
     }
@@ -274,16 +328,4 @@ fn may_replace_baseline(request: &Request, report: Report) -> bool
         Report::Known => request.baselines.len() == 1,
         _ => false,
     }
-}
-
-/// Whether standard input is more than one of the logs.
-fn reads_twice(request: &Request) -> bool
-    ensures { result ≡ said.reads_twice (said.names_of request.now) }
-{
-    let times = request
-        .logs
-        .iter()
-        .filter(|log| log.as_str() == STANDARD)
-        .count();
-    1 < times
 }

@@ -26,10 +26,11 @@ const AFTER: &str = "\
 Without arguments, the program reads one log from standard input, and writes the merged log to
 standard output and the summary to standard error.
 
-At most one output is standard output. If it is that of --out, --suppress-out or --known, the
-summary goes to standard error. No two outputs may have the same name. No output may have the name
-of the suppression file, of a log or of a baseline. There are three exceptions: --suppress-out may
-have the name of --suppress, --known that of the only --baseline, and --out that of a --baseline.
+No two logs, no two baselines and no two outputs may have the same name. At most one output is
+standard output. If it is that of --out, --suppress-out or --known, the summary goes to standard
+error. No output may have the name of the suppression file, of a log or of a baseline. There are
+three exceptions: --suppress-out may have the name of --suppress, --known that of the only
+--baseline, and --out that of a --baseline.
 
 Exit status:
   0  the gate passes

@@ -3,8 +3,10 @@
 
 mod clash;
 mod command;
+mod expected;
 mod listing;
 mod option_rows;
+mod repeated;
 mod request;
 mod together;
 mod wanted;
@@ -12,4 +14,4 @@ mod words;
 
 pub use request::Request;
 pub use wanted::Wanted;
-pub use words::{WordsFault, read_words};
+pub use words::{WordsFault, plain_words, read_words};

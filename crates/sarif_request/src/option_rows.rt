@@ -75,6 +75,11 @@ pub struct OptionRow {
 /// A date as YYYYMMDD. Only its range is checked here.
 const DATE: Kind = Kind::Number(FIRST_DAY as i64, LAST_DAY as i64);
 
+/// Returns whether an option of this kind takes a date.
+pub fn is_date(kind: Kind) -> bool {
+    kind == DATE
+}
+
 static ROWS: [OptionRow; 20] = [
     OptionRow {
         id: "log",

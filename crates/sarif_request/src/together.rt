@@ -74,7 +74,8 @@ impl Misfit {
             Misfit::UntilNeedsAccept => "--until needs --accept",
             Misfit::UntilNeedsToday => "--until needs --today",
             Misfit::UntilIsNoDate =>
-                "invalid value for '--until <YYYYMMDD>': expected a date, for example 20270101",
+                "invalid value for '--until <YYYYMMDD>': expected a date as YYYYMMDD, for example \
+                 20251128",
             Misfit::UntilIsPast => "the date of --until is before the date of --today",
         }
     }

@@ -7,9 +7,11 @@ ghost use Rattle.sarif_request.specs.Words.{words_status, Tells, IsAsked, AsksFo
 ghost use Rattle.sarif_request.specs.Words.{fail_on_in, is_set, reports_in, states_in, values_of};
 ghost use Rattle.sarif_reports.specs.Report.{report_name};
 ghost use Rattle.sarif_request.specs.Words.{AreGiven, IsRenewal, is_given, known_in, wanted_if};
+ghost use Rattle.sarif_request.specs.Words as said;
 
 use crate::clash::{Clash, clash_of};
 use crate::command::command;
+use crate::expected::sentence_with_expected;
 use crate::listing::states_of;
 use crate::request::Request;
 use crate::together::{Given, misfit_of};
@@ -19,6 +21,7 @@ use clap::error::ErrorKind;
 use sarif_counts::{Checks, Knowing, Options, Policy, Renewal, States, Upkeep};
 use sarif_model::{Level, MOST_WORKERS, Text};
 use sarif_reports::Report;
+use sarif_streams::STANDARD;
 use std::alloc::{AllocError, AllocFailed, Global};
 use std::hash::RandomState;
 
@@ -56,6 +59,20 @@ impl From<AllocError> for WordsFault {
     }
 }
 
+/// Returns the arguments that are read if there are none: one worker merges one log from standard input to standard
+/// output. Returns `AllocError` if memory for them runs out.
+pub fn plain_words(alloc: Global) -> Result<Vec<String>, AllocError>
+    ensures { IfOk result (λ words. map string_bytes words.items ≡ said.plain_words) }
+{
+    let workers = String::from_str(alloc, "--workers")?;
+    let one = String::from_str(alloc, "1")?;
+    let out = String::from_str(alloc, "--out")?;
+    let output = String::from_str(alloc, STANDARD)?;
+    let log = String::from_str(alloc, STANDARD)?;
+    let words = vec![in alloc; workers, one, out, output, log]?;
+    Ok(words)
+}
+
 /// Returns the request of the arguments after the program's name. The tables of the merge hash with `seed`.
 /// Returns `Usage` if the arguments are invalid, their list of states is none, options in them don't go together or
 /// names in them clash; `Help` if they request the help or the version; `OutOfMemory` if memory runs out.
@@ -72,8 +89,9 @@ pub fn read_words(alloc: Global, seed: RandomState, words: &[String]) -> Result<
                 return Err(usage_of(told_of(alloc, misfit.sentence())));
             }
             let request = request_of(alloc, seed, &matches, states)?;
-            if let Some(clash) = clash_of(&request) {
-                return Err(usage_of(told_clash(alloc, clash, &request)));
+            let found = clash_of(alloc, &request)?;
+            if let Some(clash) = found {
+                return Err(usage_of(told_clash(alloc, clash, &request, words)));
             }
             Ok(request)
         }
@@ -95,10 +113,42 @@ fn usage_of(told: Result<Text, AllocError>) -> WordsFault
     }
 }
 
-/// Returns the message about a clash of names.
-fn told_clash(alloc: Global, clash: Clash, request: &Request) -> Result<Text, AllocError> {
-    let sentence = clash.sentence(alloc, request)?;
+/// Returns the message about a clash of names in these arguments.
+fn told_clash(
+    alloc: Global,
+    clash: Clash,
+    request: &Request,
+    words: &[String],
+) -> Result<Text, AllocError> {
+    let mut sentence = clash.sentence(alloc, request)?;
+    if clash.is_repeat() && logs_follow_baseline(words) {
+        sentence.push_str("; --baseline takes one file, and the files after it are logs")?;
+    }
     told_of(alloc, sentence.as_str())
+}
+
+/// Returns whether two or more logs directly follow the file of one `--baseline`.
+fn logs_follow_baseline(words: &[String]) -> bool {
+    for part in words.windows(4) {
+        if let [option, _, first, second] = part {
+            if option.as_str() == "--baseline" && is_log(first) && is_log(second) {
+                return true;
+            }
+        }
+    }
+    for part in words.windows(3) {
+        if let [option, first, second] = part {
+            if option.as_str().starts_with("--baseline=") && is_log(first) && is_log(second) {
+                return true;
+            }
+        }
+    }
+    false
+}
+
+/// Returns whether this argument is the name of a log, and not an option.
+fn is_log(word: &String) -> bool {
+    word.as_str() == STANDARD || !word.as_str().starts_with('-')
 }
 
 /// Returns the message with this sentence.
@@ -382,7 +432,13 @@ fn is_asked(kind: ErrorKind) -> bool
     kind == ErrorKind::DisplayHelp || kind == ErrorKind::DisplayVersion
 }
 
-/// Returns the parser's text for its result.
+/// Returns the parser's text for its result. If a number or a date is invalid, it says what is expected.
 fn text_of(alloc: Global, error: &clap::Error) -> Result<Text, AllocError> {
-    Text::from_string(error.to_string(alloc)?)
+    let text = error.to_string(alloc)?;
+    if error.kind() == ErrorKind::ValueValidation {
+        if let Some(sentence) = sentence_with_expected(alloc, text.as_str())? {
+            return told_of(alloc, sentence.as_str());
+        }
+    }
+    Text::from_string(text)
 }

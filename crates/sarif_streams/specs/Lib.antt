@@ -5,5 +5,6 @@ pub mod Internal
 pub mod Named
 pub mod OptionalReader
 pub mod ReadersFault
+pub mod Room
 pub mod Source
 pub mod WereRead

@@ -5,6 +5,7 @@ ghost use Rattle.sarif_streams.specs.AreRead.{IsRead, AreRead, HasStopped, Stops
 ghost use Rattle.sarif_streams.specs.Counted.{failed_calls, RisesIf};
 ghost use Rattle.sarif_streams.specs.Failing.{failed_calls_in, NoneFalls, reading_has_failed};
 ghost use Rattle.sarif_streams.specs.OptionalReader.{failed_calls_if};
+ghost use Rattle.sarif_streams.specs.Room.{HaveRoom};
 ghost use Rattle.sarif_model.specs.Internal.SourceKind.{source_of};
 ghost use Rattle.sarif_streams.specs.WereRead.{contents_of, failures, HasStoppedAt, HasStoppedIf, IsReadIf, NoNumberFalls, WereRead};
 ghost use Rattle.sarif_model.specs.Limits.{most_sources};
@@ -93,9 +94,7 @@ pub fn read_sources<R: Read>(
 ) -> Result<SourceBytes, Refusal<ReadersFault>>
     requires few_logs { length readers.old.logs.items ≤ most_sources }
     requires few_baselines { length readers.old.baselines.items ≤ most_sources }
-    requires logs { All (λ reader. failed_calls reader < 2 ^ 63) readers.old.logs.items }
-    requires baselines { All (λ reader. failed_calls reader < 2 ^ 63) readers.old.baselines.items }
-    requires suppressions { failed_calls_if readers.old.suppressions < 2 ^ 63 }
+    requires room { HaveRoom readers.old }
     ensures read { IfOk result
         (λ sources. WereRead R.remaining readers.old readers.new (contents_of sources)) }
     ensures few_logs { IfOk result (λ sources. length sources.logs.items ≤ most_sources) }

@@ -1,7 +1,7 @@
 //! Merges, and checks of their results.
 ghost use Rattle.std.specs.Prelude.{◌≡◌, ◌⊎◌, Some, IfOk, IfErr, string_bytes};
 ghost use Rattle.sarif_inputs.specs.Faults.{first_fault};
-ghost use Rattle.sarif_merge.specs.Given.{given_by};
+ghost use Rattle.sarif_merge.specs.Given.{inputs_with};
 ghost use Rattle.sarif_merge.specs.MergedLog.{output_text};
 ghost use Rattle.sarif_model.specs.FirstFault.{IsOutOfResources};
 ghost use Rattle.sarif_streams.specs.WereRead.{contents_of};
@@ -25,10 +25,10 @@ pub fn merge_watched<G: Gate + Sync, R: AllocGlobal + Threads + Wait + Sync>(
     observer: &G,
 ) -> Result<Merged, MergeFault>
     ensures log { IfOk result (λ merged. merged.log ≡ output_text
-        (given_by (contents_of given.now.sources) given.now.today given.now.checks)
+        (inputs_with (contents_of given.now.sources) given.now.today given.now.checks)
         given.now.policy) }
     ensures refusals { IfErr result (λ fault. IsOutOfResources fault ⊎ (first_fault
-        (given_by (contents_of given.now.sources) given.now.today given.now.checks)
+        (inputs_with (contents_of given.now.sources) given.now.today given.now.checks)
         ≡ Some fault)) }
 {
     let workers = given.workers;
@@ -54,10 +54,10 @@ pub fn merge<R: AllocGlobal + Threads + Wait + Sync>(
     given: &Given,
 ) -> Result<Merged, MergeFault>
     ensures log { IfOk result (λ merged. merged.log ≡ output_text
-        (given_by (contents_of given.now.sources) given.now.today given.now.checks)
+        (inputs_with (contents_of given.now.sources) given.now.today given.now.checks)
         given.now.policy) }
     ensures refusals { IfErr result (λ fault. IsOutOfResources fault ⊎ (first_fault
-        (given_by (contents_of given.now.sources) given.now.today given.now.checks)
+        (inputs_with (contents_of given.now.sources) given.now.today given.now.checks)
         ≡ Some fault)) }
 {
     merge_watched(rt, given, &NoGate)
@@ -71,17 +71,6 @@ fn expect_text(text: &str, wanted: &str) -> Result<(), Fail>
         return Ok(());
     }
     Err(Fail::new(format_args!("{text}\nin place of\n{wanted}")))
-}
-
-/// Fails unless these inputs are rejected with this string.
-pub fn expect_refusal<R: AllocGlobal + Threads + Wait + Sync>(
-    rt: &R,
-    given: &Given,
-    wanted: &str,
-) -> Result<(), Fail> {
-    let fault = merge(rt, given).err().ok_or("accepted")?;
-    let text = format!(in rt.alloc(); "{fault}")?;
-    expect_text(text.as_str(), wanted)
 }
 
 /// Fails unless the gate passes, the merged log is this JSON, and the numbers of runs without results and of unused
@@ -112,7 +101,7 @@ pub fn expect_runs<R: AllocGlobal + Threads + Wait + Sync>(
     runs: &str,
 ) -> Result<String, Fail>
     ensures log { IfOk result (λ log. string_bytes log ≡ output_text
-        (given_by (contents_of given.now.sources) given.now.today given.now.checks)
+        (inputs_with (contents_of given.now.sources) given.now.today given.now.checks)
         given.now.policy) }
 {
     let merged = merge(rt, given)?;
@@ -130,23 +119,10 @@ pub fn expect_log<R: AllocGlobal + Threads + Wait + Sync>(
     runs: &str,
 ) -> Result<String, Fail>
     ensures log { IfOk result (λ log. string_bytes log ≡ output_text
-        (given_by (contents_of given.now.sources) given.now.today given.now.checks)
+        (inputs_with (contents_of given.now.sources) given.now.today given.now.checks)
         given.now.policy) }
 {
     let runs = json_of_runs(rt.alloc(), runs)?;
     let log = expect_runs(rt, given, wanted, runs.as_str())?;
     Ok(log)
-}
-
-/// Fails unless the merged log has this part.
-pub fn expect_part<R: AllocGlobal + Threads + Wait + Sync>(
-    rt: &R,
-    given: &Given,
-    part: &str,
-) -> Result<(), Fail> {
-    let merged = merge(rt, given)?;
-    if merged.log.as_str().contains(part) {
-        return Ok(());
-    }
-    Err(Fail::new(format_args!("without {part}")))
 }

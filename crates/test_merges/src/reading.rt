@@ -1,10 +1,9 @@
 //! Merges of what readers return.
-ghost use Rattle.std.specs.Prelude.{◌≡◌, ◌≤◌, ◌<◌, ◌^◌, ℕ, List, [], ◌∷◌, map, IfOk};
+ghost use Rattle.std.specs.Prelude.{◌≡◌, ◌≤◌, ℕ, List, [], ◌∷◌, map, IfOk};
 ghost use Rattle.std.specs.Borrow.{Bor};
-ghost use Rattle.std.specs.List.{All};
 ghost use Rattle.sarif_model.specs.Limits.{most_workers};
-ghost use Rattle.sarif_streams.specs.Counted.{inner_of, failed_calls};
-ghost use Rattle.sarif_streams.specs.OptionalReader.{failed_calls_if};
+ghost use Rattle.sarif_streams.specs.Counted.{inner_of};
+ghost use Rattle.sarif_streams.specs.Room.{HaveRoom};
 
 use crate::given::{ZEROS, seed_of};
 use sarif_counts::{Checks, Options, Policy};
@@ -49,12 +48,7 @@ pub fn readers_of<'t>(alloc: Global, texts: Texts<'t>) -> Result<Readers<&'t [u8
     ensures log { IfOk result (λ readers.
         map (λ reader. (inner_of {D = Bor (List ℕ)} reader).now) readers.logs.items
         ≡ texts.entry.log.now ∷ []) }
-    ensures logs { IfOk result
-        (λ readers. All (λ reader. failed_calls reader < 2 ^ 63) readers.logs.items) }
-    ensures baselines { IfOk result
-        (λ readers. All (λ reader. failed_calls reader < 2 ^ 63) readers.baselines.items) }
-    ensures suppressions { IfOk result
-        (λ readers. failed_calls_if readers.suppressions < 2 ^ 63) }
+    ensures room { IfOk result HaveRoom }
 {
     let log: &'t [u8] = texts.log.as_bytes();
     let baseline: &'t [u8] = texts.baseline.as_bytes();

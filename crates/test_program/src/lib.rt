@@ -4,4 +4,4 @@
 
 mod running;
 
-pub use running::{AMPLE, Ended, Given, Narrow, Rooms, Setting, run_over, seed};
+pub use running::{AMPLE, Ended, Given, Narrow, Rooms, Setting, plain_request, run_over};

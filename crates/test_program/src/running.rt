@@ -2,10 +2,10 @@
 ghost use Rattle.std.specs.Prelude.{◌<◌, ◌^◌};
 ghost use Rattle.std.specs.List.{All};
 ghost use Rattle.sarif_streams.specs.Counted.{failed_calls};
-ghost use Rattle.sarif_streams.specs.OptionalReader.{failed_calls_if};
+ghost use Rattle.sarif_streams.specs.Room.{HaveRoom};
 
 use sarif_program::{Complaints, Writers, run_request, seed_of};
-use sarif_request::{Request, Wanted};
+use sarif_request::{Request, Wanted, plain_words, read_words};
 use sarif_streams::{Counted, Readers};
 use std::alloc::{AllocError, Global};
 use std::cell::RefCell;
@@ -26,8 +26,14 @@ impl RandomSource for NoBytes {
 }
 
 /// The seed of a run that has no random bytes.
-pub fn seed() -> Result<RandomState, AllocError> {
+fn seed() -> Result<RandomState, AllocError> {
     seed_of(&NoBytes).map_err(|_| AllocError)
+}
+
+/// Returns the request of a run without arguments.
+pub fn plain_request(alloc: Global) -> Result<Request, AllocError> {
+    let words = plain_words(alloc)?;
+    read_words(alloc, seed()?, words.as_slice()).map_err(|_| AllocError)
 }
 
 /// A reader that returns at most `piece` of its bytes per read, and fails once it was read `good` times.
@@ -158,9 +164,7 @@ pub fn run_over<'a, T: Threads + Wait + Sync>(
     readers: &mut Readers<Given>,
     reports: Vec<Wanted<Counted<Narrow<'a>>>>,
 ) -> Result<Ended, AllocError>
-    requires logs { All (λ reader. failed_calls reader < 2 ^ 63) readers.old.logs.items }
-    requires baselines { All (λ reader. failed_calls reader < 2 ^ 63) readers.old.baselines.items }
-    requires suppressions { failed_calls_if readers.old.suppressions < 2 ^ 63 }
+    requires readers { HaveRoom readers.old }
     requires reports { All (λ wanted. failed_calls wanted.to < 2 ^ 63) reports.items }
 {
     let rooms = setting.rooms;

@@ -4,4 +4,4 @@
 
 mod reading;
 
-pub use reading::{accepted, expect_usage, read, usage_in};
+pub use reading::{accepted, expect_usage, plain, read, usage_in};

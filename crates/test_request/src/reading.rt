@@ -1,5 +1,5 @@
 //! Requests and error messages that are read from arguments.
-use sarif_request::{Request, WordsFault, read_words};
+use sarif_request::{Request, WordsFault, plain_words, read_words};
 use std::hash::RandomState;
 use std::random::RandomSource;
 use std::test::Fail;
@@ -28,6 +28,16 @@ pub fn accepted<R: AllocGlobal + RandomSource>(rt: &R, line: &str) -> Result<Req
     match read(rt, line)? {
         Ok(request) => Ok(request),
         Err(_) => Err(Fail::new(format_args!("rejected: {line}"))),
+    }
+}
+
+/// Returns the request of no arguments. Fails if it is rejected.
+pub fn plain<R: AllocGlobal + RandomSource>(rt: &R) -> Result<Request, Fail> {
+    let words = plain_words(rt.alloc())?;
+    let seed = RandomState::new(rt)?;
+    match read_words(rt.alloc(), seed, words.as_slice()) {
+        Ok(request) => Ok(request),
+        Err(_) => Err(Fail::new("rejected")),
     }
 }
 

@@ -1,12 +1,11 @@
-use Rattle.std.proofs.Common.{◌≡◌, inl, inr, ℕ, List, Some, ap, arith, nat_eq, subst, sym, ◌∙◌, ◌+◌}
+use Rattle.std.proofs.Common.{◌≡◌, inl, inr, ℕ, List, Some, ap, arith, nat_eq, refl, subst, sym, ◌∙◌, ◌+◌}
 use Rattle.std.specs.Io.KnownBytes.{Appends}
 use Rattle.std.specs.Prelude.{option_map}
 use Rattle.sarif_counts.specs.declared.life.Life.{Life}
 use Rattle.sarif_inputs.specs.Faults.{faults_of}
 use Rattle.sarif_merge.specs.Given.{given_by}
 use Rattle.sarif_streams.proofs.ReadersRead.{were_read_quiet}
-use Rattle.sarif_merge.specs.FromReaders.{IsMergedWith}
-use Rattle.sarif_merge.specs.Life.{IsTooLarge}
+use Rattle.sarif_merge.specs.FromReaders.{IsMergedWith, IsTooLargeWith}
 use Rattle.sarif_model.specs.FirstFault.{first}
 use Rattle.sarif_request.specs.declared.wanted.Wanted.{Wanted}
 use Rattle.sarif_streams.specs.declared.counted.Counted.{Counted}
@@ -30,16 +29,18 @@ returns-in-Ok-clause-accepted g c = λ low.
     let new = c.accept.new.writers in
     let same = c.as_slice.ensures.value in (
       merged,
-      c.accept.ensures.status low,
-      subst (λ (writers : List (Wanted (Counted g.row.P.Denot))). IsMergedWith g.R.Read.remaining c.args.readers.now c.merge_for.new.readers
-          request.options.today request.options.checks request.options.policy (reporting_for request writers) (Some request.upkeep) merged) same c.in-Ok.ensures.merged,
-      c.accept.ensures.written low,
-      c.accept.ensures.reported low (report_for request merged)
-          (subst (λ (writers : List (Wanted (Counted g.row.P.Denot))). c.in-Ok.texts.reports.items ≡ texts_for writers (report_for request merged)) same c.in-Ok.ensures.reports),
-      subst (λ (text : List ℕ). Appends (g.S.Write.contents (inner_of old.say)) (g.S.Write.contents (inner_of new.say)) text)
-          c.in-Ok.ensures.summary (c.accept.ensures.said low),
-      subst (λ (lines : List ℕ). AreNoted g.E.Write.contents lines c.args.complaints.now c.accept.new.complaints)
-          c.in-Ok.ensures.lines (c.accept.ensures.noted low),
+      record {
+        verdict = c.accept.ensures.status low;
+        from = subst (λ (writers : List (Wanted (Counted g.row.P.Denot))). IsMergedWith g.R.Read.remaining c.args.readers.now c.merge_for.new.readers
+            request.options (reporting_for request writers) (Some request.upkeep) merged) same c.in-Ok.ensures.merged;
+        log = c.accept.ensures.written low;
+        reports = c.accept.ensures.reported low (report_for request merged)
+            (subst (λ (writers : List (Wanted (Counted g.row.P.Denot))). c.in-Ok.texts.reports.items ≡ texts_for writers (report_for request merged)) same c.in-Ok.ensures.reports);
+        summary = subst (λ (text : List ℕ). Appends (g.S.Write.contents (inner_of old.say)) (g.S.Write.contents (inner_of new.say)) text)
+            c.in-Ok.ensures.summary (c.accept.ensures.said low);
+        noted = subst (λ (lines : List ℕ). AreNoted g.E.Write.contents lines c.args.complaints.now c.accept.new.complaints)
+            c.in-Ok.ensures.lines (c.accept.ensures.noted low);
+      },
     )
 
 pub returns-in-Err-clause-accepted : goal.returns-in-Err-clause-accepted
@@ -53,22 +54,6 @@ returns-in-Ok-clause-exactly g c =
     let rise : RisesIf (nat_eq c.accept.result 3) (before + writer_failures c.args.writers.now) (after + writer_failures c.accept.new.writers) =
     omega (arith, read, c.accept.ensures.failed) in
     exactly c.accept.result c.args.readers.now c.merge_for.new.readers c.args.writers.now c.accept.new.writers rise c.in-Ok.ensures.risen c.accept.ensures.risen
-
-pub returns-in-Ok-clause-unread : goal.returns-in-Ok-clause-unread
-returns-in-Ok-clause-unread g c = λ failed. absurd (omega (arith, failed, c.in-Ok.ensures.read_failed))
-
-pub returns-in-Ok-clause-faulty : goal.returns-in-Ok-clause-faulty
-returns-in-Ok-clause-faulty g c = λ contents tell read faulty.
-    let from = c.in-Ok.ensures.merged in
-    let same = c.sources_are_read_in_one_way.ensures _ _ contents from.0 tell read from.1 in
-    absurd (faulty (ap (λ x. faults_of (given_by x c.args.request.now.options.today c.args.request.now.options.checks)) same ∙ from.2.faultless))
-
-pub returns-in-Err-clause-faulty : goal.returns-in-Err-clause-faulty
-returns-in-Err-clause-faulty g c = λ contents tell read faulty.
-    let fault = c.in-Err.fault in
-    let calm = were_read_quiet g.R.Read.remaining _ _ contents read in
-    c.refuse.ensures.status
-    ∙ quiet_status fault.cause (no_rise _ _ _ c.in-Err.ensures.read_failed calm) c.in-Err.ensures.unwritten
 
 pub returns-in-Err-clause-failed : goal.returns-in-Err-clause-failed
 returns-in-Err-clause-failed g c =
@@ -104,22 +89,6 @@ returns-in-Err-clause-rejected g c = λ which. (
   },
 )
 
-pub returns-in-Ok-clause-quiet : goal.returns-in-Ok-clause-quiet
-returns-in-Ok-clause-quiet g c = λ low. (c.accept.ensures.noted low).last
-
-pub returns-in-Ok-clause-silent : goal.returns-in-Ok-clause-silent
-returns-in-Ok-clause-silent g c = λ low unrenewed unknown.
-    let is = c.in-Ok.ensures.merged.3.is in
-    let none = no_lines c.in-Ok.merged.life (ap (λ (life : Life). life.suppressions) is ∙ ap (option_map _) unrenewed)
-    (ap (λ (life : Life). life.known) is ∙ ap (option_map _) unknown) in
-    (c.accept.ensures.noted low).none (c.in-Ok.ensures.lines ∙ none)
-
-pub returns-in-Err-clause-quiet : goal.returns-in-Err-clause-quiet
-returns-in-Err-clause-quiet g c = λ low. absurd (low_status c.in-Err.fault.cause c.refuse.result c.refuse.ensures.status low)
-
-pub returns-in-Err-clause-silent : goal.returns-in-Err-clause-silent
-returns-in-Err-clause-silent g c = λ low. absurd (low_status c.in-Err.fault.cause c.refuse.result c.refuse.ensures.status low)
-
 pub returns-in-Err-clause-risen : goal.returns-in-Err-clause-risen
 returns-in-Err-clause-risen g c = (c.in-Err.ensures.risen, no_writer_has_fallen c.args.writers.now)
 
@@ -140,24 +109,51 @@ returns-in-Ok-clause-lost g c = λ rises.
     let said = c.accept.ensures.lost (one.1 (inr rises)) (report_for request merged) texts in (
       merged,
       subst (λ (writers : List (Wanted (Counted g.row.P.Denot))). IsMergedWith g.R.Read.remaining c.args.readers.now c.merge_for.new.readers
-          request.options.today request.options.checks request.options.policy (reporting_for request writers) (Some request.upkeep) merged) same c.in-Ok.ensures.merged,
+          request.options (reporting_for request writers) (Some request.upkeep) merged) same c.in-Ok.ensures.merged,
       lost_with held merged.log (report_for request merged) old new c.args.complaints.now c.accept.new.complaints _ _ _ _ c.in-Ok.ensures.lines c.in-Ok.ensures.summary said,
     )
 
 pub returns-in-Err-clause-lost : goal.returns-in-Err-clause-lost
 returns-in-Err-clause-lost g c = λ rises. absurd (none_rises c.args.writers.now rises)
 
-pub returns-in-Ok-clause-too_large : goal.returns-in-Ok-clause-too_large
-returns-in-Ok-clause-too_large g c = λ contents tell read fault large.
+pub returns-in-Ok-clause-untouched : goal.returns-in-Ok-clause-untouched
+returns-in-Ok-clause-untouched g c = λ which. elim which [
+  | inl two ↦ absurd (c.accept.ensures.decided two)
+  | inr more ↦ absurd (omega (arith, more, c.in-Ok.ensures.read_failed))
+]
+
+pub returns-in-Err-clause-untouched : goal.returns-in-Err-clause-untouched
+returns-in-Err-clause-untouched g c = λ which. refl
+
+pub returns-in-Ok-clause-quiet : goal.returns-in-Ok-clause-quiet
+returns-in-Ok-clause-quiet g c = λ low. record {
+  last = (c.accept.ensures.noted low).last;
+  silent = λ unrenewed unknown.
+      let is = c.in-Ok.ensures.merged.3.is in
+      let none = no_lines c.in-Ok.merged.life (ap (λ (life : Life). life.suppressions) is ∙ ap (option_map _) unrenewed)
+      (ap (λ (life : Life). life.known) is ∙ ap (option_map _) unknown) in
+      (c.accept.ensures.noted low).none (c.in-Ok.ensures.lines ∙ none);
+}
+
+pub returns-in-Err-clause-quiet : goal.returns-in-Err-clause-quiet
+returns-in-Err-clause-quiet g c = λ low. absurd (low_status c.in-Err.fault.cause c.refuse.result c.refuse.ensures.status low)
+
+-- what was read has no errors, and nothing that was requested for later merges is too large
+pub returns-in-Ok-clause-faulty : goal.returns-in-Ok-clause-faulty
+returns-in-Ok-clause-faulty g c = λ were.
     let request = c.args.request.now in
     let from = c.in-Ok.ensures.merged in
-    let same = c.sources_are_read_in_one_way.ensures _ _ contents from.0 tell read from.1 in
-    let is : IsTooLarge (given_by from.0 request.options.today request.options.checks) request.options.policy (Some request.upkeep) fault =
-    subst (λ x. IsTooLarge (given_by x request.options.today request.options.checks) request.options.policy (Some request.upkeep) fault) same large in
-    absurd (none_found fault (sym (ap first from.3.faultless) ∙ is))
+    let same = c.sources_are_read_in_one_way.ensures _ _ were.0 from.0 were.1 were.2 from.1 in
+    elim were.3 [
+      | inl faulty ↦ absurd (faulty (ap (λ x. faults_of (given_by x request.options)) same ∙ from.2.faultless))
+      | inr large ↦
+          let is : IsTooLargeWith from.0 request.options (Some request.upkeep) large.0 =
+          subst (λ x. IsTooLargeWith x request.options (Some request.upkeep) large.0) same large.1 in
+          absurd (none_found large.0 (sym (ap first from.3.faultless) ∙ is))
+    ]
 
-pub returns-in-Err-clause-too_large : goal.returns-in-Err-clause-too_large
-returns-in-Err-clause-too_large g c = λ contents tell read fault large.
-    let calm = were_read_quiet g.R.Read.remaining _ _ contents read in
+pub returns-in-Err-clause-faulty : goal.returns-in-Err-clause-faulty
+returns-in-Err-clause-faulty g c = λ were.
+    let calm = were_read_quiet g.R.Read.remaining _ _ were.0 were.2 in
     c.refuse.ensures.status
     ∙ quiet_status c.in-Err.fault.cause (no_rise _ _ _ c.in-Err.ensures.read_failed calm) c.in-Err.ensures.unwritten

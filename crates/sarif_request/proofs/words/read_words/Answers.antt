@@ -28,18 +28,19 @@ returns-in-Some-misfit_of c =
     (are.0, c.in-Some-misfit_of.misfit, (given, subst (λ (rows : List Row). AreGiven rows given) are.1 c.given_of.ensures, misfit))
     c.usage_of-in-Some-misfit_of.ensures
 
-pub returns-in-Some-clash_of : goal.returns-in-Some-clash_of
-returns-in-Some-clash_of c =
+pub returns-in-Some-found : goal.returns-in-Some-found
+returns-in-Some-found c =
     let found = c.in_ok-command.ensures in
     let request = c.in_ok-request-in-Ok.request in
     let is = asked found.0 (app_of c.in_ok-command.command) (map string_bytes c.args.words.now) _ request found.2
     c.in-Ok.ensures.kinds (λ simple. (c.in-Ok.ensures.matches simple).0) c.in_ok-request-in-Ok.ensures in
     let same = same_names _ request is.1 in
-    clashing found.0 (map string_bytes c.args.words.now) c.usage_of-in-Some-clash_of.result found.1
-    (is.0, c.in-Some-clash_of.clash, ap clash_of (sym same) ∙ sym c.in-Some-clash_of.ensures) c.usage_of-in-Some-clash_of.ensures
+    let clash : Some c.in-Some-found.clash ≡ clash_of (names_of request) = search rules in
+    clashing found.0 (map string_bytes c.args.words.now) c.usage_of-in-Some-found.result found.1
+    (is.0, c.in-Some-found.clash, ap clash_of (sym same) ∙ sym clash) c.usage_of-in-Some-found.ensures
 
-pub returns-in_default-clash_of : goal.returns-in_default-clash_of
-returns-in_default-clash_of c =
+pub returns-in_default-found : goal.returns-in_default-found
+returns-in_default-found c =
     let found = c.in_ok-command.ensures in
     let request = c.in_ok-request-in-Ok.request in
     let is = asked found.0 (app_of c.in_ok-command.command) (map string_bytes c.args.words.now) _ request found.2

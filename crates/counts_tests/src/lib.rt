@@ -1,6 +1,0 @@
-//! Tests of the counts, the gate and the summary. They are in a separate crate, so that the library isn't proved a second
-//! time for its tests.
-#![tactic(auto)]
-
-#[cfg(test)]
-mod counting;

@@ -1,5 +1,0 @@
-use Rattle.sarif_dispatch.specs.Hands.{IsHandOf}
-use Rattle.gather_tests.proofs.work.dealing.draw_out.Given as goal
-
-abbrev pub invariant-loop : goal.invariant-loop
-invariant-loop l = IsHandOf l.deal l.hand

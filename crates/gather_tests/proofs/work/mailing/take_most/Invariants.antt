@@ -1,5 +1,0 @@
-use Rattle.sarif_dispatch.specs.Ends.{IsDeskOf}
-use Rattle.gather_tests.proofs.work.mailing.take_most.Given as goal
-
-abbrev pub invariant-loop : goal.invariant-loop
-invariant-loop g l = IsDeskOf l.mailbox l.desk

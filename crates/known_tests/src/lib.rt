@@ -1,5 +1,0 @@
-//! Tests of the known log. They are in a separate crate, so that the library isn't proved a second time for its tests.
-#![tactic(auto)]
-
-#[cfg(test)]
-mod known;

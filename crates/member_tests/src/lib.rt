@@ -1,6 +1,0 @@
-//! Tests of reading a result's own members. They are in a separate crate, so that the library isn't proved a second
-//! time for its tests.
-#![tactic(auto)]
-
-#[cfg(test)]
-mod own_members;

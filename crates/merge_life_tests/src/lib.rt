@@ -1,6 +1,0 @@
-//! Tests of what a merge makes for later merges. They are in a separate crate, so that no library is proved a second time
-//! for its tests.
-#![tactic(auto)]
-
-#[cfg(test)]
-mod keeping;

@@ -1,6 +1,0 @@
-//! Tests of opening runs: rules, levels and places of results. They are in a separate crate, so that the library isn't
-//! proved a second time for its tests.
-#![tactic(auto)]
-
-#[cfg(test)]
-mod rules;
