@@ -9,9 +9,11 @@ use Rattle.std.proofs.lemmas.Bool.{or_right, or_left, and_parts}
 use Rattle.serde_json.specs.Data.{Data}
 use Rattle.sarif_model.specs.declared.kinds.State.{State}
 use Rattle.sarif_model.specs.declared.kinds.Status.{Status}
+use Rattle.sarif_model.specs.declared.kinds.Status.TheVariants.{Accepted}
 use Rattle.sarif_model.specs.declared.record.Record.{Record}
 use Rattle.sarif_model.specs.Status.{is_accepted}
 use Rattle.sarif_entries.specs.declared.entry.Entry.{Entry}
+use Rattle.sarif_entries.specs.declared.condition.Condition.{Condition}
 use Rattle.sarif_entries.specs.declared.condition.ConditionKind.TheVariants as kinds
 use Rattle.sarif_entries.specs.Condition.{text_in}
 use Rattle.sarif_entries.specs.File.{File}
@@ -22,12 +24,16 @@ use Rattle.sarif_suppress.specs.Written.{with_object, with_objects, suppressions
 use Rattle.sarif_suppress.proofs.Numbered.{is_empty-append}
 use Rattle.sarif_accept.specs.Entry.{conditions_for}
 use Rattle.sarif_accept.specs.Keeping.{Heard, is_kept}
-use Rattle.sarif_accept.specs.Adding.{How, Counts, is_hit, stays, is_said, once_each, entry_read, accepted_among, added_for, file_after}
+use Rattle.sarif_accept.specs.Adding.{as_read, How, Counts, is_hit, stays, is_said, once_each, entry_read, accepted_among, added_for, file_after}
 use Rattle.sarif_accept.specs.Until.{IsUntil}
 use Rattle.sarif_accept.proofs.EntryMatches.{matches_is}
 use Rattle.sarif_accept.proofs.SameConditions.{same_conditions-Decides}
 
 -- ---- results that are accepted by one entry
+
+-- the entry of these conditions, as it is read
+abbrev read_with : List Condition → Option (List ℕ) → Option ℕ → Entry
+read_with cs reason until = record { conditions = map as_read cs; expires = until; status = Accepted; justification = reason }
 
 -- an entry that is made for another result that asks the same matches this one
 said_matches : (today : Option ℕ) (reason : Option (List ℕ)) (until : Option ℕ) (r : Record) (rs : List Record) → IsUntil today until
@@ -35,7 +41,9 @@ said_matches : (today : Option ℕ) (reason : Option (List ℕ)) (until : Option
 said_matches today reason until r [] is said = said
 said_matches today reason until r (x ∷ xs) is said =
     elim (is_said r x) as (λ b. is_said r x ≡ b → (b || list_any (is_said r) xs) ≡ true → (matches today (entry_read x reason until) r || list_any (λ e. matches today e r) (map (λ x. entry_read x reason until) xs)) ≡ true) [
-      | true ↦ λ same _. rw ((same_conditions-Decides (conditions_for x) (conditions_for r)).0 same, matches_is r reason today until is) refl
+      | true ↦ λ same _.
+          let conditions : conditions_for x ≡ conditions_for r = (same_conditions-Decides (conditions_for x) (conditions_for r)).0 same in
+          or_left (matches today (entry_read x reason until) r) _ (ap (λ cs. matches today (read_with cs reason until) r) conditions ∙ matches_is r reason today until is)
       | false ↦ λ _ more. or_right _ _ (said_matches today reason until r xs is more)
     ] refl said
 

@@ -52,7 +52,7 @@ module _ {P : Data → Type 0} {until : Option ℕ} (each : IsOfEach P until) wh
 
   condition_in : (o : Option Condition) → If P (option_map value_of o)
   condition_in None = tt
-  condition_in (Some c) = value_has (record { text = each.text; pairs = each.pairs; list = each.list }) c
+  condition_in (Some c) = value_has {P = P} (record { text = each.text; pairs = each.pairs; list = each.list }) c
 
   also : {A B : Type 0} → A → B → A × B
   also a b = (a, b)

@@ -1,11 +1,11 @@
 -- Entries of a file of an earlier version are the same in version 4.
-use Rattle.std.proofs.Common.{◌≡◌, ℕ, ◌+◌, Bool, true, false, ◌&&◌, ◌||◌, not, List, [], ◌∷◌, ◌++◌, map, Option, Some, None, codes, refl, sym, ◌∙◌, if◌then◌else◌, true≢false}
+use Rattle.std.proofs.Common.{◌≡◌, ℕ, ◌+◌, Bool, true, false, ◌&&◌, ◌||◌, not, List, [], ◌∷◌, ◌++◌, map, Option, Some, None, option_map, bytes_eq, codes, refl, sym, ◌∙◌, if◌then◌else◌, true≢false}
 use Rattle.std.specs.Prelude.{⊤, Result, Ok, Err, filter, option_and_then}
-use Rattle.std.proofs.lemmas.Bool.{and_from, and_parts}
+use Rattle.std.proofs.lemmas.Bool.{and_from, and_parts, or_left, or_right}
 use Rattle.serde_json.specs.Data.{Data, Items, Members, no_members, member}
 use Rattle.serde_json.specs.Find.{as_object, as_str, as_number, as_u64, as_array}
 use Rattle.std.specs.Prelude.{is_some, is_none}
-use Rattle.std.specs.List.{AllByRecursion}
+use Rattle.std.specs.List.{AllByRecursion, list_any}
 use Rattle.sarif_model.specs.Guid.{guid_of_text}
 use Rattle.sarif_model.specs.Members.{◌>>=◌, of_kind, text_at, or_wrong, member_at, elements_of, elements_at, read_each, result_map}
 use Rattle.sarif_model.specs.Status.{status_named}
