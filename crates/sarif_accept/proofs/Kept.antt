@@ -41,7 +41,7 @@ condition_in_fourth : (version : Version) (name : List ℕ) (kinds : List Condit
 condition_in_fourth version name [] is = is
 condition_in_fourth version name (kind ∷ kinds) is =
     elim (bytes_eq name (name_of kind) && includes version (since kind)) as (λ b. (bytes_eq name (name_of kind) && includes version (since kind)) ≡ b → (b || list_any (λ kind. bytes_eq name (name_of kind) && includes version (since kind)) kinds) ≡ true
-        → ((bytes_eq name (name_of kind) && includes Fourth (since kind)) || list_any (λ kind. bytes_eq name (name_of kind) && includes Fourth (since kind)) kinds) ≡ true) [
+    → ((bytes_eq name (name_of kind) && includes Fourth (since kind)) || list_any (λ kind. bytes_eq name (name_of kind) && includes Fourth (since kind)) kinds) ≡ true) [
       | true ↦ λ here _. or_left _ _ (and_from _ _ (and_parts (bytes_eq name (name_of kind)) (includes version (since kind)) here).0 (in_fourth (since kind)))
       | false ↦ λ _ more. or_right _ _ (condition_in_fourth version name kinds more)
     ] refl is

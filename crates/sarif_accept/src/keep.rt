@@ -22,7 +22,8 @@ fn is_pruned<S: BuildHasher + Copy>(
 ) -> bool
     ensures { result ≡ is_dropped (heard_of heard.now) today entry.now used }
 {
-    entry.is_expired(today) || (!used && heard.hears(text_in(entry.conditions.as_slice(), ConditionKind::Tool)))
+    entry.is_expired(today)
+        || (!used && heard.hears(text_in(entry.conditions.as_slice(), ConditionKind::Tool)))
 }
 
 /// For each entry whether it stays, by the marks of those that are used.

@@ -104,9 +104,8 @@ impl ConditionKind {
     {
         match self {
             ConditionKind::UriPrefix => Version::Second,
-            ConditionKind::Message
-            | ConditionKind::MessageId
-            | ConditionKind::MessageArguments => Version::Fourth,
+            ConditionKind::Message | ConditionKind::MessageId | ConditionKind::MessageArguments =>
+                Version::Fourth,
             _ => Version::First,
         }
     }
@@ -234,9 +233,7 @@ impl Condition {
 pub(crate) fn hold(conditions: &[Condition], record: &Record) -> bool
     ensures { result ≡ all_hold conditions.now «record».now }
 {
-    conditions
-        .iter()
-        .all(|condition| condition.holds(record))
+    conditions.iter().all(|condition| condition.holds(record))
 }
 
 /// Returns the first condition of that kind.
@@ -285,13 +282,23 @@ pub(crate) fn condition_at(
         ConditionKind::Tool => own_text_at(alloc, entry, name, wrong)?.map(Condition::Tool),
         ConditionKind::RuleId => own_text_at(alloc, entry, name, wrong)?.map(Condition::RuleId),
         ConditionKind::Uri => own_text_at(alloc, entry, name, wrong)?.map(Condition::Uri),
-        ConditionKind::UriPrefix => own_text_at(alloc, entry, name, wrong)?.map(Condition::UriPrefix),
+        ConditionKind::UriPrefix => own_text_at(alloc, entry, name, wrong)?.map(
+            Condition::UriPrefix,
+        ),
         ConditionKind::Guid => guid_at(entry, name, wrong)?.map(Condition::Guid),
-        ConditionKind::Fingerprints => if_any(pairs_at(alloc, entry, name, wrong)?).map(Condition::Fingerprints),
-        ConditionKind::PartialFingerprints => if_any(pairs_at(alloc, entry, name, wrong)?).map(Condition::PartialFingerprints),
+        ConditionKind::Fingerprints => if_any(pairs_at(alloc, entry, name, wrong)?).map(
+            Condition::Fingerprints,
+        ),
+        ConditionKind::PartialFingerprints => if_any(pairs_at(alloc, entry, name, wrong)?).map(
+            Condition::PartialFingerprints,
+        ),
         ConditionKind::Message => own_text_at(alloc, entry, name, wrong)?.map(Condition::Message),
-        ConditionKind::MessageId => own_text_at(alloc, entry, name, wrong)?.map(Condition::MessageId),
-        ConditionKind::MessageArguments => if_any(texts_at(alloc, entry, name, wrong)?).map(Condition::MessageArguments),
+        ConditionKind::MessageId => own_text_at(alloc, entry, name, wrong)?.map(
+            Condition::MessageId,
+        ),
+        ConditionKind::MessageArguments => if_any(texts_at(alloc, entry, name, wrong)?).map(
+            Condition::MessageArguments,
+        ),
     })
 }
 
@@ -343,15 +350,19 @@ pub fn own_of(
         ConditionKind::Uri => copy_of_text(&record.place.uri)?.map(Condition::Uri),
         ConditionKind::UriPrefix => None,
         ConditionKind::Guid => record.guid.map(Condition::Guid),
-        ConditionKind::Fingerprints => if_any(copy_of_pairs(alloc, record.full.as_slice())?)
-            .map(Condition::Fingerprints),
+        ConditionKind::Fingerprints => if_any(copy_of_pairs(alloc, record.full.as_slice())?).map(
+            Condition::Fingerprints,
+        ),
         ConditionKind::PartialFingerprints => {
-            if_any(copy_of_pairs(alloc, record.partial.as_slice())?)
-                .map(Condition::PartialFingerprints)
+            if_any(copy_of_pairs(alloc, record.partial.as_slice())?).map(
+                Condition::PartialFingerprints,
+            )
         }
         ConditionKind::Message => copy_of_text(&message.text)?.map(Condition::Message),
         ConditionKind::MessageId => copy_of_text(&message.id)?.map(Condition::MessageId),
-        ConditionKind::MessageArguments => if_any(copy_of_texts(alloc, message.args.as_slice())?)
-            .map(Condition::MessageArguments),
+        ConditionKind::MessageArguments => if_any(copy_of_texts(
+            alloc,
+            message.args.as_slice(),
+        )?).map(Condition::MessageArguments),
     })
 }

@@ -28,7 +28,11 @@ pub(crate) fn own_text_at(
 }
 
 /// The GUID `name` of an entry.
-pub(crate) fn guid_at(entry: &Value, name: &str, wrong: FileFault) -> Result<Option<u128>, FileFault>
+pub(crate) fn guid_at(
+    entry: &Value,
+    name: &str,
+    wrong: FileFault,
+) -> Result<Option<u128>, FileFault>
     ensures { result ≡ said.guid_at wrong name.now (view entry.now) }
 {
     match text_at(entry, name, wrong)? {

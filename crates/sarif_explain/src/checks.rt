@@ -305,11 +305,14 @@ pub(crate) const ENTRY_NAMES: &[(&str, u64)] = &[
 /// What is expected of the members of an entry in a file of version 1, 2 and 4, and of its conditions.
 pub(crate) const FIRST_NAMES: &str = "in version 1 only the members tool, ruleId, uri, guid, \
     fingerprints, partialFingerprints, status and justification";
+
 pub(crate) const SECOND_NAMES: &str = "in version 2 only the members tool, ruleId, uri, \
     uriPrefix, guid, fingerprints, partialFingerprints, expires, status and justification";
+
 pub(crate) const FOURTH_NAMES: &str = "only the members tool, ruleId, uri, uriPrefix, guid, \
     fingerprints, partialFingerprints, message, messageId, messageArguments, expires, status and \
     justification";
+
 pub(crate) const CONDITIONS: &str = "at least one of tool, ruleId, uri, uriPrefix, guid, \
     fingerprints, partialFingerprints, message, messageId and messageArguments";
 

@@ -24,7 +24,9 @@ fn has_names(entry: &Entry, names: &[&str]) -> bool {
 
 #[test]
 fn an_entry_lists_its_conditions_in_order(rt: HostRuntime) -> Result<(), Fail> {
-    let entries = entries_of_file(rt.alloc(), FILE.as_bytes(), None).unwrap_or(Vec::new(rt.alloc()));
+    let entries = entries_of_file(rt.alloc(), FILE.as_bytes(), None).unwrap_or(Vec::new(
+        rt.alloc(),
+    ));
     assert_eq!(rt; entries.len(), 1);
     for entry in &entries {
         assert!(rt; has_names(entry, &["tool", "uri", "messageArguments"]));
