@@ -9,9 +9,13 @@ use Rattle.std.proofs.lemmas.Bool.{or_right, or_left, and_parts}
 use Rattle.serde_json.specs.Data.{Data}
 use Rattle.sarif_model.specs.declared.kinds.State.{State}
 use Rattle.sarif_model.specs.declared.kinds.Status.{Status}
+use Rattle.sarif_model.specs.declared.kinds.Status.TheVariants.{Accepted}
 use Rattle.sarif_model.specs.declared.record.Record.{Record}
 use Rattle.sarif_model.specs.Status.{is_accepted}
 use Rattle.sarif_entries.specs.declared.entry.Entry.{Entry}
+use Rattle.sarif_entries.specs.declared.condition.Condition.{Condition}
+use Rattle.sarif_entries.specs.declared.condition.ConditionKind.TheVariants as kinds
+use Rattle.sarif_entries.specs.Condition.{text_in}
 use Rattle.sarif_entries.specs.File.{File}
 use Rattle.sarif_entries.specs.Matching.{is_empty, matches, is_expired, hold}
 use Rattle.sarif_suppress.specs.Suppressing.{matching, statuses_suppress, statuses_of, is_suppressed, is_unused}
@@ -20,12 +24,16 @@ use Rattle.sarif_suppress.specs.Written.{with_object, with_objects, suppressions
 use Rattle.sarif_suppress.proofs.Numbered.{is_empty-append}
 use Rattle.sarif_accept.specs.Entry.{conditions_for}
 use Rattle.sarif_accept.specs.Keeping.{Heard, is_kept}
-use Rattle.sarif_accept.specs.Adding.{How, Counts, is_hit, stays, is_said, once_each, entry_read, accepted_among, added_for, file_after}
+use Rattle.sarif_accept.specs.Adding.{as_read, How, Counts, is_hit, stays, is_said, once_each, entry_read, accepted_among, added_for, file_after}
 use Rattle.sarif_accept.specs.Until.{IsUntil}
 use Rattle.sarif_accept.proofs.EntryMatches.{matches_is}
 use Rattle.sarif_accept.proofs.SameConditions.{same_conditions-Decides}
 
 -- ---- results that are accepted by one entry
+
+-- the entry of these conditions, as it is read
+abbrev read_with : List Condition → Option (List ℕ) → Option ℕ → Entry
+read_with cs reason until = record { conditions = map as_read cs; expires = until; status = Accepted; justification = reason }
 
 -- an entry that is made for another result that asks the same matches this one
 said_matches : (today : Option ℕ) (reason : Option (List ℕ)) (until : Option ℕ) (r : Record) (rs : List Record) → IsUntil today until
@@ -33,7 +41,9 @@ said_matches : (today : Option ℕ) (reason : Option (List ℕ)) (until : Option
 said_matches today reason until r [] is said = said
 said_matches today reason until r (x ∷ xs) is said =
     elim (is_said r x) as (λ b. is_said r x ≡ b → (b || list_any (is_said r) xs) ≡ true → (matches today (entry_read x reason until) r || list_any (λ e. matches today e r) (map (λ x. entry_read x reason until) xs)) ≡ true) [
-      | true ↦ λ same _. rw ((same_conditions-Decides (conditions_for x) (conditions_for r)).0 same, matches_is r reason today until is) refl
+      | true ↦ λ same _.
+          let conditions : conditions_for x ≡ conditions_for r = (same_conditions-Decides (conditions_for x) (conditions_for r)).0 same in
+          or_left (matches today (entry_read x reason until) r) _ (ap (λ cs. matches today (read_with cs reason until) r) conditions ∙ matches_is r reason today until is)
       | false ↦ λ _ more. or_right _ _ (said_matches today reason until r xs is more)
     ] refl said
 
@@ -80,7 +90,7 @@ keeps_matching : (prune : Bool) (heard : Heard) (file : File) (rs : List Record)
 keeps_matching prune heard file rs r i within is e fits =
     let unexpired = and_parts (not (is_expired file.today e)) (hold e.conditions r) fits in
     let used : list_any (λ x. matches file.today e x) rs ≡ true = list_any_at (λ x. matches file.today e x) rs i r within (rw is fits) in
-    ap (λ b. not (prune && (is_expired file.today e || (not b && heard e.conditions.tool)))) used ∙ by_tests prune (is_expired file.today e) unexpired.0
+    ap (λ b. not (prune && (is_expired file.today e || (not b && heard (text_in kinds.Tool e.conditions))))) used ∙ by_tests prune (is_expired file.today e) unexpired.0
   where
     by_tests : (p x : Bool) → not x ≡ true → not (p && (x || false)) ≡ true
     by_tests p true e = absurd (true≢false (sym e))
@@ -213,9 +223,9 @@ same_list how counts file rs states r i own within is none =
     ∙ ap (λ l. matching file r ++ filter test (map (λ x. entry_read x how.renewal.reason how.renewal.until) l)) nothing ∙ append-nil (matching file r))
 
 -- an entry that stays unused where the file was pruned isn't expired, and names no tool that was heard
-pub unused_stays : (heard : Heard) (file : File) (rs : List Record) (e : Entry) → is_kept true heard file rs e ≡ true → is_unused file rs e ≡ true → (is_expired file.today e ≡ false) × (heard e.conditions.tool ≡ false)
+pub unused_stays : (heard : Heard) (file : File) (rs : List Record) (e : Entry) → is_kept true heard file rs e ≡ true → is_unused file rs e ≡ true → (is_expired file.today e ≡ false) × (heard (text_in kinds.Tool e.conditions) ≡ false)
 unused_stays heard file rs e kept unused =
-    by_tests (is_expired file.today e) (is_unused file rs e) (heard e.conditions.tool) kept unused
+    by_tests (is_expired file.today e) (is_unused file rs e) (heard (text_in kinds.Tool e.conditions)) kept unused
   where
     by_tests : (x u h : Bool) → not (x || (u && h)) ≡ true → u ≡ true → (x ≡ false) × (h ≡ false)
     by_tests true u h e f = absurd (true≢false (sym e))
@@ -224,10 +234,10 @@ unused_stays heard file rs e kept unused =
     by_tests false false h e f = absurd (true≢false (sym f))
 
 -- the other way: an entry stays if it isn't expired, and matches a result or names a tool that wasn't heard
-pub unexpired_stays : (heard : Heard) (file : File) (rs : List Record) (e : Entry) → is_expired file.today e ≡ false → (is_unused file rs e ≡ false) ⊎ (heard e.conditions.tool ≡ false)
+pub unexpired_stays : (heard : Heard) (file : File) (rs : List Record) (e : Entry) → is_expired file.today e ≡ false → (is_unused file rs e ≡ false) ⊎ (heard (text_in kinds.Tool e.conditions) ≡ false)
     → is_kept true heard file rs e ≡ true
 unexpired_stays heard file rs e valid why =
-    by_tests (is_expired file.today e) (is_unused file rs e) (heard e.conditions.tool) valid why
+    by_tests (is_expired file.today e) (is_unused file rs e) (heard (text_in kinds.Tool e.conditions)) valid why
   where
     by_tests : (x u h : Bool) → x ≡ false → (u ≡ false) ⊎ (h ≡ false) → not (x || (u && h)) ≡ true
     by_tests true u h valid why = absurd (true≢false valid)

@@ -1,82 +1,28 @@
 -- The entry that is made for a result matches it until its expiry date.
-use Rattle.std.proofs.Common.{◌≡◌, ℕ, ◌≤◌, true, false, List, [], ◌∷◌, Option, Some, None, bytes_eq, refl, sym, ap, ◌∙◌, arith, Ordering, Less, Equal, Greater, is_eq, nat_cmp}
-use Rattle.std.specs.Prelude.{nat_eq, nat_lt}
-use Rattle.std.specs.List.{list_any}
-use Rattle.std.specs.Cmp.Lexicographic.{slice_cmp}
-use Rattle.std.specs.Ordering.{match_ordering}
-use Rattle.std.proofs.lemmas.Bool.{and_from, or_right, and_parts}
+use Rattle.std.proofs.Common.{◌≡◌, ℕ, ◌≤◌, true, false, List, [], ◌∷◌, map, Option, Some, None, refl, arith}
+use Rattle.std.specs.Prelude.{nat_lt}
+use Rattle.std.specs.Option.{option_map_or}
+use Rattle.std.proofs.lemmas.Bool.{and_from}
 use Rattle.std.proofs.lemmas.Bool.Decides.{nat_tests}
-use Rattle.std.proofs.lemmas.Map.Text.{is_eq-slice_cmp}
-use Rattle.std.proofs.lemmas.Slice.Eq.{bytes_eq-Decides, slice_eq-Decides}
-use Rattle.serde_json.specs.Data.{Data, string, Members, no_members, member, put}
-use Rattle.serde_json.specs.Find.{as_str}
 use Rattle.sarif_model.specs.declared.record.Record.{Record}
-use Rattle.sarif_entries.specs.Entries.{with_pair, pairs_of}
-use Rattle.sarif_entries.specs.Matching.{is_there, are_wanted, is_pair, are_among, hold, is_past, matches}
-use Rattle.sarif_accept.specs.Entry.{asked_of, texts_into, texts_put}
+use Rattle.sarif_entries.specs.declared.condition.Condition.{Condition}
+use Rattle.sarif_entries.specs.declared.condition.ConditionKind.{ConditionKind}
+use Rattle.sarif_entries.specs.Condition.{all_kinds, holds}
+use Rattle.sarif_entries.specs.Entries.{with_condition}
+use Rattle.sarif_entries.specs.Matching.{hold, is_past, matches}
+use Rattle.sarif_accept.specs.Entry.{asked_of, named_by}
 use Rattle.sarif_accept.specs.Adding.{as_read, entry_read}
 use Rattle.sarif_accept.specs.Until.{IsUntil}
+use Rattle.sarif_accept.proofs.EachCondition.{asked_held}
 
-same_text : (text : List ℕ) → bytes_eq text text ≡ true
-same_text text = (bytes_eq-Decides text text).1 refl
+module _ (r : Record) where
+  with_held : (o : Option Condition) (cs : List Condition) → option_map_or (λ c. holds (as_read c) r) o true ≡ true → hold (map as_read cs) r ≡ true → hold (map as_read (with_condition o cs)) r ≡ true
+  with_held None cs one all = all
+  with_held (Some c) cs one all = and_from _ _ one all
 
-there_itself : (o : Option (List ℕ)) → is_there o o ≡ true
-there_itself None = refl
-there_itself (Some text) = same_text text
-
-wanted_itself : (ts : List (List ℕ)) → are_wanted ts ts ≡ true
-wanted_itself [] = refl
-wanted_itself (t ∷ ts) = (slice_eq-Decides bytes_eq-Decides (t ∷ ts) (t ∷ ts) _ refl).1 refl
-
-more_among : (q : List ℕ × List ℕ) (ps among : List (List ℕ × List ℕ)) → are_among ps among ≡ true → are_among ps (q ∷ among) ≡ true
-more_among q [] among all = refl
-more_among q (p ∷ ps) among all =
-    let both = and_parts (list_any (λ x. is_pair x p) among) (are_among ps among) all in
-    and_from _ _ (or_right (is_pair q p) _ both.0) (more_among q ps among both.1)
-
-itself_among : (ps : List (List ℕ × List ℕ)) → are_among ps ps ≡ true
-itself_among [] = refl
-itself_among (p ∷ ps) = and_from _ _ (rw (same_text p.0, same_text p.1) refl) (more_among p ps ps (itself_among ps))
-
-rest_among : (name : List ℕ) (o : Option (List ℕ)) (ps among : List (List ℕ × List ℕ)) → are_among (with_pair name o ps) among ≡ true → are_among ps among ≡ true
-rest_among name None ps among all = all
-rest_among name (Some text) ps among all = (and_parts _ (are_among ps among) all).1
-
-change_among : (name : List ℕ) (o : Option (List ℕ)) (ps qs among : List (List ℕ × List ℕ)) → are_among (with_pair name o ps) among ≡ true → are_among qs among ≡ true → are_among (with_pair name o qs) among ≡ true
-change_among name None ps qs among all new = new
-change_among name (Some text) ps qs among all new = and_from _ _ (and_parts _ (are_among ps among) all).0 new
-
-put_among_on : (o : Ordering) (k v l : List ℕ) (e : Data) (ms : Members) (among : List (List ℕ × List ℕ)) → list_any (λ x. is_pair x (k, v)) among ≡ true
-    → slice_cmp nat_cmp k l ≡ o → are_among (pairs_of (member l e ms)) among ≡ true → are_among (pairs_of (put k (string v) ms)) among ≡ true
-    → are_among (pairs_of (match_ordering o (member k (string v) (member l e ms)) (member l (string v) ms) (member l e (put k (string v) ms)))) among ≡ true
-put_among_on Less k v l e ms among here is all later = and_from _ _ here all
-put_among_on Equal k v l e ms among here is all later =
-    let same : k ≡ l = (bytes_eq-Decides k l).0 (sym (is_eq-slice_cmp k l) ∙ ap is_eq is) in
-    and_from _ _ (rw (← same) here) (rest_among l (as_str e) (pairs_of ms) among all)
-put_among_on Greater k v l e ms among here is all later = change_among l (as_str e) (pairs_of ms) (pairs_of (put k (string v) ms)) among all later
-
-put_among : (k v : List ℕ) (ms : Members) (among : List (List ℕ × List ℕ)) → list_any (λ x. is_pair x (k, v)) among ≡ true
-    → are_among (pairs_of ms) among ≡ true → are_among (pairs_of (put k (string v) ms)) among ≡ true
-put_among k v no_members among here all = and_from _ _ here refl
-put_among k v (member l e ms) among here all = put_among_on (slice_cmp nat_cmp k l) k v l e ms among here refl all (put_among k v ms among here (rest_among l (as_str e) (pairs_of ms) among all))
-
-into_among : (ms : Members) (ps among : List (List ℕ × List ℕ)) → are_among (pairs_of ms) among ≡ true → are_among ps among ≡ true → are_among (pairs_of (texts_into ms ps)) among ≡ true
-into_among ms [] among before all = before
-into_among ms (p ∷ ps) among before all =
-    let both = and_parts (list_any (λ x. is_pair x p) among) (are_among ps among) all in
-    into_among (put p.0 (string p.1) ms) ps among (put_among p.0 p.1 ms among both.0 before) both.1
-
-texts_among : (ps among : List (List ℕ × List ℕ)) → are_among ps among ≡ true → are_among (pairs_of (texts_put ps)) among ≡ true
-texts_among ps among all = into_among no_members ps among refl all
-
-holds_of : (r : Record) (g : Option ℕ) (full partial : List (List ℕ × List ℕ)) → r.guid ≡ g → r.full ≡ full → r.partial ≡ partial → hold (as_read (asked_of r g full partial)) r ≡ true
-holds_of r (Some guid) full partial is_guid is_full is_partial = rw (same_text r.rule_id, same_text r.tool, is_guid, nat_itself guid) refl
-  where
-    nat_itself : (n : ℕ) → nat_eq n n ≡ true
-    nat_itself n = grind (arith, nat_tests)
-holds_of r None (p ∷ ps) partial is_guid is_full is_partial = rw (same_text r.rule_id, same_text r.tool, there_itself r.place.uri, is_full, texts_among (p ∷ ps) (p ∷ ps) (itself_among (p ∷ ps))) refl
-holds_of r None [] (p ∷ ps) is_guid is_full is_partial = rw (same_text r.rule_id, same_text r.tool, there_itself r.place.uri, is_partial, texts_among (p ∷ ps) (p ∷ ps) (itself_among (p ∷ ps))) refl
-holds_of r None [] [] is_guid is_full is_partial = rw (same_text r.rule_id, same_text r.tool, there_itself r.place.uri, there_itself r.message.text, there_itself r.message.id, wanted_itself r.message.args) refl
+  named_held : (kinds : List ConditionKind) → hold (map as_read (named_by (asked_of r) kinds)) r ≡ true
+  named_held [] = refl
+  named_held (kind ∷ kinds) = with_held (asked_of r kind) (named_by (asked_of r) kinds) (asked_held r kind) (named_held kinds)
 
 in_time : (today until : Option ℕ) → IsUntil today until → is_past today until ≡ false
 in_time None None is = refl
@@ -88,4 +34,4 @@ in_time (Some day) (Some last) is = later day is.1 last (cc) is.3
     later day known last same fits = grind (arith, nat_tests)
 
 pub matches_is : (r : Record) (reason : Option (List ℕ)) (today until : Option ℕ) → IsUntil today until → matches today (entry_read r reason until) r ≡ true
-matches_is r reason today until is = rw (in_time today until is, holds_of r r.guid r.full r.partial refl refl refl) refl
+matches_is r reason today until is = rw (in_time today until is, named_held r all_kinds) refl

@@ -1,7 +1,7 @@
 -- Stripping changes nothing of an entry that is read.
-use Rattle.std.proofs.Common.{◌≡◌, ℕ, Bool, true, false, ◌||◌, List, [], ◌∷◌, map, Option, Some, None, bytes_eq, codes, refl, sym, ap, ap₂, ◌∙◌, true≢false, Ordering, Less, Equal, Greater, is_eq, nat_cmp, if◌then◌else◌}
+use Rattle.std.proofs.Common.{◌≡◌, ℕ, Bool, true, false, ◌&&◌, ◌||◌, List, [], ◌∷◌, map, Option, Some, None, option_map, bytes_eq, codes, refl, sym, ap, ap₂, ◌∙◌, true≢false, Ordering, Less, Equal, Greater, is_eq, nat_cmp, if◌then◌else◌}
 use Rattle.std.specs.Prelude.{◌+◌, Result, Ok, Err, option_and_then}
-use Rattle.std.specs.List.{AllByRecursion}
+use Rattle.std.specs.List.{AllByRecursion, list_any}
 use Rattle.std.specs.Cmp.Lexicographic.{slice_cmp}
 use Rattle.std.specs.Ordering.{match_ordering}
 use Rattle.std.proofs.lemmas.Map.Text.{is_eq-slice_cmp}
@@ -16,12 +16,14 @@ use Rattle.json_parts.proofs.Stripped.{get-stripped, unless_fractional}
 use Rattle.sarif_read.proofs.RunOf.{stripped_ordered}
 use Rattle.sarif_model.specs.Members.{◌>>=◌, of_kind, text_at, unless_null, elements, elements_of, read_each, result_map}
 use Rattle.sarif_model.specs.declared.fault.Fault.TheVariants.{BadEntry}
-use Rattle.sarif_entries.specs.declared.conditions.Conditions.{Conditions}
+use Rattle.sarif_entries.specs.declared.condition.Condition.{Condition}
+use Rattle.sarif_entries.specs.declared.condition.ConditionKind.{ConditionKind}
+use Rattle.sarif_entries.specs.Condition.{Form, a_text, a_guid, some_pairs, some_texts, all_kinds, name_of, since, form_of, unless_empty}
 use Rattle.sarif_entries.specs.declared.entry.Entry.{Entry}
 use Rattle.sarif_entries.specs.declared.fault.FileFault.{FileFault}
 use Rattle.sarif_entries.specs.declared.version.Version.{Version}
 use Rattle.sarif_entries.specs.declared.version.Version.TheVariants.{Fourth}
-use Rattle.sarif_entries.specs.Entries.{is_first_member, is_second_member, has_member, are_members_of, check_members, unless_fault, conditions_of, members_of, entry_of, guid_at, pairs_at, pairs_of_member, are_texts, pairs_of, texts_at, text_or, day_at, day_of_member, status_at}
+use Rattle.sarif_entries.specs.Entries.{includes, has_condition, has_member, are_members_of, check_members, unless_fault, read_as, with_condition, condition_at, conditions_from, conditions_of, members_of, entry_of, guid_at, pairs_at, pairs_of_member, are_texts, pairs_of, texts_at, text_or, day_at, day_of_member, status_at}
 use Rattle.sarif_entries.specs.File.{entries_from}
 use Rattle.sarif_entries.specs.FileFault.{in_entry}
 use Rattle.sarif_accept.specs.NewFile.{entry_in}
@@ -122,50 +124,39 @@ module _ (wrong : FileFault) where
 
 -- ---- the members of an entry that is read
 
-record ConditionsStay (d : Data) : Type 0 where
-  tool : Stays (get (codes "tool") d)
-  rule_id : Stays (get (codes "ruleId") d)
-  uri : Stays (get (codes "uri") d)
-  uri_prefix : Stays (get (codes "uriPrefix") d)
-  guid : Stays (get (codes "guid") d)
-  full : Stays (get (codes "fingerprints") d)
-  partial : Stays (get (codes "partialFingerprints") d)
-  message : Stays (get (codes "message") d)
-  message_id : Stays (get (codes "messageId") d)
-  message_args : Stays (get (codes "messageArguments") d)
+-- if what was made of a value is there, so is the value
+mapped : {A B : Type 0} (f : A → B) (r : Result A FileFault) (y : B) → result_map f r ≡ Ok y → (x : A) × (r ≡ Ok x)
+mapped f (Ok x) y is = (x, refl)
+mapped f (Err e) y is = let never : ⊥ = cc in absurd never
+
+form_stays : (wrong : FileFault) (form : Form) (name : List ℕ) (d : Data) (found : Option Condition) → read_as form wrong name d ≡ Ok found → Stays (get name d)
+form_stays wrong (a_text make) name d found is = let m = mapped (option_map make) (text_at wrong name d) found is in text_stays wrong _ m.0 m.1
+form_stays wrong (a_guid make) name d found is =
+    let m = mapped (option_map make) (guid_at wrong name d) found is in
+    let g = both (text_at wrong name d) _ m.0 m.1 in
+    text_stays wrong _ g.value g.first
+form_stays wrong (some_pairs make) name d found is = let m = mapped (unless_empty make) (pairs_at wrong name d) found is in pairs_stay wrong _ m.0 m.1
+form_stays wrong (some_texts make) name d found is = let m = mapped (unless_empty make) (texts_at wrong name d) found is in list_stays wrong _ m.0 m.1
+
+abbrev ConditionsStay : Data → List ConditionKind → Type 0
+ConditionsStay d kinds = AllByRecursion (λ kind. Stays (get (name_of kind) d)) kinds
+
+kinds_stay : (wrong : FileFault) (d : Data) (kinds : List ConditionKind) (cs : List Condition) → conditions_from wrong d kinds ≡ Ok cs → ConditionsStay d kinds
+kinds_stay wrong d [] cs is = tt
+kinds_stay wrong d (kind ∷ kinds) cs is =
+    let s = both (condition_at wrong d kind) _ cs is in
+    let m = mapped (with_condition s.value) (conditions_from wrong d kinds) cs s.second in
+    (form_stays wrong (form_of kind) (name_of kind) d s.value s.first, kinds_stay wrong d kinds m.0 m.1)
 
 record MembersStay (d : Data) : Type 0 where
-  conditions : ConditionsStay d
+  conditions : ConditionsStay d all_kinds
   expires : Stays (get (codes "expires") d)
   status : Stays (get (codes "status") d)
   justification : Stays (get (codes "justification") d)
 
-conditions_stay : (wrong : FileFault) (d : Data) (c : Conditions) → conditions_of wrong d ≡ Ok c → ConditionsStay d
+conditions_stay : (wrong : FileFault) (d : Data) (cs : List Condition) → conditions_of wrong d ≡ Ok cs → ConditionsStay d all_kinds
 unfolding conditions_of
-conditions_stay wrong d c is =
-    let s1 = both (text_at wrong (codes "tool") d) _ c is in
-    let s2 = both (text_at wrong (codes "ruleId") d) _ c s1.second in
-    let s3 = both (text_at wrong (codes "uri") d) _ c s2.second in
-    let s4 = both (text_at wrong (codes "uriPrefix") d) _ c s3.second in
-    let s5 = both (guid_at wrong (codes "guid") d) _ c s4.second in
-    let g = both (text_at wrong (codes "guid") d) _ s5.value s5.first in
-    let s6 = both (pairs_at wrong (codes "fingerprints") d) _ c s5.second in
-    let s7 = both (pairs_at wrong (codes "partialFingerprints") d) _ c s6.second in
-    let s8 = both (text_at wrong (codes "message") d) _ c s7.second in
-    let s9 = both (text_at wrong (codes "messageId") d) _ c s8.second in
-    let s10 = both (texts_at wrong (codes "messageArguments") d) _ c s9.second in
-    record {
-      tool = text_stays wrong _ s1.value s1.first;
-      rule_id = text_stays wrong _ s2.value s2.first;
-      uri = text_stays wrong _ s3.value s3.first;
-      uri_prefix = text_stays wrong _ s4.value s4.first;
-      guid = text_stays wrong _ g.value g.first;
-      full = pairs_stay wrong _ s6.value s6.first;
-      partial = pairs_stay wrong _ s7.value s7.first;
-      message = text_stays wrong _ s8.value s8.first;
-      message_id = text_stays wrong _ s9.value s9.first;
-      message_args = list_stays wrong _ s10.value s10.first;
-    }
+conditions_stay wrong d cs is = kinds_stay wrong d all_kinds cs is
 
 all_stay : (wrong : FileFault) (d : Data) (e : Entry) → members_of wrong d ≡ Ok e → MembersStay d
 unfolding members_of
@@ -214,31 +205,23 @@ module _ (ms : Members) (stay : MembersStay (object ms)) (q : List ℕ) where
   last_of : (name : List ℕ) → bytes_eq q name ≡ true → Stays (get_member name ms) → StaysHere
   last_of name same here = rw ((bytes_eq-Decides q name).0 same) here
 
-  first_stays : is_first_member q ≡ true → StaysHere
-  first_stays is =
-      one_of (codes "tool") _ is stay.conditions.tool (λ is.
-      one_of (codes "ruleId") _ is stay.conditions.rule_id (λ is.
-      one_of (codes "uri") _ is stay.conditions.uri (λ is.
-      one_of (codes "guid") _ is stay.conditions.guid (λ is.
-      one_of (codes "fingerprints") _ is stay.conditions.full (λ is.
-      one_of (codes "partialFingerprints") _ is stay.conditions.partial (λ is.
-      one_of (codes "status") _ is stay.status (λ is.
-      last_of (codes "justification") is stay.justification)))))))
-
   either : (a b : Bool) → (a || b) ≡ true → (a ≡ true → StaysHere) → (b ≡ true → StaysHere) → StaysHere
   either true b is f g = f refl
   either false b is f g = g is
 
+  condition_stays : (kinds : List ConditionKind) → ConditionsStay (object ms) kinds → list_any (λ kind. bytes_eq q (name_of kind) && includes Fourth (since kind)) kinds ≡ true → StaysHere
+  condition_stays [] all is = absurd (true≢false (sym is))
+  condition_stays (kind ∷ kinds) all is =
+      either (bytes_eq q (name_of kind) && includes Fourth (since kind)) _ is
+      (λ here. last_of (name_of kind) (and_parts (bytes_eq q (name_of kind)) (includes Fourth (since kind)) here).0 all.0)
+      (λ more. condition_stays kinds all.1 more)
+
   known_stays : has_member Fourth q ≡ true → StaysHere
   known_stays is =
-      either (is_second_member q) _ is
-      (λ is. either (is_first_member q) _ is first_stays (λ is.
-      one_of (codes "uriPrefix") _ is stay.conditions.uri_prefix (λ is.
-      last_of (codes "expires") is stay.expires)))
-      (λ is.
-      one_of (codes "message") _ is stay.conditions.message (λ is.
-      one_of (codes "messageId") _ is stay.conditions.message_id (λ is.
-      last_of (codes "messageArguments") is stay.conditions.message_args)))
+      either (has_condition Fourth q) _ is (λ condition. condition_stays all_kinds stay.conditions condition) (λ is.
+      one_of (codes "status") _ is stay.status (λ is.
+      one_of (codes "justification") _ is stay.justification (λ is.
+      last_of (codes "expires") (and_parts (bytes_eq q (codes "expires")) true is).0 stay.expires)))
 
 any_stays : (ms : Members) → are_members_of Fourth ms ≡ true → MembersStay (object ms) → (q : List ℕ) → Stays (get_member q ms)
 any_stays ms all stay q =

@@ -5,10 +5,12 @@ use Rattle.std.specs.List.{AllByRecursion}
 use Rattle.serde_json.specs.Data.{Data, number, unsigned, string, array, object, Members, no_members, put}
 use Rattle.serde_json.specs.View.{items_of}
 use Rattle.json_parts.proofs.Keeping.{If}
-use Rattle.sarif_entries.specs.declared.conditions.Conditions.{Conditions}
-use Rattle.sarif_model.specs.Written.{Row, list_if_any, with_value}
-use Rattle.sarif_model.specs.Guid.{guid_text}
-use Rattle.sarif_accept.specs.Entry.{members_from, texts_into, texts_put, texts_if_any, entry_rows}
+use Rattle.sarif_entries.specs.declared.condition.Condition.{Condition}
+use Rattle.sarif_entries.specs.declared.condition.ConditionKind.{ConditionKind}
+use Rattle.sarif_entries.specs.Condition.{all_kinds}
+use Rattle.sarif_model.specs.Written.{Row, with_value}
+use Rattle.sarif_accept.specs.Entry.{members_from, texts_into, texts_put, value_of, rows_of, entry_rows}
+use Rattle.sarif_accept.proofs.EachCondition.{value_has}
 
 -- a fact about members that putting a member keeps, if its value has the other fact
 pub record IsKept (P : Data → Type 0) (Q : Members → Type 0) : Type 0 where
@@ -44,35 +46,24 @@ module _ {P : Data → Type 0} {until : Option ℕ} (each : IsOfEach P until) wh
   date_in None h = tt
   date_in (Some n) h = h
 
-  text_in : {A : Type 0} (f : A → List ℕ) (o : Option A) → If P (option_map (λ a. string (f a)) o)
-  text_in f None = tt
-  text_in f (Some a) = each.text (f a)
+  text_in : (o : Option (List ℕ)) → If P (option_map string o)
+  text_in None = tt
+  text_in (Some text) = each.text text
 
-  pairs_in : (ps : List (List ℕ × List ℕ)) → If P (texts_if_any ps)
-  pairs_in [] = tt
-  pairs_in (p ∷ ps) = each.pairs (p ∷ ps)
-
-  list_in : (texts : List (List ℕ)) → If P (list_if_any (map string texts))
-  list_in [] = tt
-  list_in (t ∷ ts) = each.list (t ∷ ts)
+  condition_in : (o : Option Condition) → If P (option_map value_of o)
+  condition_in None = tt
+  condition_in (Some c) = value_has {P = P} (record { text = each.text; pairs = each.pairs; list = each.list }) c
 
   also : {A B : Type 0} → A → B → A × B
   also a b = (a, b)
 
-  rows_have : (c : Conditions) (reason : Option (List ℕ)) → AllByRecursion (λ row. If P row.1) (entry_rows c reason until)
-  rows_have c reason =
-      also (date_in until each.date)
-      (also (text_in (λ t. t) reason)
-      (also (text_in (λ t. t) c.tool)
-      (also (text_in (λ t. t) c.rule_id)
-      (also (text_in (λ t. t) c.uri)
-      (also (text_in guid_text c.guid)
-      (also (pairs_in c.full)
-      (also (pairs_in c.partial)
-      (also (text_in (λ t. t) c.message)
-      (also (text_in (λ t. t) c.message_id)
-      (also (list_in c.message_args) tt))))))))))
+  conditions_have : (f : ConditionKind → Option Condition) (kinds : List ConditionKind) → AllByRecursion (λ row. If P row.1) (rows_of f kinds)
+  conditions_have f [] = tt
+  conditions_have f (kind ∷ kinds) = also (condition_in (f kind)) (conditions_have f kinds)
+
+  rows_have : (f : ConditionKind → Option Condition) (reason : Option (List ℕ)) → AllByRecursion (λ row. If P row.1) (entry_rows f reason until)
+  rows_have f reason = also (date_in until each.date) (also (text_in reason) (conditions_have f all_kinds))
 
 pub entry_keeps : {P : Data → Type 0} {Q : Members → Type 0} → IsKept P Q → (until : Option ℕ) → IsOfEach P until
-    → (c : Conditions) (reason : Option (List ℕ)) → Q (members_from (entry_rows c reason until))
-entry_keeps kept until each c reason = rows_keep kept (entry_rows c reason until) (rows_have each c reason)
+    → (f : ConditionKind → Option Condition) (reason : Option (List ℕ)) → Q (members_from (entry_rows f reason until))
+entry_keeps kept until each f reason = rows_keep kept (entry_rows f reason until) (rows_have each f reason)

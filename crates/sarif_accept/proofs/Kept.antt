@@ -1,11 +1,11 @@
 -- Entries of a file of an earlier version are the same in version 4.
-use Rattle.std.proofs.Common.{◌≡◌, ℕ, ◌+◌, Bool, true, false, ◌&&◌, ◌||◌, not, List, [], ◌∷◌, ◌++◌, map, Option, Some, None, codes, refl, sym, ◌∙◌, if◌then◌else◌, true≢false}
+use Rattle.std.proofs.Common.{◌≡◌, ℕ, ◌+◌, Bool, true, false, ◌&&◌, ◌||◌, not, List, [], ◌∷◌, ◌++◌, map, Option, Some, None, option_map, bytes_eq, codes, refl, sym, ◌∙◌, if◌then◌else◌, true≢false}
 use Rattle.std.specs.Prelude.{⊤, Result, Ok, Err, filter, option_and_then}
-use Rattle.std.proofs.lemmas.Bool.{and_from, and_parts}
+use Rattle.std.proofs.lemmas.Bool.{and_from, and_parts, or_left, or_right}
 use Rattle.serde_json.specs.Data.{Data, Items, Members, no_members, member}
 use Rattle.serde_json.specs.Find.{as_object, as_str, as_number, as_u64, as_array}
 use Rattle.std.specs.Prelude.{is_some, is_none}
-use Rattle.std.specs.List.{AllByRecursion}
+use Rattle.std.specs.List.{AllByRecursion, list_any}
 use Rattle.sarif_model.specs.Guid.{guid_of_text}
 use Rattle.sarif_model.specs.Members.{◌>>=◌, of_kind, text_at, or_wrong, member_at, elements_of, elements_at, read_each, result_map}
 use Rattle.sarif_model.specs.Status.{status_named}
@@ -16,10 +16,12 @@ use Rattle.sarif_entries.specs.declared.entry.Entry.{Entry}
 use Rattle.sarif_entries.specs.declared.fault.FileFault.{FileFault}
 use Rattle.sarif_entries.specs.declared.version.Version.{Version}
 use Rattle.sarif_entries.specs.declared.version.Version.TheVariants.{First, Second, Fourth}
-use Rattle.sarif_entries.specs.Entries.{unless_fault, check_object, check_members, has_member, is_first_member, is_second_member, are_members_of, conditions_of, members_of, entry_of, guid_at, guid_or, text_if, text_or, texts_at, pairs_at, pairs_of_member, pairs_or, are_texts, pairs_of, day_at, day_of_member, day_or, is_day, status_at, status_or, status_of_name}
+use Rattle.sarif_entries.specs.Entries.{unless_fault, check_object, check_members, includes, has_condition, has_member, are_members_of, read_as, with_condition, conditions_from, conditions_of, members_of, entry_of, guid_at, guid_or, text_if, text_or, texts_at, pairs_at, pairs_of_member, pairs_or, are_texts, pairs_of, day_at, day_of_member, day_or, is_day, status_at, status_or, status_of_name}
 use Rattle.sarif_entries.specs.File.{entries_from}
 use Rattle.sarif_entries.specs.FileFault.{in_entry}
-use Rattle.sarif_entries.specs.Matching.{is_any}
+use Rattle.sarif_entries.specs.declared.condition.ConditionKind.{ConditionKind}
+use Rattle.sarif_entries.specs.Condition.{Form, a_text, a_guid, some_pairs, some_texts, all_kinds, name_of, since, form_of, unless_empty}
+use Rattle.sarif_entries.specs.Matching.{is_empty}
 use Rattle.sarif_accept.specs.Entry.{entry_for}
 use Rattle.sarif_accept.specs.Adding.{entry_read}
 use Rattle.sarif_accept.specs.Keeping.{chosen}
@@ -28,14 +30,32 @@ use Rattle.sarif_accept.proofs.EntryRead.{entry_is}
 
 -- ---- members
 
-left : (a b : Bool) → a ≡ true → (a || b) ≡ true
-left true b is = refl
-left false b is = absurd (true≢false (sym is))
+-- version 4 has what any version introduced
+in_fourth : (earlier : Version) → includes Fourth earlier ≡ true
+in_fourth First = refl
+in_fourth Second = refl
+in_fourth Fourth = refl
+
+condition_in_fourth : (version : Version) (name : List ℕ) (kinds : List ConditionKind) → list_any (λ kind. bytes_eq name (name_of kind) && includes version (since kind)) kinds ≡ true
+    → list_any (λ kind. bytes_eq name (name_of kind) && includes Fourth (since kind)) kinds ≡ true
+condition_in_fourth version name [] is = is
+condition_in_fourth version name (kind ∷ kinds) is =
+    elim (bytes_eq name (name_of kind) && includes version (since kind)) as (λ b. (bytes_eq name (name_of kind) && includes version (since kind)) ≡ b → (b || list_any (λ kind. bytes_eq name (name_of kind) && includes version (since kind)) kinds) ≡ true
+    → ((bytes_eq name (name_of kind) && includes Fourth (since kind)) || list_any (λ kind. bytes_eq name (name_of kind) && includes Fourth (since kind)) kinds) ≡ true) [
+      | true ↦ λ here _. or_left _ _ (and_from _ _ (and_parts (bytes_eq name (name_of kind)) (includes version (since kind)) here).0 (in_fourth (since kind)))
+      | false ↦ λ _ more. or_right _ _ (condition_in_fourth version name kinds more)
+    ] refl is
 
 known_by_fourth : (version : Version) (name : List ℕ) → has_member version name ≡ true → has_member Fourth name ≡ true
-known_by_fourth First name is = left (is_second_member name) _ (left (is_first_member name) _ is)
-known_by_fourth Second name is = left (is_second_member name) _ is
-known_by_fourth Fourth name is = is
+known_by_fourth version name is =
+    by_tests (has_condition version name) (has_condition Fourth name) (bytes_eq name (codes "status")) (bytes_eq name (codes "justification")) (bytes_eq name (codes "expires")) (includes version Second) (condition_in_fourth version name all_kinds) is
+  where
+    by_tests : (a b s j e i : Bool) → (a ≡ true → b ≡ true) → (a || (s || (j || (e && i)))) ≡ true → (b || (s || (j || (e && true)))) ≡ true
+    by_tests true b s j e i so is = or_left b _ (so refl)
+    by_tests false b true j e i so is = or_right b _ refl
+    by_tests false b false true e i so is = or_right b _ refl
+    by_tests false b false false true i so is = or_right b _ refl
+    by_tests false b false false false i so is = absurd (true≢false (sym is))
 
 pub all_known : (version : Version) (ms : Members) → are_members_of version ms ≡ true → are_members_of Fourth ms ≡ true
 all_known version no_members is = refl
@@ -145,19 +165,24 @@ module _ (v w : FileFault) where
       or_gives None = refl
       or_gives (Some text) = name_gives (status_named text)
 
+  mapped_gives : {X Y : Type 0} (f : X → Y) (a b : Result X FileFault) → Gives a b → Gives (result_map f a) (result_map f b)
+  mapped_gives f (Ok x) b gives = rw gives refl
+  mapped_gives f (Err fault) b gives = tt
+
+  form_gives : (form : Form) (name : List ℕ) (d : Data) → Gives (read_as form v name d) (read_as form w name d)
+  form_gives (a_text make) name d = mapped_gives (option_map make) _ _ (text_gives name d)
+  form_gives (a_guid make) name d = mapped_gives (option_map make) _ _ (guid_gives name d)
+  form_gives (some_pairs make) name d = mapped_gives (unless_empty make) _ _ (pairs_gives name d)
+  form_gives (some_texts make) name d = mapped_gives (unless_empty make) _ _ (texts_gives name d)
+
+  kinds_give : (d : Data) (kinds : List ConditionKind) → Gives (conditions_from v d kinds) (conditions_from w d kinds)
+  kinds_give d [] = refl
+  kinds_give d (kind ∷ kinds) =
+      then_gives _ _ _ _ (form_gives (form_of kind) (name_of kind) d) (λ found. mapped_gives (with_condition found) _ _ (kinds_give d kinds))
+
   conditions_gives : (d : Data) → Gives (conditions_of v d) (conditions_of w d)
   unfolding conditions_of
-  conditions_gives d =
-      then_gives _ _ _ _ (text_gives (codes "tool") d) (λ tool.
-      then_gives _ _ _ _ (text_gives (codes "ruleId") d) (λ rule.
-      then_gives _ _ _ _ (text_gives (codes "uri") d) (λ uri.
-      then_gives _ _ _ _ (text_gives (codes "uriPrefix") d) (λ prefix.
-      then_gives _ _ _ _ (guid_gives (codes "guid") d) (λ guid.
-      then_gives _ _ _ _ (pairs_gives (codes "fingerprints") d) (λ full.
-      then_gives _ _ _ _ (pairs_gives (codes "partialFingerprints") d) (λ partial.
-      then_gives _ _ _ _ (text_gives (codes "message") d) (λ message.
-      then_gives _ _ _ _ (text_gives (codes "messageId") d) (λ id.
-      then_gives _ _ _ _ (texts_gives (codes "messageArguments") d) (λ args. refl))))))))))
+  conditions_gives d = kinds_give d all_kinds
 
   members_gives : (d : Data) → Gives (members_of v d) (members_of w d)
   unfolding members_of
@@ -188,7 +213,7 @@ unfolding entry_of
 entry_gives version today n m d =
     then_gives _ _ _ _ (checked_gives version (in_entry n BadEntry) (in_entry m BadEntry) d) (λ _.
     then_gives _ _ _ _ (members_gives (in_entry n BadEntry) (in_entry m BadEntry) d) (λ e.
-    then_gives _ _ _ _ (unless_gives (is_any e.conditions) (in_entry n EmptyMatch) (in_entry m EmptyMatch)) (λ _.
+    then_gives _ _ _ _ (unless_gives (not (is_empty e.conditions)) (in_entry n EmptyMatch) (in_entry m EmptyMatch)) (λ _.
     then_gives _ _ _ _ (unless_gives (not (is_some e.expires && is_none today)) (in_entry n NeedsToday) (in_entry m NeedsToday)) (λ _. refl))))
 
 pub entry_kept : (version : Version) (today : Option ℕ) (n m : ℕ) (d : Data) (e : Entry) → entry_of version today n d ≡ Ok e → entry_of Fourth today m d ≡ Ok e

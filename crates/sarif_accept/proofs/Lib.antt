@@ -1,5 +1,7 @@
-pub mod AskedOf
 pub mod After
+mod Among
+pub mod AskedOnce
+mod EachCondition
 pub mod EntryMatches
 pub mod EntryRead
 pub mod EntryWhole
@@ -13,11 +15,10 @@ pub mod HeardMore
 pub mod Kept
 pub mod LineWidths
 pub mod Lines
+mod NamedBy
 pub mod NewFileRead
 pub mod Newline
 pub mod NoFraction
-pub mod AskedOnce
-pub mod Puts
 pub mod RenewedFile
 pub mod Rows
 pub mod SameConditions

@@ -11,7 +11,7 @@ use Rattle.json_parts.proofs.Keeping.{If, put_whole}
 use Rattle.sarif_read.proofs.NoFraction.{no_fraction_members}
 use Rattle.sarif_model.specs.declared.record.Record.{Record}
 use Rattle.sarif_model.specs.Run.{elements_or_none}
-use Rattle.sarif_accept.specs.Entry.{members_from, entry_rows, entry_for, conditions_for}
+use Rattle.sarif_accept.specs.Entry.{members_from, entry_rows, entry_for, asked_of}
 use Rattle.sarif_accept.specs.Keeping.{chosen}
 use Rattle.sarif_accept.specs.NewFile.{stripped_in, entry_in, entries_in, others_in, entries_after, new_file}
 use Rattle.sarif_accept.proofs.EveryRow.{IsKept, IsOfEach, entry_keeps, texts_keep}
@@ -67,7 +67,7 @@ each_whole until = record { date = date_whole until; text = λ s. refl; pairs = 
 made_whole : (rs : List Record) (reason : Option (List ℕ)) (until : Option ℕ) → AreWhole (map (λ r. entry_for r reason until) rs)
 made_whole [] reason until = refl
 made_whole (r ∷ rs) reason until =
-    let one : members_have_float (members_from (entry_rows (conditions_for r) reason until)) ≡ false = entry_keeps put_keeps until (each_whole until) (conditions_for r) reason in
+    let one : members_have_float (members_from (entry_rows (asked_of r) reason until)) ≡ false = entry_keeps put_keeps until (each_whole until) (asked_of r) reason in
     rw (one, made_whole rs reason until) refl
 
 -- ---- the new file

@@ -13,7 +13,7 @@ use Rattle.json_parts.proofs.Keeping.{If}
 use Rattle.sarif_model.specs.Members.{elements}
 use Rattle.sarif_model.specs.declared.record.Record.{Record}
 use Rattle.sarif_model.specs.Run.{elements_or_none}
-use Rattle.sarif_accept.specs.Entry.{members_from, texts_put, entry_rows, entry_for, conditions_for}
+use Rattle.sarif_accept.specs.Entry.{members_from, texts_put, entry_rows, entry_for, asked_of}
 use Rattle.sarif_accept.specs.Keeping.{chosen}
 use Rattle.sarif_accept.specs.NewFile.{stripped_in, entry_in, entries_in, others_in, file_with, new_file}
 use Rattle.sarif_accept.proofs.EveryRow.{IsKept, IsOfEach, entry_keeps, texts_keep}
@@ -161,7 +161,7 @@ each_within until = record {
 made_within : (rs : List Record) (reason : Option (List ℕ)) (until : Option ℕ) (n : ℕ) → 2 ≤ n → AreWithin n (map (λ r. entry_for r reason until) rs)
 made_within [] reason until n room = omega arith
 made_within (r ∷ rs) reason until n room =
-    let one : members_depth (members_from (entry_rows (conditions_for r) reason until)) ≤ 1 = entry_keeps (put_keeps 1) until (each_within until) (conditions_for r) reason in
+    let one : members_depth (members_from (entry_rows (asked_of r) reason until)) ≤ 1 = entry_keeps (put_keeps 1) until (each_within until) (asked_of r) reason in
     let more : items_depth (items_of (map (λ r. entry_for r reason until) rs)) ≤ n = made_within rs reason until n room in
     omega (arith, one, more, room)
 

@@ -18,11 +18,16 @@ use Rattle.serde_json.proofs.Views.{get_member-put}
 use Rattle.sarif_counts.specs.declared.upkeep.Renewal.{Renewal}
 use Rattle.sarif_model.specs.declared.record.Record.{Record}
 use Rattle.sarif_model.specs.Written.{Row}
-use Rattle.sarif_accept.specs.Entry.{conditions_for, entry_for, entry_rows, members_from}
+use Rattle.sarif_entries.specs.declared.condition.Condition.{Condition}
+use Rattle.sarif_entries.specs.declared.condition.ConditionKind.{ConditionKind}
+use Rattle.sarif_entries.specs.Condition.{all_kinds, text_of}
+use Rattle.sarif_entries.specs.Entries.{with_condition}
+use Rattle.sarif_accept.specs.Entry.{asked_of, named_by, value_of, rows_of, entry_for, entry_rows, members_from}
+use Rattle.sarif_accept.proofs.EachCondition.{text_is_value}
 use Rattle.sarif_accept.specs.NewFile.{entries_in, file_object, file_text, others_in}
 use Rattle.sarif_accept.specs.Keeping.{chosen}
 use Rattle.sarif_accept.specs.Renewed.{renewed_entries, renewed_file}
-use Rattle.sarif_accept.specs.Internal.Weighing.{weight_if, weight_of, weights_of}
+use Rattle.sarif_accept.specs.Internal.Weighing.{weight_if, weight_in, weight_of, weights_of}
 use Rattle.sarif_accept.proofs.Flags.{left_of}
 use Rattle.sarif_accept.proofs.Rows.{are_apart, found, get_row, lacks}
 
@@ -185,12 +190,28 @@ unfolding some_weight
 text_weight None = refl
 text_weight (Some text) = string_weight text
 
+-- a string that a condition names is the value of its member
+condition_weight : (c : Condition) → weight_if (text_of c) ≤ some_weight (Some (value_of c))
+condition_weight c =
+    elim (text_of c) as (λ o. text_of c ≡ o → weight_if o ≤ some_weight (Some (value_of c))) [
+      | None ↦ λ _. omega arith
+      | Some text ↦ λ is. rw (text_is_value c text is) (omega (arith, text_weight (Some text)))
+    ] refl
+
+condition_more : (o : Option Condition) (cs : List Condition) (n : ℕ) → weight_in cs ≤ n → weight_in (with_condition o cs) ≤ some_weight (option_map value_of o) + n
+condition_more None cs n rest = omega (arith, rest)
+condition_more (Some c) cs n rest = omega (arith, rest, condition_weight c)
+
+named_weight : (f : ConditionKind → Option Condition) (kinds : List ConditionKind) → weight_in (named_by f kinds) ≤ rows_weight (rows_of f kinds)
+unfolding rows_weight
+named_weight f [] = omega arith
+named_weight f (kind ∷ kinds) = condition_more (f kind) (named_by f kinds) (rows_weight (rows_of f kinds)) (named_weight f kinds)
+
 entry_weight : (renewal : Renewal) (r : Record) → weight_of renewal r ≤ value_weight (entry_for r renewal.reason renewal.until)
 unfolding rows_weight
 entry_weight renewal r =
-    let c = conditions_for r in
-    let rows = entry_rows c renewal.reason renewal.until in
-    omega (arith, rows_heavy rows refl, object_weight (members_from rows), text_weight renewal.reason, text_weight c.tool, text_weight c.rule_id, text_weight c.uri, text_weight c.message, text_weight c.message_id)
+    let rows = entry_rows (asked_of r) renewal.reason renewal.until in
+    omega (arith, rows_heavy rows refl, object_weight (members_from rows), text_weight renewal.reason, named_weight (asked_of r) all_kinds)
 
 made_weight : (renewal : Renewal) (rs : List Record) → weights_of renewal rs ≤ items_weight (items_of (map (λ r. entry_for r renewal.reason renewal.until) rs))
 made_weight renewal [] = omega arith
@@ -223,3 +244,8 @@ file_weight given kept added renewal =
 pub weights_left : (renewal : Renewal) (xs : List (Bor Record)) (n : ℕ) (r : Bor Record) → n < length xs → r ≡ slice_index_or xs n r
     → weights_of renewal (map (λ r. r.now) (drop n xs)) ≡ weight_of renewal r.now + weights_of renewal (map (λ r. r.now) (drop (n + 1) xs))
 weights_left renewal xs n r within is = rw (left_of xs n r within is) refl
+
+-- ---- going through the conditions of a result
+
+pub weight_left : (cs : List Condition) (n : ℕ) (c : Condition) → n < length cs → c ≡ slice_index_or cs n c → weight_in (drop n cs) ≡ weight_if (text_of c) + weight_in (drop (n + 1) cs)
+weight_left cs n c within is = rw (left_of cs n c within is) refl

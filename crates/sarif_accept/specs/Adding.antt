@@ -1,8 +1,7 @@
 -- For which results entries are added to a new suppression file, and what the file is then.
-use Rattle.std.specs.Prelude.{ℕ, Bool, not, ◌&&◌, List, [], ◌∷◌, ◌++◌, map, filter, Option, nat_eq, bytes_eq, if◌then◌else◌}
+use Rattle.std.specs.Prelude.{ℕ, Bool, not, ◌&&◌, List, [], ◌∷◌, ◌++◌, map, filter, Option, if◌then◌else◌}
 use Rattle.std.specs.Cmp.Lexicographic.{pointwise}
 use Rattle.std.specs.List.{list_any, list_all}
-use Rattle.std.specs.Option.{option_eq}
 use Rattle.sarif_model.specs.declared.kinds.State.{State}
 use Rattle.sarif_model.specs.declared.kinds.Status.TheVariants.{Accepted}
 use Rattle.sarif_model.specs.declared.record.Record.{Record}
@@ -10,11 +9,12 @@ use Rattle.sarif_model.specs.Status.{is_accepted}
 use Rattle.sarif_counts.specs.declared.policy.Policy.{Policy}
 use Rattle.sarif_counts.specs.declared.upkeep.Renewal.{Renewal}
 use Rattle.sarif_counts.specs.Policy.{are_hits}
-use Rattle.sarif_entries.specs.declared.conditions.Conditions.{Conditions}
+use Rattle.sarif_entries.specs.declared.condition.Condition.{Condition}
+use Rattle.sarif_entries.specs.declared.condition.Condition.TheVariants.{Fingerprints, PartialFingerprints}
 use Rattle.sarif_entries.specs.declared.entry.Entry.{Entry}
+use Rattle.sarif_entries.specs.Condition.{is_same}
 use Rattle.sarif_entries.specs.Entries.{pairs_of}
 use Rattle.sarif_entries.specs.File.{File}
-use Rattle.sarif_entries.specs.Matching.{is_pair}
 use Rattle.sarif_suppress.specs.Suppressing.{statuses_of, is_suppressed}
 use Rattle.sarif_accept.specs.Entry.{texts_put, conditions_for}
 use Rattle.sarif_accept.specs.Keeping.{Heard, is_kept}
@@ -47,15 +47,8 @@ accepted_among counts file (r ∷ rs) (state ∷ states) =
 -- ---- each entry once
 
 -- both ask the same
-abbrev pub same_conditions : Conditions → Conditions → Bool
-same_conditions a b =
-    option_eq bytes_eq a.tool b.tool && (option_eq bytes_eq a.rule_id b.rule_id
-    && (option_eq bytes_eq a.uri b.uri && (option_eq bytes_eq a.uri_prefix b.uri_prefix
-    && (option_eq nat_eq a.guid b.guid
-    && (pointwise is_pair a.full b.full && (pointwise is_pair a.partial b.partial
-    && (option_eq bytes_eq a.message b.message
-    && (option_eq bytes_eq a.message_id b.message_id
-    && pointwise bytes_eq a.message_args b.message_args))))))))
+abbrev pub same_conditions : List Condition → List Condition → Bool
+same_conditions a b = pointwise is_same a b
 
 -- the entry of the other result asks what that of the result asks
 abbrev pub is_said : Record → Record → Bool
@@ -80,15 +73,16 @@ abbrev pub added_for : How → Counts → File → List Record → List State �
 added_for how counts file rs states =
     if how.renewal.accept then once_each [] (accepted_among counts file rs states) else []
 
--- the conditions as they are read: fingerprints are in the order of their names
-abbrev pub as_read : Conditions → Conditions
-as_read c =
-    record c { full = pairs_of (texts_put c.full); partial = pairs_of (texts_put c.partial) }
+-- a condition as it is read: fingerprints are in the order of their names
+abbrev pub as_read : Condition → Condition
+as_read (Fingerprints pairs) = Fingerprints (pairs_of (texts_put pairs))
+as_read (PartialFingerprints pairs) = PartialFingerprints (pairs_of (texts_put pairs))
+as_read c = c
 
 -- the entry that accepts a result, as it is read
 abbrev pub entry_read : Record → Option (List ℕ) → Option ℕ → Entry
 entry_read r reason until = record {
-  conditions = as_read (conditions_for r);
+  conditions = map as_read (conditions_for r);
   expires = until;
   status = Accepted;
   justification = reason;

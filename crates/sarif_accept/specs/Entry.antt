@@ -1,54 +1,56 @@
 -- The entry of the suppression file that accepts a result: it names what a baseline would match with the same finding
 -- in the same file.
-use Rattle.std.specs.Prelude.{ℕ, List, [], ◌∷◌, map, Option, Some, None, option_map, codes}
-use Rattle.serde_json.specs.Data.{Data, number, unsigned, string, object, Members, no_members, put}
+use Rattle.std.specs.Prelude.{ℕ, Bool, true, false, ◌&&◌, List, [], ◌∷◌, map, Option, Some, None, is_none, option_map, codes, if◌then◌else◌}
+use Rattle.serde_json.specs.Data.{Data, number, unsigned, string, array, object, Members, no_members, put}
+use Rattle.serde_json.specs.View.{items_of}
 use Rattle.sarif_model.specs.Guid.{guid_text}
-use Rattle.sarif_model.specs.Written.{Row, list_if_any, with_value}
+use Rattle.sarif_model.specs.Written.{Row, with_value}
 use Rattle.sarif_model.specs.declared.record.Record.{Record}
-use Rattle.sarif_entries.specs.declared.conditions.Conditions.{Conditions}
+use Rattle.sarif_entries.specs.declared.condition.Condition.{Condition}
+use Rattle.sarif_entries.specs.declared.condition.Condition.TheVariants.{Tool, RuleId, Uri, UriPrefix, Guid, Fingerprints, PartialFingerprints, Message, MessageId, MessageArguments}
+use Rattle.sarif_entries.specs.declared.condition.ConditionKind.{ConditionKind}
+use Rattle.sarif_entries.specs.declared.condition.ConditionKind.TheVariants as kinds
+use Rattle.sarif_entries.specs.Condition.{all_kinds, name_of, own_of}
+use Rattle.sarif_entries.specs.Entries.{with_condition}
+use Rattle.sarif_entries.specs.Matching.{is_empty}
 
--- a tool, a rule, and a GUID or fingerprints
-abbrev pub with_place : Record → Option (List ℕ) → Option ℕ → List (List ℕ × List ℕ)
-    → List (List ℕ × List ℕ) → Conditions
-with_place r uri guid full partial = record {
-  tool = Some r.tool;
-  rule_id = Some r.rule_id;
-  uri = uri;
-  uri_prefix = None;
-  guid = guid;
-  full = full;
-  partial = partial;
-  message = None;
-  message_id = None;
-  message_args = [];
-}
+-- ---- its conditions
 
--- a tool, a rule, a URI and a message
-abbrev pub with_message : Record → Conditions
-with_message r = record {
-  tool = Some r.tool;
-  rule_id = Some r.rule_id;
-  uri = r.place.uri;
-  uri_prefix = None;
-  guid = None;
-  full = [];
-  partial = [];
-  message = r.message.text;
-  message_id = r.message.id;
-  message_args = r.message.args;
-}
+-- the result has neither a GUID nor full fingerprints
+abbrev pub has_no_guid_or_full : Record → Bool
+has_no_guid_or_full r = is_none r.guid && is_empty r.full
 
--- the conditions besides the tool and the rule, by what the result has first: a GUID, fingerprints, partial
--- fingerprints, or its message
-abbrev pub asked_of : Record → Option ℕ → List (List ℕ × List ℕ) → List (List ℕ × List ℕ)
-    → Conditions
-asked_of r (Some guid) full partial = with_place r None (Some guid) [] []
-asked_of r None (p ∷ ps) partial = with_place r r.place.uri None (p ∷ ps) []
-asked_of r None [] (p ∷ ps) = with_place r r.place.uri None [] (p ∷ ps)
-asked_of r None [] [] = with_message r
+-- the result has neither a GUID nor fingerprints
+abbrev pub is_unmarked : Record → Bool
+is_unmarked r = has_no_guid_or_full r && is_empty r.partial
 
-abbrev pub conditions_for : Record → Conditions
-conditions_for r = asked_of r r.guid r.full r.partial
+-- whether the entry names what the result has of that kind: its tool and its rule, and besides what it has first of
+-- its GUID, its fingerprints, its partial fingerprints and its message, the last three with its URI
+abbrev pub is_asked : ConditionKind → Record → Bool
+is_asked kinds.Tool r = true
+is_asked kinds.RuleId r = true
+is_asked kinds.Uri r = is_none r.guid
+is_asked kinds.Guid r = true
+is_asked kinds.Fingerprints r = is_none r.guid
+is_asked kinds.PartialFingerprints r = has_no_guid_or_full r
+is_asked kinds.Message r = is_unmarked r
+is_asked kinds.MessageId r = is_unmarked r
+is_asked kinds.MessageArguments r = is_unmarked r
+is_asked _ r = false
+
+-- the condition of that kind that the entry names, if it names one
+abbrev pub asked_of : Record → ConditionKind → Option Condition
+asked_of r kind = if is_asked kind r then own_of kind r else None
+
+-- the conditions that there are, in the order of these kinds
+abbrev pub named_by : (ConditionKind → Option Condition) → List ConditionKind → List Condition
+named_by f [] = []
+named_by f (kind ∷ rest) = with_condition (f kind) (named_by f rest)
+
+abbrev pub conditions_for : Record → List Condition
+conditions_for r = named_by (asked_of r) all_kinds
+
+-- ---- its members
 
 -- the members that have a value
 abbrev pub members_from : List Row → Members
@@ -64,31 +66,31 @@ texts_into ms (p ∷ ps) = texts_into (put p.0 (string p.1) ms) ps
 abbrev pub texts_put : List (List ℕ × List ℕ) → Members
 texts_put ps = texts_into no_members ps
 
-abbrev pub texts_if_any : List (List ℕ × List ℕ) → Option Data
-texts_if_any [] = None
-texts_if_any (p ∷ ps) = Some (object (texts_put (p ∷ ps)))
+-- the value of the member that has a condition
+abbrev pub value_of : Condition → Data
+value_of (Tool text) = string text
+value_of (RuleId text) = string text
+value_of (Uri text) = string text
+value_of (UriPrefix prefix) = string prefix
+value_of (Guid guid) = string (guid_text guid)
+value_of (Fingerprints pairs) = object (texts_put pairs)
+value_of (PartialFingerprints pairs) = object (texts_put pairs)
+value_of (Message text) = string text
+value_of (MessageId id) = string id
+value_of (MessageArguments texts) = array (items_of (map string texts))
 
--- the conditions that an entry names, as its members
-abbrev pub condition_rows : Conditions → List Row
-condition_rows c =
-    (codes "tool", option_map string c.tool)
-    ∷ (codes "ruleId", option_map string c.rule_id)
-    ∷ (codes "uri", option_map string c.uri)
-    ∷ (codes "guid", option_map (λ n. string (guid_text n)) c.guid)
-    ∷ (codes "fingerprints", texts_if_any c.full)
-    ∷ (codes "partialFingerprints", texts_if_any c.partial)
-    ∷ (codes "message", option_map string c.message)
-    ∷ (codes "messageId", option_map string c.message_id)
-    ∷ (codes "messageArguments", list_if_any (map string c.message_args))
-    ∷ []
+-- the members of the conditions of these kinds
+abbrev pub rows_of : (ConditionKind → Option Condition) → List ConditionKind → List Row
+rows_of f some_kinds = map (λ kind. (name_of kind, option_map value_of (f kind))) some_kinds
 
 -- the members of an entry with these conditions, with an expiry date and a justification if there are
-abbrev pub entry_rows : Conditions → Option (List ℕ) → Option ℕ → List Row
-entry_rows c reason until =
+abbrev pub entry_rows : (ConditionKind → Option Condition) → Option (List ℕ) → Option ℕ
+    → List Row
+entry_rows f reason until =
     (codes "expires", option_map (λ n. number (unsigned n)) until)
     ∷ (codes "justification", option_map string reason)
-    ∷ condition_rows c
+    ∷ rows_of f all_kinds
 
 -- the entry that accepts the result
 abbrev pub entry_for : Record → Option (List ℕ) → Option ℕ → Data
-entry_for r reason until = object (members_from (entry_rows (conditions_for r) reason until))
+entry_for r reason until = object (members_from (entry_rows (asked_of r) reason until))

@@ -3,6 +3,8 @@ use Rattle.std.specs.Prelude.{ℕ, Bool, true, false, not, ◌&&◌, ◌||◌, L
 use Rattle.sarif_model.specs.declared.record.Record.{Record}
 use Rattle.sarif_entries.specs.declared.entry.Entry.{Entry}
 use Rattle.sarif_entries.specs.File.{File}
+use Rattle.sarif_entries.specs.declared.condition.ConditionKind.TheVariants as kinds
+use Rattle.sarif_entries.specs.Condition.{text_in}
 use Rattle.sarif_entries.specs.Matching.{is_expired}
 use Rattle.sarif_suppress.specs.Suppressing.{is_unused}
 
@@ -13,7 +15,7 @@ Heard = Option (List ℕ) → Bool
 -- an entry is dropped by pruning if it expired, or if it matches no current result although its tool was heard
 abbrev pub goes : Heard → File → List Record → Entry → Bool
 goes heard file rs e =
-    is_expired file.today e || (is_unused file rs e && heard e.conditions.tool)
+    is_expired file.today e || (is_unused file rs e && heard (text_in kinds.Tool e.conditions))
 
 abbrev pub is_kept : Bool → Heard → File → List Record → Entry → Bool
 is_kept prune heard file rs e = not (prune && goes heard file rs e)

@@ -8,7 +8,7 @@ ghost use Rattle.sarif_accept.specs.Keeping.{is_kept};
 
 use crate::heard::Heard;
 use crate::marked::is_marked;
-use sarif_entries::Entry;
+use sarif_entries::{ConditionKind, Entry, text_in};
 use sarif_suppress::{Marks, Suppressions};
 use std::alloc::{AllocError, Global};
 use std::hash::BuildHasher;
@@ -22,7 +22,8 @@ fn is_pruned<S: BuildHasher + Copy>(
 ) -> bool
     ensures { result ≡ is_dropped (heard_of heard.now) today entry.now used }
 {
-    entry.is_expired(today) || (!used && heard.hears(entry.conditions.tool.as_ref()))
+    entry.is_expired(today)
+        || (!used && heard.hears(text_in(entry.conditions.as_slice(), ConditionKind::Tool)))
 }
 
 /// For each entry whether it stays, by the marks of those that are used.

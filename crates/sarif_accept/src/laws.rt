@@ -8,7 +8,9 @@ ghost use Rattle.sarif_model.specs.Guid.{guid_of_text};
 ghost use Rattle.sarif_model.specs.Limits.{most_entries};
 ghost use Rattle.sarif_model.specs.declared.kinds.State.{State};
 ghost use Rattle.sarif_model.specs.declared.record.Record.{Record};
+ghost use Rattle.sarif_entries.specs.declared.condition.ConditionKind.TheVariants as kinds;
 ghost use Rattle.sarif_entries.specs.declared.entry.Entry.{Entry};
+ghost use Rattle.sarif_entries.specs.Condition.{text_in};
 ghost use Rattle.sarif_entries.specs.declared.version.Version.TheVariants.{Fourth};
 ghost use Rattle.sarif_entries.specs.Entries.{entry_of};
 ghost use Rattle.sarif_entries.specs.File.{File, file_of, file_of_value};
@@ -91,10 +93,10 @@ pub fn pruning_changes_no_result()
         ≡ suppressions_of own file r }
     ensures unused { (heard : Heard) (file : File) (rs : List Record) (e : Entry)
         → is_kept true heard file rs e ≡ true → is_unused file rs e ≡ true
-        → (is_expired file.today e ≡ false) × (heard e.conditions.tool ≡ false) }
+        → (is_expired file.today e ≡ false) × (heard (text_in kinds.Tool e.conditions) ≡ false) }
     ensures kept { (heard : Heard) (file : File) (rs : List Record) (e : Entry)
         → is_expired file.today e ≡ false
-        → (is_unused file rs e ≡ false) ⊎ (heard e.conditions.tool ≡ false)
+        → (is_unused file rs e ≡ false) ⊎ (heard (text_in kinds.Tool e.conditions) ≡ false)
         → is_kept true heard file rs e ≡ true }
     ensures unpruned { (heard : Heard) (file : File) (rs : List Record) (e : Entry)
         → is_kept false heard file rs e ≡ true }

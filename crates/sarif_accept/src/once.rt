@@ -9,16 +9,18 @@ ghost use Rattle.sarif_model.specs.declared.merge_fault.Cause.TheVariants.{Of};
 ghost use Rattle.sarif_accept.specs.Adding.{is_said, once_each};
 ghost use Rattle.sarif_accept.specs.Internal.Asked.{HasAsked, IsSameList};
 
-use crate::asked::{Asked, asked_of};
+use crate::asked::conditions_for;
 use indexmap::IndexSet;
-use sarif_model::{Cause, Fault, MOST_ENTRIES, Record, Refusal};
+use sarif_entries::Condition;
+use sarif_model::{Cause, Fault, MOST_ENTRIES, Record, Refusal, Sequence};
 use std::alloc::{AllocError, Global};
 use std::hash::BuildHasher;
 
 /// Adds a record to the end of the list, unless the set has the conditions of its entry, and returns whether there was
 /// room for it: a suppression file has at most `MOST_ENTRIES` entries. The set has the conditions of the list.
 fn add_once<'a, S: BuildHasher + Copy>(
-    asked: &mut IndexSet<Asked<'a>, S>,
+    alloc: Global,
+    asked: &mut IndexSet<Sequence<Condition>, S>,
     added: &mut Vec<&'a Record>,
     record: &'a Record,
 ) -> Result<bool, AllocError>
@@ -34,7 +36,7 @@ fn add_once<'a, S: BuildHasher + Copy>(
         → most_entries < length (map (λ r. r.now) added.old.items
         ++ once_each (map (λ r. r.now) added.old.items) («record».now ∷ rest))) }
 {
-    if !asked.insert(asked_of(record))? {
+    if !asked.insert(conditions_for(alloc, record)?)? {
         return Ok(true);
     }
     if added.len() >= MOST_ENTRIES {
@@ -59,10 +61,10 @@ pub fn each_once<'a, S: BuildHasher + Copy>(
     ensures err { IfFault result (λ cause. (cause ≡ Of TooMany)
         × (most_entries < length (once_each [] (map (λ r. r.now) accepted.now)))) }
 {
-    let mut asked: IndexSet<Asked<'a>, S> = IndexSet::with_hasher(alloc, hasher);
+    let mut asked: IndexSet<Sequence<Condition>, S> = IndexSet::with_hasher(alloc, hasher);
     let mut added = Vec::new(alloc);
     for record in accepted {
-        if !add_once(&mut asked, &mut added, *record)? {
+        if !add_once(alloc, &mut asked, &mut added, *record)? {
             return Err(Refusal::Fault(Cause::Of(Fault::TooMany)));
         }
     }

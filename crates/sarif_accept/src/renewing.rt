@@ -1,5 +1,5 @@
 //! The new suppression file.
-ghost use Rattle.std.specs.Prelude.{◌≡◌, ◌≤◌, ◌<◌, ◌+◌, ◌⊎◌, ◌++◌, Some, None, map, length, option_map, string_bytes, IfErr, IfOk, OnOk};
+ghost use Rattle.std.specs.Prelude.{◌≡◌, ◌≤◌, ◌<◌, ◌+◌, ◌⊎◌, ◌++◌, Some, None, map, length, option_map, string_bytes, IfOk, OnOk};
 ghost use Rattle.serde_json.specs.View.{view, members_view};
 ghost use Rattle.json_parts.specs.Indexed.{json_of};
 ghost use Rattle.json_parts.specs.Mark.{without_mark as unmarked};
@@ -25,19 +25,24 @@ use std::alloc::{AllocError, Global};
 
 /// Checks, before entries are made, that there are at most `MOST_ENTRIES` with the `count` that are kept, and that the strings
 /// of those that accept these results have at most `MOST_BYTES` bytes.
-fn check_room(count: usize, added: &[&Record], renewal: &Renewal) -> Result<(), Cause>
+fn check_room(
+    alloc: Global,
+    count: usize,
+    added: &[&Record],
+    renewal: &Renewal,
+) -> Result<(), Refusal<Cause>>
     ensures few { OnOk result (count + length added.now ≤ most_entries) }
     ensures short { OnOk result (weights_of renewal.now (map (λ r. r.now) added.now) ≤ most_bytes) }
-    ensures err { IfErr result (λ cause.
+    ensures err { IfFault result (λ cause.
         ((cause ≡ Of TooMany) × (most_entries < count + length added.now))
         ⊎ ((cause ≡ TooLong) × (count + length added.now ≤ most_entries)
         × (most_bytes < weights_of renewal.now (map (λ r. r.now) added.now)))) }
 {
     if count > MOST_ENTRIES || added.len() > MOST_ENTRIES - count {
-        return Err(Cause::Of(Fault::TooMany));
+        return Err(Refusal::Fault(Cause::Of(Fault::TooMany)));
     }
-    if are_too_long(added, renewal) {
-        return Err(Cause::TooLong);
+    if are_too_long(alloc, added, renewal)? {
+        return Err(Refusal::Fault(Cause::TooLong));
     }
     Ok(())
 }
@@ -97,9 +102,7 @@ fn renewed_file(
         mut entries,
         others,
     } = read_old(alloc, bytes, kept)?;
-    if let Err(cause) = check_room(entries.len(), added, renewal) {
-        return Err(Refusal::Fault(cause));
-    }
+    check_room(alloc, entries.len(), added, renewal)?;
     add_entries(alloc, &mut entries, added, renewal)?;
     Ok(file_with(alloc, entries, others)?)
 }

@@ -3,7 +3,7 @@ use Rattle.std.proofs.Common.{◌≡◌, ℕ, ◌+◌, ◌<◌, zero, suc, Bool,
 use mathlib.Core.Bool.{or-true}
 use Rattle.std.specs.List.{list_any}
 use Rattle.std.proofs.lemmas.List.{drop_more}
-use Rattle.sarif_entries.specs.Matching.{is_pair, are_among}
+use Rattle.sarif_entries.specs.Condition.{is_pair, are_among}
 
 -- what is in the end of a list is in the list
 any_drop : {X : Type 0} (test : X → Bool) (n : ℕ) (xs : List X) → list_any test (drop n xs) ≡ true → list_any test xs ≡ true

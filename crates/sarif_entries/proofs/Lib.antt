@@ -1,5 +1,6 @@
 pub mod Among
 pub mod FromEntries
+pub mod FromKinds
 pub mod JustTexts
 pub mod Keyed
 pub mod Meaning

@@ -1,5 +1,5 @@
 -- What the test of an entry against a result means.
-use Rattle.std.proofs.Common.{◌≡◌, ◌⊎◌, inl, inr, bytes_eq, ℕ, zero, suc, ◌≤◌, true, not, List, [], ◌∷◌, ◌++◌, take, drop, length, Option, Some, None, nat_lt, refl, sym, ap, ◌∙◌, arith}
+use Rattle.std.proofs.Common.{◌≡◌, bytes_eq, ℕ, zero, suc, ◌≤◌, true, not, List, [], ◌∷◌, ◌++◌, take, drop, length, Option, Some, None, nat_lt, refl, sym, ap, ◌∙◌, arith}
 use mathlib.Core.Bool.{or-true}
 use Rattle.std.specs.Bool.{Decides}
 use Rattle.std.specs.Cmp.Lexicographic.{pointwise}
@@ -12,49 +12,42 @@ use Rattle.std.proofs.lemmas.List.Elements.{All-contains, Contains-get_or}
 use Rattle.std.proofs.lemmas.Map.Views.{Contains-from_any}
 use Rattle.std.proofs.lemmas.Slice.Eq.{bytes_eq-Decides, slice_eq-Decides}
 use Rattle.sarif_model.specs.declared.record.Record.{Record}
-use Rattle.sarif_entries.specs.declared.conditions.Conditions.{Conditions}
+use Rattle.sarif_entries.specs.declared.condition.Condition.{Condition}
+use Rattle.sarif_entries.specs.declared.condition.Condition.TheVariants.{Tool, RuleId, Uri, UriPrefix, Guid, Fingerprints, PartialFingerprints, Message, MessageId, MessageArguments}
 use Rattle.sarif_entries.specs.declared.entry.Entry.{Entry}
-use Rattle.sarif_entries.specs.Matching.{is_wanted, is_there, begins, is_guid, is_pair, are_among, are_wanted, hold, is_past, matches, Meets, Matches}
+use Rattle.sarif_entries.specs.Condition.{is_text, begins, is_guid, is_pair, are_among, holds, Holds}
+use Rattle.sarif_entries.specs.Matching.{hold, is_past, matches, Meets, Matches}
 
-text_means : (wanted : Option (List ℕ)) (found : List ℕ) → Decides (is_wanted wanted found) ((text : List ℕ) → wanted ≡ Some text → found ≡ text)
-text_means None found = (λ _ text is. cc, λ _. refl)
-text_means (Some wanted) found = (λ t text is. let same : wanted ≡ found = (bytes_eq-Decides wanted found).0 t in cc, λ h. (bytes_eq-Decides wanted found).1 (sym (h wanted refl)))
+text_means : (wanted found : List ℕ) → Decides (bytes_eq wanted found) (found ≡ wanted)
+text_means wanted found =
+    (λ t. sym ((bytes_eq-Decides wanted found).0 t), λ is. (bytes_eq-Decides wanted found).1 (sym is))
 
-there_means : (wanted found : Option (List ℕ)) → Decides (is_there wanted found) ((text : List ℕ) → wanted ≡ Some text → found ≡ Some text)
-there_means None found = (λ _ text is. cc, λ _. refl)
-there_means (Some wanted) None = (λ t text is. absurd (false≢true t), λ h. let none : None ≡ Some wanted = h wanted refl in cc)
-there_means (Some wanted) (Some found) = (λ t text is. let same : wanted ≡ found = (bytes_eq-Decides wanted found).0 t in cc, λ h. let same : Some found ≡ Some wanted = h wanted refl in (bytes_eq-Decides wanted found).1 cc)
+there_means : (wanted : List ℕ) (found : Option (List ℕ)) → Decides (is_text wanted found) (found ≡ Some wanted)
+there_means wanted None = (λ t. absurd (false≢true t), λ is. let never : ⊥ = cc in absurd never)
+there_means wanted (Some found) = (λ t. ap Some ((text_means wanted found).0 t), λ is. (text_means wanted found).1 cc)
 
-guid_means : (wanted found : Option ℕ) → Decides (is_guid wanted found) ((guid : ℕ) → wanted ≡ Some guid → found ≡ Some guid)
-guid_means None found = (λ _ guid is. cc, λ _. refl)
-guid_means (Some wanted) None = (λ t guid is. absurd (false≢true t), λ h. let none : None ≡ Some wanted = h wanted refl in cc)
-guid_means (Some wanted) (Some found) = (λ t guid is. let same : wanted ≡ found = eqb-true wanted found t in cc, λ h. let same : Some found ≡ Some wanted = h wanted refl in eq-eqb wanted found cc)
+guid_means : (wanted : ℕ) (found : Option ℕ) → Decides (is_guid wanted found) (found ≡ Some wanted)
+guid_means wanted None = (λ t. absurd (false≢true t), λ is. let never : ⊥ = cc in absurd never)
+guid_means wanted (Some found) = (λ t. ap Some (sym (eqb-true wanted found t)), λ is. eq-eqb wanted found cc)
 
-pub begins_means : (wanted found : Option (List ℕ)) → Decides (begins wanted found) ((prefix : List ℕ) → wanted ≡ Some prefix → (rest : List ℕ) × (found ≡ Some (prefix ++ rest)))
-begins_means None found = (λ _ prefix is. let never : ⊥ = cc in absurd never, λ _. refl)
-begins_means (Some wanted) None = (λ t prefix is. absurd (false≢true t), λ h. let none : None ≡ Some (wanted ++ (h wanted refl).0) = (h wanted refl).1 in cc)
-begins_means (Some wanted) (Some found) = (
-  λ t prefix is.
+pub begins_means : (wanted : List ℕ) (found : Option (List ℕ)) → Decides (begins wanted found) ((rest : List ℕ) × (found ≡ Some (wanted ++ rest)))
+begins_means wanted None = (λ t. absurd (false≢true t), λ h. let none : None ≡ Some (wanted ++ h.0) = h.1 in cc)
+begins_means wanted (Some found) = (
+  λ t.
       let same : wanted ≡ take (length wanted) found = (bytes_eq-Decides wanted (take (length wanted) found)).0 t in
       let whole : take (length wanted) found ++ drop (length wanted) found ≡ found = take-append-drop (length wanted) found in
-      let asked : wanted ≡ prefix = cc in
-      (drop (length wanted) found, ap Some (sym whole ∙ ap (λ s. s ++ drop (length wanted) found) (sym same ∙ asked))),
+      (drop (length wanted) found, ap Some (sym whole ∙ ap (λ s. s ++ drop (length wanted) found) (sym same))),
   λ h.
-      let rest : List ℕ = (h wanted refl).0 in
-      let is : Some found ≡ Some (wanted ++ rest) = (h wanted refl).1 in
+      let rest : List ℕ = h.0 in
+      let is : Some found ≡ Some (wanted ++ rest) = h.1 in
       let split : found ≡ wanted ++ rest = cc in
       (bytes_eq-Decides wanted (take (length wanted) found)).1 (rw split (sym (take-append_seam wanted rest))),
 )
 
-wanted_means : (wanted found : List (List ℕ)) → Decides (are_wanted wanted found) (wanted ≡ [] ⊎ wanted ≡ found)
-wanted_means [] found = (λ _. inl refl, λ _. refl)
-wanted_means (text ∷ texts) found =
-    let each : Decides (pointwise bytes_eq (text ∷ texts) found) (text ∷ texts ≡ found) = slice_eq-Decides bytes_eq-Decides (text ∷ texts) found _ refl in
-    (λ t. inr (each.0 t), either each.1)
-  where
-    either : (text ∷ texts ≡ found → pointwise bytes_eq (text ∷ texts) found ≡ true) → text ∷ texts ≡ [] ⊎ text ∷ texts ≡ found → pointwise bytes_eq (text ∷ texts) found ≡ true
-    either same (inl none) = let never : ⊥ = cc in absurd never
-    either same (inr is) = same is
+texts_mean : (wanted found : List (List ℕ)) → Decides (pointwise bytes_eq wanted found) (found ≡ wanted)
+texts_mean wanted found =
+    let each : Decides (pointwise bytes_eq wanted found) (wanted ≡ found) = slice_eq-Decides bytes_eq-Decides wanted found _ refl in
+    (λ t. sym (each.0 t), λ is. each.1 (sym is))
 
 pub pair_means : (a b : List ℕ × List ℕ) → Decides (is_pair a b) (a ≡ b)
 pair_means a b =
@@ -79,14 +72,24 @@ among_means wanted found =
     let each : Decides (are_among wanted found) (All (Contains found) wanted) = Decides-by_and (λ pair. list_any (λ p. is_pair p pair) found) (Contains found) (λ ps. are_among ps found) (λ pair. (found_among found pair, among_found found pair)) refl (λ _ _. refl) wanted in
     Decides-like (are_among wanted found) (λ all pair is. All-contains (Contains found) wanted pair all is) (λ h k d within. h _ (Contains-get_or wanted k d within)) each
 
--- the conditions, in order
-pub meets : (c : Conditions) (r : Record) → Decides (hold c r) (Meets c r)
-meets c r =
-    Decides-like (hold c r)
-    (λ h. record { rule_id = h.0.0; tool = h.0.1.0; uri = h.0.1.1.0; uri_prefix = h.0.1.1.1.0; guid = h.0.1.1.1.1.0; full = h.0.1.1.1.1.1.0; partial = h.0.1.1.1.1.1.1; message = h.1.0; message_id = h.1.1.0; message_args = h.1.1.1 })
-    (λ m. ((m.rule_id, (m.tool, (m.uri, (m.uri_prefix, (m.guid, (m.full, m.partial)))))), (m.message, (m.message_id, m.message_args))))
-    (Decides-and _ _ (Decides-and _ _ (text_means c.rule_id r.rule_id) (Decides-and _ _ (text_means c.tool r.tool) (Decides-and _ _ (there_means c.uri r.place.uri) (Decides-and _ _ (begins_means c.uri_prefix r.place.uri) (Decides-and _ _ (guid_means c.guid r.guid) (Decides-and _ _ (among_means c.full r.full) (among_means c.partial r.partial)))))))
-    (Decides-and _ _ (there_means c.message r.message.text) (Decides-and _ _ (there_means c.message_id r.message.id) (wanted_means c.message_args r.message.args))))
+-- the test of a condition decides it
+pub holds_means : (c : Condition) (r : Record) → Decides (holds c r) (Holds c r)
+holds_means (Tool text) r = text_means text r.tool
+holds_means (RuleId text) r = text_means text r.rule_id
+holds_means (Uri text) r = there_means text r.place.uri
+holds_means (UriPrefix prefix) r = begins_means prefix r.place.uri
+holds_means (Guid guid) r = guid_means guid r.guid
+holds_means (Fingerprints pairs) r = among_means pairs r.full
+holds_means (PartialFingerprints pairs) r = among_means pairs r.partial
+holds_means (Message text) r = there_means text r.message.text
+holds_means (MessageId id) r = there_means id r.message.id
+holds_means (MessageArguments texts) r = texts_mean texts r.message.args
+
+-- all conditions
+pub meets : (cs : List Condition) (r : Record) → Decides (hold cs r) (Meets cs r)
+meets cs r =
+    let each : Decides (hold cs r) (All (λ c. Holds c r) cs) = Decides-by_and (λ c. holds c r) (λ c. Holds c r) (λ cs. hold cs r) (λ c. holds_means c r) refl (λ _ _. refl) cs in
+    Decides-like (hold cs r) (λ all c is. All-contains (λ c. Holds c r) cs c all is) (λ h k d within. h _ (Contains-get_or cs k d within)) each
 
 in_time : (today expires : Option ℕ) → Decides (not (is_past today expires)) ((last day : ℕ) → expires ≡ Some last → today ≡ Some day → day ≤ last)
 in_time None expires = (λ _ last day _ is. let never : ⊥ = cc in absurd never, λ _. refl)

@@ -6,9 +6,20 @@ use Rattle.std.proofs.lemmas.Slice.Eq.{bytes_eq-Decides, slice_eq-Decides}
 use Rattle.std.specs.Bool.{Decides}
 use Rattle.std.specs.Cmp.Lexicographic.{pointwise}
 use Rattle.std.specs.List.{list_any}
+use Rattle.std.specs.Option.{option_map_or}
 use Rattle.sarif_model.specs.declared.record.Record.{Record}
 use Rattle.sarif_entries.specs.Internal.Filing.{key_of, keys_under, keys_at, message_keys}
-use Rattle.sarif_entries.specs.Matching.{is_there, are_wanted, is_empty}
+use Rattle.sarif_entries.specs.Condition.{is_text}
+use Rattle.sarif_entries.specs.Matching.{is_empty}
+
+-- there is a string, and it is the required one, if one is required
+abbrev pub is_there : Option (List ℕ) → Option (List ℕ) → Bool
+is_there wanted found = option_map_or (λ text. is_text text found) wanted true
+
+-- the strings are the required ones in their order, if some are required
+abbrev pub are_wanted : List (List ℕ) → List (List ℕ) → Bool
+are_wanted [] found = true
+are_wanted (text ∷ texts) found = pointwise bytes_eq (text ∷ texts) found
 
 -- the key is among these
 abbrev is_in : List (List ℕ) → List (List (List ℕ)) → Bool

@@ -1,48 +1,47 @@
 -- Reading the entries of the suppression file.
-use Rattle.std.specs.Prelude.{ℕ, ⊤, Bool, true, false, ◌&&◌, ◌||◌, ◌/◌, ◌%◌, List, [], ◌∷◌, Option, Some, None, Result, Ok, Err, option_and_then, nat_le, bytes_eq, codes, not, is_some, is_none, if◌then◌else◌}
+use Rattle.std.specs.Prelude.{ℕ, ⊤, Bool, true, false, ◌&&◌, ◌||◌, ◌/◌, ◌%◌, List, [], ◌∷◌, Option, Some, None, Result, Ok, Err, option_and_then, option_map, nat_le, bytes_eq, codes, not, is_some, is_none, if◌then◌else◌}
+use Rattle.std.specs.List.{list_any}
 use Rattle.serde_json.specs.Data.{Data, null, boolean, number, string, array, object, Members, no_members, member}
 use Rattle.serde_json.specs.Find.{as_str, as_object, as_number, as_u64}
 use Rattle.sarif_model.specs.Guid.{guid_of_text}
 use Rattle.sarif_model.specs.Limits.{first_day, last_day}
-use Rattle.sarif_model.specs.Members.{◌>>=◌, member_at, text_at, elements_at, read_each, or_wrong}
+use Rattle.sarif_model.specs.Members.{◌>>=◌, result_map, member_at, text_at, elements_at, read_each, or_wrong}
 use Rattle.sarif_model.specs.Status.{status_named}
 use Rattle.sarif_model.specs.declared.kinds.Status.{Status}
 use Rattle.sarif_model.specs.declared.kinds.Status.TheVariants.{Accepted}
-use Rattle.sarif_entries.specs.declared.conditions.Conditions.{Conditions}
+use Rattle.sarif_entries.specs.declared.condition.Condition.{Condition}
+use Rattle.sarif_entries.specs.declared.condition.ConditionKind.{ConditionKind}
 use Rattle.sarif_entries.specs.declared.entry.Entry.{Entry}
 use Rattle.sarif_entries.specs.declared.fault.FileFault.{FileFault}
 use Rattle.sarif_model.specs.declared.fault.Fault.TheVariants.{BadEntry, EmptyMatch, NeedsToday}
 use Rattle.sarif_entries.specs.declared.version.Version.{Version}
 use Rattle.sarif_entries.specs.declared.version.Version.TheVariants.{First, Second, Fourth}
 use Rattle.sarif_entries.specs.FileFault.{in_entry}
-use Rattle.sarif_entries.specs.Matching.{is_any}
+use Rattle.sarif_entries.specs.Condition.{Form, a_text, a_guid, some_pairs, some_texts, all_kinds, name_of, since, form_of, unless_empty}
+use Rattle.sarif_entries.specs.Matching.{is_empty}
 
--- an entry of the first version may have a member of that name
-abbrev pub is_first_member : List ℕ → Bool
-is_first_member name =
-    bytes_eq name (codes "tool")
-    || (bytes_eq name (codes "ruleId")
-    || (bytes_eq name (codes "uri")
-    || (bytes_eq name (codes "guid")
-    || (bytes_eq name (codes "fingerprints")
-    || (bytes_eq name (codes "partialFingerprints")
-    || (bytes_eq name (codes "status")
-    || bytes_eq name (codes "justification")))))))
+-- a version has what an earlier version introduced
+abbrev pub includes : Version → Version → Bool
+includes version First = true
+includes First Second = false
+includes Second Second = true
+includes Fourth Second = true
+includes First Fourth = false
+includes Second Fourth = false
+includes Fourth Fourth = true
 
--- the same for an entry of the second version
-abbrev pub is_second_member : List ℕ → Bool
-is_second_member name =
-    is_first_member name || (bytes_eq name (codes "uriPrefix") || bytes_eq name (codes "expires"))
+-- an entry of that version may have a condition in a member of that name
+abbrev pub has_condition : Version → List ℕ → Bool
+has_condition version name =
+    list_any (λ kind. bytes_eq name (name_of kind) && includes version (since kind)) all_kinds
 
--- the same for an entry of any version
+-- an entry of that version may have a member of that name
 abbrev pub has_member : Version → List ℕ → Bool
-has_member First name = is_first_member name
-has_member Second name = is_second_member name
-has_member Fourth name =
-    is_second_member name
-    || (bytes_eq name (codes "message")
-    || (bytes_eq name (codes "messageId")
-    || bytes_eq name (codes "messageArguments")))
+has_member version name =
+    has_condition version name
+    || (bytes_eq name (codes "status")
+    || (bytes_eq name (codes "justification")
+    || (bytes_eq name (codes "expires") && includes version Second)))
 
 abbrev pub are_members_of : Version → Members → Bool
 are_members_of version no_members = true
@@ -146,31 +145,33 @@ status_or wrong (Some text) = status_of_name wrong (status_named text)
 abbrev pub status_at : FileFault → List ℕ → Data → Result Status FileFault
 status_at wrong name d = text_at wrong name d >>= status_or wrong
 
+-- the condition in the member of that name, if there is one
+abbrev pub read_as : Form → FileFault → List ℕ → Data → Result (Option Condition) FileFault
+read_as (a_text make) wrong name d = result_map (option_map make) (text_at wrong name d)
+read_as (a_guid make) wrong name d = result_map (option_map make) (guid_at wrong name d)
+read_as (some_pairs make) wrong name d = result_map (unless_empty make) (pairs_at wrong name d)
+read_as (some_texts make) wrong name d = result_map (unless_empty make) (texts_at wrong name d)
+
+-- the condition of that kind that an entry names, if it names one
+abbrev pub condition_at : FileFault → Data → ConditionKind → Result (Option Condition) FileFault
+condition_at wrong d kind = read_as (form_of kind) wrong (name_of kind) d
+
+-- a condition, if there is one, before these
+abbrev pub with_condition : Option Condition → List Condition → List Condition
+with_condition None cs = cs
+with_condition (Some c) cs = c ∷ cs
+
+-- the conditions of these kinds that an entry names, in order
+abbrev pub conditions_from : FileFault → Data → List ConditionKind
+    → Result (List Condition) FileFault
+conditions_from wrong d [] = Ok []
+conditions_from wrong d (kind ∷ rest) =
+    condition_at wrong d kind >>= λ found.
+    result_map (with_condition found) (conditions_from wrong d rest)
+
 -- the conditions that an entry names
-unfoldable pub conditions_of : FileFault → Data → Result Conditions FileFault
-conditions_of wrong d = do
-  tool ← text_at wrong (codes "tool") d
-  rule_id ← text_at wrong (codes "ruleId") d
-  uri ← text_at wrong (codes "uri") d
-  uri_prefix ← text_at wrong (codes "uriPrefix") d
-  guid ← guid_at wrong (codes "guid") d
-  full ← pairs_at wrong (codes "fingerprints") d
-  partial ← pairs_at wrong (codes "partialFingerprints") d
-  message ← text_at wrong (codes "message") d
-  message_id ← text_at wrong (codes "messageId") d
-  message_args ← texts_at wrong (codes "messageArguments") d
-  Ok (record {
-    tool = tool;
-    rule_id = rule_id;
-    uri = uri;
-    uri_prefix = uri_prefix;
-    guid = guid;
-    full = full;
-    partial = partial;
-    message = message;
-    message_id = message_id;
-    message_args = message_args;
-  })
+unfoldable pub conditions_of : FileFault → Data → Result (List Condition) FileFault
+conditions_of wrong d = conditions_from wrong d all_kinds
 
 -- the members of an entry, each of its kind or null
 unfoldable pub members_of : FileFault → Data → Result Entry FileFault
@@ -188,7 +189,7 @@ members_of wrong d = do
 
 -- an entry names at least one condition
 abbrev pub check_condition : ℕ → Entry → Result ⊤ FileFault
-check_condition n e = unless_fault (is_any e.conditions) (in_entry n EmptyMatch)
+check_condition n e = unless_fault (not (is_empty e.conditions)) (in_entry n EmptyMatch)
 
 -- if an entry has an expiry date, today's date is known
 abbrev pub check_today : ℕ → Option ℕ → Entry → Result ⊤ FileFault

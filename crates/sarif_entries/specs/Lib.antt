@@ -1,3 +1,4 @@
+pub mod Condition
 pub mod Entries
 pub mod File
 pub mod FileFault

@@ -2,14 +2,14 @@
 ghost use Rattle.std.specs.Prelude.{◌≡◌, ◌↔◌, IsTrue};
 ghost use Rattle.sarif_entries.specs.Matching as said;
 
-use crate::conditions::Conditions;
-use sarif_model::{Record, Status, Text};
+use crate::condition::{Condition, hold};
+use sarif_model::{Record, Sequence, Status, Text};
 
 /// An entry of the suppression file: which results it suppresses, until when, and the suppression that it adds.
 #[derive(Debug, Drop)]
 pub struct Entry {
-    /// What the entry requires of a result.
-    pub conditions: Conditions,
+    /// What the entry requires of a result: each condition that it names, in the order of `ConditionKind::ALL`.
+    pub conditions: Sequence<Condition>,
     /// `expires`: the last date on which it suppresses, as the number YYYYMMDD.
     pub expires: Option<u32>,
     /// `status`; `accepted` if it is missing.
@@ -36,6 +36,6 @@ impl Entry {
         ensures means { IsTrue result ↔ said.Matches today self.now «record».now }
         ensures test { result ≡ said.matches today self.now «record».now }
     {
-        !self.is_expired(today) && self.conditions.hold(record)
+        !self.is_expired(today) && hold(self.conditions.as_slice(), record)
     }
 }

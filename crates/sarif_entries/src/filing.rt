@@ -3,9 +3,10 @@ ghost use Rattle.std.specs.Prelude.{◌≡◌, option_map, slice_get, IfOk};
 ghost use Rattle.std.specs.Option.{option_copied};
 ghost use Rattle.sarif_entries.specs.Internal.Filing as said;
 
-use crate::conditions::Conditions;
+use crate::condition::{Condition, ConditionKind, of_kind, text_in};
+use crate::entry::Entry;
 use crate::message_keys::key_of;
-use sarif_model::{Pairs, Sequence, Text};
+use sarif_model::{Sequence, Text};
 use std::alloc::{AllocError, Global};
 
 /// A condition on a string of the result.
@@ -29,107 +30,167 @@ pub enum PairCondition {
 }
 
 /// The first pair, if there is one.
-fn first_of(pairs: &Pairs) -> Option<(&Text, &Text)>
+fn first_of(pairs: &[(Text, Text)]) -> Option<(&Text, &Text)>
     ensures { option_map (λ p. (p.0.now, p.1.now)) result ≡ slice_get pairs.now 0 }
 {
-    match pairs.as_slice().first() {
+    match pairs.first() {
         Some((name, value)) => Some((name, value)),
         None => None,
     }
 }
 
-impl Conditions {
-    /// Returns whether the entry names neither a GUID nor fingerprints.
-    fn is_unmarked(&self) -> bool
-        ensures { result ≡ said.is_unmarked self.now }
+/// Returns the named fingerprints of that kind.
+fn pairs_in(conditions: &[Condition], kind: ConditionKind) -> &[(Text, Text)]
+    ensures { result.now ≡ said.pairs_in kind conditions.now }
+{
+    match of_kind(conditions, kind) {
+        Some(Condition::Fingerprints(pairs) | Condition::PartialFingerprints(pairs)) => {
+            pairs.as_slice()
+        }
+        _ => &[],
+    }
+}
+
+/// Returns the named arguments of a message.
+fn args_in(conditions: &[Condition]) -> &[Text]
+    ensures { result.now ≡ said.args_in conditions.now }
+{
+    match of_kind(conditions, ConditionKind::MessageArguments) {
+        Some(Condition::MessageArguments(texts)) => texts.as_slice(),
+        _ => &[],
+    }
+}
+
+/// Returns the named GUID, if there is one.
+fn guid_in(conditions: &[Condition]) -> Option<u128>
+    ensures { result ≡ said.guid_in conditions.now }
+{
+    match of_kind(conditions, ConditionKind::Guid) {
+        Some(Condition::Guid(guid)) => Some(*guid),
+        _ => None,
+    }
+}
+
+/// Returns whether neither a GUID nor full fingerprints are named.
+fn has_no_guid_or_full(conditions: &[Condition]) -> bool
+    ensures { result ≡ said.has_no_guid_or_full conditions.now }
+{
+    guid_in(conditions).is_none() && pairs_in(conditions, ConditionKind::Fingerprints).is_empty()
+}
+
+/// Returns whether neither a GUID nor fingerprints are named.
+fn is_unmarked(conditions: &[Condition]) -> bool
+    ensures { result ≡ said.is_unmarked conditions.now }
+{
+    has_no_guid_or_full(conditions)
+        && pairs_in(conditions, ConditionKind::PartialFingerprints).is_empty()
+}
+
+/// Returns the named text of the message, otherwise its named id.
+fn head_in(conditions: &[Condition]) -> Option<&Text>
+    ensures { option_copied result ≡ said.head_of conditions.now }
+{
+    match text_in(conditions, ConditionKind::Message) {
+        Some(text) => Some(text),
+        None => text_in(conditions, ConditionKind::MessageId),
+    }
+}
+
+/// Returns whether nothing of the message is named.
+fn has_no_message(conditions: &[Condition]) -> bool
+    ensures { result ≡ said.has_no_message conditions.now }
+{
+    text_in(conditions, ConditionKind::Message).is_none()
+        && text_in(conditions, ConditionKind::MessageId).is_none()
+        && args_in(conditions).is_empty()
+}
+
+/// Returns whether neither a message nor a URI is named.
+fn has_no_message_or_uri(conditions: &[Condition]) -> bool
+    ensures { result ≡ said.has_no_message_or_uri conditions.now }
+{
+    has_no_message(conditions) && text_in(conditions, ConditionKind::Uri).is_none()
+}
+
+/// Returns whether none of a message, a URI, a URI prefix and a rule id is named.
+fn has_tool_alone(conditions: &[Condition]) -> bool
+    ensures { result ≡ said.has_tool_alone conditions.now }
+{
+    has_no_message_or_uri(conditions)
+        && text_in(conditions, ConditionKind::RuleId).is_none()
+        && text_in(conditions, ConditionKind::UriPrefix).is_none()
+}
+
+impl Entry {
+    /// Returns the GUID that the entry names, under which it then is filed.
+    pub fn guid_key(&self) -> Option<u128>
+        ensures { result ≡ said.guid_in self.now.conditions }
     {
-        self.guid.is_none() && self.full.as_slice().is_empty() && self.partial.as_slice().is_empty()
+        guid_in(self.conditions.as_slice())
     }
 
     /// The first fingerprint that is named, where the entry is filed under it.
     pub fn pair_key(&self, which: PairCondition) -> Option<(&Text, &Text)>
-        ensures { option_map (λ p. (p.0.now, p.1.now)) result ≡ said.pair_key which self.now }
+        ensures { option_map (λ p. (p.0.now, p.1.now)) result
+            ≡ said.pair_key which self.now.conditions }
     {
+        let conditions = self.conditions.as_slice();
         match which {
-            PairCondition::Full if self.guid.is_none() => first_of(&self.full),
-            PairCondition::Partial if self.has_no_guid_or_full() => first_of(&self.partial),
+            PairCondition::Full if guid_in(conditions).is_none() => {
+                first_of(pairs_in(conditions, ConditionKind::Fingerprints))
+            }
+            PairCondition::Partial if has_no_guid_or_full(conditions) => {
+                first_of(pairs_in(conditions, ConditionKind::PartialFingerprints))
+            }
             _ => None,
         }
     }
 
-    /// Returns whether the entry names neither a GUID nor full fingerprints.
-    fn has_no_guid_or_full(&self) -> bool
-        ensures { result ≡ said.has_no_guid_or_full self.now }
-    {
-        self.guid.is_none() && self.full.as_slice().is_empty()
-    }
-
     /// The text that is named, where the entry is filed under it.
     pub fn text_key(&self, which: TextCondition) -> Option<&Text>
-        ensures { option_copied result ≡ said.text_key which self.now }
+        ensures { option_copied result ≡ said.text_key which self.now.conditions }
     {
-        if !self.is_unmarked() {
+        let conditions = self.conditions.as_slice();
+        if !is_unmarked(conditions) {
             return None;
         }
         match which {
-            TextCondition::Uri if self.has_no_message() => self.uri.as_ref(),
-            TextCondition::RuleId if self.has_no_message_or_uri() => self.rule_id.as_ref(),
-            TextCondition::Tool if self.has_tool_alone() => self.tool.as_ref(),
+            TextCondition::Uri if has_no_message(conditions) => {
+                text_in(conditions, ConditionKind::Uri)
+            }
+            TextCondition::RuleId if has_no_message_or_uri(conditions) => {
+                text_in(conditions, ConditionKind::RuleId)
+            }
+            TextCondition::Tool if has_tool_alone(conditions) => {
+                text_in(conditions, ConditionKind::Tool)
+            }
             _ => None,
         }
     }
 
     /// What is named of the message, with the URI that is named, where the entry is filed under it.
     pub fn message_key(&self, alloc: Global) -> Result<Option<Sequence<Text>>, AllocError>
-        ensures { IfOk result (λ key. key ≡ said.message_key self.now) }
+        ensures { IfOk result (λ key. key ≡ said.message_key self.now.conditions) }
     {
-        if !self.is_unmarked() || self.has_no_message() {
+        let conditions = self.conditions.as_slice();
+        if !is_unmarked(conditions) || has_no_message(conditions) {
             return Ok(None);
         }
-        let args = self.message_args.as_slice();
-        Ok(Some(key_of(alloc, &self.uri, self.head(), args)?))
-    }
-
-    /// The text of the message that is named, otherwise the id that is.
-    fn head(&self) -> &Option<Text>
-        ensures { result.now ≡ said.head_of self.now }
-    {
-        if self.message.is_some() {
-            &self.message
-        } else {
-            &self.message_id
-        }
-    }
-
-    /// Returns whether the entry names nothing of the message.
-    fn has_no_message(&self) -> bool
-        ensures { result ≡ said.has_no_message self.now }
-    {
-        self.message.is_none()
-            && self.message_id.is_none()
-            && self.message_args.as_slice().is_empty()
-    }
-
-    /// Returns whether the entry names neither a message nor a URI.
-    fn has_no_message_or_uri(&self) -> bool
-        ensures { result ≡ said.has_no_message_or_uri self.now }
-    {
-        self.has_no_message() && self.uri.is_none()
-    }
-
-    /// Returns whether the entry names none of a message, a URI, a URI prefix and a rule id.
-    fn has_tool_alone(&self) -> bool
-        ensures { result ≡ said.has_tool_alone self.now }
-    {
-        self.has_no_message_or_uri() && self.rule_id.is_none() && self.uri_prefix.is_none()
+        let uri = text_in(conditions, ConditionKind::Uri);
+        let key = key_of(alloc, uri, head_in(conditions), args_in(conditions))?;
+        Ok(Some(key))
     }
 
     /// The prefix that is named, where the entry is filed under it.
     pub fn prefix_key(&self) -> Option<&Text>
-        ensures { option_copied result ≡ said.prefix_key self.now }
+        ensures { option_copied result ≡ said.prefix_key self.now.conditions }
     {
-        if self.is_unmarked() && self.has_no_message_or_uri() && self.rule_id.is_none() {
-            self.uri_prefix.as_ref()
+        let conditions = self.conditions.as_slice();
+        if is_unmarked(conditions)
+            && has_no_message_or_uri(conditions)
+            && text_in(conditions, ConditionKind::RuleId).is_none()
+        {
+            text_in(conditions, ConditionKind::UriPrefix)
         } else {
             None
         }
@@ -137,8 +198,11 @@ impl Conditions {
 
     /// Returns whether the entry is filed nowhere.
     pub fn has_no_key(&self) -> bool
-        ensures { result ≡ said.has_no_key self.now }
+        ensures { result ≡ said.has_no_key self.now.conditions }
     {
-        self.is_unmarked() && self.has_tool_alone() && self.tool.is_none()
+        let conditions = self.conditions.as_slice();
+        is_unmarked(conditions)
+            && has_tool_alone(conditions)
+            && text_in(conditions, ConditionKind::Tool).is_none()
     }
 }

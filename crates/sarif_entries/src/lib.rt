@@ -2,7 +2,7 @@
 //! of its conditions it is filed, and the suppression that it adds.
 #![tactic(auto)]
 
-mod conditions;
+mod condition;
 mod entry;
 mod fault;
 mod filing;
@@ -10,11 +10,12 @@ pub mod key;
 mod laws;
 pub mod message_keys;
 mod object;
+mod read_condition;
 mod read_entry;
 mod read_file;
 mod version;
 
-pub use conditions::Conditions;
+pub use condition::{Condition, ConditionKind, own_of, text_in};
 pub use entry::Entry;
 pub use fault::FileFault;
 pub use filing::{PairCondition, TextCondition};

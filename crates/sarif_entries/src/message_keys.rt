@@ -1,14 +1,15 @@
 //! The keys of messages: one under which an entry is filed by what it names of a message, and those by which the
 //! entries for a result's message are found.
 ghost use Rattle.std.specs.Prelude.{◌≡◌, ◌++◌, IfOk, OnOk};
+ghost use Rattle.std.specs.Option.{option_copied};
 ghost use Rattle.sarif_entries.specs.Internal.Filing as said;
 
 use sarif_model::{Message, Record, Sequence, Text};
 use std::alloc::{AllocError, Global};
 
 /// Adds the string, if there is one.
-fn add_if_there(key: &mut Sequence<Text>, text: &Option<Text>) -> Result<(), AllocError>
-    ensures { OnOk result (key.new ≡ key.old ++ said.listed text.now) }
+fn add_if_there(key: &mut Sequence<Text>, text: Option<&Text>) -> Result<(), AllocError>
+    ensures { OnOk result (key.new ≡ key.old ++ said.listed (option_copied text.entry)) }
 {
     if let Some(text) = text {
         key.push(text.clone()?)?;
@@ -29,11 +30,12 @@ fn add_all(key: &mut Sequence<Text>, texts: &[Text]) -> Result<(), AllocError>
 /// The key of a URI, of a message's text or id, and of arguments.
 pub(crate) fn key_of(
     alloc: Global,
-    uri: &Option<Text>,
-    head: &Option<Text>,
+    uri: Option<&Text>,
+    head: Option<&Text>,
     args: &[Text],
 ) -> Result<Sequence<Text>, AllocError>
-    ensures { IfOk result (λ key. key ≡ said.key_of uri.now head.now args.now) }
+    ensures { IfOk result (λ key. key
+        ≡ said.key_of (option_copied uri.entry) (option_copied head.entry) args.now) }
 {
     let mut key = Sequence::new(alloc);
     add_if_there(&mut key, uri)?;
@@ -53,9 +55,9 @@ fn add_keys_under(
     ensures { OnOk result (keys.new.items
         ≡ keys.old.items ++ said.keys_under uri.now head.now args.now) }
 {
-    keys.push(key_of(alloc, uri, head, &[])?)?;
+    keys.push(key_of(alloc, uri.as_ref(), head.as_ref(), &[])?)?;
     if !args.is_empty() {
-        keys.push(key_of(alloc, uri, head, args)?)?;
+        keys.push(key_of(alloc, uri.as_ref(), head.as_ref(), args)?)?;
     }
     Ok(())
 }
@@ -77,7 +79,7 @@ fn add_keys_at(
         add_keys_under(alloc, keys, uri, &message.id, args)?;
     }
     if !args.is_empty() {
-        keys.push(key_of(alloc, uri, &None, args)?)?;
+        keys.push(key_of(alloc, uri.as_ref(), None, args)?)?;
     }
     Ok(())
 }

@@ -2,6 +2,8 @@
 ghost use Rattle.std.specs.Prelude.{◌≡◌};
 ghost use Rattle.sarif_entries.specs.Entries as said;
 
+use crate::condition::ConditionKind;
+
 /// A version of the suppression file.
 #[derive(Clone, Copy, Debug, PartialEq, Eq)]
 pub enum Version {
@@ -14,40 +16,35 @@ pub enum Version {
 }
 
 impl Version {
-    /// Whether an entry of this version may have a member of that name.
+    /// Returns whether this version has what `earlier` introduced.
+    fn includes(self, earlier: Version) -> bool
+        ensures { result ≡ said.includes self earlier }
+    {
+        match (self, earlier) {
+            (_, Version::First) => true,
+            (Version::First, Version::Second) => false,
+            (_, Version::Second) => true,
+            (Version::Fourth, Version::Fourth) => true,
+            (_, Version::Fourth) => false,
+        }
+    }
+
+    /// Returns whether an entry of this version may have a condition in a member of that name.
+    fn has_condition(self, name: &str) -> bool
+        ensures { result ≡ said.has_condition self name.now }
+    {
+        ConditionKind::ALL
+            .iter()
+            .any(|kind| name == kind.name() && self.includes(kind.since()))
+    }
+
+    /// Returns whether an entry of this version may have a member of that name.
     pub(crate) fn has_member(self, name: &str) -> bool
         ensures { result ≡ said.has_member self name.now }
     {
-        match self {
-            Version::First => is_first_member(name),
-            Version::Second => is_second_member(name),
-            Version::Fourth => {
-                is_second_member(name)
-                    || name == "message"
-                    || name == "messageId"
-                    || name == "messageArguments"
-            }
-        }
+        self.has_condition(name)
+            || name == "status"
+            || name == "justification"
+            || (name == "expires" && self.includes(Version::Second))
     }
-}
-
-/// Whether an entry of the second version may have a member of that name.
-fn is_second_member(name: &str) -> bool
-    ensures { result ≡ said.is_second_member name.now }
-{
-    is_first_member(name) || name == "uriPrefix" || name == "expires"
-}
-
-/// Whether an entry of the first version may have a member of that name.
-fn is_first_member(name: &str) -> bool
-    ensures { result ≡ said.is_first_member name.now }
-{
-    name == "tool"
-        || name == "ruleId"
-        || name == "uri"
-        || name == "guid"
-        || name == "fingerprints"
-        || name == "partialFingerprints"
-        || name == "status"
-        || name == "justification"
 }

@@ -285,6 +285,37 @@ const ENTRY_MEMBERS: &[Check] = &[
     Check(&["justification"], May, Wanted::Text),
 ];
 
+/// The members that an entry may have, each with the first version of the file that has it.
+pub(crate) const ENTRY_NAMES: &[(&str, u64)] = &[
+    ("tool", 1),
+    ("ruleId", 1),
+    ("uri", 1),
+    ("uriPrefix", 2),
+    ("guid", 1),
+    ("fingerprints", 1),
+    ("partialFingerprints", 1),
+    ("message", 4),
+    ("messageId", 4),
+    ("messageArguments", 4),
+    ("expires", 2),
+    ("status", 1),
+    ("justification", 1),
+];
+
+/// What is expected of the members of an entry in a file of version 1, 2 and 4, and of its conditions.
+pub(crate) const FIRST_NAMES: &str = "in version 1 only the members tool, ruleId, uri, guid, \
+    fingerprints, partialFingerprints, status and justification";
+
+pub(crate) const SECOND_NAMES: &str = "in version 2 only the members tool, ruleId, uri, \
+    uriPrefix, guid, fingerprints, partialFingerprints, expires, status and justification";
+
+pub(crate) const FOURTH_NAMES: &str = "only the members tool, ruleId, uri, uriPrefix, guid, \
+    fingerprints, partialFingerprints, message, messageId, messageArguments, expires, status and \
+    justification";
+
+pub(crate) const CONDITIONS: &str = "at least one of tool, ruleId, uri, uriPrefix, guid, \
+    fingerprints, partialFingerprints, message, messageId and messageArguments";
+
 const EMPTY_MATCH: &[Check] = &[Check(&[], Must, Wanted::Condition)];
 
 const TODAY: &[Check] = &[Check(&["expires"], May, Wanted::Today)];

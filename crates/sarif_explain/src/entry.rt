@@ -1,5 +1,5 @@
 //! The error in an entry of the suppression file.
-use crate::checks::entry_checks;
+use crate::checks::{ENTRY_NAMES, entry_checks};
 use crate::misfit::{Found, Misfit, misfit_in};
 use crate::place::Place;
 use crate::wanted::Wanted;
@@ -9,13 +9,9 @@ use std::alloc::Global;
 
 /// Whether an entry may have a member of that name, in a file of that version, which is 1, 2 or 4.
 fn is_known(version: u64, name: &str) -> bool {
-    match name {
-        "tool" | "ruleId" | "uri" | "guid" | "fingerprints" | "partialFingerprints" => true,
-        "status" | "justification" => true,
-        "uriPrefix" | "expires" => version >= 2,
-        "message" | "messageId" | "messageArguments" => version >= 4,
-        _ => false,
-    }
+    ENTRY_NAMES
+        .iter()
+        .any(|(own, since)| *own == name && *since <= version)
 }
 
 /// The members that an entry may have in a file of that version.

@@ -1,4 +1,5 @@
 //! What is expected instead of the invalid value: the table of sentences.
+use crate::checks::{CONDITIONS, FIRST_NAMES, FOURTH_NAMES, SECOND_NAMES};
 use json_parts::MAX_DEPTH;
 use sarif_model::{
     FIRST_DAY, LAST_DAY, MOST_BYTES, MOST_ENTRIES, MOST_RESULTS, MOST_RUNS, MOST_SOURCES,
@@ -93,23 +94,10 @@ impl Wanted {
             Wanted::FileVersion => "the integer 1, 2 or 4, written without a fraction",
             Wanted::Entries => "an object with an array suppressions",
             Wanted::Entry => "an object with only the members that its version has",
-            Wanted::FirstMembers => {
-                "in version 1 only the members tool, ruleId, uri, guid, fingerprints, \
-                 partialFingerprints, status and justification"
-            }
-            Wanted::SecondMembers => {
-                "in version 2 only the members tool, ruleId, uri, uriPrefix, guid, fingerprints, \
-                 partialFingerprints, expires, status and justification"
-            }
-            Wanted::FourthMembers => {
-                "only the members tool, ruleId, uri, uriPrefix, guid, fingerprints, \
-                 partialFingerprints, message, messageId, messageArguments, expires, status and \
-                 justification"
-            }
-            Wanted::Condition => {
-                "at least one of tool, ruleId, uri, uriPrefix, guid, fingerprints, \
-                 partialFingerprints, message, messageId and messageArguments"
-            }
+            Wanted::FirstMembers => FIRST_NAMES,
+            Wanted::SecondMembers => SECOND_NAMES,
+            Wanted::FourthMembers => FOURTH_NAMES,
+            Wanted::Condition => CONDITIONS,
             Wanted::Today => "today's date, since the entry has an expiry date",
             Wanted::Readable => "a file that exists and can be read to its end",
             Wanted::Writable => "a file that can be written, and enough room on the disk",

@@ -1,28 +1,32 @@
 -- The entries that may match a result: all that match it are among them.
-use Rattle.std.proofs.Common.{◌≡◌, ℕ, Bool, true, false, not, ◌&&◌, ◌||◌, List, [], ◌∷◌, ◌++◌, Option, Some, None, nat_eq, bytes_eq, refl, sym, ap, ◌∙◌, arith}
-use Rattle.std.proofs.lemmas.Bool.{and_parts, or_left, or_right}
+use Rattle.std.proofs.Common.{◌≡◌, ℕ, Bool, true, false, not, ◌&&◌, ◌||◌, List, [], ◌∷◌, ◌++◌, Option, Some, None, nat_eq, bytes_eq, refl, sym, ap, ◌∙◌, arith, if◌then◌else◌}
+use Rattle.std.proofs.lemmas.Bool.{and_parts, false≢true, or_left, or_right}
 use Rattle.std.specs.Cmp.Lexicographic.{pointwise}
 use Rattle.std.specs.List.{flat_map, list_any}
 use Rattle.std.specs.Option.{option_map_or}
-use Rattle.std.specs.Prelude.{slice_get}
+use Rattle.std.specs.Prelude.{option_and_then, slice_get}
 use Rattle.std.proofs.lemmas.List.{append_assoc}
 use Rattle.std.proofs.lemmas.List.Folds.{list_any-append}
 use Rattle.sarif_model.specs.declared.record.Record.{Record}
-use Rattle.sarif_entries.specs.declared.conditions.Conditions.{Conditions}
+use Rattle.sarif_entries.specs.declared.condition.Condition.{Condition}
+use Rattle.sarif_entries.specs.declared.condition.Condition.TheVariants as condition
+use Rattle.sarif_entries.specs.declared.condition.ConditionKind.{ConditionKind}
+use Rattle.sarif_entries.specs.declared.condition.ConditionKind.TheVariants as kinds
 use Rattle.sarif_entries.specs.declared.entry.Entry.{Entry}
 use Rattle.sarif_entries.specs.declared.filing.PairCondition.TheVariants.{Full, Partial}
 use Rattle.sarif_entries.specs.declared.filing.TextCondition.TheVariants.{Uri, RuleId, Tool}
 use Rattle.sarif_filing.specs.declared.prefixes.PrefixTable.{PrefixTable}
 use Rattle.sarif_filing.specs.declared.table.Table.{Table}
-use Rattle.sarif_entries.specs.Internal.Filing.{asks_for_guid, asks_for_pair, asks_for_message, asks_for_text, asks_for_none, prefix_key, message_keys}
+use Rattle.sarif_entries.specs.Internal.Filing.{asks_for_guid, asks_for_pair, asks_for_message, asks_for_text, asks_for_none, prefix_key, message_keys, guid_of, pairs_of, texts_of, guid_in, pairs_in, args_in}
 use Rattle.sarif_filing.specs.Internal.Table.{candidates}
-use Rattle.sarif_entries.specs.Matching.{is_wanted, is_there, begins, is_guid, is_pair, are_among, are_wanted, hold_without_message, message_holds, hold, is_expired, matches}
+use Rattle.sarif_entries.specs.Condition.{is_text, begins, is_guid, is_pair, are_among, holds, kind_of, is_kind, of_kind, text_of, text_in}
+use Rattle.sarif_entries.specs.Matching.{hold, is_expired, matches}
 use Rattle.sarif_filing.specs.Numbers.{numbers_from, numbers_at}
 use Rattle.sarif_filing.specs.Internal.Prefixes.{IsPrefixTable, found_for}
 use Rattle.sarif_filing.specs.Internal.Table.{IsTable}
 use Rattle.sarif_filing.proofs.Begun.{found_begun}
 use Rattle.sarif_entries.proofs.Meaning.{pair_means}
-use Rattle.sarif_entries.proofs.MessageKeys.{in_message_keys}
+use Rattle.sarif_entries.proofs.MessageKeys.{is_there, are_wanted, in_message_keys}
 use Rattle.sarif_filing.proofs.Numbered.{has, has_from}
 
 flat_same : {K : Type 0} (f g : K → List ℕ) (ks : List K) → ((k : K) → f k ≡ g k) → flat_map f ks ≡ flat_map g ks
@@ -65,11 +69,11 @@ has_candidates es r n e is =
 
 -- ---- an entry that matches is filed under what the result has
 
-its_guid : (g : ℕ) (found : Option ℕ) → is_guid (Some g) found ≡ true → option_map_or (λ guid. nat_eq g guid) found false ≡ true
+its_guid : (g : ℕ) (found : Option ℕ) → is_guid g found ≡ true → option_map_or (λ guid. nat_eq g guid) found false ≡ true
 its_guid g None t = t
 its_guid g (Some guid) t = t
 
-its_text : (u : List ℕ) (found : Option (List ℕ)) → is_there (Some u) found ≡ true → option_map_or (λ text. bytes_eq u text) found false ≡ true
+its_text : (u : List ℕ) (found : Option (List ℕ)) → is_text u found ≡ true → option_map_or (λ text. bytes_eq u text) found false ≡ true
 its_text u None t = t
 its_text u (Some text) t = t
 
@@ -84,44 +88,115 @@ its_pair p (q ∷ qs) t =
     turned : is_pair q p ≡ true → is_pair p q ≡ true
     turned same = (pair_means p q).1 (sym ((pair_means q p).0 same))
 
--- each condition is true for the result
-record Parts (c : Conditions) (r : Record) : Type 0 where
-  rule : is_wanted c.rule_id r.rule_id ≡ true
-  tool : is_wanted c.tool r.tool ≡ true
-  uri : is_there c.uri r.place.uri ≡ true
-  prefix : begins c.uri_prefix r.place.uri ≡ true
-  guid : is_guid c.guid r.guid ≡ true
-  full : are_among c.full r.full ≡ true
-  partial : are_among c.partial r.partial ≡ true
-  message : is_there c.message r.message.text ≡ true
-  id : is_there c.message_id r.message.id ≡ true
-  args : are_wanted c.message_args r.message.args ≡ true
+-- what the entry names is true for the result
+record Parts (g : Option ℕ) (f p : List (List ℕ × List ℕ)) (m u ru px t i : Option (List ℕ)) (ws : List (List ℕ)) (r : Record) : Type 0 where
+  guid : option_map_or (λ guid. is_guid guid r.guid) g true ≡ true
+  full : are_among f r.full ≡ true
+  partial : are_among p r.partial ≡ true
+  message : is_there m r.message.text ≡ true
+  uri : is_there u r.place.uri ≡ true
+  rule : option_map_or (λ text. bytes_eq text r.rule_id) ru true ≡ true
+  prefix : option_map_or (λ prefix. begins prefix r.place.uri) px true ≡ true
+  tool : option_map_or (λ text. bytes_eq text r.tool) t true ≡ true
+  id : is_there i r.message.id ≡ true
+  args : are_wanted ws r.message.args ≡ true
 
-parts_of : (c : Conditions) (r : Record) → hold c r ≡ true → Parts c r
-parts_of c r holds =
-    split (is_wanted c.rule_id r.rule_id) (is_wanted c.tool r.tool) (is_there c.uri r.place.uri) (begins c.uri_prefix r.place.uri) (is_guid c.guid r.guid) (are_among c.full r.full) (are_among c.partial r.partial) refl refl refl refl refl refl refl
-    (and_parts (hold_without_message c r) (message_holds c r) holds).0
-    (and_parts (is_there c.message r.message.text) (is_there c.message_id r.message.id && are_wanted c.message_args r.message.args) (and_parts (hold_without_message c r) (message_holds c r) holds).1)
-  where
-    split : (a b u x g f p : Bool) → is_wanted c.rule_id r.rule_id ≡ a → is_wanted c.tool r.tool ≡ b → is_there c.uri r.place.uri ≡ u → begins c.uri_prefix r.place.uri ≡ x → is_guid c.guid r.guid ≡ g → are_among c.full r.full ≡ f → are_among c.partial r.partial ≡ p → (a && (b && (u && (x && (g && (f && p)))))) ≡ true → (is_there c.message r.message.text ≡ true) × ((is_there c.message_id r.message.id && are_wanted c.message_args r.message.args) ≡ true) → Parts c r
-    split a b u x g f p ea eb eu ex eg ef ep t message =
-        let t1 : (b && (u && (x && (g && (f && p))))) ≡ true = (and_parts a _ t).1 in
-        let t2 : (u && (x && (g && (f && p)))) ≡ true = (and_parts b _ t1).1 in
-        let t3 : (x && (g && (f && p))) ≡ true = (and_parts u _ t2).1 in
-        let t4 : (g && (f && p)) ≡ true = (and_parts x _ t3).1 in
-        let t5 : (f && p) ≡ true = (and_parts g _ t4).1 in
-        record {
-          rule = ea ∙ (and_parts a (b && (u && (x && (g && (f && p))))) t).0;
-          tool = eb ∙ (and_parts b (u && (x && (g && (f && p)))) t1).0;
-          uri = eu ∙ (and_parts u (x && (g && (f && p))) t2).0;
-          prefix = ex ∙ (and_parts x (g && (f && p)) t3).0;
-          guid = eg ∙ (and_parts g (f && p) t4).0;
-          full = ef ∙ (and_parts f p t5).0;
-          partial = ep ∙ (and_parts f p t5).1;
-          message = message.0;
-          id = (and_parts (is_there c.message_id r.message.id) (are_wanted c.message_args r.message.args) message.1).0;
-          args = (and_parts (is_there c.message_id r.message.id) (are_wanted c.message_args r.message.args) message.1).1;
-        }
+-- a test of the condition of a kind that is true if there is none, and for each that is true for the result
+module _ (r : Record) where
+  first_holds : (kind : ConditionKind) (test : Option Condition → Bool) → test None ≡ true → ((c : Condition) → is_kind (kind_of c) kind ≡ true → holds c r ≡ true → test (Some c) ≡ true)
+      → (cs : List Condition) → hold cs r ≡ true → test (of_kind kind cs) ≡ true
+  first_holds kind test none each [] all = none
+  first_holds kind test none each (c ∷ cs) all =
+      let both = and_parts (holds c r) (hold cs r) all in
+      elim (is_kind (kind_of c) kind) as (λ b. is_kind (kind_of c) kind ≡ b → test (if b then Some c else of_kind kind cs) ≡ true) [
+        | true ↦ λ same. each c same both.0
+        | false ↦ λ _. first_holds kind test none each cs both.1
+      ] refl
+
+  abbrev guid_test : Option Condition → Bool
+  guid_test = λ o. option_map_or (λ guid. is_guid guid r.guid) (option_and_then guid_of o) true
+
+  guid_holds : (c : Condition) → is_kind (kind_of c) kinds.Guid ≡ true → holds c r ≡ true → guid_test (Some c) ≡ true
+  guid_holds (condition.Guid x) is h = h
+  guid_holds c is h = absurd (false≢true is)
+
+  abbrev full_test : Option Condition → Bool
+  full_test = λ o. are_among (option_map_or pairs_of o []) r.full
+
+  full_holds : (c : Condition) → is_kind (kind_of c) kinds.Fingerprints ≡ true → holds c r ≡ true → full_test (Some c) ≡ true
+  full_holds (condition.Fingerprints x) is h = h
+  full_holds c is h = absurd (false≢true is)
+
+  abbrev partial_test : Option Condition → Bool
+  partial_test = λ o. are_among (option_map_or pairs_of o []) r.partial
+
+  partial_holds : (c : Condition) → is_kind (kind_of c) kinds.PartialFingerprints ≡ true → holds c r ≡ true → partial_test (Some c) ≡ true
+  partial_holds (condition.PartialFingerprints x) is h = h
+  partial_holds c is h = absurd (false≢true is)
+
+  abbrev message_test : Option Condition → Bool
+  message_test = λ o. is_there (option_and_then text_of o) r.message.text
+
+  message_holds : (c : Condition) → is_kind (kind_of c) kinds.Message ≡ true → holds c r ≡ true → message_test (Some c) ≡ true
+  message_holds (condition.Message x) is h = h
+  message_holds c is h = absurd (false≢true is)
+
+  abbrev uri_test : Option Condition → Bool
+  uri_test = λ o. is_there (option_and_then text_of o) r.place.uri
+
+  uri_holds : (c : Condition) → is_kind (kind_of c) kinds.Uri ≡ true → holds c r ≡ true → uri_test (Some c) ≡ true
+  uri_holds (condition.Uri x) is h = h
+  uri_holds c is h = absurd (false≢true is)
+
+  abbrev rule_test : Option Condition → Bool
+  rule_test = λ o. option_map_or (λ text. bytes_eq text r.rule_id) (option_and_then text_of o) true
+
+  rule_holds : (c : Condition) → is_kind (kind_of c) kinds.RuleId ≡ true → holds c r ≡ true → rule_test (Some c) ≡ true
+  rule_holds (condition.RuleId x) is h = h
+  rule_holds c is h = absurd (false≢true is)
+
+  abbrev prefix_test : Option Condition → Bool
+  prefix_test = λ o. option_map_or (λ prefix. begins prefix r.place.uri) (option_and_then text_of o) true
+
+  prefix_holds : (c : Condition) → is_kind (kind_of c) kinds.UriPrefix ≡ true → holds c r ≡ true → prefix_test (Some c) ≡ true
+  prefix_holds (condition.UriPrefix x) is h = h
+  prefix_holds c is h = absurd (false≢true is)
+
+  abbrev tool_test : Option Condition → Bool
+  tool_test = λ o. option_map_or (λ text. bytes_eq text r.tool) (option_and_then text_of o) true
+
+  tool_holds : (c : Condition) → is_kind (kind_of c) kinds.Tool ≡ true → holds c r ≡ true → tool_test (Some c) ≡ true
+  tool_holds (condition.Tool x) is h = h
+  tool_holds c is h = absurd (false≢true is)
+
+  abbrev id_test : Option Condition → Bool
+  id_test = λ o. is_there (option_and_then text_of o) r.message.id
+
+  id_holds : (c : Condition) → is_kind (kind_of c) kinds.MessageId ≡ true → holds c r ≡ true → id_test (Some c) ≡ true
+  id_holds (condition.MessageId x) is h = h
+  id_holds c is h = absurd (false≢true is)
+
+  abbrev args_test : Option Condition → Bool
+  args_test = λ o. are_wanted (option_map_or texts_of o []) r.message.args
+
+  args_holds : (c : Condition) → is_kind (kind_of c) kinds.MessageArguments ≡ true → holds c r ≡ true → args_test (Some c) ≡ true
+  args_holds (condition.MessageArguments []) is h = refl
+  args_holds (condition.MessageArguments (w ∷ ws)) is h = h
+  args_holds c is h = absurd (false≢true is)
+
+  parts_of : (cs : List Condition) → hold cs r ≡ true → Parts (guid_in cs) (pairs_in kinds.Fingerprints cs) (pairs_in kinds.PartialFingerprints cs) (text_in kinds.Message cs) (text_in kinds.Uri cs) (text_in kinds.RuleId cs) (text_in kinds.UriPrefix cs) (text_in kinds.Tool cs) (text_in kinds.MessageId cs) (args_in cs) r
+  parts_of cs all = record {
+    guid = first_holds kinds.Guid guid_test refl guid_holds cs all;
+    full = first_holds kinds.Fingerprints full_test refl full_holds cs all;
+    partial = first_holds kinds.PartialFingerprints partial_test refl partial_holds cs all;
+    message = first_holds kinds.Message message_test refl message_holds cs all;
+    uri = first_holds kinds.Uri uri_test refl uri_holds cs all;
+    rule = first_holds kinds.RuleId rule_test refl rule_holds cs all;
+    prefix = first_holds kinds.UriPrefix prefix_test refl prefix_holds cs all;
+    tool = first_holds kinds.Tool tool_test refl tool_holds cs all;
+    id = first_holds kinds.MessageId id_test refl id_holds cs all;
+    args = first_holds kinds.MessageArguments args_test refl args_holds cs all;
+  }
 
 -- a condition that one of these satisfies
 module _ (g f p m u ru t o : Bool) where
@@ -152,10 +227,18 @@ module _ (g f p m u ru t o : Bool) where
   in_none : o ≡ true → one_of ≡ true
   in_none is = behind_message (or_right u _ (or_right ru _ (or_right t _ is)))
 
--- the conditions that are these
-abbrev made : Option ℕ → List (List ℕ × List ℕ) → List (List ℕ × List ℕ) → Option (List ℕ) → Option (List ℕ) → Option (List ℕ) → Option (List ℕ) → Option (List ℕ) → Option (List ℕ) → List (List ℕ) → Conditions
-made g f p m u ru px t i ws =
-    record { tool = t; rule_id = ru; uri = u; uri_prefix = px; guid = g; full = f; partial = p; message = m; message_id = i; message_args = ws }
+-- the entry names exactly these
+record Names (cs : List Condition) (g : Option ℕ) (f p : List (List ℕ × List ℕ)) (m u ru px t i : Option (List ℕ)) (ws : List (List ℕ)) : Type 0 where
+  guid : guid_in cs ≡ g
+  full : pairs_in kinds.Fingerprints cs ≡ f
+  partial : pairs_in kinds.PartialFingerprints cs ≡ p
+  message : text_in kinds.Message cs ≡ m
+  uri : text_in kinds.Uri cs ≡ u
+  rule : text_in kinds.RuleId cs ≡ ru
+  prefix : text_in kinds.UriPrefix cs ≡ px
+  tool : text_in kinds.Tool cs ≡ t
+  id : text_in kinds.MessageId cs ≡ i
+  args : args_in cs ≡ ws
 
 module _ (e : Entry) (r : Record) (begun : Bool) where
   abbrev by_guid : Bool
@@ -180,36 +263,38 @@ module _ (e : Entry) (r : Record) (begun : Bool) where
   by_tool = asks_for_text Tool r.tool e
 
   -- an entry whose prefix is found if the URI begins with it is filed under a value of the result
-  is_filed : (g : Option ℕ) (f p : List (List ℕ × List ℕ)) (m u ru px t i : Option (List ℕ)) (ws : List (List ℕ)) → e.conditions ≡ made g f p m u ru px t i ws → Parts (made g f p m u ru px t i ws) r → ((prefix : List ℕ) → prefix_key (made g f p m u ru px t i ws) ≡ Some prefix → begins (Some prefix) r.place.uri ≡ true → begun ≡ true) → (is_asked e r || begun) ≡ true
-  is_filed (Some g) f p m u ru px t i ws is parts found =
-      or_left (is_asked e r) begun (or_left by_guid _ (rw is (its_guid g r.guid parts.guid)))
-  is_filed None (q ∷ f) p m u ru px t i ws is parts found =
-      or_left (is_asked e r) begun (in_full by_guid by_full by_partial by_message by_uri by_rule by_tool (asks_for_none e) (rw is (its_pair q r.full (and_parts (list_any (λ o. is_pair o q) r.full) (are_among f r.full) parts.full).0)))
-  is_filed None [] (q ∷ p) m u ru px t i ws is parts found =
-      or_left (is_asked e r) begun (in_partial by_guid by_full by_partial by_message by_uri by_rule by_tool (asks_for_none e) (rw is (its_pair q r.partial (and_parts (list_any (λ o. is_pair o q) r.partial) (are_among p r.partial) parts.partial).0)))
-  is_filed None [] [] (Some m) u ru px t i ws is parts found =
-      or_left (is_asked e r) begun (in_message by_guid by_full by_partial by_message by_uri by_rule by_tool (asks_for_none e) (rw is (in_message_keys r u (Some m) i ws parts.uri parts.message parts.id parts.args refl)))
-  is_filed None [] [] None u ru px t (Some i) ws is parts found =
-      or_left (is_asked e r) begun (in_message by_guid by_full by_partial by_message by_uri by_rule by_tool (asks_for_none e) (rw is (in_message_keys r u None (Some i) ws parts.uri parts.message parts.id parts.args refl)))
-  is_filed None [] [] None u ru px t None (w ∷ ws) is parts found =
-      or_left (is_asked e r) begun (in_message by_guid by_full by_partial by_message by_uri by_rule by_tool (asks_for_none e) (rw is (in_message_keys r u None None (w ∷ ws) parts.uri parts.message parts.id parts.args refl)))
-  is_filed None [] [] None (Some u) ru px t None [] is parts found =
-      or_left (is_asked e r) begun (in_uri by_guid by_full by_partial by_message by_uri by_rule by_tool (asks_for_none e) (rw is (its_text u r.place.uri parts.uri)))
-  is_filed None [] [] None None (Some ru) px t None [] is parts found =
-      or_left (is_asked e r) begun (in_rule by_guid by_full by_partial by_message by_uri by_rule by_tool (asks_for_none e) (rw is parts.rule))
-  is_filed None [] [] None None None (Some px) t None [] is parts found =
-      or_right (is_asked e r) begun (found px refl parts.prefix)
-  is_filed None [] [] None None None None (Some t) None [] is parts found =
-      or_left (is_asked e r) begun (in_tool by_guid by_full by_partial by_message by_uri by_rule by_tool (asks_for_none e) (rw is parts.tool))
-  is_filed None [] [] None None None None None None [] is parts found =
-      or_left (is_asked e r) begun (in_none by_guid by_full by_partial by_message by_uri by_rule by_tool (asks_for_none e) (rw is refl))
+  is_filed : (g : Option ℕ) (f p : List (List ℕ × List ℕ)) (m u ru px t i : Option (List ℕ)) (ws : List (List ℕ)) → Names e.conditions g f p m u ru px t i ws → Parts g f p m u ru px t i ws r → ((prefix : List ℕ) → prefix_key e.conditions ≡ Some prefix → begins prefix r.place.uri ≡ true → begun ≡ true) → (is_asked e r || begun) ≡ true
+  is_filed (Some g) f p m u ru px t i ws n parts found =
+      or_left (is_asked e r) begun (or_left by_guid _ (rw (n.guid) (its_guid g r.guid parts.guid)))
+  is_filed None (q ∷ f) p m u ru px t i ws n parts found =
+      or_left (is_asked e r) begun (in_full by_guid by_full by_partial by_message by_uri by_rule by_tool (asks_for_none e) (rw (n.guid, n.full) (its_pair q r.full (and_parts (list_any (λ o. is_pair o q) r.full) (are_among f r.full) parts.full).0)))
+  is_filed None [] (q ∷ p) m u ru px t i ws n parts found =
+      or_left (is_asked e r) begun (in_partial by_guid by_full by_partial by_message by_uri by_rule by_tool (asks_for_none e) (rw (n.guid, n.full, n.partial) (its_pair q r.partial (and_parts (list_any (λ o. is_pair o q) r.partial) (are_among p r.partial) parts.partial).0)))
+  is_filed None [] [] (Some m) u ru px t i ws n parts found =
+      or_left (is_asked e r) begun (in_message by_guid by_full by_partial by_message by_uri by_rule by_tool (asks_for_none e) (rw (n.guid, n.full, n.partial, n.message, n.uri, n.args) (in_message_keys r u (Some m) i ws parts.uri parts.message parts.id parts.args refl)))
+  is_filed None [] [] None u ru px t (Some i) ws n parts found =
+      or_left (is_asked e r) begun (in_message by_guid by_full by_partial by_message by_uri by_rule by_tool (asks_for_none e) (rw (n.guid, n.full, n.partial, n.message, n.uri, n.id, n.args) (in_message_keys r u None (Some i) ws parts.uri parts.message parts.id parts.args refl)))
+  is_filed None [] [] None u ru px t None (w ∷ ws) n parts found =
+      or_left (is_asked e r) begun (in_message by_guid by_full by_partial by_message by_uri by_rule by_tool (asks_for_none e) (rw (n.guid, n.full, n.partial, n.message, n.uri, n.id, n.args) (in_message_keys r u None None (w ∷ ws) parts.uri parts.message parts.id parts.args refl)))
+  is_filed None [] [] None (Some u) ru px t None [] n parts found =
+      or_left (is_asked e r) begun (in_uri by_guid by_full by_partial by_message by_uri by_rule by_tool (asks_for_none e) (rw (n.guid, n.full, n.partial, n.message, n.uri, n.id, n.args) (its_text u r.place.uri parts.uri)))
+  is_filed None [] [] None None (Some ru) px t None [] n parts found =
+      or_left (is_asked e r) begun (in_rule by_guid by_full by_partial by_message by_uri by_rule by_tool (asks_for_none e) (rw (n.guid, n.full, n.partial, n.message, n.uri, n.id, n.args, n.rule) parts.rule))
+  is_filed None [] [] None None None (Some px) t None [] n parts found =
+      or_right (is_asked e r) begun (found px (rw (n.guid, n.full, n.partial, n.message, n.uri, n.id, n.args, n.rule, n.prefix) refl) parts.prefix)
+  is_filed None [] [] None None None None (Some t) None [] n parts found =
+      or_left (is_asked e r) begun (in_tool by_guid by_full by_partial by_message by_uri by_rule by_tool (asks_for_none e) (rw (n.guid, n.full, n.partial, n.message, n.uri, n.id, n.args, n.rule, n.prefix, n.tool) parts.tool))
+  is_filed None [] [] None None None None None None [] n parts found =
+      or_left (is_asked e r) begun (in_none by_guid by_full by_partial by_message by_uri by_rule by_tool (asks_for_none e) (rw (n.guid, n.full, n.partial, n.message, n.uri, n.id, n.args, n.rule, n.prefix, n.tool) refl))
 
 -- all entries that match a result are among the candidates and those whose prefix is found
 pub among : {S H : Type 0} (today : Option ℕ) (r : Record) (es : List Entry) (table : PrefixTable S H) → IsPrefixTable es table → (n : ℕ) (e : Entry) → slice_get es n ≡ Some e → matches today e r ≡ true → has n (candidates es r ++ option_map_or (found_for table) r.place.uri []) ≡ true
 among today r es table is n e at match =
     let beginning : List ℕ = option_map_or (found_for table) r.place.uri [] in
-    let c : Conditions = e.conditions in
-    let begun : (prefix : List ℕ) → prefix_key c ≡ Some prefix → begins (Some prefix) r.place.uri ≡ true → has n beginning ≡ true = λ prefix key begins. found_begun es table n e prefix r.place.uri is at key begins in
+    let cs : List Condition = e.conditions in
+    let begun : (prefix : List ℕ) → prefix_key cs ≡ Some prefix → begins prefix r.place.uri ≡ true → has n beginning ≡ true = λ prefix key begins. found_begun es table n e prefix r.place.uri is at key begins in
+    let all : hold cs r ≡ true = (and_parts (not (is_expired today e)) (hold cs r) match).1 in
+    let names : Names cs (guid_in cs) (pairs_in kinds.Fingerprints cs) (pairs_in kinds.PartialFingerprints cs) (text_in kinds.Message cs) (text_in kinds.Uri cs) (text_in kinds.RuleId cs) (text_in kinds.UriPrefix cs) (text_in kinds.Tool cs) (text_in kinds.MessageId cs) (args_in cs) = record { guid = refl; full = refl; partial = refl; message = refl; uri = refl; rule = refl; prefix = refl; tool = refl; id = refl; args = refl } in
     list_any-append (λ m. nat_eq m n) (candidates es r) beginning
     ∙ ap (λ b. b || has n beginning) (has_candidates es r n e at)
-    ∙ is_filed e r (has n beginning) c.guid c.full c.partial c.message c.uri c.rule_id c.uri_prefix c.tool c.message_id c.message_args refl (parts_of c r (and_parts (not (is_expired today e)) (hold c r) match).1) begun
+    ∙ is_filed e r (has n beginning) (guid_in cs) (pairs_in kinds.Fingerprints cs) (pairs_in kinds.PartialFingerprints cs) (text_in kinds.Message cs) (text_in kinds.Uri cs) (text_in kinds.RuleId cs) (text_in kinds.UriPrefix cs) (text_in kinds.Tool cs) (text_in kinds.MessageId cs) (args_in cs) names (parts_of r cs all) begun

@@ -141,7 +141,7 @@ fn lengths_of(alloc: Global, entries: &[Entry]) -> Result<Vec<bool>, AllocError>
 {
     let mut lengths = Vec::new(alloc);
     for entry in entries {
-        if let Some(prefix) = entry.conditions.prefix_key() {
+        if let Some(prefix) = entry.prefix_key() {
             mark_length(&mut lengths, prefix.as_str().len())?;
         }
     }
@@ -161,7 +161,7 @@ fn numbers_by_hash<S: BuildHasher + Copy>(
 {
     let mut table: IndexMap<u32, Vec<u32>, S> = IndexMap::with_hasher(alloc, hasher);
     for (number, entry) in entries.iter().enumerate() {
-        if let Some(prefix) = entry.conditions.prefix_key() {
+        if let Some(prefix) = entry.prefix_key() {
             let hash = hash_of(base, prefix.as_str().as_bytes());
             add_number(alloc, &mut table, hash, number as u32)?;
         }

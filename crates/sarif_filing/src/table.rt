@@ -8,7 +8,7 @@ ghost use Rattle.std.specs.Cmp.Lexicographic.{pointwise};
 ghost use Rattle.std.specs.List.{flat_map};
 ghost use Rattle.std.specs.Option.{option_map_or};
 ghost use Rattle.sarif_entries.specs.Internal.Filing as said;
-ghost use Rattle.sarif_entries.specs.Matching.{is_pair};
+ghost use Rattle.sarif_entries.specs.Condition.{is_pair};
 ghost use Rattle.sarif_filing.specs.Numbers.{numbers_from, numbers_at};
 ghost use Rattle.sarif_filing.specs.Internal.Table.{ArePairTables, AreTextTables, IsTable, candidates};
 ghost use Rattle.sarif_model.specs.Limits.{most_entries};
@@ -176,7 +176,7 @@ fn numbers_by_guid<S: BuildHasher + Copy>(
 {
     let mut table: IndexMap<u128, Vec<u32>, S> = IndexMap::with_hasher(alloc, hasher);
     for (number, entry) in entries.iter().enumerate() {
-        if let Some(guid) = entry.conditions.guid {
+        if let Some(guid) = entry.guid_key() {
             add_number(alloc, &mut table, guid, number as u32)?;
         }
     }
@@ -196,7 +196,7 @@ fn numbers_by_pair<S: BuildHasher + Copy>(
 {
     let mut table: IndexMap<(Text, Text), Vec<u32>, S> = IndexMap::with_hasher(alloc, hasher);
     for (number, entry) in entries.iter().enumerate() {
-        if let Some((name, value)) = entry.conditions.pair_key(which) {
+        if let Some((name, value)) = entry.pair_key(which) {
             let key = (name.clone()?, value.clone()?);
             add_number(alloc, &mut table, key, number as u32)?;
         }
@@ -216,7 +216,7 @@ fn numbers_by_message<S: BuildHasher + Copy>(
 {
     let mut table: IndexMap<Sequence<Text>, Vec<u32>, S> = IndexMap::with_hasher(alloc, hasher);
     for (number, entry) in entries.iter().enumerate() {
-        if let Some(key) = entry.conditions.message_key(alloc)? {
+        if let Some(key) = entry.message_key(alloc)? {
             add_number(alloc, &mut table, key, number as u32)?;
         }
     }
@@ -236,7 +236,7 @@ fn numbers_by_text<S: BuildHasher + Copy>(
 {
     let mut table: IndexMap<Text, Vec<u32>, S> = IndexMap::with_hasher(alloc, hasher);
     for (number, entry) in entries.iter().enumerate() {
-        if let Some(text) = entry.conditions.text_key(which) {
+        if let Some(text) = entry.text_key(which) {
             add_number(alloc, &mut table, text.clone()?, number as u32)?;
         }
     }
@@ -251,7 +251,7 @@ fn numbers_of_others(alloc: Global, entries: &[Entry]) -> Result<Vec<u32>, Alloc
 {
     let mut numbers = Vec::new(alloc);
     for (number, entry) in entries.iter().enumerate() {
-        if entry.conditions.has_no_key() {
+        if entry.has_no_key() {
             numbers.push(number as u32)?;
         }
     }

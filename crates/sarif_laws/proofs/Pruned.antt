@@ -16,6 +16,8 @@ use Rattle.sarif_counts.specs.Policy.{verdict_of}
 use Rattle.sarif_runs.specs.Judging.{run_values}
 use Rattle.sarif_results.specs.Annotated.{annotated_members, own_suppressions}
 use Rattle.sarif_results.specs.Drafts.{Listing}
+use Rattle.sarif_entries.specs.declared.condition.ConditionKind.TheVariants as kinds
+use Rattle.sarif_entries.specs.Condition.{text_in}
 use Rattle.sarif_entries.specs.declared.entry.Entry.{Entry}
 use Rattle.sarif_entries.specs.Matching.{is_expired}
 use Rattle.sarif_suppress.specs.Suppressing.{is_unused}
@@ -144,7 +146,7 @@ module _ (inputs : Inputs) (policy : Policy) (renewal : Renewal) (text : List �
 
   unused_now : (e : Entry) (i : ℕ) → i < length (file_given (with_file inputs text)).entries → get_or (file_given (with_file inputs text)).entries i e ≡ e
       → is_unused (file_given (with_file inputs text)) (current_of inputs) e ≡ true
-      → (is_expired inputs.today e ≡ false) × (heard (run_values (input_runs inputs)) e.conditions.tool ≡ false)
+      → (is_expired inputs.today e ≡ false) × (heard (run_values (input_runs inputs)) (text_in kinds.Tool e.conditions) ≡ false)
   unused_now e i within at unused =
       let keep = is_kept true (heard (run_values (input_runs inputs))) (file_given inputs) (current_of inputs) in
       let kept : keep e ≡ true =
@@ -153,7 +155,7 @@ module _ (inputs : Inputs) (policy : Policy) (renewal : Renewal) (text : List �
       (subst (λ today. is_expired today e ≡ false) (same_today inputs sound) so.0, so.1)
 
   used_by : (b : Bool) (e : Entry) (i : ℕ) → i < length (file_given (with_file inputs text)).entries → get_or (file_given (with_file inputs text)).entries i e ≡ e
-      → heard (run_values (input_runs inputs)) e.conditions.tool ≡ true → is_unused (file_given (with_file inputs text)) (current_of inputs) e ≡ b → b ≡ false
+      → heard (run_values (input_runs inputs)) (text_in kinds.Tool e.conditions) ≡ true → is_unused (file_given (with_file inputs text)) (current_of inputs) e ≡ b → b ≡ false
   used_by true e i within at heard_is unused = absurd (true≢false (sym heard_is ∙ (unused_now e i within at unused).1))
   used_by false e i within at heard_is unused = refl
 

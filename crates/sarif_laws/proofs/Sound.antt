@@ -22,7 +22,7 @@ use Rattle.sarif_model.specs.Members.{elements}
 use Rattle.sarif_model.specs.Run.{elements_or_none}
 use Rattle.sarif_counts.specs.declared.upkeep.Renewal.{Renewal}
 use Rattle.sarif_read.proofs.RunOf.{stripped_ordered}
-use Rattle.sarif_accept.specs.Entry.{conditions_for, entry_for, entry_rows, members_from, texts_put}
+use Rattle.sarif_accept.specs.Entry.{asked_of, entry_for, entry_rows, members_from, texts_put}
 use Rattle.sarif_accept.specs.Keeping.{chosen}
 use Rattle.sarif_accept.specs.NewFile.{entries_after, entries_in, entry_in, file_object, new_file, others_in, stripped_in}
 use Rattle.sarif_accept.proofs.EveryRow.{IsKept, IsOfEach, entry_keeps, texts_keep}
@@ -171,8 +171,8 @@ each_sound until small = record {
 added_sound : (rs : List Record) (reason : Option (List ℕ)) (until : Option ℕ) → IsSmall until → AllByRecursion IsSound (map (λ r. entry_for r reason until) rs)
 added_sound [] reason until small = tt
 added_sound (r ∷ rs) reason until small =
-    let c = conditions_for r in
-    (object_sound (members_from (entry_rows c reason until)) (entry_keeps put_keeps until (each_sound until small) c reason), added_sound rs reason until small)
+    let f = asked_of r in
+    (object_sound (members_from (entry_rows f reason until)) (entry_keeps put_keeps until (each_sound until small) f reason), added_sound rs reason until small)
 
 -- ---- the new file
 

@@ -7,6 +7,8 @@ use Rattle.sarif_inputs.specs.Faults.{faults_of}
 use Rattle.sarif_inputs.specs.Inputs.{Inputs, input_runs}
 use Rattle.sarif_merge.specs.MergedLog.{current_of, file_given, runs_written, unused_in}
 use Rattle.sarif_runs.specs.Judging.{run_values}
+use Rattle.sarif_entries.specs.declared.condition.ConditionKind.TheVariants as kinds
+use Rattle.sarif_entries.specs.Condition.{text_in}
 use Rattle.sarif_entries.specs.declared.entry.Entry.{Entry}
 use Rattle.sarif_entries.specs.Matching.{is_expired}
 use Rattle.sarif_suppress.specs.Suppressing.{is_unused}
@@ -30,8 +32,8 @@ pub record ChangesNoResult (inputs : Inputs) (text : List ℕ) : Type 0 where
       ≡ verdict_of (count_of (runs_written inputs)) policy
   pub unused : (e : Entry) → IsUnusedIn (with_file inputs text) e
       → (is_expired inputs.today e ≡ false)
-      × (heard (run_values (input_runs inputs)) e.conditions.tool ≡ false)
+      × (heard (run_values (input_runs inputs)) (text_in kinds.Tool e.conditions) ≡ false)
   -- so no entry is unused if the tool of each was heard
   pub none_unused : ((e : Entry) → Contains (file_given (with_file inputs text)).entries e
-      → heard (run_values (input_runs inputs)) e.conditions.tool ≡ true)
+      → heard (run_values (input_runs inputs)) (text_in kinds.Tool e.conditions) ≡ true)
       → unused_in (with_file inputs text) ≡ 0

@@ -3,6 +3,8 @@ use Rattle.std.specs.Prelude.{ℕ, ◌+◌, Bool, false, not, ◌&&◌, ◌||◌
 use Rattle.std.specs.Option.{option_map_or}
 use Rattle.serde_json.specs.Data.{Data}
 use Rattle.sarif_entries.specs.declared.entry.Entry.{Entry}
+use Rattle.sarif_entries.specs.declared.condition.ConditionKind.TheVariants as kinds
+use Rattle.sarif_entries.specs.Condition.{text_in}
 use Rattle.sarif_entries.specs.Matching.{is_expired}
 use Rattle.sarif_accept.specs.Keeping.{Heard}
 use Rattle.sarif_accept.specs.Unused.{line_of}
@@ -13,7 +15,7 @@ mark_at marks n = option_map_or (λ mark. mark) (slice_get marks n) false
 
 abbrev pub is_dropped : Heard → Option ℕ → Entry → Bool → Bool
 is_dropped heard today e used =
-    is_expired today e || (not used && heard e.conditions.tool)
+    is_expired today e || (not used && heard (text_in kinds.Tool e.conditions))
 
 -- a value, if it is marked
 abbrev pub if_marked : Bool → Data → List Data

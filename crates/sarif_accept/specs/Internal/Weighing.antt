@@ -3,20 +3,22 @@ use Rattle.std.specs.Prelude.{ℕ, ◌+◌, List, [], ◌∷◌, length, Option,
 use Rattle.serde_json.specs.Data.{Data, null, boolean, number, string, array, object, Items, no_items, item, Members, no_members, member}
 use Rattle.sarif_counts.specs.declared.upkeep.Renewal.{Renewal}
 use Rattle.sarif_model.specs.declared.record.Record.{Record}
+use Rattle.sarif_entries.specs.declared.condition.Condition.{Condition}
+use Rattle.sarif_entries.specs.Condition.{text_of}
 use Rattle.sarif_accept.specs.Entry.{conditions_for}
 
 abbrev pub weight_if : Option (List ℕ) → ℕ
 weight_if None = 0
 weight_if (Some text) = length text
 
+-- the bytes of the strings that these conditions name
+abbrev pub weight_in : List Condition → ℕ
+weight_in [] = 0
+weight_in (c ∷ cs) = weight_if (text_of c) + weight_in cs
+
 -- the bytes of the strings that are members of the entry that accepts a result
 abbrev pub weight_of : Renewal → Record → ℕ
-weight_of renewal r =
-    weight_if renewal.reason
-    + (weight_if (conditions_for r).tool
-    + (weight_if (conditions_for r).rule_id
-    + (weight_if (conditions_for r).uri
-    + (weight_if (conditions_for r).message + weight_if (conditions_for r).message_id))))
+weight_of renewal r = weight_if renewal.reason + weight_in (conditions_for r)
 
 abbrev pub weights_of : Renewal → List Record → ℕ
 weights_of renewal [] = 0

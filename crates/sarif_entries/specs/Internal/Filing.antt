@@ -1,34 +1,71 @@
 -- Under which condition an entry is filed: the most specific one. So a result is compared only with entries that may
 -- match it.
-use Rattle.std.specs.Prelude.{ℕ, Bool, false, not, ◌&&◌, List, [], ◌∷◌, ◌++◌, Option, Some, None, is_none, is_some, nat_eq, bytes_eq, slice_get, if◌then◌else◌}
+use Rattle.std.specs.Prelude.{ℕ, Bool, false, not, ◌&&◌, List, [], ◌∷◌, ◌++◌, Option, Some, None, option_and_then, is_none, is_some, nat_eq, bytes_eq, slice_get, if◌then◌else◌}
 use Rattle.std.specs.Cmp.Lexicographic.{pointwise}
 use Rattle.std.specs.Option.{option_map_or}
 use Rattle.sarif_model.specs.declared.message.Message.{Message}
 use Rattle.sarif_model.specs.declared.record.Record.{Record}
-use Rattle.sarif_entries.specs.declared.conditions.Conditions.{Conditions}
+use Rattle.sarif_entries.specs.declared.condition.Condition.{Condition}
+use Rattle.sarif_entries.specs.declared.condition.Condition.TheVariants.{Guid, Fingerprints, PartialFingerprints, MessageArguments}
+use Rattle.sarif_entries.specs.declared.condition.ConditionKind.{ConditionKind}
+use Rattle.sarif_entries.specs.declared.condition.ConditionKind.TheVariants as kinds
 use Rattle.sarif_entries.specs.declared.entry.Entry.{Entry}
 use Rattle.sarif_entries.specs.declared.filing.TextCondition.{TextCondition}
 use Rattle.sarif_entries.specs.declared.filing.TextCondition.TheVariants.{Uri, RuleId, Tool}
 use Rattle.sarif_entries.specs.declared.filing.PairCondition.{PairCondition}
 use Rattle.sarif_entries.specs.declared.filing.PairCondition.TheVariants.{Full, Partial}
-use Rattle.sarif_entries.specs.Matching.{is_pair, is_empty}
+use Rattle.sarif_entries.specs.Condition.{is_pair, of_kind, text_in}
+use Rattle.sarif_entries.specs.Matching.{is_empty}
 
--- the entry names neither a GUID nor fingerprints
-abbrev pub is_unmarked : Conditions → Bool
-is_unmarked c = is_none c.guid && (is_empty c.full && is_empty c.partial)
+-- ---- what the conditions name
+
+abbrev pub guid_of : Condition → Option ℕ
+guid_of (Guid guid) = Some guid
+guid_of _ = None
+
+abbrev pub pairs_of : Condition → List (List ℕ × List ℕ)
+pairs_of (Fingerprints pairs) = pairs
+pairs_of (PartialFingerprints pairs) = pairs
+pairs_of _ = []
+
+abbrev pub texts_of : Condition → List (List ℕ)
+texts_of (MessageArguments texts) = texts
+texts_of _ = []
+
+-- the named GUID, if there is one
+abbrev pub guid_in : List Condition → Option ℕ
+guid_in cs = option_and_then guid_of (of_kind kinds.Guid cs)
+
+-- the named fingerprints of that kind
+abbrev pub pairs_in : ConditionKind → List Condition → List (List ℕ × List ℕ)
+pairs_in kind cs = option_map_or pairs_of (of_kind kind cs) []
+
+-- the named arguments of a message
+abbrev pub args_in : List Condition → List (List ℕ)
+args_in cs = option_map_or texts_of (of_kind kinds.MessageArguments cs) []
+
+-- ---- the condition under which an entry is filed
 
 -- the entry names neither a GUID nor full fingerprints
-abbrev pub has_no_guid_or_full : Conditions → Bool
-has_no_guid_or_full c = is_none c.guid && is_empty c.full
+abbrev pub has_no_guid_or_full : List Condition → Bool
+has_no_guid_or_full cs = is_none (guid_in cs) && is_empty (pairs_in kinds.Fingerprints cs)
+
+-- the entry names neither a GUID nor fingerprints
+abbrev pub is_unmarked : List Condition → Bool
+is_unmarked cs = has_no_guid_or_full cs && is_empty (pairs_in kinds.PartialFingerprints cs)
 
 -- the first named fingerprint, if it is the most specific condition
-abbrev pub pair_key : PairCondition → Conditions → Option (List ℕ × List ℕ)
-pair_key Full c = if is_none c.guid then slice_get c.full 0 else None
-pair_key Partial c = if has_no_guid_or_full c then slice_get c.partial 0 else None
+abbrev pub pair_key : PairCondition → List Condition → Option (List ℕ × List ℕ)
+pair_key Full cs =
+    if is_none (guid_in cs) then slice_get (pairs_in kinds.Fingerprints cs) 0 else None
+pair_key Partial cs =
+    if has_no_guid_or_full cs then slice_get (pairs_in kinds.PartialFingerprints cs) 0 else None
 
 -- the entry names nothing of the message
-abbrev pub has_no_message : Conditions → Bool
-has_no_message c = is_none c.message && (is_none c.message_id && is_empty c.message_args)
+abbrev pub has_no_message : List Condition → Bool
+has_no_message cs =
+    is_none (text_in kinds.Message cs)
+    && (is_none (text_in kinds.MessageId cs) && is_empty (args_in cs))
 
 -- a string as a list, if there is one
 abbrev pub listed : Option (List ℕ) → List (List ℕ)
@@ -41,14 +78,16 @@ abbrev pub key_of : Option (List ℕ) → Option (List ℕ) → List (List ℕ) 
 key_of uri head args = (listed uri ++ listed head) ++ args
 
 -- the named text of the message, otherwise its named id
-abbrev pub head_of : Conditions → Option (List ℕ)
-head_of c = if is_some c.message then c.message else c.message_id
+abbrev pub head_of : List Condition → Option (List ℕ)
+head_of cs =
+    if is_some (text_in kinds.Message cs) then text_in kinds.Message cs
+    else text_in kinds.MessageId cs
 
 -- what is named of the message, with the named URI, if it is the most specific condition
-abbrev pub message_key : Conditions → Option (List (List ℕ))
-message_key c =
-    if is_unmarked c && not (has_no_message c)
-    then Some (key_of c.uri (head_of c) c.message_args) else None
+abbrev pub message_key : List Condition → Option (List (List ℕ))
+message_key cs =
+    if is_unmarked cs && not (has_no_message cs)
+    then Some (key_of (text_in kinds.Uri cs) (head_of cs) (args_in cs)) else None
 
 -- a result's keys for its text or its id: without its arguments and, if it has some, with them
 abbrev pub keys_under : Option (List ℕ) → Option (List ℕ) → List (List ℕ) → List (List (List ℕ))
@@ -68,32 +107,37 @@ message_keys r =
     keys_at None r.message ++ (if is_some r.place.uri then keys_at r.place.uri r.message else [])
 
 -- the entry names neither a message nor a URI
-abbrev pub has_no_message_or_uri : Conditions → Bool
-has_no_message_or_uri c = has_no_message c && is_none c.uri
+abbrev pub has_no_message_or_uri : List Condition → Bool
+has_no_message_or_uri cs = has_no_message cs && is_none (text_in kinds.Uri cs)
 
 -- the entry names none of a message, a URI, a URI prefix and a rule id
-abbrev pub has_tool_alone : Conditions → Bool
-has_tool_alone c = has_no_message_or_uri c && (is_none c.rule_id && is_none c.uri_prefix)
+abbrev pub has_tool_alone : List Condition → Bool
+has_tool_alone cs =
+    has_no_message_or_uri cs
+    && (is_none (text_in kinds.RuleId cs) && is_none (text_in kinds.UriPrefix cs))
 
 -- the named string, if it is the most specific condition
-abbrev pub text_key : TextCondition → Conditions → Option (List ℕ)
-text_key Uri c = if is_unmarked c && has_no_message c then c.uri else None
-text_key RuleId c = if is_unmarked c && has_no_message_or_uri c then c.rule_id else None
-text_key Tool c =
-    if is_unmarked c && has_tool_alone c then c.tool else None
+abbrev pub text_key : TextCondition → List Condition → Option (List ℕ)
+text_key Uri cs =
+    if is_unmarked cs && has_no_message cs then text_in kinds.Uri cs else None
+text_key RuleId cs =
+    if is_unmarked cs && has_no_message_or_uri cs then text_in kinds.RuleId cs else None
+text_key Tool cs =
+    if is_unmarked cs && has_tool_alone cs then text_in kinds.Tool cs else None
 
 -- the named prefix, if it is the most specific condition
-abbrev pub prefix_key : Conditions → Option (List ℕ)
-prefix_key c =
-    if is_unmarked c && (has_no_message_or_uri c && is_none c.rule_id) then c.uri_prefix else None
+abbrev pub prefix_key : List Condition → Option (List ℕ)
+prefix_key cs =
+    if is_unmarked cs && (has_no_message_or_uri cs && is_none (text_in kinds.RuleId cs))
+    then text_in kinds.UriPrefix cs else None
 
--- none of these is
-abbrev pub has_no_key : Conditions → Bool
-has_no_key c = is_unmarked c && (has_tool_alone c && is_none c.tool)
+-- none of these is the most specific condition
+abbrev pub has_no_key : List Condition → Bool
+has_no_key cs = is_unmarked cs && (has_tool_alone cs && is_none (text_in kinds.Tool cs))
 
 -- the entry is filed under that GUID, that pair of strings, that key of a message, that string, or not at all
 abbrev pub asks_for_guid : ℕ → Entry → Bool
-asks_for_guid guid e = option_map_or (λ own. nat_eq own guid) e.conditions.guid false
+asks_for_guid guid e = option_map_or (λ own. nat_eq own guid) (guid_in e.conditions) false
 
 abbrev pub asks_for_pair : PairCondition → List ℕ × List ℕ → Entry → Bool
 asks_for_pair which pair e =

@@ -11,7 +11,7 @@ use Rattle.sarif_filing.specs.declared.table.PairTables.{PairTables}
 use Rattle.sarif_filing.specs.declared.table.Table.{Table}
 use Rattle.sarif_filing.specs.declared.table.TextTables.{TextTables}
 use Rattle.sarif_entries.specs.Internal.Filing.{asks_for_guid, asks_for_pair, asks_for_message, asks_for_text, asks_for_none, message_keys}
-use Rattle.sarif_entries.specs.Matching.{is_pair}
+use Rattle.sarif_entries.specs.Condition.{is_pair}
 use Rattle.sarif_filing.specs.Numbers.{numbers_from, numbers_at}
 
 -- each table has exactly the entries that are filed under a pair of strings of its kind

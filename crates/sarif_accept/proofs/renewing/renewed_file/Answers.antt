@@ -1,8 +1,10 @@
-use Rattle.std.proofs.Common.{rules, ◌≡◌, ◌≤◌, ◌+◌, map, length, arith, option_map, ap₂, ◌∙◌}
+use Rattle.std.proofs.Common.{rules, ◌≡◌, ◌≤◌, ◌+◌, map, length, arith, option_map, Some, Err, refl, sym, subst, ap₂, ◌∙◌}
 use Rattle.serde_json.specs.View.{view, members_view}
 use Rattle.sarif_model.specs.Limits.{most_entries}
+use Rattle.sarif_model.specs.Internal.Refusal.{IfFault}
 use Rattle.sarif_accept.specs.Keeping.{chosen}
 use Rattle.sarif_accept.specs.NewFile.{entries_in, others_in, file_object, file_with}
+use Rattle.sarif_accept.specs.Renewed.{renewal_cause}
 use Rattle.sarif_accept.proofs.RenewedFile.{all_entries, counted, room_cause}
 use Rattle.sarif_accept.proofs.renewing.renewed_file.Goals as goal
 
@@ -20,9 +22,11 @@ returns-clause-few c =
     let room : length c.in_ok-entries.field-0.entries.items + length c.args.added.now ≤ most_entries = search rules in
     omega (arith, size, room)
 
-pub returns-in-Err-clause-err : goal.returns-in-Err-clause-err
-returns-in-Err-clause-err c = λ fault same.
+pub returns-in_err-check_room-clause-err : goal.returns-in_err-check_room-clause-err
+returns-in_err-check_room-clause-err c =
+    let told : c.from_residual-in_err-check_room.result ≡ Err c.in_err-check_room.field-0.0 = search rules in
     let old : map view c.in_ok-entries.field-0.entries.items ≡ chosen c.args.kept.now (entries_in (file_object (option_map (λ b. b.now) c.args.bytes))) = search rules in
     let size = counted view c.in_ok-entries.field-0.entries.items c.args.added.now (option_map (λ b. b.now) c.args.bytes) c.args.kept.now c.args.renewal.now old in
     let here : c.len.result ≡ length c.in_ok-entries.field-0.entries.items = search rules in
-    room_cause (option_map (λ b. b.now) c.args.bytes) c.args.kept.now (map (λ r. r.now) c.args.added.now) c.args.renewal.now c.len.result (length c.args.added.now) c.in-Err.cause fault (omega (arith, size, here)) same c.in-Err.ensures.err
+    subst (λ r. IfFault r (λ cause. renewal_cause (option_map (λ b. b.now) c.args.bytes) c.args.kept.now (map (λ r. r.now) c.args.added.now) c.args.renewal.now ≡ Some cause)) (sym told)
+    (λ fault same. room_cause (option_map (λ b. b.now) c.args.bytes) c.args.kept.now (map (λ r. r.now) c.args.added.now) c.args.renewal.now c.len.result (length c.args.added.now) fault fault (omega (arith, size, here)) refl (c.in_err-check_room.ensures.err fault same))

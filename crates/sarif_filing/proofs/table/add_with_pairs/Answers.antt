@@ -1,5 +1,5 @@
 use Rattle.std.proofs.Common.{rules, ◌≡◌, ◌++◌, ◌∙◌}
-use Rattle.sarif_entries.specs.Matching.{is_pair}
+use Rattle.sarif_entries.specs.Condition.{is_pair}
 use Rattle.sarif_filing.specs.Numbers.{numbers_at}
 use Rattle.sarif_filing.proofs.Numbered.{under_step}
 use Rattle.sarif_filing.proofs.table.add_with_pairs.Goals as goal

@@ -1,6 +1,6 @@
 use Rattle.std.proofs.Common.{◌≡◌, ◌++◌, drop}
 use Rattle.std.specs.List.{flat_map}
-use Rattle.sarif_entries.specs.Matching.{is_pair}
+use Rattle.sarif_entries.specs.Condition.{is_pair}
 use Rattle.sarif_filing.specs.Numbers.{numbers_at}
 use Rattle.sarif_filing.proofs.table.add_with_pairs.Given as goal
 

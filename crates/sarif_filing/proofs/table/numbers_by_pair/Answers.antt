@@ -1,7 +1,7 @@
 use Rattle.std.proofs.Common.{rules, ◌≡◌, ◌++◌, ◌∷◌, [], None, Some, refl, arith, if◌then◌else◌}
 use Rattle.std.proofs.lemmas.List.{append-nil}
 use Rattle.sarif_entries.specs.Internal.Filing.{asks_for_pair, pair_key}
-use Rattle.sarif_entries.specs.Matching.{is_pair}
+use Rattle.sarif_entries.specs.Condition.{is_pair}
 use Rattle.sarif_filing.specs.Numbers.{numbers_at}
 use Rattle.sarif_filing.proofs.Numbered.{one_more}
 use Rattle.sarif_filing.proofs.table.numbers_by_pair.Goals as goal

@@ -1,6 +1,6 @@
 use Rattle.std.proofs.Common.{◌≡◌, ◌++◌, ℕ, List, drop}
 use Rattle.sarif_entries.specs.Internal.Filing.{asks_for_pair}
-use Rattle.sarif_entries.specs.Matching.{is_pair}
+use Rattle.sarif_entries.specs.Condition.{is_pair}
 use Rattle.sarif_filing.specs.Numbers.{numbers_from}
 use Rattle.sarif_filing.specs.Numbers.{numbers_at}
 use Rattle.sarif_filing.proofs.table.numbers_by_pair.Given as goal

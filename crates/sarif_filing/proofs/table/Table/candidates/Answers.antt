@@ -3,7 +3,7 @@ use Rattle.std.specs.Cmp.Lexicographic.{pointwise}
 use Rattle.std.specs.List.{flat_map}
 use Rattle.std.specs.Option.{option_map_or}
 use Rattle.sarif_entries.specs.Internal.Filing.{message_keys}
-use Rattle.sarif_entries.specs.Matching.{is_pair}
+use Rattle.sarif_entries.specs.Condition.{is_pair}
 use Rattle.sarif_filing.specs.Numbers.{numbers_at}
 use Rattle.sarif_filing.proofs.Candidates.{from_tables}
 use Rattle.sarif_filing.proofs.table.Table.candidates.Goals as goal

@@ -1,9 +1,0 @@
-use Rattle.std.proofs.Common.{◌≡◌, drop}
-use Rattle.std.specs.List.{list_any}
-use Rattle.sarif_entries.specs.Matching.{is_pair}
-use Rattle.sarif_entries.proofs.conditions.behind.Given as goal
-
--- the pair isn't among those gone through
-abbrev pub invariant-loop-at : goal.invariant-loop-at
-invariant-loop-at l =
-    list_any (λ p. is_pair p l.pair) (drop l.at l.found) ≡ list_any (λ p. is_pair p l.pair) l.found
