@@ -116,13 +116,13 @@ def long():
             )
     endless = {
         "log 0": ["--out", "o", "/dev/zero"],
-        "log 1": ["--out", "o", "a", "/dev/zero", "a"],
+        "log 1": ["--out", "o", "a", "/dev/zero", "b"],
         "baseline 0": ["--baseline", "/dev/zero", "--out", "o", "a"],
         "suppressions": ["--suppress", "/dev/zero", "--out", "o", "a"],
     }
     for part, words in endless.items():
         fault = refused(f"{part}: TooLong")
-        yield hostile(f"a source that never ends, as {part}", words, files={"a": ONE}, out=OLD, **fault)
+        yield hostile(f"a source that never ends, as {part}", words, files={"a": ONE, "b": ONE}, out=OLD, **fault)
     yield Case(
         "hostile",
         "standard input that never ends",
