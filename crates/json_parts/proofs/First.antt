@@ -1,8 +1,7 @@
 -- The first of a map's members, and its text after another member.
-use Rattle.std.proofs.Common.{◌≡◌, ◌<◌, ℕ, true, false, List, [], ◌∷◌, length, get_or, Some, Ordering, Less, Equal, Greater, nat_cmp, string_bytes, refl, ap, ◌∙◌, arith}
+use Rattle.std.proofs.Common.{◌≡◌, ◌≤◌, ℕ, true, false, List, [], ◌∷◌, length, get_or, Some, Ordering, Less, Equal, Greater, nat_cmp, string_bytes, refl, ap, ◌∙◌, arith}
 use Rattle.std.specs.Prelude.{slice_get, drop}
-use Rattle.std.proofs.lemmas.Str.{IsCharBoundary-after_ascii}
-use Rattle.std.specs.Str.{IsCharBoundary, IsUtf8}
+use Rattle.std.specs.String.Boundary.{IsSplitPoint}
 use Rattle.std.specs.Ordering.{match_ordering}
 use Rattle.std.specs.Cmp.Lexicographic.{slice_cmp}
 use Rattle.serde_json.proofs.Views.{Entry}
@@ -47,9 +46,10 @@ pub nonempty : (es : List Entry) → (length es ≡ 0 → ⊥) → members_view 
 nonempty [] some none = absurd (some refl)
 nonempty (e ∷ es) some none = cc
 
--- an object's text can be cut after its bracket
-pub bracket_boundary : (ms : Members) (s : List ℕ) → s ≡ compact_text (object ms) → IsUtf8 s → IsCharBoundary s 1
-bracket_boundary ms s shown utf8 =
-    let long : 0 < length s = grind (arith, ap length shown) in
-    let first : get_or s 0 0 ≡ 123 = ap (λ t. get_or t 0 0) shown in
-    IsCharBoundary-after_ascii s 0 utf8 long (omega (arith, first))
+-- an object's text can be cut after its bracket, where a name begins
+pub bracket_split : (ms : Members) (s : List ℕ) → (ms ≡ no_members → ⊥) → s ≡ compact_text (object ms) → IsSplitPoint s 1
+bracket_split no_members s some shown = absurd (some refl)
+bracket_split (member k d ms) s some shown =
+    let long : 2 ≤ length s = grind (arith, ap length shown) in
+    let quote : get_or s 1 0 ≡ 34 = ap (λ t. get_or t 1 0) shown in
+    (omega arith, λ _ _ high. absurd (omega (arith, quote)))

@@ -1,4 +1,5 @@
 pub mod Deeper
+pub mod Digits
 pub mod Filled
 pub mod First
 pub mod Fractions

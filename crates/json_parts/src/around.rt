@@ -118,10 +118,9 @@ fn rest_of(alloc: Global, members: Map<String, Value>) -> Result<String, AllocEr
     if members.is_empty() {
         return String::from_str(alloc, "}");
     }
-    let object = Value::Object(members).to_string(alloc)?;
-    let mut text = String::with_capacity(alloc, object.len())?;
-    text.push_str(",")?;
-    text.push_str(&object[1..])?;
+    let mut text = Value::Object(members).to_string(alloc)?;
+    text.replace_range(..1, ",")?;
+    text.shrink_to_fit();
     Ok(text)
 }
 

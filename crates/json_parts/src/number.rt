@@ -1,5 +1,6 @@
 //! Numbers, as `serde_json` reads them.
-ghost use Rattle.std.specs.Prelude.{◌≡◌, ◌<◌, ◌==◌, length, slice_index, true, false, IsTrue, option_map};
+ghost use Rattle.std.specs.Prelude.{◌≡◌, ◌<◌, ◌≤◌, ◌==◌, length, slice_index, true, false, IsTrue, IfSome, option_map};
+ghost use Rattle.std.specs.Str.Parse.{IsNumeral, digits_value};
 ghost use Rattle.serde_json.specs.Read.{number_of, number_from, float_of};
 ghost use Rattle.serde_json.specs.View.{number_view};
 
@@ -11,11 +12,36 @@ pub(crate) fn parse_number(text: &str) -> Option<Number>
     ensures { option_map number_view result ≡ number_of text.now }
 {
     let bytes = text.as_bytes();
+    if let Some(number) = short_number(bytes) {
+        return Some(Number::from(number));
+    }
     if has_minus(bytes) {
         negative(&Numeral::scan(&bytes[1..]))
     } else {
         unsigned(&Numeral::scan(bytes))
     }
+}
+
+/// The number of any digits of at most this length fits 64 bits.
+const MOST_SHORT: usize = 18;
+
+/// The number that a short text of digits alone writes.
+fn short_number(bytes: &[u8]) -> Option<u64>
+    ensures { IfSome result (λ number. IsNumeral 10 bytes.now × (length bytes.now ≤ 18)
+        × (number ≡ digits_value 10 bytes.now)) }
+{
+    if bytes.is_empty() || bytes.len() > MOST_SHORT {
+        return None;
+    }
+    let mut number: u64 = 0;
+    for byte in bytes {
+        let digit = *byte;
+        if !digit.is_ascii_digit() {
+            return None;
+        }
+        number = number * 10 + u64::from(digit - b'0');
+    }
+    Some(number)
 }
 
 fn has_minus(bytes: &[u8]) -> bool

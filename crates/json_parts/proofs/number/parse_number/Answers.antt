@@ -1,7 +1,16 @@
-use Rattle.std.proofs.Common.{◌≡◌, drop, get_or, true, false, ◌==◌, sym, ap, ◌∙◌, arith, take_all, length-drop}
+use Rattle.std.proofs.Common.{◌≡◌, drop, get_or, true, false, ◌==◌, sym, ap, ◌∙◌, arith, rules, Some, take_all, length-drop}
 use Rattle.fast_float.specs.Text.{scan}
 use Rattle.serde_json.specs.Read.{number_of, number_from}
+use Rattle.serde_json.specs.Data.{unsigned}
+use Rattle.serde_json.specs.View.{number_view}
+use Rattle.json_parts.proofs.Digits.{number_of_digits}
 use Rattle.json_parts.proofs.number.parse_number.Goals as goal
+
+pub returns-in-Some : goal.returns-in-Some
+returns-in-Some c =
+    let short = c.in-Some.ensures in
+    let made : number_view c.from.result ≡ unsigned c.in-Some.number = search rules in
+    ap Some (made ∙ ap unsigned short.2) ∙ sym (number_of_digits c.as_bytes-bytes.result.now short.0 short.1) ∙ ap number_of c.as_bytes-bytes.ensures.value
 
 pub returns-then-has_minus : goal.returns-then-has_minus
 unfolding number_of
