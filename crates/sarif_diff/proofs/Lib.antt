@@ -1,0 +1,4 @@
+pub mod HeaderMore
+pub mod LinesMore
+pub mod QuotedMore
+pub mod ReadingMore

@@ -1,0 +1,7 @@
+pub mod Draft
+pub mod Header
+pub mod Hunk
+pub mod Lines
+pub mod Name
+pub mod Reading
+pub mod Words
