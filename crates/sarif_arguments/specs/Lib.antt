@@ -1,0 +1,5 @@
+pub mod File
+pub mod Limits
+pub mod Reading
+pub mod Replaced
+pub mod System
