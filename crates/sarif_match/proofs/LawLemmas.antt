@@ -77,7 +77,7 @@ length-put_all partners [] = refl
 length-put_all partners (p ∷ ps) =
     length-put_all (slice_set partners p.0 (Some p.1)) ps ∙ length-set partners p.0 (Some p.1)
 
-is_taken-by : (partners : List (Option ℕ)) (i j : ℕ) → slice_index_or partners i None ≡ Some j → is_taken partners j ≡ true
+pub is_taken-by : (partners : List (Option ℕ)) (i j : ℕ) → slice_index_or partners i None ≡ Some j → is_taken partners j ≡ true
 is_taken-by [] i j found = absurd (none_is_no_some j found)
 is_taken-by (x ∷ partners) zero j found =
     ap (λ (o : Option ℕ). option_map_or (λ (taken : ℕ). taken == j) o false || is_taken partners j) found ∙ ap (λ (b : Bool). b || is_taken partners j) (eq-eqb j j refl)
@@ -123,12 +123,12 @@ module _ (current baseline : List Record) where
   all_tell (t ∷ tiers) partners i j counted found =
       ⊎_elim (λ here. ⊎_elim (λ was. inl was) (λ paired. inr (at_first partners t tiers i j paired)) (after_tells partners t i j counted here)) (λ rest. inr (later partners t tiers i j rest)) (all_tell tiers (after_tier current baseline partners t) i j (after_counted partners t counted) found)
 
-  all_keep_old : (tiers : List Tier) (partners : List (Option ℕ)) (i j : ℕ) → length partners ≡ length current → slice_index_or partners i None ≡ Some j → slice_index_or (fold (after_tier current baseline) partners tiers) i None ≡ Some j
+  pub all_keep_old : (tiers : List Tier) (partners : List (Option ℕ)) (i j : ℕ) → length partners ≡ length current → slice_index_or partners i None ≡ Some j → slice_index_or (fold (after_tier current baseline) partners tiers) i None ≡ Some j
   all_keep_old [] partners i j counted was = was
   all_keep_old (t ∷ tiers) partners i j counted was =
       all_keep_old tiers (after_tier current baseline partners t) i j (after_counted partners t counted) (after_keeps partners t i j counted (inl was))
 
-  all_keep : (before : List Tier) (tier : Tier) (after : List Tier) (partners : List (Option ℕ)) (i j : ℕ) → length partners ≡ length current → IsPairedAt current baseline (fold (after_tier current baseline) partners before) tier i j → slice_index_or (fold (after_tier current baseline) partners (before ++ (tier ∷ after))) i None ≡ Some j
+  pub all_keep : (before : List Tier) (tier : Tier) (after : List Tier) (partners : List (Option ℕ)) (i j : ℕ) → length partners ≡ length current → IsPairedAt current baseline (fold (after_tier current baseline) partners before) tier i j → slice_index_or (fold (after_tier current baseline) partners (before ++ (tier ∷ after))) i None ≡ Some j
   all_keep [] tier after partners i j counted paired =
       all_keep_old after (after_tier current baseline partners tier) i j (after_counted partners tier counted) (after_keeps partners tier i j counted (inr paired))
   all_keep (t ∷ before) tier after partners i j counted paired =
@@ -152,7 +152,7 @@ module _ (current baseline : List Record) where
   fold_counted (t ∷ tiers) partners counted =
       fold_counted tiers (after_tier current baseline partners t) (after_counted partners t counted)
 
-  after_counts : (before : List Tier) → length (partners_after current baseline before) ≡ length current
+  pub after_counts : (before : List Tier) → length (partners_after current baseline before) ≡ length current
   after_counts before =
       fold_counted before (replicate (length current) None) (length-replicate (length current) None)
 

@@ -1,3 +1,4 @@
+pub mod EvidenceLemmas
 pub mod FitsLemmas
 pub mod KeyLemmas
 pub mod LawLemmas
@@ -5,6 +6,7 @@ pub mod ListLemmas
 pub mod NameLemmas
 pub mod NamedLemmas
 pub mod NoBaseline
+pub mod NoneLeft
 pub mod PairedLemmas
 pub mod PairingLemmas
 pub mod PartsLemmas

@@ -42,7 +42,7 @@ level_at-number Error = refl
 updated_is_no_unchanged : Updated ≡ Unchanged → false ≡ true
 updated_is_no_unchanged e = cc
 
-from_unchanged : (b : Bool) → cond b Unchanged Updated ≡ Unchanged → b ≡ true
+pub from_unchanged : (b : Bool) → cond b Unchanged Updated ≡ Unchanged → b ≡ true
 from_unchanged true e = refl
 from_unchanged false e = updated_is_no_unchanged e
 

@@ -5,3 +5,4 @@ pub mod Paired
 pub mod Progress
 pub mod Queues
 pub mod Side
+pub mod InStep

@@ -24,7 +24,7 @@ is_unchanged current partner =
     && ((severity current.level == severity partner.level)
     && (message_eq current.message partner.message && place_eq current.place partner.place))
 
--- the state of a current result with this match
+-- the state of a current result with this match in version 2
 abbrev pub state_of : Record → Option Record → State
 state_of current None = New
 state_of current (Some partner) = if is_unchanged current partner then Unchanged else Updated

@@ -1,18 +1,22 @@
 //! Laws of tiers, keys, matches and states. Each law is the contract of a function that does nothing.
-ghost use Rattle.std.specs.Prelude.{◌≡◌, ◌↔◌, ◌⊎◌, ◌||◌, ◌∷◌, ◌++◌, [], ℕ, List, Some, None, IsTrue, slice_index_or};
+ghost use Rattle.std.specs.Prelude.{◌≡◌, ◌↔◌, ◌⊎◌, ◌||◌, ◌∷◌, ◌++◌, [], ℕ, List, Some, None, true, false};
+ghost use Rattle.std.specs.Prelude.{IsTrue, slice_index_or};
 ghost use Rattle.std.specs.Ordering.{nat_cmp};
 ghost use Rattle.std.specs.Cmp.Lexicographic.{slice_cmp};
 ghost use Rattle.std.specs.List.Sorted.{IsStrictlySortedBy};
 ghost use Rattle.sarif_model.specs.declared.record.Record.{Record};
 ghost use Rattle.sarif_model.specs.declared.kinds.State.TheVariants.{Unchanged};
 ghost use Rattle.sarif_match.specs.declared.tier_key.Key.{Key};
-ghost use Rattle.sarif_match.specs.KeyParts.{parts_of};
+ghost use Rattle.sarif_match.specs.declared.version.Version.TheVariants.{Three};
+ghost use Rattle.sarif_match.specs.KeyParts.{KeyParts, parts_of};
 ghost use Rattle.sarif_match.specs.Internal.Queues.{same_key};
 ghost use Rattle.sarif_match.specs.declared.tier.Tier.{Tier};
-ghost use Rattle.sarif_match.specs.Internal.Paired.{ArePartners, IsPairedAt};
-ghost use Rattle.sarif_match.specs.Partners.{partners_after, partners_of};
+ghost use Rattle.sarif_match.specs.Internal.Paired.{ArePartners, IsPairedAt, key_at};
+ghost use Rattle.sarif_match.specs.Partners.{is_taken, partners_after, partners_of};
+ghost use Rattle.sarif_match.specs.Seen.{packed, seen};
+ghost use Rattle.sarif_match.specs.Evidence.{has_evidence, has_other_evidence, state_in};
 ghost use Rattle.sarif_match.specs.State.{state_of, IsUnchanged};
-ghost use Rattle.sarif_match.specs.Tiers.{names_of, has_name, rising_names};
+ghost use Rattle.sarif_match.specs.Tiers.{names_of, has_name, rising_names, tiers_of};
 
 /// Two keys are equal if and only if they belong to the same tier and all their parts are equal.
 pub fn keys_are_equal_where_their_parts_are()
@@ -57,4 +61,33 @@ pub fn a_tier_adds_just_its_pairs()
 pub fn unchanged_results_are_equal()
     ensures { (current partner : Record) →
         (state_of current (Some partner) ≡ Unchanged) ↔ IsUnchanged current partner }
+{}
+
+/// Nothing is left that could be matched: if a current result has no match and a baseline result is the match of no
+/// result, they have no key in common at any tier.
+pub fn nothing_is_left_that_could_be_matched()
+    ensures { (current baseline : List Record) (before after : List Tier) (tier : Tier) (i j : ℕ)
+        (key : KeyParts) → tiers_of current baseline ≡ before ++ tier ∷ after
+        → slice_index_or (partners_of current baseline) i None ≡ None
+        → is_taken (partners_of current baseline) j ≡ false
+        → key_at tier current i ≡ Some key → ¬ (key_at tier baseline j ≡ Some key) }
+{}
+
+/// In version 3 a result is unchanged only if its match has the same kind, effective level, message and place, and
+/// there is evidence: if both have a snippet, the two are the same except for white space; otherwise a GUID, a
+/// fingerprint or all partial fingerprints are the same, or neither has a fingerprint of either type. A value that is
+/// the empty string is left out. With all of that it is unchanged.
+pub fn unchanged_results_have_evidence()
+    ensures same { (current partner : Record) →
+        state_in Three current (Some partner) ≡ Unchanged → IsUnchanged current partner }
+    ensures snippet { (current partner : Record) (snippet other : List ℕ) →
+        state_in Three current (Some partner) ≡ Unchanged → current.snippet ≡ Some snippet →
+        partner.snippet ≡ Some other → packed snippet ≡ packed other }
+    ensures other { (current partner : Record) →
+        state_in Three current (Some partner) ≡ Unchanged →
+        (current.snippet ≡ None) ⊎ (partner.snippet ≡ None) →
+        has_other_evidence (seen current) (seen partner) ≡ true }
+    ensures enough { (current partner : Record) → IsUnchanged current partner →
+        has_evidence (seen current) (seen partner) ≡ true →
+        state_in Three current (Some partner) ≡ Unchanged }
 {}

@@ -2,6 +2,7 @@
 //! has the calls that the merge doesn't make.
 #![tactic(auto)]
 
+mod evidence;
 mod keys;
 pub mod laws;
 mod matching;
@@ -9,16 +10,19 @@ mod named;
 mod pairing;
 mod progress;
 mod queues;
+mod seeing;
 mod side;
 mod states;
 mod tier;
 mod tier_key;
 mod tier_list;
+mod version;
 mod whole;
 
 pub use matching::{Matching, match_all_with};
-pub use states::state;
+pub use states::{state, state_in};
 pub use tier::Tier;
 pub use tier_key::Key;
 pub use tier_list::tiers;
+pub use version::Version;
 pub use whole::{key, match_all};

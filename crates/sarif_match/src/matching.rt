@@ -7,7 +7,7 @@ ghost use Rattle.sarif_model.specs.Limits.{most_results};
 
 use crate::pairing::pair_up;
 use crate::progress::Progress;
-use crate::side::Side;
+use crate::side::IndexedSide;
 use crate::tier::Tier;
 use crate::tier_list::tiers;
 use sarif_model::Record;
@@ -81,8 +81,8 @@ pub fn match_all_with<'a, S: BuildHasher + Copy>(
         return Ok(Matching::of(progress));
     }
     let tiers = tiers(alloc, current, baseline)?;
-    let current_side = Side::new(alloc, hasher, current)?;
-    let baseline_side = Side::new(alloc, hasher, baseline)?;
+    let current_side = IndexedSide::new(alloc, hasher, current)?;
+    let baseline_side = IndexedSide::new(alloc, hasher, baseline)?;
     for tier in &tiers {
         match_tier(
             alloc,
@@ -102,8 +102,8 @@ fn match_tier<'a, S: BuildHasher + Copy>(
     hasher: S,
     progress: &mut Progress,
     tier: &Tier,
-    current: &Side<'a, S>,
-    baseline: &Side<'a, S>,
+    current: &IndexedSide<'a, S>,
+    baseline: &IndexedSide<'a, S>,
 ) -> Result<(), AllocError>
     requires current { IsIndexed current.now }
     requires baseline { IsIndexed baseline.now }

@@ -38,13 +38,8 @@ fn add_last<'a, S: BuildHasher + Copy>(
         then queue_at queues.old q ++ number ∷ []
         else queue_at queues.old q)) }
 {
-    if let Some(queue) = queues.get_mut(&key) {
-        queue.push_back(number)?;
-        return Ok(());
-    }
-    let mut queue = VecDeque::new(alloc);
+    let queue = queues.entry(key)?.or_insert(VecDeque::new(alloc));
     queue.push_back(number)?;
-    queues.insert(key, queue)?;
     Ok(())
 }
 

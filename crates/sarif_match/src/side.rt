@@ -15,12 +15,12 @@ use std::hash::BuildHasher;
 
 /// The results of one side, with their index by fingerprint names.
 #[derive(Drop)]
-pub(crate) struct Side<'a, S: BuildHasher + Copy> {
+pub(crate) struct IndexedSide<'a, S: BuildHasher + Copy> {
     pub(crate) findings: &'a [Record],
     pub(crate) named: IndexMap<&'a Text, Vec<(u32, Key<'a>)>, S>,
 }
 
-impl<'a, S: BuildHasher + Copy> Side<'a, S> {
+impl<'a, S: BuildHasher + Copy> IndexedSide<'a, S> {
     ghost use Rattle.sarif_match.specs.Internal.Side.{IsIndexed};
 
     /// Indexes the results.
@@ -28,13 +28,13 @@ impl<'a, S: BuildHasher + Copy> Side<'a, S> {
         alloc: Global,
         hasher: S,
         findings: &'a [Record],
-    ) -> Result<Side<'a, S>, AllocError>
+    ) -> Result<IndexedSide<'a, S>, AllocError>
         requires { length findings.now < 2 ^ 32 }
         ensures indexed { IfOk result IsIndexed }
         ensures findings { IfOk result (λ side. side.findings.now ≡ findings.now) }
     {
         let named = by_name(alloc, hasher, findings)?;
-        Ok(Side { findings, named })
+        Ok(IndexedSide { findings, named })
     }
 
     /// The results that have a key at the tier and no mark, with their numbers and keys, in order.

@@ -1,4 +1,5 @@
 //! The matches and states of small lists.
+mod evidence;
 mod seeded;
 mod sketch;
 

@@ -2,6 +2,7 @@
 use crate::kinds::{Kind, Level, Status};
 use crate::message::Message;
 use crate::place::Place;
+use crate::region::Region;
 use crate::sequence::{Pairs, Sequence};
 use crate::text::Text;
 
@@ -28,4 +29,8 @@ pub struct Record {
     pub partial: Pairs,
     /// The statuses of the result's own suppressions, in order.
     pub held: Sequence<Status>,
+    /// The region of the first location, if it was read.
+    pub region: Option<Region>,
+    /// The text of the snippet of that region, if it was read.
+    pub snippet: Option<Text>,
 }

@@ -58,7 +58,10 @@ impl Draw {
                 1 => Some(("p/v2", "a")),
                 _ => None,
             },
+            second_partial: None,
             kind: A.kind,
+            line: None,
+            snippet: None,
         }
     }
 

@@ -1,5 +1,7 @@
 //! Records by the members that a test names.
-use sarif_model::{Kind, Level, Message, Pairs, Place, Record, Sequence, Text};
+use sarif_model::{
+    Kind, Level, Message, Pairs, Place, Record, Region, Sequence, Text, copy_if_there,
+};
 use std::alloc::{AllocError, Global};
 
 /// A description of a result in a test.
@@ -13,7 +15,47 @@ pub struct Sketch<'a> {
     pub full: Option<(&'a str, &'a str)>,
     pub second: Option<(&'a str, &'a str)>,
     pub partial: Option<(&'a str, &'a str)>,
+    pub second_partial: Option<(&'a str, &'a str)>,
     pub kind: Kind,
+    pub line: Option<u32>,
+    pub snippet: Option<&'a str>,
+}
+
+impl<'a> Sketch<'a> {
+    pub fn full(self, name: &'a str, value: &'a str) -> Sketch<'a> {
+        Sketch {
+            full: Some((name, value)),
+            ..self
+        }
+    }
+
+    pub fn second(self, name: &'a str, value: &'a str) -> Sketch<'a> {
+        Sketch {
+            second: Some((name, value)),
+            ..self
+        }
+    }
+
+    pub fn partial(self, name: &'a str, value: &'a str) -> Sketch<'a> {
+        Sketch {
+            partial: Some((name, value)),
+            ..self
+        }
+    }
+
+    pub fn guid(self, guid: u128) -> Sketch<'a> {
+        Sketch {
+            guid: Some(guid),
+            ..self
+        }
+    }
+
+    pub fn snippet(self, snippet: &'a str) -> Sketch<'a> {
+        Sketch {
+            snippet: Some(snippet),
+            ..self
+        }
+    }
 }
 
 /// A result with the message `m`.
@@ -26,7 +68,10 @@ pub const M: Sketch = Sketch {
     full: None,
     second: None,
     partial: None,
+    second_partial: None,
     kind: Kind::Fail,
+    line: None,
+    snippet: None,
 };
 
 /// A result of the rule `R1` with the message `m`.
@@ -39,7 +84,10 @@ pub const A: Sketch = Sketch {
     full: None,
     second: None,
     partial: None,
+    second_partial: None,
     kind: Kind::Fail,
+    line: None,
+    snippet: None,
 };
 
 /// The pairs among these, in their order.
@@ -61,6 +109,19 @@ fn message_of(alloc: Global, text: &str) -> Result<Message, AllocError> {
     })
 }
 
+/// The region that begins in this line.
+fn region_of(line: Option<u32>) -> Option<Region> {
+    match line {
+        Some(line) => Some(Region {
+            start_line: line,
+            start_column: None,
+            end_line: None,
+            end_column: None,
+        }),
+        None => None,
+    }
+}
+
 pub fn record(alloc: Global, sketch: &Sketch) -> Result<Record, AllocError> {
     let uri = match sketch.uri {
         Some(uri) => Some(Text::copy_of(alloc, uri)?),
@@ -69,7 +130,7 @@ pub fn record(alloc: Global, sketch: &Sketch) -> Result<Record, AllocError> {
     let tool = Text::copy_of(alloc, sketch.tool)?;
     let rule_id = Text::copy_of(alloc, sketch.rule_id)?;
     let message = message_of(alloc, sketch.text)?;
-    let partial = pairs_of(alloc, &[sketch.partial])?;
+    let partial = pairs_of(alloc, &[sketch.partial, sketch.second_partial])?;
     let full = pairs_of(alloc, &[sketch.full, sketch.second])?;
     Ok(Record {
         tool,
@@ -82,6 +143,8 @@ pub fn record(alloc: Global, sketch: &Sketch) -> Result<Record, AllocError> {
         full,
         partial,
         held: Sequence::new(alloc),
+        region: region_of(sketch.line),
+        snippet: copy_if_there(alloc, sketch.snippet)?,
     })
 }
 

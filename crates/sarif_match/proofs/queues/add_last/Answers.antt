@@ -1,23 +1,22 @@
-use Rattle.std.proofs.Common.{rules, ◌≡◌, [], ◌∷◌, ◌++◌, ap, List, ℕ, None, Some, ◌∙◌, sym, IsSome, Option}
+use Rattle.std.proofs.Common.{rules, ◌≡◌, [], ◌∷◌, ◌++◌, ap, List, ℕ, None, Some, ◌∙◌, Option, cond, refl, unwrap_or}
 use Rattle.std.specs.declared.alloc.Global.{Global}
 use Rattle.std.specs.declared.collections.VecDeque.{VecDeque}
 use Rattle.std.specs.HashMap.{get}
 use Rattle.sarif_match.specs.contracts.tier_key.KeyEq.TheImpl.Laws.{laws-law}
 use Rattle.sarif_match.specs.Internal.Queues.{items_of, same_key}
-use Rattle.sarif_match.proofs.TableLemmas.{read-updated}
+use Rattle.sarif_match.proofs.TableLemmas.{read-written}
 use Rattle.sarif_match.proofs.queues.add_last.Goals as goal
 
-pub returns-in-Some : goal.returns-in-Some
-returns-in-Some g c = λ q.
-    let add = λ (xs : List ℕ). xs ++ (c.args.number ∷ []) in
-    let found : get same_key c.args.queues.now c.args.key ≡ Some c.in-Some.queue.now = search rules in
-    let there : IsSome (get same_key c.args.queues.now c.args.key) = search rules in
-    read-updated laws-law items_of add c.args.queues.now (c.get_mut.follows.lender c.push_back.new.self) c.args.key q c.push_back.new.self (((c.get_mut.follows.holds c.push_back.new.self).3 there).0 q) (c.in_ok-push_back.ensures.items ∙ sym (ap (λ (o : Option (VecDeque ℕ Global)). add (items_of o)) found))
+-- the queue there, or else an empty one
+items_found : (o : Option (VecDeque ℕ Global)) (empty : VecDeque ℕ Global) → empty.items ≡ [] → (unwrap_or o empty).items ≡ items_of o
+items_found None empty is = is
+items_found (Some x) empty is = refl
 
 pub returns : goal.returns
 returns g c = λ q.
     let add = λ (xs : List ℕ). xs ++ (c.args.number ∷ []) in
-    let same : c.get_mut.follows.lender-at-none ≡ c.args.queues.now = search rules in
-    let none : get same_key c.args.queues.now c.args.key ≡ None = search rules in
-    let items : c.push_back-2.new.self.items ≡ [] ++ (c.args.number ∷ []) = search rules in
-    read-updated laws-law items_of add c.args.queues.now c.insert.new.self c.args.key q c.push_back-2.new.self (rw same at (c.in_ok-insert.ensures.updates.0 q)) (items ∙ sym (ap (λ (o : Option (VecDeque ℕ Global)). add (items_of o)) none))
+    let found : c.or_insert-queue.result.now.items ≡ items_of (get same_key c.args.queues.now c.args.key) =
+    ap (λ (d : VecDeque ℕ Global). d.items) (c.or_insert-queue.ensures.value ∙ ap (λ o. unwrap_or o c.new.result) c.in_ok-queues.ensures.value) ∙ items_found (get same_key c.args.queues.now c.args.key) c.new.result (search rules) in
+    let written = λ (o : Option (VecDeque ℕ Global)) (e : o ≡ cond (same_key c.args.key q) (Some c.push_back.new.self) (get same_key c.args.queues.now q)).
+    read-written laws-law items_of add c.args.queues.now c.args.queues.now c.args.key q o c.push_back.new.self e (c.in_ok-push_back.ensures.items ∙ ap add found) in
+    search (rules, written)

@@ -3,7 +3,7 @@ use Rattle.sarif_match.specs.declared.tier.Tier.{Tier}
 use Rattle.sarif_match.specs.Internal.Named.{with_parts, unmarked}
 use Rattle.sarif_match.specs.Partners.{keyed_from}
 use Rattle.sarif_match.proofs.NamedLemmas.{IfOk-with_parts}
-use Rattle.sarif_match.proofs.side.Side.left_over.Goals as goal
+use Rattle.sarif_match.proofs.side.IndexedSide.left_over.Goals as goal
 
 pub returns-in-Fingerprint : goal.returns-in-Fingerprint
 returns-in-Fingerprint g c =

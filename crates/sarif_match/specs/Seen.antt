@@ -1,0 +1,33 @@
+-- What version 3 sees of a result.
+use Rattle.std.specs.Prelude.{ℕ, List, [], Bool, not, ◌||◌, ◌==◌, length, filter, option_map}
+use Rattle.sarif_model.specs.declared.record.Record.{Record}
+
+-- a space, a tab, a line feed, a form feed or a carriage return
+abbrev pub is_white : ℕ → Bool
+is_white b = (b == 32) || ((b == 9) || ((b == 10) || ((b == 12) || (b == 13))))
+
+-- the text without white space
+abbrev pub packed : List ℕ → List ℕ
+packed text = filter (λ b. not (is_white b)) text
+
+-- the filled members, whose value isn't the empty string; an empty one says nothing about a result
+abbrev pub filled : List (List ℕ × List ℕ) → List (List ℕ × List ℕ)
+filled members = filter (λ member. not (length member.1 == 0)) members
+
+-- the result without fingerprints that are not filled, without white space in its snippet, and without its own
+-- suppressions
+abbrev pub seen : Record → Record
+seen r = record {
+  tool = r.tool;
+  rule_id = r.rule_id;
+  kind = r.kind;
+  level = r.level;
+  message = r.message;
+  place = r.place;
+  guid = r.guid;
+  full = filled r.full;
+  partial = filled r.partial;
+  held = [];
+  region = r.region;
+  snippet = option_map packed r.snippet;
+}

@@ -1,0 +1,188 @@
+//! Whether there is evidence that two results are the same. A member is filled if its value isn't the empty string.
+ghost use Rattle.std.specs.Prelude.{◌≡◌, ◌&&◌, ◌==◌, not, bytes_eq, length, option_map};
+ghost use Rattle.std.specs.List.{list_any};
+ghost use Rattle.sarif_match.specs.Key.{is_empty};
+ghost use Rattle.sarif_match.specs.KeyParts.{pairs_eq};
+ghost use Rattle.sarif_match.specs.Internal.InStep.{after_first_member, after_first_byte};
+ghost use Rattle.sarif_match.specs.Seen.{packed, seen, filled};
+ghost use Rattle.sarif_match.specs.Evidence.{are_same_members, has_evidence, has_no_members};
+ghost use Rattle.sarif_match.specs.Evidence.{has_other_evidence, is_same_guid, share_member};
+
+use crate::seeing::{is_filled, is_white};
+use sarif_model::{Record, Text};
+
+/// Whether there is evidence that two results are the same: their snippets decide, if both have one; otherwise a GUID,
+/// a fingerprint or all partial fingerprints are the same, or neither has a fingerprint of either type.
+pub(crate) fn has_evidence(current: &Record, partner: &Record) -> bool
+    ensures { result ≡ has_evidence (seen current.now) (seen partner.now) }
+{
+    match &current.snippet {
+        Some(snippet) => match &partner.snippet {
+            Some(other) => are_same_packed(snippet.as_str(), other.as_str()),
+            None => has_other_evidence(current, partner),
+        },
+        None => has_other_evidence(current, partner),
+    }
+}
+
+/// Whether a GUID, a fingerprint or all partial fingerprints are the same, or neither has a fingerprint.
+fn has_other_evidence(current: &Record, partner: &Record) -> bool
+    ensures { result ≡ has_other_evidence (seen current.now) (seen partner.now) }
+{
+    is_same_guid(current.guid, partner.guid)
+        || share_member(current.full.as_slice(), partner.full.as_slice())
+        || are_same_members(current.partial.as_slice(), partner.partial.as_slice())
+        || (has_no_members(current) && has_no_members(partner))
+}
+
+/// Whether both have a GUID, and the same one.
+fn is_same_guid(guid: Option<u128>, other: Option<u128>) -> bool
+    ensures { result ≡ is_same_guid guid other }
+{
+    match guid {
+        Some(guid) => match other {
+            Some(other) => guid == other,
+            None => false,
+        },
+        None => false,
+    }
+}
+
+/// Whether a name has the same value in both, and not the empty string.
+fn share_member(members: &[(Text, Text)], others: &[(Text, Text)]) -> bool
+    ensures { result ≡ share_member (filled members.now) (filled others.now) }
+{
+    for member in members {
+        if is_filled(member) && has_member(others, member) {
+            return true;
+        }
+    }
+    false
+}
+
+/// Whether this is one of the filled members.
+fn has_member(members: &[(Text, Text)], member: &(Text, Text)) -> bool
+    ensures { result ≡ list_any
+        (λ other. bytes_eq other.0 member.now.0 && bytes_eq other.1 member.now.1)
+        (filled members.now) }
+{
+    for other in members {
+        if is_filled(other) && is_same(other, member) {
+            return true;
+        }
+    }
+    false
+}
+
+/// Whether two members have the same name and the same value.
+fn is_same(other: &(Text, Text), member: &(Text, Text)) -> bool
+    ensures { result ≡ (bytes_eq other.now.0 member.now.0 && bytes_eq other.now.1 member.now.1) }
+{
+    other.0 == member.0 && other.1 == member.1
+}
+
+/// Whether both have the same filled members, at least one.
+fn are_same_members(members: &[(Text, Text)], others: &[(Text, Text)]) -> bool
+    ensures { result ≡ are_same_members (filled members.now) (filled others.now) }
+{
+    has_filled(members) && are_alike(members, others)
+}
+
+/// Whether both have the same filled members, in the same order.
+fn are_alike(members: &[(Text, Text)], others: &[(Text, Text)]) -> bool
+    ensures { result ≡ pairs_eq (filled members.now) (filled others.now) }
+{
+    let mut rest = others;
+    for member in members {
+        if is_filled(member) {
+            match after_first_member(rest, member) {
+                Some(more) => rest = more,
+                None => return false,
+            }
+        }
+    }
+    !has_filled(rest)
+}
+
+/// What follows the first filled member, if it is this one.
+fn after_first_member<'a>(
+    members: &'a [(Text, Text)],
+    first: &(Text, Text),
+) -> Option<&'a [(Text, Text)]>
+    ensures { option_map (λ rest. filled rest.now) result
+        ≡ after_first_member first.now (filled members.now) }
+{
+    for (number, member) in members.iter().enumerate() {
+        if is_filled(member) {
+            return if is_same(first, member) {
+                Some(&members[number + 1..])
+            } else {
+                None
+            };
+        }
+    }
+    None
+}
+
+/// Whether a member is filled.
+fn has_filled(members: &[(Text, Text)]) -> bool
+    ensures { result ≡ not (is_empty (filled members.now)) }
+{
+    for member in members {
+        if is_filled(member) {
+            return true;
+        }
+    }
+    false
+}
+
+/// Whether a result has neither fingerprints nor partial fingerprints that are filled.
+fn has_no_members(finding: &Record) -> bool
+    ensures { result ≡ has_no_members (seen finding.now) }
+{
+    !has_filled(finding.full.as_slice()) && !has_filled(finding.partial.as_slice())
+}
+
+/// Whether two strings are the same except for white space.
+fn are_same_packed(text: &str, other: &str) -> bool
+    ensures { result ≡ bytes_eq (packed text.now) (packed other.now) }
+{
+    let mut rest = other.as_bytes();
+    for byte in text.as_bytes() {
+        if !is_white(*byte) {
+            match after_first_byte(rest, *byte) {
+                Some(more) => rest = more,
+                None => return false,
+            }
+        }
+    }
+    is_white_alone(rest)
+}
+
+/// What follows the first byte that isn't white space, if it is this one.
+fn after_first_byte(bytes: &[u8], first: u8) -> Option<&[u8]>
+    ensures { option_map (λ rest. packed rest.now) result ≡ after_first_byte first (packed bytes.now) }
+{
+    for (number, byte) in bytes.iter().enumerate() {
+        if !is_white(*byte) {
+            return if *byte == first {
+                Some(&bytes[number + 1..])
+            } else {
+                None
+            };
+        }
+    }
+    None
+}
+
+/// Whether there is nothing but white space.
+fn is_white_alone(bytes: &[u8]) -> bool
+    ensures { result ≡ (length (packed bytes.now) == 0) }
+{
+    for byte in bytes {
+        if !is_white(*byte) {
+            return false;
+        }
+    }
+    true
+}
