@@ -10,7 +10,7 @@ use Rattle.sarif_model.specs.Level.{level_name}
 use Rattle.sarif_model.specs.Run.{is_text}
 use Rattle.sarif_model.specs.State.{state_name}
 use Rattle.sarif_model.specs.Status.{status_named}
-use Rattle.sarif_counts.specs.Policy.{Count, count_if}
+use Rattle.sarif_counts.specs.Hits.{Count, count_if}
 use Rattle.sarif_counts.specs.Tally.{same_side}
 
 -- the items of an array that may be there

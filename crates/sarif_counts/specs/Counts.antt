@@ -5,7 +5,7 @@ use Rattle.sarif_model.specs.declared.kinds.State.{State}
 use Rattle.sarif_model.specs.declared.kinds.State.TheVariants.{New, Unchanged, Updated, Absent}
 use Rattle.sarif_counts.specs.declared.counts.Counts.{Counts}
 use Rattle.sarif_counts.specs.declared.tally.Tally.{Tally}
-use Rattle.sarif_counts.specs.Policy.{Count, count_if}
+use Rattle.sarif_counts.specs.Hits.{Count, count_if}
 use Rattle.sarif_counts.specs.Tally.{same_level, same_side, at_level, at_side, tally_total}
 
 abbrev pub same_state : State → State → Bool

@@ -8,9 +8,10 @@ use Rattle.sarif_model.specs.declared.kinds.State.{State}
 use Rattle.sarif_model.specs.declared.kinds.State.TheVariants.{New, Unchanged, Updated, Absent}
 use Rattle.sarif_model.specs.Level.{level_name}
 use Rattle.sarif_model.specs.State.{state_name}
-use Rattle.sarif_counts.specs.declared.policy.States.{States}
-use Rattle.sarif_counts.specs.declared.policy.Policy.{Policy}
-use Rattle.sarif_counts.specs.Policy.{Count, is_listed, hits_of, verdict_of, verdict_name}
+use Rattle.sarif_options.specs.declared.policy.States.{States}
+use Rattle.sarif_options.specs.declared.policy.Policy.{Policy}
+use Rattle.sarif_options.specs.Policy.{is_listed}
+use Rattle.sarif_counts.specs.Hits.{Count, hits_of, verdict_of, verdict_name}
 
 abbrev pub whole_number : ℕ → Data
 whole_number n = number (unsigned n)

@@ -1,7 +1,7 @@
 pub mod CountOf
 pub mod Counts
 pub mod Gate
+pub mod Hits
 pub mod Internal
-pub mod Policy
 pub mod Summary
 pub mod Tally

@@ -6,9 +6,9 @@ use Rattle.sarif_model.specs.declared.kinds.Level.TheVariants.{NoLevel, Note, Wa
 use Rattle.sarif_model.specs.declared.kinds.State.{State}
 use Rattle.sarif_model.specs.declared.kinds.State.TheVariants.{New, Unchanged, Updated, Absent}
 use Rattle.sarif_model.specs.State.{state_name}
-use Rattle.sarif_counts.specs.declared.policy.Policy.{Policy}
-use Rattle.sarif_counts.specs.declared.policy.Verdict.{Verdict}
-use Rattle.sarif_counts.specs.Policy.{Count, hits_of, verdict_of, verdict_name}
+use Rattle.sarif_options.specs.declared.policy.Policy.{Policy}
+use Rattle.sarif_counts.specs.declared.gate_verdict.Verdict.{Verdict}
+use Rattle.sarif_counts.specs.Hits.{Count, hits_of, verdict_of, verdict_name}
 
 abbrev pub newline : List ℕ
 newline = 10 ∷ []

@@ -4,7 +4,7 @@ use Rattle.sarif_model.specs.declared.kinds.Level.{Level}
 use Rattle.sarif_model.specs.declared.kinds.Level.TheVariants.{NoLevel, Note, Warning, Error}
 use Rattle.sarif_counts.specs.declared.tally.ByLevel.{ByLevel}
 use Rattle.sarif_counts.specs.declared.tally.Tally.{Tally}
-use Rattle.sarif_counts.specs.Policy.{count_if}
+use Rattle.sarif_counts.specs.Hits.{count_if}
 
 abbrev pub same_level : Level → Level → Bool
 same_level NoLevel NoLevel = true

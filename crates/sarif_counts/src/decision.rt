@@ -1,12 +1,13 @@
 //! The verdict of the gate on the counts.
 ghost use Rattle.std.specs.Prelude.{◌≡◌, ◌+◌, ◌<◌, ◌≤◌, ◌^◌};
-ghost use Rattle.sarif_counts.specs.Policy.{hits_at, hits_of, verdict_of};
+ghost use Rattle.sarif_counts.specs.Hits.{hits_at, hits_of, verdict_of};
 ghost use Rattle.sarif_counts.specs.Counts.{count_at, tally_at};
 ghost use Rattle.sarif_counts.specs.Tally.{tally_total};
 
 use crate::counts::Counts;
-use crate::policy::{Policy, Verdict};
+use crate::gate_verdict::Verdict;
 use sarif_model::State;
+use sarif_options::Policy;
 
 /// How many hits there are: active results of a state that the policy lists, at least of its level
 /// `fail_on`.

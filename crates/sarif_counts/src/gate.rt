@@ -9,9 +9,9 @@ ghost use Rattle.sarif_counts.specs.Tally.{at_level, at_side};
 
 use crate::counts::Counts;
 use crate::decision::{hits, verdict};
-use crate::policy::{Policy, States};
 use crate::tally::{ByLevel, Tally};
 use sarif_model::State;
+use sarif_options::{Policy, States};
 use serde_json::{Value, json};
 use std::alloc::{AllocError, Global};
 

@@ -6,9 +6,10 @@ ghost use Rattle.sarif_counts.specs.Tally.{at_level, at_side, tally_total};
 
 use crate::counts::Counts;
 use crate::decision::{hits, verdict};
-use crate::policy::{Policy, Verdict};
+use crate::gate_verdict::Verdict;
 use crate::tally::Tally;
 use sarif_model::State;
+use sarif_options::Policy;
 use std::alloc::{AllocError, Global};
 
 /// The names of the columns: a state's active results by level, and all its suppressed ones.

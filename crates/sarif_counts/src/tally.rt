@@ -1,7 +1,7 @@
 //! How many results of one baseline state there are, by level and suppression.
 ghost use Rattle.std.specs.Prelude.{◌≡◌, ◌+◌, ◌<◌, ◌≤◌, ◌^◌};
 ghost use Rattle.sarif_counts.specs.Internal.Both.{AreOfBothLevels, AreOfBothSides};
-ghost use Rattle.sarif_counts.specs.Policy.{severe_of};
+ghost use Rattle.sarif_counts.specs.Hits.{severe_of};
 ghost use Rattle.sarif_counts.specs.Tally.{at_level, level_total, at_side, tally_total, AddsAtLevel, AddsAtSide};
 
 use sarif_model::Level;

@@ -1,7 +1,6 @@
 //! What the gate fails on.
 ghost use Rattle.std.specs.Prelude.{◌≡◌, ◌&&◌};
-ghost use Rattle.sarif_counts.specs.Policy as said;
-ghost use Rattle.sarif_counts.specs.Policy.{default_policy, are_hits, is_listed, verdict_name};
+ghost use Rattle.sarif_options.specs.Policy.{default_policy, are_hits, is_listed};
 
 use sarif_model::{Level, State};
 
@@ -67,27 +66,6 @@ impl Default for Policy {
                 updated: true,
             },
             max: 0,
-        }
-    }
-}
-
-/// The verdict of the gate on a merged log.
-#[derive(Clone, Copy, Debug, PartialEq, Eq)]
-pub enum Verdict {
-    /// There are no more hits than the policy's `max`.
-    Pass,
-    /// There are more hits than that.
-    Fail,
-}
-
-impl Verdict {
-    /// The text of this verdict.
-    pub fn name(self) -> &'static str
-        ensures { result.now ≡ verdict_name self }
-    {
-        match self {
-            Verdict::Pass => "pass",
-            Verdict::Fail => "fail",
         }
     }
 }

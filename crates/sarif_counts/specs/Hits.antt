@@ -1,34 +1,14 @@
--- What the gate fails on. The gate is this project's own: SARIF has none.
-use Rattle.std.specs.Prelude.{ℕ, ◌+◌, ◌&&◌, List, Bool, true, false, codes, nat_lt, if◌then◌else◌}
+-- The hits of the gate and its verdict. The gate is this project's own: SARIF has none.
+use Rattle.std.specs.Prelude.{ℕ, ◌+◌, List, Bool, false, codes, nat_lt, if◌then◌else◌}
 use Rattle.sarif_model.specs.Level.{is_at_least}
 use Rattle.sarif_model.specs.declared.kinds.Level.{Level}
 use Rattle.sarif_model.specs.declared.kinds.Level.TheVariants.{NoLevel, Note, Warning, Error}
 use Rattle.sarif_model.specs.declared.kinds.State.{State}
 use Rattle.sarif_model.specs.declared.kinds.State.TheVariants.{New, Unchanged, Updated, Absent}
-use Rattle.sarif_counts.specs.declared.policy.States.{States}
-use Rattle.sarif_counts.specs.declared.policy.Policy.{Policy}
-use Rattle.sarif_counts.specs.declared.policy.Verdict.{Verdict}
-use Rattle.sarif_counts.specs.declared.policy.Verdict.TheVariants.{Pass, Fail}
-
--- the default policy
-abbrev pub default_policy : Policy
-default_policy = record {
-  fail_on = Error;
-  states = record { absent = false; fresh = true; unchanged = false; updated = true };
-  max = 0;
-}
-
--- whether results of this state count
-abbrev pub is_listed : States → State → Bool
-is_listed states New = states.fresh
-is_listed states Unchanged = states.unchanged
-is_listed states Updated = states.updated
-is_listed states Absent = states.absent
-
--- whether active results of this state and level are hits
-abbrev pub are_hits : Policy → State → Level → Bool
-are_hits policy state level =
-    is_listed policy.states state && is_at_least policy.fail_on level
+use Rattle.sarif_options.specs.declared.policy.Policy.{Policy}
+use Rattle.sarif_options.specs.Policy.{is_listed}
+use Rattle.sarif_counts.specs.declared.gate_verdict.Verdict.{Verdict}
+use Rattle.sarif_counts.specs.declared.gate_verdict.Verdict.TheVariants.{Pass, Fail}
 
 -- how many results have a state and a level, and are suppressed (true) or active (false)
 abbrev pub Count : Type 0

@@ -1,0 +1,24 @@
+//! The verdict of the gate.
+ghost use Rattle.std.specs.Prelude.{◌≡◌};
+ghost use Rattle.sarif_counts.specs.Hits.{verdict_name};
+
+/// The verdict of the gate on a merged log.
+#[derive(Clone, Copy, Debug, PartialEq, Eq)]
+pub enum Verdict {
+    /// There are no more hits than the policy's `max`.
+    Pass,
+    /// There are more hits than that.
+    Fail,
+}
+
+impl Verdict {
+    /// The text of this verdict.
+    pub fn name(self) -> &'static str
+        ensures { result.now ≡ verdict_name self }
+    {
+        match self {
+            Verdict::Pass => "pass",
+            Verdict::Fail => "fail",
+        }
+    }
+}
