@@ -1,12 +1,10 @@
-pub mod LeftTexts
 pub mod LogText
+pub mod PartsCounted
 pub mod ResultCounts
 pub mod ResultTexts
 pub mod RunCounts
-pub mod RunPartsOf
 pub mod RunResults
 pub mod RunTexts
-pub mod Shared
 pub mod Sides
 pub mod Told
 pub mod WholeRunMembers

@@ -9,7 +9,7 @@ use Rattle.sarif_model.specs.declared.kinds.State.TheVariants.{Absent}
 use Rattle.sarif_model.specs.declared.record.Record.{Record}
 use Rattle.sarif_suppress.specs.declared.suppressions.Applied.{Applied}
 use Rattle.sarif_counts.specs.CountOf.{carries, count_in}
-use Rattle.sarif_counts.specs.Policy.{count_if}
+use Rattle.sarif_counts.specs.Hits.{count_if}
 use Rattle.sarif_log.specs.Internal.Texts.{counts_as, tallied, unless_taken}
 use Rattle.sarif_results.specs.Drafts.{draft_by, drafts_by, listed_in, members_in, unapplied, IsObject}
 use Rattle.sarif_results.specs.Drafts.{Listing}

@@ -158,8 +158,10 @@ runs_left rs taken (p ∷ all) (run ∷ runs) are parts same_r same_t =
     ap (λ m. text_if (list_any is_some (take m ss)) (parts_text p (take m ds) (take m ss)) (left_texts all (drop m ds) (drop m ss))) counted
     ∙ ap (λ es. text_if (list_any is_some (take n ss)) (parts_text p es (take n ss)) (left_texts all (drop n ds) (drop n ss))) (drafts_front listed unapplied rs xs ys)
     ∙ ap (λ es. text_if (list_any is_some (take n ss)) (parts_text p (drafts_by listed unapplied (take n rs) xs) (take n ss)) (left_texts all es (drop n ss))) (drafts_back listed unapplied rs xs ys)
-    ∙ ap (λ zs. text_if (list_any is_some zs) (parts_text p (drafts_by listed unapplied (take n rs) xs) zs) (left_texts all (drafts_by listed unapplied (drop n rs) ys) (drop n ss))) (take-map unless_taken n taken)
-    ∙ ap (λ zs. text_if (list_any is_some (map unless_taken (take n taken))) (parts_text p (drafts_by listed unapplied (take n rs) xs) (map unless_taken (take n taken))) (left_texts all (drafts_by listed unapplied (drop n rs) ys) zs)) (drop-map unless_taken n taken)
+    ∙ ap (λ zs. text_if (list_any is_some zs) (parts_text p (drafts_by listed unapplied (take n rs) xs) zs) (left_texts all (drafts_by listed unapplied (drop n rs) ys) (drop n ss)))
+    (take-map unless_taken n taken)
+    ∙ ap (λ zs. text_if (list_any is_some (map unless_taken (take n taken))) (parts_text p (drafts_by listed unapplied (take n rs) xs) (map unless_taken (take n taken))) (left_texts all (drafts_by listed unapplied (drop n rs) ys) zs))
+    (drop-map unless_taken n taken)
     ∙ any_left (take n rs) (take n taken) xs (parts_text p (drafts_by listed unapplied (take n rs) xs) (map unless_taken (take n taken))) run
     (left_texts all (drafts_by listed unapplied (drop n rs) ys) (map unless_taken (drop n taken))) (absent_runs (drop n rs) (drop n taken) runs)
     long_r (long_t ∙ sym long_r) text (runs_left (drop n rs) (drop n taken) all runs are.1 parts.2 rest_r rest_t)

@@ -1,6 +1,4 @@
 -- Definitions for contracts within and between the crates, and for proofs. The merge theorem reaches none of them.
-pub mod LeftParts
-pub mod Leftover
 pub mod Prepared
 pub mod Side
 pub mod Texts

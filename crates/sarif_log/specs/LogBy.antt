@@ -10,7 +10,7 @@ use Rattle.sarif_match.specs.State.{state_of}
 use Rattle.sarif_entries.specs.File.{File}
 use Rattle.sarif_suppress.specs.Suppressing.{unused_of}
 use Rattle.sarif_suppress.specs.Written.{suppressions_of}
-use Rattle.sarif_counts.specs.declared.policy.Policy.{Policy}
+use Rattle.sarif_options.specs.declared.policy.Policy.{Policy}
 use Rattle.sarif_counts.specs.CountOf.{count_of}
 use Rattle.sarif_counts.specs.Gate.{gate_of}
 use Rattle.sarif_runs.specs.Judging.{records_of, run_values}

@@ -11,7 +11,7 @@ use crate::facts::Facts;
 use crate::merged::Merged;
 use crate::prepared::Prepared;
 use crate::written::write_log;
-use sarif_counts::Options;
+use sarif_options::Options;
 use std::alloc::{AllocError, Global};
 use std::thread::Threads;
 

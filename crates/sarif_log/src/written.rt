@@ -14,8 +14,9 @@ use crate::facts::Facts;
 use crate::merged::Merged;
 use crate::merged_text::{Side, log_text};
 use crate::prepared::Prepared;
-use sarif_counts::{Options, gate_value, verdict};
+use sarif_counts::{gate_value, verdict};
 use sarif_model::Text;
+use sarif_options::Options;
 use serde_json::Value;
 use std::alloc::{AllocError, Global};
 use std::thread;
@@ -80,7 +81,7 @@ pub(crate) fn write_log<
         life,
         spent,
     } = prepared;
-    let counts = count_sides(rt, &current, &baseline, options.workers);
+    let counts = count_sides(rt, alloc, &current, &baseline, options.workers)?;
     let verdict = verdict(&counts, &options.policy);
     let gate = gate_value(alloc, &counts, &options.policy, without, unused)?;
     let facts = Facts {

@@ -15,7 +15,7 @@ use Rattle.sarif_runs.specs.declared.item.Item.{Item}
 use Rattle.sarif_runs.specs.declared.item.Item.TheVariants.{Sound, Bad, Skipped}
 use Rattle.sarif_runs.specs.declared.spots.Spot.{Spot}
 use Rattle.sarif_runs.specs.Judging.{skips, item_by, item_of, items_of, opening_fault, first_bad, run_faults, faults_of_runs, run_values}
-use Rattle.sarif_log.specs.Internal.Leftover.{found_at}
+use Rattle.sarif_prepare.specs.Internal.Leftover.{found_at}
 use Rattle.sarif_runs.specs.Placed.{Placed}
 use Rattle.sarif_runs.specs.Internal.Spots.{no_run, placed_at, spots_in, spots_from}
 use Rattle.sarif_log.specs.Internal.Texts.{present_results}

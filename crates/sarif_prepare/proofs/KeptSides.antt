@@ -7,7 +7,7 @@ use Rattle.sarif_match.specs.Partners.{partners_of}
 use Rattle.std.specs.Prelude.{flat_map, option_map, unwrap_or}
 use Rattle.sarif_model.specs.declared.kinds.State.{State}
 use Rattle.sarif_model.specs.declared.kinds.State.TheVariants.{New}
-use Rattle.sarif_counts.specs.declared.policy.Policy.{Policy}
+use Rattle.sarif_options.specs.declared.policy.Policy.{Policy}
 use Rattle.sarif_entries.specs.File.{File}
 use Rattle.sarif_runs.specs.Internal.Opened.{placed_of}
 use Rattle.sarif_runs.specs.Judging.{records_of, run_values}
@@ -20,7 +20,7 @@ use Rattle.sarif_upkeep.specs.declared.matched.Matched.{Matched}
 use Rattle.sarif_prepare.specs.declared.baselines.Baselines.{Baselines}
 use Rattle.sarif_prepare.specs.declared.halves.Half.{Half}
 use Rattle.sarif_prepare.specs.declared.preparing.Paired.{Paired}
-use Rattle.sarif_log.specs.Internal.LeftParts.{present_counts as placed_counts}
+use Rattle.sarif_prepare.specs.Internal.LeftParts.{present_counts as placed_counts}
 use Rattle.sarif_prepare.specs.Kept.{merge_of}
 use Rattle.sarif_log.specs.LogBy.{listing_of, states_of, taken_of}
 use Rattle.sarif_log.specs.Internal.Texts.{present_results}

@@ -1,10 +1,13 @@
 pub mod BaselineSpots
 pub mod FoundDrafts
 pub mod KeptSides
+pub mod LeftTexts
 pub mod ListedTold
 pub mod Marked
 pub mod ResultsAlike
+pub mod RunPartsOf
 pub mod RunsAlike
+pub mod Shared
 pub mod StatesMore
 pub mod ToldResults
 pub mod ToldRuns

@@ -13,7 +13,7 @@ use Rattle.sarif_model.specs.Level.{level_name}
 use Rattle.sarif_model.specs.State.{state_name}
 use Rattle.sarif_suppress.specs.declared.suppressions.Applied.{Applied}
 use Rattle.sarif_counts.specs.CountOf.{suppresses}
-use Rattle.sarif_counts.specs.Policy.{is_listed}
+use Rattle.sarif_options.specs.Policy.{is_listed}
 use Rattle.sarif_findings.specs.declared.reporting.Reporting.{Reporting}
 use Rattle.sarif_findings.specs.Reported.{finding_by, finding_if, finding_of, state_in}
 use Rattle.sarif_prepare.proofs.ResultsAlike.{same_told, AreToldAlike}

@@ -19,7 +19,7 @@ use Rattle.sarif_model.specs.Run.{elements_or_none, result_at, results_of, resul
 use Rattle.sarif_suppress.specs.declared.suppressions.Applied.{Applied}
 use Rattle.sarif_runs.specs.declared.spots.Spot.{Spot}
 use Rattle.sarif_runs.specs.Judging.{run_values}
-use Rattle.sarif_log.specs.Internal.Leftover.{not_taken}
+use Rattle.sarif_prepare.specs.Internal.Leftover.{not_taken}
 use Rattle.sarif_runs.specs.Placed.{Placed}
 use Rattle.sarif_runs.specs.Internal.Spots.{no_run, placed_at, spots_from, spots_in}
 use Rattle.sarif_findings.specs.declared.finding.Finding.{Finding}

@@ -9,7 +9,7 @@ use Rattle.sarif_model.specs.Run.{results_of}
 use Rattle.sarif_match.specs.Partners.{partners_of}
 use Rattle.sarif_entries.specs.File.{File}
 use Rattle.sarif_runs.specs.Judging.{records_of, run_values}
-use Rattle.sarif_log.specs.Internal.Leftover.{not_taken}
+use Rattle.sarif_prepare.specs.Internal.Leftover.{not_taken}
 use Rattle.sarif_runs.specs.Placed.{Placed}
 use Rattle.sarif_runs.specs.Internal.Spots.{spots_from}
 use Rattle.sarif_findings.specs.declared.reporting.Reporting.{Reporting}

@@ -12,7 +12,7 @@ use Rattle.sarif_entries.specs.File.{File}
 use Rattle.sarif_counts.specs.CountOf.{count_of}
 use Rattle.sarif_counts.proofs.CountAppend.{count_of-append}
 use Rattle.sarif_runs.specs.Judging.{records_of, run_values}
-use Rattle.sarif_log.specs.Internal.Leftover.{not_taken}
+use Rattle.sarif_prepare.specs.Internal.Leftover.{not_taken}
 use Rattle.sarif_runs.specs.Placed.{Placed}
 use Rattle.sarif_log.specs.declared.merged_text.Side.{Side}
 use Rattle.sarif_results.specs.Drafts.{applied_of, drafts_by, unapplied}
@@ -30,7 +30,7 @@ use Rattle.sarif_log.specs.LogBy.{current_runs, leftover_runs, listing_of, runs_
 use Rattle.sarif_prepare.specs.Internal.Together.{AreTogether}
 use Rattle.sarif_log.specs.Internal.Written.{AreWritten}
 use Rattle.sarif_results.proofs.JudgedCounts.{records_of_logs}
-use Rattle.sarif_log.proofs.LeftTexts.{counts, left_total, left_written, long}
+use Rattle.sarif_prepare.proofs.LeftTexts.{counts, left_total, left_written, long}
 use Rattle.sarif_log.proofs.Sides.{drafts_long, few_present, own_total, results_long, states_long, taken_long}
 
 -- ---- the runs of logs

@@ -1,6 +1,6 @@
 -- What a caller requests besides the merged log.
 use Rattle.std.specs.Prelude.{Option, option_map}
-use Rattle.sarif_counts.specs.declared.upkeep.Upkeep.{Upkeep}
+use Rattle.sarif_options.specs.declared.upkeep.Upkeep.{Upkeep}
 use Rattle.sarif_findings.specs.declared.reporting.Reporting.{Reporting}
 use Rattle.sarif_prepare.specs.declared.asked.Asked.{Asked}
 

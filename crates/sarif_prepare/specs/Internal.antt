@@ -2,6 +2,8 @@
 pub mod Baselines
 pub mod Halves
 pub mod Keeping
+pub mod LeftParts
+pub mod Leftover
 pub mod Marked
 pub mod Telling
 pub mod Together

@@ -1,6 +1,6 @@
 //! What a merge is asked to do.
-use sarif_counts::{Options, Upkeep};
 use sarif_findings::Reporting;
+use sarif_options::{Options, Upkeep};
 
 /// The options of a merge, what reports of it need, and what is made for later merges.
 #[derive(Clone, Copy)]

@@ -4,7 +4,7 @@ ghost use Rattle.std.specs.List.{AllByRecursion, flat_map};
 ghost use Rattle.sarif_entries.specs.File.{File};
 ghost use Rattle.sarif_runs.specs.Judging.{faults_of_runs, items_of, records_in, skips};
 ghost use Rattle.sarif_runs.specs.Internal.Opened.{placed_of};
-ghost use Rattle.sarif_log.specs.Internal.LeftParts.{present_counts};
+ghost use Rattle.sarif_prepare.specs.Internal.LeftParts.{present_counts};
 ghost use Rattle.sarif_prepare.specs.Internal.Baselines.{with_spot, spots_with_record, AreBaselines};
 ghost use Rattle.sarif_results.specs.Internal.Judged.{placed_in, IsJudged};
 

@@ -13,8 +13,9 @@ use crate::baselines::Baselines;
 use crate::file_read::FileRead;
 use crate::halves::Half;
 use crate::preparing::Paired;
-use sarif_counts::{Life, Upkeep};
+use sarif_counts::Life;
 use sarif_model::{MergeFault, State};
+use sarif_options::Upkeep;
 use sarif_upkeep::{Before, Current, Matched, life_of};
 use std::alloc::{AllocError, Global};
 

@@ -2,12 +2,14 @@
 //! with, as absent.
 ghost use Rattle.std.specs.Prelude.{◌≡◌, ◌≤◌, Some, IfOk, List, length, map};
 ghost use Rattle.sarif_model.specs.declared.kinds.State.TheVariants.{Absent};
-ghost use Rattle.sarif_log.specs.Internal.Leftover.{not_taken};
+ghost use Rattle.sarif_prepare.specs.Internal.Leftover.{not_taken};
 ghost use Rattle.sarif_runs.specs.Placed.{Placed};
 ghost use Rattle.sarif_prepare.specs.Internal.Baselines.{baseline_drafts, AreBaselines, IsLeft};
 
 use crate::baselines::Baselines;
-use sarif_log::{Side, draft_leftovers, left_parts, list_leftovers};
+use crate::leftovers::{draft_leftovers, list_leftovers};
+use crate::parts_of_runs::left_parts;
+use sarif_log::Side;
 use sarif_model::{Record, State};
 use sarif_results::Draft;
 use std::alloc::{AllocError, Global};

@@ -3,7 +3,7 @@ ghost use Rattle.std.specs.Prelude.{◌≡◌, ◌<◌, ◌≤◌, ◌++◌, ◌
 ghost use Rattle.std.specs.List.{All, cons_option};
 ghost use Rattle.sarif_model.specs.declared.kinds.State.TheVariants.{Absent};
 ghost use Rattle.sarif_model.specs.Run.{result_at, results_of};
-ghost use Rattle.sarif_log.specs.Internal.Leftover.{not_taken};
+ghost use Rattle.sarif_prepare.specs.Internal.Leftover.{not_taken};
 ghost use Rattle.sarif_runs.specs.Internal.Opened.{placed_of};
 ghost use Rattle.sarif_runs.specs.Internal.Spots.{spots_from, IsSpotOf};
 ghost use Rattle.sarif_prepare.specs.Internal.Telling.{pair_at, placed_told, told_as, told_by, told_each};

@@ -7,7 +7,7 @@ use Rattle.serde_json.specs.View.{members_view}
 use Rattle.serde_json.specs.Written.{comma_if, compact_text, members_have_float}
 use Rattle.json_parts.specs.Internal.Around.{surrounding, filled}
 use Rattle.sarif_counts.specs.Counts.{same_state}
-use Rattle.sarif_counts.specs.Policy.{Count, count_if}
+use Rattle.sarif_counts.specs.Hits.{Count, count_if}
 use Rattle.sarif_counts.specs.Tally.{same_level, same_side}
 use Rattle.sarif_model.specs.declared.kinds.State.{State}
 use Rattle.sarif_model.specs.declared.kinds.State.TheVariants.{Absent}

@@ -6,7 +6,7 @@ use Rattle.sarif_runs.specs.declared.item.Item.{Item}
 use Rattle.sarif_runs.specs.declared.item.Item.TheVariants.{Sound, Bad, Skipped}
 use Rattle.sarif_runs.specs.declared.spots.Spot.{Spot}
 use Rattle.sarif_runs.specs.Judging.{records_of, run_values}
-use Rattle.sarif_log.specs.Internal.Leftover.{found_at, not_taken}
+use Rattle.sarif_prepare.specs.Internal.Leftover.{found_at, not_taken}
 use Rattle.sarif_runs.specs.Internal.Opened.{placed_of}
 use Rattle.sarif_runs.specs.Placed.{Placed}
 use Rattle.sarif_runs.specs.Internal.Spots.{IsSpotOf}
@@ -14,7 +14,7 @@ use Rattle.sarif_results.specs.declared.draft.Draft.{Draft}
 use Rattle.sarif_log.specs.declared.merged_text.Side.{Side}
 use Rattle.sarif_results.specs.Drafts.{drafts_by, unapplied}
 use Rattle.sarif_log.specs.Internal.Texts.{present_results, IsWholeRun}
-use Rattle.sarif_log.specs.Internal.LeftParts.{present_counts, AreLeftParts}
+use Rattle.sarif_prepare.specs.Internal.LeftParts.{present_counts, AreLeftParts}
 use Rattle.sarif_prepare.specs.declared.baselines.Baselines.{Baselines}
 use Rattle.sarif_prepare.specs.Internal.Telling.{pair_at, present_in}
 

@@ -2,7 +2,7 @@
 use Rattle.std.specs.Prelude.{List, Option, Result, IfOk, IfErr}
 use Rattle.sarif_model.specs.declared.merge_fault.MergeFault.{MergeFault}
 use Rattle.sarif_counts.specs.declared.life.Life.{Life}
-use Rattle.sarif_counts.specs.declared.upkeep.Upkeep.{Upkeep}
+use Rattle.sarif_options.specs.declared.upkeep.Upkeep.{Upkeep}
 use Rattle.sarif_runs.specs.Placed.{Placed}
 use Rattle.sarif_upkeep.specs.Merge.{Merge}
 use Rattle.sarif_prepare.specs.declared.asked.Asked.{Asked}

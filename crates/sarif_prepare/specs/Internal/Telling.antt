@@ -4,9 +4,9 @@ use Rattle.std.specs.List.{cons_option}
 use Rattle.serde_json.specs.Data.{Data}
 use Rattle.sarif_model.specs.declared.kinds.State.{State}
 use Rattle.sarif_model.specs.Run.{result_at, results_of}
-use Rattle.sarif_counts.specs.Policy.{is_listed}
+use Rattle.sarif_options.specs.Policy.{is_listed}
 use Rattle.sarif_runs.specs.declared.spots.Spot.{Spot}
-use Rattle.sarif_log.specs.Internal.Leftover.{found_at}
+use Rattle.sarif_prepare.specs.Internal.Leftover.{found_at}
 use Rattle.sarif_runs.specs.Internal.Opened.{placed_of}
 use Rattle.sarif_runs.specs.Placed.{Placed}
 use Rattle.sarif_runs.specs.Internal.Spots.{placed_at}

@@ -18,5 +18,6 @@ returns c = λ runs same.
     let none = c.is_empty-later.ensures ∙ ap (λ n. n == 0) c.args.current.runs.ok.0 in
     let whole = joined_both c.args.current.runs.items c.args.current.drafts.items c.args.current.states.items c.is_empty-later.result us none in
     ended
-    ∙ ap (λ t. t ++ codes "],\"version\":\"2.1.0\"}") (both ∙ append_assoc (string_bytes c.push_str-2.new.self) (joined false ts) (joined (not c.is_empty-later.result) us) ∙ ap (λ t. string_bytes c.push_str-2.new.self ++ t) whole ∙ ap (λ t. t ++ joined false (ts ++ us)) begun)
+    ∙ ap (λ t. t ++ codes "],\"version\":\"2.1.0\"}") (both ∙ append_assoc (string_bytes c.push_str-2.new.self) (joined false ts) (joined (not c.is_empty-later.result) us)
+    ∙ ap (λ t. string_bytes c.push_str-2.new.self ++ t) whole ∙ ap (λ t. t ++ joined false (ts ++ us)) begun)
     ∙ log_parts gate runs (ts ++ us) same

@@ -3,7 +3,7 @@ use Rattle.std.proofs.Math.Seq.{drop-cons}
 use Rattle.std.specs.List.{AllByRecursion, flat_map}
 use Rattle.sarif_runs.specs.Judging.{faults_of_runs, items_of, skips}
 use Rattle.sarif_runs.specs.Internal.Opened.{placed_of}
-use Rattle.sarif_log.specs.Internal.LeftParts.{present_counts}
+use Rattle.sarif_prepare.specs.Internal.LeftParts.{present_counts}
 use Rattle.sarif_results.proofs.OutcomeItems.{items_cut}
 use Rattle.sarif_prepare.proofs.FoundDrafts.{baseline_count, others_sound}
 use Rattle.sarif_prepare.proofs.baselines.count_present.Goals as goal

@@ -2,7 +2,7 @@ use Rattle.std.proofs.Common.{◌≡◌, ◌++◌, true, [], map, drop}
 use Rattle.std.specs.List.{AllByRecursion, flat_map}
 use Rattle.sarif_runs.specs.Judging.{faults_of_runs, items_of, skips}
 use Rattle.sarif_runs.specs.Internal.Opened.{placed_of}
-use Rattle.sarif_log.specs.Internal.LeftParts.{present_counts}
+use Rattle.sarif_prepare.specs.Internal.LeftParts.{present_counts}
 use Rattle.sarif_prepare.proofs.baselines.count_present.Given as goal
 
 abbrev pub invariant-loop-run : goal.invariant-loop-run

@@ -5,7 +5,7 @@ use Rattle.sarif_runs.specs.Judging.{items_of, records_in}
 use Rattle.sarif_runs.specs.Internal.Opened.{placed_of}
 use Rattle.sarif_runs.specs.Internal.Spots.{spots_from, IsSpotOf}
 use Rattle.sarif_runs.proofs.SpotsWithin.{spots_within}
-use Rattle.sarif_log.specs.Internal.LeftParts.{present_counts}
+use Rattle.sarif_prepare.specs.Internal.LeftParts.{present_counts}
 use Rattle.sarif_prepare.specs.Internal.Baselines.{spots_with_record}
 use Rattle.sarif_prepare.specs.Internal.Telling.{pair_at}
 use Rattle.sarif_prepare.proofs.BaselineSpots.{all_long, found_at_pairs, pairs_at_spots, recorded_within}

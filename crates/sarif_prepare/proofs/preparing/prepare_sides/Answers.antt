@@ -3,7 +3,7 @@ use Rattle.std.proofs.lemmas.Result.{err_from_is_err_and}
 use Rattle.std.specs.List.{flat_map}
 use Rattle.sarif_model.specs.Run.{results_of}
 use Rattle.sarif_runs.specs.Judging.{records_of, run_values}
-use Rattle.sarif_log.specs.Internal.Leftover.{not_taken}
+use Rattle.sarif_prepare.specs.Internal.Leftover.{not_taken}
 use Rattle.sarif_log.specs.Internal.Texts.{own_count, ArePartsOf}
 use Rattle.sarif_prepare.specs.Internal.Baselines.{baseline_drafts, IsLeft}
 use Rattle.sarif_log.specs.LogBy.{taken_of}

@@ -2,7 +2,7 @@ use Rattle.std.proofs.Common.{◌++◌, Some, map, length, sym, ap, ◌∙◌}
 use Rattle.std.proofs.lemmas.List.{length-map}
 use Rattle.sarif_model.specs.declared.kinds.State.TheVariants.{Absent}
 use Rattle.sarif_match.specs.Partners.{partners_of}
-use Rattle.sarif_log.specs.Internal.Leftover.{found_at, not_taken}
+use Rattle.sarif_prepare.specs.Internal.Leftover.{found_at, not_taken}
 use Rattle.sarif_runs.specs.Internal.Spots.{spots_from}
 use Rattle.sarif_runs.proofs.AllSpots.{spots_count}
 use Rattle.sarif_prepare.specs.Internal.Baselines.{baseline_drafts}
@@ -10,7 +10,7 @@ use Rattle.sarif_log.specs.LogBy.{states_of}
 use Rattle.sarif_prepare.specs.Internal.Telling.{pair_at, told_each}
 use Rattle.sarif_log.specs.Told.{if_asked}
 use Rattle.sarif_prepare.specs.Asked.{reporting_in}
-use Rattle.sarif_log.proofs.LeftTexts.{long}
+use Rattle.sarif_prepare.proofs.LeftTexts.{long}
 use Rattle.sarif_log.proofs.Sides.{states_long, taken_long}
 use Rattle.sarif_prepare.proofs.ToldSides.{sides_told}
 use Rattle.sarif_prepare.proofs.WrittenSides.{baseline_long, current_long}

@@ -1,5 +1,5 @@
 use Rattle.std.proofs.Common.{◌≡◌, ◌++◌, drop}
-use Rattle.sarif_log.specs.Internal.Leftover.{not_taken}
+use Rattle.sarif_prepare.specs.Internal.Leftover.{not_taken}
 use Rattle.sarif_prepare.proofs.telling.left_spots.Given as goal
 
 abbrev pub invariant-loop-number : goal.invariant-loop-number

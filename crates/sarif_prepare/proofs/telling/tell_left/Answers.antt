@@ -1,6 +1,6 @@
 use Rattle.std.proofs.Common.{◌≡◌, map, sym, ap, subst, ◌∙◌}
 use Rattle.std.specs.List.{All}
-use Rattle.sarif_log.specs.Internal.Leftover.{not_taken}
+use Rattle.sarif_prepare.specs.Internal.Leftover.{not_taken}
 use Rattle.sarif_runs.specs.Internal.Opened.{placed_of}
 use Rattle.sarif_runs.specs.Internal.Spots.{IsSpotOf}
 use Rattle.sarif_prepare.specs.Internal.Telling.{placed_told}
