@@ -9,9 +9,10 @@ use Rattle.sarif_model.specs.declared.kinds.State.{State}
 use Rattle.sarif_model.specs.declared.kinds.State.TheVariants.{New, Unchanged, Updated, Absent}
 use Rattle.sarif_model.specs.Level.{level_name, level_named}
 use Rattle.sarif_model.specs.State.{state_name, state_named}
-use Rattle.sarif_counts.specs.declared.policy.Policy.{Policy}
+use Rattle.sarif_options.specs.declared.policy.Policy.{Policy}
 use Rattle.sarif_model.specs.Level.{is_at_least}
-use Rattle.sarif_counts.specs.Policy.{Count, count_if, severe_of, hits_at, hits_of, is_listed}
+use Rattle.sarif_options.specs.Policy.{is_listed}
+use Rattle.sarif_counts.specs.Hits.{Count, count_if, severe_of, hits_at, hits_of}
 use Rattle.sarif_counts.specs.Counts.{same_state}
 use Rattle.sarif_counts.specs.Tally.{same_level, same_side}
 use Rattle.sarif_model.specs.Run.{is_text}

@@ -12,7 +12,8 @@ use Rattle.sarif_model.specs.Members.{elements}
 use Rattle.sarif_model.specs.Run.{elements_or_none}
 use Rattle.sarif_model.specs.Run.{runs_of}
 use Rattle.sarif_model.specs.Level.{is_at_least}
-use Rattle.sarif_counts.specs.Policy.{count_if, hits_of, is_listed}
+use Rattle.sarif_options.specs.Policy.{is_listed}
+use Rattle.sarif_counts.specs.Hits.{count_if, hits_of}
 use Rattle.sarif_counts.specs.Tally.{same_side}
 use Rattle.sarif_counts.specs.CountOf.{carries, count_in, count_of, results_in, suppresses, suppressions_in}
 use Rattle.sarif_model.specs.Run.{is_text}

@@ -10,7 +10,7 @@ use Rattle.sarif_model.specs.State.{state_named}
 use Rattle.sarif_model.specs.Driver.{tool_name}
 use Rattle.sarif_model.specs.Level.{is_at_least}
 use Rattle.sarif_model.specs.Members.{text_in, none_if_empty}
-use Rattle.sarif_counts.specs.Policy.{is_listed}
+use Rattle.sarif_options.specs.Policy.{is_listed}
 use Rattle.sarif_counts.specs.CountOf.{suppressions_in, suppresses}
 use Rattle.sarif_findings.specs.declared.finding.Finding.{Finding}
 use Rattle.sarif_findings.specs.declared.reporting.Reporting.{Reporting}

@@ -12,7 +12,7 @@ use crate::message::push_message;
 use crate::named_run::NamedRun;
 use crate::reporting::Reporting;
 use crate::shown_text::{ShownText, shown, shown_copy};
-use crate::spot::{Spot, spot_of};
+use crate::spot::{ShownPlace, spot_of};
 use crate::subject::Subject;
 use crate::told_result::ToldResult;
 use sarif_model::{Level, State, Text};
@@ -87,7 +87,7 @@ pub fn finding_of(
     let rule = shown_copy(alloc, rule_id(&subject))?;
     let message = message_in(alloc, &subject)?;
     let help = help_in(alloc, &subject)?;
-    let Spot { path, line, column } = spot_of(alloc, reporting, run, &told.location)?;
+    let ShownPlace { path, line, column } = spot_of(alloc, reporting, run, &told.location)?;
     let hit = level.is_at_least(reporting.policy.fail_on);
     Ok(Finding {
         tool,

@@ -1,6 +1,6 @@
 //! What reports are made by.
-use sarif_counts::Policy;
 use sarif_model::{Sequence, Text};
+use sarif_options::Policy;
 
 /// What reports depend on, besides the merged log.
 #[derive(Debug, Drop)]

@@ -18,7 +18,7 @@ use std::alloc::{AllocError, Global};
 
 /// What a report says about the place of a result.
 #[derive(Drop)]
-pub(crate) struct Spot {
+pub(crate) struct ShownPlace {
     pub(crate) path: Option<Text>,
     pub(crate) line: Option<u32>,
     pub(crate) column: Option<u32>,
@@ -121,7 +121,7 @@ pub(crate) fn spot_of(
     reporting: &Reporting,
     run: &NamedRun<'_>,
     location: &FirstLocation<'_>,
-) -> Result<Spot, AllocError>
+) -> Result<ShownPlace, AllocError>
     ensures path { IfOk result (λ spot. spot.path
         ≡ located.path_at reporting.now (view run.now) location.now) }
     ensures line { IfOk result (λ spot. spot.line
@@ -132,5 +132,5 @@ pub(crate) fn spot_of(
     let path = path_of_location(alloc, reporting.roots.as_slice(), run, location)?;
     let line = position_with(&path, location.line);
     let column = position_with(&line, location.column);
-    Ok(Spot { path, line, column })
+    Ok(ShownPlace { path, line, column })
 }

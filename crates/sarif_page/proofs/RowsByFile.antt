@@ -1,15 +1,18 @@
 -- The rows of a page: by file, each result once, hits before others.
-use Rattle.std.proofs.Common.{◌≡◌, ◌≤◌, ◌+◌, ◌-◌, ℕ, Bool, true, false, cond, not, ◌&&◌, ◌||◌, List, [], ◌∷◌, ◌++◌, length, take, flat_map, bytes_eq, if◌then◌else◌, refl, sym, ap, ◌∙◌, append_assoc, zero, suc, arith}
+use Rattle.std.proofs.Common.{◌≡◌, ◌≤◌, ◌+◌, ◌-◌, ◌==◌, ℕ, Bool, true, false, cond, not, ◌&&◌, ◌||◌, List, [], ◌∷◌, ◌++◌, length, take, flat_map, bytes_eq, if◌then◌else◌, refl, sym, ap, ◌∙◌, append_assoc, zero, suc, arith}
 use Rattle.std.specs.List.{filter, list_any, list_all, count_by}
 use Rattle.std.proofs.lemmas.Bool.{true≢false, and_parts, or_parts, and_from, not-true}
 use Rattle.std.proofs.lemmas.List.{take_all, length-append, length-take}
 use Rattle.std.proofs.lemmas.List.Folds.{list_any-append}
 use Rattle.std.proofs.lemmas.List.Sums.{sum_by-append, sum_by-cons}
+use Rattle.sarif_model.specs.declared.kinds.Level.TheVariants.{NoLevel, Note, Warning, Error}
+use Rattle.sarif_model.specs.Level.{severity}
 use Rattle.sarif_findings.specs.declared.finding.Finding.{Finding}
 use Rattle.sarif_page.specs.Internal.ByFile.{has_file}
 use Rattle.sarif_page.specs.HtmlLaws.{goes_on, are_together}
 use Rattle.sarif_page.specs.HtmlRows.{file_of, is_in, files_of, by_file, most_rows, hit_rows, other_rows, page_rows}
-use Rattle.sarif_shown.specs.Listed.{hits_among, others_among}
+use Rattle.sarif_shown.specs.Listed.{by_level, hits_among, is_one, of_level, others_among}
+use Rattle.sarif_shown.proofs.ListedMore.{counted_listed}
 use Rattle.sarif_page.proofs.FilesMore.{files_seen, others_stay, text_same, text_self, texts_swap}
 
 -- ---- what is true for all findings is true for the rows
@@ -51,16 +54,27 @@ all_kept p (f ∷ fs) = by (p f) refl (all_kept p fs)
     by true e rest = and_from (p f) (list_all p (filter p fs)) e rest
     by false e rest = rest
 
+-- what is true for all is true if they are sorted by level
+all_levels : (p : Finding → Bool) (fs : List Finding) → list_all p fs ≡ true → list_all p (by_level fs) ≡ true
+unfolding by_level
+all_levels p fs h =
+    all_append p (of_level Error fs) _ (all_filter p (λ f. severity f.level == severity Error) fs h)
+    (all_append p (of_level Warning fs) _ (all_filter p (λ f. severity f.level == severity Warning) fs h)
+    (all_append p (of_level Note fs) (of_level NoLevel fs) (all_filter p (λ f. severity f.level == severity Note) fs h)
+    (all_filter p (λ f. severity f.level == severity NoLevel) fs h)))
+
 pub rows_are_hits : (fs : List Finding) → list_all (λ f. f.hit) (hit_rows fs) ≡ true
 unfolding hit_rows
 rows_are_hits fs =
-    all_take (λ f. f.hit) most_rows (by_file (hits_among fs)) (all_files (λ f. f.hit) (hits_among fs) (files_of (hits_among fs)) (all_kept (λ f. f.hit) fs))
+    all_take (λ f. f.hit) most_rows (by_file (hits_among fs)) (all_files (λ f. f.hit) (hits_among fs) (files_of (hits_among fs))
+    (all_levels (λ f. f.hit) (filter (is_one true) fs) (all_kept (is_one true) fs)))
 
 pub rows_are_others : (fs : List Finding) → list_all (λ f. not f.hit) (other_rows fs) ≡ true
 unfolding other_rows
 rows_are_others fs =
     all_take (λ f. not f.hit) (most_rows - length (hit_rows fs)) (by_file (others_among fs))
-    (all_files (λ f. not f.hit) (others_among fs) (files_of (others_among fs)) (all_kept (λ f. not f.hit) fs))
+    (all_files (λ f. not f.hit) (others_among fs) (files_of (others_among fs))
+    (all_levels (λ f. not f.hit) (filter (is_one false) fs) (all_kept (is_one false) fs)))
 
 -- ---- each file's rows together
 
@@ -256,21 +270,8 @@ once_by_file p fs =
     let none = ap (λ l. count_by p l) (none_left [] fs) in
     omega (arith, all, none)
 
-halves_by : (h : Bool) (x a b c : ℕ) → a + b ≡ c → (cond h x 0 + a) + (cond (not h) x 0 + b) ≡ x + c
-halves_by true x a b c e = omega (arith, e)
-halves_by false x a b c e = omega (arith, e)
-
 halves : (p : Finding → Bool) (fs : List Finding) → count_by p (hits_among fs) + count_by p (others_among fs) ≡ count_by p fs
-halves p [] = refl
-halves p (f ∷ fs) =
-    let hits = hits_among fs in
-    let others = others_among fs in
-    let one_a = part p f.hit f hits in
-    let one_b = part p (not f.hit) f others in
-    ap (λ t. t + count_by p (cond (not f.hit) (f ∷ others) others)) one_a
-    ∙ ap (λ t. (cond f.hit (cond (p f) 1 0) 0 + count_by p hits) + t) one_b
-    ∙ halves_by f.hit (cond (p f) 1 0) (count_by p hits) (count_by p others) (count_by p fs) (halves p fs)
-    ∙ sym (sum_by-cons (λ g. cond (p g) 1 0) f fs)
+halves p fs = sym (sum_by-append (λ g. cond (p g) 1 0) (hits_among fs) (others_among fs)) ∙ counted_listed p fs
 
 count_all : (fs : List Finding) → count_by (λ f. true) fs ≡ length fs
 count_all [] = refl

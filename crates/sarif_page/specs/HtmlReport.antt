@@ -9,10 +9,11 @@ use Rattle.sarif_model.specs.declared.kinds.State.{State}
 use Rattle.sarif_model.specs.declared.kinds.State.TheVariants.{New, Unchanged, Updated, Absent}
 use Rattle.sarif_model.specs.Level.{level_name}
 use Rattle.sarif_model.specs.State.{state_name}
-use Rattle.sarif_counts.specs.declared.policy.Policy.{Policy}
-use Rattle.sarif_counts.specs.declared.policy.Verdict.{Verdict}
+use Rattle.sarif_options.specs.declared.policy.Policy.{Policy}
+use Rattle.sarif_counts.specs.declared.gate_verdict.Verdict.{Verdict}
 use Rattle.sarif_counts.specs.Counts.{same_state}
-use Rattle.sarif_counts.specs.Policy.{Count, hits_of, verdict_of, verdict_name, are_hits}
+use Rattle.sarif_options.specs.Policy.{are_hits}
+use Rattle.sarif_counts.specs.Hits.{Count, hits_of, verdict_of, verdict_name}
 use Rattle.sarif_counts.specs.Tally.{same_level}
 use Rattle.sarif_shown.specs.CountRow.{numbers_of}
 use Rattle.sarif_shown.specs.declared.count_row.Row.{Row}
@@ -25,7 +26,7 @@ use Rattle.sarif_page.specs.HtmlFixed.{page_begin, title_end, body_begin, counts
 use Rattle.sarif_page.specs.HtmlRows.{Tables, tables_of}
 use Rattle.sarif_page.specs.HtmlStyle.{style}
 use Rattle.sarif_page.specs.HtmlWords.{reason, hits_heading, others_text}
-use Rattle.sarif_shown.specs.Sentences.{entries_text, gate_end, gate_text, hits_text, more_text, runs_text}
+use Rattle.sarif_shown.specs.Sentences.{accept_text, entries_text, gate_end, gate_text, hits_text, more_text, runs_text}
 
 -- ---- the verdict
 
@@ -260,6 +261,15 @@ unfoldable pub results_of : Verdict → ℕ → Tables → List ℕ
 results_of verdict max tables =
     filters_of (tables.hits ++ tables.others) ++ (sections verdict max tables ++ rest_line tables)
 
+-- a sentence that says how something is done
+unfoldable pub how : List ℕ → List ℕ
+how sentence = codes "<p class=\"how\">" ++ (sentence ++ codes "</p>\n")
+
+-- how to accept the hits, if there are any
+abbrev pub accept_line : ℕ → List ℕ
+accept_line hits =
+    if hits == 0 then [] else how (accept_text (codes "<code>") (codes "</code>") hits)
+
 -- ---- the page
 
 unfoldable pub top_of : Verdict → ℕ → Policy → List ℕ
@@ -270,7 +280,8 @@ unfoldable pub page_of : Facts → Verdict → ℕ → Tables → List ℕ
 page_of facts verdict hits tables =
     top_of verdict hits facts.policy
     ++ (links tables ++ (counts_table facts.count facts.policy ++ (minds facts.without facts.unused
-    ++ (header_end ++ (results_of verdict facts.policy.max tables ++ page_end)))))
+    ++ (header_end ++ (results_of verdict facts.policy.max tables
+    ++ (accept_line hits ++ page_end))))))
 
 unfoldable pub html_of : Facts → List ℕ
 html_of facts =

@@ -75,7 +75,7 @@ style_cells =
     codes "[data-state=\"new\"] td:nth-child(5){font-weight:700}\n" ++ (
     codes "[data-state=\"unchanged\"] td:nth-child(5),[data-state=\"absent\"] td:nth-child(5){color:var(--dim);font-style:italic}\n" ++ (
     codes ".results td:nth-child(6){color:var(--dim)}\n" ++ (
-    codes ".empty{margin-top:2rem;color:var(--dim)}\n")))))))))
+    codes ".empty,.how{margin-top:2rem;color:var(--dim)}\n")))))))))
 
 -- on a phone
 unfoldable pub style_narrow : List ℕ

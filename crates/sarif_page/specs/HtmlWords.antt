@@ -6,11 +6,11 @@ use Rattle.sarif_model.specs.declared.kinds.Level.TheVariants.{NoLevel, Note, Wa
 use Rattle.sarif_model.specs.declared.kinds.State.{State}
 use Rattle.sarif_model.specs.declared.kinds.State.TheVariants.{New, Unchanged, Updated, Absent}
 use Rattle.sarif_model.specs.State.{state_name}
-use Rattle.sarif_counts.specs.declared.policy.Policy.{Policy}
-use Rattle.sarif_counts.specs.declared.policy.States.{States}
-use Rattle.sarif_counts.specs.declared.policy.Verdict.{Verdict}
-use Rattle.sarif_counts.specs.declared.policy.Verdict.TheVariants.{Pass, Fail}
-use Rattle.sarif_counts.specs.Policy.{is_listed}
+use Rattle.sarif_options.specs.declared.policy.Policy.{Policy}
+use Rattle.sarif_options.specs.declared.policy.States.{States}
+use Rattle.sarif_counts.specs.declared.gate_verdict.Verdict.{Verdict}
+use Rattle.sarif_counts.specs.declared.gate_verdict.Verdict.TheVariants.{Pass, Fail}
+use Rattle.sarif_options.specs.Policy.{is_listed}
 use Rattle.sarif_shown.specs.Sentences.{counted, hits_text}
 
 -- ---- what a hit is

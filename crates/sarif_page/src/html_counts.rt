@@ -4,8 +4,9 @@ ghost use Rattle.sarif_counts.specs.Counts.{count_at};
 ghost use Rattle.sarif_page.specs.HtmlReport as said;
 
 use crate::html_fixed::{counts_begin, counts_end};
-use sarif_counts::{Counts, Policy};
+use sarif_counts::Counts;
 use sarif_model::{Level, State};
+use sarif_options::Policy;
 use sarif_shown::{Row, row_numbers};
 use std::alloc::{AllocError, Global};
 

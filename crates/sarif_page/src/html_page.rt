@@ -13,8 +13,11 @@ use crate::html_rows::push_section;
 use crate::html_style::push_style;
 use crate::html_tables::{Rows, rows_of};
 use crate::html_words::{hits_heading, others_text, reason};
-use sarif_counts::{Policy, Verdict, hits, verdict};
-use sarif_shown::{Told, entries_text, gate_end, gate_text, hits_text, more_text, runs_text};
+use sarif_counts::{Verdict, hits, verdict};
+use sarif_options::Policy;
+use sarif_shown::{
+    Told, accept_text, entries_text, gate_end, gate_text, hits_text, more_text, runs_text,
+};
 use std::alloc::{AllocError, Global};
 
 /// Adds the page up to its heading.
@@ -216,6 +219,27 @@ fn push_results(
     Ok(())
 }
 
+/// A sentence that says how something is done.
+#[tactic(auto, unfolding(crate::specs::HtmlReport::how))]
+fn how(alloc: Global, sentence: &str) -> Result<String, AllocError>
+    ensures { IfOk result (λ s. string_bytes s ≡ said.how sentence.now) }
+{
+    format!(in alloc; "<p class=\"how\">{sentence}</p>\n")
+}
+
+/// Adds how to accept the hits, if there are any.
+fn push_accept(alloc: Global, text: &mut String, hits: u32) -> Result<(), AllocError>
+    ensures { OnOk result
+        (string_bytes text.new ≡ string_bytes text.old ++ said.accept_line hits) }
+{
+    if hits != 0 {
+        let sentence = accept_text(alloc, hits, "<code>", "</code>")?;
+        let line = how(alloc, sentence.as_str())?;
+        text.push_str(line.as_str())?;
+    }
+    Ok(())
+}
+
 /// Returns the page: the verdict, the counts, and a row for each of the first 10,000 reported results, the hits
 /// before the others, by file. Returns `AllocError` if memory for it runs out.
 #[tactic(auto, unfolding(crate::specs::HtmlReport::html_of, crate::specs::HtmlReport::page_of))]
@@ -226,12 +250,14 @@ pub fn html_report(alloc: Global, told: &Told<'_>) -> Result<String, AllocError>
     let verdict = verdict(counts, policy);
     let rows = rows_of(alloc, told.seed, told.findings)?;
     let mut text = String::new(alloc);
-    push_top(alloc, &mut text, verdict, hits(counts, policy), policy)?;
+    let hits = hits(counts, policy);
+    push_top(alloc, &mut text, verdict, hits, policy)?;
     push_links(alloc, &mut text, &rows)?;
     push_counts(alloc, &mut text, counts, policy)?;
     push_minds(alloc, &mut text, told.without, told.unused)?;
     text.push_str(header_end())?;
     push_results(alloc, &mut text, verdict, policy.max, &rows)?;
+    push_accept(alloc, &mut text, hits)?;
     text.push_str(page_end())?;
     Ok(text)
 }

@@ -90,7 +90,7 @@ fn style_cells() -> &'static str
 [data-state=\"new\"] td:nth-child(5){font-weight:700}
 [data-state=\"unchanged\"] td:nth-child(5),[data-state=\"absent\"] td:nth-child(5){color:var(--dim);font-style:italic}
 .results td:nth-child(6){color:var(--dim)}
-.empty{margin-top:2rem;color:var(--dim)}
+.empty,.how{margin-top:2rem;color:var(--dim)}
 "
 }
 

@@ -2,8 +2,9 @@
 ghost use Rattle.std.specs.Prelude.{◌≡◌, ◌++◌, IfOk, OnOk, string_bytes};
 ghost use Rattle.sarif_page.specs.HtmlWords as said;
 
-use sarif_counts::{Policy, States, Verdict};
+use sarif_counts::Verdict;
 use sarif_model::{Level, State};
+use sarif_options::{Policy, States};
 use sarif_shown::{counted, hits_text};
 use std::alloc::{AllocError, Global};
 

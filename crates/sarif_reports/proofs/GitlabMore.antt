@@ -26,12 +26,13 @@ use Rattle.serde_json.specs.Written.{compact_text, items_text, comma_if}
 use Rattle.serde_json.proofs.OnLiterals.{serde_json_on_literals}
 use denote.Ref.{Bor}
 use denote.Param.Members.{Shared}
+use Rattle.sarif_model.specs.Internal.Hashed.{first_bits}
 use Rattle.sarif_share.specs.Sharing.{AreJoined, GivesInParts, GivesPart, GivesParts}
 use Rattle.sarif_findings.specs.declared.finding.Finding.{Finding}
 use Rattle.sarif_reports.specs.declared.ranked.Ranked.{Ranked}
 use Rattle.sarif_reports.specs.Internal.GitlabObjects.{object_of, objects_after, joined_objects, before_part}
 use Rattle.sarif_reports.specs.GitlabReport.{quality_of, hashed_text, are_alike, same_path, path_or_null, rank_among, items_after, mark_of, gitlab_of}
-use Rattle.sarif_reports.specs.GitlabParts.{stands_in_string, quoted_text, identity_of, rank_text, rule_text, location_text, severity_text, number_in, number_of, key_cmp, counted}
+use Rattle.sarif_reports.specs.GitlabParts.{stands_in_string, quoted_text, identity_of, rank_text, rule_text, location_text, severity_text, number_of, key_cmp, counted}
 
 -- ---- an object and a hashed string, by their parts
 
@@ -328,10 +329,10 @@ counted_more old new key other rank is told updates =
     ∙ ap (λ b. cond b (Some (rank + 1)) (tree.get key_cmp old (number_of other, other))) (is_same_key key other (bytes_eq other key.1) is refl))
     (λ h. ap (counted old) ((bytes_eq-Decides other key.1).0 h) ∙ sym told)
 
-pub number_told : (identity digest : List ℕ) (number : ℕ) → digest ≡ sha256 (identity ++ rank_text 0) → number ≡ number_in digest
+pub number_told : (identity digest : List ℕ) (number : ℕ) → digest ≡ sha256 (identity ++ rank_text 0) → number ≡ first_bits digest
     → number ≡ number_of identity
 unfolding number_of
-number_told identity digest number p q = q ∙ ap number_in p
+number_told identity digest number p q = q ∙ ap first_bits p
 
 rank_is : (old : tree.BTreeMap (ℕ × List ℕ) ℕ) (key : ℕ × List ℕ) → key.0 ≡ number_of key.1
     → unwrap_or (tree.get key_cmp old key) 0 ≡ counted old key.1

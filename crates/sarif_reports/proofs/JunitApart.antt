@@ -11,8 +11,8 @@ use Rattle.std.proofs.lemmas.List.Sums.{count_by-le-length, length-filter, sum_b
 use Rattle.std.proofs.lemmas.Str.{encode_ascii, encodes-append}
 use Rattle.sarif_model.specs.Level.{level_name}
 use Rattle.sarif_model.specs.State.{state_name}
-use Rattle.sarif_counts.specs.declared.policy.Verdict.{Verdict}
-use Rattle.sarif_counts.specs.declared.policy.Verdict.TheVariants.{Pass, Fail}
+use Rattle.sarif_counts.specs.declared.gate_verdict.Verdict.{Verdict}
+use Rattle.sarif_counts.specs.declared.gate_verdict.Verdict.TheVariants.{Pass, Fail}
 use Rattle.sarif_findings.specs.declared.finding.Finding.{Finding}
 use Rattle.sarif_findings.specs.Finding.{spot_text}
 use Rattle.sarif_findings.specs.ShownLaws.{is_seen, are_seen}

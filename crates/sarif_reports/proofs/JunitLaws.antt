@@ -9,9 +9,9 @@ use Rattle.std.proofs.lemmas.Bool.Decides.{nat_tests}
 use Rattle.std.proofs.lemmas.Str.{scalars-chars}
 use Rattle.serde_json.specs.Data.{Data}
 use Rattle.sarif_model.specs.Run.{runs_of}
-use Rattle.sarif_counts.specs.declared.policy.Verdict.{Verdict}
-use Rattle.sarif_counts.specs.declared.policy.Verdict.TheVariants.{Pass, Fail}
-use Rattle.sarif_counts.specs.Policy.{hits_of, verdict_of}
+use Rattle.sarif_counts.specs.declared.gate_verdict.Verdict.{Verdict}
+use Rattle.sarif_counts.specs.declared.gate_verdict.Verdict.TheVariants.{Pass, Fail}
+use Rattle.sarif_counts.specs.Hits.{hits_of, verdict_of}
 use Rattle.sarif_counts.specs.CountOf.{count_of}
 use Rattle.sarif_findings.specs.declared.finding.Finding.{Finding}
 use Rattle.sarif_findings.specs.declared.reporting.Reporting.{Reporting}
@@ -25,8 +25,7 @@ use Rattle.sarif_reports.specs.JunitLaws.{IsXmlText, cases_of, document_of, fail
 use Rattle.sarif_reports.specs.JunitReport.{failures_in, hits_in, skipped_in}
 use Rattle.sarif_shown.specs.Listed.{listed}
 use Rattle.sarif_reports.proofs.JunitApart.{IsLines, Piece, case_tag, document_piece, failure_tag, skipped_tag}
-use Rattle.sarif_reports.proofs.ListedHits.{listed_hits}
-use Rattle.sarif_shown.proofs.ListedMore.{length_listed, listed_told}
+use Rattle.sarif_shown.proofs.ListedMore.{counted_listed, length_listed, listed_told}
 
 -- the numbers of elements of a whole document
 whole : (part text : List ℕ) (n : ℕ) → ((more : List ℕ) → occurrences part (text ++ more) ≡ occurrences part more + n) → occurrences part text ≡ n
@@ -53,7 +52,7 @@ both Fail fs = omega arith
 both Pass fs = omega arith
 
 hits_told : (reporting : Reporting) (log : Data) → hits_in (listed (reported_of reporting log)) ≡ hits_of (count_of (runs_of log)) reporting.policy
-hits_told reporting log = listed_hits (reported_of reporting log) ∙ hits_reported reporting log
+hits_told reporting log = counted_listed (λ f. f.hit) (reported_of reporting log) ∙ hits_reported reporting log
 
 pub hits_shown : (reporting : Reporting) (log : Data) → length (reported_of reporting log) < 2 ^ 64
     → occurrences (codes "<failure ") (document_of reporting log) + occurrences (codes "<skipped ") (document_of reporting log)

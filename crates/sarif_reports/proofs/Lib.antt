@@ -4,7 +4,6 @@ pub mod GitlabMore
 pub mod HashedApart
 pub mod JunitApart
 pub mod JunitLaws
-pub mod ListedHits
 pub mod MarkdownShort
 pub mod NamesApart
 pub mod RowsApart

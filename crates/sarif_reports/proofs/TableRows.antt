@@ -1,5 +1,5 @@
 -- The table of results in Markdown: which results have a row, and how long the rows are.
-use Rattle.std.proofs.Common.{◌≡◌, ◌<◌, ◌≤◌, ◌+◌, ◌*◌, ◌-◌, ◌^◌, ◌++◌, ℕ, zero, suc, Bool, true, false, not, cond, List, [], ◌∷◌, Option, Some, None, IfSome, chars, codes, decimal, encode_utf8, flat_map, length, length-append, take, drop, if◌then◌else◌, refl, ap, sym, ◌∙◌, append_assoc, arith}
+use Rattle.std.proofs.Common.{◌≡◌, ◌<◌, ◌≤◌, ◌+◌, ◌*◌, ◌-◌, ◌^◌, ◌++◌, ℕ, zero, suc, Bool, true, false, cond, List, [], ◌∷◌, Option, Some, None, IfSome, chars, codes, decimal, encode_utf8, flat_map, length, length-append, take, drop, if◌then◌else◌, refl, ap, sym, ◌∙◌, append_assoc, arith}
 use Rattle.std.specs.Prelude.{encode_utf8_all, nat_le}
 use Rattle.std.specs.List.{AllByRecursion, count_by, list_all}
 use Rattle.std.proofs.lemmas.Bool.{leb-true}
@@ -17,7 +17,7 @@ use Rattle.sarif_model.specs.Level.{level_name}
 use Rattle.sarif_model.specs.State.{state_name}
 use Rattle.sarif_model.specs.Run.{runs_of}
 use Rattle.sarif_counts.specs.CountOf.{count_of}
-use Rattle.sarif_counts.specs.Policy.{hits_of}
+use Rattle.sarif_counts.specs.Hits.{hits_of}
 use Rattle.sarif_findings.specs.declared.finding.Finding.{Finding}
 use Rattle.sarif_findings.specs.declared.reporting.Reporting.{Reporting}
 use Rattle.sarif_findings.specs.Finding.{spot_text, place, place_path, numbered, begins_with_colon}
@@ -28,9 +28,9 @@ use Rattle.sarif_findings.proofs.HitsReported.{hits_reported}
 use Rattle.sarif_findings.proofs.ToldFindings.{IsShown, IsPath, IsTold, all_told}
 use Rattle.sarif_shown.specs.declared.escaping.Escaping.TheVariants.{Markdown}
 use Rattle.sarif_shown.specs.Escaped.{escaped, escaped_char, is_mark, markdown_char}
-use Rattle.sarif_shown.specs.Listed.{hits_among, listed, others_among}
+use Rattle.sarif_shown.specs.Listed.{listed}
 use Rattle.sarif_reports.specs.MarkdownReport.{code_of, fitting, hit_cell, in_table, left_out, most_bytes, most_rows, place_cells, result_row, rule_cells, tool_cells}
-use Rattle.sarif_shown.proofs.ListedMore.{length_listed, listed_told}
+use Rattle.sarif_shown.proofs.ListedMore.{counted_listed, length_listed, listed_told}
 use Rattle.sarif_shown.proofs.TextApart.{decimal_plain, is_plain, plain_bytes}
 
 -- ---- the rows fit
@@ -100,28 +100,12 @@ hits_few (f ∷ fs) =
     let rest = hits_few fs in
     omega (arith, first, one, rest)
 
-kept_by : (b : Bool) (f : Finding) (hs os : List Finding) (n : ℕ) → f.hit ≡ b → hits_in hs + hits_in os ≡ n
-    → hits_in (cond b (f ∷ hs) hs) + hits_in (cond (not b) (f ∷ os) os) ≡ cond b 1 0 + n
-kept_by true f hs os n e h =
-    let first = sum_by-cons (λ g. cond g.hit 1 0) f hs in
-    let one : cond {A = ℕ} f.hit 1 0 ≡ 1 = ap (λ b. cond {A = ℕ} b 1 0) e in
-    omega (arith, first, one, h)
-kept_by false f hs os n e h =
-    let first = sum_by-cons (λ g. cond g.hit 1 0) f os in
-    let none : cond {A = ℕ} f.hit 1 0 ≡ 0 = ap (λ b. cond {A = ℕ} b 1 0) e in
-    omega (arith, first, none, h)
-
-hits_kept : (fs : List Finding) → hits_in (hits_among fs) + hits_in (others_among fs) ≡ hits_in fs
-hits_kept [] = refl
-hits_kept (f ∷ fs) =
-    kept_by f.hit f (hits_among fs) (others_among fs) (hits_in fs) refl (hits_kept fs) ∙ sym (sum_by-cons (λ g. cond g.hit 1 0) f fs)
-
 pub hits_parted : (reporting : Reporting) (log : Data)
     → hits_in (in_table (reported_of reporting log)) + hits_in (left_out (reported_of reporting log)) ≡ hits_of (count_of (runs_of log)) reporting.policy
 hits_parted reporting log =
     let fs : List Finding = reported_of reporting log in
     sym (sum_by-append (λ g. cond g.hit 1 0) (in_table fs) (left_out fs)) ∙ ap hits_in (table_parts fs)
-    ∙ sum_by-append (λ g. cond g.hit 1 0) (hits_among fs) (others_among fs) ∙ hits_kept fs ∙ hits_reported reporting log
+    ∙ counted_listed (λ f. f.hit) fs ∙ hits_reported reporting log
 
 -- ---- one row fits
 

@@ -1,8 +1,7 @@
 -- The strings of the report for GitLab.
-use Rattle.std.specs.Prelude.{ℕ, Bool, not, ◌&&◌, ◌||◌, ◌==◌, nat_le, List, [], ◌∷◌, ◌++◌, codes, slice_index, unwrap_or}
+use Rattle.std.specs.Prelude.{ℕ, Bool, not, ◌&&◌, ◌||◌, ◌==◌, nat_le, List, [], ◌∷◌, ◌++◌, codes, unwrap_or}
 use Rattle.std.specs.Fmt.{decimal}
 use Rattle.std.specs.BTreeMap as tree
-use Rattle.std.specs.Int.{w64, from_be_bytes}
 use Rattle.std.specs.declared.cmp.Ordering.{Ordering}
 use Rattle.std.specs.Ordering.{nat_cmp, ordering_then}
 use Rattle.std.specs.Cmp.Lexicographic.{slice_cmp}
@@ -10,6 +9,7 @@ use Rattle.sha2.specs.Sha256.{sha256}
 use Rattle.json.specs.Print.{quoted}
 use Rattle.serde_json.specs.Written.{compact_text}
 use Rattle.sarif_model.specs.declared.kinds.Level.{Level}
+use Rattle.sarif_model.specs.Internal.Hashed.{first_bits}
 use Rattle.sarif_findings.specs.declared.finding.Finding.{Finding}
 use Rattle.sarif_reports.specs.declared.identities.Identity.{Identity}
 use Rattle.sarif_reports.specs.GitlabReport.{or_unknown, path_or_null, severity}
@@ -41,15 +41,9 @@ identity_with f = record {
   first = sha256 (identity_of f ++ rank_text 0);
 }
 
--- the first 64 bits of a digest
-abbrev pub number_in : List ℕ → ℕ
-number_in d =
-    from_be_bytes w64 (slice_index d 0 ∷ slice_index d 1 ∷ slice_index d 2 ∷ slice_index d 3
-    ∷ slice_index d 4 ∷ slice_index d 5 ∷ slice_index d 6 ∷ slice_index d 7 ∷ [])
-
 -- the number that an identity is looked up by: that of the first result with it
 unfoldable pub number_of : List ℕ → ℕ
-number_of identity = number_in (sha256 (identity ++ rank_text 0))
+number_of identity = first_bits (sha256 (identity ++ rank_text 0))
 
 -- by the number first
 abbrev pub key_cmp : ℕ × List ℕ → ℕ × List ℕ → Ordering

@@ -4,9 +4,9 @@ use Rattle.std.specs.Prelude.{ℕ, ◌+◌, Bool, not, ◌||◌, ◌==◌, nat_e
 use Rattle.std.specs.Fmt.{decimal}
 use Rattle.std.specs.List.{count_by, ends_with}
 use Rattle.sarif_model.specs.Level.{level_name}
-use Rattle.sarif_counts.specs.declared.policy.Verdict.{Verdict}
-use Rattle.sarif_counts.specs.declared.policy.Verdict.TheVariants.{Pass, Fail}
-use Rattle.sarif_counts.specs.Policy.{verdict_of}
+use Rattle.sarif_counts.specs.declared.gate_verdict.Verdict.{Verdict}
+use Rattle.sarif_counts.specs.declared.gate_verdict.Verdict.TheVariants.{Pass, Fail}
+use Rattle.sarif_counts.specs.Hits.{verdict_of}
 use Rattle.sarif_findings.specs.declared.finding.Finding.{Finding}
 use Rattle.sarif_findings.specs.Finding.{spot_text}
 use Rattle.sarif_shown.specs.declared.escaping.Escaping.TheVariants.{Page}

@@ -2,7 +2,6 @@
 use Rattle.std.specs.Prelude.{ℕ, ◌+◌, ◌<◌, ◌^◌, length, Bool, ◌&&◌, ◌==◌, List, [], ◌∷◌, if◌then◌else◌}
 use Rattle.sarif_model.specs.declared.kinds.Level.{Level}
 use Rattle.sarif_model.specs.declared.kinds.State.{State}
-use Rattle.sarif_counts.specs.Policy.{hits_of}
 use Rattle.sarif_shown.specs.Facts.{Facts}
 
 -- whether each line ends and has this many bars; some of the first line's were read already
@@ -12,11 +11,10 @@ have_bars count before (b ∷ bs) =
     if b == 10 then (before == count && have_bars count 0 bs) else (
     if b == 124 then have_bars count (before + 1) bs else have_bars count before bs)
 
--- numbers of 32 bits, as the program counts
+-- numbers as the program holds them: counts of 32 bits, and a list that fits into memory
 pub record AreSmall (facts : Facts) : Type 0 where
   pub counts : (s : State) (l : Level) (b : Bool) → facts.count s l b < 2 ^ 32
-  pub hits : hits_of facts.count facts.policy < 2 ^ 32
   pub max : facts.policy.max < 2 ^ 32
   pub without : facts.without < 2 ^ 32
   pub unused : facts.unused < 2 ^ 32
-  pub findings : length facts.findings < 2 ^ 32
+  pub findings : length facts.findings < 2 ^ 64

@@ -7,8 +7,8 @@ use Rattle.sarif_model.specs.declared.kinds.State.{State}
 use Rattle.sarif_model.specs.declared.kinds.State.TheVariants.{New, Unchanged, Updated, Absent}
 use Rattle.sarif_model.specs.Level.{level_name}
 use Rattle.sarif_model.specs.State.{state_name}
-use Rattle.sarif_counts.specs.declared.policy.Verdict.{Verdict}
-use Rattle.sarif_counts.specs.Policy.{Count, hits_of, verdict_of}
+use Rattle.sarif_counts.specs.declared.gate_verdict.Verdict.{Verdict}
+use Rattle.sarif_counts.specs.Hits.{Count, hits_of, verdict_of}
 use Rattle.sarif_shown.specs.CountRow.{row_of, numbers_of}
 use Rattle.sarif_findings.specs.declared.finding.Finding.{Finding}
 use Rattle.sarif_shown.specs.declared.escaping.Escaping.TheVariants.{Markdown}
@@ -16,7 +16,7 @@ use Rattle.sarif_findings.specs.Finding.{spot_text}
 use Rattle.sarif_shown.specs.Escaped.{escaped}
 use Rattle.sarif_shown.specs.Facts.{Facts}
 use Rattle.sarif_shown.specs.Listed.{listed}
-use Rattle.sarif_shown.specs.Sentences.{gate_text, more_text, runs_text, entries_text}
+use Rattle.sarif_shown.specs.Sentences.{accept_text, entries_text, gate_text, more_text, runs_text}
 
 -- ---- strings
 
@@ -118,8 +118,14 @@ table_of findings =
 abbrev pub results_table : List Finding → List ℕ
 results_table findings = if length findings == 0 then [] else table_of findings
 
+-- the line on accepting the hits, if there are any
+unfoldable pub accept_line : ℕ → List ℕ
+accept_line hits = line_if hits (accept_text (codes "`") (codes "`") hits)
+
 abbrev pub markdown_of : Facts → List ℕ
 markdown_of facts =
     heading (verdict_of facts.count facts.policy) (hits_of facts.count facts.policy) facts.policy.max
     ++ (counts_table facts.count
-    ++ (paragraph (notes facts.without facts.unused) ++ results_table facts.findings))
+    ++ (paragraph (notes facts.without facts.unused)
+    ++ (results_table facts.findings
+    ++ paragraph (accept_line (hits_of facts.count facts.policy)))))

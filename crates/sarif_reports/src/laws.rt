@@ -9,7 +9,7 @@ ghost use Rattle.json.specs.Json.{document};
 ghost use Rattle.serde_json.specs.Data.{Data, array};
 ghost use Rattle.serde_json.specs.Written.{outline};
 ghost use Rattle.sarif_model.specs.Run.{runs_of};
-ghost use Rattle.sarif_counts.specs.Policy.{hits_of, verdict_of};
+ghost use Rattle.sarif_counts.specs.Hits.{hits_of, verdict_of};
 ghost use Rattle.sarif_counts.specs.CountOf.{count_of};
 ghost use Rattle.sarif_findings.specs.declared.finding.Finding.{Finding};
 ghost use Rattle.sarif_shown.specs.declared.escaping.Escaping.TheVariants.{Markdown};

@@ -12,7 +12,8 @@ use sarif_counts::{Counts, Verdict, hits, verdict};
 use sarif_findings::Finding;
 use sarif_model::State;
 use sarif_shown::{
-    Escaping, Told, entries_text, gate_text, listed, more_text, push_place, row_numbers, runs_text,
+    Escaping, Told, accept_text, entries_text, gate_text, listed, more_text, push_place,
+    row_numbers, runs_text,
 };
 use std::alloc::{AllocError, Global};
 
@@ -311,6 +312,28 @@ fn entries_line(alloc: Global, unused: u32) -> Result<String, AllocError>
     format!(in alloc; "{sentence}\n")
 }
 
+/// The line on accepting the hits, if there are any.
+#[tactic(auto, unfolding(crate::specs::MarkdownReport::accept_line))]
+fn accept_line(alloc: Global, hits: u32) -> Result<String, AllocError>
+    ensures { IfOk result (λ s. string_bytes s ≡ said.accept_line hits) }
+{
+    if hits == 0 {
+        return Ok(String::new(alloc));
+    }
+    let sentence = accept_text(alloc, hits, "`", "`")?;
+    format!(in alloc; "{sentence}\n")
+}
+
+/// Adds the line on accepting the hits, if there are any.
+fn push_accept(alloc: Global, text: &mut String, hits: u32) -> Result<(), AllocError>
+    ensures { OnOk result (string_bytes text.new
+        ≡ string_bytes text.old ++ said.paragraph (said.accept_line hits)) }
+{
+    let accept = accept_line(alloc, hits)?;
+    push_paragraph(text, accept.as_str())?;
+    Ok(())
+}
+
 /// Adds the lines on runs without results and on unused entries, if there are any.
 fn push_notes(alloc: Global, text: &mut String, without: u32, unused: u32) -> Result<(), AllocError>
     ensures { OnOk result (string_bytes text.new
@@ -324,10 +347,11 @@ fn push_notes(alloc: Global, text: &mut String, without: u32, unused: u32) -> Re
 }
 
 /// Returns the report for job summaries and comments on a change: the verdict, the counts, runs without results,
-/// and a table of the first listed results: at most 200, whose rows take at most 60,000 bytes. Returns `AllocError`
-/// if memory for it runs out.
+/// and a table of the first listed results: at most 200, whose rows take at most 60,000 bytes. The whole report has at
+/// most 61,000 bytes: fewer than a comment may have. Returns `AllocError` if memory for it runs out.
 pub fn markdown_report(alloc: Global, told: &Told<'_>) -> Result<String, AllocError>
-    ensures { IfOk result (λ s. string_bytes s ≡ said.markdown_of (facts_of told.now)) }
+    ensures text { IfOk result (λ s. string_bytes s ≡ said.markdown_of (facts_of told.now)) }
+    ensures short { IfOk result (λ s. length (string_bytes s) ≤ 61000) }
 {
     let Told {
         counts,
@@ -335,14 +359,11 @@ pub fn markdown_report(alloc: Global, told: &Told<'_>) -> Result<String, AllocEr
         findings,
         ..
     } = *told;
-    let mut text = heading(
-        alloc,
-        verdict(counts, policy),
-        hits(counts, policy),
-        policy.max,
-    )?;
+    let hits = hits(counts, policy);
+    let mut text = heading(alloc, verdict(counts, policy), hits, policy.max)?;
     push_counts(alloc, &mut text, counts)?;
     push_notes(alloc, &mut text, told.without, told.unused)?;
     push_results(alloc, &mut text, findings)?;
+    push_accept(alloc, &mut text, hits)?;
     Ok(text)
 }

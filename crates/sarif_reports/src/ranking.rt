@@ -1,10 +1,11 @@
 //! The number of earlier equal results for each result, which makes their fingerprints for GitLab different.
 ghost use Rattle.std.specs.Prelude.{◌≡◌, ◌<◌, ◌+◌, ◌^◌, ℕ, List, [], ◌++◌, bytes_eq, map, IfOk, OnOk, if◌then◌else◌};
 ghost use Rattle.sha2.specs.Sha256.{sha256};
+ghost use Rattle.sarif_model.specs.Internal.Hashed.{first_bits};
 ghost use Rattle.sarif_reports.specs.GitlabReport.{mark_of, quality_of};
 ghost use Rattle.sarif_reports.specs.Internal.GitlabObjects.{object_of, objects_after};
 ghost use Rattle.sarif_reports.specs.GitlabParts.{identity_of, identity_with};
-ghost use Rattle.sarif_reports.specs.GitlabParts.{rank_text, number_in, number_of, counted};
+ghost use Rattle.sarif_reports.specs.GitlabParts.{rank_text, number_of, counted};
 
 use crate::identities::Identity;
 use crate::ranked::Ranked;
@@ -14,8 +15,8 @@ use std::alloc::{AllocError, Global};
 use std::collections::BTreeMap;
 
 /// The first 64 bits of a digest. Nobody can choose identities so that many of them share these bits.
-fn number_in(digest: &[u8; 32]) -> u64
-    ensures { result ≡ number_in digest.now }
+fn first_bits(digest: &[u8; 32]) -> u64
+    ensures { result ≡ first_bits digest.now }
 {
     u64::from_be_bytes([
         digest[0], digest[1], digest[2], digest[3], digest[4], digest[5], digest[6], digest[7],
@@ -30,7 +31,7 @@ fn key_of(identity: &Identity) -> Result<(u64, Text), AllocError>
     ensures text { IfOk result (λ key. key.1 ≡ identity.now.text) }
 {
     let text = identity.text.clone()?;
-    Ok((number_in(&identity.first), text))
+    Ok((first_bits(&identity.first), text))
 }
 
 /// Counts a result with this identity: how many with it were counted before. Most have none, and are looked up once.

@@ -21,7 +21,7 @@ use Rattle.sarif_findings.specs.Reported.{reported_of}
 use Rattle.sarif_findings.specs.declared.reporting.Reporting.{Reporting}
 use Rattle.sarif_model.specs.Run.{runs_of}
 use Rattle.sarif_counts.specs.CountOf.{count_of}
-use Rattle.sarif_counts.specs.Policy.{hits_of}
+use Rattle.sarif_counts.specs.Hits.{hits_of}
 use Rattle.serde_json.specs.Data.{Data}
 use Rattle.sarif_shown.specs.declared.escaping.Escaping.TheVariants.{IssueMessage, IssueProperty}
 use Rattle.sarif_shown.specs.Escaped.{escaped, escaped_char, issue_message_char, issue_property_char}
@@ -30,7 +30,7 @@ use Rattle.sarif_shown.specs.AzureLaws.{AreIssues, IsWithinLine, is_within_prope
 use Rattle.sarif_shown.proofs.EscapedApart.{decimal_digits}
 use Rattle.sarif_shown.specs.Listed.{hits_among, listed, others_among}
 use Rattle.sarif_shown.proofs.GithubApart.{escaped_shown}
-use Rattle.sarif_shown.proofs.ListedMore.{filter_told, hits_counted, length_listed, lines_parted, listed_told}
+use Rattle.sarif_shown.proofs.ListedMore.{hits_counted, hits_told, length_listed, lines_parted, listed_told}
 use Rattle.sarif_shown.proofs.TextApart.{is_plain, plain_bytes, decimal_plain, level_plain, state_plain}
 
 -- ---- no property ends in a string of a log
@@ -349,7 +349,7 @@ pub hit_issues : (reporting : Reporting) (log : Data)
     → AreIssues (hits_of (count_of (runs_of log)) reporting.policy) (flat_map azure_line (hits_among (reported_of reporting log)))
 hit_issues reporting log =
     let fs = reported_of reporting log in
-    subst (λ n. AreIssues n (azure_lines_of (hits_among fs))) (hits_counted reporting log) (all_issues (hits_among fs) (filter_told (λ f. f.hit) fs (all_told reporting log)))
+    subst (λ n. AreIssues n (azure_lines_of (hits_among fs))) (hits_counted reporting log) (all_issues (hits_among fs) (hits_told fs (all_told reporting log)))
 
 pub hits_first : (reporting : Reporting) (log : Data)
     → azure_of (reported_of reporting log)

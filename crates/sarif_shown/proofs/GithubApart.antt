@@ -24,9 +24,9 @@ use Rattle.sarif_findings.proofs.HighBytes.{high_apart, char_kept}
 use Rattle.sarif_shown.proofs.TextApart.{is_plain, seen_in_line, same_ends, decimal_plain}
 use Rattle.sarif_model.specs.Run.{runs_of}
 use Rattle.sarif_counts.specs.CountOf.{count_of}
-use Rattle.sarif_counts.specs.Policy.{hits_of}
+use Rattle.sarif_counts.specs.Hits.{hits_of}
 use Rattle.sarif_shown.specs.Listed.{hits_among, listed, others_among}
-use Rattle.sarif_shown.proofs.ListedMore.{filter_told, hits_counted, length_listed, lines_parted, listed_told}
+use Rattle.sarif_shown.proofs.ListedMore.{hits_counted, hits_told, length_listed, lines_parted, listed_told}
 use Rattle.sarif_findings.proofs.ToldFindings.{IsShown, IsPath, IsTold, all_told}
 
 -- what follows within a line, with this number of ends of lines
@@ -173,7 +173,7 @@ pub hit_lines : (reporting : Reporting) (log : Data)
     → count_by (λ b. b == 10) (flat_map github_line (hits_among (reported_of reporting log))) ≡ hits_of (count_of (runs_of log)) reporting.policy
 hit_lines reporting log =
     let fs = reported_of reporting log in
-    (all_lines (hits_among fs) (filter_told (λ f. f.hit) fs (all_told reporting log))).ends ∙ hits_counted reporting log
+    (all_lines (hits_among fs) (hits_told fs (all_told reporting log))).ends ∙ hits_counted reporting log
 
 pub hits_first : (reporting : Reporting) (log : Data)
     → github_of (reported_of reporting log)

@@ -5,6 +5,7 @@ pub mod GithubApart
 pub mod LinesMore
 pub mod LinksApart
 pub mod ListedMore
+pub mod ListedSorted
 pub mod PathsApart
 pub mod SeenTexts
 pub mod TextApart

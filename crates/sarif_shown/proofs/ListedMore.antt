@@ -1,55 +1,89 @@
--- The listed results.
-use Rattle.std.proofs.Common.{◌≡◌, ◌+◌, ◌++◌, ℕ, Bool, true, false, not, cond, List, [], ◌∷◌, length, length-append, ap, sym, ◌∙◌, arith}
-use Rattle.std.specs.List.{AllByRecursion, filter}
-use Rattle.sarif_findings.specs.declared.finding.Finding.{Finding}
-use Rattle.sarif_findings.proofs.ToldFindings.{IsTold}
-use Rattle.sarif_shown.specs.Listed.{hits_among, others_among, listed}
+-- The listed results: each of them once, and what is true for all of them.
+use Rattle.std.proofs.Common.{◌≡◌, ◌==◌, ◌++◌, ℕ, Bool, true, false, cond, List, [], ◌∷◌, length, IsPermutation, ap, sym, refl, ◌∙◌}
+use Rattle.std.specs.List.{AllByRecursion, count_by, filter}
 use Rattle.std.specs.Prelude.{take, drop, flat_map}
 use Rattle.std.proofs.Math.Seq.{take-append_seam, drop-append_seam}
 use Rattle.std.proofs.lemmas.Grind.{flat_map-append}
+use Rattle.std.proofs.lemmas.List.Elements.{All-filter, All-from_recursion, recursion_from_All}
+use Rattle.std.proofs.lemmas.List.Sorted.{All-permutation, IsPermutation-append, IsPermutation-append_right, IsPermutation-cons, IsPermutation-filter_both, IsPermutation-middle, IsPermutation-refl, IsPermutation-sym, IsPermutation-trans, length_permutation, sum_by-IsPermutation}
 use Rattle.std.proofs.lemmas.List.Sums.{length-filter}
 use Rattle.serde_json.specs.Data.{Data}
+use Rattle.sarif_model.specs.declared.kinds.Level.{Level}
+use Rattle.sarif_model.specs.declared.kinds.Level.TheVariants.{NoLevel, Note, Warning, Error}
+use Rattle.sarif_model.specs.Level.{severity}
 use Rattle.sarif_model.specs.Run.{runs_of}
 use Rattle.sarif_counts.specs.CountOf.{count_of}
-use Rattle.sarif_counts.specs.Policy.{hits_of}
+use Rattle.sarif_counts.specs.Hits.{hits_of}
+use Rattle.sarif_findings.specs.declared.finding.Finding.{Finding}
 use Rattle.sarif_findings.specs.declared.reporting.Reporting.{Reporting}
 use Rattle.sarif_findings.specs.Reported.{reported_of}
 use Rattle.sarif_findings.proofs.HitsReported.{hits_reported}
+use Rattle.sarif_findings.proofs.ToldFindings.{IsTold}
+use Rattle.sarif_shown.specs.Listed.{by_level, hits_among, is_one, listed, of_level, others_among}
 
-halves_by : (b : Bool) (f : Finding) (hs os : List Finding) (n : ℕ) → length hs + length os ≡ n
-    → length (cond b (f ∷ hs) hs) + length (cond (not b) (f ∷ os) os) ≡ n + 1
-halves_by true f hs os n e = omega (arith, e)
-halves_by false f hs os n e = omega (arith, e)
+-- ---- each result once
 
-pub halves : (fs : List Finding) → length (hits_among fs) + length (others_among fs) ≡ length fs
-halves [] = omega arith
-halves (f ∷ fs) =
-    let more = halves_by f.hit f (hits_among fs) (others_among fs) (length fs) (halves fs) in
-    omega (arith, more)
+-- x goes past these elements
+into : (x : Finding) (xs ys zs : List Finding) → IsPermutation (x ∷ ys) zs → IsPermutation (x ∷ (xs ++ ys)) (xs ++ zs)
+into x xs ys zs h =
+    IsPermutation-trans _ _ _ (IsPermutation-sym _ _ (IsPermutation-middle xs x ys)) (IsPermutation-append_right xs (x ∷ ys) zs h)
 
--- each result is listed once
+-- a result becomes the first of its level
+placed : (l : Level) (x : Finding) (a b c d : List Finding)
+    → IsPermutation (x ∷ (a ++ (b ++ (c ++ d))))
+    (cond (severity l == severity Error) (x ∷ a) a ++ (cond (severity l == severity Warning) (x ∷ b) b
+    ++ (cond (severity l == severity Note) (x ∷ c) c ++ cond (severity l == severity NoLevel) (x ∷ d) d)))
+placed Error x a b c d = IsPermutation-refl (x ∷ (a ++ (b ++ (c ++ d))))
+placed Warning x a b c d = into x a (b ++ (c ++ d)) (x ∷ (b ++ (c ++ d))) (IsPermutation-refl (x ∷ (b ++ (c ++ d))))
+placed Note x a b c d =
+    into x a (b ++ (c ++ d)) (b ++ (x ∷ (c ++ d))) (into x b (c ++ d) (x ∷ (c ++ d)) (IsPermutation-refl (x ∷ (c ++ d))))
+placed NoLevel x a b c d =
+    into x a (b ++ (c ++ d)) (b ++ (c ++ (x ∷ d)))
+    (into x b (c ++ d) (c ++ (x ∷ d)) (into x c d (x ∷ d) (IsPermutation-refl (x ∷ d))))
+
+pub level_permutes : (fs : List Finding) → IsPermutation fs (by_level fs)
+unfolding by_level
+level_permutes [] = IsPermutation-refl []
+level_permutes (f ∷ fs) =
+    IsPermutation-trans _ _ _ (IsPermutation-cons f fs (by_level fs) (level_permutes fs))
+    (placed f.level f (of_level Error fs) (of_level Warning fs) (of_level Note fs) (of_level NoLevel fs))
+
+pub listed_permutes : (fs : List Finding) → IsPermutation fs (listed fs)
+listed_permutes fs =
+    let hits = filter (is_one true) fs in
+    let others = filter (is_one false) fs in
+    IsPermutation-trans _ _ _ (IsPermutation-filter_both (is_one true) (is_one false) (λ f. refl) fs)
+    (IsPermutation-append hits (by_level hits) others (by_level others) (level_permutes hits) (level_permutes others))
+
 pub length_listed : (fs : List Finding) → length (listed fs) ≡ length fs
-length_listed fs = length-append (hits_among fs) (others_among fs) ∙ halves fs
+length_listed fs = length_permutation fs (listed fs) (listed_permutes fs)
 
-told_by : (b : Bool) (f : Finding) (fs : List Finding) → IsTold f → AllByRecursion IsTold fs → AllByRecursion IsTold (cond b (f ∷ fs) fs)
-told_by true f fs h rest = (h, rest)
-told_by false f fs h rest = rest
+-- as many of the listed results pass a test as of the reported ones
+pub counted_listed : (p : Finding → Bool) (fs : List Finding) → count_by p (listed fs) ≡ count_by p fs
+counted_listed p fs = sum_by-IsPermutation (λ f. cond (p f) 1 0) fs (listed fs) (listed_permutes fs)
 
-pub filter_told : (test : Finding → Bool) (fs : List Finding) → AllByRecursion IsTold fs → AllByRecursion IsTold (filter test fs)
-filter_told test [] h = tt
-filter_told test (f ∷ fs) h = told_by (test f) f (filter test fs) h.0 (filter_told test fs h.1)
+-- ---- what is true for all reported results is true for all listed ones
 
-append_told : (fs gs : List Finding) → AllByRecursion IsTold fs → AllByRecursion IsTold gs → AllByRecursion IsTold (fs ++ gs)
-append_told [] gs h rest = rest
-append_told (f ∷ fs) gs h rest = (h.0, append_told fs gs h.1 rest)
+told_permuted : (fs gs : List Finding) → IsPermutation fs gs → AllByRecursion IsTold fs → AllByRecursion IsTold gs
+told_permuted fs gs moved h = recursion_from_All IsTold gs (All-permutation IsTold fs gs moved (All-from_recursion IsTold fs h))
 
 pub listed_told : (fs : List Finding) → AllByRecursion IsTold fs → AllByRecursion IsTold (listed fs)
-listed_told fs h =
-    append_told (hits_among fs) (others_among fs) (filter_told (λ f. f.hit) fs h) (filter_told (λ f. not f.hit) fs h)
+listed_told fs h = told_permuted fs (listed fs) (listed_permutes fs) h
+
+pub hits_told : (fs : List Finding) → AllByRecursion IsTold fs → AllByRecursion IsTold (hits_among fs)
+hits_told fs h =
+    let hits = filter (is_one true) fs in
+    told_permuted hits (by_level hits) (level_permutes hits)
+    (recursion_from_All IsTold hits (All-filter (is_one true) IsTold fs (All-from_recursion IsTold fs h)))
+
+-- ---- the hits first
 
 -- the hits of a log are as many as the gate counts
 pub hits_counted : (reporting : Reporting) (log : Data) → length (hits_among (reported_of reporting log)) ≡ hits_of (count_of (runs_of log)) reporting.policy
-hits_counted reporting log = length-filter (λ f. f.hit) (reported_of reporting log) ∙ hits_reported reporting log
+hits_counted reporting log =
+    let hits : List Finding = filter (is_one true) (reported_of reporting log) in
+    length_permutation hits (by_level hits) (level_permutes hits) ∙ length-filter (is_one true) (reported_of reporting log)
+    ∙ hits_reported reporting log
 
 pub hits_first : (reporting : Reporting) (log : Data)
     → take (hits_of (count_of (runs_of log)) reporting.policy) (listed (reported_of reporting log)) ≡ hits_among (reported_of reporting log)

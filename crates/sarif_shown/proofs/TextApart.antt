@@ -27,9 +27,9 @@ use Rattle.sarif_findings.proofs.SeenMore.{shown_seen, shown_apart}
 use Rattle.sarif_findings.proofs.ToldFindings.{IsShown, IsPath, IsTold, all_told}
 use Rattle.sarif_model.specs.Run.{runs_of}
 use Rattle.sarif_counts.specs.CountOf.{count_of}
-use Rattle.sarif_counts.specs.Policy.{hits_of}
+use Rattle.sarif_counts.specs.Hits.{hits_of}
 use Rattle.sarif_shown.specs.Listed.{hits_among, listed, others_among}
-use Rattle.sarif_shown.proofs.ListedMore.{filter_told, hits_counted, length_listed, lines_parted, listed_told}
+use Rattle.sarif_shown.proofs.ListedMore.{hits_counted, hits_told, length_listed, lines_parted, listed_told}
 
 -- ---- what follows within a line: after any character, or after one that is no `#`
 
@@ -287,7 +287,7 @@ pub hit_lines : (reporting : Reporting) (log : Data)
 hit_lines reporting log =
     let fs = reported_of reporting log in
     subst (λ n. IsTextOfLines n (flat_map text_line (hits_among fs))) (hits_counted reporting log)
-    (all_lines (hits_among fs) (filter_told (λ f. f.hit) fs (all_told reporting log)))
+    (all_lines (hits_among fs) (hits_told fs (all_told reporting log)))
 
 pub hits_first : (reporting : Reporting) (log : Data)
     → text_lines_of (reported_of reporting log)

@@ -1,9 +1,9 @@
 -- What reports are made from.
 use Rattle.std.specs.Prelude.{ℕ, List, Option, option_map}
 use Rattle.sarif_counts.specs.declared.life.Life.{Life}
-use Rattle.sarif_counts.specs.declared.policy.Policy.{Policy}
+use Rattle.sarif_options.specs.declared.policy.Policy.{Policy}
 use Rattle.sarif_counts.specs.Counts.{count_at}
-use Rattle.sarif_counts.specs.Policy.{Count}
+use Rattle.sarif_counts.specs.Hits.{Count}
 use Rattle.sarif_findings.specs.declared.finding.Finding.{Finding}
 use Rattle.sarif_shown.specs.declared.told.Told.{Told}
 

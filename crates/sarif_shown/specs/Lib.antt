@@ -9,6 +9,7 @@ pub mod GithubLaws
 pub mod GithubReport
 pub mod Internal
 pub mod Listed
+pub mod ListedLaws
 pub mod Sentences
 pub mod TextLaws
 pub mod TextReport

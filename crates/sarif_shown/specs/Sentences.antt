@@ -1,8 +1,8 @@
 -- Sentences that several reports share.
 use Rattle.std.specs.Prelude.{ℕ, List, ◌++◌, ◌==◌, codes, if◌then◌else◌}
 use Rattle.std.specs.Fmt.{decimal}
-use Rattle.sarif_counts.specs.declared.policy.Verdict.{Verdict}
-use Rattle.sarif_counts.specs.Policy.{verdict_name}
+use Rattle.sarif_counts.specs.declared.gate_verdict.Verdict.{Verdict}
+use Rattle.sarif_counts.specs.Hits.{verdict_name}
 
 -- a number and what it counts: in the singular for 1
 abbrev pub counted : ℕ → List ℕ → List ℕ → List ℕ
@@ -44,6 +44,15 @@ more_of_both n hits = more_with n (counted hits (codes " of them a hit.") (codes
 abbrev pub more_text : ℕ → ℕ → List ℕ
 more_text n hits =
     if hits == n then more_hits n else (if hits == 0 then more_others n else more_of_both n hits)
+
+-- how to accept the hits; each part of a command is between `before` and `after`
+abbrev pub accept_text : List ℕ → List ℕ → ℕ → List ℕ
+accept_text before after hits =
+    codes "To accept " ++ ((if hits == 1 then codes "this hit" else codes "these hits")
+    ++ (codes ", run the same merge with "
+    ++ (before ++ (codes "--accept --reason TEXT --suppress-out FILE" ++ (after
+    ++ (codes ", review FILE, and pass "
+    ++ (before ++ (codes "--suppress FILE" ++ (after ++ codes " from then on.")))))))))
 
 -- how many input runs have no results
 abbrev pub runs_text : ℕ → List ℕ

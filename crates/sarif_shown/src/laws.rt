@@ -1,11 +1,12 @@
 //! Laws of what reports show, and of the reports of one line per result. Each law is the contract of a function that
 //! does nothing. A log may be hostile, so the laws cover any strings.
-ghost use Rattle.std.specs.Prelude.{◌≡◌, ◌==◌, ◌++◌, ℕ, List, true, false};
+ghost use Rattle.std.specs.Prelude.{◌≡◌, ◌==◌, ◌++◌, ℕ, Bool, List, AllPairs, IsPermutation, true, false};
 ghost use Rattle.std.specs.Prelude.{drop, flat_map, length, take};
 ghost use Rattle.std.specs.List.{All, AllByRecursion, count_by, list_all};
 ghost use Rattle.serde_json.specs.Data.{Data};
+ghost use Rattle.sarif_model.specs.declared.kinds.Level.{Level};
 ghost use Rattle.sarif_model.specs.Run.{runs_of};
-ghost use Rattle.sarif_counts.specs.Policy.{hits_of};
+ghost use Rattle.sarif_counts.specs.Hits.{hits_of};
 ghost use Rattle.sarif_counts.specs.CountOf.{count_of};
 ghost use Rattle.sarif_findings.specs.declared.finding.Finding.{Finding};
 ghost use Rattle.sarif_shown.specs.declared.escaping.Escaping.TheVariants.{IssueProperty};
@@ -16,6 +17,7 @@ ghost use Rattle.sarif_shown.specs.GithubLaws.{are_commands};
 ghost use Rattle.sarif_shown.specs.FindingLaws.{IsNamed, has_target};
 ghost use Rattle.sarif_shown.specs.GithubReport.{github_line, github_of};
 ghost use Rattle.sarif_shown.specs.Listed.{hits_among, listed, others_among};
+ghost use Rattle.sarif_shown.specs.ListedLaws.{MayPrecede, of_standing};
 ghost use Rattle.sarif_findings.specs.Links.{unlinked};
 ghost use Rattle.sarif_findings.specs.declared.reporting.Reporting.{Reporting};
 ghost use Rattle.sarif_findings.specs.Reported.{reported_of};
@@ -52,9 +54,14 @@ pub fn paths_begin_with_names()
     ensures { (reporting : Reporting) (log : Data) → All IsNamed (reported_of reporting log) }
 {}
 
-/// The first of the listed results are the hits, as many as the gate counts, and those after them are the others. Both
-/// are in the order of the merged log. So each reported result is listed once.
-pub fn listed_results_begin_with_the_hits()
+/// Reports list each reported result once: a hit before every other result, and among the hits and among the others
+/// none before a worse one. Those of one level stay in the order of the merged log. The first of them are the hits, as
+/// many as the gate counts.
+pub fn listed_results_are_sorted()
+    ensures once { (findings : List Finding) → IsPermutation findings (listed findings) }
+    ensures sorted { (findings : List Finding) → AllPairs MayPrecede (listed findings) }
+    ensures stable { (hit : Bool) (level : Level) (findings : List Finding) →
+        of_standing hit level (listed findings) ≡ of_standing hit level findings }
     ensures hits { (reporting : Reporting) (log : Data) →
         take (hits_of (count_of (runs_of log)) reporting.policy)
         (listed (reported_of reporting log)) ≡ hits_among (reported_of reporting log) }

@@ -19,12 +19,14 @@ pub use escaping::Escaping;
 pub use github_lines::github_report;
 pub use laws::{
     azure_lines_are_commands, azure_properties_hold_no_end, github_lines_begin_with_commands,
-    listed_results_begin_with_the_hits, messages_without_targets_stay, paths_begin_with_names,
+    listed_results_are_sorted, messages_without_targets_stay, paths_begin_with_names,
     reported_hits_are_counted, shown_signs_stand_apart, shown_texts_are_seen,
     text_reports_have_a_line_a_result,
 };
 pub use listing::{listed, push_hits, push_others};
 pub use place::{push_numbered, push_path, push_place};
-pub use sentences::{counted, entries_text, gate_end, gate_text, hits_text, more_text, runs_text};
+pub use sentences::{
+    accept_text, counted, entries_text, gate_end, gate_text, hits_text, more_text, runs_text,
+};
 pub use text_lines::{push_result_line, text_report};
 pub use told::Told;

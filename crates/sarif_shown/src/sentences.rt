@@ -77,6 +77,22 @@ pub fn more_text(alloc: Global, number: usize, hits: usize) -> Result<String, Al
     more_of_both(alloc, number, hits)
 }
 
+/// Returns how to accept the hits, with each part of a command between `before` and `after`. Returns `AllocError` if
+/// memory runs out.
+pub fn accept_text(
+    alloc: Global,
+    hits: u32,
+    before: &str,
+    after: &str,
+) -> Result<String, AllocError>
+    ensures { IfOk result (λ s. string_bytes s ≡ said.accept_text before.now after.now hits) }
+{
+    let them = if hits == 1 { "this hit" } else { "these hits" };
+    format!(in alloc;
+        "To accept {them}, run the same merge with {before}--accept --reason TEXT --suppress-out FILE{after}, review FILE, and pass {before}--suppress FILE{after} from then on."
+    )
+}
+
 /// Returns how many input runs have no results. Returns `AllocError` if memory runs out.
 pub fn runs_text(alloc: Global, number: u32) -> Result<String, AllocError>
     ensures { IfOk result (λ s. string_bytes s ≡ said.runs_text number) }

@@ -1,6 +1,7 @@
 //! The input of reports.
-use sarif_counts::{Counts, Life, Policy};
+use sarif_counts::{Counts, Life};
 use sarif_findings::Finding;
+use sarif_options::Policy;
 use std::hash::RandomState;
 
 /// What reports are made from: the results of the merged log, counted, the policy of the gate, and the findings.

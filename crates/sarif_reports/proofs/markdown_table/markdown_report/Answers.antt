@@ -1,0 +1,28 @@
+use Rattle.std.proofs.Common.{rules, ◌≡◌, ◌∙◌, ◌≤◌, ◌<◌, ◌^◌, ◌++◌, List, ℕ, length, string_bytes, ap, sym, subst, refl}
+use Rattle.sarif_counts.specs.Hits.{hits_of, verdict_of}
+use Rattle.sarif_shown.specs.Facts.{Facts, facts_of}
+use Rattle.sarif_reports.specs.MarkdownReport.{accept_line, counts_table, heading, notes, paragraph, results_table}
+use Rattle.sarif_reports.proofs.MarkdownShort.{count_few, parts_few}
+use Rattle.sarif_reports.proofs.markdown_table.markdown_report.Goals as goal
+
+pub returns-clause-short : goal.returns-clause-short
+returns-clause-short c =
+    let facts : Facts = facts_of c.args.told.now in
+    let first : string_bytes c.in_ok-text.text ≡ heading (verdict_of facts.count facts.policy) (hits_of facts.count facts.policy) facts.policy.max =
+    c.in_ok-text.ensures ∙ rw (c.verdict.ensures, c.hits-hits.ensures) refl in
+    let fourth : string_bytes c.push_results.new.text
+    ≡ ((heading (verdict_of facts.count facts.policy) (hits_of facts.count facts.policy) facts.policy.max ++ counts_table facts.count) ++ paragraph (notes facts.without facts.unused)) ++ results_table facts.findings =
+    c.in_ok-push_results.ensures
+    ∙ ap (λ bytes. bytes ++ results_table facts.findings)
+    (c.in_ok-push_notes.ensures ∙ ap (λ bytes. bytes ++ paragraph (notes facts.without facts.unused)) (c.in_ok-push_counts.ensures ∙ ap (λ bytes. bytes ++ counts_table facts.count) first)) in
+    let all : string_bytes c.push_accept.new.text
+    ≡ (((heading (verdict_of facts.count facts.policy) (hits_of facts.count facts.policy) facts.policy.max ++ counts_table facts.count) ++ paragraph (notes facts.without facts.unused)) ++ results_table facts.findings)
+    ++ paragraph (accept_line (hits_of facts.count facts.policy)) =
+    c.in_ok-push_accept.ensures ∙ ap (λ n. string_bytes c.push_results.new.text ++ paragraph (accept_line n)) c.hits-hits.ensures
+    ∙ ap (λ bytes. bytes ++ paragraph (accept_line (hits_of facts.count facts.policy))) fourth in
+    let max : facts.policy.max < 2 ^ 32 = search rules in
+    let without : facts.without < 2 ^ 32 = search rules in
+    let unused : facts.unused < 2 ^ 32 = search rules in
+    let findings : length facts.findings < 2 ^ 64 = search rules in
+    subst (λ bytes. length bytes ≤ 61000) (sym all)
+    (parts_few facts (record { counts = count_few c.args.told.now.counts.now; max = max; without = without; unused = unused; findings = findings }))
