@@ -1,5 +1,5 @@
 //! Makes public calls of the crates that gather work and whole merges, including calls that the merge does not make, and
-//! prints their results. Each line of standard input is a call and its input. In `tests/calls`, allocations of this
+//! prints their results. Each line of standard input is a call and its input. In `tests/program/calls`, allocations of this
 //! program fail.
 #![tactic(auto)]
 

@@ -1,9 +1,9 @@
 //! Whole merges by four workers, of bytes and from readers into a writer.
 ghost use Rattle.sarif_streams.specs.Room.{HaveRoom};
 
-use sarif_counts::{Checks, Options, Policy};
 use sarif_gather::NoGate;
 use sarif_merge::{merge_bytes, merge_to};
+use sarif_options::{Checks, Options, Policy};
 use sarif_streams::{Counted, Readers, SourceBytes};
 use std::alloc::{AllocError, Global};
 use std::hash::RandomState;

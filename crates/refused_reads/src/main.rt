@@ -1,5 +1,5 @@
 //! Makes public calls that read, match, suppress and count, including calls that the merge does not make, and prints
-//! their results. Each line of standard input is a call and its input. In `tests/calls`, allocations of this program
+//! their results. Each line of standard input is a call and its input. In `tests/program/calls`, allocations of this program
 //! fail.
 #![tactic(auto)]
 
@@ -7,8 +7,10 @@ mod matching;
 mod reading;
 mod suppressing;
 
-use sarif_counts::{Counts, Policy, summary};
+use sarif_arguments::arguments_in;
+use sarif_counts::{Counts, summary};
 use sarif_model::{Level, State};
+use sarif_options::Policy;
 use std::alloc::{AllocError, Global};
 use std::hash::RandomState;
 use std::io;
@@ -43,7 +45,20 @@ fn answer_to(alloc: Global, seed: RandomState, line: &str) -> Result<String, All
         "apply" => suppressing::applied_in_words(alloc, seed, given),
         "object" => suppressing::answer_of(alloc, given, Asked::Object),
         "summary" => summary_in_words(alloc),
+        "arguments_in" => arguments_in_words(alloc, given),
         _ => String::from_str(alloc, "no such call"),
+    }
+}
+
+// The arguments in a file with these lines, which have a semicolon for each line feed.
+fn arguments_in_words(alloc: Global, given: &str) -> Result<String, AllocError> {
+    let mut file = Vec::new(alloc);
+    for byte in given.bytes() {
+        file.push(if byte == b';' { b'\n' } else { byte })?;
+    }
+    match arguments_in(alloc, file.as_slice()) {
+        Ok(words) => format!(in alloc; "{words:?}"),
+        Err(fault) => format!(in alloc; "{fault}"),
     }
 }
 

@@ -1,6 +1,6 @@
 -- The entries of a file that is read, as its new file has them.
 use Rattle.std.proofs.Common.{◌≡◌, ℕ, List, [], map, Option, Some, None, codes, refl, sym, ap, ◌∙◌}
-use Rattle.std.specs.Prelude.{Result, Ok, option_and_then, if◌then◌else◌, Bool, true, false}
+use Rattle.std.specs.Prelude.{Result, Ok, option_and_then, if◌then◌else◌, Bool, true, false, ok_or}
 use Rattle.std.specs.Str.{is_utf8}
 use Rattle.std.specs.List.{AllByRecursion}
 use Rattle.serde_json.specs.Data.{Data, null, boolean, number, string, array, object, Items, no_items, item, no_members}
@@ -20,10 +20,12 @@ use Rattle.sarif_entries.specs.declared.entry.Entry.{Entry}
 use Rattle.sarif_entries.specs.declared.fault.FileFault.{FileFault}
 use Rattle.sarif_entries.specs.declared.version.Version.{Version}
 use Rattle.sarif_entries.specs.declared.version.Version.TheVariants.{First}
-use Rattle.sarif_entries.specs.File.{File, entries_from, file_of, file_of_value, value_or, check_list, list_or, check_version, check_count}
+use Rattle.sarif_entries.specs.File.{File, entries_from, file_of, file_of_value, check_list, list_or, check_version, check_count}
 use Rattle.sarif_accept.specs.NewFile.{file_object, entries_in, entry_in}
-use Rattle.sarif_accept.specs.Given.{file_given}
+use Rattle.sarif_entries.specs.Given.{file_or_none}
 use Rattle.sarif_accept.proofs.EntryWhole.{both, entries_whole}
+use Rattle.sarif_entries.specs.FileFault.{whole}
+use Rattle.sarif_model.specs.declared.fault.Fault.TheVariants.{NotJson}
 
 -- a value that is read is ordered
 pub json_ordered : (bytes : List ℕ) (d : Data) → json_of bytes ≡ Some d → IsOrdered d
@@ -77,10 +79,10 @@ read_of_value d today file ordered is =
     let entries_are : entries_in d ≡ s1.value = ap (map entry_in) same ∙ whole in
     given_at d s2.value today s4.value file (rw entries_are s4.first) (the_file (record { entries = s4.value; today = today }) file s4.second)
 
-value_given : (bytes : List ℕ) (d : Data) → value_or (json_of bytes) ≡ Ok d → json_of bytes ≡ Some d
+value_given : (bytes : List ℕ) (d : Data) → ok_or (json_of bytes) (whole NotJson) ≡ Ok d → json_of bytes ≡ Some d
 value_given bytes d is = by_value (json_of bytes) is
   where
-    by_value : (o : Option Data) → value_or o ≡ Ok d → o ≡ Some d
+    by_value : (o : Option Data) → ok_or o (whole NotJson) ≡ Ok d → o ≡ Some d
     by_value None is = let never : ⊥ = cc in absurd never
     by_value (Some e) is = ap Some (cc)
 
@@ -88,11 +90,11 @@ none : (today : Option ℕ) → entries_from First today 0 [] ≡ Ok []
 unfolding entries_from
 none today = refl
 
-pub entries_given : (given : Option (List ℕ)) (today : Option ℕ) (file : File) → file_given given today ≡ Ok file → Given (file_object given) file
+pub entries_given : (given : Option (List ℕ)) (today : Option ℕ) (file : File) → file_or_none given today ≡ Ok file → Given (file_object given) file
 unfolding file_of
 entries_given None today file is = given_at (object no_members) First today [] file (none today) (the_file (record { entries = []; today = today }) file is)
 entries_given (Some bytes) today file is =
-    let s1 = both (value_or (json_of (without_mark bytes))) _ file is in
+    let s1 = both (ok_or (json_of (without_mark bytes)) (whole NotJson)) _ file is in
     let found : json_of (without_mark bytes) ≡ Some s1.value = value_given (without_mark bytes) s1.value s1.first in
     rw found (read_of_value s1.value today file (json_ordered (without_mark bytes) s1.value found) s1.second)
 
@@ -106,7 +108,7 @@ value_today d today file is =
     let s4 = both (entries_from s2.value today 0 s1.value) _ file s3.second in
     ap (λ f. f.today) (sym (the_file (record { entries = s4.value; today = today }) file s4.second))
 
-pub today_given : (given : Option (List ℕ)) (today : Option ℕ) (file : File) → file_given given today ≡ Ok file → file.today ≡ today
+pub today_given : (given : Option (List ℕ)) (today : Option ℕ) (file : File) → file_or_none given today ≡ Ok file → file.today ≡ today
 unfolding file_of
 today_given None today file is = ap (λ f. f.today) (sym (the_file (record { entries = []; today = today }) file is))
-today_given (Some bytes) today file is = let s1 = both (value_or (json_of (without_mark bytes))) _ file is in value_today s1.value today file s1.second
+today_given (Some bytes) today file is = let s1 = both (ok_or (json_of (without_mark bytes)) (whole NotJson)) _ file is in value_today s1.value today file s1.second

@@ -1,6 +1,6 @@
 -- Entries of a file of an earlier version are the same in version 4.
 use Rattle.std.proofs.Common.{◌≡◌, ℕ, ◌+◌, Bool, true, false, ◌&&◌, ◌||◌, not, List, [], ◌∷◌, ◌++◌, map, Option, Some, None, option_map, bytes_eq, codes, refl, sym, ◌∙◌, if◌then◌else◌, true≢false}
-use Rattle.std.specs.Prelude.{⊤, Result, Ok, Err, filter, option_and_then}
+use Rattle.std.specs.Prelude.{⊤, Result, Ok, Err, filter, option_and_then, ok_or}
 use Rattle.std.proofs.lemmas.Bool.{and_from, and_parts, or_left, or_right}
 use Rattle.serde_json.specs.Data.{Data, Items, Members, no_members, member}
 use Rattle.serde_json.specs.Find.{as_object, as_str, as_number, as_u64, as_array}
@@ -16,7 +16,7 @@ use Rattle.sarif_entries.specs.declared.entry.Entry.{Entry}
 use Rattle.sarif_entries.specs.declared.fault.FileFault.{FileFault}
 use Rattle.sarif_entries.specs.declared.version.Version.{Version}
 use Rattle.sarif_entries.specs.declared.version.Version.TheVariants.{First, Second, Fourth}
-use Rattle.sarif_entries.specs.Entries.{unless_fault, check_object, check_members, includes, has_condition, has_member, are_members_of, read_as, with_condition, conditions_from, conditions_of, members_of, entry_of, guid_at, guid_or, text_if, text_or, texts_at, pairs_at, pairs_of_member, pairs_or, are_texts, pairs_of, day_at, day_of_member, day_or, is_day, status_at, status_or, status_of_name}
+use Rattle.sarif_entries.specs.Entries.{unless_fault, check_object, check_members, includes, has_condition, has_member, are_members_of, read_as, with_condition, conditions_from, conditions_of, members_of, entry_of, guid_at, guid_or, text_or, texts_at, pairs_at, pairs_of_member, pairs_or, are_texts, pairs_of, day_at, day_of_member, day_or, is_day, status_at, status_or}
 use Rattle.sarif_entries.specs.File.{entries_from}
 use Rattle.sarif_entries.specs.FileFault.{in_entry}
 use Rattle.sarif_entries.specs.declared.condition.ConditionKind.{ConditionKind}
@@ -127,7 +127,7 @@ module _ (v w : FileFault) where
       elements_gives : (o : Option Data) → Gives (elements_of (of_kind v as_array o)) (elements_of (of_kind w as_array o))
       elements_gives o = of_gives (of_kind v as_array o) (of_kind w as_array o) (kind_gives as_array o)
 
-      text_or_gives : (o : Option (List ℕ)) → Gives (text_if v o) (text_if w o)
+      text_or_gives : (o : Option (List ℕ)) → Gives (ok_or o v) (ok_or o w)
       text_or_gives None = tt
       text_or_gives (Some text) = refl
 
@@ -157,7 +157,7 @@ module _ (v w : FileFault) where
   status_gives : (name : List ℕ) (d : Data) → Gives (status_at v name d) (status_at w name d)
   status_gives name d = then_gives (text_at v name d) (text_at w name d) (status_or v) (status_or w) (text_gives name d) (λ o. or_gives o)
     where
-      name_gives : (o : Option Status) → Gives (status_of_name v o) (status_of_name w o)
+      name_gives : (o : Option Status) → Gives (ok_or o v) (ok_or o w)
       name_gives None = tt
       name_gives (Some status) = refl
 

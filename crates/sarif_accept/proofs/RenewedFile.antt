@@ -10,7 +10,7 @@ use Rattle.serde_json.specs.Written.{has_float}
 use Rattle.serde_json.proofs.Nesting.{depth-read}
 use Rattle.json_parts.specs.Indexed.{json_of}
 use Rattle.json_parts.specs.Mark.{without_mark}
-use Rattle.sarif_counts.specs.declared.upkeep.Renewal.{Renewal}
+use Rattle.sarif_options.specs.declared.upkeep.Renewal.{Renewal}
 use Rattle.sarif_model.specs.Limits.{most_bytes, most_entries}
 use Rattle.sarif_model.specs.declared.fault.Fault.TheVariants.{TooMany}
 use Rattle.sarif_model.specs.declared.merge_fault.Cause.{Cause}

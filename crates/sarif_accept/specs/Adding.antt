@@ -6,9 +6,9 @@ use Rattle.sarif_model.specs.declared.kinds.State.{State}
 use Rattle.sarif_model.specs.declared.kinds.Status.TheVariants.{Accepted}
 use Rattle.sarif_model.specs.declared.record.Record.{Record}
 use Rattle.sarif_model.specs.Status.{is_accepted}
-use Rattle.sarif_counts.specs.declared.policy.Policy.{Policy}
-use Rattle.sarif_counts.specs.declared.upkeep.Renewal.{Renewal}
-use Rattle.sarif_counts.specs.Policy.{are_hits}
+use Rattle.sarif_options.specs.declared.policy.Policy.{Policy}
+use Rattle.sarif_options.specs.declared.upkeep.Renewal.{Renewal}
+use Rattle.sarif_options.specs.Policy.{are_hits}
 use Rattle.sarif_entries.specs.declared.condition.Condition.{Condition}
 use Rattle.sarif_entries.specs.declared.condition.Condition.TheVariants.{Fingerprints, PartialFingerprints}
 use Rattle.sarif_entries.specs.declared.entry.Entry.{Entry}

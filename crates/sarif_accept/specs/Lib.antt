@@ -1,6 +1,5 @@
 pub mod Adding
 pub mod Entry
-pub mod Given
 pub mod Heard
 pub mod Internal
 pub mod Keeping

@@ -1,7 +1,7 @@
 -- The new suppression file, and why there is none.
 use Rattle.std.specs.Prelude.{ℕ, Bool, List, length, map, Option, Some, None, nat_lt, if◌then◌else◌}
 use Rattle.serde_json.specs.Data.{Data}
-use Rattle.sarif_counts.specs.declared.upkeep.Renewal.{Renewal}
+use Rattle.sarif_options.specs.declared.upkeep.Renewal.{Renewal}
 use Rattle.sarif_model.specs.Limits.{most_bytes, most_entries}
 use Rattle.sarif_model.specs.declared.fault.Fault.TheVariants.{TooMany}
 use Rattle.sarif_model.specs.declared.merge_fault.Cause.{Cause}

@@ -6,8 +6,8 @@ ghost use Rattle.sarif_model.specs.Written.{with_value};
 ghost use Rattle.sarif_accept.specs.Entry as said;
 
 use crate::asked::asked_members;
-use sarif_counts::Renewal;
 use sarif_model::{Record, Text};
+use sarif_options::Renewal;
 use serde_json::{Map, Value, put};
 use std::alloc::{AllocError, Global};
 

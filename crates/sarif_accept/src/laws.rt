@@ -19,7 +19,7 @@ ghost use Rattle.sarif_suppress.specs.Suppressing.{is_suppressed, is_unused, mat
 ghost use Rattle.sarif_suppress.specs.Written.{suppressions_of};
 ghost use Rattle.sarif_accept.specs.Adding.{How, Counts, is_hit, stays, added_for, entry_read, file_after};
 ghost use Rattle.sarif_accept.specs.Entry.{entry_for};
-ghost use Rattle.sarif_accept.specs.Given.{file_given};
+ghost use Rattle.sarif_entries.specs.Given.{file_or_none};
 ghost use Rattle.sarif_accept.specs.Keeping.{Heard, is_kept};
 ghost use Rattle.sarif_accept.specs.NewFile.{file_with};
 ghost use Rattle.sarif_accept.specs.Renewed.{renewed_entries, renewed_file};
@@ -108,7 +108,7 @@ pub fn pruning_changes_no_result()
 pub fn the_new_file_is_read()
     ensures { (how : How) (counts : Counts) (given : Option (List ℕ)) (today : Option ℕ)
         (file : File) (rs : List Record) (states : List State) (text : List ℕ)
-        → file_given given today ≡ Ok file
+        → file_or_none given today ≡ Ok file
         → AllByRecursion HasGuid (added_for how counts file rs states)
         → IsDated today how.renewal.until
         → length (renewed_entries given

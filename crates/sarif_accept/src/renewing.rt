@@ -18,8 +18,8 @@ use crate::indentation::is_too_indented;
 use crate::old_file::{Old, read_old};
 use crate::printing::print_file;
 use crate::weighing::are_too_long;
-use sarif_counts::Renewal;
 use sarif_model::{Cause, Fault, MOST_BYTES, MOST_ENTRIES, Record, Refusal};
+use sarif_options::Renewal;
 use serde_json::{Map, Value, put};
 use std::alloc::{AllocError, Global};
 

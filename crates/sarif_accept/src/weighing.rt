@@ -4,9 +4,9 @@ ghost use Rattle.sarif_model.specs.Limits.{most_bytes};
 ghost use Rattle.sarif_accept.specs.Internal.Weighing as said;
 
 use crate::asked::conditions_for;
-use sarif_counts::Renewal;
 use sarif_entries::Condition;
 use sarif_model::{MOST_BYTES, Record, Text};
+use sarif_options::Renewal;
 use std::alloc::{AllocError, Global};
 
 /// What is left of this number of bytes after a string; `None` if the string has more.

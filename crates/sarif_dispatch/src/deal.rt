@@ -10,7 +10,7 @@ mod hand;
 mod rule;
 mod state;
 
-use crate::deal::rule::{Counts, Draws, HandView, Joins, Shares, Terms};
+use crate::deal::rule::{Draws, HandView, Joins, Look, Shares, Terms};
 use crate::deal::state::Claims;
 use atomic_table::Seat;
 pub use hand::Hand;
@@ -73,7 +73,7 @@ impl Deal {
             spent: _,
         } = last;
         take_back(&self.claims, &mut all, hands);
-        let word = self.claims.shared.load::<Counts>(&mut all, 0);
+        let word = self.claims.shared.load::<Look>(&mut all, 0);
         word.min(self.runs as u64) as u32
     }
 }

@@ -9,7 +9,7 @@ use Rattle.serde_json.specs.Data.{Data, object}
 use Rattle.sarif_model.specs.declared.kinds.Status.{Status}
 use Rattle.sarif_model.specs.declared.kinds.Status.TheVariants.{Accepted, UnderReview, Rejected}
 use Rattle.sarif_model.specs.contracts.kinds.StatusPartialEq.TheImpl as status
-use Rattle.sarif_entries.specs.declared.key.Key.{Key}
+use Rattle.sarif_entries.specs.declared.key.EntryKey.{EntryKey}
 use Rattle.sarif_entries.specs.Internal.Keys.{texts_with, justification_of, has_key, same_key, status_in}
 use Rattle.sarif_model.specs.Written.{text_members}
 use Rattle.sarif_model.specs.Members.{text_in}
@@ -40,10 +40,10 @@ same_texts None (Some b) = refl
 same_texts (Some a) None = refl
 same_texts (Some a) (Some b) = refl
 
-same_parts : (k q : Key) → same_key k q ≡ (status.ghosts.eq k.status q.status && option_eq bytes_eq (justification_of k) (justification_of q))
+same_parts : (k q : EntryKey) → same_key k q ≡ (status.ghosts.eq k.status q.status && option_eq bytes_eq (justification_of k) (justification_of q))
 same_parts k q = ap (λ b. status.ghosts.eq k.status q.status && b) (same_texts k.justification q.justification)
 
-key_means : (k q : Key) → Decides (same_key k q) ((k.status ≡ q.status) × (justification_of k ≡ justification_of q))
+key_means : (k q : EntryKey) → Decides (same_key k q) ((k.status ≡ q.status) × (justification_of k ≡ justification_of q))
 key_means k q = rw (same_parts k q) (Decides-and _ _ (status_means k.status q.status) (text_means (justification_of k) (justification_of q)))
 
 -- ---- the members that are read from an object
@@ -61,7 +61,7 @@ read_text s None = refl
 read_text s (Some text) = refl
 
 -- an object with a key has what the key says
-reads : (q : Key) (d : Data) → has_key q d ≡ true → (status_in d ≡ Some q.status) × (text_in (codes "justification") d ≡ justification_of q)
+reads : (q : EntryKey) (d : Data) → has_key q d ≡ true → (status_in d ≡ Some q.status) × (text_in (codes "justification") d ≡ justification_of q)
 reads q d t =
     let is : d ≡ object (text_members (texts_with q.status (justification_of q))) = (texts_mean (texts_with q.status (justification_of q)) d).0 t in
     rw is (read_status q.status (justification_of q), read_text q.status (justification_of q))
@@ -72,7 +72,7 @@ from_both false true f g = g refl
 from_both false false f g = refl
 
 -- the keys of one object are equal, and no others have it
-pub told_by : (k q : Key) (d : Data) → has_key k d ≡ true → has_key q d ≡ same_key k q
+pub told_by : (k q : EntryKey) (d : Data) → has_key k d ≡ true → has_key q d ≡ same_key k q
 told_by k q d mine =
     let here : (status_in d ≡ Some k.status) × (text_in (codes "justification") d ≡ justification_of k) = reads k d mine in
     from_both _ _
@@ -84,11 +84,11 @@ told_by k q d mine =
     sym (rw (same.0, same.1) refl) ∙ mine)
 
 -- if no status is read, the value has no key
-pub no_status : (q : Key) (d : Data) → status_in d ≡ None → has_key q d ≡ false
+pub no_status : (q : EntryKey) (d : Data) → status_in d ≡ None → has_key q d ≡ false
 no_status q d none = false_from_ne_true _ (λ t. let found : status_in d ≡ Some q.status = (reads q d t).0 in cc)
 
 -- if the value lacks the key that is read, it has no key
-pub no_other : (k q : Key) (d : Data) → status_in d ≡ Some k.status → text_in (codes "justification") d ≡ justification_of k → has_key k d ≡ false → has_key q d ≡ false
+pub no_other : (k q : EntryKey) (d : Data) → status_in d ≡ Some k.status → text_in (codes "justification") d ≡ justification_of k → has_key k d ≡ false → has_key q d ≡ false
 no_other k q d status text unlike = false_from_ne_true _ (λ t.
     let there : (status_in d ≡ Some q.status) × (text_in (codes "justification") d ≡ justification_of q) = reads q d t in
     let one : k.status ≡ q.status = cc in

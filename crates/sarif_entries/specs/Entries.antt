@@ -1,5 +1,5 @@
 -- Reading the entries of the suppression file.
-use Rattle.std.specs.Prelude.{ℕ, ⊤, Bool, true, false, ◌&&◌, ◌||◌, ◌/◌, ◌%◌, List, [], ◌∷◌, Option, Some, None, Result, Ok, Err, option_and_then, option_map, nat_le, bytes_eq, codes, not, is_some, is_none, if◌then◌else◌}
+use Rattle.std.specs.Prelude.{ℕ, ⊤, Bool, true, false, ◌&&◌, ◌||◌, ◌/◌, ◌%◌, List, [], ◌∷◌, Option, Some, None, Result, Ok, Err, option_and_then, option_map, nat_le, bytes_eq, codes, not, is_some, is_none, if◌then◌else◌, ok_or}
 use Rattle.std.specs.List.{list_any}
 use Rattle.serde_json.specs.Data.{Data, null, boolean, number, string, array, object, Members, no_members, member}
 use Rattle.serde_json.specs.Find.{as_str, as_object, as_number, as_u64}
@@ -102,12 +102,8 @@ pairs_of_member wrong (Some d) = pairs_or wrong (as_object d)
 abbrev pub pairs_at : FileFault → List ℕ → Data → Result (List (List ℕ × List ℕ)) FileFault
 pairs_at wrong name d = pairs_of_member wrong (member_at name d)
 
-abbrev pub text_if : FileFault → Option (List ℕ) → Result (List ℕ) FileFault
-text_if wrong None = Err wrong
-text_if wrong (Some text) = Ok text
-
 abbrev pub text_or : FileFault → Data → Result (List ℕ) FileFault
-text_or wrong d = text_if wrong (as_str d)
+text_or wrong d = ok_or (as_str d) wrong
 
 -- the elements of the array of strings with that name; empty if it is missing
 abbrev pub texts_at : FileFault → List ℕ → Data → Result (List (List ℕ)) FileFault
@@ -133,13 +129,9 @@ day_of_member wrong (Some d) = day_or wrong (option_and_then as_u64 (as_number d
 abbrev pub day_at : FileFault → List ℕ → Data → Result (Option ℕ) FileFault
 day_at wrong name d = day_of_member wrong (member_at name d)
 
-abbrev pub status_of_name : FileFault → Option Status → Result Status FileFault
-status_of_name wrong None = Err wrong
-status_of_name wrong (Some status) = Ok status
-
 abbrev pub status_or : FileFault → Option (List ℕ) → Result Status FileFault
 status_or wrong None = Ok Accepted
-status_or wrong (Some text) = status_of_name wrong (status_named text)
+status_or wrong (Some text) = ok_or (status_named text) wrong
 
 -- the status of that name; `accepted` if it is missing
 abbrev pub status_at : FileFault → List ℕ → Data → Result Status FileFault

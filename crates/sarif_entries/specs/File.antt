@@ -1,5 +1,5 @@
 -- Reading the suppression file.
-use Rattle.std.specs.Prelude.{ℕ, ◌+◌, ⊤, List, [], ◌∷◌, length, Option, Some, None, Result, Ok, Err, option_and_then, nat_eq, nat_le, codes, if◌then◌else◌}
+use Rattle.std.specs.Prelude.{ℕ, ◌+◌, ⊤, List, [], ◌∷◌, length, Option, Some, None, Result, Ok, Err, option_and_then, nat_eq, nat_le, codes, if◌then◌else◌, ok_or}
 use Rattle.serde_json.specs.Data.{Data, Items}
 use Rattle.serde_json.specs.Find.{get, as_array, as_number, as_u64}
 use Rattle.sarif_model.specs.Members.{◌>>=◌, elements}
@@ -61,12 +61,8 @@ file_of_value today d = do
   es ← entries_from version today 0 ds
   Ok (record { entries = es; today = today })
 
-abbrev pub value_or : Option Data → Result Data FileFault
-value_or None = Err (whole NotJson)
-value_or (Some d) = Ok d
-
 -- the suppression file of these bytes, on that day
 unfoldable pub file_of : List ℕ → Option ℕ → Result File FileFault
 file_of bytes today = do
-  d ← value_or (json_of (without_mark bytes))
+  d ← ok_or (json_of (without_mark bytes)) (whole NotJson)
   file_of_value today d

@@ -4,7 +4,7 @@ ghost use Rattle.std.specs.Option.{option_map_or};
 ghost use Rattle.serde_json.specs.View.{view, members_view};
 ghost use Rattle.sarif_entries.specs.Internal.Keys.{texts_with, justification_of, has_key, same_key, status_in};
 ghost use Rattle.sarif_entries.specs.Object as said;
-ghost use Rattle.sarif_entries.specs.declared.key.Key.{Key};
+ghost use Rattle.sarif_entries.specs.declared.key.EntryKey.{EntryKey};
 ghost use Rattle.sarif_model.specs.Members.{text_in};
 
 use crate::entry::Entry;
@@ -13,7 +13,7 @@ use serde_json::{Map, Value};
 
 /// The status and the justification of an entry. Objects of entries are equal if and only if these are.
 #[derive(Clone, Copy, Debug, PartialEq, Eq, Hash)]
-pub struct Key<'a> {
+pub struct EntryKey<'a> {
     /// `status`.
     pub status: Status,
     /// `justification`, if there is one.
@@ -21,11 +21,11 @@ pub struct Key<'a> {
 }
 
 /// The key of the entry's object.
-pub fn key_of(entry: &Entry) -> Key<'_>
+pub fn key_of(entry: &Entry) -> EntryKey<'_>
     ensures status { result.status ≡ entry.now.status }
     ensures justification { justification_of result ≡ entry.now.justification }
 {
-    Key {
+    EntryKey {
         status: entry.status,
         justification: entry.justification.as_ref().map(Text::as_str),
     }
@@ -69,7 +69,7 @@ fn named<'a>(name: &'a str, text: &'a str) -> (&'a str, &'a str)
 }
 
 /// Returns whether the members are exactly those of the object with that key.
-fn are_members_of(key: &Key, members: &Map<String, Value>) -> bool
+fn are_members_of(key: &EntryKey, members: &Map<String, Value>) -> bool
     ensures { result ≡ said.are_just (texts_with key.now.status (justification_of key.now))
         (members_view members.now.entries) }
 {
@@ -90,7 +90,7 @@ fn are_members_of(key: &Key, members: &Map<String, Value>) -> bool
 }
 
 /// Whether the value is the object with that key.
-pub(crate) fn is_object_with(key: &Key, value: &Value) -> bool
+pub(crate) fn is_object_with(key: &EntryKey, value: &Value) -> bool
     ensures { result ≡ has_key key.now (view value.now) }
 {
     match value.as_object() {
@@ -117,11 +117,11 @@ fn status_at(value: &Value) -> Option<Status>
 }
 
 /// The key of the value, where it is the object of an entry.
-pub fn key_in(value: &Value) -> Option<Key<'_>>
-    ensures { (q : Key) → has_key q (view value.now)
+pub fn key_in(value: &Value) -> Option<EntryKey<'_>>
+    ensures { (q : EntryKey) → has_key q (view value.now)
         ≡ option_map_or (λ key. same_key key q) result false }
 {
-    let key = Key {
+    let key = EntryKey {
         status: status_at(value)?,
         justification: text_at(value, "justification"),
     };

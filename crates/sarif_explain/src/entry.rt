@@ -1,7 +1,7 @@
 //! The error in an entry of the suppression file.
 use crate::checks::{ENTRY_NAMES, entry_checks};
 use crate::misfit::{Found, Misfit, misfit_in};
-use crate::place::Place;
+use crate::place::JsonPlace;
 use crate::wanted::Wanted;
 use sarif_model::Fault;
 use serde_json::Value;
@@ -24,7 +24,7 @@ fn members_of(version: u64) -> Wanted {
 }
 
 /// The first member that the version of the file doesn't have.
-fn misfit_of_names<'a>(alloc: Global, version: u64, entry: &Place<'a>) -> Found<'a> {
+fn misfit_of_names<'a>(alloc: Global, version: u64, entry: &JsonPlace<'a>) -> Found<'a> {
     let Value::Object(members) = entry.value else {
         return Ok(None);
     };
@@ -41,7 +41,7 @@ fn misfit_of_names<'a>(alloc: Global, version: u64, entry: &Place<'a>) -> Found<
 pub(crate) fn misfit_of_entry<'a>(
     alloc: Global,
     file: &Value,
-    entry: &Place<'a>,
+    entry: &JsonPlace<'a>,
     fault: Fault,
 ) -> Found<'a> {
     let version = file.get("version").and_then(Value::as_u64);

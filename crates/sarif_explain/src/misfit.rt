@@ -1,6 +1,6 @@
 //! The first value that is not as expected.
 use crate::checks::{Check, Need};
-use crate::place::{Place, find, is_dropped};
+use crate::place::{JsonPlace, find, is_dropped};
 use crate::wanted::Wanted;
 use serde_json::Value;
 use std::alloc::{AllocError, Global};
@@ -9,7 +9,7 @@ use std::alloc::{AllocError, Global};
 #[derive(Drop)]
 pub(crate) struct Misfit<'a> {
     /// Its position.
-    pub place: Place<'a>,
+    pub place: JsonPlace<'a>,
     /// The name of the missing member.
     pub missing: Option<&'static str>,
     /// What is expected there.
@@ -21,7 +21,7 @@ pub(crate) type Found<'a> = Result<Option<Misfit<'a>>, AllocError>;
 
 impl<'a> Misfit<'a> {
     /// The value of this place.
-    pub(crate) fn at(place: Place<'a>, wanted: Wanted) -> Misfit<'a> {
+    pub(crate) fn at(place: JsonPlace<'a>, wanted: Wanted) -> Misfit<'a> {
         Misfit {
             place,
             missing: None,
@@ -40,7 +40,7 @@ fn passes(stripped: bool, need: Need, wanted: Wanted, value: &Value) -> bool {
 }
 
 /// The first element or member that is not as expected.
-fn misfit_inside<'a>(alloc: Global, place: &Place<'a>, wanted: Wanted) -> Found<'a> {
+fn misfit_inside<'a>(alloc: Global, place: &JsonPlace<'a>, wanted: Wanted) -> Found<'a> {
     match place.value {
         Value::Array(items) => {
             for (index, item) in items.iter().enumerate() {
@@ -65,7 +65,7 @@ fn misfit_inside<'a>(alloc: Global, place: &Place<'a>, wanted: Wanted) -> Found<
 }
 
 /// The error if the member of the check is missing: the object that should contain it.
-fn misfit_without<'a>(alloc: Global, place: &Place<'a>, check: &Check) -> Found<'a> {
+fn misfit_without<'a>(alloc: Global, place: &JsonPlace<'a>, check: &Check) -> Found<'a> {
     let Check(way, need, wanted) = *check;
     match (need, way) {
         (Need::Must, [within @ .., name]) => Ok(Some(Misfit {
@@ -78,7 +78,7 @@ fn misfit_without<'a>(alloc: Global, place: &Place<'a>, check: &Check) -> Found<
 }
 
 /// The error that one check finds.
-fn misfit_by<'a>(alloc: Global, place: &Place<'a>, check: &Check) -> Found<'a> {
+fn misfit_by<'a>(alloc: Global, place: &JsonPlace<'a>, check: &Check) -> Found<'a> {
     let Check(way, need, wanted) = *check;
     let Some(value) = find(place.value, way) else {
         return misfit_without(alloc, place, check);
@@ -95,7 +95,7 @@ fn misfit_by<'a>(alloc: Global, place: &Place<'a>, check: &Check) -> Found<'a> {
 }
 
 /// The error of the first of these checks that fails at this place.
-pub(crate) fn misfit_in<'a>(alloc: Global, place: &Place<'a>, checks: &[Check]) -> Found<'a> {
+pub(crate) fn misfit_in<'a>(alloc: Global, place: &JsonPlace<'a>, checks: &[Check]) -> Found<'a> {
     for check in checks {
         let found = misfit_by(alloc, place, check)?;
         if found.is_some() {
@@ -108,7 +108,7 @@ pub(crate) fn misfit_in<'a>(alloc: Global, place: &Place<'a>, checks: &[Check]) 
 /// The error in the first element of the array at the end of the path that fails one of these checks.
 pub(crate) fn misfit_in_each<'a>(
     alloc: Global,
-    place: &Place<'a>,
+    place: &JsonPlace<'a>,
     way: &[&str],
     checks: &[Check],
 ) -> Found<'a> {

@@ -1,6 +1,6 @@
 //! Indexes that are past the table that they point into.
 use crate::misfit::{Found, Misfit};
-use crate::place::{Place, find, items_of};
+use crate::place::{JsonPlace, find, items_of};
 use crate::wanted::Wanted;
 use serde_json::Value;
 use std::alloc::Global;
@@ -13,7 +13,7 @@ fn index_at(value: &Value, way: &[&str]) -> Option<u64> {
 /// The index at the end of the way, where the table has no element of it.
 fn misfit_past<'a>(
     alloc: Global,
-    place: &Place<'a>,
+    place: &JsonPlace<'a>,
     way: &[&str],
     table: &[Value],
     wanted: Wanted,
@@ -27,7 +27,7 @@ fn misfit_past<'a>(
 }
 
 /// The rules of the driver, or of the extension of that index.
-fn rules_of<'a>(run: &Place<'a>, extension: Option<u64>) -> &'a [Value] {
+fn rules_of<'a>(run: &JsonPlace<'a>, extension: Option<u64>) -> &'a [Value] {
     let component = match extension {
         None => find(run.value, &["tool", "driver"]),
         Some(index) => run.elements(&["tool", "extensions"]).get(index as usize),
@@ -41,8 +41,8 @@ fn rules_of<'a>(run: &Place<'a>, extension: Option<u64>) -> &'a [Value] {
 /// The index of a rule's component, otherwise the index of the rule, if it is past the end of its table.
 pub(crate) fn misfit_of_rule<'a>(
     alloc: Global,
-    run: &Place<'_>,
-    place: &Place<'a>,
+    run: &JsonPlace<'_>,
+    place: &JsonPlace<'a>,
     component: &[&str],
     rule: &[&str],
 ) -> Found<'a> {
@@ -64,7 +64,7 @@ fn way_to_rule(value: &Value) -> &'static [&'static str] {
 }
 
 /// The index of the artifact of a result's first location, where it is past its table and there is no `uri`.
-fn misfit_of_artifact<'a>(alloc: Global, run: &Place<'_>, place: &Place<'a>) -> Found<'a> {
+fn misfit_of_artifact<'a>(alloc: Global, run: &JsonPlace<'_>, place: &JsonPlace<'a>) -> Found<'a> {
     let Some(first) = place.nth(alloc, &["locations"], 0)? else {
         return Ok(None);
     };
@@ -81,8 +81,8 @@ fn misfit_of_artifact<'a>(alloc: Global, run: &Place<'_>, place: &Place<'a>) -> 
 /// The first index of a result that is past its table.
 pub(crate) fn misfit_past_tables<'a>(
     alloc: Global,
-    run: &Place<'_>,
-    place: &Place<'a>,
+    run: &JsonPlace<'_>,
+    place: &JsonPlace<'a>,
 ) -> Found<'a> {
     let component = &["rule", "toolComponent", "index"];
     let found = misfit_of_rule(alloc, run, place, component, way_to_rule(place.value))?;

@@ -5,7 +5,7 @@ use std::alloc::{AllocError, Global};
 
 /// A value of a source, and the JSON pointer to it.
 #[derive(Drop)]
-pub(crate) struct Place<'a> {
+pub(crate) struct JsonPlace<'a> {
     /// The JSON pointer from the whole source to it.
     pub pointer: String,
     /// The value itself.
@@ -14,10 +14,10 @@ pub(crate) struct Place<'a> {
     pub stripped: bool,
 }
 
-impl<'a> Place<'a> {
+impl<'a> JsonPlace<'a> {
     /// The whole source.
-    pub(crate) fn root(alloc: Global, value: &'a Value, stripped: bool) -> Place<'a> {
-        Place {
+    pub(crate) fn root(alloc: Global, value: &'a Value, stripped: bool) -> JsonPlace<'a> {
+        JsonPlace {
             pointer: String::new(alloc),
             value,
             stripped,
@@ -25,8 +25,8 @@ impl<'a> Place<'a> {
     }
 
     /// A copy of this place.
-    fn again(&self, alloc: Global) -> Result<Place<'a>, AllocError> {
-        Ok(Place {
+    fn again(&self, alloc: Global) -> Result<JsonPlace<'a>, AllocError> {
+        Ok(JsonPlace {
             pointer: String::from_str(alloc, self.pointer.as_str())?,
             value: self.value,
             stripped: self.stripped,
@@ -39,7 +39,7 @@ impl<'a> Place<'a> {
         alloc: Global,
         name: &str,
         value: &'a Value,
-    ) -> Result<Place<'a>, AllocError> {
+    ) -> Result<JsonPlace<'a>, AllocError> {
         let mut place = self.again(alloc)?;
         push_name(&mut place.pointer, name)?;
         place.value = value;
@@ -52,7 +52,7 @@ impl<'a> Place<'a> {
         alloc: Global,
         index: usize,
         value: &'a Value,
-    ) -> Result<Place<'a>, AllocError> {
+    ) -> Result<JsonPlace<'a>, AllocError> {
         let mut place = self.again(alloc)?;
         push_index(alloc, &mut place.pointer, index)?;
         place.value = value;
@@ -60,7 +60,7 @@ impl<'a> Place<'a> {
     }
 
     /// The place at the end of this way from member to member, or the last on it that is there.
-    pub(crate) fn along(&self, alloc: Global, way: &[&str]) -> Result<Place<'a>, AllocError> {
+    pub(crate) fn along(&self, alloc: Global, way: &[&str]) -> Result<JsonPlace<'a>, AllocError> {
         let mut place = self.again(alloc)?;
         for name in way {
             let Some(value) = place.value.get(*name) else {
@@ -86,7 +86,7 @@ impl<'a> Place<'a> {
         alloc: Global,
         way: &[&str],
         index: usize,
-    ) -> Result<Option<Place<'a>>, AllocError> {
+    ) -> Result<Option<JsonPlace<'a>>, AllocError> {
         match self.elements(way).get(index) {
             Some(value) => Ok(Some(self.along(alloc, way)?.element(alloc, index, value)?)),
             None => Ok(None),

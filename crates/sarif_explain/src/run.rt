@@ -4,12 +4,12 @@ use crate::checks::{
 };
 use crate::misfit::{Found, misfit_in, misfit_in_each};
 use crate::past_table::misfit_of_rule;
-use crate::place::Place;
+use crate::place::JsonPlace;
 use sarif_model::Fault;
 use std::alloc::Global;
 
 /// In the rules of the driver, or of an extension.
-fn misfit_of_component<'a>(alloc: Global, component: &Place<'a>, fault: Fault) -> Found<'a> {
+fn misfit_of_component<'a>(alloc: Global, component: &JsonPlace<'a>, fault: Fault) -> Found<'a> {
     let found = misfit_in(alloc, component, component_checks(fault))?;
     if found.is_some() {
         return Ok(found);
@@ -18,7 +18,7 @@ fn misfit_of_component<'a>(alloc: Global, component: &Place<'a>, fault: Fault) -
 }
 
 /// In the rules of the driver, and then of each extension.
-fn misfit_of_components<'a>(alloc: Global, run: &Place<'a>, fault: Fault) -> Found<'a> {
+fn misfit_of_components<'a>(alloc: Global, run: &JsonPlace<'a>, fault: Fault) -> Found<'a> {
     let driver = run.along(alloc, &["tool", "driver"])?;
     let found = misfit_of_component(alloc, &driver, fault)?;
     if found.is_some() {
@@ -38,8 +38,8 @@ fn misfit_of_components<'a>(alloc: Global, run: &Place<'a>, fault: Fault) -> Fou
 /// In an override of a rule's configuration.
 fn misfit_of_override<'a>(
     alloc: Global,
-    run: &Place<'_>,
-    place: &Place<'a>,
+    run: &JsonPlace<'_>,
+    place: &JsonPlace<'a>,
     fault: Fault,
 ) -> Found<'a> {
     let found = misfit_in(alloc, place, override_checks(fault))?;
@@ -53,8 +53,8 @@ fn misfit_of_override<'a>(
 /// In the overrides of an invocation.
 fn misfit_of_overrides<'a>(
     alloc: Global,
-    run: &Place<'_>,
-    invocation: &Place<'a>,
+    run: &JsonPlace<'_>,
+    invocation: &JsonPlace<'a>,
     fault: Fault,
 ) -> Found<'a> {
     let way = &["ruleConfigurationOverrides"];
@@ -70,7 +70,7 @@ fn misfit_of_overrides<'a>(
 }
 
 /// In the invocations: first the forms of all, then their overrides.
-fn misfit_of_invocations<'a>(alloc: Global, run: &Place<'a>, fault: Fault) -> Found<'a> {
+fn misfit_of_invocations<'a>(alloc: Global, run: &JsonPlace<'a>, fault: Fault) -> Found<'a> {
     let found = misfit_in_each(alloc, run, &["invocations"], invocation_checks(fault))?;
     if found.is_some() {
         return Ok(found);
@@ -87,7 +87,7 @@ fn misfit_of_invocations<'a>(alloc: Global, run: &Place<'a>, fault: Fault) -> Fo
 }
 
 /// Returns what is wrong in a run that has this error, outside its results.
-pub(crate) fn misfit_of_run<'a>(alloc: Global, run: &Place<'a>, fault: Fault) -> Found<'a> {
+pub(crate) fn misfit_of_run<'a>(alloc: Global, run: &JsonPlace<'a>, fault: Fault) -> Found<'a> {
     let found = misfit_in(alloc, run, run_checks(fault))?;
     if found.is_some() {
         return Ok(found);

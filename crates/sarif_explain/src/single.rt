@@ -2,12 +2,12 @@
 use crate::checks::{location_checks, result_checks, suppression_checks};
 use crate::misfit::{Found, misfit_in, misfit_in_each};
 use crate::past_table::misfit_past_tables;
-use crate::place::Place;
+use crate::place::JsonPlace;
 use sarif_model::Fault;
 use std::alloc::Global;
 
 /// In its first location.
-fn misfit_of_location<'a>(alloc: Global, place: &Place<'a>, fault: Fault) -> Found<'a> {
+fn misfit_of_location<'a>(alloc: Global, place: &JsonPlace<'a>, fault: Fault) -> Found<'a> {
     match place.nth(alloc, &["locations"], 0)? {
         Some(first) => misfit_in(alloc, &first, location_checks(fault)),
         None => Ok(None),
@@ -17,8 +17,8 @@ fn misfit_of_location<'a>(alloc: Global, place: &Place<'a>, fault: Fault) -> Fou
 /// Returns what is wrong in a result of the run that has this error.
 pub(crate) fn misfit_of_result<'a>(
     alloc: Global,
-    run: &Place<'_>,
-    place: &Place<'a>,
+    run: &JsonPlace<'_>,
+    place: &JsonPlace<'a>,
     fault: Fault,
 ) -> Found<'a> {
     let found = misfit_in(alloc, place, result_checks(fault))?;

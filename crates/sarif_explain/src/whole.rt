@@ -2,7 +2,7 @@
 use crate::checks::{file_checks, log_checks};
 use crate::entry::misfit_of_entry;
 use crate::misfit::{Found, Misfit, misfit_in};
-use crate::place::Place;
+use crate::place::JsonPlace;
 use crate::run::misfit_of_run;
 use crate::single::misfit_of_result;
 use crate::wanted::Wanted;
@@ -57,7 +57,7 @@ pub(crate) fn wanted_by(fault: &MergeFault) -> Wanted {
 }
 
 /// The place itself, if no error was found in it.
-fn or_all<'a>(found: Option<Misfit<'a>>, place: Place<'a>, wanted: Wanted) -> Misfit<'a> {
+fn or_all<'a>(found: Option<Misfit<'a>>, place: JsonPlace<'a>, wanted: Wanted) -> Misfit<'a> {
     match found {
         Some(misfit) => misfit,
         None => Misfit::at(place, wanted),
@@ -65,7 +65,7 @@ fn or_all<'a>(found: Option<Misfit<'a>>, place: Place<'a>, wanted: Wanted) -> Mi
 }
 
 /// The error in a whole source.
-fn misfit_of_source<'a>(alloc: Global, root: &Place<'a>, at: At, fault: Fault) -> Found<'a> {
+fn misfit_of_source<'a>(alloc: Global, root: &JsonPlace<'a>, at: At, fault: Fault) -> Found<'a> {
     match at {
         At::Whole(Source::Suppress) => misfit_in(alloc, root, file_checks(fault)),
         _ => misfit_in(alloc, root, log_checks(fault)),
@@ -75,7 +75,7 @@ fn misfit_of_source<'a>(alloc: Global, root: &Place<'a>, at: At, fault: Fault) -
 /// The error in a log or a baseline, at a run or at a result of it.
 fn misfit_in_log<'a>(
     alloc: Global,
-    root: Place<'a>,
+    root: JsonPlace<'a>,
     number: u32,
     single: Option<u32>,
     at: At,
@@ -100,7 +100,7 @@ fn misfit_in_log<'a>(
 /// The error in the suppression file, at an entry.
 fn misfit_in_file<'a>(
     alloc: Global,
-    root: Place<'a>,
+    root: JsonPlace<'a>,
     number: u32,
     fault: Fault,
 ) -> Result<Misfit<'a>, AllocError> {
@@ -126,7 +126,7 @@ pub(crate) fn misfit_of<'a>(
     at: At,
     fault: Fault,
 ) -> Result<Misfit<'a>, AllocError> {
-    let root = Place::root(alloc, value, !is_file(at));
+    let root = JsonPlace::root(alloc, value, !is_file(at));
     match at {
         At::Nowhere | At::Whole(_) => {
             let found = misfit_of_source(alloc, &root, at, fault)?;

@@ -2,6 +2,7 @@
 #![tactic(auto)]
 
 ghost use Rattle.std.specs.Prelude.{◌≡◌, map, string_bytes};
+ghost use Rattle.sarif_gate.specs.Given.{AreServedWith, refusal_status, refused_status};
 ghost use Rattle.sarif_gate.specs.Served.{AreServed, IsServed, unmade_status};
 ghost use Rattle.sarif_request.specs.Words.{words_read};
 
@@ -12,7 +13,8 @@ mod outputs;
 mod sources;
 
 use job::Job;
-use sarif_model::MergeFault;
+use sarif_arguments::{ArgumentsFault, system_arguments};
+use sarif_model::{Cause, MergeFault, Refusal};
 use sarif_program::{Complaint, Complaints, ExitStatus, seed_of};
 use sarif_request::{Request, WordsFault, plain_words, read_words};
 use std::alloc::AllocError;
@@ -25,7 +27,7 @@ use std::{env, io};
 
 fn main(rt: HostRuntime) -> ExitCode {
     let status = match words_of(&rt) {
-        Ok((words, seed)) => run(&rt, &rt, seed, words.as_slice()),
+        Ok((words, seed)) => run_given(&rt, &rt, seed, words.as_slice()),
         Err(error) => {
             tell_unread(&rt, &error);
             ExitStatus::unread()
@@ -40,6 +42,53 @@ fn words_of(rt: &HostRuntime) -> io::Result<(Vec<String>, RandomState)> {
     let _program = words.next();
     let words = words.collect(rt.alloc())?;
     Ok((words, seed_of(rt)?))
+}
+
+/// Does what the arguments request after files of arguments are put in their places: with `@FILE` it does what it does
+/// with the arguments in that file. Returns the status of the error if none is left.
+fn run_given<T: Threads + Wait + Sync>(
+    rt: &HostRuntime,
+    threads: &T,
+    seed: RandomState,
+    words: &[String],
+) -> ExitStatus
+    ensures { AreServedWith (map string_bytes words.now) result }
+{
+    match system_arguments(rt, words) {
+        Ok(words) => run(rt, threads, seed, words.as_slice()),
+        Err(refusal) => tell_refusal(rt, &refusal),
+    }
+}
+
+/// Reports why no arguments are left, or that memory ran out. Returns the exit status.
+fn tell_refusal(rt: &HostRuntime, refusal: &Refusal<ArgumentsFault>) -> ExitStatus
+    ensures { result ≡ refusal_status refusal.now }
+{
+    match refusal {
+        Refusal::Fault(fault) => tell_refused(rt, fault),
+        Refusal::OutOfMemory => tell_unmade(rt, AllocError),
+    }
+}
+
+/// Reports why no arguments are left. Returns the exit status.
+fn tell_refused(rt: &HostRuntime, fault: &ArgumentsFault) -> ExitStatus
+    ensures { result ≡ refused_status fault.now }
+{
+    match fault {
+        ArgumentsFault::Unread(_) => {
+            let _ = eprintln!(rt; "sarif_gate: {fault}");
+            ExitStatus::of_cause(Cause::ReadFailed)
+        }
+        ArgumentsFault::Invalid(_, _) | ArgumentsFault::NoneLeft => tell_invalid(rt, fault),
+    }
+}
+
+/// Prints what is wrong with the arguments as a usage error. Returns the exit status.
+fn tell_invalid(rt: &HostRuntime, fault: &ArgumentsFault) -> ExitStatus
+    ensures { result ≡ 2 }
+{
+    let _ = eprint!(rt; "error: {fault}\n\nFor more information, try '--help'.\n");
+    ExitStatus::unread()
 }
 
 /// Does what the arguments request. Without arguments it does what `plain_words` request: it merges one log from

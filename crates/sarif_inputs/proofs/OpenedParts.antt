@@ -1,7 +1,7 @@
 -- The runs of all sources, taken apart into those of logs and those of baselines.
 use Rattle.std.proofs.Common.{◌≡◌, ◌≤◌, ◌+◌, ℕ, List, [], take, drop, map, length, length-append, arith, sym, ap, ◌∙◌}
 use Rattle.std.proofs.lemmas.List.{length-map, map-append, take-map, drop-map}
-use Rattle.sarif_counts.specs.declared.checks.Checks.{Checks}
+use Rattle.sarif_options.specs.declared.checks.Checks.{Checks}
 use Rattle.sarif_model.specs.Run.{results_total}
 use Rattle.sarif_model.specs.declared.merge_fault.Source.TheVariants.{Log, Baseline}
 use Rattle.sarif_runs.specs.declared.opened.OpenedRun.{OpenedRun}

@@ -4,7 +4,7 @@ use Rattle.std.proofs.lemmas.List.{map-append, length-map}
 use Rattle.std.specs.List.{list_any}
 use Rattle.std.proofs.lemmas.Bool.{or_parts}
 use Rattle.serde_json.specs.Written.{has_float}
-use Rattle.sarif_counts.specs.declared.checks.Checks.{Checks}
+use Rattle.sarif_options.specs.declared.checks.Checks.{Checks}
 use Rattle.serde_json.specs.Data.{Data}
 use Rattle.sarif_read.specs.Internal.Indexed.{run_of}
 use Rattle.sarif_read.specs.declared.indexed_run.IndexedRun.{IndexedRun}

@@ -1,7 +1,7 @@
 -- One more source, read without an error: the remaining sources determine the result for all of them.
 use Rattle.std.proofs.Common.{◌≡◌, ℕ, ◌+◌, List, [], ◌∷◌, ◌++◌, ◌⊎◌, Some, map, length, refl, sym, ap, ◌∙◌, append_assoc, add-zero, length-append, arith}
 use Rattle.std.proofs.lemmas.List.{length-map, map-append}
-use Rattle.sarif_counts.specs.declared.checks.Checks.{Checks}
+use Rattle.sarif_options.specs.declared.checks.Checks.{Checks}
 use Rattle.sarif_read.specs.Reading.{log_of}
 use Rattle.sarif_model.specs.Run.{results_total}
 use Rattle.sarif_model.specs.declared.merge_fault.MergeFault.{MergeFault}

@@ -1,6 +1,7 @@
 -- The errors of the inputs of a merge, in the order of the checks, and the meaning of a rejection.
-use Rattle.std.specs.Prelude.{◌≡◌, ◌≤◌, ◌<◌, ℕ, nat_lt, List, [], ◌∷◌, ◌++◌, ◌⊎◌, length, Option, Some, None, Result, Ok, Err, if◌then◌else◌}
-use Rattle.sarif_entries.specs.File.{File, file_of}
+use Rattle.std.specs.Prelude.{◌≡◌, ◌≤◌, ◌<◌, ℕ, nat_lt, List, [], ◌∷◌, ◌++◌, ◌⊎◌, length, Option, Result, Ok, Err, if◌then◌else◌}
+use Rattle.sarif_entries.specs.File.{File}
+use Rattle.sarif_entries.specs.Given.{file_or_none}
 use Rattle.sarif_entries.specs.declared.fault.FileFault.{FileFault}
 use Rattle.sarif_model.specs.declared.merge_fault.Source.{Source}
 use Rattle.sarif_model.specs.declared.merge_fault.Source.TheVariants.{Log, Baseline}
@@ -28,11 +29,6 @@ IsTooMany logs baselines fault =
     × (fault ≡ record { at = Whole (Log most_sources); cause = cause_of TooMany }))
     ⊎ ((logs ≤ most_sources) × (most_sources < baselines)
     × (fault ≡ record { at = Whole (Baseline most_sources); cause = cause_of TooMany }))
-
--- the suppression file, if there is one; without it there are no entries
-abbrev pub file_or_none : Option (List ℕ) → Option ℕ → Result File FileFault
-file_or_none None today = Ok (record { entries = []; today = today })
-file_or_none (Some bytes) today = file_of bytes today
 
 abbrev pub file_faults : Result File FileFault → List MergeFault
 file_faults (Ok entries) = []

@@ -11,7 +11,7 @@ use std::thread::Threads;
 
 /// A document to index, and the memory for its strings.
 #[derive(Drop)]
-struct Job<'a> {
+struct IndexJob<'a> {
     /// The text.
     bytes: &'a [u8],
     /// Keeps its strings with escapes.
@@ -19,10 +19,10 @@ struct Job<'a> {
 }
 
 /// Returns the index of a document, or why it has none.
-fn index_one<'a>(alloc: Global, job: Job<'a>) -> Result<Index<'a>, IndexFault>
+fn index_one<'a>(alloc: Global, job: IndexJob<'a>) -> Result<Index<'a>, IndexFault>
     ensures { IsIndexed job.entry.bytes.now result }
 {
-    let Job { bytes, scratch } = job;
+    let IndexJob { bytes, scratch } = job;
     index_text(alloc, bytes, scratch)
 }
 
@@ -31,7 +31,7 @@ fn index_one<'a>(alloc: Global, job: Job<'a>) -> Result<Index<'a>, IndexFault>
 fn index_texts<'a, R: Threads + Sync>(
     rt: &R,
     alloc: Global,
-    jobs: Vec<Job<'a>>,
+    jobs: Vec<IndexJob<'a>>,
     threads: u32,
 ) -> Result<Vec<Result<Index<'a>, IndexFault>>, AllocError>
     ensures { IfOk result
@@ -52,10 +52,10 @@ fn index_texts<'a, R: Threads + Sync>(
 
 /// Adds a job for each of these sources, with a separate scratch.
 fn add_jobs<'a>(
-    mut jobs: Vec<Job<'a>>,
+    mut jobs: Vec<IndexJob<'a>>,
     sources: &'a [Vec<u8>],
     scratches: &'a mut [Scratch],
-) -> Result<Vec<Job<'a>>, AllocError>
+) -> Result<Vec<IndexJob<'a>>, AllocError>
     requires { length scratches.old ≡ length sources.now }
     ensures { IfOk result (λ all. map (λ job. job.bytes.now) all.items
         ≡ map (λ job. job.bytes.now) jobs.entry.items
@@ -67,7 +67,7 @@ fn add_jobs<'a>(
         let Some(scratch) = spare.next() else {
             return Err(AllocError);
         };
-        jobs.push(Job {
+        jobs.push(IndexJob {
             bytes: without_mark(bytes.as_slice()),
             scratch,
         })?;

@@ -25,11 +25,11 @@ use crate::opening::open_each;
 use crate::read_run::ReadRun;
 use crate::reading::{ReadLog, read_kinds};
 use json_parts::{Index, IndexFault};
-use sarif_counts::Checks;
 use sarif_model::{
     At, Cause, Fault, MOST_RESULTS, MOST_RUNS, MOST_SOURCES, MergeFault, Refusal, Source,
     SourceKind,
 };
+use sarif_options::Checks;
 use sarif_read::{IndexedRun, ReadFault, read_runs_hold_no_fraction};
 use sarif_runs::OpenedRun;
 use std::alloc::{AllocError, Global};

@@ -2,7 +2,8 @@
 ghost use Rattle.std.specs.Prelude.{◌≡◌, Ok, IfOk, option_map};
 ghost use Rattle.sarif_model.specs.MergeFault.{IsQuiet};
 ghost use Rattle.sarif_model.specs.FirstFault.{Answers};
-ghost use Rattle.sarif_inputs.specs.Faults.{file_faults, file_or_none};
+ghost use Rattle.sarif_inputs.specs.Faults.{file_faults};
+ghost use Rattle.sarif_entries.specs.Given.{file_or_none};
 
 use sarif_model::{MergeFault, Refusal};
 use sarif_suppress::{Suppressions, read_rules_with};

@@ -23,7 +23,7 @@ use std::thread::Threads;
 const SHARDS_A_WORKER: usize = 16;
 
 /// The shards, the last one first.
-fn stacked(alloc: Global, mut lists: Lists<Shard, ()>) -> Result<Vec<Vec<Shard>>, AllocError>
+fn stack_shards(alloc: Global, mut lists: Lists<Shard, ()>) -> Result<Vec<Vec<Shard>>, AllocError>
     ensures { IfOk result (λ stack. flattened_from stack.items ≡ flattened lists) }
 {
     let mut stack = Vec::with_capacity(alloc, lists.runs() as usize)?;
@@ -89,7 +89,7 @@ pub fn judge<G: Gate + Sync, R: Threads + Wait + Sync>(
         shards: (spots.len() / size + 1) as u32,
     };
     let lists = gather(rt, alloc, &work, team.workers, team.room, observer)?;
-    let stack = stacked(alloc, lists)?;
+    let stack = stack_shards(alloc, lists)?;
     let all = flatten(alloc, stack)?;
     Ok(all)
 }

@@ -8,10 +8,10 @@ ghost use Rattle.sarif_runs.specs.Internal.Opened.{placed_of};
 
 use json::Scratch;
 use json_parts::{Index, IndexFault};
-use sarif_counts::Checks;
 use sarif_gather::Gate;
 use sarif_inputs::{Opening, index_sources, open_sources};
 use sarif_judge::{Team, judge};
+use sarif_options::Checks;
 use sarif_runs::OpenedRun;
 use sarif_suppress::Suppressions;
 use std::alloc::{AllocError, Global};

@@ -1,8 +1,11 @@
 -- The least length of the JSON of tokens.
-use Rattle.std.proofs.Common.{◌≡◌, ℕ, ◌+◌, ◌≤◌, ◌<◌, ◌/◌, ◌%◌, nat_lt, Bool, true, false, cond, List, [], ◌∷◌, ◌++◌, length, fold, refl, sym, ap, ◌∙◌, subst, arith, append_assoc, append-nil, length-append}
+use Rattle.std.proofs.Common.{◌≡◌, ℕ, ◌+◌, ◌-◌, ◌^◌, min, ◌≤◌, ◌<◌, ◌/◌, ◌%◌, nat_lt, Bool, true, false, cond, List, [], ◌∷◌, ◌++◌, length, fold, refl, sym, ap, ◌∙◌, subst, arith, append_assoc, append-nil, length-append}
 use Rattle.std.specs.Char.{digit_char}
+use Rattle.std.proofs.lemmas.Bool.Decides.{nat_tests}
 use Rattle.sarif_accept.proofs.Weight.{escaped}
-use Rattle.json.specs.Token.{Token}
+use Rattle.sarif_model.specs.Limits.{most_bytes}
+use Rattle.sarif_known.specs.Internal.Tokens.{least_bytes, own_bytes}
+use Rattle.json.specs.Token.{Token, begin_object, end_object, begin_array, end_array, key, string, number, boolean, null, bad}
 use Rattle.json.specs.Print.{escape, escape_byte, escape_letter, quoted, token_text}
 use Rattle.json.specs.Layout.{Last, step, piece, pretty, pretty_from, nothing}
 
@@ -43,17 +46,54 @@ behind_both a b c =
     let inner = length-append b c in
     omega (arith, outer, inner)
 
-one_piece : (s : Last × ℕ) (t : Token) → length (token_text t) ≤ length (pretty_from s (t ∷ []))
-unfolding pretty_from
-one_piece s t = subst (λ l. length (token_text t) ≤ length l) (sym (append-nil (piece s t))) (behind_both _ _ (token_text t))
+own_few : (t : Token) → own_bytes t ≤ length (token_text t)
+own_few begin_object = omega arith
+own_few end_object = omega arith
+own_few begin_array = omega arith
+own_few end_array = omega arith
+own_few (key s) = key_is_longer s
+own_few (string s) = quoted_is_longer s
+own_few (number s) = omega arith
+own_few (boolean true) = omega arith
+own_few (boolean false) = omega arith
+own_few null = omega arith
+own_few bad = omega arith
 
--- a token makes the text longer by its own length at least
-pub grows : (ts : List Token) (t : Token) (n m : ℕ) → n ≤ length (pretty ts) → m ≤ length (token_text t) → n + m ≤ length (pretty (ts ++ t ∷ []))
-grows ts t n m so more =
-    let split : length (pretty (ts ++ t ∷ [])) ≡ length (pretty ts) + length (pretty_from (fold step (nothing, 0) ts) (t ∷ [])) =
-    ap length (pretty_from-append (nothing, 0) ts (t ∷ [])) ∙ length-append (pretty ts) (pretty_from (fold step (nothing, 0) ts) (t ∷ [])) in
-    let last = one_piece (fold step (nothing, 0) ts) t in
-    omega (arith, split, last, so, more)
+piece_few : (s : Last × ℕ) (t : Token) → own_bytes t ≤ length (piece s t)
+piece_few s t =
+    let own = own_few t in
+    let last : length (token_text t) ≤ length (piece s t) = behind_both _ _ (token_text t) in
+    omega (arith, own, last)
+
+from_least : (s : Last × ℕ) (ts : List Token) → least_bytes ts ≤ length (pretty_from s ts)
+unfolding pretty_from
+from_least s [] = omega arith
+from_least s (t ∷ ts) =
+    let own = piece_few s t in
+    let rest = from_least (step s t) ts in
+    let split = length-append (piece s t) (pretty_from (step s t) ts) in
+    omega (arith, own, rest, split)
+
+-- tokens have as many bytes as their strings at least
+pub long_enough : (ts : List Token) → nat_lt most_bytes (least_bytes ts) ≡ true → most_bytes < length (pretty ts)
+long_enough ts long = let least = from_least (nothing, 0) ts in grind (arith, nat_tests)
+
+pub short_enough : (ts : List Token) → nat_lt most_bytes (least_bytes ts) ≡ false → least_bytes ts ≤ most_bytes
+short_enough ts short = grind (arith, nat_tests)
+
+pushed : (ts : List Token) (t : Token) → least_bytes (ts ++ t ∷ []) ≡ least_bytes ts + own_bytes t
+pushed [] t = omega arith
+pushed (u ∷ ts) t = let more = pushed ts t in omega (arith, more)
+
+-- one token more
+pub one_more : (ts : List Token) (t : Token) (n : ℕ) → n ≡ min (least_bytes ts) (2 ^ 64 - 1) → min (n + own_bytes t) (2 ^ 64 - 1) ≡ min (least_bytes (ts ++ t ∷ [])) (2 ^ 64 - 1)
+one_more ts t n is =
+    let more = pushed ts t in
+    omega (arith, more, is)
+
+-- a number that stops at the greatest `usize` is past the limit if the true one is
+pub capped : (n : ℕ) → nat_lt most_bytes (min n (2 ^ 64 - 1)) ≡ nat_lt most_bytes n
+capped n = grind (arith, nat_tests)
 
 -- the JSON of tokens is at least as long as that of the first of them
 pub front_is_shorter : (ts us : List Token) → length (pretty ts) ≤ length (pretty (ts ++ us))

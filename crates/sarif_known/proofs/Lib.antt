@@ -1,4 +1,5 @@
 pub mod Grouped
+pub mod JustKnown
 pub mod KnownParts
 pub mod KnownPlain
 pub mod Lengths

@@ -136,6 +136,8 @@ by_sound d head tool parts r ordered read is =
         level = level_right head parts level.0 level.1;
         full = at_ordered (codes "fingerprints") d parts.full ordered read.full;
         partial = at_ordered (codes "partialFingerprints") d parts.partial ordered read.partial;
+        region = refl;
+        snippet = refl;
       };
     })
 

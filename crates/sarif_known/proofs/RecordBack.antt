@@ -1,6 +1,7 @@
 -- The record of a known result is the record that it was written from.
 use Rattle.std.proofs.Common.{◌≡◌, ℕ, false, List, [], ◌∷◌, map, Option, Some, None, option_map, refl, sym}
-use Rattle.std.specs.Prelude.{Ok, IfSome, slice_get}
+use Rattle.std.specs.Prelude.{Result, Ok, IfSome, slice_get}
+use Rattle.sarif_model.specs.declared.fault.Fault.{Fault}
 use Rattle.sarif_model.specs.declared.kinds.Kind.{Kind}
 use Rattle.sarif_model.specs.declared.kinds.Kind.TheVariants.{Pass, Undecided, Informational, NotApplicable, Review, Fail}
 use Rattle.sarif_model.specs.declared.kinds.Level.{Level}
@@ -61,4 +62,13 @@ pub record_back : (bases : List (List ℕ)) (n : ℕ) (r : Record) → IsReadabl
     → record_by (known_head bases) r.tool (known_parts r (number_for n r)) ≡ Ok r
 unfolding record_by
 record_back bases n r readable there =
-    rw (no_descriptor (none_if_empty r.rule_id), place_back bases n r.place.uri r.place.base there, level_back r.kind r.level readable.level, id_back r.rule_id) refl
+    rw (no_descriptor (none_if_empty r.rule_id), place_back bases n r.place.uri r.place.base there, level_back r.kind r.level readable.level, id_back r.rule_id) whole_back
+  where
+    no_region : None ≡ r.region
+    no_region = sym readable.region
+
+    no_snippet : None ≡ r.snippet
+    no_snippet = sym readable.snippet
+
+    whole_back : ◌≡◌ {A = Result Record Fault} (Ok (record { tool = r.tool; rule_id = r.rule_id; kind = r.kind; level = r.level; message = r.message; place = r.place; guid = r.guid; full = r.full; partial = r.partial; held = r.held; region = None; snippet = None })) (Ok r)
+    whole_back = λ i. Ok (record { tool = r.tool; rule_id = r.rule_id; kind = r.kind; level = r.level; message = r.message; place = r.place; guid = r.guid; full = r.full; partial = r.partial; held = r.held; region = no_region i; snippet = no_snippet i })

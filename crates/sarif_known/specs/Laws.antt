@@ -1,5 +1,5 @@
 -- The facts about records that can become known, and about a known log that is read again.
-use Rattle.std.specs.Prelude.{◌≡◌, ◌≤◌, ◌<◌, ◌^◌, ℕ, false, List, [], map, length, IfSome}
+use Rattle.std.specs.Prelude.{◌≡◌, ◌≤◌, ◌<◌, ◌^◌, ℕ, false, List, [], map, length, None, IfSome}
 use Rattle.std.specs.List.{AllByRecursion, flat_map}
 use Rattle.json_parts.specs.Internal.Ordered.{AreMembersOrdered}
 use Rattle.sarif_model.specs.declared.kinds.Level.TheVariants.{NoLevel}
@@ -12,12 +12,14 @@ use Rattle.sarif_known.specs.Chosen.{Chosen, results_among}
 use Rattle.sarif_model.specs.Written.{text_members}
 
 -- the facts about each record that was read: its GUID has 128 bits; it has a level only if its kind is fail; the names
--- of its fingerprints strictly rise
+-- of its fingerprints strictly rise; its region and its snippet were not read
 pub record IsReadable (r : Record) : Type 0 where
   pub guid : IfSome r.guid (λ guid. guid < 2 ^ 128)
   pub level : is_fail r.kind ≡ false → r.level ≡ NoLevel
   pub full : AreMembersOrdered (text_members r.full)
   pub partial : AreMembersOrdered (text_members r.partial)
+  pub region : r.region ≡ None
+  pub snippet : r.snippet ≡ None
 
 -- the results of a run of this tool can be read again
 pub record IsOfTool (tool : List ℕ) (r : Record) : Type 0 where
@@ -49,6 +51,8 @@ without_own r = record {
   full = r.full;
   partial = r.partial;
   held = [];
+  region = r.region;
+  snippet = r.snippet;
 }
 
 -- the records are equal except for those statuses

@@ -8,8 +8,8 @@ ghost use Rattle.sarif_known.specs.Selected as said;
 ghost use Rattle.sarif_known.specs.Selected.{kept_of, known_of, unmatched_of};
 
 use crate::chosen::KnownRun;
-use sarif_counts::Policy;
 use sarif_model::{Record, State, Text};
+use sarif_options::Policy;
 use sarif_results::Draft;
 use sarif_suppress::{Applied, Suppressions};
 use std::alloc::{AllocError, Global};

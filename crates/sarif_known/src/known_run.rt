@@ -2,13 +2,13 @@
 ghost use Rattle.std.specs.Prelude.{◌≡◌, ◌≤◌, ◌<◌, ◌+◌, ◌-◌, ◌^◌, ◌++◌, ◌==◌, Some, is_some, length, map, option_map, IfErr, OnOk, codes};
 ghost use Rattle.json.specs.Layout.{pretty};
 ghost use Rattle.serde_json.specs.Data.{member, no_members, object, string};
-ghost use Rattle.sarif_model.specs.Limits.{most_results};
+ghost use Rattle.sarif_model.specs.Limits.{most_bytes, most_results};
 ghost use Rattle.sarif_known.specs.Chosen.{chosen_of};
 ghost use Rattle.sarif_known.specs.KnownLog.{too_long, IsLost};
 ghost use Rattle.sarif_model.specs.Written.{list_if_any};
 ghost use Rattle.sarif_known.specs.KnownRun as said;
 ghost use Rattle.sarif_known.specs.KnownRun.{artifact_at, bases_alone, known_run, results_from, tool_named};
-ghost use Rattle.sarif_known.specs.Internal.Tokens.{data_tokens, each_tokens, run_closing, run_opening, value_tokens};
+ghost use Rattle.sarif_known.specs.Internal.Tokens.{data_tokens, each_tokens, least_bytes, run_closing, run_opening, value_tokens};
 
 use crate::chosen::KnownRun;
 use crate::known_result::push_result;
@@ -95,6 +95,7 @@ fn push_artifact_at(out: &mut Lines, base: &Text) -> Result<(), AllocError>
 /// Adds an artifact with this base, unless the text gets too long.
 fn push_artifact(out: &mut Lines, base: &Text) -> Result<(), MergeFault>
     ensures added { OnOk result (out.new ≡ out.old ++ data_tokens (artifact_at base.now)) }
+    ensures short { OnOk result (least_bytes out.new ≤ most_bytes) }
     ensures lost { IfErr result (IsLost (pretty (out.old ++ data_tokens (artifact_at base.now)))) }
 {
     push_artifact_at(out, base)?;
@@ -108,6 +109,8 @@ fn push_artifact(out: &mut Lines, base: &Text) -> Result<(), MergeFault>
 fn push_artifacts(out: &mut Lines, records: &[&Record]) -> Result<(), MergeFault>
     ensures added { OnOk result (out.new ≡ out.old
         ++ each_tokens (map artifact_at (bases_alone (map (λ r. r.now) records.now)))) }
+    ensures short { OnOk result
+        (least_bytes out.old ≤ most_bytes → least_bytes out.new ≤ most_bytes) }
     ensures lost { IfErr result (IsLost (pretty (out.old
         ++ each_tokens (map artifact_at (bases_alone (map (λ r. r.now) records.now)))))) }
 {
@@ -158,6 +161,8 @@ fn push_results(out: &mut Lines, records: &[&Record]) -> Result<(), MergeFault>
     requires few { length records.now ≤ most_results }
     ensures added { OnOk result
         (out.new ≡ out.old ++ each_tokens (results_from 0 (map (λ r. r.now) records.now))) }
+    ensures short { OnOk result
+        (least_bytes out.old ≤ most_bytes → least_bytes out.new ≤ most_bytes) }
     ensures lost { IfErr result (IsLost
         (pretty (out.old ++ each_tokens (results_from 0 (map (λ r. r.now) records.now))))) }
 {

@@ -1,20 +1,25 @@
 //! Laws of the known log, each the contract of a function that does nothing.
-ghost use Rattle.std.specs.Prelude.{◌≡◌, ℕ, Bool, List, Option, Some, Ok, map, option_and_then};
+ghost use Rattle.std.specs.Prelude.{◌≡◌, ◌∷◌, ℕ, Bool, List, Option, Some, Ok, map, option_and_then};
 ghost use Rattle.std.specs.Prelude.{slice_get, slice_index_or};
 ghost use Rattle.serde_json.specs.Data.{Data, null};
 ghost use Rattle.json_parts.specs.Indexed.{json_of};
 ghost use Rattle.json_parts.specs.Mark.{without_mark};
 ghost use Rattle.sarif_match.specs.Partners.{partners_of};
 ghost use Rattle.sarif_match.specs.State.{state_of};
+ghost use Rattle.sarif_model.specs.declared.kinds.State.{State};
 ghost use Rattle.sarif_model.specs.declared.record.Record.{Record};
+ghost use Rattle.sarif_options.specs.declared.policy.Policy.{Policy};
+ghost use Rattle.sarif_entries.specs.File.{File};
 ghost use Rattle.sarif_read.specs.Reading.{log_of};
 ghost use Rattle.sarif_runs.specs.Judging.{run_values};
 ghost use Rattle.sarif_runs.specs.Placed.{Placed};
 ghost use Rattle.sarif_runs.specs.Record.{record_of};
 ghost use Rattle.sarif_known.specs.Chosen.{Chosen};
+ghost use Rattle.sarif_known.specs.JustKnown.{StaysOut};
 ghost use Rattle.sarif_known.specs.KnownLog.{known_log};
 ghost use Rattle.sarif_known.specs.KnownRun.{known_run};
 ghost use Rattle.sarif_known.specs.Laws.{AreAlike, AreKnownAgain, CanBeRead, IsOfTool};
+ghost use Rattle.sarif_known.specs.Selected.{known_of};
 ghost use Rattle.sarif_model.specs.Driver.{tool_name};
 
 /// What is known is read again: the known log is read without an error, and the records of its results are exactly
@@ -43,4 +48,18 @@ pub fn own_suppressions_of_a_baseline_change_no_match()
         → AreAlike baseline others
         → state_of r (option_and_then (slice_get baseline) partner)
         ≡ state_of r (option_and_then (slice_get others) partner) }
+{}
+
+/// Exactly these current results become known, in order: all but those that are suppressed only until a day, and, unless
+/// new results are adopted, the new ones that are suppressed, or are or would be hits.
+#[tactic(auto, using(crate::proofs::JustKnown::not_known, crate::proofs::JustKnown::becomes_known))]
+pub fn just_these_results_become_known()
+    ensures others { (file : File) (policy : Policy) (adopt : Bool) (r : Record) (rs : List Record)
+        (state : State) (states : List State) → StaysOut file policy adopt r state
+        → known_of file policy adopt (r ∷ rs) (state ∷ states)
+        ≡ known_of file policy adopt rs states }
+    ensures known { (file : File) (policy : Policy) (adopt : Bool) (r : Record) (rs : List Record)
+        (state : State) (states : List State) → (StaysOut file policy adopt r state → ⊥)
+        → known_of file policy adopt (r ∷ rs) (state ∷ states)
+        ≡ r ∷ known_of file policy adopt rs states }
 {}

@@ -16,6 +16,6 @@ pub use choosing::{Choice, Results, keep_run, know_run};
 pub use chosen::KnownRun;
 pub use known_log::known_text;
 pub use laws::{
-    own_suppressions_of_a_baseline_change_no_match, what_is_known_is_read_again,
-    what_is_read_can_be_known,
+    just_these_results_become_known, own_suppressions_of_a_baseline_change_no_match,
+    what_is_known_is_read_again, what_is_read_can_be_known,
 };

@@ -1,10 +1,11 @@
 //! The text of JSON, a token at a time, with a line for each item and member.
-ghost use Rattle.std.specs.Prelude.{◌≡◌, ◌≤◌, ◌<◌, ◌++◌, ◌∷◌, [], length, true, IfOk, OnOk, string_bytes};
+ghost use Rattle.std.specs.Prelude.{◌≡◌, ◌++◌, ◌∷◌, [], nat_lt, IfOk, OnOk, string_bytes};
 ghost use Rattle.json.specs.Layout.{pretty};
 ghost use Rattle.json.specs.Lex.{tokens};
-ghost use Rattle.json.specs.Print.{token_text, IsPrintable};
+ghost use Rattle.json.specs.Print.{IsPrintable};
 ghost use Rattle.json.specs.Reads.{token_of};
 ghost use Rattle.sarif_model.specs.Limits.{most_bytes};
+ghost use Rattle.sarif_known.specs.Internal.Tokens.{least_bytes, own_bytes};
 
 use json::{Pretty, Token};
 use sarif_model::MOST_BYTES;
@@ -15,14 +16,14 @@ use std::marker::Model;
 #[derive(Drop)]
 pub(crate) struct Lines {
     out: Pretty,
-    /// The text has at least this many bytes.
+    /// How many bytes the tokens have at least, as far as a `usize` goes.
     least: usize,
 }
 
 impl Model for Lines {
-    ghost use Rattle.std.specs.Prelude.{◌≤◌, List, length};
-    ghost use Rattle.json.specs.Layout.{pretty};
+    ghost use Rattle.std.specs.Prelude.{◌≡◌, ◌-◌, ◌^◌, List, min};
     ghost use Rattle.json.specs.Token.{Token as SpecToken, tokens_code};
+    ghost use Rattle.sarif_known.specs.Internal.Tokens.{least_bytes};
 
     ghost Value = { List SpecToken };
 
@@ -30,13 +31,12 @@ impl Model for Lines {
 
     ghost view = { λ l. l.out };
 
-    ghost invariant = { λ l. l.least ≤ length (pretty l.out) };
+    ghost invariant = { λ l. l.least ≡ min (least_bytes l.out) (2 ^ 64 - 1) };
 }
 
 /// How many bytes a token has at least.
-#[tactic(auto, using(crate::proofs::Lengths::quoted_is_longer, crate::proofs::Lengths::key_is_longer))]
 fn bytes_of(token: Token<'_>) -> usize
-    ensures { result ≤ length (token_text (token_of token.entry)) }
+    ensures { result ≡ own_bytes (token_of token.entry) }
 {
     match token {
         Token::Key(text) => text.len(),
@@ -69,9 +69,10 @@ impl Lines {
         Ok(())
     }
 
-    /// Whether the text is known to be too long.
+    /// Whether the tokens alone have too many bytes, without what is between them and escaped.
+    #[tactic(auto, using(crate::proofs::Lengths::capped))]
     pub(crate) fn is_long(&self) -> bool
-        ensures { result ≡ true → most_bytes < length (pretty self.now) }
+        ensures { result ≡ nat_lt most_bytes (least_bytes self.now) }
     {
         self.least > MOST_BYTES
     }

@@ -11,7 +11,7 @@ use Rattle.sarif_model.specs.declared.record.Record.{Record}
 use Rattle.sarif_model.specs.Members.{elements}
 use Rattle.sarif_model.specs.Run.{elements_or_none, is_absent_result, present, results_of}
 use Rattle.sarif_model.proofs.Elements.{items_back}
-use Rattle.sarif_counts.specs.declared.policy.Policy.{Policy}
+use Rattle.sarif_options.specs.declared.policy.Policy.{Policy}
 use Rattle.sarif_entries.specs.Matching.{is_empty}
 use Rattle.sarif_results.specs.Annotated.{own_suppressions}
 use Rattle.sarif_log.specs.MergedRuns.{absent_runs, bare, if_any, keep_if, unmatched, with_absent, written}

@@ -9,10 +9,10 @@ use Rattle.sarif_model.specs.declared.fault.Fault.{Fault}
 use Rattle.sarif_model.specs.declared.record.Record.{Record}
 use Rattle.sarif_model.specs.Run.{result_at, results_of}
 use Rattle.sarif_model.specs.State.{state_name}
-use Rattle.sarif_counts.specs.declared.policy.Policy.{Policy}
-use Rattle.sarif_counts.specs.declared.upkeep.Renewal.{Renewal}
+use Rattle.sarif_options.specs.declared.policy.Policy.{Policy}
+use Rattle.sarif_options.specs.declared.upkeep.Renewal.{Renewal}
 use Rattle.sarif_counts.specs.CountOf.{count_of}
-use Rattle.sarif_counts.specs.Policy.{hits_of}
+use Rattle.sarif_counts.specs.Hits.{hits_of}
 use Rattle.sarif_match.specs.State.{is_unchanged, state_of}
 use Rattle.sarif_model.specs.declared.kinds.State.TheVariants.{Unchanged, Updated}
 use Rattle.sarif_runs.specs.Judging.{records_of, run_values}

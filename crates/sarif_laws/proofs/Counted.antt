@@ -10,9 +10,10 @@ use Rattle.sarif_model.specs.declared.kinds.State.{State}
 use Rattle.sarif_model.specs.Members.{elements}
 use Rattle.sarif_model.specs.Run.{results_of}
 use Rattle.sarif_model.proofs.Elements.{items_or_none}
-use Rattle.sarif_counts.specs.declared.policy.Policy.{Policy}
-use Rattle.sarif_counts.specs.declared.policy.Verdict.TheVariants.{Fail, Pass}
-use Rattle.sarif_counts.specs.Policy.{count_if, hits_of, is_listed}
+use Rattle.sarif_options.specs.declared.policy.Policy.{Policy}
+use Rattle.sarif_counts.specs.declared.gate_verdict.Verdict.TheVariants.{Fail, Pass}
+use Rattle.sarif_options.specs.Policy.{is_listed}
+use Rattle.sarif_counts.specs.Hits.{count_if, hits_of}
 use Rattle.sarif_counts.specs.Tally.{same_side}
 use Rattle.sarif_counts.specs.CountOf.{carries, count_in, count_of, results_in, suppresses, suppressions_in}
 use Rattle.sarif_findings.specs.Reported.{level_in, state_in}

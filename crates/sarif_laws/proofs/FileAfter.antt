@@ -1,5 +1,5 @@
 -- The new suppression file of inputs without errors is read as the file that was meant.
-use Rattle.std.proofs.Common.{◌≡◌, ℕ, ◌≤◌, ◌++◌, Bool, true, false, ◌&&◌, not, List, [], ◌∷◌, Option, Some, None, Result, Ok, Err, refl, ap, ◌∙◌, if◌then◌else◌}
+use Rattle.std.proofs.Common.{◌≡◌, ℕ, ◌≤◌, ◌++◌, Bool, true, false, ◌&&◌, not, List, [], ◌∷◌, Result, Ok, Err, refl, ap, ◌∙◌, if◌then◌else◌}
 use Rattle.std.specs.Prelude.{nat_lt}
 use Rattle.std.specs.List.{AllByRecursion, list_any}
 use Rattle.std.proofs.lemmas.Bool.{ltb-false}
@@ -8,13 +8,14 @@ use Rattle.sarif_model.specs.declared.merge_fault.MergeFault.{MergeFault}
 use Rattle.sarif_model.specs.declared.merge_fault.Source.TheVariants.{Log, Baseline}
 use Rattle.sarif_model.specs.declared.record.Record.{Record}
 use Rattle.sarif_model.specs.Limits.{most_entries}
-use Rattle.sarif_counts.specs.declared.policy.Policy.{Policy}
-use Rattle.sarif_counts.specs.declared.upkeep.Renewal.{Renewal}
+use Rattle.sarif_options.specs.declared.policy.Policy.{Policy}
+use Rattle.sarif_options.specs.declared.upkeep.Renewal.{Renewal}
 use Rattle.sarif_entries.specs.declared.fault.FileFault.{FileFault}
 use Rattle.sarif_entries.specs.File.{File, file_of}
 use Rattle.sarif_results.proofs.JudgedCounts.{no_faults_here, no_faults_left}
 use Rattle.sarif_log.specs.LogBy.{states_of}
-use Rattle.sarif_inputs.specs.Faults.{faults_of, file_faults, file_or_none, number_faults}
+use Rattle.sarif_inputs.specs.Faults.{faults_of, file_faults, number_faults}
+use Rattle.sarif_entries.specs.Given.{file_or_none}
 use Rattle.sarif_inputs.specs.Inputs.{Inputs, all_runs, all_sources, input_runs}
 use Rattle.sarif_inputs.specs.SourceFaults.{source_faults}
 use Rattle.sarif_runs.specs.Judging.{faults_of_runs}
@@ -23,7 +24,6 @@ use Rattle.sarif_merge.specs.MergedLog.{current_of, file_given, file_in}
 use Rattle.sarif_merge.specs.OwnResult.{baseline_of}
 use Rattle.sarif_upkeep.specs.Renewed.{entries_count, how_of, renewal_faults}
 use Rattle.sarif_accept.specs.Adding.{Counts, accepted_among, file_after, is_hit, is_said, may_hit, once_each, stays}
-use Rattle.sarif_accept.specs.Given as accept
 use Rattle.sarif_accept.specs.Until.{HasGuid, IsDated}
 use Rattle.sarif_accept.proofs.GivenFile.{today_given}
 use Rattle.sarif_accept.proofs.NewFileRead.{new_file_read}
@@ -36,10 +36,6 @@ file_is : (read : Result File FileFault) → file_faults read ≡ [] → read �
 file_is (Ok file) none = refl
 file_is (Err fault) none = let never : ⊥ = cc in absurd never
 
-same_given : (given : Option (List ℕ)) (today : Option ℕ) → accept.file_given given today ≡ file_or_none given today
-same_given None today = refl
-same_given (Some bytes) today = refl
-
 -- it is read without an error
 pub input_file : (inputs : Inputs) → faults_of inputs ≡ [] → file_or_none inputs.suppressions inputs.today ≡ Ok (file_given inputs)
 input_file inputs none =
@@ -51,12 +47,9 @@ input_file inputs none =
     let after_sources = no_faults_left sources (files ++ runs) after_baselines in
     file_is (file_or_none inputs.suppressions inputs.today) (no_faults_here files runs after_sources)
 
-file_read : (inputs : Inputs) → faults_of inputs ≡ [] → accept.file_given inputs.suppressions inputs.today ≡ Ok (file_given inputs)
-file_read inputs none = same_given inputs.suppressions inputs.today ∙ input_file inputs none
-
 -- it was read for the date of the inputs
 pub same_today : (inputs : Inputs) → faults_of inputs ≡ [] → (file_given inputs).today ≡ inputs.today
-same_today inputs none = today_given inputs.suppressions inputs.today (file_given inputs) (file_read inputs none)
+same_today inputs none = today_given inputs.suppressions inputs.today (file_given inputs) (input_file inputs none)
 
 -- ---- the results for which entries are added
 
@@ -105,7 +98,7 @@ module _ (inputs : Inputs) (policy : Policy) (renewal : Renewal) (text : List �
   later_read =
       let rs = current_of inputs in
       let states = states_of rs (baseline_of inputs) in
-      new_file_read (how_of (merge_in inputs policy) renewal) (may_hit policy) inputs.suppressions inputs.today (file_given inputs) rs states text (file_read inputs none)
+      new_file_read (how_of (merge_in inputs policy) renewal) (may_hit policy) inputs.suppressions inputs.today (file_given inputs) rs states text (input_file inputs none)
       (added_fit renewal.accept (accepted_among (may_hit policy) (file_given inputs) rs states) (accepted_fit (may_hit policy) (file_given inputs) rs states (guids_fit (input_runs inputs))))
       dated (few_by (entries_count (merge_in inputs policy) renewal) _ _ small) is
 

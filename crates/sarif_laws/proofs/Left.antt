@@ -14,12 +14,12 @@ use Rattle.sarif_model.specs.Members.{◌>>=◌, elements, read_each, result_map
 use Rattle.sarif_model.specs.Run.{is_absent_result, is_text}
 use Rattle.sarif_model.specs.State.{state_name}
 use Rattle.sarif_model.specs.Suppression.{status_of}
-use Rattle.sarif_counts.specs.declared.policy.Policy.{Policy}
+use Rattle.sarif_options.specs.declared.policy.Policy.{Policy}
 use Rattle.sarif_counts.specs.CountOf.{items_in}
 use Rattle.sarif_model.specs.Level.{is_at_least}
 use Rattle.sarif_model.proofs.Elements.{items_back}
 use Rattle.sarif_model.specs.Status.{is_accepted}
-use Rattle.sarif_counts.specs.Policy.{is_listed}
+use Rattle.sarif_options.specs.Policy.{is_listed}
 use Rattle.sarif_findings.specs.Reported.{is_active, level_in}
 use Rattle.sarif_entries.specs.File.{File}
 use Rattle.sarif_entries.specs.Matching.{is_empty}

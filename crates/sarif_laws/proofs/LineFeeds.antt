@@ -1,6 +1,6 @@
 -- The list of unused entries has a line for each of them.
 use Rattle.std.proofs.Common.{◌≡◌, ◌<◌, ◌≤◌, ◌==◌, ◌^◌, ◌+◌, ◌%◌, ℕ, Bool, true, false, cond, List, [], ◌∷◌, ◌++◌, length, Option, Some, None, Ok, codes, chars, decimal, if◌then◌else◌, refl, ap, sym, subst, ◌∙◌, arith, true≢false}
-use Rattle.std.specs.Prelude.{⊤, count_by, encode_utf8_all, nat_le}
+use Rattle.std.specs.Prelude.{⊤, count_by, encode_utf8_all, nat_le, ok_or}
 use Rattle.std.proofs.lemmas.Bool.{and_parts, eqb-true, leb-true, ne_eqb}
 use Rattle.std.proofs.lemmas.Fmt.{decimal_by_steps}
 use Rattle.std.proofs.lemmas.List.Sums.{sum_by-append, sum_by-cons}
@@ -8,16 +8,16 @@ use Rattle.serde_json.specs.Data.{Data}
 use Rattle.serde_json.specs.Written.{compact_text}
 use Rattle.json_parts.specs.Indexed.{json_of}
 use Rattle.json_parts.specs.Mark.{without_mark}
-use Rattle.sarif_model.specs.declared.fault.Fault.TheVariants.{TooMany}
+use Rattle.sarif_model.specs.declared.fault.Fault.TheVariants.{TooMany, NotJson}
 use Rattle.sarif_model.specs.declared.record.Record.{Record}
 use Rattle.sarif_model.specs.Limits.{most_entries}
 use Rattle.sarif_read.proofs.WholeRuns.{bind_ok}
-use Rattle.sarif_counts.specs.declared.policy.Policy.{Policy}
+use Rattle.sarif_options.specs.declared.policy.Policy.{Policy}
 use Rattle.sarif_entries.specs.declared.entry.Entry.{Entry}
 use Rattle.sarif_entries.specs.declared.fault.FileFault.{FileFault}
 use Rattle.sarif_entries.specs.Entries.{unless_fault}
 use Rattle.sarif_entries.specs.FileFault.{whole}
-use Rattle.sarif_entries.specs.File.{File, check_count, check_list, check_version, entries_from, file_of, file_of_value, value_or}
+use Rattle.sarif_entries.specs.File.{File, check_count, check_list, check_version, entries_from, file_of, file_of_value}
 use Rattle.sarif_entries.specs.Matching.{is_expired}
 use Rattle.sarif_suppress.specs.Suppressing.{is_unused}
 use Rattle.sarif_findings.specs.Shown.{shown, shown_chars}
@@ -116,7 +116,7 @@ few_by false fault n u is checked = let never : ⊥ = cc in absurd never
 few_entries : (bytes : List ℕ) (today : Option ℕ) (file : File) → file_of bytes today ≡ Ok file → length file.entries ≤ most_entries
 unfolding file_of file_of_value
 few_entries bytes today file is =
-    let parsed = bind_ok (value_or (json_of (without_mark bytes))) _ file is in
+    let parsed = bind_ok (ok_or (json_of (without_mark bytes)) (whole NotJson)) _ file is in
     let list = bind_ok (check_list parsed.0) _ file parsed.2 in
     let version = bind_ok (check_version parsed.0) _ file list.2 in
     let count = bind_ok (check_count list.0) _ file version.2 in

@@ -15,10 +15,10 @@ use Rattle.sarif_model.specs.declared.merge_fault.Source.TheVariants.{Baseline}
 use Rattle.sarif_model.specs.declared.record.Record.{Record}
 use Rattle.sarif_model.specs.Members.{elements}
 use Rattle.sarif_model.specs.Run.{result_at, results_of}
-use Rattle.sarif_counts.specs.declared.policy.Policy.{Policy}
-use Rattle.sarif_counts.specs.declared.upkeep.Knowing.{Knowing}
+use Rattle.sarif_options.specs.declared.policy.Policy.{Policy}
+use Rattle.sarif_options.specs.declared.upkeep.Knowing.{Knowing}
 use Rattle.sarif_counts.specs.CountOf.{count_of}
-use Rattle.sarif_counts.specs.Policy.{hits_of}
+use Rattle.sarif_counts.specs.Hits.{hits_of}
 use Rattle.sarif_entries.specs.File.{File}
 use Rattle.sarif_findings.specs.Reported.{is_active, level_in, state_in}
 use Rattle.sarif_match.specs.State.{state_of}

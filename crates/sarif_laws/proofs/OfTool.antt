@@ -7,7 +7,7 @@ use Rattle.sarif_model.specs.declared.merge_fault.Source.{Source}
 use Rattle.sarif_model.specs.declared.record.Record.{Record}
 use Rattle.sarif_model.specs.Run.{results_of}
 use Rattle.sarif_model.specs.Driver.{tool_name}
-use Rattle.sarif_counts.specs.declared.checks.Checks.{Checks}
+use Rattle.sarif_options.specs.declared.checks.Checks.{Checks}
 use Rattle.sarif_read.specs.declared.read_fault.ReadFault.{ReadFault}
 use Rattle.sarif_read.specs.Reading.{log_of}
 use Rattle.sarif_runs.specs.Judging.{items_of, records_in}

@@ -9,10 +9,10 @@ use Rattle.sarif_model.specs.declared.kinds.State.{State}
 use Rattle.sarif_model.specs.declared.record.Record.{Record}
 use Rattle.sarif_model.specs.Members.{elements}
 use Rattle.sarif_model.specs.Run.{results_of}
-use Rattle.sarif_counts.specs.declared.policy.Policy.{Policy}
-use Rattle.sarif_counts.specs.declared.upkeep.Renewal.{Renewal}
+use Rattle.sarif_options.specs.declared.policy.Policy.{Policy}
+use Rattle.sarif_options.specs.declared.upkeep.Renewal.{Renewal}
 use Rattle.sarif_counts.specs.CountOf.{count_of}
-use Rattle.sarif_counts.specs.Policy.{verdict_of}
+use Rattle.sarif_counts.specs.Hits.{verdict_of}
 use Rattle.sarif_runs.specs.Judging.{run_values}
 use Rattle.sarif_results.specs.Annotated.{annotated_members, own_suppressions}
 use Rattle.sarif_results.specs.Drafts.{Listing}
@@ -165,6 +165,7 @@ module _ (inputs : Inputs) (policy : Policy) (renewal : Renewal) (text : List 鈩
     runs = same_log;
     counts = ap count_of same_log;
     verdict = 位 any. ap (位 runs. verdict_of (count_of runs) any) same_log;
+    entries = later_entries;
     unused = 位 e unused. unused_now e unused.0.0 unused.0.1 unused.0.2 unused.1;
     none_unused = 位 all. none_counted (is_unused (file_given (with_file inputs text)) (current_of inputs)) (file_given (with_file inputs text)).entries
         (位 e i within at. used_by (is_unused (file_given (with_file inputs text)) (current_of inputs) e) e i within at (all e (i, within, at)) refl);

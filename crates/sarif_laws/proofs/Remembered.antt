@@ -13,12 +13,13 @@ use Rattle.serde_json.specs.Written.{items_outline, members_outline, outline}
 use Rattle.sarif_model.specs.declared.merge_fault.Source.TheVariants.{Log, Baseline}
 use Rattle.sarif_model.specs.Limits.{most_results, most_runs}
 use Rattle.sarif_model.specs.Run.{results_total}
-use Rattle.sarif_counts.specs.declared.policy.Policy.{Policy}
-use Rattle.sarif_counts.specs.declared.upkeep.Knowing.{Knowing}
+use Rattle.sarif_options.specs.declared.policy.Policy.{Policy}
+use Rattle.sarif_options.specs.declared.upkeep.Knowing.{Knowing}
 use Rattle.sarif_runs.specs.Judging.{faults_of_runs, run_faults, run_values}
 use Rattle.sarif_read.specs.Reading.{log_of}
 use Rattle.sarif_results.proofs.JudgedCounts.{no_faults_here, no_faults_left}
-use Rattle.sarif_inputs.specs.Faults.{faults_of, file_faults, file_or_none, number_faults}
+use Rattle.sarif_inputs.specs.Faults.{faults_of, file_faults, number_faults}
+use Rattle.sarif_entries.specs.Given.{file_or_none}
 use Rattle.sarif_inputs.specs.Inputs.{Inputs, Sourced, all_runs, all_sources, baseline_runs, baseline_sources, input_runs, log_sources, placed, placed_from, runs_in}
 use Rattle.sarif_inputs.specs.SourceFaults.{limit_faults, reading_faults, source_faults}
 use Rattle.sarif_inputs.proofs.ReadFacts.{baseline_sides, log_sides, placed-append}

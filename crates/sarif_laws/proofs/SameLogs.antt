@@ -10,7 +10,7 @@ use Rattle.sarif_model.specs.declared.fault.Fault.TheVariants.{NotJson}
 use Rattle.sarif_model.specs.declared.merge_fault.Source.{Source}
 use Rattle.sarif_model.specs.declared.merge_fault.Source.TheVariants.{Log}
 use Rattle.sarif_model.specs.Run.{results_total, runs_of}
-use Rattle.sarif_counts.specs.declared.checks.Checks.{Checks}
+use Rattle.sarif_options.specs.declared.checks.Checks.{Checks}
 use Rattle.sarif_read.specs.declared.read_fault.ReadFault.{ReadFault}
 use Rattle.sarif_read.specs.Reading.{at_whole, check_each, check_log, log_of, log_of_value, ok_or}
 use Rattle.sarif_read.specs.Stripping.{stripped}

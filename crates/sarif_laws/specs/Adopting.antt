@@ -5,11 +5,11 @@ use Rattle.serde_json.specs.Data.{Data}
 use Rattle.sarif_model.specs.declared.kinds.State.TheVariants.{Absent, Unchanged}
 use Rattle.sarif_model.specs.declared.record.Record.{Record}
 use Rattle.sarif_model.specs.Run.{results_of}
-use Rattle.sarif_counts.specs.declared.policy.Policy.{Policy}
-use Rattle.sarif_counts.specs.declared.policy.Verdict.TheVariants.{Pass}
-use Rattle.sarif_counts.specs.declared.upkeep.Knowing.{Knowing}
+use Rattle.sarif_options.specs.declared.policy.Policy.{Policy}
+use Rattle.sarif_counts.specs.declared.gate_verdict.Verdict.TheVariants.{Pass}
+use Rattle.sarif_options.specs.declared.upkeep.Knowing.{Knowing}
 use Rattle.sarif_counts.specs.CountOf.{count_of}
-use Rattle.sarif_counts.specs.Policy.{verdict_of}
+use Rattle.sarif_counts.specs.Hits.{verdict_of}
 use Rattle.sarif_findings.specs.Reported.{state_in}
 use Rattle.sarif_runs.specs.Record.{record_of}
 use Rattle.sarif_known.specs.KnownResult.{known_result}

@@ -5,10 +5,10 @@ use Rattle.sarif_model.specs.declared.kinds.Level.{Level}
 use Rattle.sarif_model.specs.declared.kinds.State.{State}
 use Rattle.sarif_model.specs.Members.{elements}
 use Rattle.sarif_model.specs.Run.{is_absent_result}
-use Rattle.sarif_counts.specs.declared.policy.Policy.{Policy}
+use Rattle.sarif_options.specs.declared.policy.Policy.{Policy}
 use Rattle.sarif_counts.specs.CountOf.{suppressions_in}
 use Rattle.sarif_model.specs.Level.{is_at_least}
-use Rattle.sarif_counts.specs.Policy.{is_listed}
+use Rattle.sarif_options.specs.Policy.{is_listed}
 use Rattle.sarif_entries.specs.Matching.{is_empty}
 use Rattle.sarif_findings.specs.Reported.{is_active, level_in, state_in}
 

@@ -4,8 +4,8 @@ use Rattle.serde_json.specs.Data.{Data, null}
 use Rattle.json_parts.specs.Indexed.{json_of}
 use Rattle.json_parts.specs.Mark.{without_mark}
 use Rattle.sarif_model.specs.Run.{result_at}
-use Rattle.sarif_counts.specs.declared.policy.Policy.{Policy}
-use Rattle.sarif_counts.specs.declared.upkeep.Renewal.{Renewal}
+use Rattle.sarif_options.specs.declared.policy.Policy.{Policy}
+use Rattle.sarif_options.specs.declared.upkeep.Renewal.{Renewal}
 use Rattle.sarif_inputs.specs.Inputs.{Inputs, baseline_runs, input_runs}
 use Rattle.sarif_log.specs.LogBy.{leftover_runs}
 use Rattle.sarif_merge.specs.Life.{merge_in}

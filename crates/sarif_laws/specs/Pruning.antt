@@ -1,8 +1,8 @@
 -- What pruning the suppression file leaves in the next merge.
-use Rattle.std.specs.Prelude.{◌≡◌, ℕ, true, false, List, [], Contains}
-use Rattle.sarif_counts.specs.declared.policy.Policy.{Policy}
+use Rattle.std.specs.Prelude.{◌≡◌, ℕ, true, false, List, [], Contains, filter}
+use Rattle.sarif_options.specs.declared.policy.Policy.{Policy}
 use Rattle.sarif_counts.specs.CountOf.{count_of}
-use Rattle.sarif_counts.specs.Policy.{verdict_of}
+use Rattle.sarif_counts.specs.Hits.{verdict_of}
 use Rattle.sarif_inputs.specs.Faults.{faults_of}
 use Rattle.sarif_inputs.specs.Inputs.{Inputs, input_runs}
 use Rattle.sarif_merge.specs.MergedLog.{current_of, file_given, runs_written, unused_in}
@@ -12,6 +12,7 @@ use Rattle.sarif_entries.specs.Condition.{text_in}
 use Rattle.sarif_entries.specs.declared.entry.Entry.{Entry}
 use Rattle.sarif_entries.specs.Matching.{is_expired}
 use Rattle.sarif_suppress.specs.Suppressing.{is_unused}
+use Rattle.sarif_accept.specs.Keeping.{is_kept}
 use Rattle.sarif_upkeep.specs.Heard.{heard}
 use Rattle.sarif_laws.specs.NextMerge.{with_file}
 
@@ -21,8 +22,9 @@ IsUnusedIn inputs e =
     Contains (file_given inputs).entries e
     × (is_unused (file_given inputs) (current_of inputs) e ≡ true)
 
--- with this suppression file the merge of the same inputs has no errors, and the same runs, counts and verdict; an entry
--- that is unused in it isn't expired, and its tool wasn't heard
+-- with this suppression file the merge of the same inputs has no errors, and the same runs, counts and verdict; its
+-- entries are exactly those that pruning keeps, in order; an entry that is unused in it isn't expired, and its tool wasn't
+-- heard
 pub record ChangesNoResult (inputs : Inputs) (text : List ℕ) : Type 0 where
   pub faultless : faults_of (with_file inputs text) ≡ []
   pub runs : runs_written (with_file inputs text) ≡ runs_written inputs
@@ -30,6 +32,9 @@ pub record ChangesNoResult (inputs : Inputs) (text : List ℕ) : Type 0 where
   pub verdict : (policy : Policy)
       → verdict_of (count_of (runs_written (with_file inputs text))) policy
       ≡ verdict_of (count_of (runs_written inputs)) policy
+  pub entries : (file_given (with_file inputs text)).entries
+      ≡ filter (is_kept true (heard (run_values (input_runs inputs)))
+      (file_given inputs) (current_of inputs)) (file_given inputs).entries
   pub unused : (e : Entry) → IsUnusedIn (with_file inputs text) e
       → (is_expired inputs.today e ≡ false)
       × (heard (run_values (input_runs inputs)) (text_in kinds.Tool e.conditions) ≡ false)

@@ -3,11 +3,11 @@ ghost use Rattle.std.specs.Prelude.{◌≡◌, ℕ, List, [], true, false, count
 ghost use Rattle.std.specs.Str.{IsUtf8};
 ghost use Rattle.serde_json.specs.Data.{Data};
 ghost use Rattle.sarif_model.specs.Run.{results_of};
-ghost use Rattle.sarif_counts.specs.declared.policy.Policy.{Policy};
-ghost use Rattle.sarif_counts.specs.declared.upkeep.Knowing.{Knowing};
-ghost use Rattle.sarif_counts.specs.declared.upkeep.Renewal.{Renewal};
+ghost use Rattle.sarif_options.specs.declared.policy.Policy.{Policy};
+ghost use Rattle.sarif_options.specs.declared.upkeep.Knowing.{Knowing};
+ghost use Rattle.sarif_options.specs.declared.upkeep.Renewal.{Renewal};
 ghost use Rattle.sarif_counts.specs.CountOf.{count_of};
-ghost use Rattle.sarif_counts.specs.Policy.{hits_of};
+ghost use Rattle.sarif_counts.specs.Hits.{hits_of};
 ghost use Rattle.sarif_accept.specs.Until.{IsDated, IsUntil};
 ghost use Rattle.sarif_known.specs.Laws.{AreAlike};
 ghost use Rattle.sarif_upkeep.specs.Known.{remembered, runs_known};
@@ -56,8 +56,9 @@ pub fn accepting_leaves_the_hits_that_stay()
 
 /// The law of pruning. Let inputs have no errors, and let their new suppression file have none, with pruning and without
 /// accepting. Then the merge of the same inputs with the new file has no errors, and the same runs, counts and verdict.
-/// An entry that is unused in it isn't expired, and names a tool that wasn't heard; or it names none, and an input run
-/// failed or there is none. So no entry is unused if the tool of each was heard.
+/// The entries of the new file are exactly those that pruning keeps, in order. An entry that is unused in it isn't expired,
+/// and names a tool that wasn't heard; or it names none, and an input run failed or there is none. So no entry is unused if
+/// the tool of each was heard.
 pub fn pruning_changes_no_run()
     ensures { (inputs : Inputs) (policy : Policy) (renewal : Renewal) (text : List ℕ)
         → faults_of inputs ≡ [] → renewal_faults (merge_in inputs policy) renewal ≡ []

@@ -15,8 +15,8 @@ use Rattle.sarif_model.specs.Run.{present, results_array, results_of}
 use Rattle.sarif_model.proofs.Elements.{items_or_none}
 use Rattle.sarif_counts.specs.CountOf.{count_in, count_of, items_in}
 use Rattle.sarif_counts.specs.Gate.{gate_of}
-use Rattle.sarif_counts.specs.Policy.{Count}
-use Rattle.sarif_counts.specs.declared.policy.Policy.{Policy}
+use Rattle.sarif_counts.specs.Hits.{Count}
+use Rattle.sarif_options.specs.declared.policy.Policy.{Policy}
 use Rattle.sarif_read.proofs.Beside.{member_beside}
 use Rattle.sarif_entries.specs.File.{File}
 use Rattle.sarif_suppress.specs.Suppressing.{unused_of}

@@ -2,9 +2,9 @@
 ghost use Rattle.std.specs.Prelude.{◌≡◌, ℕ, List, Ok, false, true, map};
 ghost use Rattle.serde_json.specs.Data.{Data};
 ghost use Rattle.sarif_model.specs.Run.{results_array};
-ghost use Rattle.sarif_counts.specs.declared.policy.Policy.{Policy};
+ghost use Rattle.sarif_options.specs.declared.policy.Policy.{Policy};
 ghost use Rattle.sarif_counts.specs.CountOf.{count_of};
-ghost use Rattle.sarif_counts.specs.Policy.{verdict_of};
+ghost use Rattle.sarif_counts.specs.Hits.{verdict_of};
 ghost use Rattle.sarif_match.specs.Partners.{partners_of};
 ghost use Rattle.sarif_entries.specs.File.{File};
 ghost use Rattle.sarif_suppress.specs.Suppressing.{is_suppressed, matching_numbers};

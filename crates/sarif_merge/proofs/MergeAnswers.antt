@@ -14,7 +14,7 @@ use Rattle.sarif_entries.specs.File.{File}
 use Rattle.sarif_suppress.specs.Suppressing.{unused_of}
 use Rattle.sarif_model.specs.declared.merge_fault.MergeFault.{MergeFault}
 use Rattle.sarif_model.specs.declared.merge_fault.Source.TheVariants.{Log, Baseline}
-use Rattle.sarif_counts.specs.declared.policy.Policy.{Policy}
+use Rattle.sarif_options.specs.declared.policy.Policy.{Policy}
 use Rattle.sarif_findings.specs.declared.reporting.Reporting.{Reporting}
 use Rattle.sarif_counts.specs.CountOf.{count_of}
 use Rattle.sarif_counts.specs.Gate.{gate_of}
@@ -26,11 +26,12 @@ use Rattle.sarif_log.specs.Assembled.{IsMergedBy}
 use Rattle.sarif_log.specs.Internal.Prepared.{IsPrepared}
 use Rattle.sarif_log.specs.LogBy.{leftover_runs, runs_by, runs_without_results}
 use Rattle.sarif_model.specs.FirstFault.{first}
-use Rattle.sarif_inputs.specs.Faults.{file_or_none, number_faults}
+use Rattle.sarif_inputs.specs.Faults.{number_faults}
+use Rattle.sarif_entries.specs.Given.{file_or_none}
 use Rattle.sarif_inputs.specs.Internal.Indexes.{AreIndexesOf}
 use Rattle.sarif_inputs.specs.Inputs.{Inputs, numbered, placed}
 use Rattle.sarif_counts.specs.declared.life.Life.{Life}
-use Rattle.sarif_counts.specs.declared.upkeep.Upkeep.{Upkeep}
+use Rattle.sarif_options.specs.declared.upkeep.Upkeep.{Upkeep}
 use Rattle.sarif_upkeep.specs.Life.{life_faults}
 use Rattle.sarif_prepare.specs.Kept.{merge_of, IsKept}
 use Rattle.sarif_merge.specs.Merged.{IsMerged}

@@ -30,7 +30,8 @@ use Rattle.sarif_log.proofs.RunResults.{still_out, taken_out}
 use Rattle.sarif_log.specs.LogBy.{listing_of, partner_in, states_from, states_of}
 use Rattle.sarif_results.proofs.JudgedCounts.{no_fault, no_faults_here, no_faults_left, records_of_log, records_of_logs}
 use Rattle.sarif_log.proofs.Sides.{states_long}
-use Rattle.sarif_inputs.specs.Faults.{faults_of, file_faults, file_or_none, number_faults}
+use Rattle.sarif_inputs.specs.Faults.{faults_of, file_faults, number_faults}
+use Rattle.sarif_entries.specs.Given.{file_or_none}
 use Rattle.sarif_inputs.specs.Inputs.{Inputs, all_runs, all_sources, baseline_runs, input_runs}
 use Rattle.sarif_inputs.specs.SourceFaults.{source_faults}
 use Rattle.sarif_inputs.proofs.ReadFacts.{log_sides}

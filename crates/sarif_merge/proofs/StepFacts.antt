@@ -23,7 +23,8 @@ use Rattle.sarif_results.specs.Drafts.{IsRun}
 use Rattle.sarif_results.specs.Internal.Judged.{IsJudged, placed_in}
 use Rattle.sarif_results.specs.Internal.Outcomes.{all_outcomes}
 use Rattle.sarif_results.specs.declared.judged.Judged.{Judged}
-use Rattle.sarif_inputs.specs.Faults.{faults_of, file_faults, file_or_none}
+use Rattle.sarif_inputs.specs.Faults.{faults_of, file_faults}
+use Rattle.sarif_entries.specs.Given.{file_or_none}
 use Rattle.sarif_inputs.specs.Internal.Indexes.{AreIndexesOf}
 use Rattle.sarif_inputs.specs.Inputs.{all_runs, all_sources, baseline_runs, input_runs, numbered}
 use Rattle.sarif_inputs.specs.Internal.Runs.{AreRunsOf}

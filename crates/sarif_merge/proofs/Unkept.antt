@@ -1,6 +1,6 @@
 -- Why there is nothing for later merges: no read or write failed.
 use Rattle.std.proofs.Common.{◌≡◌, ◌++◌, ℕ, true, false, List, [], ◌∷◌, Option, Some, None, inl, inr, length, refl, ap, ◌∙◌, if◌then◌else◌}
-use Rattle.std.specs.Prelude.{nat_lt, Ok}
+use Rattle.std.specs.Prelude.{nat_lt, Ok, ok_or}
 use Rattle.std.specs.List.{AllByRecursion}
 use Rattle.serde_json.specs.Data.{Data}
 use Rattle.json_parts.specs.Indexed.{json_of}
@@ -10,15 +10,15 @@ use Rattle.sarif_model.specs.declared.merge_fault.MergeFault.{MergeFault}
 use Rattle.sarif_model.specs.declared.merge_fault.At.TheVariants.{Whole}
 use Rattle.sarif_model.specs.declared.merge_fault.Cause.TheVariants.{TooLong}
 use Rattle.sarif_model.specs.declared.merge_fault.Source.TheVariants.{Suppress, Known}
-use Rattle.sarif_model.specs.declared.fault.Fault.TheVariants.{TooMany}
+use Rattle.sarif_model.specs.declared.fault.Fault.TheVariants.{TooMany, NotJson}
 use Rattle.sarif_model.specs.FirstFault.{first}
 use Rattle.sarif_model.specs.MergeFault.{cause_of, exit_status, fault_at}
-use Rattle.sarif_counts.specs.declared.upkeep.Knowing.{Knowing}
-use Rattle.sarif_counts.specs.declared.upkeep.Renewal.{Renewal}
-use Rattle.sarif_counts.specs.declared.upkeep.Upkeep.{Upkeep}
+use Rattle.sarif_options.specs.declared.upkeep.Knowing.{Knowing}
+use Rattle.sarif_options.specs.declared.upkeep.Renewal.{Renewal}
+use Rattle.sarif_options.specs.declared.upkeep.Upkeep.{Upkeep}
 use Rattle.sarif_accept.specs.NewFile.{file_text}
 use Rattle.sarif_known.specs.KnownLog.{known_text}
-use Rattle.sarif_entries.specs.File.{check_count, check_list, check_version, entries_from, file_of, file_of_value, value_or, File}
+use Rattle.sarif_entries.specs.File.{check_count, check_list, check_version, entries_from, file_of, file_of_value, File}
 use Rattle.sarif_read.proofs.WholeRuns.{bind_ok}
 use Rattle.sarif_upkeep.specs.Internal.IsMatched.{IsFileOf}
 use Rattle.sarif_upkeep.specs.Known.{known_faults, runs_known}
@@ -26,7 +26,8 @@ use Rattle.sarif_upkeep.specs.Life.{if_known, if_renewed, life_faults}
 use Rattle.sarif_upkeep.specs.Merge.{Merge}
 use Rattle.sarif_upkeep.specs.Renewed.{entries_count, rules_after, text_faults}
 use Rattle.sarif_prepare.specs.Kept.{IsUnkept}
-use Rattle.sarif_inputs.specs.Faults.{file_or_none}
+use Rattle.sarif_entries.specs.Given.{file_or_none}
+use Rattle.sarif_entries.specs.FileFault.{whole}
 
 abbrev IsQuietFault : MergeFault → Type 0
 IsQuietFault fault = exit_status fault.cause ≡ 2
@@ -72,7 +73,7 @@ unkept_quiet m upkeep fault (inr found) = first_quiet (life_faults m upkeep) fau
 same_day : (bytes : List ℕ) (today : Option ℕ) (file : File) → file_of bytes today ≡ Ok file → file.today ≡ today
 unfolding file_of file_of_value
 same_day bytes today file is =
-    let parsed = bind_ok (value_or (json_of (without_mark bytes))) _ file is in
+    let parsed = bind_ok (ok_or (json_of (without_mark bytes)) (whole NotJson)) _ file is in
     let d = parsed.0 in
     let list = bind_ok (check_list d) _ file parsed.2 in
     let version = bind_ok (check_version d) _ file list.2 in

@@ -7,8 +7,8 @@ use Rattle.sarif_model.specs.declared.refusal.Refusal.{Refusal}
 use Rattle.sarif_streams.specs.declared.readers.ReadersFault.{ReadersFault}
 use Rattle.sarif_streams.specs.ReadersFault.{fault_of_readers}
 use Rattle.sarif_streams.specs.WereRead.{SourceContents, HasStoppedAt, WereRead}
-use Rattle.sarif_counts.specs.declared.options.Options.{Options}
-use Rattle.sarif_counts.specs.declared.upkeep.Upkeep.{Upkeep}
+use Rattle.sarif_options.specs.declared.options.Options.{Options}
+use Rattle.sarif_options.specs.declared.upkeep.Upkeep.{Upkeep}
 use Rattle.sarif_findings.specs.declared.reporting.Reporting.{Reporting}
 use Rattle.sarif_log.specs.declared.merged.Merged.{Merged}
 use Rattle.sarif_inputs.specs.Faults.{IsTooMany, faults_of, first_fault}

@@ -3,8 +3,8 @@ use Rattle.std.specs.Prelude.{ℕ, Option}
 use Rattle.sarif_streams.specs.declared.readers.SourceBytes.{SourceBytes}
 use Rattle.sarif_streams.specs.WereRead.{SourceContents, contents_of}
 use Rattle.sarif_inputs.specs.Inputs.{Inputs}
-use Rattle.sarif_counts.specs.declared.checks.Checks.{Checks}
-use Rattle.sarif_counts.specs.declared.options.Options.{Options}
+use Rattle.sarif_options.specs.declared.checks.Checks.{Checks}
+use Rattle.sarif_options.specs.declared.options.Options.{Options}
 
 -- the inputs of a merge of these sources, with today's date and what is required of runs
 abbrev pub inputs_with : SourceContents → Option ℕ → Checks → Inputs

@@ -2,7 +2,7 @@
 use Rattle.std.specs.Prelude.{◌≡◌, ℕ, ◌++◌, List, [], Option}
 use Rattle.serde_json.specs.Data.{Data}
 use Rattle.serde_json.specs.Written.{compact_text}
-use Rattle.sarif_counts.specs.declared.policy.Policy.{Policy}
+use Rattle.sarif_options.specs.declared.policy.Policy.{Policy}
 use Rattle.sarif_findings.specs.declared.reporting.Reporting.{Reporting}
 use Rattle.sarif_log.specs.Log.{log_with}
 use Rattle.sarif_log.specs.declared.merged.Merged.{Merged}

@@ -6,10 +6,10 @@ use Rattle.sarif_model.specs.declared.record.Record.{Record}
 use Rattle.sarif_entries.specs.File.{File}
 use Rattle.sarif_suppress.specs.Suppressing.{unused_of}
 use Rattle.sarif_entries.specs.declared.fault.FileFault.{FileFault}
-use Rattle.sarif_counts.specs.declared.policy.Policy.{Policy}
+use Rattle.sarif_options.specs.declared.policy.Policy.{Policy}
 use Rattle.sarif_runs.specs.Judging.{records_of, run_values}
 use Rattle.sarif_log.specs.LogBy.{current_runs, merged_by, runs_by, runs_without_results}
-use Rattle.sarif_inputs.specs.Faults.{file_or_none}
+use Rattle.sarif_entries.specs.Given.{file_or_none}
 use Rattle.sarif_inputs.specs.Inputs.{Inputs, input_runs, baseline_runs}
 
 abbrev pub file_in : Result File FileFault → File

@@ -8,8 +8,8 @@ ghost use Rattle.sarif_log.specs.Assembled.{IsMergedBy};
 ghost use Rattle.sarif_log.specs.Internal.Prepared.{IsPrepared};
 
 use json::Scratch;
-use sarif_counts::Options;
 use sarif_log::{Facts, Merged, Prepared, assemble};
+use sarif_options::Options;
 use std::alloc::{AllocError, Global};
 use std::thread;
 use std::thread::Threads;

@@ -10,13 +10,11 @@ mod steps;
 pub use laws::{each_result_is_written_as_its_own, merged_runs_hold_no_fraction};
 pub use merge::merge_bytes;
 pub use merge_sources::{merge_readers, merge_to};
-pub use sarif_counts::{
-    Counts, Knowing, KnownLog, Life, NewFile, Options, Policy, Renewal, States, Upkeep, Verdict,
-    hits, summary, verdict,
-};
+pub use sarif_counts::{Counts, KnownLog, Life, NewFile, Verdict, hits, summary, verdict};
 pub use sarif_gather::{Gate, NoGate};
 pub use sarif_log::{Facts, Merged};
 pub use sarif_model::{At, Cause, MergeFault, Refusal, Source};
+pub use sarif_options::{Knowing, Options, Policy, Renewal, States, Upkeep};
 pub use sarif_prepare::Asked;
 pub use sarif_streams::{
     Counted, Failed, Readers, ReadersFault, SourceBytes, SourceFault, read_source,

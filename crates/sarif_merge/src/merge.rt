@@ -15,11 +15,11 @@ ghost use Rattle.sarif_model.specs.Limits.{most_sources};
 
 use crate::steps::Merging;
 use json::Scratch;
-use sarif_counts::Options;
 use sarif_gather::Gate;
 use sarif_inputs::{Runs, check_numbers};
 use sarif_log::{Facts, Merged, Prepared};
 use sarif_model::MergeFault;
+use sarif_options::Options;
 use sarif_prepare::Asked;
 use sarif_streams::SourceBytes;
 use sarif_suppress::Suppressions;

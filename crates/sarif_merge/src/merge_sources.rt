@@ -15,11 +15,11 @@ ghost use Rattle.sarif_model.specs.declared.merge_fault.Cause.TheVariants.{Write
 ghost use Rattle.sarif_model.specs.declared.merge_fault.Source.TheVariants.{Output};
 
 use crate::merge::{merge_few, tell_nothing};
-use sarif_counts::Options;
 use sarif_gather::Gate;
 use sarif_inputs::check_numbers;
 use sarif_log::{Facts, Merged};
 use sarif_model::{At, Cause, MergeFault, Source};
+use sarif_options::Options;
 use sarif_prepare::Asked;
 use sarif_streams::{Counted, Readers, SourceBytes, read_sources, rejection_of, write_out};
 use std::alloc::{AllocError, Global};

@@ -1,9 +1,10 @@
 //! The log of nothing, worked by hand.
 ghost use Rattle.std.specs.Prelude.{◌≡◌, []};
 
-use sarif_counts::{Checks, Options, Policy, Verdict};
+use sarif_counts::Verdict;
 use sarif_log::{Merged, assemble};
 use sarif_model::{Level, MergeFault, State};
+use sarif_options::{Checks, Options, Policy};
 use sarif_prepare::{Asked, FileRead, prepare};
 use sarif_results::Judged;
 use sarif_suppress::Suppressions;

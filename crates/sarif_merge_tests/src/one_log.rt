@@ -1,7 +1,8 @@
 //! Merges of logs without a baseline.
-use sarif_counts::{Policy, Verdict};
+use sarif_counts::Verdict;
 use sarif_log::Merged;
 use sarif_model::{Level, State};
+use sarif_options::Policy;
 use sarif_prepare::Asked;
 use std::process::Abort;
 use std::test::Fail;

@@ -1,8 +1,8 @@
 //! That workers give the same log, work at once, and judge each shard of the results once.
-use sarif_counts::Policy;
 use sarif_gather::Gate;
 use sarif_merge::merge_to;
 use sarif_model::MergeFault;
+use sarif_options::Policy;
 use sarif_streams::Counted;
 use std::alloc::{AllocError, Global};
 use std::process::Abort;

@@ -1,6 +1,7 @@
 //! Counts, the gate and the summary.
-use sarif_counts::{Counts, Policy, States, Verdict, hits, summary, verdict};
+use sarif_counts::{Counts, Verdict, hits, summary, verdict};
 use sarif_model::{Level, State};
+use sarif_options::{Policy, States};
 use std::test::Fail;
 
 const STATES: [State; 4] = [State::New, State::Unchanged, State::Updated, State::Absent];

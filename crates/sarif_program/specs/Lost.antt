@@ -20,7 +20,7 @@ use Rattle.sarif_program.specs.declared.writers.Writers.{Writers}
 use Rattle.sarif_program.specs.declared.writing.Lost.{Lost}
 use Rattle.sarif_program.specs.declared.writing.Lost.TheVariants as lost
 use Rattle.sarif_program.specs.Line.{HasComplained}
-use Rattle.sarif_program.specs.Notes.{AreNoted, lines_of}
+use Rattle.sarif_program.specs.Notes.{AreNoted, lines_for}
 use Rattle.sarif_program.specs.Reports.{IsWritten, report_for}
 
 -- what the writers of the log, of another output, of the summary and of error messages hold, if they say so
@@ -41,7 +41,7 @@ abbrev pub texts_of_merge : Request → Merged → MergeTexts
 texts_of_merge request merged = record {
   log = merged.log;
   report = report_for request merged;
-  lines = lines_of merged.life;
+  lines = lines_for request merged;
   summary = summary_of (count_at merged.counts) request.options.policy;
 }
 

@@ -1,5 +1,5 @@
--- The lines on what a merge gives for later merges: this project's own format.
-use Rattle.std.specs.Prelude.{◌≡◌, ℕ, List, [], ◌++◌, Option, take, codes}
+-- The lines on what a merge gives for later merges, and on what happened: this project's own format.
+use Rattle.std.specs.Prelude.{◌≡◌, ℕ, Bool, List, [], ◌++◌, ◌==◌, Option, take, codes, if◌then◌else◌}
 use Rattle.std.specs.Fmt.{decimal}
 use Rattle.std.specs.Io.KnownBytes.{Appends}
 use Rattle.std.specs.Option.{option_map_or}
@@ -7,6 +7,10 @@ use Rattle.sarif_counts.specs.declared.life.KnownLog.{KnownLog}
 use Rattle.sarif_counts.specs.declared.life.Life.{Life}
 use Rattle.sarif_counts.specs.declared.life.NewFile.{NewFile}
 use Rattle.sarif_counts.specs.Summary.{newline}
+use Rattle.sarif_log.specs.declared.facts.Facts.{Facts as MergeFacts}
+use Rattle.sarif_log.specs.declared.merged.Merged.{Merged}
+use Rattle.sarif_request.specs.declared.request.Request.{Request}
+use Rattle.sarif_shown.specs.Sentences.{entries_text, runs_text}
 use Rattle.sarif_streams.specs.Counted.{failed_calls, inner_of}
 use Rattle.sarif_program.specs.declared.complaint.Complaints.{Complaints}
 
@@ -28,6 +32,33 @@ log_line log =
 -- a line for each of the two that there is
 abbrev pub lines_of : Life → List ℕ
 lines_of life = option_map_or file_line life.suppressions [] ++ option_map_or log_line life.known []
+
+-- a sentence on a line
+abbrev pub told_line : List ℕ → List ℕ
+told_line sentence = codes "sarif_gate: " ++ (sentence ++ newline)
+
+-- a line, if there is a number to say something about
+abbrev pub told_if : ℕ → List ℕ → List ℕ
+told_if n sentence = if n == 0 then [] else told_line sentence
+
+-- what happened: how many runs have no results, and how many suppression entries match nothing
+abbrev pub happened : ℕ → ℕ → List ℕ
+happened without unused =
+    told_if without (runs_text without) ++ told_if unused (entries_text unused)
+
+-- that, if explanations are requested
+abbrev pub happened_if : Bool → ℕ → ℕ → List ℕ
+happened_if explain without unused = if explain then happened without unused else []
+
+-- all lines of a merge with these facts
+abbrev pub lines_with : Request → MergeFacts → List ℕ
+lines_with request facts =
+    lines_of facts.life.now ++ happened_if request.explain facts.without facts.unused
+
+-- all lines of this merge
+abbrev pub lines_for : Request → Merged → List ℕ
+lines_for request merged =
+    lines_of merged.life ++ happened_if request.explain merged.without merged.unused
 
 -- these lines were written, or a prefix of them if a write failed; no error was reported, and nothing was written if
 -- there are no lines

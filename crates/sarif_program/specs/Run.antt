@@ -1,5 +1,5 @@
 -- What one run of a request does.
-use Rattle.std.specs.Prelude.{◌≡◌, ◌<◌, ◌≤◌, ◌+◌, ◌^◌, ◌⊎◌, ◌↔◌, ℕ, List, Option, None, Some, nat_eq}
+use Rattle.std.specs.Prelude.{◌≡◌, ◌<◌, ◌≤◌, ◌+◌, ◌^◌, ◌⊎◌, ◌↔◌, ℕ, false, List, Option, None, Some, nat_eq}
 use Rattle.std.specs.Io.KnownBytes.{Appends}
 use Rattle.std.specs.List.{AllZip}
 use Rattle.sarif_counts.specs.Counts.{count_at}
@@ -14,7 +14,7 @@ use Rattle.sarif_streams.specs.WereRead.{failures, NoNumberFalls}
 use Rattle.sarif_program.specs.declared.complaint.Complaints.{Complaints}
 use Rattle.sarif_program.specs.declared.writers.Writers.{Writers}
 use Rattle.sarif_program.specs.Lost.{HasLost, Held, texts_of_merge}
-use Rattle.sarif_program.specs.Notes.{AreNoted, lines_of}
+use Rattle.sarif_program.specs.Notes.{AreNoted, lines_for}
 use Rattle.sarif_program.specs.Rejected.{HasNoMerge, IsRejected, WereFaulty}
 use Rattle.sarif_program.specs.Reports.{IsWritten, report_for, reporting_for}
 use Rattle.sarif_program.specs.Status.{verdict_status}
@@ -57,7 +57,7 @@ IsMergeOf views request old new merged =
     (reporting_for request old.writers.reports.items) (Some request.upkeep) merged
 
 -- the status is that of the verdict of this merge of what was read; the log, the other outputs, the lines on what is
--- for later merges and the summary were written
+-- for later merges and on what happened, and the summary were written
 pub record IsAcceptedAs {R W S P E : Type 0} (views : Views R W S P E) (request : Request)
     (old new : Streams R W S P E) (status : ℕ) (merged : Merged) : Type 0 where
   pub verdict : status ≡ verdict_status merged.verdict
@@ -69,7 +69,8 @@ pub record IsAcceptedAs {R W S P E : Type 0} (views : Views R W S P E) (request 
   pub summary : Appends (views.held.summary (inner_of old.writers.say))
       (views.held.summary (inner_of new.writers.say))
       (summary_of (count_at merged.counts) request.options.policy)
-  pub noted : AreNoted views.held.messages (lines_of merged.life) old.complaints new.complaints
+  pub noted : AreNoted views.held.messages (lines_for request merged)
+      old.complaints new.complaints
 
 -- there is such a merge
 abbrev pub IsAccepted : {R W S P E : Type 0} → Views R W S P E → Request → Streams R W S P E
@@ -84,10 +85,11 @@ IsCutShort views request old new = (merged : Merged) × IsMergeOf views request 
     × HasLost views.held (texts_of_merge request merged) old.writers new.writers
     old.complaints new.complaints
 
--- no error is reported, and nothing at all if nothing is for later merges
+-- no error is reported, and nothing at all if nothing is for later merges and no explanations are requested
 pub record IsQuiet {E : Type 0} (request : Request) (old new : Complaints E) : Type 0 where
   pub last : new.last ≡ old.last
-  pub silent : request.upkeep.renewal ≡ None → request.upkeep.known ≡ None → new ≡ old
+  pub silent : request.upkeep.renewal ≡ None → request.upkeep.known ≡ None
+      → request.explain ≡ false → new ≡ old
 
 -- the status, and what was read, written and reported: the contract of `run_request` as one fact, for what cites it
 pub record IsRun {R W S P E : Type 0} (views : Views R W S P E) (request : Request)

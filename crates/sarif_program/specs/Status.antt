@@ -1,7 +1,7 @@
 -- The program's exit status after a merge.
 use Rattle.std.specs.Prelude.{ℕ}
-use Rattle.sarif_counts.specs.declared.policy.Verdict.{Verdict}
-use Rattle.sarif_counts.specs.declared.policy.Verdict.TheVariants.{Pass, Fail}
+use Rattle.sarif_counts.specs.declared.gate_verdict.Verdict.{Verdict}
+use Rattle.sarif_counts.specs.declared.gate_verdict.Verdict.TheVariants.{Pass, Fail}
 
 -- after an accepted merge whose summary was written
 abbrev pub verdict_status : Verdict → ℕ

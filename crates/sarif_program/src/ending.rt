@@ -47,7 +47,7 @@ fn tell_lost<E: Write>(complaints: &mut Complaints<E>, lost: Lost) -> ExitStatus
         }
         Lost::Report(report) => complaints.complain(Complaint::Lost(report)),
     }
-    ExitStatus::lost()
+    ExitStatus::for_lost_output()
 }
 
 /// Writes an accepted merge: its log, then the other outputs that there are writers for, then the lines on what is for
@@ -96,6 +96,6 @@ pub(crate) fn accept<W: Write, S: Write, P: Write, E: Write>(
     complaints.note(texts.lines.as_str());
     match put_summary(writers, texts) {
         Ok(()) => ExitStatus::of_verdict(merged.verdict),
-        Err(_) => ExitStatus::lost(),
+        Err(_) => ExitStatus::for_lost_output(),
     }
 }

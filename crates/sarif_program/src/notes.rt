@@ -1,14 +1,70 @@
-//! The lines on what a merge gives for later merges.
-ghost use Rattle.std.specs.Prelude.{◌≡◌, IfOk, string_bytes};
+//! The lines on what a merge gives for later merges, and on what happened.
+ghost use Rattle.std.specs.Prelude.{◌≡◌, ◌++◌, IfOk, OnOk, string_bytes};
+ghost use Rattle.sarif_shown.specs.Sentences.{entries_text, runs_text};
 ghost use Rattle.sarif_program.specs.Notes as said;
 
 use sarif_counts::{KnownLog, Life, NewFile};
+use sarif_log::Facts;
 use sarif_model::Text;
+use sarif_request::Request;
+use sarif_shown::{entries_text, runs_text};
 use std::alloc::{AllocError, Global};
 
+/// Returns the lines on what is for later merges. If explanations are requested, lines on what happened follow.
+pub(crate) fn lines_with(
+    alloc: Global,
+    request: &Request,
+    facts: &Facts<'_>,
+) -> Result<Text, AllocError>
+    ensures { IfOk result (λ lines. lines ≡ said.lines_with request.now facts.now) }
+{
+    let mut lines = lines_of(alloc, facts.life)?;
+    if request.explain {
+        push_happened(alloc, &mut lines, facts.without, facts.unused)?;
+    }
+    Text::from_string(lines)
+}
+
+/// Adds a line on runs without results and one on unused entries, each if there are any.
+fn push_happened(
+    alloc: Global,
+    lines: &mut String,
+    without: u32,
+    unused: u32,
+) -> Result<(), AllocError>
+    ensures { OnOk result (string_bytes lines.new
+        ≡ string_bytes lines.old ++ said.happened without unused) }
+{
+    lines.push_str(runs_line(alloc, without)?.as_str())?;
+    lines.push_str(entries_line(alloc, unused)?.as_str())?;
+    Ok(())
+}
+
+/// Returns the line on runs without results, if there are any.
+fn runs_line(alloc: Global, without: u32) -> Result<String, AllocError>
+    ensures { IfOk result (λ s. string_bytes s ≡ said.told_if without (runs_text without)) }
+{
+    if without == 0 {
+        return Ok(String::new(alloc));
+    }
+    let sentence = runs_text(alloc, without)?;
+    format!(in alloc; "sarif_gate: {sentence}\n")
+}
+
+/// Returns the line on unused entries, if there are any.
+fn entries_line(alloc: Global, unused: u32) -> Result<String, AllocError>
+    ensures { IfOk result (λ s. string_bytes s ≡ said.told_if unused (entries_text unused)) }
+{
+    if unused == 0 {
+        return Ok(String::new(alloc));
+    }
+    let sentence = entries_text(alloc, unused)?;
+    format!(in alloc; "sarif_gate: {sentence}\n")
+}
+
 /// Returns a line on the new suppression file and one on the known log, each if there is one.
-pub(crate) fn lines_of(alloc: Global, life: &Life) -> Result<Text, AllocError>
-    ensures { IfOk result (λ lines. lines ≡ said.lines_of life.now) }
+fn lines_of(alloc: Global, life: &Life) -> Result<String, AllocError>
+    ensures { IfOk result (λ lines. string_bytes lines ≡ said.lines_of life.now) }
 {
     let mut lines = String::new(alloc);
     if let Some(file) = &life.suppressions {
@@ -17,7 +73,7 @@ pub(crate) fn lines_of(alloc: Global, life: &Life) -> Result<Text, AllocError>
     if let Some(log) = &life.known {
         lines.push_str(log_line(alloc, log)?.as_str())?;
     }
-    Text::from_string(lines)
+    Ok(lines)
 }
 
 /// Returns the line on a new suppression file.

@@ -10,7 +10,7 @@ ghost use Rattle.sarif_counts.specs.Counts.{count_at};
 ghost use Rattle.sarif_counts.specs.Summary.{summary_of};
 ghost use Rattle.sarif_merge.specs.FromReaders.{IsMergedWith, IsRefusedWith};
 ghost use Rattle.sarif_streams.specs.WereRead.{failures, NoNumberFalls};
-ghost use Rattle.sarif_program.specs.Notes.{lines_of};
+ghost use Rattle.sarif_program.specs.Notes.{lines_for, lines_with};
 ghost use Rattle.sarif_program.specs.Rejected.{HasNoMerge, IsRejected, WereFaulty};
 ghost use Rattle.sarif_program.specs.Reports.{report_for, report_with, reporting_for, texts_for};
 ghost use Rattle.sarif_program.specs.Reports.{wanted_reports};
@@ -127,7 +127,7 @@ fn merge_for<R: Read, W, T: Threads + Wait + Sync>(
         (Some «request».now.upkeep) all.0) }
     ensures summary { IfOk result (λ all. all.1.summary
         ≡ summary_of (count_at all.0.counts) «request».now.options.policy) }
-    ensures lines { IfOk result (λ all. all.1.lines ≡ lines_of all.0.life) }
+    ensures lines { IfOk result (λ all. all.1.lines ≡ lines_for «request».now all.0) }
     ensures reports { IfOk result (λ all. all.1.reports.items
         ≡ texts_for writers.now (report_for «request».now all.0)) }
     ensures refused { IfErr result (λ fault. (fault.cause ≡ OutOfMemory → ⊥)
@@ -142,7 +142,8 @@ fn merge_for<R: Read, W, T: Threads + Wait + Sync>(
     let tell = move |facts: &Facts<'_>| -> Result<Texts, AllocError>
         ensures summary { IfOk result (λ texts. texts.summary
             ≡ summary_of (count_at facts.now.counts.now) «request».entry.now.options.policy) }
-        ensures lines { IfOk result (λ texts. texts.lines ≡ lines_of facts.now.life.now) }
+        ensures lines { IfOk result
+            (λ texts. texts.lines ≡ lines_with «request».entry.now facts.now) }
         ensures reports { IfOk result (λ texts. texts.reports.items ≡ texts_for writers.entry.now
             (report_with «request».entry.now facts.now)) }
     { texts_of(rt, alloc, facts, request, writers) };
@@ -150,7 +151,8 @@ fn merge_for<R: Read, W, T: Threads + Wait + Sync>(
 }
 
 /// Merges what the readers return, and writes the merged log, then the other outputs that there are writers for, then to
-/// `complaints` the lines on what is for later merges, and then the summary; or it reports what stopped it. Returns the
+/// `complaints` the lines on what is for later merges and, with explanations, on what happened, and then the summary; or
+/// it reports what stopped it. Returns the
 /// program's exit status: 0 if the gate passes and 1 if it fails, 3 if a read or a write failed, and 2 if the merge was
 /// rejected for another reason or memory ran out; then nothing was written. If a message or one of these lines cannot
 /// be written, the status is the same.

@@ -62,7 +62,7 @@ impl ExitStatus {
     }
 
     /// The status of an accepted merge one of whose outputs was not written.
-    pub(crate) fn lost() -> ExitStatus
+    pub(crate) fn for_lost_output() -> ExitStatus
         ensures { result ≡ 3 }
     {
         ExitStatus { code: 3 }

@@ -7,7 +7,7 @@ ghost use Rattle.sarif_reports.specs.Report.{report_of};
 ghost use Rattle.sarif_program.specs.Notes as notes;
 ghost use Rattle.sarif_program.specs.Reports.{report_with, wanted_reports, texts_for};
 
-use crate::notes::lines_of;
+use crate::notes::lines_with;
 use sarif_counts::summary;
 use sarif_log::Facts;
 use sarif_model::Text;
@@ -23,7 +23,7 @@ use std::thread::Threads;
 pub(crate) struct Texts {
     /// The outputs besides the log, in the order of their writers.
     pub(crate) reports: Vec<Text>,
-    /// The lines on what is for later merges.
+    /// The lines on what is for later merges and on what happened.
     pub(crate) lines: Text,
     pub(crate) summary: Text,
 }
@@ -109,8 +109,8 @@ fn reports_of<W, T: Threads + Sync>(
     texts_told(rt, alloc, &told, reports, request.options.workers)
 }
 
-/// The summary of a merge with these facts, the lines on what is for later merges, and the contents of the outputs that
-/// there are writers for. The threads of the options share the work of reports.
+/// The summary of a merge with these facts, the lines after it, and the contents of the outputs that there are writers
+/// for. The threads of the options share the work of reports.
 pub(crate) fn texts_of<W, T: Threads + Sync>(
     rt: &T,
     alloc: Global,
@@ -120,13 +120,14 @@ pub(crate) fn texts_of<W, T: Threads + Sync>(
 ) -> Result<Texts, AllocError>
     ensures summary { IfOk result (λ texts. texts.summary
         ≡ summary_of (count_at facts.now.counts.now) request.now.options.policy) }
-    ensures lines { IfOk result (λ texts. texts.lines ≡ notes.lines_of facts.now.life.now) }
+    ensures lines { IfOk result
+        (λ texts. texts.lines ≡ notes.lines_with request.now facts.now) }
     ensures reports { IfOk result (λ texts. texts.reports.items
         ≡ texts_for writers.now (report_with request.now facts.now)) }
 {
     let summary = summary(alloc, facts.counts, &request.options.policy)?;
     let summary = Text::from_string(summary)?;
-    let lines = lines_of(alloc, facts.life)?;
+    let lines = lines_with(alloc, request, facts)?;
     let reports = reports_of(rt, alloc, facts, request, writers)?;
     Ok(Texts {
         reports,

@@ -1,6 +1,6 @@
 //! What is written for later merges, the lines on it, and in which order.
 
-use sarif_counts::{Knowing, Renewal};
+use sarif_options::{Knowing, Renewal};
 use sarif_reports::Report;
 use sarif_request::{Request, Wanted};
 use sarif_streams::{Counted, Readers};

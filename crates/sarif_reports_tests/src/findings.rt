@@ -1,7 +1,7 @@
 //! Findings of logs that a merge rejects.
-use sarif_counts::Policy;
 use sarif_findings::{Finding, Reporting, reported};
 use sarif_model::Sequence;
+use sarif_options::Policy;
 use serde_json::Value;
 use std::alloc::Global;
 use std::test::Fail;

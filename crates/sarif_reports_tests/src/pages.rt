@@ -1,5 +1,6 @@
 //! The page under a policy that the command line can't give.
-use sarif_counts::{Counts, Policy, States};
+use sarif_counts::Counts;
+use sarif_options::{Policy, States};
 use sarif_page::html_report;
 use sarif_shown::Told;
 use std::alloc::{AllocError, Global};

@@ -1,5 +1,6 @@
 pub mod Added
 pub mod Asked
+pub mod Fitting
 pub mod Numbers
 pub mod Repeats
 pub mod Rows

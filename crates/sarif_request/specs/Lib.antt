@@ -1,4 +1,5 @@
 pub mod Command
+pub mod Dates
 pub mod Listing
 pub mod Names
 pub mod Together

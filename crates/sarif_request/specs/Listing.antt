@@ -4,8 +4,8 @@ use Rattle.std.specs.List.{slice_split}
 use Rattle.sarif_model.specs.declared.kinds.State.{State}
 use Rattle.sarif_model.specs.declared.kinds.State.TheVariants.{New, Unchanged, Updated, Absent}
 use Rattle.sarif_model.specs.State.{state_named}
-use Rattle.sarif_counts.specs.declared.policy.States.{States}
-use Rattle.sarif_counts.specs.Policy.{is_listed}
+use Rattle.sarif_options.specs.declared.policy.States.{States}
+use Rattle.sarif_options.specs.Policy.{is_listed}
 
 abbrev pub no_states : States
 no_states = record { absent = false; fresh = false; unchanged = false; updated = false }

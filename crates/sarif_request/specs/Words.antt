@@ -9,11 +9,11 @@ use Rattle.clap.specs.declared.error.kind.ErrorKind.TheVariants as kind
 use Rattle.sarif_model.specs.declared.kinds.Level.{Level}
 use Rattle.sarif_model.specs.Level.{level_named}
 use Rattle.sarif_model.specs.Limits.{most_workers}
-use Rattle.sarif_counts.specs.declared.policy.States.{States}
-use Rattle.sarif_counts.specs.declared.upkeep.Knowing.{Knowing}
-use Rattle.sarif_counts.specs.declared.upkeep.Knowing.TheVariants.{Adopted, Matched}
-use Rattle.sarif_counts.specs.declared.upkeep.Renewal.{Renewal}
-use Rattle.sarif_counts.specs.Policy.{default_policy}
+use Rattle.sarif_options.specs.declared.policy.States.{States}
+use Rattle.sarif_options.specs.declared.upkeep.Knowing.{Knowing}
+use Rattle.sarif_options.specs.declared.upkeep.Knowing.TheVariants.{Adopted, Matched}
+use Rattle.sarif_options.specs.declared.upkeep.Renewal.{Renewal}
+use Rattle.sarif_options.specs.Policy.{default_policy}
 use Rattle.sarif_reports.specs.declared.report.Report.{Report}
 use Rattle.sarif_reports.specs.Report.{all_reports, report_name}
 use Rattle.sarif_request.specs.declared.clash.Clash.{Clash}

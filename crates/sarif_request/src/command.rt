@@ -42,6 +42,11 @@ Examples:
   sarif_gate --out merged.sarif --text - scan.sarif
   sarif_gate --baseline known.sarif --fail-on warning --out merged.sarif scan.sarif";
 
+/// The last row of the help's options. The parser does not know it: files of arguments are put in their places before.
+const FILE_ROW: &str = "  @FILE                   \
+    Arguments from FILE, one per line. Empty lines and lines that begin with #
+                          give none";
+
 static LEVELS: [&str; 4] = ["error", "warning", "note", "none"];
 
 /// Returns the command, which expects no program name before its arguments. Returns `AllocError`
@@ -50,6 +55,17 @@ pub fn command<'a>(alloc: Global) -> Result<Command<'a>, AllocError>
     ensures { IfOk result (λ c. IsProgram (app_of c)) }
 {
     with_reports(alloc, of_rows(alloc, ValueParser::from(LEVELS.as_slice()))?)
+}
+
+/// Returns the parser's help with the row of a file of arguments after its options.
+pub fn with_file_row(alloc: Global, help: &str) -> Result<String, AllocError> {
+    match help.split_once(AFTER) {
+        Some((options, rest)) => {
+            let options = options.trim_end();
+            format!(in alloc; "{options}\n{FILE_ROW}\n\n{AFTER}{rest}")
+        }
+        None => String::from_str(alloc, help),
+    }
 }
 
 /// Returns the command with its options but those of the outputs besides the merged log.

@@ -4,6 +4,7 @@
 mod clash;
 mod command;
 mod expected;
+mod laws;
 mod listing;
 mod option_rows;
 mod repeated;
@@ -12,6 +13,7 @@ mod together;
 mod wanted;
 mod words;
 
+pub use laws::{expiry_dates_are_not_past, requested_renewals_are_sound};
 pub use request::Request;
 pub use wanted::Wanted;
 pub use words::{WordsFault, plain_words, read_words};

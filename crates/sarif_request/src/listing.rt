@@ -2,8 +2,8 @@
 ghost use Rattle.std.specs.Prelude.{◌≡◌, IfOk, map};
 ghost use Rattle.sarif_request.specs.Listing.{no_states, parts_of, states_listed, with_state};
 
-use sarif_counts::States;
 use sarif_model::State;
+use sarif_options::States;
 use std::alloc::{AllocError, Global};
 
 /// Returns no state.

@@ -236,7 +236,8 @@ static ROWS: [OptionRow; 20] = [
         id: "explain",
         value: "",
         help: "After an error, also print the file, the position in it, what was found\n\
-            there, what was expected and what to do",
+            there, what was expected and what to do. After an accepted merge, print\n\
+            how many runs have no results and how many suppressions match nothing",
         group: Group::Other,
         kind: Kind::Flag,
         default: None,

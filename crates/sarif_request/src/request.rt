@@ -1,8 +1,8 @@
 //! The request of one run of the program.
 
 use crate::wanted::Wanted;
-use sarif_counts::{Options, Upkeep};
 use sarif_model::Text;
+use sarif_options::{Options, Upkeep};
 
 /// The request of one run. Sources have the names that were passed, in the order of the arguments.
 #[derive(Debug, Drop)]

@@ -2,7 +2,7 @@
 ghost use Rattle.std.specs.Prelude.{◌≡◌, ◌↔◌, ◌++◌, IfOk, IsTrue, OnOk, [], Some, map, unwrap_or, string_bytes, option_and_then, codes};
 ghost use Rattle.clap.specs.Words.{kind_of, rows_of, found_of, first_of, one_of};
 ghost use Rattle.sarif_model.specs.Level.{level_named};
-ghost use Rattle.sarif_counts.specs.Policy.{default_policy};
+ghost use Rattle.sarif_options.specs.Policy.{default_policy};
 ghost use Rattle.sarif_request.specs.Words.{words_status, Tells, IsAsked, AsksFor, Answers, IsRead, IsReadOr, IsUsageOrOutOfMemory};
 ghost use Rattle.sarif_request.specs.Words.{fail_on_in, is_set, reports_in, states_in, values_of};
 ghost use Rattle.sarif_reports.specs.Report.{report_name};
@@ -10,7 +10,7 @@ ghost use Rattle.sarif_request.specs.Words.{AreGiven, IsRenewal, is_given, known
 ghost use Rattle.sarif_request.specs.Words as said;
 
 use crate::clash::{Clash, clash_of};
-use crate::command::command;
+use crate::command::{command, with_file_row};
 use crate::expected::sentence_with_expected;
 use crate::listing::states_of;
 use crate::request::Request;
@@ -18,8 +18,8 @@ use crate::together::{Given, misfit_of};
 use crate::wanted::Wanted;
 use clap::ArgMatches;
 use clap::error::ErrorKind;
-use sarif_counts::{Checks, Knowing, Options, Policy, Renewal, States, Upkeep};
 use sarif_model::{Level, MOST_WORKERS, Text};
+use sarif_options::{Checks, Knowing, Options, Policy, Renewal, States, Upkeep};
 use sarif_reports::Report;
 use sarif_streams::STANDARD;
 use std::alloc::{AllocError, AllocFailed, Global};
@@ -432,9 +432,13 @@ fn is_asked(kind: ErrorKind) -> bool
     kind == ErrorKind::DisplayHelp || kind == ErrorKind::DisplayVersion
 }
 
-/// Returns the parser's text for its result. If a number or a date is invalid, it says what is expected.
+/// Returns the parser's text for its result. If a number or a date is invalid, it says what is expected; the help has
+/// the row of a file of arguments too.
 fn text_of(alloc: Global, error: &clap::Error) -> Result<Text, AllocError> {
     let text = error.to_string(alloc)?;
+    if error.kind() == ErrorKind::DisplayHelp {
+        return Text::from_string(with_file_row(alloc, text.as_str())?);
+    }
     if error.kind() == ErrorKind::ValueValidation {
         if let Some(sentence) = sentence_with_expected(alloc, text.as_str())? {
             return told_of(alloc, sentence.as_str());

@@ -1,5 +1,5 @@
 //! Which arguments request what is made for later merges.
-use sarif_counts::{Knowing, Renewal};
+use sarif_options::{Knowing, Renewal};
 use sarif_reports::Report;
 use sarif_request::Request;
 use std::process::Abort;

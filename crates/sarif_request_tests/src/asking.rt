@@ -1,6 +1,6 @@
 //! What arguments request.
-use sarif_counts::{Checks, Options, Policy, States};
 use sarif_model::{Level, Text};
+use sarif_options::{Checks, Options, Policy, States};
 use sarif_reports::Report;
 use sarif_request::{Request, WordsFault};
 use std::process::Abort;

@@ -43,6 +43,8 @@ record_by head tool parts = do
     full = parts.full;
     partial = parts.partial;
     held = parts.held;
+    region = None;
+    snippet = None;
   })
 
 -- the record of a result of a run with that head and that tool, or its first error

@@ -1,6 +1,6 @@
 -- The rules of a run's tool components (SARIF 2.1.0, "tool object", "toolComponent object", "reportingDescriptor
 -- object").
-use Rattle.std.specs.Prelude.{ℕ, List, ◌∷◌, codes, bytes_eq, position, Option, Some, None, Result, Ok, Err, option_and_then}
+use Rattle.std.specs.Prelude.{ℕ, List, ◌∷◌, codes, bytes_eq, position, Option, Result, Ok, option_and_then, ok_or}
 use Rattle.serde_json.specs.Data.{Data}
 use Rattle.serde_json.specs.Find.{get}
 use Rattle.sarif_model.specs.declared.fault.Fault.{Fault}
@@ -9,16 +9,11 @@ use Rattle.sarif_model.specs.Members.{◌>>=◌, text_at, object_at, elements_at
 use Rattle.sarif_runs.specs.declared.component.Rule.{Rule}
 use Rattle.sarif_runs.specs.Reading.{list_if_there, level_at}
 
--- a required string
-abbrev pub required : {X : Type 0} → Option X → Result X Fault
-required None = Err BadRules
-required (Some x) = Ok x
-
 -- a rule: its `id`, which must be there, and `defaultConfiguration.level`
 unfoldable pub rule_of : Data → Result Rule Fault
 rule_of d = do
   stated ← text_at BadRules (codes "id") d
-  id ← required stated
+  id ← ok_or stated BadRules
   configuration ← object_at BadRules (codes "defaultConfiguration") d
   level ← if_there level_at configuration
   Ok (record { id = id; level = level })

@@ -69,5 +69,7 @@ fn finish_record(
         full: parts.full,
         partial: parts.partial,
         held: parts.held,
+        region: None,
+        snippet: None,
     })
 }

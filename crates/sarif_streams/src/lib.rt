@@ -23,7 +23,7 @@ pub use input::Input;
 pub use kept::Kept;
 pub use laws::sources_are_read_in_one_way;
 pub use output::OutputFile;
-pub use place::Place;
+pub use place::OutputPlace;
 pub use readers::{Readers, ReadersFault, SourceBytes};
 pub use readers_fault::rejection_of;
 pub use reading::read_sources;

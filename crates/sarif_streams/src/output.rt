@@ -6,7 +6,7 @@ ghost use Rattle.sarif_streams.specs.Internal.Taken.{TakesAs};
 ghost use Rattle.sarif_streams.specs.Internal.Writing.{file_of};
 ghost use Rattle.sarif_streams.specs.declared.output.Writing.TheVariants.{Unopened, Over};
 
-use crate::place::{Found, Place};
+use crate::place::{Destination, OutputPlace};
 use std::fs::{self, OpenFile, OpenOptions, Permissions};
 use std::io::{self, ErrorKind, Write};
 use std::os::unix::fs::{OpenOptionsExt, PermissionsExt};
@@ -35,13 +35,13 @@ enum Writing<F> {
 #[derive(Drop)]
 pub struct OutputFile<'a, R, F> {
     files: &'a R,
-    place: Place<'a>,
+    place: OutputPlace<'a>,
     writing: Writing<F>,
 }
 
 impl<'a, R, F> OutputFile<'a, R, F> {
     /// An output to this place. Nothing is opened yet: this type does not know how to open an `R`.
-    pub fn new(files: &'a R, place: Place<'a>) -> OutputFile<'a, R, F>
+    pub fn new(files: &'a R, place: OutputPlace<'a>) -> OutputFile<'a, R, F>
         ensures place { result.place ≡ place.entry }
         ensures unopened { result.writing ≡ Unopened }
     {
@@ -164,12 +164,12 @@ impl<R: Files> Write for OutputFile<'_, R, R::File> {
 }
 
 /// Opens what is to take the text.
-fn start<R: Files>(files: &R, place: &Place<'_>) -> io::Result<Writing<R::File>>
+fn start<R: Files>(files: &R, place: &OutputPlace<'_>) -> io::Result<Writing<R::File>>
     ensures open { IfOk result (λ writing. IsSome (file_of writing)) }
 {
     match &place.found {
-        Found::System(name) => as_is(files, name.as_path()),
-        Found::Named { whole, new } => match fs::metadata(files, whole.as_path()) {
+        Destination::System(name) => as_is(files, name.as_path()),
+        Destination::Named { whole, new } => match fs::metadata(files, whole.as_path()) {
             Ok(old) if !old.is_file() => as_is(files, whole.as_path()),
             Ok(old) => {
                 let _writable = OpenOptions::new().write(true).open(files, whole.as_path())?;
@@ -183,7 +183,7 @@ fn start<R: Files>(files: &R, place: &Place<'_>) -> io::Result<Writing<R::File>>
             }
             Err(error) => Err(error),
         },
-        Found::Lost(kind) => Err((*kind).into()),
+        Destination::Lost(kind) => Err((*kind).into()),
     }
 }
 
@@ -210,7 +210,7 @@ fn new_file_like<R: Files>(files: &R, name: Path<'_>, mode: u32) -> io::Result<R
 }
 
 /// Syncs a new file and gives it its name, or removes it.
-fn finish<R: Files>(files: &R, place: &Place<'_>, file: &R::File) -> io::Result<()> {
+fn finish<R: Files>(files: &R, place: &OutputPlace<'_>, file: &R::File) -> io::Result<()> {
     match renamed(files, place, file) {
         Ok(()) => Ok(()),
         Err(error) => {
@@ -221,17 +221,17 @@ fn finish<R: Files>(files: &R, place: &Place<'_>, file: &R::File) -> io::Result<
 }
 
 /// Syncs a new file and gives it its name.
-fn renamed<R: Files>(files: &R, place: &Place<'_>, file: &R::File) -> io::Result<()> {
+fn renamed<R: Files>(files: &R, place: &OutputPlace<'_>, file: &R::File) -> io::Result<()> {
     file.sync_all()?;
     match &place.found {
-        Found::Named { whole, new } => fs::rename(files, new.as_path(), whole.as_path()),
+        Destination::Named { whole, new } => fs::rename(files, new.as_path(), whole.as_path()),
         _ => Ok(()),
     }
 }
 
 /// Removes a new file. If that fails too, nothing more can be done.
-fn remove_new<R: Files>(files: &R, place: &Place<'_>) {
-    if let Found::Named { new, .. } = &place.found {
+fn remove_new<R: Files>(files: &R, place: &OutputPlace<'_>) {
+    if let Destination::Named { new, .. } = &place.found {
         let _ = fs::remove_file(files, new.as_path());
     }
 }

@@ -12,7 +12,7 @@ const LINKS: usize = 40;
 
 /// What the links of a name lead to.
 #[derive(Drop)]
-pub(crate) enum Found {
+pub(crate) enum Destination {
     /// A name of the system's own, which is written as it is.
     System(PathBuf),
     /// A name that is not a link, and the name of a new file in the same folder.
@@ -23,12 +23,12 @@ pub(crate) enum Found {
 
 /// Where an output goes: the name that was requested, and what its links lead to.
 #[derive(Drop)]
-pub struct Place<'a> {
+pub struct OutputPlace<'a> {
     name: &'a str,
-    pub(crate) found: Found,
+    pub(crate) found: Destination,
 }
 
-impl<'a> Place<'a> {
+impl<'a> OutputPlace<'a> {
     /// Follows the links of `name`. The new file's name contains `number` and is in the folder of the link's
     /// target. This call only reads links; it opens and changes nothing. Returns `AllocError` if memory for the
     /// names runs out. If links cannot be followed to their end, no write to the place succeeds.
@@ -37,42 +37,42 @@ impl<'a> Place<'a> {
         alloc: Global,
         name: &'a str,
         number: u64,
-    ) -> Result<Place<'a>, AllocError>
+    ) -> Result<OutputPlace<'a>, AllocError>
         ensures { IfOk result (λ place. place.name.now ≡ name.now) }
     {
-        let found = Found::of(files, alloc, name, number)?;
-        Ok(Place { name, found })
+        let found = Destination::of(files, alloc, name, number)?;
+        Ok(OutputPlace { name, found })
     }
 }
 
-impl Found {
+impl Destination {
     /// Follows the links of `name`.
     fn of<R: Files>(
         files: &R,
         alloc: Global,
         name: &str,
         number: u64,
-    ) -> Result<Found, AllocError> {
+    ) -> Result<Destination, AllocError> {
         let mut whole = PathBuf::from_str(alloc, name)?;
         for _ in 0..LINKS {
             if is_of_system(whole.as_path()) {
-                return Ok(Found::System(whole));
+                return Ok(Destination::System(whole));
             }
             match link_at(files, alloc, whole.as_path()) {
                 Ok(Some(target)) => whole.set_file_name(target.as_path().as_str())?,
-                Ok(None) => return Found::beside(alloc, whole, number),
+                Ok(None) => return Destination::beside(alloc, whole, number),
                 Err(error) if error.kind() == ErrorKind::OutOfMemory => return Err(AllocError),
-                Err(error) => return Ok(Found::Lost(error.kind())),
+                Err(error) => return Ok(Destination::Lost(error.kind())),
             }
         }
-        Ok(Found::Lost(ErrorKind::FilesystemLoop))
+        Ok(Destination::Lost(ErrorKind::FilesystemLoop))
     }
 
     /// A name that is not a link, with a name in the same folder.
-    fn beside(alloc: Global, whole: PathBuf, number: u64) -> Result<Found, AllocError> {
+    fn beside(alloc: Global, whole: PathBuf, number: u64) -> Result<Destination, AllocError> {
         let name = format!(in alloc; ".sarif_gate-{number:016x}")?;
         let new = whole.as_path().with_file_name(alloc, name.as_str())?;
-        Ok(Found::Named { whole, new })
+        Ok(Destination::Named { whole, new })
     }
 }
 

@@ -8,7 +8,7 @@ ghost use Rattle.sarif_streams.specs.Internal.Writing.{file_of};
 ghost use Rattle.sarif_streams.specs.declared.output.Writing.TheVariants.{Unopened, Over};
 
 use crate::output::OutputFile;
-use crate::place::Place;
+use crate::place::OutputPlace;
 use crate::streams::STANDARD;
 use std::alloc::{AllocError, Global};
 use std::io::{self, Write};
@@ -38,7 +38,7 @@ impl<'a, R: Files, O: Drop> Target<'a, R, O> {
         if name == STANDARD {
             return Ok(Target::Standard(standard));
         }
-        let place = Place::of(files, alloc, name, number)?;
+        let place = OutputPlace::of(files, alloc, name, number)?;
         Ok(Target::File(OutputFile::new(files, place)))
     }
 }

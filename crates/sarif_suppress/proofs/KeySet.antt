@@ -6,18 +6,18 @@ use Rattle.std.proofs.lemmas.List.Folds.{list_any-append}
 use Rattle.indexmap.specs.IndexSet.{IndexSet}
 use Rattle.serde_json.specs.Data.{Data}
 use Rattle.sarif_entries.specs.declared.entry.Entry.{Entry}
-use Rattle.sarif_entries.specs.declared.key.Key.{Key}
+use Rattle.sarif_entries.specs.declared.key.EntryKey.{EntryKey}
 use Rattle.sarif_entries.specs.Internal.Keys.{has_key}
 use Rattle.sarif_suppress.specs.Internal.Unseen.{HasKeysOf}
 use Rattle.sarif_suppress.specs.Written.{with_object_if, with_objects_at}
 
 -- ---- a set of keys, and a list whose objects have them
 
-has_one_more : (q : Key) (values : List Data) (d : Data) → list_any (has_key q) (values ++ d ∷ []) ≡ (list_any (has_key q) values || has_key q d)
+has_one_more : (q : EntryKey) (values : List Data) (d : Data) → list_any (has_key q) (values ++ d ∷ []) ≡ (list_any (has_key q) values || has_key q d)
 has_one_more q values d = list_any-append (has_key q) values (d ∷ []) ∙ ap (λ b. list_any (has_key q) values || b) (or-false (has_key q d))
 
 -- a value without one
-pub without_key : {S : Type 0} (keys : IndexSet Key S) (values : List Data) (d : Data) → ((q : Key) → has_key q d ≡ false) → HasKeysOf keys values → HasKeysOf keys (values ++ d ∷ [])
+pub without_key : {S : Type 0} (keys : IndexSet EntryKey S) (values : List Data) (d : Data) → ((q : EntryKey) → has_key q d ≡ false) → HasKeysOf keys values → HasKeysOf keys (values ++ d ∷ [])
 without_key keys values d none has = λ q.
     has q ∙ sym (has_one_more q values d ∙ rw (none q) (or-false (list_any (has_key q) values)))
 

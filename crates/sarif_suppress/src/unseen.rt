@@ -7,7 +7,7 @@ ghost use Rattle.sarif_suppress.specs.Internal.Unseen.{HasKeysOf};
 ghost use Rattle.sarif_suppress.specs.Written as said;
 
 use indexmap::IndexSet;
-use sarif_entries::key::{Key, key_in, key_of};
+use sarif_entries::key::{EntryKey, key_in, key_of};
 use sarif_entries::{Entry, object_of};
 use serde_json::Value;
 use std::alloc::{AllocError, Global};
@@ -15,7 +15,7 @@ use std::hash::BuildHasher;
 
 /// Adds the key of the value, where it is the object of an entry.
 fn add_key_in<'a, S: BuildHasher + Copy>(
-    keys: &mut IndexSet<Key<'a>, S>,
+    keys: &mut IndexSet<EntryKey<'a>, S>,
     value: &'a Value,
 ) -> Result<(), AllocError>
     ensures { OnOk result ((values : List Data) → HasKeysOf keys.old values
@@ -32,10 +32,10 @@ fn keys_in<'a, S: BuildHasher + Copy>(
     alloc: Global,
     hasher: S,
     values: &'a [Value],
-) -> Result<IndexSet<Key<'a>, S>, AllocError>
+) -> Result<IndexSet<EntryKey<'a>, S>, AllocError>
     ensures { IfOk result (λ keys. HasKeysOf keys (map view values.now)) }
 {
-    let mut keys: IndexSet<Key<'a>, S> = IndexSet::with_hasher(alloc, hasher);
+    let mut keys: IndexSet<EntryKey<'a>, S> = IndexSet::with_hasher(alloc, hasher);
     for value in values {
         add_key_in(&mut keys, value)?;
     }
@@ -46,7 +46,7 @@ fn keys_in<'a, S: BuildHasher + Copy>(
 /// are those of the list and of what is before it.
 fn add_unseen<'a, S: BuildHasher + Copy>(
     alloc: Global,
-    keys: &mut IndexSet<Key<'a>, S>,
+    keys: &mut IndexSet<EntryKey<'a>, S>,
     list: &mut Vec<Value>,
     entry: &'a Entry,
 ) -> Result<(), AllocError>
@@ -66,7 +66,7 @@ fn add_unseen<'a, S: BuildHasher + Copy>(
 /// key among the keys, unless it is one of them.
 fn add_unseen_at<'a, S: BuildHasher + Copy>(
     alloc: Global,
-    keys: &mut IndexSet<Key<'a>, S>,
+    keys: &mut IndexSet<EntryKey<'a>, S>,
     list: &mut Vec<Value>,
     entries: &'a [Entry],
     number: u32,

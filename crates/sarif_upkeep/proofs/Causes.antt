@@ -11,7 +11,7 @@ use Rattle.sarif_model.specs.declared.merge_fault.Source.TheVariants.{Suppress}
 use Rattle.sarif_model.specs.declared.record.Record.{Record}
 use Rattle.sarif_model.specs.FirstFault.{first}
 use Rattle.sarif_model.specs.MergeFault.{cause_of, fault_at}
-use Rattle.sarif_counts.specs.declared.upkeep.Renewal.{Renewal}
+use Rattle.sarif_options.specs.declared.upkeep.Renewal.{Renewal}
 use Rattle.sarif_accept.specs.NewFile.{file_text}
 use Rattle.sarif_accept.specs.Renewed.{renewal_cause, renewed_entries, renewed_file}
 use Rattle.sarif_upkeep.specs.Renewed.{text_faults}

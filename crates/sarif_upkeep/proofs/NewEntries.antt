@@ -3,19 +3,19 @@ use Rattle.std.proofs.Common.{◌≡◌, ◌+◌, ℕ, suc, Bool, true, false, n
 use Rattle.std.proofs.lemmas.List.{length-map}
 use Rattle.std.proofs.lemmas.List.Sums.{length-filter}
 use Rattle.std.specs.Borrow.{Bor}
-use Rattle.std.specs.Prelude.{Ok, count_by, option_and_then, option_map, unwrap_or, codes}
+use Rattle.std.specs.Prelude.{Ok, count_by, option_and_then, option_map, unwrap_or, codes, ok_or}
 use Rattle.serde_json.specs.Data.{Data, object, no_members}
 use Rattle.serde_json.specs.Find.{as_array, get}
 use Rattle.json_parts.specs.Indexed.{json_of}
 use Rattle.json_parts.specs.Mark.{without_mark}
 use Rattle.sarif_model.specs.declared.record.Record.{Record}
 use Rattle.sarif_model.specs.Run.{elements_or_none}
-use Rattle.sarif_counts.specs.declared.upkeep.Renewal.{Renewal}
-use Rattle.sarif_counts.specs.Policy.{count_if}
+use Rattle.sarif_options.specs.declared.upkeep.Renewal.{Renewal}
+use Rattle.sarif_counts.specs.Hits.{count_if}
 use Rattle.sarif_entries.specs.declared.entry.Entry.{Entry}
 use Rattle.sarif_entries.specs.declared.version.Version.{Version}
 use Rattle.sarif_entries.specs.Entries.{entry_of}
-use Rattle.sarif_entries.specs.File.{check_count, check_list, check_version, entries_from, file_of, file_of_value, value_or, File}
+use Rattle.sarif_entries.specs.File.{check_count, check_list, check_version, entries_from, file_of, file_of_value, File}
 use Rattle.sarif_read.proofs.WholeRuns.{bind_ok}
 use Rattle.sarif_accept.specs.Adding.{once_each}
 use Rattle.sarif_accept.specs.Entry.{entry_for}
@@ -27,6 +27,8 @@ use Rattle.sarif_upkeep.specs.Internal.IsMatched.{IsFileOf}
 use Rattle.sarif_upkeep.specs.Internal.Making.{entries_of, file_of as made_of}
 use Rattle.sarif_upkeep.specs.Merge.{Merge}
 use Rattle.sarif_upkeep.specs.Renewed.{accepted_in, added_in, entries_count, kept_in, renewal_faults, rules_after, text_faults, values_added}
+use Rattle.sarif_entries.specs.FileFault.{whole}
+use Rattle.sarif_model.specs.declared.fault.Fault.TheVariants.{NotJson}
 
 -- ---- as many entries as were read
 
@@ -39,14 +41,14 @@ entries_long version today n (d ∷ ds) es is =
     let same : first.0 ∷ rest.0 ≡ es = cc rest.2 in
     ap length (sym same) ∙ ap suc (entries_long version today (n + 1) ds rest.0 rest.1)
 
-found_value : (o : Option Data) (d : Data) → value_or o ≡ Ok d → unwrap_or o (object no_members) ≡ d
+found_value : (o : Option Data) (d : Data) → ok_or o (whole NotJson) ≡ Ok d → unwrap_or o (object no_members) ≡ d
 found_value None d is = let never : ⊥ = cc in absurd never
 found_value (Some x) d is = cc
 
 read_long : (bytes : List ℕ) (file : File) → file_of bytes file.today ≡ Ok file → length file.entries ≡ length (entries_in (file_object (Some bytes)))
 unfolding file_of file_of_value
 read_long bytes file is =
-    let parsed = bind_ok (value_or (json_of (without_mark bytes))) _ file is in
+    let parsed = bind_ok (ok_or (json_of (without_mark bytes)) (whole NotJson)) _ file is in
     let d = parsed.0 in
     let list = bind_ok (check_list d) _ file parsed.2 in
     let version = bind_ok (check_version d) _ file list.2 in

@@ -4,7 +4,7 @@ use Rattle.std.proofs.lemmas.List.{drop_more, get_or-map}
 use Rattle.sarif_model.specs.declared.kinds.State.{State}
 use Rattle.sarif_model.specs.declared.kinds.State.TheVariants.{Absent}
 use Rattle.sarif_model.specs.declared.record.Record.{Record}
-use Rattle.sarif_counts.specs.Policy.{count_if}
+use Rattle.sarif_counts.specs.Hits.{count_if}
 use Rattle.sarif_suppress.specs.declared.suppressions.Applied.{Applied}
 use Rattle.sarif_entries.specs.File.{File}
 use Rattle.sarif_results.specs.declared.draft.Draft.{Draft}

@@ -12,9 +12,9 @@ use Rattle.sarif_model.specs.MergeFault.{fault_at}
 use Rattle.sarif_model.specs.Run.{present, results_of}
 use Rattle.sarif_model.specs.Driver.{tool_name}
 use Rattle.sarif_counts.specs.declared.life.KnownLog.{KnownLog}
-use Rattle.sarif_counts.specs.declared.policy.Policy.{Policy}
-use Rattle.sarif_counts.specs.declared.upkeep.Knowing.{Knowing}
-use Rattle.sarif_counts.specs.declared.upkeep.Knowing.TheVariants.{Matched, Adopted}
+use Rattle.sarif_options.specs.declared.policy.Policy.{Policy}
+use Rattle.sarif_options.specs.declared.upkeep.Knowing.{Knowing}
+use Rattle.sarif_options.specs.declared.upkeep.Knowing.TheVariants.{Matched, Adopted}
 use Rattle.sarif_entries.specs.File.{File}
 use Rattle.sarif_known.specs.Chosen.{results_among, Chosen}
 use Rattle.sarif_known.specs.KnownLog.{known_text}

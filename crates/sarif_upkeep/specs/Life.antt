@@ -2,9 +2,9 @@
 use Rattle.std.specs.Prelude.{ℕ, List, [], ◌++◌, Option, Some, None, option_map, if◌then◌else◌}
 use Rattle.sarif_model.specs.declared.merge_fault.MergeFault.{MergeFault}
 use Rattle.sarif_counts.specs.declared.life.Life.{Life}
-use Rattle.sarif_counts.specs.declared.upkeep.Knowing.{Knowing}
-use Rattle.sarif_counts.specs.declared.upkeep.Renewal.{Renewal}
-use Rattle.sarif_counts.specs.declared.upkeep.Upkeep.{Upkeep}
+use Rattle.sarif_options.specs.declared.upkeep.Knowing.{Knowing}
+use Rattle.sarif_options.specs.declared.upkeep.Renewal.{Renewal}
+use Rattle.sarif_options.specs.declared.upkeep.Upkeep.{Upkeep}
 use Rattle.sarif_accept.specs.NewFile.{entries_in, file_object}
 use Rattle.sarif_accept.specs.Unused.{unused_text}
 use Rattle.sarif_upkeep.specs.Known.{known_faults, remembered}

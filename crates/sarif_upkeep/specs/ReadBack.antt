@@ -3,9 +3,9 @@ use Rattle.std.specs.Prelude.{◌≡◌, ℕ, List, Some, IfSome}
 use Rattle.json_parts.specs.Indexed.{json_of}
 use Rattle.json_parts.specs.Mark.{without_mark}
 use Rattle.sarif_counts.specs.declared.life.Life.{Life}
-use Rattle.sarif_counts.specs.declared.upkeep.Knowing.{Knowing}
-use Rattle.sarif_counts.specs.declared.upkeep.Renewal.{Renewal}
-use Rattle.sarif_counts.specs.declared.upkeep.Upkeep.{Upkeep}
+use Rattle.sarif_options.specs.declared.upkeep.Knowing.{Knowing}
+use Rattle.sarif_options.specs.declared.upkeep.Renewal.{Renewal}
+use Rattle.sarif_options.specs.declared.upkeep.Upkeep.{Upkeep}
 use Rattle.sarif_known.specs.KnownLog.{known_log}
 use Rattle.sarif_known.specs.Laws.{CanBeRead}
 use Rattle.sarif_upkeep.specs.Known.{runs_known}

@@ -12,8 +12,8 @@ use Rattle.sarif_model.specs.declared.record.Record.{Record}
 use Rattle.sarif_model.specs.Limits.{most_bytes, most_entries}
 use Rattle.sarif_model.specs.MergeFault.{cause_of, fault_at}
 use Rattle.sarif_counts.specs.declared.life.NewFile.{NewFile}
-use Rattle.sarif_counts.specs.declared.upkeep.Renewal.{Renewal}
-use Rattle.sarif_counts.specs.Policy.{count_if}
+use Rattle.sarif_options.specs.declared.upkeep.Renewal.{Renewal}
+use Rattle.sarif_counts.specs.Hits.{count_if}
 use Rattle.sarif_entries.specs.File.{File}
 use Rattle.sarif_accept.specs.Adding.{accepted_among, added_for, is_hit, may_hit, stays, Counts, How}
 use Rattle.sarif_accept.specs.Entry.{entry_for}

@@ -4,8 +4,8 @@ ghost use Rattle.sarif_entries.specs.File.{File};
 ghost use Rattle.sarif_results.specs.Drafts.{applied_of};
 ghost use Rattle.sarif_accept.specs.Adding.{accepted_among, is_hit, may_hit, stays};
 
-use sarif_counts::Policy;
 use sarif_model::{Record, State};
+use sarif_options::Policy;
 use sarif_results::Draft;
 use std::alloc::{AllocError, Global};
 

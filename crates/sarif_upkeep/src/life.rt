@@ -12,8 +12,9 @@ use crate::matched::Matched;
 use crate::renewing::renew;
 use crate::tools::used_by;
 use sarif_accept::unused_lines;
-use sarif_counts::{KnownLog, Life, NewFile, Upkeep};
+use sarif_counts::{KnownLog, Life, NewFile};
 use sarif_model::{MergeFault, Text};
+use sarif_options::Upkeep;
 use std::alloc::{AllocError, Global};
 use std::hash::RandomState;
 

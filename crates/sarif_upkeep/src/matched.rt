@@ -1,6 +1,6 @@
 //! A merge whose results are matched.
-use sarif_counts::Policy;
 use sarif_model::{Record, State};
+use sarif_options::Policy;
 use sarif_results::Draft;
 use sarif_runs::OpenedRun;
 use sarif_suppress::Suppressions;

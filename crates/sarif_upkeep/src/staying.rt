@@ -1,7 +1,7 @@
 //! The hits that stay.
 ghost use Rattle.std.specs.Prelude.{◌≡◌, ◌≤◌, ◌&&◌, not, length, map};
 ghost use Rattle.sarif_model.specs.declared.kinds.State.TheVariants.{Absent};
-ghost use Rattle.sarif_counts.specs.Policy.{count_if};
+ghost use Rattle.sarif_counts.specs.Hits.{count_if};
 ghost use Rattle.sarif_entries.specs.File.{File};
 ghost use Rattle.sarif_suppress.specs.Suppressing as suppressing;
 ghost use Rattle.sarif_results.specs.Drafts.{applied_of};
@@ -9,8 +9,8 @@ ghost use Rattle.sarif_accept.specs.Adding.{is_hit, may_hit, stays};
 ghost use Rattle.sarif_upkeep.specs.Renewed as said;
 
 use crate::accepting::{has_suppressions, is_hit};
-use sarif_counts::Policy;
 use sarif_model::{Record, State, Status};
+use sarif_options::Policy;
 use sarif_results::Draft;
 use sarif_suppress::all_accepted;
 

@@ -1,6 +1,6 @@
 //! The inputs of a merge.
 use crate::runs::log_of;
-use sarif_counts::{Checks, Policy};
+use sarif_options::{Checks, Policy};
 use sarif_streams::SourceBytes;
 use std::alloc::{AllocError, Global};
 use std::hash::RandomState;

@@ -6,11 +6,11 @@ ghost use Rattle.sarif_streams.specs.Counted.{inner_of};
 ghost use Rattle.sarif_streams.specs.Room.{HaveRoom};
 
 use crate::given::{ZEROS, seed_of};
-use sarif_counts::{Checks, Options, Policy};
 use sarif_gather::NoGate;
 use sarif_log::Merged;
 use sarif_merge::merge_readers;
 use sarif_model::MergeFault;
+use sarif_options::{Checks, Options, Policy};
 use sarif_prepare::Asked;
 use sarif_streams::{Counted, Readers};
 use std::alloc::{AllocError, Global};

@@ -40,5 +40,7 @@ pub fn result_at(alloc: Global, rule_id: &str, uri: Option<&str>) -> Result<Reco
         full: Sequence::new(alloc),
         partial: Sequence::new(alloc),
         held: Sequence::new(alloc),
+        region: None,
+        snippet: None,
     })
 }

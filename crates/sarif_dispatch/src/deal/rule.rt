@@ -65,8 +65,8 @@ impl Play<(), HandView> for Draws {
 }
 
 /// A look at the word by the hand that represents all.
-pub struct Counts;
+pub struct Look;
 
-impl Play<(), HandView> for Counts {
+impl Play<(), HandView> for Look {
     ghost then = { λ step me found after. (after ≡ me) × Learns me.0 found };
 }

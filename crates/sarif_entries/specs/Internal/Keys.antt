@@ -6,8 +6,8 @@ use Rattle.serde_json.specs.Find.{as_object}
 use Rattle.sarif_model.specs.Status.{status_name, status_named}
 use Rattle.sarif_model.specs.declared.kinds.Status.{Status}
 use Rattle.sarif_model.specs.Members.{text_in}
-use Rattle.sarif_entries.specs.contracts.key.KeyPartialEq.TheImpl as derived
-use Rattle.sarif_entries.specs.declared.key.Key.{Key}
+use Rattle.sarif_entries.specs.contracts.key.EntryKeyPartialEq.TheImpl as derived
+use Rattle.sarif_entries.specs.declared.key.EntryKey.{EntryKey}
 use Rattle.sarif_entries.specs.Entries.{with_pair}
 use Rattle.sarif_entries.specs.Object.{are_just}
 
@@ -22,15 +22,15 @@ abbrev pub is_object_with : Status → Option (List ℕ) → Data → Bool
 is_object_with status justification d =
     option_map_or (are_just (texts_with status justification)) (as_object d) false
 
-abbrev pub justification_of : Key → Option (List ℕ)
+abbrev pub justification_of : EntryKey → Option (List ℕ)
 justification_of key = option_map (λ text. text.now) key.justification
 
 -- the value is the object with that key
-abbrev pub has_key : Key → Data → Bool
+abbrev pub has_key : EntryKey → Data → Bool
 has_key key d = is_object_with key.status (justification_of key) d
 
 -- whether two keys are equal, part by part
-abbrev pub same_key : Key → Key → Bool
+abbrev pub same_key : EntryKey → EntryKey → Bool
 same_key = derived.ghosts.eq
 
 -- the status of that name

@@ -1,6 +1,6 @@
 -- Inputs for which external property files are allowed or not, and otherwise the same.
 use Rattle.std.specs.Prelude.{◌≡◌, ℕ, Bool, true, false, List}
-use Rattle.sarif_counts.specs.declared.checks.Checks.{Checks}
+use Rattle.sarif_options.specs.declared.checks.Checks.{Checks}
 use Rattle.sarif_read.specs.Reading.{log_of}
 use Rattle.sarif_inputs.specs.Inputs.{Inputs}
 

@@ -1,6 +1,6 @@
 -- The runs of all sources of a merge.
 use Rattle.std.specs.Prelude.{◌≡◌, ℕ, ◌≤◌, ◌+◌, List, [], map, length}
-use Rattle.sarif_counts.specs.declared.checks.Checks.{Checks}
+use Rattle.sarif_options.specs.declared.checks.Checks.{Checks}
 use Rattle.sarif_model.specs.Run.{results_total}
 use Rattle.sarif_model.specs.declared.merge_fault.Source.TheVariants.{Log, Baseline}
 use Rattle.sarif_runs.specs.Internal.Opened.{placed_of}

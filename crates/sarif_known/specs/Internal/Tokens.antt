@@ -1,6 +1,6 @@
 -- The tokens of a known log.
-use Rattle.std.specs.Prelude.{ℕ, List, [], ◌∷◌, ◌++◌, map, codes, Option, Some, None, option_map}
-use Rattle.json.specs.Token.{Token, begin_object, end_object, begin_array, end_array, key, string}
+use Rattle.std.specs.Prelude.{ℕ, ◌+◌, List, [], ◌∷◌, ◌++◌, length, map, codes, Option, Some, None, option_map}
+use Rattle.json.specs.Token.{Token, begin_object, end_object, begin_array, end_array, key, string, number, boolean, null, bad}
 use Rattle.json.specs.Tree.{json_tokens}
 use Rattle.serde_json.specs.Data.{Data, string as text}
 use Rattle.serde_json.specs.Written.{outline}
@@ -32,6 +32,24 @@ pairs_tokens (p ∷ ps) = key p.0 ∷ (string p.1 ∷ pairs_tokens ps)
 abbrev pub each_tokens : List Data → List Token
 each_tokens [] = []
 each_tokens (d ∷ ds) = data_tokens d ++ each_tokens ds
+
+-- how many bytes a token has at least: those of its string, or one
+abbrev pub own_bytes : Token → ℕ
+own_bytes begin_object = 1
+own_bytes end_object = 1
+own_bytes begin_array = 1
+own_bytes end_array = 1
+own_bytes (key s) = length s
+own_bytes (string s) = length s
+own_bytes (number s) = length s
+own_bytes (boolean b) = 1
+own_bytes null = 1
+own_bytes bad = 0
+
+-- how many bytes tokens have at least
+abbrev pub least_bytes : List Token → ℕ
+least_bytes [] = 0
+least_bytes (t ∷ ts) = own_bytes t + least_bytes ts
 
 -- ---- parts of a result
 

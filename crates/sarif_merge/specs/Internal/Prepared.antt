@@ -1,13 +1,14 @@
 -- What is prepared before the log is assembled.
 use Rattle.std.specs.Prelude.{◌≡◌, [], Option}
-use Rattle.sarif_counts.specs.declared.policy.Policy.{Policy}
-use Rattle.sarif_counts.specs.declared.upkeep.Upkeep.{Upkeep}
+use Rattle.sarif_options.specs.declared.policy.Policy.{Policy}
+use Rattle.sarif_options.specs.declared.upkeep.Upkeep.{Upkeep}
 use Rattle.sarif_model.specs.declared.merge_fault.Source.TheVariants.{Log, Baseline}
 use Rattle.sarif_findings.specs.declared.reporting.Reporting.{Reporting}
 use Rattle.sarif_log.specs.declared.prepared.Prepared.{Prepared}
 use Rattle.sarif_prepare.specs.Kept.{IsKept}
 use Rattle.sarif_log.specs.Internal.Prepared.{IsPrepared}
-use Rattle.sarif_inputs.specs.Faults.{faults_of, file_or_none}
+use Rattle.sarif_inputs.specs.Faults.{faults_of}
+use Rattle.sarif_entries.specs.Given.{file_or_none}
 use Rattle.sarif_inputs.specs.Inputs.{Inputs, numbered, placed}
 use Rattle.sarif_merge.specs.Life.{merge_in}
 use Rattle.sarif_merge.specs.MergedLog.{file_in}

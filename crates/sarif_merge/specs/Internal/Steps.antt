@@ -6,13 +6,14 @@ use Rattle.sarif_model.specs.Limits.{most_results, most_runs}
 use Rattle.sarif_model.specs.MergeFault.{exit_status}
 use Rattle.sarif_model.specs.Run.{results_total}
 use Rattle.sarif_model.specs.declared.merge_fault.MergeFault.{MergeFault}
-use Rattle.sarif_counts.specs.declared.policy.Policy.{Policy}
+use Rattle.sarif_options.specs.declared.policy.Policy.{Policy}
 use Rattle.sarif_entries.specs.File.{File}
 use Rattle.sarif_runs.specs.Judging.{faults_of_runs, run_values}
 use Rattle.sarif_runs.specs.Internal.Opened.{placed_of}
 use Rattle.sarif_runs.specs.Placed.{Placed}
 use Rattle.sarif_runs.specs.declared.opened.OpenedRun.{OpenedRun}
-use Rattle.sarif_inputs.specs.Faults.{faults_of, file_faults, file_or_none}
+use Rattle.sarif_inputs.specs.Faults.{faults_of, file_faults}
+use Rattle.sarif_entries.specs.Given.{file_or_none}
 use Rattle.sarif_inputs.specs.Internal.Indexes.{AreIndexesOf}
 use Rattle.sarif_inputs.specs.Inputs.{Inputs, all_runs, baseline_runs, input_runs}
 use Rattle.sarif_results.specs.Internal.Judged.{IsJudged, placed_in}

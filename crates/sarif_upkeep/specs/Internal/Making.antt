@@ -10,7 +10,7 @@ use Rattle.sarif_model.specs.declared.record.Record.{Record}
 use Rattle.sarif_model.specs.declared.refusal.Refusal.{Refusal}
 use Rattle.sarif_model.specs.declared.refusal.Refusal.TheVariants as refusal
 use Rattle.sarif_model.specs.MergeFault.{fault_at, out_of_memory}
-use Rattle.sarif_counts.specs.declared.upkeep.Renewal.{Renewal}
+use Rattle.sarif_options.specs.declared.upkeep.Renewal.{Renewal}
 use Rattle.sarif_accept.specs.Renewed.{renewed_entries, renewed_file}
 
 -- the error of a merge whose new file is rejected

@@ -1,6 +1,6 @@
 use Rattle.std.proofs.Common.{ap, map}
 use Rattle.sarif_match.specs.Partners.{partners_of}
-use Rattle.sarif_counts.specs.Policy.{verdict_of}
+use Rattle.sarif_counts.specs.Hits.{verdict_of}
 use Rattle.sarif_suppress.specs.Suppressing.{is_suppressed, matching_numbers}
 use Rattle.sarif_log.specs.LogBy.{states_of, taken_of}
 use Rattle.sarif_laws_external.proofs.SameResults.{counts_same, gate_same, written_same}

@@ -1,16 +1,15 @@
-use Rattle.std.proofs.Common.{◌≡◌, arith, refl, rules, subst}
+use Rattle.std.proofs.Common.{◌≡◌, ℕ, List, arith, refl, rules, subst}
 use Rattle.std.proofs.lemmas.Result.{IfErr-weaker, IfOk-weaker, err_from_is_err_and}
 use Rattle.sarif_counts.specs.declared.counts.Counts.{Counts}
 use Rattle.sarif_counts.specs.Counts.{count_at}
-use Rattle.sarif_counts.specs.declared.life.Life.{Life}
 use Rattle.sarif_counts.specs.Summary.{summary_of}
 use Rattle.sarif_log.specs.declared.facts.Facts.{Facts as MergeFacts}
 use Rattle.sarif_shown.specs.Facts.{Facts}
 use Rattle.sarif_reports.specs.Report.{report_of}
 use Rattle.sarif_streams.proofs.ReadersRead.{none_has_fallen}
-use Rattle.sarif_program.specs.Notes.{lines_of}
+use Rattle.sarif_program.specs.Notes.{lines_for, lines_with}
 use Rattle.sarif_program.specs.Reports.{report_for, report_with, texts_for}
-use Rattle.sarif_program.proofs.SameFacts.{same_facts}
+use Rattle.sarif_program.proofs.SameFacts.{same_facts, same_lines}
 use Rattle.sarif_program.proofs.run.merge_for.Goals as goal
 
 pub returns-in_err-made-clause-risen : goal.returns-in_err-made-clause-risen
@@ -29,10 +28,11 @@ returns-clause-summary g c =
 
 pub returns-clause-lines : goal.returns-clause-lines
 returns-clause-lines g c =
-    IfOk-weaker c.merge_told.result _ (λ all. all.1.lines ≡ lines_of all.0.life)
+    let request = c.args.request.now in
+    IfOk-weaker c.merge_told.result _ (λ all. all.1.lines ≡ lines_for request all.0)
     (λ all told.
-    subst (λ (life : Life). all.1.lines ≡ lines_of life) told.2.life
-    (subst (λ (facts : MergeFacts). all.1.lines ≡ lines_of facts.life.now) {x = told.1.0.now} {y = told.0} told.1.2 (search rules)))
+    subst (λ (lines : List ℕ). all.1.lines ≡ lines) (same_lines request all.0 told.0 told.2)
+    (subst (λ (facts : MergeFacts). all.1.lines ≡ lines_with request facts) {x = told.1.0.now} {y = told.0} told.1.2 (search rules)))
     c.merge_told.ensures.told
 
 pub returns-clause-reports : goal.returns-clause-reports

@@ -128,10 +128,10 @@ returns-in-Err-clause-untouched g c = λ which. refl
 pub returns-in-Ok-clause-quiet : goal.returns-in-Ok-clause-quiet
 returns-in-Ok-clause-quiet g c = λ low. record {
   last = (c.accept.ensures.noted low).last;
-  silent = λ unrenewed unknown.
+  silent = λ unrenewed unknown plain.
       let is = c.in-Ok.ensures.merged.3.is in
-      let none = no_lines c.in-Ok.merged.life (ap (λ (life : Life). life.suppressions) is ∙ ap (option_map _) unrenewed)
-      (ap (λ (life : Life). life.known) is ∙ ap (option_map _) unknown) in
+      let none = no_lines c.args.request.now c.in-Ok.merged (ap (λ (life : Life). life.suppressions) is ∙ ap (option_map _) unrenewed)
+      (ap (λ (life : Life). life.known) is ∙ ap (option_map _) unknown) plain in
       (c.accept.ensures.noted low).none (c.in-Ok.ensures.lines ∙ none);
 }
 

@@ -1,0 +1,59 @@
+-- Exactly the results that don't stay out become known.
+use Rattle.std.proofs.Common.{◌≡◌, ◌∙◌, ◌⊎◌, inl, inr, Bool, true, false, not, ◌&&◌, ◌||◌, List, ◌∷◌, refl, sym, ap, true≢false}
+use Rattle.sarif_model.specs.declared.record.Record.{Record}
+use Rattle.sarif_model.specs.declared.kinds.State.{State}
+use Rattle.sarif_model.specs.declared.kinds.State.TheVariants.{New, Unchanged, Updated, Absent}
+use Rattle.sarif_options.specs.declared.policy.Policy.{Policy}
+use Rattle.sarif_entries.specs.File.{File}
+use Rattle.sarif_suppress.specs.Suppressing.{is_suppressed, lasting}
+use Rattle.sarif_accept.specs.Adding.{may_hit}
+use Rattle.sarif_known.specs.JustKnown.{IsSuppressedForNow, IsNewAndStops, StaysOut}
+use Rattle.sarif_known.specs.Selected.{is_left_out, is_new, keep_unless, known_of}
+
+or_true : (b : Bool) → (b || true) ≡ true
+or_true true = refl
+or_true false = refl
+
+new_is : (state : State) → is_new state ≡ true → state ≡ New
+new_is New is = refl
+new_is Unchanged is = absurd (true≢false (sym is))
+new_is Updated is = absurd (true≢false (sym is))
+new_is Absent is = absurd (true≢false (sym is))
+
+-- for booleans in place of its tests, each side
+out_if : (now later adopt fresh hit : Bool) → ((now ≡ true) × (later ≡ false)) ⊎ ((adopt ≡ false) × (fresh ≡ true) × ((now ≡ true) ⊎ (hit ≡ true)))
+    → ((now && not later) || (not adopt && (fresh && (now || hit)))) ≡ true
+out_if now later adopt fresh hit (inl why) = rw (why.0, why.1) refl
+out_if now later adopt fresh hit (inr (kept, is, inl held)) = rw (kept, is, held) (or_true (not later))
+out_if now later adopt fresh hit (inr (kept, is, inr hits)) = rw (kept, is, hits) (ap (λ b. (now && not later) || b) (or_true now) ∙ or_true (now && not later))
+
+in_if : (now later adopt fresh hit : Bool) → (((now ≡ true) × (later ≡ false)) ⊎ ((adopt ≡ false) × (fresh ≡ true) × ((now ≡ true) ⊎ (hit ≡ true))) → ⊥)
+    → ((now && not later) || (not adopt && (fresh && (now || hit)))) ≡ false
+in_if true false adopt fresh hit none = absurd (none (inl (refl, refl)))
+in_if true true true fresh hit none = refl
+in_if true true false true hit none = absurd (none (inr (refl, refl, inl refl)))
+in_if true true false false hit none = refl
+in_if false later true fresh hit none = refl
+in_if false later false false hit none = refl
+in_if false later false true true none = absurd (none (inr (refl, refl, inr refl)))
+in_if false later false true false none = refl
+
+module _ (file : File) (policy : Policy) (adopt : Bool) (r : Record) (state : State) where
+  left_out : StaysOut file policy adopt r state → is_left_out file policy adopt r state ≡ true
+  left_out (inl why) = out_if (is_suppressed file r) (is_suppressed (lasting file) r) adopt (is_new state) (may_hit policy r state) (inl (why.now, why.later))
+  left_out (inr why) = out_if (is_suppressed file r) (is_suppressed (lasting file) r) adopt (is_new state) (may_hit policy r state) (inr (why.adopted, ap is_new why.fresh, why.stops))
+
+  taken : (StaysOut file policy adopt r state → ⊥) → is_left_out file policy adopt r state ≡ false
+  taken none = in_if (is_suppressed file r) (is_suppressed (lasting file) r) adopt (is_new state) (may_hit policy r state) by
+    where
+      by : ((is_suppressed file r ≡ true) × (is_suppressed (lasting file) r ≡ false)) ⊎ ((adopt ≡ false) × (is_new state ≡ true) × ((is_suppressed file r ≡ true) ⊎ (may_hit policy r state ≡ true))) → ⊥
+      by (inl (now, later)) = none (inl (record { now = now; later = later }))
+      by (inr (adopted, fresh, stops)) = none (inr (record { adopted = adopted; fresh = new_is state fresh; stops = stops }))
+
+pub not_known : (file : File) (policy : Policy) (adopt : Bool) (r : Record) (rs : List Record) (state : State) (states : List State)
+    → StaysOut file policy adopt r state → known_of file policy adopt (r ∷ rs) (state ∷ states) ≡ known_of file policy adopt rs states
+not_known file policy adopt r rs state states out = ap (λ b. keep_unless b r (known_of file policy adopt rs states)) (left_out file policy adopt r state out)
+
+pub becomes_known : (file : File) (policy : Policy) (adopt : Bool) (r : Record) (rs : List Record) (state : State) (states : List State)
+    → (StaysOut file policy adopt r state → ⊥) → known_of file policy adopt (r ∷ rs) (state ∷ states) ≡ r ∷ known_of file policy adopt rs states
+becomes_known file policy adopt r rs state states none = ap (λ b. keep_unless b r (known_of file policy adopt rs states)) (taken file policy adopt r state none)
