@@ -26,6 +26,10 @@ _sarif_gate() {
             --suppress-out --known --workers --explain --help -h --version -V' -- "$word")
         return
     fi
+    if [[ $word == @* ]]; then
+        mapfile -t COMPREPLY < <(compgen -f -P @ -- "${word#@}")
+        return
+    fi
     compopt -o filenames 2>/dev/null
     mapfile -t COMPREPLY < <(compgen -f -- "$word")
 }
