@@ -12,9 +12,9 @@ const ITEMS: u32 = 200;
 
 /// Runs whose items are their numbers. No item allocates.
 #[derive(Clone, Copy)]
-struct Numbers;
+struct NumberRuns;
 
-impl Work for Numbers {
+impl Work for NumberRuns {
     type Head = u32;
 
     type Item = u32;
@@ -64,7 +64,7 @@ pub fn gather_numbers<R: Threads + Wait + Sync>(
 ) -> Result<String, AllocError>
     requires workers { (1 ≤ workers) × (workers ≤ 64) }
 {
-    match gather(rt, alloc, &Numbers, workers, 1, &NoGate) {
+    match gather(rt, alloc, &NumberRuns, workers, 1, &NoGate) {
         Ok(mut lists) => match lists.pop() {
             Some((items, ())) => {
                 let (runs, count, last) = (lists.runs(), items.len(), items.last());

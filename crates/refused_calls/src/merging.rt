@@ -15,17 +15,17 @@ const ROOM: usize = 4_000;
 
 /// A log, and a baseline and a suppression file if they are there. In the input there are bars between the three.
 #[derive(Clone, Copy)]
-struct Given<'a> {
+struct MergeInput<'a> {
     log: &'a str,
     baseline: &'a str,
     suppressions: &'a str,
 }
 
-impl<'a> Given<'a> {
-    fn of(text: &'a str) -> Given<'a> {
+impl<'a> MergeInput<'a> {
+    fn of(text: &'a str) -> MergeInput<'a> {
         let (log, rest) = text.split_once(" | ").unwrap_or((text, ""));
         let (baseline, suppressions) = rest.split_once(" | ").unwrap_or((rest, ""));
-        Given {
+        MergeInput {
             log,
             baseline,
             suppressions,
@@ -50,14 +50,14 @@ pub fn merged_bytes<R: Threads + Wait + Sync>(
     seed: RandomState,
     text: &str,
 ) -> Result<String, AllocError> {
-    let sources = sources_of(alloc, &Given::of(text))?;
+    let sources = sources_of(alloc, &MergeInput::of(text))?;
     match merge_bytes(rt, alloc, &sources, &options_by(seed), &NoGate) {
         Ok(merged) => String::from_str(alloc, merged.log.as_str()),
         Err(fault) => format!(in alloc; "{fault}"),
     }
 }
 
-fn sources_of(alloc: Global, given: &Given) -> Result<SourceBytes, AllocError> {
+fn sources_of(alloc: Global, given: &MergeInput) -> Result<SourceBytes, AllocError> {
     let mut sources = SourceBytes {
         logs: Vec::new(alloc),
         baselines: Vec::new(alloc),
@@ -82,7 +82,7 @@ pub fn merged_to<R: Threads + Wait + Sync>(
     seed: RandomState,
     text: &str,
 ) -> Result<String, AllocError> {
-    let given = Given::of(text);
+    let given = MergeInput::of(text);
     let log = given.log.as_bytes();
     if given.baseline.is_empty() {
         let mut readers = Readers {

@@ -14,7 +14,7 @@ use sarif_options::Policy;
 use std::alloc::{AllocError, Global};
 use std::hash::RandomState;
 use std::io;
-use suppressing::Asked;
+use suppressing::Question;
 
 fn main(rt: HostRuntime) -> io::Result<()> {
     let seed = RandomState::new(&rt)?;
@@ -41,9 +41,9 @@ fn answer_to(alloc: Global, seed: RandomState, line: &str) -> Result<String, All
         "tiers" => matching::tiers_in_words(alloc, seed, given),
         "key" => matching::keys_in_words(alloc, seed, given),
         "match_all" => matching::partners_in_words(alloc, seed, given),
-        "read_rules" => suppressing::answer_of(alloc, given, Asked::Count),
+        "read_rules" => suppressing::answer_of(alloc, given, Question::Count),
         "apply" => suppressing::applied_in_words(alloc, seed, given),
-        "object" => suppressing::answer_of(alloc, given, Asked::Object),
+        "object" => suppressing::answer_of(alloc, given, Question::Object),
         "summary" => summary_in_words(alloc),
         "arguments_in" => arguments_in_words(alloc, given),
         _ => String::from_str(alloc, "no such call"),

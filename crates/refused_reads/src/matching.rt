@@ -8,15 +8,15 @@ use std::alloc::{AllocError, Global};
 use std::hash::RandomState;
 
 #[derive(Drop)]
-struct Sides {
+struct MatchedSides {
     current: Vec<Record>,
     baseline: Vec<Record>,
 }
 
-fn sides_of(alloc: Global, seed: RandomState, log: &str) -> Result<Sides, Refusal<Fault>> {
+fn sides_of(alloc: Global, seed: RandomState, log: &str) -> Result<MatchedSides, Refusal<Fault>> {
     let log = log_of(alloc, log)?;
     match log.runs() {
-        [current, baseline] => Ok(Sides {
+        [current, baseline] => Ok(MatchedSides {
             current: records_of(alloc, seed, current)?,
             baseline: records_of(alloc, seed, baseline)?,
         }),
@@ -56,7 +56,7 @@ pub fn keys_in_words(alloc: Global, seed: RandomState, log: &str) -> Result<Stri
     }
 }
 
-fn keys_of(alloc: Global, sides: &Sides) -> Result<String, AllocError> {
+fn keys_of(alloc: Global, sides: &MatchedSides) -> Result<String, AllocError> {
     let mut text = String::new(alloc);
     for tier in &tiers(alloc, &sides.current, &sides.baseline)? {
         for record in &sides.current {
@@ -79,7 +79,7 @@ pub fn partners_in_words(
     }
 }
 
-fn partners_of(alloc: Global, sides: &Sides) -> Result<String, AllocError> {
+fn partners_of(alloc: Global, sides: &MatchedSides) -> Result<String, AllocError> {
     if sides.current.len() > 1000 || sides.baseline.len() > 1000 {
         return String::from_str(alloc, "too many results");
     }

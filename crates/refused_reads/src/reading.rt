@@ -75,13 +75,13 @@ pub fn head_in_words(alloc: Global, seed: RandomState, log: &str) -> Result<Stri
 }
 
 #[derive(Debug, Drop)]
-struct Given {
+struct GivenRun {
     descriptor: Option<Descriptor>,
     level: Level,
     place: Place,
 }
 
-fn given_by_head(alloc: Global, seed: RandomState, log: &str) -> Result<Given, Refusal<Fault>> {
+fn given_by_head(alloc: Global, seed: RandomState, log: &str) -> Result<GivenRun, Refusal<Fault>> {
     let log = log_of(alloc, log)?;
     let Some(run) = log.runs().first() else {
         return Err(Refusal::Fault(Fault::NotLog));
@@ -91,7 +91,7 @@ fn given_by_head(alloc: Global, seed: RandomState, log: &str) -> Result<Given, R
         return Err(Refusal::Fault(Fault::NotLog));
     }
     let parts = read_parts(alloc, run, 0)?;
-    Ok(Given {
+    Ok(GivenRun {
         descriptor: head.descriptor(&parts)?,
         level: head.level(&parts)?,
         place: head.place(&parts)?,

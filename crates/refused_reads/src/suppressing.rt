@@ -5,37 +5,41 @@ use sarif_suppress::{Suppressions, read_rules};
 use std::alloc::{AllocError, Global};
 use std::hash::{BuildHasherDefault, FoldHasher, RandomState};
 
-type Rules = Suppressions<BuildHasherDefault<FoldHasher>>;
+type SeededSuppressions = Suppressions<BuildHasherDefault<FoldHasher>>;
 
 /// A question about a file: how many entries it has, its effect on a result, or the object that is written for its
 /// first entry.
 #[derive(Clone, Copy)]
-pub enum Asked<'a> {
+pub enum Question<'a> {
     Count,
     Applied(&'a Record),
     Object,
 }
 
 /// The result for a file, or its error.
-pub fn answer_of(alloc: Global, file: &str, asked: Asked) -> Result<String, AllocError> {
+pub fn answer_of(alloc: Global, file: &str, asked: Question) -> Result<String, AllocError> {
     match read_rules(alloc, file.as_bytes(), Some(20250131)) {
         Ok(rules) => in_words(alloc, &rules, asked),
         Err(fault) => format!(in alloc; "{fault}"),
     }
 }
 
-fn in_words(alloc: Global, rules: &Rules, asked: Asked) -> Result<String, AllocError> {
+fn in_words(
+    alloc: Global,
+    rules: &SeededSuppressions,
+    asked: Question,
+) -> Result<String, AllocError> {
     match asked {
-        Asked::Count => {
+        Question::Count => {
             let count = rules.len();
             format!(in alloc; "{count} entries")
         }
-        Asked::Applied(record) => {
+        Question::Applied(record) => {
             let applied = rules.apply(alloc, record)?;
             format!(in alloc; "{applied:?}")
         }
-        Asked::Object if rules.is_empty() => String::from_str(alloc, "no entry"),
-        Asked::Object => rules.object(alloc, 0)?.to_string(alloc),
+        Question::Object if rules.is_empty() => String::from_str(alloc, "no entry"),
+        Question::Object => rules.object(alloc, 0)?.to_string(alloc),
     }
 }
 
@@ -47,7 +51,7 @@ pub fn applied_in_words(
 ) -> Result<String, AllocError> {
     let (file, log) = both.split_once(" | ").unwrap_or((both, ""));
     match first_record(alloc, seed, log) {
-        Ok(record) => answer_of(alloc, file, Asked::Applied(&record)),
+        Ok(record) => answer_of(alloc, file, Question::Applied(&record)),
         Err(fault) => format!(in alloc; "{fault}"),
     }
 }

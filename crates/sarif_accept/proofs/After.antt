@@ -24,7 +24,7 @@ use Rattle.sarif_suppress.specs.Written.{with_object, with_objects, suppressions
 use Rattle.sarif_suppress.proofs.Numbered.{is_empty-append}
 use Rattle.sarif_accept.specs.Entry.{conditions_for}
 use Rattle.sarif_accept.specs.Keeping.{Heard, is_kept}
-use Rattle.sarif_accept.specs.Adding.{as_read, How, Counts, is_hit, stays, is_said, once_each, entry_read, accepted_among, added_for, file_after}
+use Rattle.sarif_accept.specs.Adding.{as_read, How, MayBeHit, is_hit, stays, is_said, once_each, entry_read, accepted_among, added_for, file_after}
 use Rattle.sarif_accept.specs.Until.{IsUntil}
 use Rattle.sarif_accept.proofs.EntryMatches.{matches_is}
 use Rattle.sarif_accept.proofs.SameConditions.{same_conditions-Decides}
@@ -69,7 +69,7 @@ once_said before (x ∷ xs) r (suc i) within is =
     ] refl
 
 -- a hit that doesn't stay is among those that are accepted
-among_accepted : (counts : Counts) (file : File) (rs : List Record) (states : List State) (r : Record) (state : State) (i : ℕ) → i < length rs → i < length states → get_or rs i r ≡ r → get_or states i state ≡ state
+among_accepted : (counts : MayBeHit) (file : File) (rs : List Record) (states : List State) (r : Record) (state : State) (i : ℕ) → i < length rs → i < length states → get_or rs i r ≡ r → get_or states i state ≡ state
     → (is_hit counts file r state && not (stays file r)) ≡ true → (j : ℕ) × (j < length (accepted_among counts file rs states)) × (get_or (accepted_among counts file rs states) j r ≡ r)
 among_accepted counts file [] states r state i within inside is at hit = absurd (omega arith)
 among_accepted counts file (x ∷ xs) [] r state i within inside is at hit = absurd (omega arith)
@@ -107,7 +107,7 @@ filter_kept keep test (e ∷ es) all =
     ] refl
 
 -- the entries that match a current result are those of before, and then those of the added that do
-matching_after : (how : How) (counts : Counts) (file : File) (rs : List Record) (states : List State) (r : Record) (i : ℕ) → i < length rs → get_or rs i r ≡ r
+matching_after : (how : How) (counts : MayBeHit) (file : File) (rs : List Record) (states : List State) (r : Record) (i : ℕ) → i < length rs → get_or rs i r ≡ r
     → matching (file_after how counts file rs states) r
     ≡ matching file r ++ filter (λ e. matches file.today e r) (map (λ x. entry_read x how.renewal.reason how.renewal.until) (added_for how counts file rs states))
 matching_after how counts file rs states r i within is =
@@ -138,7 +138,7 @@ with_accepted old new all = rw (is_empty-append old new, list_all-append is_acce
     by_tests false false c = refl
 
 -- a current result is suppressed afterwards where it was, or where all its suppressions are accepted and an added entry matches it
-pub suppressed_after : (how : How) (counts : Counts) (file : File) (rs : List Record) (states : List State) (r : Record) (i : ℕ) → i < length rs → get_or rs i r ≡ r
+pub suppressed_after : (how : How) (counts : MayBeHit) (file : File) (rs : List Record) (states : List State) (r : Record) (i : ℕ) → i < length rs → get_or rs i r ≡ r
     → is_suppressed (file_after how counts file rs states) r
     ≡ (is_suppressed file r || (not (stays file r) && list_any (λ e. matches file.today e r) (map (λ x. entry_read x how.renewal.reason how.renewal.until) (added_for how counts file rs states))))
 suppressed_after how counts file rs states r i within is =
@@ -162,7 +162,7 @@ suppressed_after how counts file rs states r i within is =
 -- ---- the law of accepting, for one result
 
 -- a current result that is a hit and doesn't stay is matched by an added entry
-added_matches : (how : How) (counts : Counts) (file : File) (rs : List Record) (states : List State) (r : Record) (state : State) (i : ℕ) → i < length rs → i < length states → get_or rs i r ≡ r → get_or states i state ≡ state
+added_matches : (how : How) (counts : MayBeHit) (file : File) (rs : List Record) (states : List State) (r : Record) (state : State) (i : ℕ) → i < length rs → i < length states → get_or rs i r ≡ r → get_or states i state ≡ state
     → how.renewal.accept ≡ true → IsUntil file.today how.renewal.until → (is_hit counts file r state && not (stays file r)) ≡ true
     → list_any (λ e. matches file.today e r) (map (λ x. entry_read x how.renewal.reason how.renewal.until) (added_for how counts file rs states)) ≡ true
 added_matches how counts file rs states r state i within inside is at accepts until hit =
@@ -171,7 +171,7 @@ added_matches how counts file rs states r state i within inside is at accepts un
     (once_said [] (accepted_among counts file rs states) r place.0 place.1 place.2))
 
 -- the hits of afterwards are those of before that stay
-pub hits_after : (how : How) (counts : Counts) (file : File) (rs : List Record) (states : List State) (r : Record) (state : State) (i : ℕ) → i < length rs → i < length states → get_or rs i r ≡ r → get_or states i state ≡ state
+pub hits_after : (how : How) (counts : MayBeHit) (file : File) (rs : List Record) (states : List State) (r : Record) (state : State) (i : ℕ) → i < length rs → i < length states → get_or rs i r ≡ r → get_or states i state ≡ state
     → how.renewal.accept ≡ true → IsUntil file.today how.renewal.until
     → is_hit counts (file_after how counts file rs states) r state ≡ (is_hit counts file r state && stays file r)
 hits_after how counts file rs states r state i within inside is at accepts until =
@@ -186,7 +186,7 @@ hits_after how counts file rs states r state i within inside is at accepts until
     by_tests false b c m so = refl
 
 -- a result that was suppressed is suppressed
-pub still_suppressed : (how : How) (counts : Counts) (file : File) (rs : List Record) (states : List State) (r : Record) (i : ℕ) → i < length rs → get_or rs i r ≡ r
+pub still_suppressed : (how : How) (counts : MayBeHit) (file : File) (rs : List Record) (states : List State) (r : Record) (i : ℕ) → i < length rs → get_or rs i r ≡ r
     → is_suppressed file r ≡ true → is_suppressed (file_after how counts file rs states) r ≡ true
 still_suppressed how counts file rs states r i within is was = suppressed_after how counts file rs states r i within is ∙ or_left (is_suppressed file r) _ was
 
@@ -205,7 +205,7 @@ with_objects-append list [] fs = refl
 with_objects-append list (e ∷ es) fs = with_objects-append (with_object list e) es fs
 
 -- the list of a current result begins with what it was
-pub list_begins : (how : How) (counts : Counts) (file : File) (rs : List Record) (states : List State) (r : Record) (i : ℕ) (own : List Data) → i < length rs → get_or rs i r ≡ r
+pub list_begins : (how : How) (counts : MayBeHit) (file : File) (rs : List Record) (states : List State) (r : Record) (i : ℕ) (own : List Data) → i < length rs → get_or rs i r ≡ r
     → (rest : List Data) × (suppressions_of own (file_after how counts file rs states) r ≡ suppressions_of own file r ++ rest)
 list_begins how counts file rs states r i own within is =
     let more = filter (λ e. matches file.today e r) (map (λ x. entry_read x how.renewal.reason how.renewal.until) (added_for how counts file rs states)) in
@@ -214,7 +214,7 @@ list_begins how counts file rs states r i own within is =
 
 -- ---- pruning
 
-pub same_list : (how : How) (counts : Counts) (file : File) (rs : List Record) (states : List State) (r : Record) (i : ℕ) (own : List Data) → i < length rs → get_or rs i r ≡ r
+pub same_list : (how : How) (counts : MayBeHit) (file : File) (rs : List Record) (states : List State) (r : Record) (i : ℕ) (own : List Data) → i < length rs → get_or rs i r ≡ r
     → how.renewal.accept ≡ false → suppressions_of own (file_after how counts file rs states) r ≡ suppressions_of own file r
 same_list how counts file rs states r i own within is none =
     let nothing : added_for how counts file rs states ≡ [] = rw none refl in

@@ -19,7 +19,7 @@ use Rattle.sarif_entries.specs.declared.version.Version.TheVariants.{Fourth}
 use Rattle.sarif_entries.specs.File.{File, entries_from, file_of, file_of_value}
 use Rattle.sarif_accept.specs.Entry.{entry_for}
 use Rattle.sarif_accept.specs.Keeping.{chosen, is_kept}
-use Rattle.sarif_accept.specs.Adding.{How, Counts, entry_read, file_after, added_for}
+use Rattle.sarif_accept.specs.Adding.{How, MayBeHit, entry_read, file_after, added_for}
 use Rattle.sarif_accept.specs.NewFile.{file_with}
 use Rattle.sarif_accept.specs.Until.{HasGuid, IsDated}
 use Rattle.sarif_model.proofs.Elements.{items_back}
@@ -40,7 +40,7 @@ value_read today entries ms es few read =
     rw (list, version, items_back entries, count, read) refl
 
 -- the new file of one that was read, on the same day
-pub file_read : (how : How) (counts : Counts) (file : File) (rs : List Record) (states : List State) (version : Version) (values : List Data) (ms : Members) (text : List ℕ)
+pub file_read : (how : How) (counts : MayBeHit) (file : File) (rs : List Record) (states : List State) (version : Version) (values : List Data) (ms : Members) (text : List ℕ)
     → entries_from version file.today 0 values ≡ Ok file.entries
     → AllByRecursion HasGuid (added_for how counts file rs states) → IsDated file.today how.renewal.until
     → length (chosen (map (is_kept how.renewal.prune how.heard file rs) file.entries) values ++ map (λ r. entry_for r how.renewal.reason how.renewal.until) (added_for how counts file rs states)) ≤ most_entries

@@ -8,7 +8,7 @@ use Rattle.sarif_model.specs.Limits.{most_entries}
 use Rattle.sarif_model.specs.declared.kinds.State.{State}
 use Rattle.sarif_model.specs.declared.record.Record.{Record}
 use Rattle.sarif_entries.specs.File.{File, file_of}
-use Rattle.sarif_accept.specs.Adding.{How, Counts, added_for, file_after}
+use Rattle.sarif_accept.specs.Adding.{How, MayBeHit, added_for, file_after}
 use Rattle.sarif_entries.specs.Given.{file_or_none}
 use Rattle.sarif_accept.specs.Keeping.{is_kept}
 use Rattle.sarif_accept.specs.NewFile.{file_object, entries_in, others_in}
@@ -17,7 +17,7 @@ use Rattle.sarif_accept.specs.Until.{HasGuid, IsDated}
 use Rattle.sarif_accept.proofs.FileRead.{file_read}
 use Rattle.sarif_accept.proofs.GivenFile.{entries_given, today_given}
 
-pub new_file_read : (how : How) (counts : Counts) (given : Option (List ℕ)) (today : Option ℕ) (file : File) (rs : List Record) (states : List State) (text : List ℕ)
+pub new_file_read : (how : How) (counts : MayBeHit) (given : Option (List ℕ)) (today : Option ℕ) (file : File) (rs : List Record) (states : List State) (text : List ℕ)
     → file_or_none given today ≡ Ok file → AllByRecursion HasGuid (added_for how counts file rs states) → IsDated today how.renewal.until
     → length (renewed_entries given (map (is_kept how.renewal.prune how.heard file rs) file.entries) (added_for how counts file rs states) how.renewal) ≤ most_entries
     → json_of (without_mark text) ≡ Some (renewed_file given (map (is_kept how.renewal.prune how.heard file rs) file.entries) (added_for how counts file rs states) how.renewal)

@@ -22,14 +22,14 @@ use Rattle.sarif_accept.specs.Keeping.{Heard, is_kept}
 -- ---- which results are accepted
 
 -- whether a result of a state may be a hit, if it is not suppressed
-abbrev pub Counts : Type 0
-Counts = Record → State → Bool
+abbrev pub MayBeHit : Type 0
+MayBeHit = Record → State → Bool
 
 -- the policy's, by the state and the level
-abbrev pub may_hit : Policy → Counts
+abbrev pub may_hit : Policy → MayBeHit
 may_hit policy r state = are_hits policy state r.level
 
-abbrev pub is_hit : Counts → File → Record → State → Bool
+abbrev pub is_hit : MayBeHit → File → Record → State → Bool
 is_hit counts file r state = counts r state && not (is_suppressed file r)
 
 -- the result has a suppression that isn't accepted, so no entry can make it suppressed
@@ -37,7 +37,7 @@ abbrev pub stays : File → Record → Bool
 stays file r = not (list_all is_accepted (statuses_of file r))
 
 -- the results that are accepted: hits that don't stay, in order
-abbrev pub accepted_among : Counts → File → List Record → List State → List Record
+abbrev pub accepted_among : MayBeHit → File → List Record → List State → List Record
 accepted_among counts file [] states = []
 accepted_among counts file (r ∷ rs) [] = []
 accepted_among counts file (r ∷ rs) (state ∷ states) =
@@ -69,7 +69,7 @@ pub record How : Type 0 where
   pub heard : Heard
 
 -- the results for which entries are added
-abbrev pub added_for : How → Counts → File → List Record → List State → List Record
+abbrev pub added_for : How → MayBeHit → File → List Record → List State → List Record
 added_for how counts file rs states =
     if how.renewal.accept then once_each [] (accepted_among counts file rs states) else []
 
@@ -89,7 +89,7 @@ entry_read r reason until = record {
 }
 
 -- the entries that are kept, and then those of the accepted results
-abbrev pub file_after : How → Counts → File → List Record → List State → File
+abbrev pub file_after : How → MayBeHit → File → List Record → List State → File
 file_after how counts file rs states = record {
   entries = filter (is_kept how.renewal.prune how.heard file rs) file.entries
       ++ map (λ r. entry_read r how.renewal.reason how.renewal.until)

@@ -28,7 +28,8 @@ entry_in d = object (stripped_in d)
 
 -- its entries, as the new file has them
 abbrev pub entries_in : Data → List Data
-entries_in d = map entry_in (elements_or_none (option_and_then as_array (get (codes "suppressions") d)))
+entries_in d =
+    map entry_in (elements_or_none (option_and_then as_array (get (codes "suppressions") d)))
 
 -- its other members, stripped
 abbrev pub others_in : Data → Members

@@ -17,7 +17,7 @@ ghost use Rattle.sarif_entries.specs.File.{File, file_of, file_of_value};
 ghost use Rattle.sarif_entries.specs.Matching.{is_empty, is_expired, matches};
 ghost use Rattle.sarif_suppress.specs.Suppressing.{is_suppressed, is_unused, matching_numbers};
 ghost use Rattle.sarif_suppress.specs.Written.{suppressions_of};
-ghost use Rattle.sarif_accept.specs.Adding.{How, Counts, is_hit, stays, added_for, entry_read, file_after};
+ghost use Rattle.sarif_accept.specs.Adding.{How, MayBeHit, is_hit, stays, added_for, entry_read, file_after};
 ghost use Rattle.sarif_accept.specs.Entry.{entry_for};
 ghost use Rattle.sarif_entries.specs.Given.{file_or_none};
 ghost use Rattle.sarif_accept.specs.Keeping.{Heard, is_kept};
@@ -57,7 +57,7 @@ pub fn a_hit_with_suppressions_stays()
 /// accepted, if accepting was requested.
 #[tactic(auto, using(crate::proofs::After::hits_after))]
 pub fn accepting_leaves_what_stays()
-    ensures { (how : How) (counts : Counts) (file : File) (rs : List Record) (states : List State)
+    ensures { (how : How) (counts : MayBeHit) (file : File) (rs : List Record) (states : List State)
         (r : Record) (state : State) (i : ℕ) → i < length rs → i < length states
         → get_or rs i r ≡ r → get_or states i state ≡ state
         → how.renewal.accept ≡ true → IsUntil file.today how.renewal.until
@@ -69,11 +69,11 @@ pub fn accepting_leaves_what_stays()
 /// was, pruned or not.
 #[tactic(auto, using(crate::proofs::After::still_suppressed, crate::proofs::After::list_begins))]
 pub fn a_new_file_keeps_suppressions()
-    ensures suppressed { (how : How) (counts : Counts) (file : File) (rs : List Record)
+    ensures suppressed { (how : How) (counts : MayBeHit) (file : File) (rs : List Record)
         (states : List State) (r : Record) (i : ℕ) → i < length rs → get_or rs i r ≡ r
         → is_suppressed file r ≡ true
         → is_suppressed (file_after how counts file rs states) r ≡ true }
-    ensures begins { (how : How) (counts : Counts) (file : File) (rs : List Record)
+    ensures begins { (how : How) (counts : MayBeHit) (file : File) (rs : List Record)
         (states : List State) (r : Record) (i : ℕ) (own : List Data)
         → i < length rs → get_or rs i r ≡ r
         → (rest : List Data) × (suppressions_of own (file_after how counts file rs states) r
@@ -86,7 +86,7 @@ pub fn a_new_file_keeps_suppressions()
 /// kept.
 #[tactic(auto, using(crate::proofs::After::same_list, crate::proofs::After::unused_stays, crate::proofs::After::unexpired_stays))]
 pub fn pruning_changes_no_result()
-    ensures same { (how : How) (counts : Counts) (file : File) (rs : List Record)
+    ensures same { (how : How) (counts : MayBeHit) (file : File) (rs : List Record)
         (states : List State) (r : Record) (i : ℕ) (own : List Data)
         → i < length rs → get_or rs i r ≡ r → how.renewal.accept ≡ false
         → suppressions_of own (file_after how counts file rs states) r
@@ -106,7 +106,7 @@ pub fn pruning_changes_no_result()
 /// that accept results.
 #[tactic(auto, using(crate::proofs::NewFileRead::new_file_read))]
 pub fn the_new_file_is_read()
-    ensures { (how : How) (counts : Counts) (given : Option (List ℕ)) (today : Option ℕ)
+    ensures { (how : How) (counts : MayBeHit) (given : Option (List ℕ)) (today : Option ℕ)
         (file : File) (rs : List Record) (states : List State) (text : List ℕ)
         → file_or_none given today ≡ Ok file
         → AllByRecursion HasGuid (added_for how counts file rs states)

@@ -40,8 +40,8 @@ pub(crate) fn entry_nodes<'t, 'a>(
     alloc: Global,
     file: &Node<'t, 'a>,
 ) -> Result<Vec<Node<'t, 'a>>, AllocError>
-    ensures { IfOk result (λ nodes. map data_of nodes.items
-        ≡ elements_or_none (option_and_then as_array (get (codes "suppressions") (data_of file.now)))) }
+    ensures { IfOk result (λ nodes. map data_of nodes.items ≡ elements_or_none
+        (option_and_then as_array (get (codes "suppressions") (data_of file.now)))) }
 {
     match file.get("suppressions") {
         Some(list) => match list.items(alloc)? {

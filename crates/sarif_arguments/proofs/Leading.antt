@@ -7,7 +7,7 @@ use Rattle.sarif_model.specs.declared.refusal.Refusal.{Refusal}
 use Rattle.sarif_model.specs.declared.refusal.Refusal.TheVariants as refusal
 use Rattle.sarif_arguments.specs.declared.fault.ArgumentsFault.{ArgumentsFault}
 use Rattle.sarif_arguments.specs.Reading.{Read}
-use Rattle.sarif_arguments.specs.Replaced.{Arguments, IfFault, StandFor, StandsFor, before, is_end}
+use Rattle.sarif_arguments.specs.Replaced.{Arguments, HoldsForFault, StandFor, StandsFor, before, is_end}
 
 -- the strings that are left at one, and after the last
 pub left_at : {A : Type 0} (f : A → List ℕ) (xs : List A) (i : ℕ) (x : A) → i < length xs → x ≡ get_or xs i x
@@ -50,7 +50,7 @@ module _ (gives : List ℕ → Read → Type 0) (given : List (List ℕ)) where
   leads_nowhere is_ended word words done fault leads stands = leads (Err fault) (Err fault, stands, refl)
 
   pub leads_refused : (is_ended : Bool) (word : List ℕ) (words done : List (List ℕ)) (found : Refusal ArgumentsFault)
-      → Leads gives is_ended (word ∷ words) done given → IfFault (StandsFor gives is_ended word) found
-      → IfFault (StandFor gives false given) found
+      → Leads gives is_ended (word ∷ words) done given → HoldsForFault (StandsFor gives is_ended word) found
+      → HoldsForFault (StandFor gives false given) found
   leads_refused is_ended word words done (refusal.Fault fault) leads stands = leads_nowhere is_ended word words done fault leads stands
   leads_refused is_ended word words done refusal.OutOfMemory leads stands = tt

@@ -6,7 +6,7 @@ use Rattle.sarif_model.specs.declared.refusal.Refusal.TheVariants as refusal
 use Rattle.sarif_arguments.specs.declared.fault.ArgumentsFault.{ArgumentsFault}
 use Rattle.sarif_arguments.specs.declared.fault.ArgumentsFault.TheVariants.{NoneLeft}
 use Rattle.sarif_arguments.specs.Reading.{Read}
-use Rattle.sarif_arguments.specs.Replaced.{AreReplaced, IfDone, IfFault, StandFor, some_left}
+use Rattle.sarif_arguments.specs.Replaced.{AreReplaced, IfDone, HoldsForFault, StandFor, some_left}
 
 pub some_stay : {A B : Type 0} (f : A → List ℕ) (g : B → List ℕ) (words : List A) (all : List B)
     → (length all == 0) ≡ false → some_left (map f words) (Ok (map g all)) ≡ Ok (map g all)
@@ -37,6 +37,6 @@ done P Q so (Err (refusal.Fault fault)) is = so (Err fault) is
 done P Q so (Err refusal.OutOfMemory) is = tt
 
 pub refused : (gives : List ℕ → Read → Type 0) (words : List (List ℕ)) (found : Refusal ArgumentsFault)
-    → IfFault (StandFor gives false words) found → IfFault (AreReplaced gives words) found
+    → HoldsForFault (StandFor gives false words) found → HoldsForFault (AreReplaced gives words) found
 refused gives words (refusal.Fault fault) stand = (Err fault, stand, sym (fault_stays words fault))
 refused gives words refusal.OutOfMemory stand = tt

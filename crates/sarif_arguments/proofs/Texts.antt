@@ -5,10 +5,10 @@ use Rattle.std.specs.List.{list_any}
 use Rattle.std.specs.Str.{is_utf8}
 use Rattle.std.proofs.lemmas.Str.{IsUtf8-from_is_utf8, is_utf8-from_IsUtf8}
 use Rattle.sarif_arguments.specs.File.{text_in}
-use Rattle.sarif_arguments.specs.declared.file_fault.FileFault.{FileFault}
-use Rattle.sarif_arguments.specs.declared.file_fault.FileFault.TheVariants.{NotUtf8, HasNul}
+use Rattle.sarif_arguments.specs.declared.file_fault.ArgumentFileFault.{ArgumentFileFault}
+use Rattle.sarif_arguments.specs.declared.file_fault.ArgumentFileFault.TheVariants.{NotUtf8, HasNul}
 
-abbrev chosen : List ℕ → Bool → Bool → Result (List ℕ) FileFault
+abbrev chosen : List ℕ → Bool → Bool → Result (List ℕ) ArgumentFileFault
 chosen bytes is has = if not is then Err NotUtf8 else (if has then Err HasNul else Ok bytes)
 
 is_none : (bytes : List ℕ) → ¬ (IsUtf8 bytes) → (b : Bool) → is_utf8 bytes ≡ b → b ≡ false

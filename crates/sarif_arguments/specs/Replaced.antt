@@ -4,8 +4,8 @@ use Rattle.std.specs.List.{list_any}
 use Rattle.sarif_model.specs.declared.refusal.Refusal.{Refusal}
 use Rattle.sarif_model.specs.declared.refusal.Refusal.TheVariants as refusal
 use Rattle.sarif_streams.specs.declared.source.SourceFault.TheVariants as source
-use Rattle.sarif_arguments.specs.declared.file_fault.FileFault.{FileFault}
-use Rattle.sarif_arguments.specs.declared.file_fault.FileFault.TheVariants.{TooLong}
+use Rattle.sarif_arguments.specs.declared.file_fault.ArgumentFileFault.{ArgumentFileFault}
+use Rattle.sarif_arguments.specs.declared.file_fault.ArgumentFileFault.TheVariants.{TooLong}
 use Rattle.sarif_arguments.specs.declared.fault.ArgumentsFault.{ArgumentsFault}
 use Rattle.sarif_arguments.specs.declared.fault.ArgumentsFault.TheVariants.{Unread, Invalid, NoneLeft}
 use Rattle.sarif_arguments.specs.File.{arguments_in}
@@ -32,7 +32,7 @@ abbrev pub is_end : List ℕ → Bool
 is_end word = bytes_eq word (codes "--")
 
 -- the arguments of a file with this name, or the error in it
-abbrev pub of_file : List ℕ → Result (List (List ℕ)) FileFault → Arguments
+abbrev pub of_file : List ℕ → Result (List (List ℕ)) ArgumentFileFault → Arguments
 of_file name (Ok words) = Ok words
 of_file name (Err fault) = Err (Invalid name fault)
 
@@ -53,7 +53,7 @@ abbrev pub before : List (List ℕ) → Arguments → Arguments
 before words (Ok others) = Ok (words ++ others)
 before words (Err fault) = Err fault
 
--- what replaces arguments, in order; the first error counts. After a `--`, also one in a file, none names a file
+-- what replaces arguments, in order; the first error counts. After a `--`, even one in a file, none names a file
 abbrev pub StandFor : (List ℕ → Read → Type 0) → Bool → List (List ℕ) → Arguments → Type 0
 StandFor gives is_ended [] all = all ≡ Ok []
 StandFor gives is_ended (word ∷ words) all =
@@ -77,15 +77,15 @@ AreReplaced gives words all = (found : Arguments) × StandFor gives false words 
     × (all ≡ some_left words found)
 
 -- a fact about an error, unless memory ran out
-abbrev pub IfFault : {T F : Type 0} → (Result T F → Type 0) → Refusal F → Type 0
-IfFault holds (refusal.Fault fault) = holds (Err fault)
-IfFault holds refusal.OutOfMemory = ⊤
+abbrev pub HoldsForFault : {T F : Type 0} → (Result T F → Type 0) → Refusal F → Type 0
+HoldsForFault holds (refusal.Fault fault) = holds (Err fault)
+HoldsForFault holds refusal.OutOfMemory = ⊤
 
 -- a fact about the list that a call returns or about its error, unless memory ran out
 abbrev pub IfDone : {F A B : Type 0} → (Result (List (List ℕ)) F → Type 0)
     → Result (Vec (String A) B) (Refusal F) → Type 0
 IfDone holds (Ok words) = holds (Ok (map string_bytes words.items))
-IfDone holds (Err refusal) = IfFault holds refusal
+IfDone holds (Err refusal) = HoldsForFault holds refusal
 
 -- an error, unless memory ran out
 abbrev pub IsFaultOrOutOfMemory : {F : Type 0} → F → Refusal F → Type 0

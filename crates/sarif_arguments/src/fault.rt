@@ -1,5 +1,5 @@
 //! Why the program's arguments give none.
-use crate::file_fault::FileFault;
+use crate::file_fault::ArgumentFileFault;
 use sarif_model::Text;
 use std::fmt;
 
@@ -9,7 +9,7 @@ pub enum ArgumentsFault {
     /// The file of arguments of this name can't be read.
     Unread(Text),
     /// The file of this name gives no arguments.
-    Invalid(Text, FileFault),
+    Invalid(Text, ArgumentFileFault),
     /// There are arguments, but none is left after the files are read.
     NoneLeft,
 }

@@ -5,18 +5,18 @@ ghost use Rattle.std.specs.Str.Lines.{lines};
 ghost use Rattle.sarif_arguments.specs.File as said;
 ghost use Rattle.sarif_arguments.specs.Replaced.{IfDone};
 
-use crate::file_fault::FileFault;
+use crate::file_fault::ArgumentFileFault;
 use crate::limits::{MOST_FILE_BYTES, MOST_FILE_LINES};
 use json_parts::without_mark;
 use sarif_model::Refusal;
 use std::alloc::{AllocError, Global};
 
-/// Returns the arguments that a file with these bytes gives: one leading byte order mark is dropped, a line that is
-/// empty or begins with `#` gives none, and every other line gives one, whole. A line ends with a line feed, which the
+/// Returns the arguments in a file with these bytes: one leading byte order mark is dropped, a line that is empty or
+/// begins with `#` holds none, and every other line is one argument. A line ends with a line feed, which the
 /// last may lack; one carriage return right before a line feed is dropped. Returns `TooLong`, `NotUtf8`, `HasNul`,
 /// `TooManyLines` or `Nested`, the first of these that holds, if the bytes are not a file of arguments; `OutOfMemory` if
 /// memory runs out.
-pub fn arguments_in(alloc: Global, bytes: &[u8]) -> Result<Vec<String>, Refusal<FileFault>>
+pub fn arguments_in(alloc: Global, bytes: &[u8]) -> Result<Vec<String>, Refusal<ArgumentFileFault>>
     ensures { IfDone (λ all. all ≡ said.arguments_in bytes.now) result }
 {
     match text_of(bytes) {
@@ -26,28 +26,28 @@ pub fn arguments_in(alloc: Global, bytes: &[u8]) -> Result<Vec<String>, Refusal<
 }
 
 /// Returns the text of a file without its order mark, or why it has none.
-fn text_of(bytes: &[u8]) -> Result<&str, FileFault>
+fn text_of(bytes: &[u8]) -> Result<&str, ArgumentFileFault>
     ensures { MatchResult result
         (λ text. said.text_of bytes.now ≡ Ok text.now)
         (λ fault. said.text_of bytes.now ≡ Err fault) }
 {
     if bytes.len() > MOST_FILE_BYTES {
-        return Err(FileFault::TooLong);
+        return Err(ArgumentFileFault::TooLong);
     }
     text_in(without_mark(bytes))
 }
 
 /// Returns bytes as text, or why they are none.
 #[tactic(auto, using(crate::proofs::Texts::no_text, crate::proofs::Texts::nul_text, crate::proofs::Texts::whole_text))]
-fn text_in(bytes: &[u8]) -> Result<&str, FileFault>
+fn text_in(bytes: &[u8]) -> Result<&str, ArgumentFileFault>
     ensures { MatchResult result
         (λ text. said.text_in bytes.now ≡ Ok text.now)
         (λ fault. said.text_in bytes.now ≡ Err fault) }
 {
     match str::from_utf8(bytes) {
         Ok(text) if !bytes.contains(&0) => Ok(text),
-        Ok(_) => Err(FileFault::HasNul),
-        Err(_) => Err(FileFault::NotUtf8),
+        Ok(_) => Err(ArgumentFileFault::HasNul),
+        Err(_) => Err(ArgumentFileFault::NotUtf8),
     }
 }
 
@@ -59,14 +59,14 @@ fn lines_of(alloc: Global, text: &str) -> Result<Vec<&str>, AllocError>
 }
 
 /// Returns the arguments on these lines, or why they have none.
-fn arguments_on(alloc: Global, lines: &[&str]) -> Result<Vec<String>, Refusal<FileFault>>
+fn arguments_on(alloc: Global, lines: &[&str]) -> Result<Vec<String>, Refusal<ArgumentFileFault>>
     ensures { IfDone (λ all. all ≡ said.arguments_on (map (λ line. line.now) lines.now)) result }
 {
     if lines.len() > MOST_FILE_LINES {
-        return Err(Refusal::Fault(FileFault::TooManyLines));
+        return Err(Refusal::Fault(ArgumentFileFault::TooManyLines));
     }
     if have_nested(lines) {
-        return Err(Refusal::Fault(FileFault::Nested));
+        return Err(Refusal::Fault(ArgumentFileFault::Nested));
     }
     Ok(copies_of(alloc, lines)?)
 }

@@ -3,7 +3,7 @@ use thiserror::Error;
 
 /// Why a file gives no arguments.
 #[derive(Clone, Copy, Debug, PartialEq, Eq, Error)]
-pub enum FileFault {
+pub enum ArgumentFileFault {
     /// The file has more than `MOST_FILE_BYTES` bytes.
     #[error("has more than 1,048,576 bytes")]
     TooLong,

@@ -13,9 +13,9 @@ mod system;
 
 pub use fault::ArgumentsFault;
 pub use file::arguments_in;
-pub use file_fault::FileFault;
+pub use file_fault::ArgumentFileFault;
 pub use laws::without_files_nothing_changes;
 pub use limits::{MOST_FILE_BYTES, MOST_FILE_LINES};
 pub use reading::ArgumentFiles;
-pub use replacing::replaced;
+pub use replacing::replace_arguments;
 pub use system::system_arguments;

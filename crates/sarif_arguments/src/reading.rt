@@ -6,7 +6,7 @@ ghost use Rattle.sarif_arguments.specs.Reading as said;
 
 use crate::fault::ArgumentsFault;
 use crate::file::arguments_in;
-use crate::file_fault::FileFault;
+use crate::file_fault::ArgumentFileFault;
 use sarif_model::{Refusal, Text};
 use sarif_streams::SourceFault;
 use std::alloc::Global;
@@ -38,17 +38,21 @@ pub(crate) fn arguments_of<F: ArgumentFiles>(
     match files.read(alloc, name) {
         Ok(bytes) => match arguments_in(alloc, bytes.as_slice()) {
             Ok(words) => Ok(words),
-            Err(Refusal::Fault(fault)) => Err(invalid(alloc, name, fault)),
+            Err(Refusal::Fault(fault)) => Err(invalid_fault(alloc, name, fault)),
             Err(Refusal::OutOfMemory) => Err(Refusal::OutOfMemory),
         },
-        Err(Refusal::Fault(SourceFault::ReadFailed)) => Err(unread(alloc, name)),
-        Err(Refusal::Fault(SourceFault::TooLong)) => Err(invalid(alloc, name, FileFault::TooLong)),
+        Err(Refusal::Fault(SourceFault::ReadFailed)) => Err(unread_fault(alloc, name)),
+        Err(Refusal::Fault(SourceFault::TooLong)) => Err(invalid_fault(
+            alloc,
+            name,
+            ArgumentFileFault::TooLong,
+        )),
         Err(Refusal::OutOfMemory) => Err(Refusal::OutOfMemory),
     }
 }
 
 /// Returns that the file of this name can't be read.
-fn unread(alloc: Global, name: &str) -> Refusal<ArgumentsFault>
+fn unread_fault(alloc: Global, name: &str) -> Refusal<ArgumentsFault>
     ensures { IsFaultOrOutOfMemory (Unread name.now) result }
 {
     match Text::copy_of(alloc, name) {
@@ -58,7 +62,7 @@ fn unread(alloc: Global, name: &str) -> Refusal<ArgumentsFault>
 }
 
 /// Returns that the file of this name gives no arguments for this reason.
-fn invalid(alloc: Global, name: &str, fault: FileFault) -> Refusal<ArgumentsFault>
+fn invalid_fault(alloc: Global, name: &str, fault: ArgumentFileFault) -> Refusal<ArgumentsFault>
     ensures { IsFaultOrOutOfMemory (Invalid name.now fault) result }
 {
     match Text::copy_of(alloc, name) {

@@ -16,7 +16,7 @@ const END: &str = "--";
 /// that file; after `--`, which may be in a file too, none does. They are gone through in order. Returns the first
 /// error: `Unread` if a file can't be read, `Invalid` if it is not a file of arguments; `NoneLeft` if there are arguments
 /// and none is left; `OutOfMemory` if memory runs out.
-pub fn replaced<F: ArgumentFiles>(
+pub fn replace_arguments<F: ArgumentFiles>(
     files: &F,
     alloc: Global,
     words: &[String],

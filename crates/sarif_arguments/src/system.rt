@@ -7,7 +7,7 @@ ghost use Rattle.sarif_arguments.specs.System.{HasGiven};
 use crate::fault::ArgumentsFault;
 use crate::limits::MOST_FILE_BYTES;
 use crate::reading::ArgumentFiles;
-use crate::replacing::replaced;
+use crate::replacing::replace_arguments;
 use sarif_model::Refusal;
 use sarif_streams::{Counted, InputFile, SourceFault, read_source};
 use std::alloc::Global;
@@ -41,5 +41,5 @@ pub fn system_arguments(
 ) -> Result<Vec<String>, Refusal<ArgumentsFault>>
     ensures { IfDone (AreReplaced HasGiven (map string_bytes words.now)) result }
 {
-    replaced(&SystemFiles { rt }, rt.alloc(), words)
+    replace_arguments(&SystemFiles { rt }, rt.alloc(), words)
 }

@@ -89,7 +89,7 @@ impl<T: Drop, C: Drop> Collector<T, C> {
             slots,
             done,
         } = self;
-        Ok(Lists::new(unwrapped(slots, done)))
+        Ok(Lists::new(unwrap_slots(slots, done)))
     }
 }
 
@@ -107,7 +107,7 @@ fn open_slot<T, C>(slots: &[Slot<T, C>]) -> Option<u32>
 }
 
 // Moves what closed slots hold into a list that has room for it.
-fn unwrapped<T: Drop, C: Drop>(
+fn unwrap_slots<T: Drop, C: Drop>(
     slots: Vec<Slot<T, C>>,
     mut done: Vec<(Vec<T>, C)>,
 ) -> Vec<(Vec<T>, C)>

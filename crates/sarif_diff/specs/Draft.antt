@@ -6,7 +6,7 @@ use Rattle.sarif_diff.specs.Lines.{begins, past, trimmed}
 use Rattle.sarif_diff.specs.Name.{moved_name, file_of}
 use Rattle.sarif_diff.specs.Words.{text_of, word_of, is_link, is_submodule, is_pointer, is_commit}
 use Rattle.sarif_diff.specs.Hunk.{sign_of, with_sign, is_open, ended_run}
-use Rattle.sarif_diff.specs.declared.draft.Draft.{Draft}
+use Rattle.sarif_diff.specs.declared.draft.SectionDraft.{SectionDraft}
 use Rattle.sarif_diff.specs.declared.fault.LineFault.{LineFault}
 use Rattle.sarif_diff.specs.declared.fault.LineFault.TheVariants.{BadHunk, BadHeader, Submodule}
 use Rattle.sarif_diff.specs.declared.fault.DiffFault.{DiffFault}
@@ -21,26 +21,26 @@ use Rattle.sarif_diff.specs.declared.words.Word.TheVariants as word
 -- ---- the name of a section
 
 -- what the lines `+++ ` and `--- ` name
-abbrev pub file_in_lines : Draft → Option (List ℕ)
+abbrev pub file_in_lines : SectionDraft → Option (List ℕ)
 file_in_lines d = option_or (option_flatten d.new_file) (option_flatten d.old_file)
 
 -- the name of a section: that of a rename or a copy, that of `+++ ` or otherwise `--- `, or without such lines that of
 -- `diff --git`
-abbrev pub name_of : Draft → Option (List ℕ)
+abbrev pub name_of : SectionDraft → Option (List ℕ)
 name_of d = option_or d.moved (if is_some d.new_file || is_some d.old_file then file_in_lines d else d.git)
 
 -- a section with this name
-abbrev pub section_named : Draft → Option (List ℕ) → Result Section DiffFault
+abbrev pub section_named : SectionDraft → Option (List ℕ) → Result Section DiffFault
 section_named d None = Err (AtLine d.line BadHeader)
 section_named d (Some name) = Ok (record { name = name; old = d.source; whole = d.whole; link = d.link; spans = d.spans })
 
-abbrev pub section_of : Draft → Result Section DiffFault
+abbrev pub section_of : SectionDraft → Result Section DiffFault
 section_of d = section_named d (name_of d)
 
 -- ---- the lines before the first hunk
 
 -- a draft without lines: its first line, what `diff --git` names, and what `--- ` names
-abbrev pub begun : ℕ → Option (List ℕ) → Option (Option (List ℕ)) → Draft
+abbrev pub begun : ℕ → Option (List ℕ) → Option (Option (List ℕ)) → SectionDraft
 begun line git old = record {
   line = line;
   git = git;
@@ -55,43 +55,43 @@ begun line git old = record {
 }
 
 -- whether a line with this word and these bytes after it belongs to the section
-abbrev pub takes : Draft → Word → List ℕ → Bool
+abbrev pub takes : SectionDraft → Word → List ℕ → Bool
 takes d word.OldFile rest = not (is_some d.old_file)
 takes d word.NewFile rest = not (is_some d.new_file)
 takes d word.BinaryPatch rest = length rest == 0
 takes d w rest = true
 
 -- the word of a line that belongs to the section
-abbrev pub taken : Draft → List ℕ → Option Word → Option Word
+abbrev pub taken : SectionDraft → List ℕ → Option Word → Option Word
 taken d line None = None
 taken d line (Some w) = if takes d w (past line (text_of w)) then Some w else None
 
-abbrev pub own_word : Draft → List ℕ → Option Word
+abbrev pub own_word : SectionDraft → List ℕ → Option Word
 own_word d line = if is_some d.hunk then None else taken d line (word_of line)
 
-abbrev pub as_whole : Draft → Draft
+abbrev pub as_whole : SectionDraft → SectionDraft
 as_whole d = record d { whole = true }
 
 -- a draft with the mode at the end of this line
-abbrev pub with_mode : List ℕ → Draft → Result Draft LineFault
+abbrev pub with_mode : List ℕ → SectionDraft → Result SectionDraft LineFault
 with_mode line d =
     if is_submodule line then Err Submodule
     else Ok (if is_link line then record d { whole = true; link = true } else d)
 
-abbrev pub with_moved : Draft → List ℕ → Draft
+abbrev pub with_moved : SectionDraft → List ℕ → SectionDraft
 with_moved d name = record d { moved = option_or d.moved (Some name) }
 
-abbrev pub with_source : Draft → List ℕ → Draft
+abbrev pub with_source : SectionDraft → List ℕ → SectionDraft
 with_source d name = record d { source = Some name }
 
-abbrev pub with_old : Draft → Option (List ℕ) → Draft
+abbrev pub with_old : SectionDraft → Option (List ℕ) → SectionDraft
 with_old d file = record d { old_file = Some file }
 
-abbrev pub with_new : Draft → Option (List ℕ) → Draft
+abbrev pub with_new : SectionDraft → Option (List ℕ) → SectionDraft
 with_new d file = record d { new_file = Some file }
 
 -- a draft with a line of its section that begins with this word
-abbrev pub with_word : Draft → Word → List ℕ → Result Draft LineFault
+abbrev pub with_word : SectionDraft → Word → List ℕ → Result SectionDraft LineFault
 with_word d word.OldMode line = Ok (as_whole d)
 with_word d word.NewMode line = with_mode line (as_whole d)
 with_word d word.NewFileMode line = with_mode line d
@@ -122,7 +122,7 @@ hunk_around None line = None
 hunk_around (Some h) line = if is_inside h line then Some h else None
 
 -- a draft with this hunk, after one of its lines: the last line ends its last run
-abbrev pub settled : Draft → Hunk → Result Draft DiffFault
+abbrev pub settled : SectionDraft → Hunk → Result SectionDraft DiffFault
 settled d h =
     if is_open h then Ok (record d { hunk = Some h })
     else if h.changes then Ok (record d { spans = d.spans ++ ended_run h; hunk = Some (record h { run = None }) })
@@ -133,7 +133,7 @@ abbrev pub is_single : Hunk → Bool
 is_single h = h.next == 1 && h.end == 2
 
 -- a draft with an added line, before which its hunk is this one
-abbrev pub with_added : Draft → Hunk → List ℕ → Result Draft LineFault
+abbrev pub with_added : SectionDraft → Hunk → List ℕ → Result SectionDraft LineFault
 with_added d h text =
     if is_single h && is_commit text then Err Submodule
     else Ok (record d { whole = d.whole || is_pointer text })
@@ -143,7 +143,7 @@ abbrev pub content : List ℕ → List ℕ
 content line = trimmed (drop 1 line)
 
 -- a draft with a line of its hunk of this kind, before which the hunk is `h`
-abbrev pub with_line : Draft → Hunk → Sign → List ℕ → Result Draft LineFault
+abbrev pub with_line : SectionDraft → Hunk → Sign → List ℕ → Result SectionDraft LineFault
 with_line d h sign.Old line = Ok d
 with_line d h sign.New line = with_added d h (content line)
 with_line d h sign.Both line = Ok (record d { spans = d.spans ++ ended_run h })
@@ -159,13 +159,13 @@ abbrev pub broken : ℕ → Hunk → DiffFault
 broken number h = AtLine (if h.changes then number else h.header) BadHunk
 
 -- a draft with one more line of its hunk
-abbrev pub moved_on : ℕ → List ℕ → Draft → Hunk → Sign → Option Hunk → Result Draft DiffFault
+abbrev pub moved_on : ℕ → List ℕ → SectionDraft → Hunk → Sign → Option Hunk → Result SectionDraft DiffFault
 moved_on number line d h s None = Err (broken number h)
 moved_on number line d h s (Some next) = at_line number (with_line d h s line) >>= λ after. settled after next
 
-abbrev pub with_hunk_sign : ℕ → List ℕ → Draft → Hunk → Option Sign → Result Draft DiffFault
+abbrev pub with_hunk_sign : ℕ → List ℕ → SectionDraft → Hunk → Option Sign → Result SectionDraft DiffFault
 with_hunk_sign number line d h None = Err (broken number h)
 with_hunk_sign number line d h (Some s) = moved_on number line d h s (with_sign h s)
 
-abbrev pub with_hunk_line : ℕ → List ℕ → Draft → Hunk → Result Draft DiffFault
+abbrev pub with_hunk_line : ℕ → List ℕ → SectionDraft → Hunk → Result SectionDraft DiffFault
 with_hunk_line number line d h = with_hunk_sign number line d h (sign_of line)

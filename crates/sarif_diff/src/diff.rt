@@ -3,10 +3,10 @@ ghost use Rattle.std.specs.Prelude.{◌≡◌, ◌+◌, ◌<◌, ◌≤◌, ◌^
 ghost use Rattle.sarif_model.specs.Internal.Refusal.{IfFault};
 ghost use Rattle.sarif_diff.specs.Reading as said;
 
-use crate::draft::Draft;
+use crate::draft::SectionDraft;
 use crate::fault::DiffFault;
 use crate::hunk::{Hunk, Sign, sign_of};
-use crate::hunk_lines::{broken, is_inside};
+use crate::hunk_lines::{hunk_fault, is_inside};
 use crate::lines::{cut_line, without_mark};
 use crate::reading::Reading;
 use crate::section::Change;
@@ -21,7 +21,7 @@ fn adds_in(hunk: Hunk, line: &[u8]) -> bool
 }
 
 /// Returns whether a line adds one to the new file.
-fn adds(draft: &Option<Draft>, line: &[u8]) -> bool
+fn adds(draft: &Option<SectionDraft>, line: &[u8]) -> bool
     ensures { result ≡ said.adds draft.now line.now }
 {
     let Some(draft) = draft else {
@@ -34,13 +34,13 @@ fn adds(draft: &Option<Draft>, line: &[u8]) -> bool
 }
 
 /// Returns the error of a hunk that the diff ends within.
-fn unended(number: usize, hunk: Option<Hunk>) -> Option<DiffFault>
+fn fault_at_end(number: usize, hunk: Option<Hunk>) -> Option<DiffFault>
     ensures { result ≡ said.unended number hunk }
 {
     match hunk {
         Some(hunk) => {
             if hunk.is_open() {
-                Some(broken(number, hunk))
+                Some(hunk_fault(number, hunk))
             } else {
                 None
             }
@@ -50,14 +50,18 @@ fn unended(number: usize, hunk: Option<Hunk>) -> Option<DiffFault>
 }
 
 /// Ends the section that the last line was in. `number` is one more than that of the last line.
-fn end(reading: &mut Reading, number: usize, draft: Option<Draft>) -> Result<(), Refusal<DiffFault>>
+fn end(
+    reading: &mut Reading,
+    number: usize,
+    draft: Option<SectionDraft>,
+) -> Result<(), Refusal<DiffFault>>
     ensures ok { IfOk result (λ _. said.ended number reading.old draft ≡ Ok reading.new) }
     ensures err { IfFault result (λ fault. said.ended number reading.old draft ≡ Err fault) }
 {
     let Some(draft) = draft else {
         return Ok(());
     };
-    match unended(number, draft.hunk) {
+    match fault_at_end(number, draft.hunk) {
         Some(fault) => Err(Refusal::Fault(fault)),
         None => reading.close(draft),
     }
@@ -75,7 +79,7 @@ fn change_of(reading: Reading, added: usize) -> Result<Change, DiffFault>
 }
 
 /// Returns a number of lines, with one more if there is one.
-fn counted(added: usize, more: bool) -> usize
+fn add_one_if(added: usize, more: bool) -> usize
     requires { added + 1 < 2 ^ 64 }
     ensures is { result ≡ (if more then added + 1 else added) }
     ensures most { result ≤ added + 1 }
@@ -90,13 +94,13 @@ pub fn read_sections(alloc: Global, bytes: &[u8]) -> Result<Change, Refusal<Diff
     ensures err { IfFault result (λ fault. said.sections_of bytes.now ≡ Err fault) }
 {
     let mut reading = Reading::nothing(alloc);
-    let mut draft: Option<Draft> = None;
+    let mut draft: Option<SectionDraft> = None;
     let mut number: usize = 1;
     let mut added: usize = 0;
     let mut rest = without_mark(bytes);
     while !rest.is_empty() {
         let (line, after) = cut_line(rest);
-        added = counted(added, adds(&draft, line));
+        added = add_one_if(added, adds(&draft, line));
         draft = match reading.read_line(alloc, number, line, after, draft) {
             Ok(next) => next,
             Err(refusal) => return Err(refusal),

@@ -18,7 +18,7 @@ use std::alloc::Global;
 
 /// A section of a diff that is being read.
 #[derive(Drop)]
-pub struct Draft {
+pub struct SectionDraft {
     /// Its first line.
     pub line: usize,
     /// The file of `diff --git`, if it names one.
@@ -71,17 +71,17 @@ fn is_named_in(file: &Option<Option<Name>>) -> bool
     }
 }
 
-impl Draft {
+impl SectionDraft {
     /// Returns a section after its first line.
-    pub(crate) fn begun(
+    pub(crate) fn begin(
         alloc: Global,
         line: usize,
         git: Option<Name>,
         old: Option<Option<Name>>,
-    ) -> Draft
+    ) -> SectionDraft
         ensures { result ≡ said.begun line git old }
     {
-        Draft {
+        SectionDraft {
             line,
             git,
             moved: None,
@@ -96,7 +96,7 @@ impl Draft {
     }
 
     /// Returns the section with this hunk, which begins.
-    pub(crate) fn with_hunk(self, hunk: Hunk) -> Draft
+    pub(crate) fn with_hunk(self, hunk: Hunk) -> SectionDraft
         ensures { result ≡ record self { hunk = Some hunk } }
     {
         let mut draft = self;
@@ -129,7 +129,7 @@ impl Draft {
         ensures { result ≡ said.section_of self }
     {
         let has_lines = self.has_lines();
-        let Draft {
+        let SectionDraft {
             line,
             git,
             moved,
@@ -215,8 +215,8 @@ impl Draft {
 
     /// Takes up the name before a rename.
     fn take_source(&mut self, alloc: Global, text: &[u8]) -> Result<(), Refusal<LineFault>>
-        ensures ok { IfOk result
-            (λ _. result_map (said.with_source self.old) (names.moved_name text.now) ≡ Ok self.new) }
+        ensures ok { IfOk result (λ _.
+            result_map (said.with_source self.old) (names.moved_name text.now) ≡ Ok self.new) }
         ensures err { IfFault result (λ fault. names.moved_name text.now ≡ Err fault) }
     {
         let name = moved_name(alloc, text)?;

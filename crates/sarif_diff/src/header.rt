@@ -31,7 +31,7 @@ fn with_digit(so_far: Option<u64>, digit: u8) -> u64
 }
 
 /// Returns a number and what follows it, if it has a digit.
-fn ended(so_far: Option<u64>, rest: &[u8]) -> Option<(u64, &[u8])>
+fn number_and_rest(so_far: Option<u64>, rest: &[u8]) -> Option<(u64, &[u8])>
     ensures is { option_map (λ p. (p.0, p.1.now)) result ≡ said.ended so_far rest.now }
     ensures same { IfSome result (λ p. so_far ≡ Some p.0) }
 {
@@ -51,7 +51,7 @@ fn number(text: &[u8]) -> Option<(u64, &[u8])>
     let mut so_far: Option<u64> = None;
     for (i, byte) in text.iter().enumerate() {
         if !byte.is_ascii_digit() {
-            return ended(so_far, &text[i..]);
+            return number_and_rest(so_far, &text[i..]);
         }
         let next = with_digit(so_far, *byte);
         if next > LAST_LINE {
@@ -59,7 +59,7 @@ fn number(text: &[u8]) -> Option<(u64, &[u8])>
         }
         so_far = Some(next);
     }
-    ended(so_far, &text[text.len()..])
+    number_and_rest(so_far, &text[text.len()..])
 }
 
 /// Returns the lines that these bytes begin with, and what follows them.

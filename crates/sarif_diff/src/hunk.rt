@@ -94,7 +94,7 @@ fn span_of(first: u64, next: u64) -> Span
 
 impl Hunk {
     /// Returns a hunk before its first line.
-    pub(crate) fn begun(header: usize, old: Range, new: Range) -> Hunk
+    pub(crate) fn begin(header: usize, old: Range, new: Range) -> Hunk
         requires first { new.first ≤ last_line }
         requires count { new.count ≤ last_line }
         ensures { result ≡ said.begun header old new }

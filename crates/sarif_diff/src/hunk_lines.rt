@@ -3,10 +3,10 @@ ghost use Rattle.std.specs.Prelude.{◌≡◌, Ok, Err, IfOk, IfErr};
 ghost use Rattle.sarif_model.specs.Internal.Refusal.{IfFault};
 ghost use Rattle.sarif_diff.specs.Draft as said;
 
-use crate::draft::Draft;
+use crate::draft::SectionDraft;
 use crate::fault::{DiffFault, LineFault};
 use crate::hunk::{Hunk, Sign, sign_of};
-use crate::lines::{begins, trimmed};
+use crate::lines::{begins, trim_return};
 use crate::submodules::{is_commit, is_pointer};
 use sarif_model::Refusal;
 
@@ -25,7 +25,7 @@ fn is_single(hunk: Hunk) -> bool
 }
 
 /// Returns the error of a hunk that goes on with no line of it.
-pub(crate) fn broken(number: usize, hunk: Hunk) -> DiffFault
+pub(crate) fn hunk_fault(number: usize, hunk: Hunk) -> DiffFault
     ensures { result ≡ said.broken number hunk }
 {
     let line = if hunk.changes { number } else { hunk.header };
@@ -33,16 +33,16 @@ pub(crate) fn broken(number: usize, hunk: Hunk) -> DiffFault
 }
 
 /// Returns what an added line is without the byte that says so.
-fn content(line: &[u8]) -> &[u8]
+fn added_text(line: &[u8]) -> &[u8]
     ensures { result.now ≡ said.content line.now }
 {
     if line.is_empty() {
         return line;
     }
-    trimmed(&line[1..])
+    trim_return(&line[1..])
 }
 
-impl Draft {
+impl SectionDraft {
     /// Returns the hunk that a line is in, if it is in the last one.
     pub(crate) fn hunk_around(&self, line: &[u8]) -> Option<Hunk>
         ensures { result ≡ said.hunk_around self.now.hunk line.now }
@@ -79,10 +79,11 @@ impl Draft {
         line: &[u8],
     ) -> Result<(), Refusal<LineFault>>
         ensures ok { IfOk result (λ _. said.with_line self.old hunk sign line.now ≡ Ok self.new) }
-        ensures err { IfFault result (λ fault. said.with_line self.old hunk sign line.now ≡ Err fault) }
+        ensures err { IfFault result
+            (λ fault. said.with_line self.old hunk sign line.now ≡ Err fault) }
     {
         match sign {
-            Sign::New => self.take_added(hunk, content(line))?,
+            Sign::New => self.take_added(hunk, added_text(line))?,
             Sign::Both => hunk.push_run(&mut self.spans)?,
             Sign::Old | Sign::Neither => (),
         }
@@ -99,8 +100,8 @@ impl Draft {
     ) -> Result<(), Refusal<DiffFault>>
         ensures ok { IfOk result
             (λ _. said.at_line number (said.with_line self.old hunk sign line.now) ≡ Ok self.new) }
-        ensures err { IfFault result
-            (λ fault. said.at_line number (said.with_line self.old hunk sign line.now) ≡ Err fault) }
+        ensures err { IfFault result (λ fault.
+            said.at_line number (said.with_line self.old hunk sign line.now) ≡ Err fault) }
     {
         match self.take_by_sign(hunk, sign, line) {
             Ok(()) => Ok(()),
@@ -133,15 +134,16 @@ impl Draft {
         hunk: Hunk,
         line: &[u8],
     ) -> Result<(), Refusal<DiffFault>>
-        ensures ok { IfOk result (λ _. said.with_hunk_line number line.now self.old hunk ≡ Ok self.new) }
+        ensures ok { IfOk result
+            (λ _. said.with_hunk_line number line.now self.old hunk ≡ Ok self.new) }
         ensures err { IfFault result
             (λ fault. said.with_hunk_line number line.now self.old hunk ≡ Err fault) }
     {
         let Some(sign) = sign_of(line) else {
-            return Err(Refusal::Fault(broken(number, hunk)));
+            return Err(Refusal::Fault(hunk_fault(number, hunk)));
         };
         let Some(next) = hunk.with_sign(sign) else {
-            return Err(Refusal::Fault(broken(number, hunk)));
+            return Err(Refusal::Fault(hunk_fault(number, hunk)));
         };
         self.take_signed(number, hunk, sign, line)?;
         self.settle(next)

@@ -34,7 +34,7 @@ pub(crate) fn without_mark(bytes: &[u8]) -> &[u8]
 }
 
 /// Returns a line without the carriage return that it may end with.
-pub(crate) fn trimmed(line: &[u8]) -> &[u8]
+pub(crate) fn trim_return(line: &[u8]) -> &[u8]
     ensures { result.now ≡ said.trimmed line.now }
 {
     if line.ends_with(b"\r") {

@@ -8,7 +8,7 @@ ghost use Rattle.sarif_diff.specs.Name as said;
 use crate::fault::LineFault;
 use crate::lines::begins;
 use crate::name::Name;
-use crate::quoted::unquoted;
+use crate::quoted::unquote;
 use sarif_model::Refusal;
 use std::alloc::Global;
 
@@ -65,7 +65,7 @@ fn whole_name(alloc: Global, text: &[u8]) -> Result<Name, Refusal<LineFault>>
     ensures err { IfFault result (λ fault. said.whole_name text.now ≡ Err fault) }
 {
     if is_quoted(text) {
-        let (name, rest) = unquoted(alloc, &text[1..])?;
+        let (name, rest) = unquote(alloc, &text[1..])?;
         if !rest.is_empty() {
             return Err(BAD);
         }
@@ -112,7 +112,7 @@ fn tabbed_name(alloc: Global, text: &[u8]) -> Result<Name, Refusal<LineFault>>
     ensures err { IfFault result (λ fault. said.tabbed_name text.now ≡ Err fault) }
 {
     if is_quoted(text) {
-        let (name, rest) = unquoted(alloc, &text[1..])?;
+        let (name, rest) = unquote(alloc, &text[1..])?;
         if rest.is_empty() || begins(rest, b"\t") {
             return Ok(name);
         }
@@ -189,6 +189,6 @@ pub(crate) fn git_file(alloc: Global, text: &[u8]) -> Result<Option<Name>, Refus
     if !is_quoted(text) {
         return halves(alloc, text);
     }
-    let (old, rest) = unquoted(alloc, &text[1..])?;
+    let (old, rest) = unquote(alloc, &text[1..])?;
     after_quoted(alloc, old.as_slice(), rest)
 }

@@ -36,7 +36,7 @@ pub enum Meaning {
 }
 
 /// Returns the byte that a backslash and this letter are.
-fn escaped(byte: u8) -> Option<u8>
+fn unescape(byte: u8) -> Option<u8>
     ensures { result ≡ said.escaped byte }
 {
     if byte == b'a' {
@@ -77,7 +77,7 @@ fn meaning_in_escape(byte: u8) -> Meaning
     if is_digit_to(b'3', byte) {
         return Meaning::Goes(Escape::OneDigit(byte - b'0'));
     }
-    match escaped(byte) {
+    match unescape(byte) {
         Some(given) => Meaning::Gives(given),
         None => Meaning::Fails,
     }
@@ -148,7 +148,7 @@ fn take_byte(
 
 /// Returns the name up to its closing quote, and what follows that. `text` is what follows the opening quote.
 #[tactic(auto, using(crate::proofs::QuotedMore::begins, crate::proofs::QuotedMore::at_end, crate::proofs::QuotedMore::goes_on, crate::proofs::QuotedMore::stops, crate::proofs::QuotedMore::ends))]
-pub(crate) fn unquoted(alloc: Global, text: &[u8]) -> Result<(Name, &[u8]), Refusal<LineFault>>
+pub(crate) fn unquote(alloc: Global, text: &[u8]) -> Result<(Name, &[u8]), Refusal<LineFault>>
     ensures ok { IfOk result
         (λ q. said.unquoted escape.Outside text.now ≡ Ok (q.0, q.1.now)) }
     ensures err { IfFault result (λ fault. said.unquoted escape.Outside text.now ≡ Err fault) }

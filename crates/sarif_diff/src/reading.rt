@@ -2,17 +2,18 @@
 ghost use Rattle.std.specs.Prelude.{◌≡◌, ◌≤◌, Ok, Err, Some, IfOk, length};
 ghost use Rattle.sarif_model.specs.Internal.Refusal.{IfFault};
 ghost use Rattle.sarif_diff.specs.Draft.{at_line, with_word, own_word, hunk_around};
+ghost use Rattle.sarif_diff.specs.Draft as drafts;
 ghost use Rattle.sarif_diff.specs.Lines.{lines_of};
 ghost use Rattle.sarif_diff.specs.Name as names;
 ghost use Rattle.sarif_diff.specs.Reading as said;
 ghost use Rattle.sarif_diff.specs.declared.fault.DiffFault.TheVariants.{AtLine};
 ghost use Rattle.sarif_model.specs.declared.refusal.Refusal.TheVariants as refusal;
 
-use crate::draft::Draft;
+use crate::draft::SectionDraft;
 use crate::fault::{DiffFault, LineFault};
 use crate::header::ranges_of;
 use crate::hunk::Hunk;
-use crate::lines::{begins, trimmed};
+use crate::lines::{begins, trim_return};
 use crate::name::Name;
 use crate::names::{file_of, git_file};
 use crate::section::Section;
@@ -75,11 +76,12 @@ fn file_at(alloc: Global, number: usize, text: &[u8]) -> Result<Option<Name>, Re
 fn take_line_at(
     alloc: Global,
     number: usize,
-    draft: &mut Draft,
+    draft: &mut SectionDraft,
     word: Word,
     line: &[u8],
 ) -> Result<(), Refusal<DiffFault>>
-    ensures ok { IfOk result (λ _. at_line number (with_word draft.old word line.now) ≡ Ok draft.new) }
+    ensures ok { IfOk result
+        (λ _. at_line number (with_word draft.old word line.now) ≡ Ok draft.new) }
     ensures err { IfFault result
         (λ fault. at_line number (with_word draft.old word line.now) ≡ Err fault) }
 {
@@ -102,7 +104,7 @@ impl Reading {
     }
 
     /// Ends a section.
-    pub(crate) fn close(&mut self, draft: Draft) -> Result<(), Refusal<DiffFault>>
+    pub(crate) fn close(&mut self, draft: SectionDraft) -> Result<(), Refusal<DiffFault>>
         ensures ok { IfOk result (λ _. said.closed self.old draft ≡ Ok self.new) }
         ensures err { IfFault result (λ fault. said.closed self.old draft ≡ Err fault) }
     {
@@ -111,48 +113,25 @@ impl Reading {
         Ok(())
     }
 
-    /// Returns a section that begins, unless it is one too many.
-    fn begun(&self, number: usize, draft: Draft) -> Result<Draft, Refusal<DiffFault>>
-        ensures ok { IfOk result
-            (λ begun. said.with_begun number self.now draft ≡ Ok (self.now, Some begun)) }
-        ensures err { IfFault result (λ fault. said.with_begun number self.now draft ≡ Err fault) }
+    /// Returns the section that a line with this number begins, unless it is one too many. `git` is the file that a line
+    /// `diff --git ` names, and `old` the one that a line `--- ` does.
+    fn begin_section(
+        &self,
+        alloc: Global,
+        number: usize,
+        git: Option<Name>,
+        old: Option<Option<Name>>,
+    ) -> Result<SectionDraft, Refusal<DiffFault>>
+        ensures ok { IfOk result (λ begun.
+            said.with_begun number self.now (drafts.begun number git old)
+            ≡ Ok (self.now, Some begun)) }
+        ensures err { IfFault result (λ fault.
+            said.with_begun number self.now (drafts.begun number git old) ≡ Err fault) }
     {
         if self.sections.as_slice().len() >= MOST_SECTIONS {
             return Err(wrong(number, LineFault::TooMany));
         }
-        Ok(draft)
-    }
-
-    /// Returns the section of a line `diff --git `.
-    fn git_begun(
-        &self,
-        alloc: Global,
-        number: usize,
-        line: &[u8],
-    ) -> Result<Draft, Refusal<DiffFault>>
-        requires { 11 ≤ length line.now }
-        ensures ok { IfOk result
-            (λ begun. said.git_begun number line.now self.now ≡ Ok (self.now, Some begun)) }
-        ensures err { IfFault result (λ fault. said.git_begun number line.now self.now ≡ Err fault) }
-    {
-        let file = git_file_at(alloc, number, &line[11..])?;
-        self.begun(number, Draft::begun(alloc, number, file, None))
-    }
-
-    /// Returns the section of a line `--- ` that begins one.
-    fn plain_begun(
-        &self,
-        alloc: Global,
-        number: usize,
-        line: &[u8],
-    ) -> Result<Draft, Refusal<DiffFault>>
-        requires { 4 ≤ length line.now }
-        ensures ok { IfOk result
-            (λ begun. said.plain_begun number line.now self.now ≡ Ok (self.now, Some begun)) }
-        ensures err { IfFault result (λ fault. said.plain_begun number line.now self.now ≡ Err fault) }
-    {
-        let file = file_at(alloc, number, &line[4..])?;
-        self.begun(number, Draft::begun(alloc, number, None, Some(file)))
+        Ok(SectionDraft::begin(alloc, number, git, old))
     }
 
     /// Reads a line of text, which is in no section. Returns the section that it begins, if it begins one.
@@ -162,7 +141,7 @@ impl Reading {
         number: usize,
         line: &[u8],
         rest: &[u8],
-    ) -> Result<Option<Draft>, Refusal<DiffFault>>
+    ) -> Result<Option<SectionDraft>, Refusal<DiffFault>>
         ensures ok { IfOk result (λ draft.
             said.text_line number line.now (lines_of rest.now) self.now ≡ Ok (self.now, draft)) }
         ensures err { IfFault result (λ fault.
@@ -172,7 +151,8 @@ impl Reading {
             return Err(wrong(number, LineFault::BadHunk));
         }
         if is_plain(line, rest) {
-            return Ok(Some(self.plain_begun(alloc, number, line)?));
+            let file = file_at(alloc, number, &line[4..])?;
+            return Ok(Some(self.begin_section(alloc, number, None, Some(file))?));
         }
         if says_differ(line) {
             return Err(wrong(number, LineFault::BadHeader));
@@ -190,14 +170,15 @@ impl Reading {
         number: usize,
         line: &[u8],
         rest: &[u8],
-    ) -> Result<Option<Draft>, Refusal<DiffFault>>
+    ) -> Result<Option<SectionDraft>, Refusal<DiffFault>>
         ensures ok { IfOk result (λ draft.
             said.outer_line number line.now (lines_of rest.now) self.now ≡ Ok (self.now, draft)) }
         ensures err { IfFault result (λ fault.
             said.outer_line number line.now (lines_of rest.now) self.now ≡ Err fault) }
     {
         if is_section(line) {
-            return Ok(Some(self.git_begun(alloc, number, line)?));
+            let file = git_file_at(alloc, number, &line[11..])?;
+            return Ok(Some(self.begin_section(alloc, number, file, None)?));
         }
         if is_combined(line) {
             return Err(wrong(number, LineFault::Combined));
@@ -210,8 +191,8 @@ impl Reading {
         &mut self,
         number: usize,
         line: &[u8],
-        draft: Draft,
-    ) -> Result<Option<Draft>, Refusal<DiffFault>>
+        draft: SectionDraft,
+    ) -> Result<Option<SectionDraft>, Refusal<DiffFault>>
         ensures ok { IfOk result
             (λ next. said.header_line number line.now self.old draft ≡ Ok (self.new, next)) }
         ensures err { IfFault result
@@ -227,7 +208,7 @@ impl Reading {
             return Err(wrong(number, LineFault::BadHunk));
         };
         self.hunks += 1;
-        Ok(Some(draft.with_hunk(Hunk::begun(number, old, new))))
+        Ok(Some(draft.with_hunk(Hunk::begin(number, old, new))))
     }
 
     /// Reads a line that belongs to the section, or that ends it.
@@ -237,14 +218,14 @@ impl Reading {
         number: usize,
         line: &[u8],
         rest: &[u8],
-        draft: Draft,
-    ) -> Result<Option<Draft>, Refusal<DiffFault>>
+        draft: SectionDraft,
+    ) -> Result<Option<SectionDraft>, Refusal<DiffFault>>
         ensures ok { IfOk result (λ next.
-            said.own_line number line.now (lines_of rest.now) self.old draft (own_word draft line.now)
-            ≡ Ok (self.new, next)) }
+            said.own_line number line.now (lines_of rest.now) self.old draft
+            (own_word draft line.now) ≡ Ok (self.new, next)) }
         ensures err { IfFault result (λ fault.
-            said.own_line number line.now (lines_of rest.now) self.old draft (own_word draft line.now)
-            ≡ Err fault) }
+            said.own_line number line.now (lines_of rest.now) self.old draft
+            (own_word draft line.now) ≡ Err fault) }
     {
         let mut draft = draft;
         match draft.own_word(line) {
@@ -266,16 +247,18 @@ impl Reading {
         number: usize,
         line: &[u8],
         rest: &[u8],
-        draft: Draft,
-    ) -> Result<Option<Draft>, Refusal<DiffFault>>
+        draft: SectionDraft,
+    ) -> Result<Option<SectionDraft>, Refusal<DiffFault>>
         ensures ok { IfOk result (λ next.
-            said.inner_line number line.now (lines_of rest.now) self.old draft ≡ Ok (self.new, next)) }
+            said.inner_line number line.now (lines_of rest.now) self.old draft
+            ≡ Ok (self.new, next)) }
         ensures err { IfFault result (λ fault.
             said.inner_line number line.now (lines_of rest.now) self.old draft ≡ Err fault) }
     {
         if is_section(line) {
             self.close(draft)?;
-            return Ok(Some(self.git_begun(alloc, number, line)?));
+            let file = git_file_at(alloc, number, &line[11..])?;
+            return Ok(Some(self.begin_section(alloc, number, file, None)?));
         }
         if is_combined(line) {
             return Err(wrong(number, LineFault::Combined));
@@ -293,8 +276,8 @@ impl Reading {
         number: usize,
         line: &[u8],
         rest: &[u8],
-        draft: Draft,
-    ) -> Result<Option<Draft>, Refusal<DiffFault>>
+        draft: SectionDraft,
+    ) -> Result<Option<SectionDraft>, Refusal<DiffFault>>
         ensures ok { IfOk result (λ next.
             said.section_line number line.now (lines_of rest.now) self.old draft
             (hunk_around draft.hunk line.now) ≡ Ok (self.new, next)) }
@@ -308,7 +291,7 @@ impl Reading {
                 draft.take_hunk_line(number, hunk, line)?;
                 Ok(Some(draft))
             }
-            None => self.read_inner(alloc, number, trimmed(line), rest, draft),
+            None => self.read_inner(alloc, number, trim_return(line), rest, draft),
         }
     }
 
@@ -320,15 +303,16 @@ impl Reading {
         number: usize,
         line: &[u8],
         rest: &[u8],
-        draft: Option<Draft>,
-    ) -> Result<Option<Draft>, Refusal<DiffFault>>
+        draft: Option<SectionDraft>,
+    ) -> Result<Option<SectionDraft>, Refusal<DiffFault>>
         ensures ok { IfOk result (λ next.
-            said.next_line number line.now (lines_of rest.now) self.old draft ≡ Ok (self.new, next)) }
+            said.next_line number line.now (lines_of rest.now) self.old draft
+            ≡ Ok (self.new, next)) }
         ensures err { IfFault result (λ fault.
             said.next_line number line.now (lines_of rest.now) self.old draft ≡ Err fault) }
     {
         match draft {
-            None => self.read_outer(alloc, number, trimmed(line), rest),
+            None => self.read_outer(alloc, number, trim_return(line), rest),
             Some(draft) => self.read_in_section(alloc, number, line, rest, draft),
         }
     }

@@ -51,7 +51,7 @@ impl From<FileFault> for MergeFault {
             Some(number) => At::Entry(number),
             None => At::Whole(Source::Suppress),
         };
-        MergeFault::found(at, Cause::Of(fault.fault))
+        MergeFault::with_place(at, Cause::Of(fault.fault))
     }
 }
 

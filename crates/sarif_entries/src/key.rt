@@ -61,7 +61,7 @@ fn are_just(texts: &[(&str, &str)], members: &Map<String, Value>) -> bool
 }
 
 /// A string under its name.
-fn named<'a>(name: &'a str, text: &'a str) -> (&'a str, &'a str)
+fn name_and_text<'a>(name: &'a str, text: &'a str) -> (&'a str, &'a str)
     ensures name { result.0.now ≡ name.now }
     ensures text { result.1.now ≡ text.now }
 {
@@ -76,9 +76,9 @@ fn are_members_of(key: &EntryKey, members: &Map<String, Value>) -> bool
     match key.justification {
         Some(text) => are_just(
             &[
-                named("justification", text),
-                named("kind", "external"),
-                named("status", key.status.name()),
+                name_and_text("justification", text),
+                name_and_text("kind", "external"),
+                name_and_text("status", key.status.name()),
             ],
             members,
         ),

@@ -1,6 +1,6 @@
 //! The error in an entry of the suppression file.
 use crate::checks::{ENTRY_NAMES, entry_checks};
-use crate::misfit::{Found, Misfit, misfit_in};
+use crate::mismatch::{Found, Mismatch, mismatch_in};
 use crate::place::JsonPlace;
 use crate::wanted::Wanted;
 use sarif_model::Fault;
@@ -24,21 +24,21 @@ fn members_of(version: u64) -> Wanted {
 }
 
 /// The first member that the version of the file doesn't have.
-fn misfit_of_names<'a>(alloc: Global, version: u64, entry: &JsonPlace<'a>) -> Found<'a> {
+fn mismatch_of_names<'a>(alloc: Global, version: u64, entry: &JsonPlace<'a>) -> Found<'a> {
     let Value::Object(members) = entry.value else {
         return Ok(None);
     };
     for (name, member) in members.iter() {
         if !is_known(version, name.as_str()) {
             let place = entry.member(alloc, name.as_str(), member)?;
-            return Ok(Some(Misfit::at(place, members_of(version))));
+            return Ok(Some(Mismatch::at(place, members_of(version))));
         }
     }
     Ok(None)
 }
 
 /// Returns what is wrong in an entry of the file that has this error.
-pub(crate) fn misfit_of_entry<'a>(
+pub(crate) fn mismatch_of_entry<'a>(
     alloc: Global,
     file: &Value,
     entry: &JsonPlace<'a>,
@@ -46,10 +46,10 @@ pub(crate) fn misfit_of_entry<'a>(
 ) -> Found<'a> {
     let version = file.get("version").and_then(Value::as_u64);
     if fault == Fault::BadEntry {
-        let found = misfit_of_names(alloc, version.unwrap_or(1), entry)?;
+        let found = mismatch_of_names(alloc, version.unwrap_or(1), entry)?;
         if found.is_some() {
             return Ok(found);
         }
     }
-    misfit_in(alloc, entry, entry_checks(fault))
+    mismatch_in(alloc, entry, entry_checks(fault))
 }

@@ -2,10 +2,10 @@
 use crate::advice::advice_on;
 use crate::form::form_of;
 use crate::hint::{Hint, hint_of};
-use crate::lines::{push_line, push_number, shortened};
-use crate::misfit::Misfit;
+use crate::lines::{push_line, push_number, shorten};
+use crate::mismatch::Mismatch;
 use crate::wanted::Wanted;
-use crate::whole::{misfit_of, wanted_by};
+use crate::whole::{mismatch_of, wanted_by};
 use json_parts::without_mark;
 use sarif_model::{Cause, Fault, MergeFault};
 use serde_json::{Error, Value};
@@ -25,12 +25,16 @@ pub struct FaultSource<'a> {
 }
 
 /// Adds what was found: the text of the value, or that there is nothing.
-fn push_found(alloc: Global, lines: &mut String, misfit: &Misfit<'_>) -> Result<(), AllocError> {
-    match misfit.missing {
+fn push_found(
+    alloc: Global,
+    lines: &mut String,
+    mismatch: &Mismatch<'_>,
+) -> Result<(), AllocError> {
+    match mismatch.missing {
         Some(_) => push_line(alloc, lines, "found", "nothing"),
         None => {
-            let whole = misfit.place.value.to_string(alloc)?;
-            let text = shortened(alloc, whole.as_str())?;
+            let whole = mismatch.place.value.to_string(alloc)?;
+            let text = shorten(alloc, whole.as_str())?;
             push_line(alloc, lines, "found", text.as_str())
         }
     }
@@ -43,9 +47,13 @@ fn push_sentence(alloc: Global, lines: &mut String, wanted: Wanted) -> Result<()
 }
 
 /// Adds what is expected, with the member's name if the member is missing.
-fn push_wanted(alloc: Global, lines: &mut String, misfit: &Misfit<'_>) -> Result<(), AllocError> {
-    let wanted = misfit.wanted;
-    match misfit.missing {
+fn push_wanted(
+    alloc: Global,
+    lines: &mut String,
+    mismatch: &Mismatch<'_>,
+) -> Result<(), AllocError> {
+    let wanted = mismatch.wanted;
+    match mismatch.missing {
         Some(name) => {
             let text = format!(in alloc; "the member {name}, {wanted}")?;
             push_line(alloc, lines, "wanted", text.as_str())
@@ -55,10 +63,14 @@ fn push_wanted(alloc: Global, lines: &mut String, misfit: &Misfit<'_>) -> Result
 }
 
 /// Adds the error in the source.
-fn push_misfit(alloc: Global, lines: &mut String, misfit: &Misfit<'_>) -> Result<(), AllocError> {
-    push_line(alloc, lines, "where", misfit.place.pointer.as_str())?;
-    push_found(alloc, lines, misfit)?;
-    push_wanted(alloc, lines, misfit)
+fn push_mismatch(
+    alloc: Global,
+    lines: &mut String,
+    mismatch: &Mismatch<'_>,
+) -> Result<(), AllocError> {
+    push_line(alloc, lines, "where", mismatch.place.pointer.as_str())?;
+    push_found(alloc, lines, mismatch)?;
+    push_wanted(alloc, lines, mismatch)
 }
 
 /// Adds the position of a JSON error, if that is the error, the form of the file, if it is known, and what is expected.
@@ -114,9 +126,9 @@ fn push_spot(
     };
     match Value::from_slice(alloc, without_mark(source.bytes)) {
         Ok(value) => {
-            let misfit = misfit_of(alloc, &value, fault.at, wrong)?;
-            push_misfit(alloc, lines, &misfit)?;
-            Ok(hint_of(&value, wrong, misfit.missing.is_some()))
+            let mismatch = mismatch_of(alloc, &value, fault.at, wrong)?;
+            push_mismatch(alloc, lines, &mismatch)?;
+            Ok(hint_of(&value, wrong, mismatch.missing.is_some()))
         }
         Err(error) => push_stop(alloc, lines, fault, &error, source.bytes),
     }

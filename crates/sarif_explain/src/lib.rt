@@ -10,7 +10,7 @@ mod fitting;
 mod form;
 mod hint;
 mod lines;
-mod misfit;
+mod mismatch;
 mod output;
 mod past_table;
 mod place;

@@ -2,7 +2,7 @@
 ghost use Rattle.std.specs.Prelude.{◌≡◌, ◌++◌, IfOk, OnOk, chars, string_bytes};
 ghost use Rattle.sarif_explain.specs.Internal.Lines as said;
 
-use sarif_findings::shown;
+use sarif_findings::show_text;
 use std::alloc::{AllocError, Global};
 
 /// The maximum number of characters of a shown value.
@@ -18,7 +18,7 @@ pub(crate) fn push_line(
     ensures { OnOk result
         (string_bytes lines.new ≡ string_bytes lines.old ++ said.line_of name.now text.now) }
 {
-    let shown_text = shown(alloc, text)?;
+    let shown_text = show_text(alloc, text)?;
     lines.push_str("  ")?;
     lines.push_str(name)?;
     lines.push_str(": ")?;
@@ -39,7 +39,7 @@ pub(crate) fn push_number(
 }
 
 /// The first 80 characters of a string, then `...` if there are more.
-pub(crate) fn shortened(alloc: Global, text: &str) -> Result<String, AllocError>
+pub(crate) fn shorten(alloc: Global, text: &str) -> Result<String, AllocError>
     ensures { IfOk result
         (λ s. string_bytes s ≡ said.shortened said.most_of_a_value (chars text.now)) }
 {

@@ -1,5 +1,5 @@
 //! Indexes that are past the table that they point into.
-use crate::misfit::{Found, Misfit};
+use crate::mismatch::{Found, Mismatch};
 use crate::place::{JsonPlace, find, items_of};
 use crate::wanted::Wanted;
 use serde_json::Value;
@@ -11,7 +11,7 @@ fn index_at(value: &Value, way: &[&str]) -> Option<u64> {
 }
 
 /// The index at the end of the way, where the table has no element of it.
-fn misfit_past<'a>(
+fn mismatch_past<'a>(
     alloc: Global,
     place: &JsonPlace<'a>,
     way: &[&str],
@@ -20,7 +20,7 @@ fn misfit_past<'a>(
 ) -> Found<'a> {
     match index_at(place.value, way) {
         Some(index) if index >= table.len() as u64 => {
-            Ok(Some(Misfit::at(place.along(alloc, way)?, wanted)))
+            Ok(Some(Mismatch::at(place.along(alloc, way)?, wanted)))
         }
         _ => Ok(None),
     }
@@ -39,7 +39,7 @@ fn rules_of<'a>(run: &JsonPlace<'a>, extension: Option<u64>) -> &'a [Value] {
 }
 
 /// The index of a rule's component, otherwise the index of the rule, if it is past the end of its table.
-pub(crate) fn misfit_of_rule<'a>(
+pub(crate) fn mismatch_of_rule<'a>(
     alloc: Global,
     run: &JsonPlace<'_>,
     place: &JsonPlace<'a>,
@@ -47,12 +47,12 @@ pub(crate) fn misfit_of_rule<'a>(
     rule: &[&str],
 ) -> Found<'a> {
     let extensions = run.elements(&["tool", "extensions"]);
-    let found = misfit_past(alloc, place, component, extensions, Wanted::Extension)?;
+    let found = mismatch_past(alloc, place, component, extensions, Wanted::Extension)?;
     if found.is_some() {
         return Ok(found);
     }
     let rules = rules_of(run, index_at(place.value, component));
-    misfit_past(alloc, place, rule, rules, Wanted::Rule)
+    mismatch_past(alloc, place, rule, rules, Wanted::Rule)
 }
 
 /// The way to the index of a result's rule.
@@ -64,7 +64,11 @@ fn way_to_rule(value: &Value) -> &'static [&'static str] {
 }
 
 /// The index of the artifact of a result's first location, where it is past its table and there is no `uri`.
-fn misfit_of_artifact<'a>(alloc: Global, run: &JsonPlace<'_>, place: &JsonPlace<'a>) -> Found<'a> {
+fn mismatch_of_artifact<'a>(
+    alloc: Global,
+    run: &JsonPlace<'_>,
+    place: &JsonPlace<'a>,
+) -> Found<'a> {
     let Some(first) = place.nth(alloc, &["locations"], 0)? else {
         return Ok(None);
     };
@@ -73,27 +77,27 @@ fn misfit_of_artifact<'a>(alloc: Global, run: &JsonPlace<'_>, place: &JsonPlace<
         Some(Value::String(_)) => Ok(None),
         _ => {
             let artifacts = run.elements(&["artifacts"]);
-            misfit_past(alloc, &artifact, &["index"], artifacts, Wanted::Artifact)
+            mismatch_past(alloc, &artifact, &["index"], artifacts, Wanted::Artifact)
         }
     }
 }
 
 /// The first index of a result that is past its table.
-pub(crate) fn misfit_past_tables<'a>(
+pub(crate) fn mismatch_past_tables<'a>(
     alloc: Global,
     run: &JsonPlace<'_>,
     place: &JsonPlace<'a>,
 ) -> Found<'a> {
     let component = &["rule", "toolComponent", "index"];
-    let found = misfit_of_rule(alloc, run, place, component, way_to_rule(place.value))?;
+    let found = mismatch_of_rule(alloc, run, place, component, way_to_rule(place.value))?;
     if found.is_some() {
         return Ok(found);
     }
     let invocations = run.elements(&["invocations"]);
     let way = &["provenance", "invocationIndex"];
-    let found = misfit_past(alloc, place, way, invocations, Wanted::Invocation)?;
+    let found = mismatch_past(alloc, place, way, invocations, Wanted::Invocation)?;
     if found.is_some() {
         return Ok(found);
     }
-    misfit_of_artifact(alloc, run, place)
+    mismatch_of_artifact(alloc, run, place)
 }

@@ -2,32 +2,32 @@
 use crate::checks::{
     artifact_checks, component_checks, invocation_checks, override_checks, rule_checks, run_checks,
 };
-use crate::misfit::{Found, misfit_in, misfit_in_each};
-use crate::past_table::misfit_of_rule;
+use crate::mismatch::{Found, mismatch_in, mismatch_in_each};
+use crate::past_table::mismatch_of_rule;
 use crate::place::JsonPlace;
 use sarif_model::Fault;
 use std::alloc::Global;
 
 /// In the rules of the driver, or of an extension.
-fn misfit_of_component<'a>(alloc: Global, component: &JsonPlace<'a>, fault: Fault) -> Found<'a> {
-    let found = misfit_in(alloc, component, component_checks(fault))?;
+fn mismatch_of_component<'a>(alloc: Global, component: &JsonPlace<'a>, fault: Fault) -> Found<'a> {
+    let found = mismatch_in(alloc, component, component_checks(fault))?;
     if found.is_some() {
         return Ok(found);
     }
-    misfit_in_each(alloc, component, &["rules"], rule_checks(fault))
+    mismatch_in_each(alloc, component, &["rules"], rule_checks(fault))
 }
 
 /// In the rules of the driver, and then of each extension.
-fn misfit_of_components<'a>(alloc: Global, run: &JsonPlace<'a>, fault: Fault) -> Found<'a> {
+fn mismatch_of_components<'a>(alloc: Global, run: &JsonPlace<'a>, fault: Fault) -> Found<'a> {
     let driver = run.along(alloc, &["tool", "driver"])?;
-    let found = misfit_of_component(alloc, &driver, fault)?;
+    let found = mismatch_of_component(alloc, &driver, fault)?;
     if found.is_some() {
         return Ok(found);
     }
     let list = run.along(alloc, &["tool", "extensions"])?;
     for (index, value) in run.elements(&["tool", "extensions"]).iter().enumerate() {
         let extension = list.element(alloc, index, value)?;
-        let found = misfit_of_component(alloc, &extension, fault)?;
+        let found = mismatch_of_component(alloc, &extension, fault)?;
         if found.is_some() {
             return Ok(found);
         }
@@ -36,22 +36,22 @@ fn misfit_of_components<'a>(alloc: Global, run: &JsonPlace<'a>, fault: Fault) ->
 }
 
 /// In an override of a rule's configuration.
-fn misfit_of_override<'a>(
+fn mismatch_of_override<'a>(
     alloc: Global,
     run: &JsonPlace<'_>,
     place: &JsonPlace<'a>,
     fault: Fault,
 ) -> Found<'a> {
-    let found = misfit_in(alloc, place, override_checks(fault))?;
+    let found = mismatch_in(alloc, place, override_checks(fault))?;
     if found.is_some() || fault != Fault::BadIndex {
         return Ok(found);
     }
     let component = &["descriptor", "toolComponent", "index"];
-    misfit_of_rule(alloc, run, place, component, &["descriptor", "index"])
+    mismatch_of_rule(alloc, run, place, component, &["descriptor", "index"])
 }
 
 /// In the overrides of an invocation.
-fn misfit_of_overrides<'a>(
+fn mismatch_of_overrides<'a>(
     alloc: Global,
     run: &JsonPlace<'_>,
     invocation: &JsonPlace<'a>,
@@ -61,7 +61,7 @@ fn misfit_of_overrides<'a>(
     let list = invocation.along(alloc, way)?;
     for (index, value) in invocation.elements(way).iter().enumerate() {
         let place = list.element(alloc, index, value)?;
-        let found = misfit_of_override(alloc, run, &place, fault)?;
+        let found = mismatch_of_override(alloc, run, &place, fault)?;
         if found.is_some() {
             return Ok(found);
         }
@@ -70,15 +70,15 @@ fn misfit_of_overrides<'a>(
 }
 
 /// In the invocations: first the forms of all, then their overrides.
-fn misfit_of_invocations<'a>(alloc: Global, run: &JsonPlace<'a>, fault: Fault) -> Found<'a> {
-    let found = misfit_in_each(alloc, run, &["invocations"], invocation_checks(fault))?;
+fn mismatch_of_invocations<'a>(alloc: Global, run: &JsonPlace<'a>, fault: Fault) -> Found<'a> {
+    let found = mismatch_in_each(alloc, run, &["invocations"], invocation_checks(fault))?;
     if found.is_some() {
         return Ok(found);
     }
     let list = run.along(alloc, &["invocations"])?;
     for (index, value) in run.elements(&["invocations"]).iter().enumerate() {
         let invocation = list.element(alloc, index, value)?;
-        let found = misfit_of_overrides(alloc, run, &invocation, fault)?;
+        let found = mismatch_of_overrides(alloc, run, &invocation, fault)?;
         if found.is_some() {
             return Ok(found);
         }
@@ -87,18 +87,18 @@ fn misfit_of_invocations<'a>(alloc: Global, run: &JsonPlace<'a>, fault: Fault) -
 }
 
 /// Returns what is wrong in a run that has this error, outside its results.
-pub(crate) fn misfit_of_run<'a>(alloc: Global, run: &JsonPlace<'a>, fault: Fault) -> Found<'a> {
-    let found = misfit_in(alloc, run, run_checks(fault))?;
+pub(crate) fn mismatch_of_run<'a>(alloc: Global, run: &JsonPlace<'a>, fault: Fault) -> Found<'a> {
+    let found = mismatch_in(alloc, run, run_checks(fault))?;
     if found.is_some() {
         return Ok(found);
     }
-    let found = misfit_of_components(alloc, run, fault)?;
+    let found = mismatch_of_components(alloc, run, fault)?;
     if found.is_some() {
         return Ok(found);
     }
-    let found = misfit_in_each(alloc, run, &["artifacts"], artifact_checks(fault))?;
+    let found = mismatch_in_each(alloc, run, &["artifacts"], artifact_checks(fault))?;
     if found.is_some() {
         return Ok(found);
     }
-    misfit_of_invocations(alloc, run, fault)
+    mismatch_of_invocations(alloc, run, fault)
 }

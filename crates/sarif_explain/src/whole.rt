@@ -1,10 +1,10 @@
 //! The error in a source, by the place of the error.
 use crate::checks::{file_checks, log_checks};
-use crate::entry::misfit_of_entry;
-use crate::misfit::{Found, Misfit, misfit_in};
+use crate::entry::mismatch_of_entry;
+use crate::mismatch::{Found, Mismatch, mismatch_in};
 use crate::place::JsonPlace;
-use crate::run::misfit_of_run;
-use crate::single::misfit_of_result;
+use crate::run::mismatch_of_run;
+use crate::single::mismatch_of_result;
 use crate::wanted::Wanted;
 use sarif_model::{At, Cause, Fault, MergeFault, Source};
 use serde_json::Value;
@@ -57,60 +57,60 @@ pub(crate) fn wanted_by(fault: &MergeFault) -> Wanted {
 }
 
 /// The place itself, if no error was found in it.
-fn or_all<'a>(found: Option<Misfit<'a>>, place: JsonPlace<'a>, wanted: Wanted) -> Misfit<'a> {
+fn or_all<'a>(found: Option<Mismatch<'a>>, place: JsonPlace<'a>, wanted: Wanted) -> Mismatch<'a> {
     match found {
-        Some(misfit) => misfit,
-        None => Misfit::at(place, wanted),
+        Some(mismatch) => mismatch,
+        None => Mismatch::at(place, wanted),
     }
 }
 
 /// The error in a whole source.
-fn misfit_of_source<'a>(alloc: Global, root: &JsonPlace<'a>, at: At, fault: Fault) -> Found<'a> {
+fn mismatch_of_source<'a>(alloc: Global, root: &JsonPlace<'a>, at: At, fault: Fault) -> Found<'a> {
     match at {
-        At::Whole(Source::Suppress) => misfit_in(alloc, root, file_checks(fault)),
-        _ => misfit_in(alloc, root, log_checks(fault)),
+        At::Whole(Source::Suppress) => mismatch_in(alloc, root, file_checks(fault)),
+        _ => mismatch_in(alloc, root, log_checks(fault)),
     }
 }
 
 /// The error in a log or a baseline, at a run or at a result of it.
-fn misfit_in_log<'a>(
+fn mismatch_in_log<'a>(
     alloc: Global,
     root: JsonPlace<'a>,
     number: u32,
     single: Option<u32>,
     at: At,
     fault: Fault,
-) -> Result<Misfit<'a>, AllocError> {
+) -> Result<Mismatch<'a>, AllocError> {
     let wanted = wanted_at(at, fault);
     let Some(run) = root.nth(alloc, &["runs"], number as usize)? else {
-        return Ok(Misfit::at(root, wanted));
+        return Ok(Mismatch::at(root, wanted));
     };
     let Some(single) = single else {
-        return Ok(or_all(misfit_of_run(alloc, &run, fault)?, run, wanted));
+        return Ok(or_all(mismatch_of_run(alloc, &run, fault)?, run, wanted));
     };
     match run.nth(alloc, &["results"], single as usize)? {
         Some(place) => {
-            let found = misfit_of_result(alloc, &run, &place, fault)?;
+            let found = mismatch_of_result(alloc, &run, &place, fault)?;
             Ok(or_all(found, place, wanted))
         }
-        None => Ok(Misfit::at(run, wanted)),
+        None => Ok(Mismatch::at(run, wanted)),
     }
 }
 
 /// The error in the suppression file, at an entry.
-fn misfit_in_file<'a>(
+fn mismatch_in_file<'a>(
     alloc: Global,
     root: JsonPlace<'a>,
     number: u32,
     fault: Fault,
-) -> Result<Misfit<'a>, AllocError> {
+) -> Result<Mismatch<'a>, AllocError> {
     let wanted = wanted_at(At::Entry(number), fault);
     match root.nth(alloc, &["suppressions"], number as usize)? {
         Some(entry) => {
-            let found = misfit_of_entry(alloc, root.value, &entry, fault)?;
+            let found = mismatch_of_entry(alloc, root.value, &entry, fault)?;
             Ok(or_all(found, entry, wanted))
         }
-        None => Ok(Misfit::at(root, wanted)),
+        None => Ok(Mismatch::at(root, wanted)),
     }
 }
 
@@ -120,20 +120,20 @@ fn is_file(at: At) -> bool {
 }
 
 /// The error in the source with this value.
-pub(crate) fn misfit_of<'a>(
+pub(crate) fn mismatch_of<'a>(
     alloc: Global,
     value: &'a Value,
     at: At,
     fault: Fault,
-) -> Result<Misfit<'a>, AllocError> {
+) -> Result<Mismatch<'a>, AllocError> {
     let root = JsonPlace::root(alloc, value, !is_file(at));
     match at {
         At::Nowhere | At::Whole(_) => {
-            let found = misfit_of_source(alloc, &root, at, fault)?;
+            let found = mismatch_of_source(alloc, &root, at, fault)?;
             Ok(or_all(found, root, wanted_at(at, fault)))
         }
-        At::Run(_, run) => misfit_in_log(alloc, root, run, None, at, fault),
-        At::Single(_, run, single) => misfit_in_log(alloc, root, run, Some(single), at, fault),
-        At::Entry(entry) => misfit_in_file(alloc, root, entry, fault),
+        At::Run(_, run) => mismatch_in_log(alloc, root, run, None, at, fault),
+        At::Single(_, run, single) => mismatch_in_log(alloc, root, run, Some(single), at, fault),
+        At::Entry(entry) => mismatch_in_file(alloc, root, entry, fault),
     }
 }

@@ -5,7 +5,7 @@ use Rattle.std.proofs.StrCases.{chars_of_empty}
 use Rattle.serde_json.specs.Data.{Data}
 use Rattle.sarif_findings.specs.Placeholders.{index_from, takes_digit, least_of_nine_digits, filled, filled_from, piece_of}
 use Rattle.sarif_findings.specs.declared.shown_text.ShownText.{ShownText}
-use Rattle.sarif_findings.specs.Internal.ShownSoFar.{shown_with, Takes}
+use Rattle.sarif_findings.specs.Internal.ShownSoFar.{shown_with, TakesCharacters}
 
 -- ---- the number of an argument
 
@@ -59,7 +59,7 @@ skip_step s args skip cs ds c more parts some =
 -- a character that is written for
 pub piece_step : (s t : ShownText) (args : List Data) (skip next : ℕ) (cs ds : List ℕ) (c : ℕ) (more : List ℕ)
     → cs ≡ c ∷ ds → skip ≡ 0 → next ≡ (piece_of args c ds).1
-    → Takes s t (piece_of args c ds).0
+    → TakesCharacters s t (piece_of args c ds).0
     → shown_with s (filled_from args skip cs ++ more) ≡ shown_with t (filled_from args next ds ++ more)
 piece_step s t args skip next cs ds c more parts none is_next takes =
     let piece : List ℕ = (piece_of args c ds).0 in
@@ -81,7 +81,7 @@ filled_empty s args skip cs more none =
 
 -- what was filled in, where there are arguments
 pub takes_filled : (s t : ShownText) (args : List Data) (cs : List ℕ) → (length args ≡ 0 → ⊥)
-    → Takes s t (filled_from args 0 cs) → Takes s t (filled args cs)
+    → TakesCharacters s t (filled_from args 0 cs) → TakesCharacters s t (filled args cs)
 takes_filled s t args cs some takes = λ rest. ap (λ ds. shown_with s (ds ++ rest)) (filled-some args cs some) ∙ takes rest
 
 filled-none : (args : List Data) (cs : List ℕ) → length args ≡ 0 → filled args cs ≡ cs
@@ -89,11 +89,11 @@ filled-none [] cs none = refl
 filled-none (d ∷ ds) cs none = absurd (omega (arith, none))
 
 -- what was read, if there are no arguments
-pub takes_unlinked : (s t : ShownText) (args : List Data) (cs : List ℕ) → length args ≡ 0 → Takes s t cs → Takes s t (filled args cs)
+pub takes_unlinked : (s t : ShownText) (args : List Data) (cs : List ℕ) → length args ≡ 0 → TakesCharacters s t cs → TakesCharacters s t (filled args cs)
 takes_unlinked s t args cs none takes = λ rest. ap (λ ds. shown_with s (ds ++ rest)) (filled-none args cs none) ∙ takes rest
 
 -- a string that is read as itself
-pub takes_plain : (s t : ShownText) (cs ds : List ℕ) → ds ≡ cs → Takes s t cs → Takes s t ds
+pub takes_plain : (s t : ShownText) (cs ds : List ℕ) → ds ≡ cs → TakesCharacters s t cs → TakesCharacters s t ds
 takes_plain s t cs ds same takes = λ rest. ap (λ es. shown_with s (es ++ rest)) same ∙ takes rest
 
 pub mapped_none : {A B : Type 0} → (f : A → B) → (xs : List A) → length xs ≡ 0 → length (map f xs) ≡ 0

@@ -4,7 +4,7 @@ use Rattle.std.proofs.Common.{refl, sym, ◌∙◌, ap, append_assoc, append-nil
 use Rattle.std.proofs.lemmas.Str.{chars_past_char}
 use Rattle.sarif_findings.specs.Shown.{shown, kept, parted_signs, parted, plain}
 use Rattle.sarif_findings.specs.declared.shown_text.ShownText.{ShownText}
-use Rattle.sarif_findings.specs.Internal.ShownSoFar.{shown_with, kept_with, Keeps, Parts, Takes}
+use Rattle.sarif_findings.specs.Internal.ShownSoFar.{shown_with, kept_with, Keeps, SeparatesCharacter, TakesCharacters}
 
 kept-nil : (room : ℕ) → kept room [] ≡ []
 unfolding kept
@@ -49,9 +49,9 @@ keeps_one old new c cs going some text room full =
 
 -- one character was read
 pub takes_one : (old mid new last : ShownText) (c p : ℕ) → p ≡ plain c
-    → ((cs : List ℕ) → Parts old mid p cs) → ((cs : List ℕ) → Keeps mid new p cs)
+    → ((cs : List ℕ) → SeparatesCharacter old mid p cs) → ((cs : List ℕ) → Keeps mid new p cs)
     → last.text ≡ new.text → last.room ≡ new.room → last.full ≡ new.full → last.after_sign ≡ (p == 35)
-    → Takes old last (c ∷ [])
+    → TakesCharacters old last (c ∷ [])
 takes_one old mid new last c p shown part keep text room full sign = λ rest.
     let more : List ℕ = parted_signs (p == 35) (map plain rest) in
     ap (λ q. kept_with old (parted old.after_sign q ++ parted_signs (q == 35) (map plain rest))) (sym shown)
@@ -59,12 +59,12 @@ takes_one old mid new last c p shown part keep text room full sign = λ rest.
 
 -- all characters of a string were read
 pub takes_step : (s t : ShownText) (text left : List ℕ) (c : ℕ) (more : List ℕ) → IsUtf8 text → text ≡ encode_utf8 c ++ left
-    → Takes s t (c ∷ []) → shown_with s (chars text ++ more) ≡ shown_with t (chars left ++ more)
+    → TakesCharacters s t (c ∷ []) → shown_with s (chars text ++ more) ≡ shown_with t (chars left ++ more)
 takes_step s t text left c more utf8 parts taken =
     ap (λ cs. shown_with s (cs ++ more)) (chars_past_char text left c utf8 parts) ∙ taken (chars left ++ more)
 
 -- a string that was read completely
 pub shown_whole : (first last : ShownText) (cs bytes : List ℕ) → ((xs : List ℕ) → shown_with first xs ≡ shown xs)
-    → Takes first last cs → bytes ≡ shown_with last [] → bytes ≡ shown cs
+    → TakesCharacters first last cs → bytes ≡ shown_with last [] → bytes ≡ shown cs
 shown_whole first last cs bytes begins takes ends =
     ends ∙ sym (takes []) ∙ begins (cs ++ []) ∙ ap shown (append-nil cs)

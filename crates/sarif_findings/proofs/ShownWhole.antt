@@ -8,7 +8,7 @@ use Rattle.std.proofs.lemmas.List.{map-append}
 use Rattle.std.proofs.lemmas.Str.{encode_ascii, encodes-append}
 use Rattle.sarif_findings.specs.declared.shown_text.ShownText.{ShownText}
 use Rattle.sarif_findings.specs.Shown.{is_between, is_control, is_unseen_mark, is_blank_letter, is_concealed, kept, parted, parted_signs, plain}
-use Rattle.sarif_findings.specs.Internal.ShownSoFar.{is_verbatim, Takes}
+use Rattle.sarif_findings.specs.Internal.ShownSoFar.{is_verbatim, TakesCharacters}
 use Rattle.sarif_findings.proofs.CharsBack.{chars_back}
 use Rattle.sarif_findings.proofs.ShownMore.{kept-cons}
 
@@ -116,7 +116,7 @@ steps_whole bs rest after_sign room left some h e =
 
 pub takes_whole : (old new : ShownText) (bs : List ℕ) → 0 < length bs → list_all is_verbatim bs ≡ true → length bs ≤ old.room → old.full ≡ false
     → string_bytes new.text ≡ string_bytes old.text ++ bs → new.room ≡ old.room - length bs → new.full ≡ false → new.after_sign ≡ false
-    → Takes old new (chars bs)
+    → TakesCharacters old new (chars bs)
 takes_whole old new bs some h within going text room full sign = λ rest.
     let left : ℕ = old.room - length bs in
     let e : old.room ≡ length bs + left = omega (arith, within) in

@@ -4,7 +4,7 @@ ghost use Rattle.serde_json.specs.View.{view};
 ghost use Rattle.sarif_findings.specs.Internal.ArtifactsOf.{artifact_paths, path_of_artifact, uri_of_artifact};
 
 use crate::lookup::{elements_in, text_in};
-use crate::path::decoded;
+use crate::path::decode_or_keep;
 use sarif_model::Text;
 use serde_json::Value;
 use std::alloc::{AllocError, Global};
@@ -23,7 +23,7 @@ fn path_of(alloc: Global, artifact: &Value) -> Result<Option<Text>, AllocError>
     let Some(uri) = uri_of(artifact) else {
         return Ok(None);
     };
-    let path = decoded(alloc, uri)?;
+    let path = decode_or_keep(alloc, uri)?;
     Ok(Some(Text::copy_of(alloc, path.as_str())?))
 }
 

@@ -28,6 +28,6 @@ pub use finding::Finding;
 pub use named_run::NamedRun;
 pub use reported_results::finding_of;
 pub use reporting::Reporting;
-pub use shown_text::{MOST_CHARACTERS, shown};
+pub use shown_text::{MOST_CHARACTERS, show_text};
 pub use told_result::ToldResult;
-pub use whole::reported;
+pub use whole::findings_in_log;

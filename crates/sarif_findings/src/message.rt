@@ -8,7 +8,7 @@ ghost use Rattle.sarif_findings.specs.Located as located;
 ghost use Rattle.sarif_findings.specs.Message as said;
 ghost use Rattle.sarif_findings.specs.Links.{is_unbracketed, unlinked};
 ghost use Rattle.sarif_findings.specs.Placeholders.{filled, is_unbraced};
-ghost use Rattle.sarif_findings.specs.Internal.ShownSoFar.{Takes};
+ghost use Rattle.sarif_findings.specs.Internal.ShownSoFar.{TakesCharacters};
 ghost use Rattle.sarif_findings.specs.Internal.Subject.{IsDescribed};
 
 use crate::lookup::{component_of, driver_of, text_in};
@@ -151,7 +151,7 @@ fn push_read(
     args: &[Value],
     text: &str,
 ) -> Result<(), AllocError>
-    ensures { OnOk result (Takes so_far.old so_far.new
+    ensures { OnOk result (TakesCharacters so_far.old so_far.new
         (filled (map view args.now) (unlinked (map view args.now) (chars text.now)))) }
 {
     if is_plain(args, text) {
@@ -170,7 +170,7 @@ pub(crate) fn push_message(
     subject: &Subject<'_>,
 ) -> Result<(), AllocError>
     requires { IsDescribed subject.now }
-    ensures { OnOk result (Takes so_far.old so_far.new
+    ensures { OnOk result (TakesCharacters so_far.old so_far.new
         (located.message_at (view subject.now.run.now) subject.now.told.now)) }
 {
     let text = message_text(subject);

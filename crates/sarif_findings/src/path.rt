@@ -6,7 +6,7 @@ ghost use Rattle.std.specs.Cow.{cow_str_bytes};
 ghost use Rattle.std.specs.Str.{is_utf8};
 ghost use Rattle.percent_encoding.specs.Percent.{percent_decode as decoded_bytes};
 ghost use Rattle.sarif_findings.specs.PathOf as said;
-ghost use Rattle.sarif_findings.specs.Internal.ShownSoFar.{Takes};
+ghost use Rattle.sarif_findings.specs.Internal.ShownSoFar.{TakesCharacters};
 
 use crate::first_char::begins_with;
 use crate::shown_text::ShownText;
@@ -51,7 +51,7 @@ fn decode(alloc: Global, uri: &str) -> Result<Option<CowStr<'_, Global>>, AllocE
 }
 
 /// The path without this root, if it begins with it.
-fn stripped<'a>(root: &str, path: &'a str) -> Option<&'a str>
+fn strip_root<'a>(root: &str, path: &'a str) -> Option<&'a str>
     ensures { option_map (λ s. s.now) result ≡ (if starts_with nat_eq path.now root.now
         then Some (drop (length root.now) path.now) else None) }
 {
@@ -65,7 +65,7 @@ fn after_root<'a>(root: &str, path: &'a str) -> Option<&'a str>
     if root.is_empty() {
         return None;
     }
-    stripped(root, path)
+    strip_root(root, path)
 }
 
 /// The path without the first of these roots that it begins with.
@@ -127,7 +127,7 @@ fn without_here(path: &str) -> &str
 }
 
 /// The decoded URI if all escapes are complete and the decoded bytes are UTF-8; otherwise the URI unchanged.
-pub(crate) fn decoded(alloc: Global, uri: &str) -> Result<CowStr<'_, Global>, AllocError>
+pub(crate) fn decode_or_keep(alloc: Global, uri: &str) -> Result<CowStr<'_, Global>, AllocError>
     ensures { IfOk result (λ s. cow_str_bytes s ≡ said.decoded uri.now) }
 {
     if is_escaped(uri.as_bytes()) {
@@ -144,7 +144,7 @@ pub(crate) fn push_path(
     roots: &[Text],
     path: &str,
 ) -> Result<(), AllocError>
-    ensures { OnOk result (Takes so_far.old so_far.new
+    ensures { OnOk result (TakesCharacters so_far.old so_far.new
         (said.without_here (chars (said.without_root roots.now path.now)))) }
 {
     so_far.push_str(without_here(without_root(roots, path)))?;

@@ -3,7 +3,7 @@ ghost use Rattle.std.specs.Prelude.{◌≡◌, ◌∷◌, [], OnOk, IfOk, IfSome
 ghost use Rattle.serde_json.specs.View.{view};
 ghost use Rattle.sarif_findings.specs.Links.{unlinked};
 ghost use Rattle.sarif_findings.specs.Placeholders as said;
-ghost use Rattle.sarif_findings.specs.Internal.ShownSoFar.{Fills, Takes, Writes};
+ghost use Rattle.sarif_findings.specs.Internal.ShownSoFar.{Fills, TakesCharacters, Writes};
 ghost use Rattle.sarif_findings.specs.Internal.Unlinked.{left};
 
 use crate::arguments::{argument_at, read_digit};
@@ -48,7 +48,7 @@ fn push_argument(
     args: &[Value],
     number: u32,
 ) -> Result<(), AllocError>
-    ensures { OnOk result (Takes so_far.old so_far.new
+    ensures { OnOk result (TakesCharacters so_far.old so_far.new
         (chars (said.argument_or_placeholder (map view args.now) number))) }
 {
     match argument_at(args, number) {
@@ -132,8 +132,8 @@ pub(crate) fn push_filled(
     args: &[Value],
     text: &str,
 ) -> Result<(), AllocError>
-    ensures { OnOk result (Takes so_far.old so_far.new (said.filled_from (map view args.now) 0
-        (unlinked (map view args.now) (chars text.now)))) }
+    ensures { OnOk result (TakesCharacters so_far.old so_far.new
+        (said.filled_from (map view args.now) 0 (unlinked (map view args.now) (chars text.now)))) }
 {
     let mut skip: u32 = 0;
     let mut rest = Unlinked::new(args, text);
@@ -154,7 +154,7 @@ pub(crate) fn push_unlinked(
     args: &[Value],
     text: &str,
 ) -> Result<(), AllocError>
-    ensures { OnOk result (Takes so_far.old so_far.new
+    ensures { OnOk result (TakesCharacters so_far.old so_far.new
         (unlinked (map view args.now) (chars text.now))) }
 {
     let mut rest = Unlinked::new(args, text);

@@ -11,7 +11,7 @@ use crate::lookup::{help_uri, rule_id};
 use crate::message::push_message;
 use crate::named_run::NamedRun;
 use crate::reporting::Reporting;
-use crate::shown_text::{ShownText, shown, shown_copy};
+use crate::shown_text::{ShownText, show_text, shown_copy};
 use crate::spot::{ShownPlace, spot_of};
 use crate::subject::Subject;
 use crate::told_result::ToldResult;
@@ -24,7 +24,7 @@ fn is_link(alloc: Global, uri: &str) -> Result<bool, AllocError>
     ensures { IfOk result (λ b. b ≡ said.is_link uri.now) }
 {
     if uri.starts_with("https://") || uri.starts_with("http://") {
-        let shown = shown(alloc, uri)?;
+        let shown = show_text(alloc, uri)?;
         return Ok(shown.as_str() == uri);
     }
     Ok(false)

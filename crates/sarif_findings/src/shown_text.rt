@@ -98,7 +98,7 @@ impl ShownText {
     ghost use Rattle.std.specs.Prelude.{◌<◌, ◌≤◌, length};
     ghost use Rattle.std.specs.Bool.{OnTrue};
     ghost use Rattle.std.specs.List.{list_all};
-    ghost use Rattle.sarif_findings.specs.Internal.ShownSoFar.{shown_with, is_verbatim, Takes, Keeps, Parts};
+    ghost use Rattle.sarif_findings.specs.Internal.ShownSoFar.{shown_with, is_verbatim, TakesCharacters, Keeps, SeparatesCharacter};
 
     pub(crate) fn new(alloc: Global) -> Result<ShownText, AllocError>
         ensures { IfOk result (λ made. (cs : List ℕ) → shown_with made cs ≡ said.shown cs) }
@@ -138,7 +138,7 @@ impl ShownText {
 
     /// Keeps a space, where the character is the second of two `#`.
     fn part(&mut self, c: char) -> Result<(), AllocError>
-        ensures { OnOk result ((cs : List ℕ) → Parts self.old self.new c cs) }
+        ensures { OnOk result ((cs : List ℕ) → SeparatesCharacter self.old self.new c cs) }
     {
         if self.after_sign && c == '#' {
             self.keep(' ')?;
@@ -148,7 +148,7 @@ impl ShownText {
 
     /// Takes the next character of the text.
     pub(crate) fn push(&mut self, c: char) -> Result<(), AllocError>
-        ensures { OnOk result (Takes self.old self.new (c ∷ [])) }
+        ensures { OnOk result (TakesCharacters self.old self.new (c ∷ [])) }
     {
         let c = plain(c);
         self.part(c)?;
@@ -159,7 +159,7 @@ impl ShownText {
 
     /// Reads the characters of a string, in order.
     fn push_each(&mut self, text: &str) -> Result<(), AllocError>
-        ensures { OnOk result (Takes self.old self.new (chars text.now)) }
+        ensures { OnOk result (TakesCharacters self.old self.new (chars text.now)) }
     {
         for c in text.chars() {
             if self.full {
@@ -189,7 +189,7 @@ impl ShownText {
         requires is_verbatim { list_all is_verbatim text.now ≡ true }
         requires room { length text.now ≤ self.old.room }
         requires going { self.old.full ≡ false }
-        ensures { OnOk result (Takes self.old self.new (chars text.now)) }
+        ensures { OnOk result (TakesCharacters self.old self.new (chars text.now)) }
     {
         self.text.push_str(text)?;
         self.room = (self.room as usize - text.len()) as u32;
@@ -199,7 +199,7 @@ impl ShownText {
 
     /// Reads the characters of a string.
     pub(crate) fn push_str(&mut self, text: &str) -> Result<(), AllocError>
-        ensures { OnOk result (Takes self.old self.new (chars text.now)) }
+        ensures { OnOk result (TakesCharacters self.old self.new (chars text.now)) }
     {
         if self.has_room(text) {
             return self.push_whole(text);
@@ -218,7 +218,7 @@ impl ShownText {
 
 /// Returns a string as it is shown: one line of at most `MOST_CHARACTERS` characters, none of which hides or controls others,
 /// followed by `…` if there were more. Returns `AllocError` if memory for it runs out.
-pub fn shown(alloc: Global, text: &str) -> Result<String, AllocError>
+pub fn show_text(alloc: Global, text: &str) -> Result<String, AllocError>
     ensures { IfOk result (λ s. string_bytes s ≡ said.shown (chars text.now)) }
 {
     let mut so_far = ShownText::new(alloc)?;
@@ -230,5 +230,5 @@ pub fn shown(alloc: Global, text: &str) -> Result<String, AllocError>
 pub(crate) fn shown_copy(alloc: Global, text: &str) -> Result<Text, AllocError>
     ensures { IfOk result (λ t. t ≡ said.shown (chars text.now)) }
 {
-    Text::from_string(shown(alloc, text)?)
+    Text::from_string(show_text(alloc, text)?)
 }

@@ -10,7 +10,7 @@ ghost use Rattle.sarif_findings.specs.Shown.{shown as text_shown};
 ghost use Rattle.sarif_model.specs.Members.{none_if_empty};
 
 use crate::named_run::NamedRun;
-use crate::path::{decoded, push_path};
+use crate::path::{decode_or_keep, push_path};
 use crate::reporting::Reporting;
 use crate::shown_text::ShownText;
 use sarif_model::{FirstLocation, Text};
@@ -26,8 +26,8 @@ pub(crate) struct ShownPlace {
 
 /// A path as it is shown.
 fn text_of_path(alloc: Global, roots: &[Text], path: &str) -> Result<String, AllocError>
-    ensures { IfOk result
-        (λ s. string_bytes s ≡ text_shown (without_here (chars (without_root roots.now path.now)))) }
+    ensures { IfOk result (λ s. string_bytes s
+        ≡ text_shown (without_here (chars (without_root roots.now path.now)))) }
 {
     let mut so_far = ShownText::new(alloc)?;
     push_path(&mut so_far, roots, path)?;
@@ -49,7 +49,7 @@ fn shown_path(alloc: Global, roots: &[Text], path: &str) -> Result<Option<Text>,
 fn shown_uri(alloc: Global, roots: &[Text], uri: &str) -> Result<Option<Text>, AllocError>
     ensures { IfOk result (λ o. o ≡ said.shown_path roots.now uri.now) }
 {
-    let path = decoded(alloc, uri)?;
+    let path = decode_or_keep(alloc, uri)?;
     shown_path(alloc, roots, path.as_str())
 }
 

@@ -131,7 +131,7 @@ fn push_reported(
 /// Returns the findings of the reported results, in the order of this merged log: the active results whose
 /// baseline state is in the policy. A reported result is a hit if its level is at least the policy's level.
 /// Returns `AllocError` if memory runs out.
-pub fn reported(
+pub fn findings_in_log(
     alloc: Global,
     reporting: &Reporting,
     log: &Value,

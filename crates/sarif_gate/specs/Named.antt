@@ -4,7 +4,7 @@ use Rattle.std.specs.List.{list_any}
 use Rattle.sarif_program.specs.declared.writers.Writers.{Writers}
 use Rattle.sarif_reports.specs.Report.{is_for_merges}
 use Rattle.sarif_request.specs.declared.request.Request.{Request}
-use Rattle.sarif_request.specs.declared.wanted.Wanted.{Wanted}
+use Rattle.sarif_request.specs.declared.wanted.RequestedOutput.{RequestedOutput}
 use Rattle.sarif_streams.specs.declared.counted.Counted.{Counted}
 use Rattle.sarif_streams.specs.declared.input.Input.{Input}
 use Rattle.sarif_streams.specs.declared.kept.Kept.{Kept}
@@ -26,15 +26,15 @@ output_channel output = target_channel (kept_in (inner_of output))
 
 -- what another output is written to
 abbrev pub report_channel : {R O F D : Type 0}
-    → Wanted (Counted (Kept (Target R O F D))) → Wanted Channel
+    → RequestedOutput (Counted (Kept (Target R O F D))) → RequestedOutput Channel
 report_channel output = record { report = output.report; to = output_channel output.to }
 
 -- what a request names for another output
-abbrev pub report_named : Wanted (List ℕ) → Wanted Channel
+abbrev pub report_named : RequestedOutput (List ℕ) → RequestedOutput Channel
 report_named wanted = record { report = wanted.report; to = channel_named wanted.to }
 
 -- whether an output that a later merge reads is standard output, where it has to be alone
-abbrev pub takes_output : Wanted (List ℕ) → Bool
+abbrev pub takes_output : RequestedOutput (List ℕ) → Bool
 takes_output wanted = is_for_merges wanted.report && bytes_eq wanted.to (codes "-")
 
 abbrev pub leaves_no_output : Request → Bool

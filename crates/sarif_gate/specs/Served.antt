@@ -26,17 +26,17 @@ use Rattle.sarif_streams.specs.WereRead.{failures}
 use Rattle.sarif_gate.specs.Named.{AreNamed}
 
 -- a source of the program, an output, and where the summary goes
-abbrev pub Source : Type 0
-Source = Kept (Input LibcRuntime Stdin File Names)
+abbrev pub ProgramSource : Type 0
+ProgramSource = Kept (Input LibcRuntime Stdin File Names)
 
-abbrev pub Output : Type 0
-Output = Kept (Target LibcRuntime Stdout File Names)
+abbrev pub ProgramOutput : Type 0
+ProgramOutput = Kept (Target LibcRuntime Stdout File Names)
 
 abbrev pub Say : Type 0
 Say = Console Stdout Stderr
 
 -- files and standard streams don't say which bytes they have left or hold
-abbrev pub views : Views Source Output Say Output Stderr
+abbrev pub views : Views ProgramSource ProgramOutput Say ProgramOutput Stderr
 views = record {
   remaining = λ source. None;
   held = record {
@@ -49,8 +49,8 @@ views = record {
 
 -- a run over these readers and writers that began with no error message, and whose caller explains it if that is
 -- requested
-pub record HasRun (request : Request) (readers after : Readers Source)
-    (writers done : Writers Output Say Output) (status : ℕ) : Type 0 where
+pub record HasRun (request : Request) (readers after : Readers ProgramSource)
+    (writers done : Writers ProgramOutput Say ProgramOutput) (status : ℕ) : Type 0 where
   pub before : Complaints Stderr
   pub told : Complaints Stderr
   pub unsaid : before.last ≡ None
@@ -63,10 +63,10 @@ pub record HasRun (request : Request) (readers after : Readers Source)
 -- a run from the sources that the request names to the outputs that it names ended with this status; no call of these
 -- had failed before
 pub record IsRunOf (request : Request) (status : ℕ) : Type 0 where
-  pub readers : Readers Source
-  pub after : Readers Source
-  pub writers : Writers Output Say Output
-  pub done : Writers Output Say Output
+  pub readers : Readers ProgramSource
+  pub after : Readers ProgramSource
+  pub writers : Writers ProgramOutput Say ProgramOutput
+  pub done : Writers ProgramOutput Say ProgramOutput
   pub named : AreNamed request readers writers
   pub unread : failures readers ≡ 0
   pub unwritten : writer_failures writers ≡ 0

@@ -1,31 +1,31 @@
 //! Explaining on standard error what stopped a run.
 use crate::outputs::Outputs;
-use crate::sources::Source as Reading;
+use crate::sources::ProgramSource as Reading;
 use sarif_explain::{FaultSource, explanation, is_past_limit, output_explanation};
-use sarif_findings::shown;
+use sarif_findings::show_text;
 use sarif_model::{At, Cause, MergeFault, Source, Text};
 use sarif_program::{Complaint, Complaints};
 use sarif_reports::Report;
-use sarif_request::{Request, Wanted};
+use sarif_request::{Request, RequestedOutput};
 use sarif_streams::{Counted, Kept, Readers};
 use std::alloc::{AllocError, Global};
 use std::io;
 
 /// The request of a run, and what it read and wrote.
 #[derive(Clone, Copy)]
-pub struct Ended<'a, 'b> {
+pub struct EndedRun<'a, 'b> {
     /// The request: the names of all sources and outputs.
     pub request: &'b Request,
     /// The sources, each with what was read from it and the message of its last failed call.
-    pub readers: &'b Readers<Reading<'a>>,
+    pub readers: &'b Readers<ProgramSource<'a>>,
     /// The outputs, each with the message of its last failed call.
     pub writers: &'b Outputs<'a>,
 }
 
-impl Ended<'_, '_> {
+impl EndedRun<'_, '_> {
     /// Writes an error message with its explanation. If memory for the explanation runs out, writes only the message.
     pub fn explain(&self, rt: &HostRuntime, complaint: Complaint) {
-        match self.told(rt.alloc(), complaint) {
+        match self.explain_complaint(rt.alloc(), complaint) {
             Ok(told) => {
                 let told = told.as_str();
                 let _ = eprint!(rt; "{told}");
@@ -35,15 +35,15 @@ impl Ended<'_, '_> {
     }
 
     /// Returns the line of an error message, and the lines of its explanation.
-    fn told(&self, alloc: Global, complaint: Complaint) -> Result<String, AllocError> {
+    fn explain_complaint(&self, alloc: Global, complaint: Complaint) -> Result<String, AllocError> {
         let lines = match complaint {
-            Complaint::Fault(fault) => self.explained(alloc, &fault)?,
-            Complaint::Lost(report) => self.lost(alloc, report)?,
+            Complaint::Fault(fault) => self.explain_fault(alloc, &fault)?,
+            Complaint::Lost(report) => self.explain_lost_output(alloc, report)?,
         };
         let lines = lines.as_str();
         match self.unread_name(complaint) {
             Some(name) => {
-                let name = shown(alloc, name.as_str())?;
+                let name = show_text(alloc, name.as_str())?;
                 let name = name.as_str();
                 format!(in alloc; "sarif_gate: {complaint} ({name})\n{lines}")
             }
@@ -91,7 +91,7 @@ impl Ended<'_, '_> {
     }
 
     /// Returns the explanation of an error, by its source.
-    fn explained(&self, alloc: Global, fault: &MergeFault) -> Result<String, AllocError> {
+    fn explain_fault(&self, alloc: Global, fault: &MergeFault) -> Result<String, AllocError> {
         let readers = self.readers;
         let Some(source) = source_of(fault) else {
             return of_source(alloc, fault, "", &[], None);
@@ -114,7 +114,7 @@ impl Ended<'_, '_> {
     }
 
     /// Returns the explanation of another output that was not written.
-    fn lost(&self, alloc: Global, report: Report) -> Result<String, AllocError> {
+    fn explain_lost_output(&self, alloc: Global, report: Report) -> Result<String, AllocError> {
         let fault = MergeFault {
             at: At::Whole(Source::Output),
             cause: Cause::WriteFailed,
@@ -126,7 +126,7 @@ impl Ended<'_, '_> {
 }
 
 /// Returns the destination of this output, if it is among these.
-fn destination_of<T>(report: Report, reports: &[Wanted<T>]) -> Option<&T> {
+fn destination_of<T>(report: Report, reports: &[RequestedOutput<T>]) -> Option<&T> {
     let wanted = reports.iter().find(|wanted| wanted.report == report)?;
     Some(&wanted.to)
 }

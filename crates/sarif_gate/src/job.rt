@@ -9,7 +9,7 @@ ghost use Rattle.sarif_gate.specs.Named.{source_channel, output_channel, report_
 
 use crate::merging::merge_streams;
 use crate::outputs::{Outputs, outputs_of};
-use crate::sources::{Source, sources_of};
+use crate::sources::{ProgramSource, sources_of};
 use sarif_program::ExitStatus;
 use sarif_request::Request;
 use sarif_streams::Readers;
@@ -21,7 +21,7 @@ use std::thread::Threads;
 #[derive(Drop)]
 pub struct Job<'a> {
     request: &'a Request,
-    readers: Readers<Source<'a>>,
+    readers: Readers<ProgramSource<'a>>,
     writers: Outputs<'a>,
     ghost logs: { map source_channel readers.logs.items
         ≡ map channel_named «request».now.logs.items },

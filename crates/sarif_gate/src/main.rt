@@ -30,7 +30,7 @@ fn main(rt: HostRuntime) -> ExitCode {
         Ok((words, seed)) => run_given(&rt, &rt, seed, words.as_slice()),
         Err(error) => {
             tell_unread(&rt, &error);
-            ExitStatus::unread()
+            ExitStatus::for_unread_arguments()
         }
     };
     ExitCode::from(status.code())
@@ -88,7 +88,7 @@ fn tell_invalid(rt: &HostRuntime, fault: &ArgumentsFault) -> ExitStatus
     ensures { result ≡ 2 }
 {
     let _ = eprint!(rt; "error: {fault}\n\nFor more information, try '--help'.\n");
-    ExitStatus::unread()
+    ExitStatus::for_unread_arguments()
 }
 
 /// Does what the arguments request. Without arguments it does what `plain_words` request: it merges one log from

@@ -5,9 +5,9 @@ ghost use Rattle.sarif_streams.specs.Room.{HaveRoom};
 ghost use Rattle.sarif_program.specs.Writing.{WritersHaveRoom};
 ghost use Rattle.sarif_gate.specs.Served.{HasRun};
 
-use crate::explaining::Ended;
+use crate::explaining::EndedRun;
 use crate::outputs::Outputs;
-use crate::sources::Source;
+use crate::sources::ProgramSource;
 use sarif_program::{Complaint, Complaints, ExitStatus, run_request};
 use sarif_request::Request;
 use sarif_streams::Readers;
@@ -21,7 +21,7 @@ pub fn merge_streams<'a, T: Threads + Wait + Sync>(
     rt: &'a HostRuntime,
     threads: &T,
     request: &Request,
-    readers: &mut Readers<Source<'a>>,
+    readers: &mut Readers<ProgramSource<'a>>,
     writers: &mut Outputs<'a>,
 ) -> ExitStatus
     requires readers { HaveRoom readers.old }
@@ -58,14 +58,14 @@ fn explain<'a>(
     rt: &HostRuntime,
     last: Option<Complaint>,
     request: &Request,
-    readers: &Readers<Source<'a>>,
+    readers: &Readers<ProgramSource<'a>>,
     writers: &Outputs<'a>,
 ) {
     if !request.explain {
         return;
     }
     if let Some(complaint) = last {
-        let ended = Ended {
+        let ended = EndedRun {
             request,
             readers,
             writers,

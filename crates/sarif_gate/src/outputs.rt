@@ -9,7 +9,7 @@ ghost use Rattle.sarif_gate.specs.Named.{leaves_no_output, takes_output};
 
 use sarif_model::Text;
 use sarif_program::Writers;
-use sarif_request::{Request, Wanted};
+use sarif_request::{Request, RequestedOutput};
 use sarif_streams::{Console, Counted, Kept, STANDARD, Target};
 use std::alloc::AllocError;
 use std::io::{Stderr, Stdout};
@@ -17,10 +17,10 @@ use std::process;
 use std::random::RandomSource;
 
 /// An output of the program.
-pub type Output<'a> = Kept<Target<'a, HostRuntime, Stdout>>;
+pub type ProgramOutput<'a> = Kept<Target<'a, HostRuntime, Stdout>>;
 
 /// The outputs of the program.
-pub type Outputs<'a> = Writers<Output<'a>, Console<Stdout, Stderr>, Output<'a>>;
+pub type Outputs<'a> = Writers<ProgramOutput<'a>, Console<Stdout, Stderr>, ProgramOutput<'a>>;
 
 /// Returns the outputs that a request names, none of them opened. Returns `AllocError` if memory for their names
 /// runs out.
@@ -55,7 +55,7 @@ fn console_of(rt: &HostRuntime, request: &Request) -> Console<Stdout, Stderr>
 }
 
 /// Returns whether one of these outputs is standard output and is read by a later merge.
-fn one_takes_output(outputs: &[Wanted<Text>]) -> bool
+fn one_takes_output(outputs: &[RequestedOutput<Text>]) -> bool
     ensures { result ≡ list_any takes_output outputs.now }
 {
     for wanted in outputs {
@@ -69,8 +69,8 @@ fn one_takes_output(outputs: &[Wanted<Text>]) -> bool
 /// Returns the outputs of these names, in order.
 fn reports_of<'a>(
     rt: &'a HostRuntime,
-    names: &'a [Wanted<Text>],
-) -> Result<Vec<Wanted<Counted<Output<'a>>>>, AllocError>
+    names: &'a [RequestedOutput<Text>],
+) -> Result<Vec<RequestedOutput<Counted<ProgramOutput<'a>>>>, AllocError>
     ensures names { IfOk result
         (λ outputs. map report_channel outputs.items ≡ map report_named names.now) }
     ensures fresh { IfOk result (λ outputs. report_failures outputs.items ≡ 0) }
@@ -79,13 +79,16 @@ fn reports_of<'a>(
     for name in names {
         let to = output_of(rt, &name.to)?;
         let report = name.report;
-        outputs.push(Wanted { report, to })?;
+        outputs.push(RequestedOutput { report, to })?;
     }
     Ok(outputs)
 }
 
 /// The output of a name.
-fn output_of<'a>(rt: &'a HostRuntime, name: &'a Text) -> Result<Counted<Output<'a>>, AllocError>
+fn output_of<'a>(
+    rt: &'a HostRuntime,
+    name: &'a Text,
+) -> Result<Counted<ProgramOutput<'a>>, AllocError>
     ensures name { IfOk result (λ output. output_channel output ≡ channel_named name.now) }
     ensures fresh { IfOk result (λ output. failed_calls output ≡ 0) }
 {

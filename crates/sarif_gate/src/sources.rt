@@ -13,14 +13,14 @@ use std::alloc::AllocError;
 use std::io::Stdin;
 
 /// A source of the program.
-pub type Source<'a> = Kept<Input<'a, HostRuntime, Stdin>>;
+pub type ProgramSource<'a> = Kept<Input<'a, HostRuntime, Stdin>>;
 
 /// Returns the sources that a request names, none of them opened. If errors are explained, the bytes that are read
 /// are kept. Returns `AllocError` if memory for their lists runs out.
 pub fn sources_of<'a>(
     rt: &'a HostRuntime,
     request: &'a Request,
-) -> Result<Readers<Source<'a>>, AllocError>
+) -> Result<Readers<ProgramSource<'a>>, AllocError>
     // Each name is in the list that the request has it in. Only a log can be standard input.
     ensures logs { IfOk result (λ sources. map source_channel sources.logs.items
         ≡ map channel_named «request».now.logs.items) }
@@ -50,7 +50,7 @@ fn logs_of<'a>(
     rt: &'a HostRuntime,
     names: &'a Vec<Text>,
     is_kept: bool,
-) -> Result<Vec<Counted<Source<'a>>>, AllocError>
+) -> Result<Vec<Counted<ProgramSource<'a>>>, AllocError>
     ensures names { IfOk result
         (λ v. map source_channel v.items ≡ map channel_named names.now.items) }
     ensures fresh { IfOk result (λ v. failed_calls_in v.items ≡ 0) }
@@ -58,7 +58,7 @@ fn logs_of<'a>(
     let mut logs = Vec::new(rt.alloc());
     for name in names {
         let log = Input::log(rt, rt.stdin(), name.as_str());
-        logs.push(counted(rt, log, is_kept))?;
+        logs.push(fresh_source(rt, log, is_kept))?;
     }
     Ok(logs)
 }
@@ -68,7 +68,7 @@ fn baselines_of<'a>(
     rt: &'a HostRuntime,
     names: &'a Vec<Text>,
     is_kept: bool,
-) -> Result<Vec<Counted<Source<'a>>>, AllocError>
+) -> Result<Vec<Counted<ProgramSource<'a>>>, AllocError>
     ensures names { IfOk result (λ v. map source_channel v.items ≡ map Named names.now.items) }
     ensures fresh { IfOk result (λ v. failed_calls_in v.items ≡ 0) }
 {
@@ -80,19 +80,19 @@ fn baselines_of<'a>(
 }
 
 /// The file of a name.
-fn file_of<'a>(rt: &'a HostRuntime, name: &'a str, is_kept: bool) -> Counted<Source<'a>>
+fn file_of<'a>(rt: &'a HostRuntime, name: &'a str, is_kept: bool) -> Counted<ProgramSource<'a>>
     ensures name { source_channel result ≡ Named name.now }
     ensures fresh { failed_calls result ≡ 0 }
 {
-    counted(rt, Input::File(InputFile::new(rt, name)), is_kept)
+    fresh_source(rt, Input::File(InputFile::new(rt, name)), is_kept)
 }
 
 /// A source none of whose calls failed.
-fn counted<'a>(
+fn fresh_source<'a>(
     rt: &'a HostRuntime,
     input: Input<'a, HostRuntime, Stdin>,
     is_kept: bool,
-) -> Counted<Source<'a>>
+) -> Counted<ProgramSource<'a>>
     ensures name { source_channel result ≡ input_channel input.entry }
     ensures fresh { failed_calls result ≡ 0 }
 {

@@ -206,7 +206,7 @@ fn gather_scoped<W: Work + Sync, G: Gate + Sync, R: Threads + Wait + Sync>(
 }
 
 // The posts and the hands, apart.
-fn parted<P: Drop>(
+fn split_backs<P: Drop>(
     alloc: Global,
     backs: Vec<Back<P>>,
 ) -> Result<(Vec<Post<P>>, Vec<Hand>), AllocError>
@@ -266,7 +266,7 @@ pub fn gather<W: Work + Sync, G: Gate + Sync, R: Threads + Wait + Sync>(
         collector,
         backs,
     } = gathered;
-    let (posts, hands) = parted(alloc, backs)?;
+    let (posts, hands) = split_backs(alloc, backs)?;
     let Ok(_settled) = mailbox.settle(rt, alloc, desk, posts) else {
         return Err(GatherFault::OutOfMemory);
     };

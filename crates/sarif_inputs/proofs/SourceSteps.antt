@@ -6,7 +6,7 @@ use Rattle.sarif_read.specs.Reading.{log_of}
 use Rattle.sarif_model.specs.Run.{results_total}
 use Rattle.sarif_model.specs.declared.merge_fault.MergeFault.{MergeFault}
 use Rattle.sarif_model.specs.declared.merge_fault.Source.{Source}
-use Rattle.sarif_inputs.specs.declared.sources.Reading.{Reading}
+use Rattle.sarif_inputs.specs.declared.sources.ReadSoFar.{ReadSoFar}
 use Rattle.sarif_runs.specs.Placed.{Placed}
 use Rattle.sarif_runs.specs.Judging.{run_values}
 use Rattle.sarif_inputs.specs.Inputs.{Sourced, numbered, placed, placed_from, readable, runs_in}
@@ -26,7 +26,7 @@ faults_step checks name n runs results now all bytes rest same_now same_all none
     let then = source_faults (runs + length (readable (log_of checks.allow_external bytes))) (results + results_total (readable (log_of checks.allow_external bytes))) (numbered checks name (n + 1) rest) in
     rw (same_now, same_all) (sym (ap (λ faults. faults ++ then) none))
 
-pub source_step : (checks : Checks) (name : ℕ → Source) (n : ℕ) (old new : Reading) (bytes : List ℕ) (rest : List (List ℕ))
+pub source_step : (checks : Checks) (name : ℕ → Source) (n : ℕ) (old new : ReadSoFar) (bytes : List ℕ) (rest : List (List ℕ))
     → map placed_read new.runs.items ≡ map placed_read old.runs.items ++ placed_from checks (name n) 0 (readable (log_of checks.allow_external bytes))
     → new.results ≡ old.results + results_total (readable (log_of checks.allow_external bytes))
     → faults_with (name n) (log_of checks.allow_external bytes) (length old.runs.items) old.results ≡ []
@@ -69,7 +69,7 @@ faults_append runs results (s ∷ ls) bs =
     ∙ ap (λ n. (here ++ source_faults now all ls) ++ source_faults (runs + length (placed (s ∷ ls))) n bs) same_all
 
 -- once the logs are read without an error, the remaining errors are those of the baselines
-pub faults_after : (ls bs : List Sourced) (reading : Reading)
+pub faults_after : (ls bs : List Sourced) (reading : ReadSoFar)
     → IsCounted reading → map placed_read reading.runs.items ≡ placed ls → source_faults 0 0 ls ≡ []
     → source_faults 0 0 (ls ++ bs) ≡ source_faults (length reading.runs.items) reading.results bs
 faults_after ls bs reading counted runs none =
@@ -81,7 +81,7 @@ faults_after ls bs reading counted runs none =
     ∙ ap (λ n. source_faults n (0 + results_total (run_values (placed ls))) bs) long
     ∙ ap (λ n. source_faults (length reading.runs.items) n bs) total
 
-module _ (ls bs : List Sourced) (start : Reading) (no_runs : start.runs.items ≡ []) (no_results : start.results ≡ 0) where
+module _ (ls bs : List Sourced) (start : ReadSoFar) (no_runs : start.runs.items ≡ []) (no_results : start.results ≡ 0) where
   at_start : (sources : List Sourced) → source_faults (length start.runs.items) start.results sources ≡ source_faults 0 0 sources
   at_start sources = ap (λ vs. source_faults (length vs) start.results sources) no_runs ∙ ap (λ n. source_faults 0 n sources) no_results
 
@@ -94,7 +94,7 @@ module _ (ls bs : List Sourced) (start : Reading) (no_runs : start.runs.items �
       rw (faults_append 0 0 ls bs) here
 
   -- after the logs are read, the errors are those of the baselines
-  pub left_after_logs : (reading : Reading)
+  pub left_after_logs : (reading : ReadSoFar)
       → IsCounted reading
       → map placed_read reading.runs.items ≡ map placed_read start.runs.items ++ placed ls
       → source_faults (length start.runs.items) start.results ls ≡ []

@@ -75,7 +75,7 @@ pub fn check_numbers(logs: usize, baselines: usize) -> Result<(), MergeFault>
 fn too_many(source: Source) -> MergeFault
     ensures { result ≡ record { at = At.Whole source; cause = Cause.Of Fault.TooMany } }
 {
-    MergeFault::found(At::Whole(source), Cause::Of(Fault::TooMany))
+    MergeFault::with_place(At::Whole(source), Cause::Of(Fault::TooMany))
 }
 
 /// Returns an error of reading a source with its place.
@@ -86,7 +86,7 @@ fn fault_in(source: Source, fault: ReadFault) -> MergeFault
         Some(run) => At::Run(source, run),
         None => At::Whole(source),
     };
-    MergeFault::found(at, Cause::Of(fault.fault))
+    MergeFault::with_place(at, Cause::Of(fault.fault))
 }
 
 /// The log that was read from a source, or its error with its place.
@@ -170,19 +170,19 @@ fn place_runs<'t, 'a>(
 
 /// What was read so far.
 #[derive(Drop)]
-struct Reading<'t, 'a> {
+struct ReadSoFar<'t, 'a> {
     runs: Vec<ReadRun<'t, 'a>>,
     /// How many results the runs have.
     results: u32,
 }
 
-impl<'t, 'a> Reading<'t, 'a> {
+impl<'t, 'a> ReadSoFar<'t, 'a> {
     /// Nothing.
-    fn new(alloc: Global) -> Reading<'t, 'a>
+    fn new(alloc: Global) -> ReadSoFar<'t, 'a>
         ensures runs { result.runs.items ≡ [] }
         ensures results { result.results ≡ 0 }
     {
-        Reading {
+        ReadSoFar {
             runs: Vec::new(alloc),
             results: 0,
         }
@@ -276,11 +276,11 @@ fn read_all<'t, 'a, R: Threads + Sync>(
     ensures quiet { IsQuiet result }
 {
     let (first, second) = read_kinds(rt, alloc, indexes, logs, threads, checks.allow_external)?;
-    let mut reading = Reading::new(alloc);
+    let mut reading = ReadSoFar::new(alloc);
     reading.add_all(checks, SourceKind::Log, first)?;
     let inputs = reading.runs.len() as u32;
     reading.add_all(checks, SourceKind::Baseline, second)?;
-    let Reading { runs: all, .. } = reading;
+    let ReadSoFar { runs: all, .. } = reading;
     Ok(AllRuns { all, inputs })
 }
 

@@ -22,7 +22,7 @@ fn first_bad_result(run: &OpenedRun<'_, '_>, outcomes: &[Outcome]) -> Option<Mer
     for (seq, outcome) in outcomes.iter().enumerate() {
         if let Item::Bad(fault) = &outcome.item {
             let at = At::Single(run.source, run.number, seq as u32);
-            return Some(MergeFault::found(at, Cause::from(*fault)));
+            return Some(MergeFault::with_place(at, Cause::from(*fault)));
         }
     }
     None
@@ -39,7 +39,7 @@ fn fault_of_run(run: &OpenedRun<'_, '_>, outcomes: &[Outcome]) -> Option<MergeFa
     match run.fault() {
         Some(fault) => {
             let at = At::Run(run.source, run.number);
-            Some(MergeFault::found(at, Cause::from(fault)))
+            Some(MergeFault::with_place(at, Cause::from(fault)))
         }
         None => first_bad_result(run, outcomes),
     }

@@ -31,7 +31,7 @@ fn refusal_of(fault: GatherFault) -> MergeFault
         GatherFault::NoWorker => Cause::NoWorker,
         GatherFault::OutOfMemory => Cause::OutOfMemory,
     };
-    MergeFault::found(At::Nowhere, cause)
+    MergeFault::with_place(At::Nowhere, cause)
 }
 
 /// Has a team judge the results of runs, as [`judge`](crate::judge) does. `observer` observes them. A rejection is the

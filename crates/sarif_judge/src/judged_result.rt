@@ -46,7 +46,7 @@ fn judge_known(alloc: Global, opened: &OpenedRun<'_, '_>, seq: u32) -> Result<It
     requires known { skips (placed_of opened.now).source ≡ true }
     ensures { IfOk result (λ item. item ≡ item_of (placed_of opened.now) seq) }
 {
-    let found = opened.picked(alloc, seq, &RECORD_MEMBERS)?;
+    let found = opened.pick_result(alloc, seq, &RECORD_MEMBERS)?;
     if is_marked_absent(&found) {
         return Ok(Item::Skipped);
     }

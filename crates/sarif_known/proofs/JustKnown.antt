@@ -20,7 +20,7 @@ new_is Unchanged is = absurd (true≢false (sym is))
 new_is Updated is = absurd (true≢false (sym is))
 new_is Absent is = absurd (true≢false (sym is))
 
--- for booleans in place of its tests, each side
+-- each side, with booleans instead of its tests
 out_if : (now later adopt fresh hit : Bool) → ((now ≡ true) × (later ≡ false)) ⊎ ((adopt ≡ false) × (fresh ≡ true) × ((now ≡ true) ⊎ (hit ≡ true)))
     → ((now && not later) || (not adopt && (fresh && (now || hit)))) ≡ true
 out_if now later adopt fresh hit (inl why) = rw (why.0, why.1) refl

@@ -22,7 +22,7 @@ use std::alloc::AllocError;
 pub(crate) fn too_long() -> MergeFault
     ensures { result ≡ too_long }
 {
-    MergeFault::found(At::Whole(Source::Known), Cause::TooLong)
+    MergeFault::with_place(At::Whole(Source::Known), Cause::TooLong)
 }
 
 /// The base of a place without a URI.

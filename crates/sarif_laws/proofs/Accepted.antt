@@ -31,7 +31,7 @@ use Rattle.sarif_accept.specs.Until.{IsDated, IsUntil}
 use Rattle.sarif_accept.proofs.After.{hits_after, list_begins, still_suppressed}
 use Rattle.sarif_laws.specs.Accepting.{IsLeft, LeavesWhatStays}
 use Rattle.sarif_laws.specs.Hits.{is_hit_in, stays_in}
-use Rattle.sarif_laws.specs.NextMerge.{IsNewFile, absent_written, merged_result, merged_run_at, with_file}
+use Rattle.sarif_laws.specs.NextMerge.{IsNewFileOf, absent_written, merged_result, merged_run_at, with_file}
 use Rattle.sarif_laws.proofs.Absent.{StaysIfHit, absent_stay}
 use Rattle.sarif_laws.proofs.Counted.{hits_counted, none_fails}
 use Rattle.sarif_laws.proofs.FileAfter.{faultless_later, later_file, later_is, same_today}
@@ -88,7 +88,7 @@ module _ (inputs : Inputs) (text : List ℕ) where
           ap (λ run. length (results_of run)) (absent_run (with_file inputs text) k past) ∙ ap (λ run. length (results_of run)) (sym (absent_run inputs k past))
 
 module _ (inputs : Inputs) (policy : Policy) (renewal : Renewal) (text : List ℕ) (none : faults_of inputs ≡ []) (small : renewal_faults (merge_in inputs policy) renewal ≡ [])
-    (accepts : renewal.accept ≡ true) (until : IsUntil inputs.today renewal.until) (is : IsNewFile inputs policy renewal text) where
+    (accepts : renewal.accept ≡ true) (until : IsUntil inputs.today renewal.until) (is : IsNewFileOf inputs policy renewal text) where
   dated : IsDated inputs.today renewal.until
   dated = dated_until inputs.today renewal.until until
 

@@ -27,7 +27,7 @@ use Rattle.sarif_accept.specs.Adding.{Counts, accepted_among, file_after, is_hit
 use Rattle.sarif_accept.specs.Until.{HasGuid, IsDated}
 use Rattle.sarif_accept.proofs.GivenFile.{today_given}
 use Rattle.sarif_accept.proofs.NewFileRead.{new_file_read}
-use Rattle.sarif_laws.specs.NextMerge.{IsNewFile, with_file}
+use Rattle.sarif_laws.specs.NextMerge.{IsNewFileOf, with_file}
 use Rattle.sarif_laws.proofs.Read.{guids_fit}
 
 -- ---- the file of the inputs
@@ -93,7 +93,7 @@ later_file inputs policy renewal =
     file_after (how_of (merge_in inputs policy) renewal) (may_hit policy) (file_given inputs) (current_of inputs) (states_of (current_of inputs) (baseline_of inputs))
 
 module _ (inputs : Inputs) (policy : Policy) (renewal : Renewal) (text : List ℕ) (none : faults_of inputs ≡ []) (small : renewal_faults (merge_in inputs policy) renewal ≡ [])
-    (dated : IsDated inputs.today renewal.until) (is : IsNewFile inputs policy renewal text) where
+    (dated : IsDated inputs.today renewal.until) (is : IsNewFileOf inputs policy renewal text) where
   later_read : file_of text inputs.today ≡ Ok (later_file inputs policy renewal)
   later_read =
       let rs = current_of inputs in

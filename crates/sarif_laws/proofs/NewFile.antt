@@ -16,7 +16,7 @@ use Rattle.sarif_inputs.specs.Inputs.{Inputs}
 use Rattle.sarif_merge.specs.Life.{merge_in}
 use Rattle.sarif_upkeep.specs.Merge.{Merge}
 use Rattle.sarif_upkeep.specs.Renewed.{added_in, kept_in, rules_after}
-use Rattle.sarif_laws.specs.NextMerge.{IsNewFile}
+use Rattle.sarif_laws.specs.NextMerge.{IsNewFileOf}
 use Rattle.sarif_laws.proofs.Reread.{text_read}
 use Rattle.sarif_laws.proofs.Sound.{IsSmall, new_sound}
 
@@ -38,5 +38,5 @@ module _ (m : Merge) (renewal : Renewal) (small : IsSmall renewal.until) where
       (is_shallow m.bytes (kept_in m renewal) (added_in m renewal) renewal (rules_after m renewal) refl) utf8
 
 pub new_file_read : (inputs : Inputs) (policy : Policy) (renewal : Renewal) → IsDated inputs.today renewal.until
-    → IsUtf8 (file_text (rules_after (merge_in inputs policy) renewal)) → IsNewFile inputs policy renewal (file_text (rules_after (merge_in inputs policy) renewal))
+    → IsUtf8 (file_text (rules_after (merge_in inputs policy) renewal)) → IsNewFileOf inputs policy renewal (file_text (rules_after (merge_in inputs policy) renewal))
 new_file_read inputs policy renewal dated utf8 = reread (merge_in inputs policy) renewal (small_until inputs.today renewal.until dated) utf8

@@ -34,7 +34,7 @@ use Rattle.sarif_accept.specs.Adding.{How, may_hit}
 use Rattle.sarif_accept.specs.Keeping.{is_kept}
 use Rattle.sarif_accept.specs.NewFile.{entries_after, file_object, new_file}
 use Rattle.sarif_accept.proofs.After.{same_list, unused_stays}
-use Rattle.sarif_laws.specs.NextMerge.{IsNewFile, absent_written, with_file}
+use Rattle.sarif_laws.specs.NextMerge.{IsNewFileOf, absent_written, with_file}
 use Rattle.sarif_laws.specs.Pruning.{ChangesNoResult}
 use Rattle.sarif_laws.proofs.FileAfter.{faultless_later, later_file, later_is, same_today}
 use Rattle.sarif_laws.proofs.Lists.{all_drop, all_placed, all_take}
@@ -115,7 +115,7 @@ module _ (inputs : Inputs) (policy : Policy) (renewal : Renewal) (none : renewal
       ap₂ text_faults (ap (λ values. length (entries_after (file_object inputs.suppressions) (kept_in (merge_in inputs policy) renewal) values)) none_added) same_file
 
 module _ (inputs : Inputs) (policy : Policy) (renewal : Renewal) (text : List ℕ) (sound : faults_of inputs ≡ []) (small : renewal_faults (merge_in inputs policy) renewal ≡ [])
-    (prunes : renewal.prune ≡ true) (none : renewal.accept ≡ false) (is : IsNewFile inputs policy renewal text) where
+    (prunes : renewal.prune ≡ true) (none : renewal.accept ≡ false) (is : IsNewFileOf inputs policy renewal text) where
   how : How
   how = how_of (merge_in inputs policy) (undated renewal)
 

@@ -17,8 +17,8 @@ abbrev pub with_file : Inputs → List ℕ → Inputs
 with_file inputs text = record inputs { suppressions = Some text }
 
 -- the text is read as the new suppression file of the merge of these inputs
-abbrev pub IsNewFile : Inputs → Policy → Renewal → List ℕ → Type 0
-IsNewFile inputs policy renewal text =
+abbrev pub IsNewFileOf : Inputs → Policy → Renewal → List ℕ → Type 0
+IsNewFileOf inputs policy renewal text =
     json_of (without_mark text) ≡ Some (rules_after (merge_in inputs policy) renewal)
 
 -- run k of the merged log

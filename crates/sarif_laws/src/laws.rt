@@ -23,7 +23,7 @@ ghost use Rattle.sarif_laws.specs.Adopting.{HasNothingNew, IsNextWith, results_k
 ghost use Rattle.sarif_laws.specs.Hits.{is_hit_in};
 ghost use Rattle.sarif_laws.specs.KnownAgain.{IsKnownAgain};
 ghost use Rattle.sarif_laws.specs.Lines.{lines_in};
-ghost use Rattle.sarif_laws.specs.NextMerge.{IsNewFile};
+ghost use Rattle.sarif_laws.specs.NextMerge.{IsNewFileOf};
 ghost use Rattle.sarif_laws.specs.Pruning.{ChangesNoResult};
 ghost use Rattle.sarif_laws.specs.SameBaseline.{HasSameResults, with_baselines};
 
@@ -39,7 +39,7 @@ pub fn the_new_file_is_read_as_itself()
     ensures { (inputs : Inputs) (policy : Policy) (renewal : Renewal)
         → IsDated inputs.today renewal.until
         → IsUtf8 (renewed (merge_in inputs policy) renewal).text
-        → IsNewFile inputs policy renewal (renewed (merge_in inputs policy) renewal).text }
+        → IsNewFileOf inputs policy renewal (renewed (merge_in inputs policy) renewal).text }
 {}
 
 /// The law of accepting. Let inputs have no errors, and let their new suppression file have none, with accepting, with
@@ -51,7 +51,7 @@ pub fn accepting_leaves_the_hits_that_stay()
     ensures { (inputs : Inputs) (policy : Policy) (renewal : Renewal) (text : List ℕ)
         → faults_of inputs ≡ [] → renewal_faults (merge_in inputs policy) renewal ≡ []
         → renewal.accept ≡ true → IsUntil inputs.today renewal.until
-        → IsNewFile inputs policy renewal text → LeavesWhatStays inputs policy text }
+        → IsNewFileOf inputs policy renewal text → LeavesWhatStays inputs policy text }
 {}
 
 /// The law of pruning. Let inputs have no errors, and let their new suppression file have none, with pruning and without
@@ -63,7 +63,7 @@ pub fn pruning_changes_no_run()
     ensures { (inputs : Inputs) (policy : Policy) (renewal : Renewal) (text : List ℕ)
         → faults_of inputs ≡ [] → renewal_faults (merge_in inputs policy) renewal ≡ []
         → renewal.prune ≡ true → renewal.accept ≡ false
-        → IsNewFile inputs policy renewal text → ChangesNoResult inputs text }
+        → IsNewFileOf inputs policy renewal text → ChangesNoResult inputs text }
 {}
 
 /// The bytes that a merge gives as its known log are read without an error, if they are UTF-8, as each string is. Wherever

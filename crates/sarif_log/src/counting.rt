@@ -65,7 +65,8 @@ fn count_all<R: Threads + Sync>(
     let part = move |start: usize, some: &[Draft]| -> Counts
         requires within { start + length some.now ≤ length states.now }
         requires few { length some.now ≤ 2 * most_results }
-        ensures { AreCounted some.now (take (length some.now) (drop start states.entry.now)) result }
+        ensures { AreCounted some.now
+            (take (length some.now) (drop start states.entry.now)) result }
     { count_in_turn(some, &states[start..start + some.len()]) };
     let parts = share_parts(&sharing, drafts, &part)?;
     Ok(add_counts(&parts))

@@ -3,7 +3,7 @@ use Rattle.std.proofs.Common.{◌≡◌, ℕ, Bool, true, cond, ◌&&◌, ◌⊎
 use Rattle.std.proofs.lemmas.Bool.{and_parts}
 use Rattle.sarif_model.specs.declared.record.Record.{Record}
 use Rattle.sarif_model.specs.declared.kinds.State.TheVariants.{Unchanged, Updated}
-use Rattle.sarif_match.specs.declared.version.Version.TheVariants.{Three}
+use Rattle.sarif_match.specs.declared.version.MatchingVersion.TheVariants.{Three}
 use Rattle.sarif_match.specs.Seen.{packed, seen}
 use Rattle.sarif_match.specs.Evidence.{by_snippets, has_evidence, has_other_evidence, state_in}
 use Rattle.sarif_match.specs.State.{is_unchanged, state_of, IsUnchanged}

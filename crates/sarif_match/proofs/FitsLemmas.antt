@@ -8,14 +8,14 @@ use Rattle.sarif_match.specs.declared.tier_key.Key.{Key}
 use Rattle.sarif_match.specs.Key.{key_of}
 use Rattle.sarif_match.specs.KeyParts.{KeyParts, parts_of, same_parts}
 use Rattle.sarif_match.specs.Internal.Fits.{Fits}
-use Rattle.sarif_match.specs.Internal.Named.{IsBelow, unmarked, with_parts}
+use Rattle.sarif_match.specs.Internal.Named.{AreNumberedBelow, unmarked, with_parts}
 use Rattle.sarif_match.specs.Pairing.{places, pairs_from, with_pair}
 use Rattle.sarif_match.specs.Partners.{has_partner, is_taken, left, free, with_key, keyed_from, pairs_at}
 use Rattle.sarif_match.specs.declared.progress.Progress.{Progress}
 use Rattle.sarif_match.specs.Internal.Progress.{IsSound}
 use Rattle.sarif_match.specs.Internal.Queues.{same_key}
 use Rattle.sarif_match.proofs.KeyLemmas.{eq-is_same_parts}
-use Rattle.sarif_match.proofs.NamedLemmas.{IsBelow-keyed_from}
+use Rattle.sarif_match.proofs.NamedLemmas.{AreNumberedBelow-keyed_from}
 
 module _ {K : Type 0} where
   -- results in rising order from number n, none of which has a match
@@ -45,11 +45,11 @@ module _ {K : Type 0} where
   left_with_key partners n None rest within h = IsLeft-from partners n (suc n) (left partners rest) (omega arith) h
   left_with_key partners n (Some k) rest within h = left_at partners n k (left partners rest) (has_partner partners n) refl within h
 
-  IsBelow-filter : (m : ℕ) (p : ℕ × K → Bool) (es : List (ℕ × K)) → IsBelow m es → IsBelow m (filter p es)
-  IsBelow-filter m p [] h = tt
-  IsBelow-filter m p (e ∷ es) h = at (p e) (IsBelow-filter m p es h.1)
+  AreNumberedBelow-filter : (m : ℕ) (p : ℕ × K → Bool) (es : List (ℕ × K)) → AreNumberedBelow m es → AreNumberedBelow m (filter p es)
+  AreNumberedBelow-filter m p [] h = tt
+  AreNumberedBelow-filter m p (e ∷ es) h = at (p e) (AreNumberedBelow-filter m p es h.1)
     where
-      at : (b : Bool) → IsBelow m (filter p es) → IsBelow m (cond b (e ∷ filter p es) (filter p es))
+      at : (b : Bool) → AreNumberedBelow m (filter p es) → AreNumberedBelow m (cond b (e ∷ filter p es) (filter p es))
       at true rest = (h.0, rest)
       at false rest = rest
 
@@ -60,7 +60,7 @@ module _ {K : Type 0} where
       ap (λ (b : Bool). cond (not b) (e ∷ unmarked marks es) (unmarked marks es)) (same e.0) ∙ ap (λ (rest : List (ℕ × K)). cond (not (test e.0)) (e ∷ rest) rest) (unmarked-left marks test same es)
 
   module _ (eq : K → K → Bool) where
-    places-below : (m : ℕ) (k : K) (es : List (ℕ × K)) (r j : ℕ) → IsBelow m es → slice_get (places eq k es) r ≡ Some j → j < m
+    places-below : (m : ℕ) (k : K) (es : List (ℕ × K)) (r j : ℕ) → AreNumberedBelow m es → slice_get (places eq k es) r ≡ Some j → j < m
     places-below m k [] r j h found = absurd (none_is found)
       where
         none_is : {X : Type 0} {x : X} → None ≡ Some x → ⊥
@@ -82,7 +82,7 @@ module _ {K : Type 0} where
     Fits-with_pair m partners i None rest within none in_baseline without after = without refl
     Fits-with_pair m partners i (Some j) rest within none in_baseline without after = (within, none, in_baseline j refl, after j)
 
-    Fits-pairs_from : (m : ℕ) (partners : List (Option ℕ)) (n : ℕ) (seen es bs : List (ℕ × K)) → IsLeft partners n es → IsBelow m bs → Fits m partners (pairs_from eq seen es bs)
+    Fits-pairs_from : (m : ℕ) (partners : List (Option ℕ)) (n : ℕ) (seen es bs : List (ℕ × K)) → IsLeft partners n es → AreNumberedBelow m bs → Fits m partners (pairs_from eq seen es bs)
     Fits-pairs_from m partners n seen [] bs h below = tt
     Fits-pairs_from m partners n seen (e ∷ es) bs h below =
         Fits-with_pair m partners e.0 (slice_get (places eq e.1 bs) (length (places eq e.1 seen))) (pairs_from eq (seen ++ (e ∷ [])) es bs) h.1 h.2 (λ j found. places-below m e.1 bs (length (places eq e.1 seen)) j below found) (λ none. Fits-pairs_from m partners (suc e.0) (seen ++ (e ∷ [])) es bs h.3 below) (λ j. Fits-pairs_from m (slice_set partners e.0 (Some j)) (suc e.0) (seen ++ (e ∷ [])) es bs (IsLeft-set partners e.0 (suc e.0) (Some j) es (omega arith) h.3) below)
@@ -96,7 +96,7 @@ IsLeft-keyed_from partners tier n (r ∷ rs) h =
 -- the pairs of a tier fit
 pub Fits-pairs_at : (current baseline : List Record) (partners : List (Option ℕ)) (tier : Tier) → length partners ≡ length current → Fits (length baseline) partners (pairs_at current baseline partners tier)
 Fits-pairs_at current baseline partners tier counted =
-    Fits-pairs_from same_parts (length baseline) partners 0 [] (left partners (keyed_from tier 0 current)) (free partners (keyed_from tier 0 baseline)) (IsLeft-keyed_from partners tier 0 current (omega arith)) (IsBelow-filter (length baseline) (λ (e : ℕ × KeyParts). not (is_taken partners e.0)) (keyed_from tier 0 baseline) (IsBelow-keyed_from tier 0 (length baseline) baseline (omega arith)))
+    Fits-pairs_from same_parts (length baseline) partners 0 [] (left partners (keyed_from tier 0 current)) (free partners (keyed_from tier 0 baseline)) (IsLeft-keyed_from partners tier 0 current (omega arith)) (AreNumberedBelow-filter (length baseline) (λ (e : ℕ × KeyParts). not (is_taken partners e.0)) (keyed_from tier 0 baseline) (AreNumberedBelow-keyed_from tier 0 (length baseline) baseline (omega arith)))
 
 places-with_parts : (k : Key) (xs : List (ℕ × Key)) → places same_parts (parts_of k) (with_parts xs) ≡ places same_key k xs
 places-with_parts k [] = refl

@@ -15,7 +15,7 @@ use Rattle.sarif_match.specs.Key.{key_of, value_of}
 use Rattle.sarif_match.specs.KeyParts.{KeyParts, parts_of, fingerprint_parts}
 use Rattle.std.proofs.Common.{not, slice_index_or}
 use Rattle.std.proofs.lemmas.List.Elements.{filter-append}
-use Rattle.sarif_match.specs.Internal.Named.{with_parts, ends_with, put_once, IsBelow, unmarked}
+use Rattle.sarif_match.specs.Internal.Named.{with_parts, ends_with, put_once, AreNumberedBelow, unmarked}
 use Rattle.sarif_match.specs.Partners.{with_key, keyed_from}
 use Rattle.sarif_match.proofs.ValueLemmas.{same_text}
 use Rattle.sarif_match.proofs.ListLemmas.{slice_get-last}
@@ -52,13 +52,13 @@ module _ {K : Type 0} where
   with_key-append n (Some k) xs ys = refl
 
   -- no result below n has the number n
-  is_not-below : (n : ℕ) (xs : List (ℕ × K)) (i : ℕ) → IsBelow n xs → option_map_or (λ (e : ℕ × K). e.0 == n) (slice_get xs i) false ≡ false
+  is_not-below : (n : ℕ) (xs : List (ℕ × K)) (i : ℕ) → AreNumberedBelow n xs → option_map_or (λ (e : ℕ × K). e.0 == n) (slice_get xs i) false ≡ false
   is_not-below n [] i below = refl
   is_not-below n (x ∷ xs) zero below = let lt : x.0 < n = below.0 in ne_eqb x.0 n (λ same. omega arith)
   is_not-below n (x ∷ xs) (suc i) below = is_not-below n xs i below.1
 
   -- one result is put once
-  put_once-first : (n : ℕ) (k : K) (xs : List (ℕ × K)) → IsBelow n xs → put_once n k xs ≡ xs ++ ((n, k) ∷ [])
+  put_once-first : (n : ℕ) (k : K) (xs : List (ℕ × K)) → AreNumberedBelow n xs → put_once n k xs ≡ xs ++ ((n, k) ∷ [])
   put_once-first n k xs below =
       ap (λ (b : Bool). cond b xs (xs ++ ((n, k) ∷ []))) (is_not-below n xs (length xs - 1) below)
 
@@ -77,17 +77,17 @@ keyed_from-push tier n (x ∷ rs) r =
     let at : suc n + length rs ≡ n + suc (length rs) = omega arith in
     ap (with_key n (key_of x tier)) (keyed_from-push tier (suc n) rs r ∙ ap (λ (m : ℕ). keyed_from tier (suc n) rs ++ with_key m (key_of r tier) []) at) ∙ with_key-append n (key_of x tier) (keyed_from tier (suc n) rs) (with_key (n + suc (length rs)) (key_of r tier) [])
 
-with_key-below : {K : Type 0} (n m : ℕ) (o : Option K) (xs : List (ℕ × K)) → n < m → IsBelow m xs → IsBelow m (with_key n o xs)
+with_key-below : {K : Type 0} (n m : ℕ) (o : Option K) (xs : List (ℕ × K)) → n < m → AreNumberedBelow m xs → AreNumberedBelow m (with_key n o xs)
 with_key-below n m None xs lt below = below
 with_key-below n m (Some k) xs lt below = (lt, below)
 
-pub IsBelow-keyed_from : (tier : Tier) (n m : ℕ) (rs : List Record) → n + length rs ≤ m → IsBelow m (keyed_from tier n rs)
-IsBelow-keyed_from tier n m [] h = tt
-IsBelow-keyed_from tier n m (r ∷ rs) h =
-    with_key-below n m (key_of r tier) (keyed_from tier (suc n) rs) (omega arith) (IsBelow-keyed_from tier (suc n) m rs (omega arith))
+pub AreNumberedBelow-keyed_from : (tier : Tier) (n m : ℕ) (rs : List Record) → n + length rs ≤ m → AreNumberedBelow m (keyed_from tier n rs)
+AreNumberedBelow-keyed_from tier n m [] h = tt
+AreNumberedBelow-keyed_from tier n m (r ∷ rs) h =
+    with_key-below n m (key_of r tier) (keyed_from tier (suc n) rs) (omega arith) (AreNumberedBelow-keyed_from tier (suc n) m rs (omega arith))
 
 -- a group after one fingerprint more of the result with number n
-group_more : (b : Bool) (n : ℕ) (tool name q value : List ℕ) (o : Option (List ℕ)) (old now : List (ℕ × KeyParts)) → (b ≡ true → name ≡ q) → IsBelow n old → now ≡ old ++ with_key n (option_map (λ v. fingerprint_parts tool q v) o) [] → cond b (put_once n (fingerprint_parts tool name value) now) now ≡ old ++ with_key n (option_map (λ v. fingerprint_parts tool q v) (first_some o (cond b (Some value) None))) []
+group_more : (b : Bool) (n : ℕ) (tool name q value : List ℕ) (o : Option (List ℕ)) (old now : List (ℕ × KeyParts)) → (b ≡ true → name ≡ q) → AreNumberedBelow n old → now ≡ old ++ with_key n (option_map (λ v. fingerprint_parts tool q v) o) [] → cond b (put_once n (fingerprint_parts tool name value) now) now ≡ old ++ with_key n (option_map (λ v. fingerprint_parts tool q v) (first_some o (cond b (Some value) None))) []
 group_more true n tool name q value None old now same below so_far =
     ap (put_once n (fingerprint_parts tool name value)) (so_far ∙ append-nil old) ∙ put_once-first n (fingerprint_parts tool name value) old below ∙ ap (λ (name : List ℕ). old ++ ((n, fingerprint_parts tool name value) ∷ [])) (same refl)
 group_more true n tool name q value (Some v) old now same below so_far =
@@ -105,7 +105,7 @@ with_parts-put_once n key xs =
     at false = map-append (λ (e : ℕ × Key). (let keyed : ℕ × KeyParts = (e.0, parts_of e.1) in keyed)) xs ((n, key) ∷ [])
 
 -- a group of borrowed keys after one fingerprint more of the result with number n
-pub group_step : (n : ℕ) (tool q : List ℕ) (pairs : List (List ℕ × List ℕ)) (i : ℕ) (p : List ℕ × List ℕ) (key : Key) (group new : List (ℕ × Key)) (old : List (ℕ × KeyParts)) → p ≡ get_or pairs i p → i < length pairs → parts_of key ≡ fingerprint_parts tool p.0 p.1 → IsBelow n old → new ≡ cond (bytes_eq p.0 q) (put_once n key group) group → with_parts group ≡ old ++ with_key n (option_map (λ v. fingerprint_parts tool q v) (value_of q (take i pairs))) [] → with_parts new ≡ old ++ with_key n (option_map (λ v. fingerprint_parts tool q v) (value_of q (take (i + 1) pairs))) []
+pub group_step : (n : ℕ) (tool q : List ℕ) (pairs : List (List ℕ × List ℕ)) (i : ℕ) (p : List ℕ × List ℕ) (key : Key) (group new : List (ℕ × Key)) (old : List (ℕ × KeyParts)) → p ≡ get_or pairs i p → i < length pairs → parts_of key ≡ fingerprint_parts tool p.0 p.1 → AreNumberedBelow n old → new ≡ cond (bytes_eq p.0 q) (put_once n key group) group → with_parts group ≡ old ++ with_key n (option_map (λ v. fingerprint_parts tool q v) (value_of q (take i pairs))) [] → with_parts new ≡ old ++ with_key n (option_map (λ v. fingerprint_parts tool q v) (value_of q (take (i + 1) pairs))) []
 group_step n tool q pairs i p key group new old here within parts below step so_far =
     let now : List (ℕ × KeyParts) = with_parts group in
     let told = λ (o : Option (List ℕ)). old ++ with_key n (option_map (λ (v : List ℕ). fingerprint_parts tool q v) o) [] in

@@ -5,7 +5,7 @@ use Rattle.sarif_model.specs.declared.record.Record.{Record}
 use Rattle.sarif_match.specs.declared.tier.Tier.{Tier}
 use Rattle.sarif_match.specs.Key.{key_of}
 use Rattle.sarif_match.specs.KeyParts.{KeyParts, same_parts}
-use Rattle.sarif_match.specs.Internal.Named.{IsBelow}
+use Rattle.sarif_match.specs.Internal.Named.{AreNumberedBelow}
 use Rattle.sarif_match.specs.Pairing.{places, pairs_from}
 use Rattle.sarif_match.specs.Partners.{has_partner, is_taken, left, free, with_key, keyed_from, pairs_at}
 use Rattle.sarif_match.specs.Internal.Paired.{key_at, rank, IsPairedAt}
@@ -17,7 +17,7 @@ pub record StandsAt (keyed : List (ℕ × KeyParts)) (i : ℕ) (key : KeyParts) 
   pub before : List (ℕ × KeyParts)
   pub after : List (ℕ × KeyParts)
   pub split : keyed ≡ before ++ ((i, key) ∷ after)
-  pub below : IsBelow i before
+  pub below : AreNumberedBelow i before
   pub above : IsAbove i after
 
 with_key-above : (n m : ℕ) (o : Option KeyParts) (keyed : List (ℕ × KeyParts)) → m < n → IsAbove m keyed → IsAbove m (with_key n o keyed)
@@ -61,7 +61,7 @@ pub record IsKeyed (tier : Tier) (n : ℕ) (rs : List Record) (before after : Li
   pub place : ℕ
   pub at : i ≡ n + place
   pub key_is : key_at tier rs place ≡ Some key
-  pub below : IsBelow i before
+  pub below : AreNumberedBelow i before
   pub above : IsAbove i after
 
 keyed_later : (tier : Tier) (n : ℕ) (r : Record) (rs : List Record) (before after : List (ℕ × KeyParts)) (i : ℕ) (key : KeyParts) → IsKeyed tier (suc n) rs before after i key → IsKeyed tier n (r ∷ rs) before after i key
@@ -96,7 +96,7 @@ keyed_split tier n (r ∷ rs) before after i key e =
     keyed_by tier n r rs (key_of r tier) before after i key refl e (λ front e'. keyed_split tier (suc n) rs front after i key e')
 
 -- the rank of a result whose left-over front is known
-rank-front : (test : ℕ → Bool) (tier : Tier) (rs : List Record) (i : ℕ) (own key : KeyParts) (before after front : List (ℕ × KeyParts)) → keyed_from tier 0 rs ≡ before ++ ((i, own) ∷ after) → IsBelow i before → IsAbove i after → filter (λ (e : ℕ × KeyParts). test e.0) before ≡ front → rank test key i (keyed_from tier 0 rs) ≡ length (places same_parts key front)
+rank-front : (test : ℕ → Bool) (tier : Tier) (rs : List Record) (i : ℕ) (own key : KeyParts) (before after front : List (ℕ × KeyParts)) → keyed_from tier 0 rs ≡ before ++ ((i, own) ∷ after) → AreNumberedBelow i before → IsAbove i after → filter (λ (e : ℕ × KeyParts). test e.0) before ≡ front → rank test key i (keyed_from tier 0 rs) ≡ length (places same_parts key front)
 rank-front test tier rs i own key before after front split below above front_is =
     ap (rank test key i) split ∙ rank-split same_parts test key i own before after below above ∙ ap (λ (es : List (ℕ × KeyParts)). length (places same_parts key es)) front_is
 

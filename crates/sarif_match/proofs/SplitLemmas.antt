@@ -4,7 +4,7 @@ use Rattle.std.proofs.lemmas.List.{map-append}
 use Rattle.std.proofs.lemmas.List.Elements.{filter-append}
 use Rattle.std.proofs.lemmas.Bool.{lt-ltb, le-ltb}
 use Rattle.std.proofs.lemmas.Option.{same_Some}
-use Rattle.sarif_match.specs.Internal.Named.{IsBelow}
+use Rattle.sarif_match.specs.Internal.Named.{AreNumberedBelow}
 use Rattle.sarif_match.specs.Pairing.{places, pairs_from, with_pair}
 use Rattle.sarif_match.proofs.ListLemmas.{slice_get-middle}
 
@@ -198,7 +198,7 @@ module _ {K : Type 0} where
     abbrev pub ranked : (ℕ → Bool) → K → ℕ → ℕ × K → Bool
     ranked test key i e = nat_lt e.0 i && (test e.0 && eq e.1 key)
 
-    rank-before : (test : ℕ → Bool) (key : K) (i : ℕ) (before : List (ℕ × K)) → IsBelow i before → length (filter (ranked test key i) before) ≡ length (places eq key (filter (λ (e : ℕ × K). test e.0) before))
+    rank-before : (test : ℕ → Bool) (key : K) (i : ℕ) (before : List (ℕ × K)) → AreNumberedBelow i before → length (filter (ranked test key i) before) ≡ length (places eq key (filter (λ (e : ℕ × K). test e.0) before))
     rank-before test key i [] below = refl
     rank-before test key i (e ∷ before) below =
         ap (λ (b : Bool). length (cond (b && (test e.0 && eq e.1 key)) (e ∷ filter (ranked test key i) before) (filter (ranked test key i) before))) (lt-ltb e.0 i below.0) ∙ by_tests (test e.0) (eq e.1 key) refl (rank-before test key i before below.1)
@@ -214,19 +214,19 @@ module _ {K : Type 0} where
         let past : i < e.0 = above.0 in
         ap (λ (b : Bool). cond (b && (test e.0 && eq e.1 key)) (e ∷ filter (ranked test key i) after) (filter (ranked test key i) after)) (le-ltb e.0 i (omega arith)) ∙ rank-after test key i after above.1
 
-    pub rank-split : (test : ℕ → Bool) (key : K) (i : ℕ) (own : K) (before after : List (ℕ × K)) → IsBelow i before → IsAbove i after → length (filter (ranked test key i) (before ++ ((i, own) ∷ after))) ≡ length (places eq key (filter (λ (e : ℕ × K). test e.0) before))
+    pub rank-split : (test : ℕ → Bool) (key : K) (i : ℕ) (own : K) (before after : List (ℕ × K)) → AreNumberedBelow i before → IsAbove i after → length (filter (ranked test key i) (before ++ ((i, own) ∷ after))) ≡ length (places eq key (filter (λ (e : ℕ × K). test e.0) before))
     rank-split test key i own before after below above =
         let here : filter (ranked test key i) ((i, own) ∷ after) ≡ [] = ap (λ (b : Bool). cond (b && (test i && eq own key)) ((i, own) ∷ filter (ranked test key i) after) (filter (ranked test key i) after)) (le-ltb i i (omega arith)) ∙ rank-after test key i after above in
         ap length (filter-append (ranked test key i) before ((i, own) ∷ after) ∙ ap (λ (xs : List (ℕ × K)). filter (ranked test key i) before ++ xs) here ∙ append-nil (filter (ranked test key i) before)) ∙ rank-before test key i before below
 
-    IsBelow-from : (i k : ℕ) (es : List (ℕ × K)) → i < k → IsBelow i es → IsBelow k es
-    IsBelow-from i k [] lt below = tt
-    IsBelow-from i k (e ∷ es) lt below = let first : e.0 < i = below.0 in (omega arith, IsBelow-from i k es lt below.1)
+    AreNumberedBelow-from : (i k : ℕ) (es : List (ℕ × K)) → i < k → AreNumberedBelow i es → AreNumberedBelow k es
+    AreNumberedBelow-from i k [] lt below = tt
+    AreNumberedBelow-from i k (e ∷ es) lt below = let first : e.0 < i = below.0 in (omega arith, AreNumberedBelow-from i k es lt below.1)
 
     -- a rank rises from one result with the key to the next
-    pub rank-more : (test : ℕ → Bool) (key : K) (i k : ℕ) (own : K) (before after : List (ℕ × K)) → IsBelow i before → i < k → test i ≡ true → eq own key ≡ true → length (places eq key (filter (λ (e : ℕ × K). test e.0) before)) < length (filter (ranked test key k) (before ++ ((i, own) ∷ after)))
+    pub rank-more : (test : ℕ → Bool) (key : K) (i k : ℕ) (own : K) (before after : List (ℕ × K)) → AreNumberedBelow i before → i < k → test i ≡ true → eq own key ≡ true → length (places eq key (filter (λ (e : ℕ × K). test e.0) before)) < length (filter (ranked test key k) (before ++ ((i, own) ∷ after)))
     rank-more test key i k own before after below lt is_left same =
         let here : ranked test key k (i, own) ≡ true = ap (λ (b : Bool). b && (test i && eq own key)) (lt-ltb i k lt) ∙ ap (λ (b : Bool). b && eq own key) is_left ∙ same in
         let split : length (filter (ranked test key k) (before ++ ((i, own) ∷ after))) ≡ length (filter (ranked test key k) before) + suc (length (filter (ranked test key k) after)) = ap length (filter-split (ranked test key k) before (i, own) after here) ∙ length-append (filter (ranked test key k) before) ((i, own) ∷ filter (ranked test key k) after) in
-        let front = rank-before test key k before (IsBelow-from i k before lt below) in
+        let front = rank-before test key k before (AreNumberedBelow-from i k before lt below) in
         omega (arith, split, front)

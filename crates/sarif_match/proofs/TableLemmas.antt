@@ -15,7 +15,7 @@ module _ {K V S X : Type 0} {eq : K → K → Bool} (laws : IsEquivalence eq) (r
   one_value : eq key q ≡ true → get eq m q ≡ get eq m key
   one_value same = sym (lookup_congr eq laws.congr m.entries key q same)
 
-  -- f is done at the key that is written, whatever table shows o there
+  -- f is done at the key that is written, for any table that shows o there
   pub read-written : (o : Option V) (w : V) → o ≡ cond (eq key q) (Some w) (get eq m q) → read (Some w) ≡ f (read (get eq m key)) → read o ≡ cond (eq key q) (f (read (get eq m q))) (read (get eq m q))
   read-written o w updated written =
       ap read updated ∙ at_key read f (eq key q) (Some w) (get eq m key) (get eq m q) one_value written

@@ -4,8 +4,8 @@ use Rattle.std.specs.List.{list_any}
 use Rattle.sarif_model.specs.declared.record.Record.{Record}
 use Rattle.sarif_model.specs.declared.kinds.State.{State}
 use Rattle.sarif_model.specs.declared.kinds.State.TheVariants.{New, Unchanged, Updated}
-use Rattle.sarif_match.specs.declared.version.Version.{Version}
-use Rattle.sarif_match.specs.declared.version.Version.TheVariants.{Two, Three}
+use Rattle.sarif_match.specs.declared.version.MatchingVersion.{MatchingVersion}
+use Rattle.sarif_match.specs.declared.version.MatchingVersion.TheVariants.{Two, Three}
 use Rattle.sarif_match.specs.Key.{is_empty}
 use Rattle.sarif_match.specs.KeyParts.{pairs_eq}
 use Rattle.sarif_match.specs.Seen.{seen}
@@ -20,7 +20,8 @@ is_same_guid None other = false
 -- whether a name has the same value in both
 abbrev pub share_member : List (List ℕ × List ℕ) → List (List ℕ × List ℕ) → Bool
 share_member members others =
-    list_any (λ member. list_any (λ other. bytes_eq other.0 member.0 && bytes_eq other.1 member.1) others)
+    list_any
+    (λ member. list_any (λ other. bytes_eq other.0 member.0 && bytes_eq other.1 member.1) others)
     members
 
 -- whether both have the same members, at least one
@@ -51,7 +52,7 @@ has_evidence current partner =
     by_snippets current.snippet partner.snippet (has_other_evidence current partner)
 
 -- the state of a current result with this match in a version
-abbrev pub state_in : Version → Record → Option Record → State
+abbrev pub state_in : MatchingVersion → Record → Option Record → State
 state_in Two current partner = state_of current partner
 state_in Three current None = New
 state_in Three current (Some partner) =

@@ -161,7 +161,8 @@ fn are_same_packed(text: &str, other: &str) -> bool
 
 /// What follows the first byte that isn't white space, if it is this one.
 fn after_first_byte(bytes: &[u8], first: u8) -> Option<&[u8]>
-    ensures { option_map (λ rest. packed rest.now) result ≡ after_first_byte first (packed bytes.now) }
+    ensures { option_map (λ rest. packed rest.now) result
+        ≡ after_first_byte first (packed bytes.now) }
 {
     for (number, byte) in bytes.iter().enumerate() {
         if !is_white(*byte) {

@@ -7,7 +7,7 @@ ghost use Rattle.std.specs.List.Sorted.{IsStrictlySortedBy};
 ghost use Rattle.sarif_model.specs.declared.record.Record.{Record};
 ghost use Rattle.sarif_model.specs.declared.kinds.State.TheVariants.{Unchanged};
 ghost use Rattle.sarif_match.specs.declared.tier_key.Key.{Key};
-ghost use Rattle.sarif_match.specs.declared.version.Version.TheVariants.{Three};
+ghost use Rattle.sarif_match.specs.declared.version.MatchingVersion.TheVariants.{Three};
 ghost use Rattle.sarif_match.specs.KeyParts.{KeyParts, parts_of};
 ghost use Rattle.sarif_match.specs.Internal.Queues.{same_key};
 ghost use Rattle.sarif_match.specs.declared.tier.Tier.{Tier};

@@ -24,5 +24,5 @@ pub use states::{state, state_in};
 pub use tier::Tier;
 pub use tier_key::Key;
 pub use tier_list::tiers;
-pub use version::Version;
+pub use version::MatchingVersion;
 pub use whole::{key, match_all};

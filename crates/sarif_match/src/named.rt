@@ -1,7 +1,7 @@
 //! An index of results by the names of their fingerprints.
 ghost use Rattle.std.specs.Prelude.{◌≡◌, ◌<◌, ◌^◌, ℕ, List, [], ◌++◌, IfOk, OnOk, if◌then◌else◌, length, bytes_eq};
 ghost use Rattle.sarif_match.specs.Key.{key_of};
-ghost use Rattle.sarif_match.specs.Internal.Named.{with_parts, group_at, put_once, IsBelow};
+ghost use Rattle.sarif_match.specs.Internal.Named.{with_parts, group_at, put_once, AreNumberedBelow};
 ghost use Rattle.sarif_match.specs.Partners.{keyed_from, with_key};
 ghost use Rattle.sarif_match.specs.declared.tier.Tier.TheVariants.{Fingerprint};
 
@@ -35,7 +35,7 @@ fn add_finding<'a, S: BuildHasher + Copy>(
     number: u32,
     finding: &'a Record,
 ) -> Result<(), AllocError>
-    requires { (name : List ℕ) → IsBelow number (with_parts (group_at named.old name)) }
+    requires { (name : List ℕ) → AreNumberedBelow number (with_parts (group_at named.old name)) }
     ensures { OnOk result ((name : List ℕ) → with_parts (group_at named.new name)
         ≡ with_parts (group_at named.old name)
         ++ with_key number (key_of finding.now (Fingerprint name)) []) }

@@ -5,7 +5,7 @@ ghost use Rattle.sarif_match.specs.Evidence.{state_in};
 ghost use Rattle.sarif_match.specs.State.{is_unchanged, state_of};
 
 use crate::evidence::has_evidence;
-use crate::version::Version;
+use crate::version::MatchingVersion;
 use sarif_model::{Record, State};
 
 /// The baseline state of a current result in version 2, given its match (SARIF 2.1.0, "baselineState property"): new
@@ -27,13 +27,13 @@ pub fn state(current: &Record, partner: Option<&Record>) -> State
 /// version 3 a result is unchanged only if there is evidence, too: two snippets are the same except for white space,
 /// or, where one is missing, a GUID, a fingerprint or all partial fingerprints are the same, or neither result has a
 /// fingerprint.
-pub fn state_in(version: Version, current: &Record, partner: Option<&Record>) -> State
+pub fn state_in(version: MatchingVersion, current: &Record, partner: Option<&Record>) -> State
     ensures { result ≡ state_in version current.now (option_copied partner.entry) }
 {
     match (version, partner) {
-        (Version::Two, _) => state(current, partner),
-        (Version::Three, None) => State::New,
-        (Version::Three, Some(partner)) => {
+        (MatchingVersion::Two, _) => state(current, partner),
+        (MatchingVersion::Three, None) => State::New,
+        (MatchingVersion::Three, Some(partner)) => {
             if is_unchanged(current, partner) && has_evidence(current, partner) {
                 State::Unchanged
             } else {

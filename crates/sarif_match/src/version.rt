@@ -2,7 +2,7 @@
 
 /// By which rules results are matched.
 #[derive(Clone, Copy, Debug, PartialEq, Eq)]
-pub enum Version {
+pub enum MatchingVersion {
     /// By GUIDs and fingerprints, and a result without these by its rule, place and message. Results with equal keys
     /// match from the first one on.
     Two,

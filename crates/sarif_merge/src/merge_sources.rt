@@ -141,6 +141,6 @@ pub fn merge_to<R: Read, W: Write, G: Gate + Sync, T: Threads + Wait + Sync>(
     let (merged, ()) = merge_readers(rt, alloc, readers, &asked, observer, tell_nothing)?;
     match write_out(out, merged.log.as_str().as_bytes()) {
         Ok(()) => Ok(merged),
-        Err(_) => Err(MergeFault::found(At::Whole(Source::Output), Cause::WriteFailed)),
+        Err(_) => Err(MergeFault::with_place(At::Whole(Source::Output), Cause::WriteFailed)),
     }
 }

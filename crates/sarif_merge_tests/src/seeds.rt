@@ -1,7 +1,7 @@
 //! The merged log has the same bytes for any seed of the tables.
 use std::alloc::{AllocError, Global};
 use std::test::Fail;
-use test_merges::{Bytes, Given, NOTHING, Wanted, beside, expect_log};
+use test_merges::{Bytes, ExpectedCounts, Given, NOTHING, beside, expect_log};
 
 /// Pushes the members of a result, by whose number its rule, artifact and fingerprint differ.
 fn push_members(text: &mut String, alloc: Global, number: u32) -> Result<(), AllocError> {
@@ -76,7 +76,7 @@ fn written_rows(alloc: Global) -> Result<String, AllocError> {
 #[test]
 fn the_log_is_the_same_for_all_seeds(rt: HostRuntime) -> Result<(), Fail> {
     let mut given = given_rows(rt.alloc())?;
-    let wanted = Wanted {
+    let wanted = ExpectedCounts {
         absent: "0,10,0,0",
         new: "0,7,0,0",
         suppressed: "0,3,0,0",

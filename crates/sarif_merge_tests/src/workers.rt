@@ -11,14 +11,14 @@ use std::sync::atomic::{AtomicU64, Ordering};
 use std::test::Fail;
 use std::thread::Threads;
 use test_merges::{
-    NOTHING, Texts, Wanted, expect_log, log_of, merge, merge_watched, one_log, options_by,
+    ExpectedCounts, NOTHING, Texts, expect_log, log_of, merge, merge_watched, one_log, options_by,
     readers_of,
 };
 
 #[test]
 fn the_log_is_the_same_for_all_workers(rt: HostRuntime) -> Result<(), Fail> {
     let mut given = one_log(rt.alloc(), "lint: A A; b: ; lint: A")?;
-    let wanted = Wanted {
+    let wanted = ExpectedCounts {
         new: "0,3,0,0",
         ..NOTHING
     };
@@ -44,12 +44,12 @@ fn waits_for(flag: &AtomicU64) -> bool {
 
 /// The worker of each of the first two shards waits for the worker of the other.
 #[derive(Drop)]
-struct Meeting {
+struct ShardMeeting {
     started: [AtomicU64; 2],
     misses: AtomicU64,
 }
 
-impl Gate for Meeting {
+impl Gate for ShardMeeting {
     fn making(&self, run: u32, _seq: u32) {
         if run > 1 {
             return;
@@ -63,9 +63,9 @@ impl Gate for Meeting {
     fn taken(&self, _run: u32, _seq: u32) {}
 }
 
-impl Meeting {
-    fn new() -> Meeting {
-        Meeting {
+impl ShardMeeting {
+    fn new() -> ShardMeeting {
+        ShardMeeting {
             started: [AtomicU64::new(0), AtomicU64::new(0)],
             misses: AtomicU64::new(0),
         }
@@ -76,7 +76,7 @@ impl Meeting {
 fn two_workers_meet(rt: HostRuntime) -> Result<(), Fail> {
     let mut given = one_log(rt.alloc(), "lint: A; lint: A")?;
     given.workers = 2;
-    let observer = Meeting::new();
+    let observer = ShardMeeting::new();
     merge_watched(&rt, &given, &observer)?;
     assert_eq!(rt; observer.misses.load(Ordering::SeqCst), 0);
     Ok(())
@@ -107,7 +107,7 @@ fn write_watched<G: Gate + Sync, R: Abort + AllocGlobal + Threads + Wait + Sync>
 #[test]
 fn two_workers_meet_over_what_a_reader_gives(rt: HostRuntime) -> Result<(), Fail> {
     let log = log_of(rt.alloc(), "lint: A; lint: A")?;
-    let observer = Meeting::new();
+    let observer = ShardMeeting::new();
     let written = write_watched(&rt, log.as_str(), 2, &observer)?;
     assert_eq!(rt; observer.misses.load(Ordering::SeqCst), 0);
     let given = one_log(rt.alloc(), "lint: A; lint: A")?;
@@ -118,14 +118,14 @@ fn two_workers_meet_over_what_a_reader_gives(rt: HostRuntime) -> Result<(), Fail
 
 /// Notes which shards it saw, each by its bit, and how often.
 #[derive(Drop)]
-struct Heard {
+struct SeenShards {
     shards: AtomicU64,
     times: AtomicU64,
 }
 
-impl Heard {
-    fn new() -> Heard {
-        Heard {
+impl SeenShards {
+    fn new() -> SeenShards {
+        SeenShards {
             shards: AtomicU64::new(0),
             times: AtomicU64::new(0),
         }
@@ -150,8 +150,8 @@ impl Heard {
 /// Looks on while shards of results are judged and taken.
 #[derive(Drop)]
 struct Onlooker {
-    made: Heard,
-    taken: Heard,
+    made: SeenShards,
+    taken: SeenShards,
 }
 
 impl Gate for Onlooker {
@@ -179,8 +179,8 @@ fn each_shard_is_judged_and_taken_once(rt: HostRuntime) -> Result<(), Fail> {
     let runs = run_of_many(rt.alloc(), 1_000)?;
     let given = one_log(rt.alloc(), runs.as_str())?;
     let observer = Onlooker {
-        made: Heard::new(),
-        taken: Heard::new(),
+        made: SeenShards::new(),
+        taken: SeenShards::new(),
     };
     merge_watched(&rt, &given, &observer)?;
     assert_eq!(rt; observer.made.shards(), 0xffff);
@@ -195,7 +195,7 @@ fn each_shard_is_judged_and_taken_once(rt: HostRuntime) -> Result<(), Fail> {
 fn results_of_one_run_are_shared_out(rt: HostRuntime) -> Result<(), Fail> {
     let mut given = one_log(rt.alloc(), "lint: A A")?;
     given.workers = 2;
-    let observer = Meeting::new();
+    let observer = ShardMeeting::new();
     merge_watched(&rt, &given, &observer)?;
     assert_eq!(rt; observer.misses.load(Ordering::SeqCst), 0);
     Ok(())

@@ -91,7 +91,7 @@ pub struct MergeFault {
 
 impl MergeFault {
     /// The cause with this place; OutOfMemory and NoWorker have no place.
-    pub fn found(at: At, cause: Cause) -> MergeFault
+    pub fn with_place(at: At, cause: Cause) -> MergeFault
         ensures { result ≡ fault_at at cause }
     {
         match cause {

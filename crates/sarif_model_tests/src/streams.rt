@@ -36,14 +36,14 @@ impl Read for Failing {
 
 /// Takes at most `piece` bytes a write and `room` in all, and then fails, or takes nothing.
 #[derive(Drop)]
-struct Narrow {
+struct NarrowWriter {
     got: Vec<u8>,
     piece: usize,
     room: usize,
     fails: bool,
 }
 
-impl Write for Narrow {
+impl Write for NarrowWriter {
     fn write(&mut self, buf: &[u8]) -> io::Result<usize> {
         let most = buf.len().min(self.piece).min(self.room);
         if most == 0 && self.fails {
@@ -98,7 +98,7 @@ fn sources_end_at_the_limit(rt: HostRuntime) -> Result<(), Fail> {
 #[test]
 fn write_that_fails_after_ten_bytes(rt: HostRuntime) {
     for fails in [true, false] {
-        let mut writer = Narrow {
+        let mut writer = NarrowWriter {
             got: Vec::new(rt.alloc()),
             piece: 100,
             room: 10,
@@ -115,7 +115,7 @@ fn write_that_fails_after_ten_bytes(rt: HostRuntime) {
 
 #[test]
 fn one_byte_a_write(rt: HostRuntime) {
-    let mut writer = Narrow {
+    let mut writer = NarrowWriter {
         got: Vec::new(rt.alloc()),
         piece: 1,
         room: 10_000,

@@ -16,7 +16,7 @@ use crate::html_words::{hits_heading, others_text, reason};
 use sarif_counts::{Verdict, hits, verdict};
 use sarif_options::Policy;
 use sarif_shown::{
-    Told, accept_text, entries_text, gate_end, gate_text, hits_text, more_text, runs_text,
+    ReportInput, accept_text, entries_text, gate_end, gate_text, hits_text, more_text, runs_text,
 };
 use std::alloc::{AllocError, Global};
 
@@ -243,10 +243,10 @@ fn push_accept(alloc: Global, text: &mut String, hits: u32) -> Result<(), AllocE
 /// Returns the page: the verdict, the counts, and a row for each of the first 10,000 reported results, the hits
 /// before the others, by file. Returns `AllocError` if memory for it runs out.
 #[tactic(auto, unfolding(crate::specs::HtmlReport::html_of, crate::specs::HtmlReport::page_of))]
-pub fn html_report(alloc: Global, told: &Told<'_>) -> Result<String, AllocError>
+pub fn html_report(alloc: Global, told: &ReportInput<'_>) -> Result<String, AllocError>
     ensures { IfOk result (λ s. string_bytes s ≡ said.html_of (facts_of told.now)) }
 {
-    let Told { counts, policy, .. } = *told;
+    let ReportInput { counts, policy, .. } = *told;
     let verdict = verdict(counts, policy);
     let rows = rows_of(alloc, told.seed, told.findings)?;
     let mut text = String::new(alloc);

@@ -5,7 +5,7 @@ ghost use Rattle.sarif_page.specs.HtmlWords as said;
 use sarif_counts::Verdict;
 use sarif_model::{Level, State};
 use sarif_options::{Policy, States};
-use sarif_shown::{counted, hits_text};
+use sarif_shown::{count_text, hits_text};
 use std::alloc::{AllocError, Global};
 
 /// Adds a state, if it counts.
@@ -42,7 +42,7 @@ fn joint(states: &[State]) -> &'static str
 }
 
 /// The names of these states as one phrase, for example `new, updated or absent`.
-fn joined(alloc: Global, states: &[State]) -> Result<String, AllocError>
+fn join_states(alloc: Global, states: &[State]) -> Result<String, AllocError>
     ensures { IfOk result (λ s. string_bytes s ≡ said.joined states.now) }
 {
     let mut text = String::new(alloc);
@@ -74,7 +74,7 @@ pub(crate) fn reason(alloc: Global, policy: &Policy) -> Result<String, AllocErro
     if listed.is_empty() {
         return String::from_str(alloc, "No state counts, so no result is a hit.");
     }
-    let states = joined(alloc, &listed)?;
+    let states = join_states(alloc, &listed)?;
     let levels = levels_from(policy.fail_on);
     format!(in alloc; "A hit is a result that is {states}, of {levels}, and not suppressed.")
 }
@@ -89,7 +89,7 @@ pub(crate) fn hits_heading(
     ensures { IfOk result (λ s. string_bytes s ≡ said.hits_heading verdict hits max) }
 {
     match verdict {
-        Verdict::Fail => counted(
+        Verdict::Fail => count_text(
             alloc,
             hits,
             " hit stops this change",
@@ -106,5 +106,5 @@ pub(crate) fn hits_heading(
 pub(crate) fn others_text(alloc: Global, others: usize) -> Result<String, AllocError>
     ensures { IfOk result (λ s. string_bytes s ≡ said.others_text others) }
 {
-    counted(alloc, others, " other result", " other results")
+    count_text(alloc, others, " other result", " other results")
 }

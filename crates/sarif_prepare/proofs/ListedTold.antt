@@ -10,7 +10,7 @@ use Rattle.sarif_runs.specs.Internal.Spots.{no_run, placed_at}
 use Rattle.sarif_findings.specs.declared.finding.Finding.{Finding}
 use Rattle.sarif_findings.specs.declared.reporting.Reporting.{Reporting}
 use Rattle.sarif_results.specs.declared.draft.Draft.{Draft}
-use Rattle.sarif_prepare.specs.declared.told.ToldRun.{ToldRun}
+use Rattle.sarif_prepare.specs.declared.told.ReportedRun.{ReportedRun}
 use Rattle.sarif_prepare.specs.Internal.Telling.{pair_at, placed_told, told_as, told_each}
 
 told_first : (o : Option Finding) (rest : List Finding) → cons_option o rest ≡ cons_option o [] ++ rest
@@ -18,8 +18,8 @@ told_first None rest = refl
 told_first (Some f) rest = refl
 
 -- one more result
-pub told_next : (reporting : Reporting) (runs : List ToldRun) (spots : List Spot) (drafts : List Draft) (states : List (Option State)) (n : ℕ)
-    → (run : ToldRun) (none : Spot) (draft : Draft) (old new whole : List Finding)
+pub told_next : (reporting : Reporting) (runs : List ReportedRun) (spots : List Spot) (drafts : List Draft) (states : List (Option State)) (n : ℕ)
+    → (run : ReportedRun) (none : Spot) (draft : Draft) (old new whole : List Finding)
     → n < length spots → n < length drafts → n < length states → (get_or spots n none).run < length runs
     → run ≡ get_or runs (get_or spots n none).run run → draft ≡ get_or drafts n draft
     → new ≡ old ++ cons_option (told_as reporting (placed_told run).run (result_at (placed_told run).run (get_or spots n none).seq) draft (get_or states n None)) []

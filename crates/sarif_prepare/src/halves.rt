@@ -20,13 +20,13 @@ pub(crate) struct Half<'t, 'a> {
 
 /// The records and the drafts of results.
 #[derive(Drop)]
-struct Found {
+struct RecordsAndDrafts {
     records: Vec<Record>,
     drafts: Vec<Draft>,
 }
 
 /// Takes the records and the drafts out of outcomes.
-fn take_found(alloc: Global, outcomes: Vec<Outcome>) -> Result<Found, AllocError>
+fn take_found(alloc: Global, outcomes: Vec<Outcome>) -> Result<RecordsAndDrafts, AllocError>
     ensures records { IfOk result
         (λ found. found.records.items ≡ records_in (map (λ o. o.item) outcomes.items)) }
     ensures drafts { IfOk result (λ found. found.drafts.items ≡ drafts_in outcomes.items) }
@@ -38,7 +38,7 @@ fn take_found(alloc: Global, outcomes: Vec<Outcome>) -> Result<Found, AllocError
         push_record(&mut records, item)?;
         push_draft(&mut drafts, draft)?;
     }
-    Ok(Found { records, drafts })
+    Ok(RecordsAndDrafts { records, drafts })
 }
 
 /// Adds the record of a result, where it has one.
@@ -71,7 +71,7 @@ pub(crate) fn current_half<'t, 'a>(
         → IsCurrent file (placed_in judged.entry) half) }
 {
     let Judged { runs, outcomes } = judged;
-    let Found { records, drafts } = take_found(alloc, outcomes)?;
+    let RecordsAndDrafts { records, drafts } = take_found(alloc, outcomes)?;
     Ok(Half {
         runs,
         records,

@@ -13,7 +13,7 @@ use std::hash::RandomState;
 
 /// The baseline state of each current result, and whether each baseline result is the match of a current result.
 #[derive(Drop)]
-pub(crate) struct Matched {
+pub(crate) struct MatchedStates {
     pub(crate) states: Vec<Option<State>>,
     pub(crate) taken: Vec<bool>,
 }
@@ -76,7 +76,7 @@ pub(crate) fn match_records(
     seed: RandomState,
     current: &[Record],
     baseline: &[Record],
-) -> Result<Matched, AllocError>
+) -> Result<MatchedStates, AllocError>
     requires current { length current.now ≤ most_results }
     requires baseline { length baseline.now ≤ most_results }
     ensures states { IfOk result
@@ -88,5 +88,5 @@ pub(crate) fn match_records(
     let states = list_states(alloc, current, baseline, &matching)?;
     let taken = list_taken(alloc, baseline.len() as u32, &matching)?;
     let states = each_there(alloc, &states)?;
-    Ok(Matched { states, taken })
+    Ok(MatchedStates { states, taken })
 }

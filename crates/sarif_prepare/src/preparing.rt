@@ -26,7 +26,7 @@ use crate::file_read::FileRead;
 use crate::halves::{Half, current_half};
 use crate::keeping::{Sides, keep_if_asked};
 use crate::left::{left_drafts, left_side};
-use crate::matched::{Matched, match_records};
+use crate::matched::{MatchedStates, match_records};
 use crate::parts_of_runs::current_parts;
 use crate::run_parts::count_without;
 use crate::telling::{tell_current, tell_left};
@@ -54,7 +54,7 @@ pub(crate) struct Paired {
 
 /// What is written for the runs of logs.
 #[derive(Drop)]
-struct Current {
+struct CurrentSide {
     side: Side,
     /// How many of the runs have no results.
     without: u32,
@@ -77,7 +77,12 @@ fn pair_results<R: Threads + Sync>(
     ensures { IfOk result (IsPaired current.now baselines.now) }
 {
     let records = &baselines.records;
-    let Matched { states, taken } = match_records(alloc, options.seed, &current.records, records)?;
+    let MatchedStates { states, taken } = match_records(
+        alloc,
+        options.seed,
+        &current.records,
+        records,
+    )?;
     let left = left_drafts(rt, alloc, baselines, &taken, options.workers + 1)?;
     Ok(Paired {
         states,
@@ -117,7 +122,7 @@ fn current_side(
     current: Half<'_, '_>,
     states: Vec<Option<State>>,
     file: &Suppressions,
-) -> Result<Current, AllocError>
+) -> Result<CurrentSide, AllocError>
     requires few { length current.runs.items ≤ most_runs }
     ensures parts { IfOk result (λ made. ArePartsOf own_count made.side.runs.items
         (run_values (map placed_of current.entry.runs.items))) }
@@ -145,7 +150,7 @@ fn current_side(
         drafts,
         states,
     };
-    Ok(Current {
+    Ok(CurrentSide {
         side,
         without,
         unused,
@@ -155,7 +160,7 @@ fn current_side(
 
 /// What is reported about the results of logs and baselines, once they are matched.
 #[derive(Drop)]
-struct Told {
+struct ReportedSides {
     paired: Paired,
     findings: Vec<Finding>,
     life: Life,
@@ -169,7 +174,7 @@ fn tell_sides<R: Threads + Sync>(
     baselines: &Baselines<'_, '_>,
     rules: &FileRead<'_>,
     asked: &Asked<'_>,
-) -> Result<Told, MergeFault>
+) -> Result<ReportedSides, MergeFault>
     requires read { IsFileOf (bytes_of rules.now) rules.now.file.now }
     requires together { (current_runs : List Placed) × (baseline_runs : List Placed)
         × AreTogether rules.now.file.now current_runs baseline_runs current.now baselines.now }
@@ -195,7 +200,7 @@ fn tell_sides<R: Threads + Sync>(
         paired: &paired,
     };
     let life = keep_if_asked(alloc, &sides, rules, asked)?;
-    Ok(Told {
+    Ok(ReportedSides {
         paired,
         findings,
         life,
@@ -229,7 +234,7 @@ fn prepare_sides<R: Threads + Sync>(
         → IfErr result (IsUnkept (merge_of rules.now.file.now (bytes_of rules.now)
         asked.now.options.now.policy current_runs baseline_runs) (upkeep_in asked.now)) }
 {
-    let Told {
+    let ReportedSides {
         paired,
         findings,
         life,
@@ -240,7 +245,7 @@ fn prepare_sides<R: Threads + Sync>(
         left,
     } = paired;
     let unmatched = left_side(alloc, baselines, &taken, left)?;
-    let Current {
+    let CurrentSide {
         side,
         without,
         unused,

@@ -15,7 +15,7 @@ use crate::asked::Asked;
 use crate::baselines::Baselines;
 use crate::halves::Half;
 use crate::left::absent_states;
-use crate::told::{Told, ToldRun};
+use crate::told::{ReportedResult, ReportedRun};
 use sarif_findings::{Finding, NamedRun, Reporting, ToldResult, finding_of};
 use sarif_model::State;
 use sarif_results::Draft;
@@ -32,22 +32,22 @@ const FEWEST_SHARED: usize = 64;
 fn name_runs<'w, 't, 'a>(
     alloc: Global,
     runs: &'w [OpenedRun<'t, 'a>],
-) -> Result<Vec<ToldRun<'w, 't, 'a>>, AllocError>
+) -> Result<Vec<ReportedRun<'w, 't, 'a>>, AllocError>
     ensures { IfOk result (λ made. map placed_told made.items ≡ map placed_of runs.now) }
 {
     let mut made = Vec::with_capacity(alloc, runs.len())?;
     for opened in runs {
         let named = NamedRun::new(alloc, opened.bare())?;
-        made.push(ToldRun { opened, named })?;
+        made.push(ReportedRun { opened, named })?;
     }
     Ok(made)
 }
 
 /// Adds the result at this place of a run, where it is written and reported.
 fn push_told<'l, 'w, 't, 'a>(
-    told: &mut Vec<Told<'l, 'w, 't, 'a>>,
+    told: &mut Vec<ReportedResult<'l, 'w, 't, 'a>>,
     reporting: &Reporting,
-    run: &'l ToldRun<'w, 't, 'a>,
+    run: &'l ReportedRun<'w, 't, 'a>,
     seq: u32,
     draft: &Draft,
     state: Option<State>,
@@ -62,7 +62,7 @@ fn push_told<'l, 'w, 't, 'a>(
     };
     if reporting.policy.states.lists(state) && !draft.suppressed {
         let level = draft.level;
-        told.push(Told {
+        told.push(ReportedResult {
             run,
             seq,
             level,
@@ -76,11 +76,11 @@ fn push_told<'l, 'w, 't, 'a>(
 fn list_told<'l, 'w, 't, 'a>(
     alloc: Global,
     reporting: &Reporting,
-    runs: &'l [ToldRun<'w, 't, 'a>],
+    runs: &'l [ReportedRun<'w, 't, 'a>],
     spots: &[Spot],
     drafts: &[Draft],
     states: &[Option<State>],
-) -> Result<Vec<Told<'l, 'w, 't, 'a>>, AllocError>
+) -> Result<Vec<ReportedResult<'l, 'w, 't, 'a>>, AllocError>
     requires within { All (IsSpotOf (map placed_told runs.now)) spots.now }
     requires drafts { length drafts.now ≡ length spots.now }
     requires states { length states.now ≡ length spots.now }
@@ -107,7 +107,7 @@ fn list_told<'l, 'w, 't, 'a>(
 fn tell(
     alloc: Global,
     reporting: &Reporting,
-    told: &Told<'_, '_, '_, '_>,
+    told: &ReportedResult<'_, '_, '_, '_>,
 ) -> Result<Finding, AllocError>
     ensures { IfOk result (λ finding. finding ≡ told_by reporting.now told.now) }
 {
@@ -127,7 +127,7 @@ fn tell(
 fn tell_in_turn(
     alloc: Global,
     reporting: &Reporting,
-    told: &[Told<'_, '_, '_, '_>],
+    told: &[ReportedResult<'_, '_, '_, '_>],
 ) -> Result<Vec<Finding>, AllocError>
     ensures { IfOk result (λ findings. findings.items ≡ map (told_by reporting.now) told.now) }
 {
@@ -144,7 +144,7 @@ fn tell_all<R: Threads + Sync>(
     rt: &R,
     alloc: Global,
     reporting: &Reporting,
-    told: &[Told<'_, '_, '_, '_>],
+    told: &[ReportedResult<'_, '_, '_, '_>],
     threads: u32,
 ) -> Result<Vec<Finding>, AllocError>
     requires { 1 ≤ threads }

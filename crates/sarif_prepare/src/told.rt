@@ -16,7 +16,7 @@ use sarif_runs::OpenedRun;
 
 /// A run whose results may be reported, with the names that are looked up for each of them.
 #[derive(Drop)]
-pub(crate) struct ToldRun<'w, 't: 'w, 'a: 't> {
+pub(crate) struct ReportedRun<'w, 't: 'w, 'a: 't> {
     pub(crate) opened: &'w OpenedRun<'t, 'a>,
     pub(crate) named: NamedRun<'w>,
     ghost named_is: { (reporting : AnyReporting) (found : Data)
@@ -27,8 +27,8 @@ pub(crate) struct ToldRun<'w, 't: 'w, 'a: 't> {
 
 /// A reported result.
 #[derive(Clone, Copy)]
-pub(crate) struct Told<'l, 'w: 'l, 't: 'w, 'a: 't> {
-    pub(crate) run: &'l ToldRun<'w, 't, 'a>,
+pub(crate) struct ReportedResult<'l, 'w: 'l, 't: 'w, 'a: 't> {
+    pub(crate) run: &'l ReportedRun<'w, 't, 'a>,
     /// Its number in its run.
     pub(crate) seq: u32,
     /// Its effective level.

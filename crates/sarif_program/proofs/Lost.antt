@@ -6,7 +6,7 @@ use Rattle.std.specs.Prelude.{Result, Ok, Err, OnErr}
 use Rattle.std.specs.List.{AllZip}
 use Rattle.sarif_model.specs.declared.merge_fault.MergeFault.{MergeFault}
 use Rattle.sarif_reports.specs.declared.report.Report.{Report}
-use Rattle.sarif_request.specs.declared.wanted.Wanted.{Wanted}
+use Rattle.sarif_request.specs.declared.wanted.RequestedOutput.{RequestedOutput}
 use Rattle.sarif_streams.specs.declared.counted.Counted.{Counted}
 use Rattle.sarif_streams.specs.Counted.{failed_calls, inner_of, RisesIf}
 use Rattle.sarif_streams.proofs.ReadersRead.{same_at}
@@ -42,7 +42,7 @@ cut_after contents text old mid new first then all kept = record {
   );
 }
 
-lost_after : {W : Type 0} (contents : W → Option (List ℕ)) (told : Report → List ℕ) (os ws : List (Wanted (Counted W))) (o w : Wanted (Counted W)) (rest : List (Wanted (Counted W))) (lost : Report)
+lost_after : {W : Type 0} (contents : W → Option (List ℕ)) (told : Report → List ℕ) (os ws : List (RequestedOutput (Counted W))) (o w : RequestedOutput (Counted W)) (rest : List (RequestedOutput (Counted W))) (lost : Report)
     → AllZip (IsWritten contents told) os ws → lost ≡ o.report → w.report ≡ o.report → IsCut contents (told o.report) o.to w.to
     → IsLostIn contents told (os ++ o ∷ rest) (ws ++ w ∷ rest) lost
 lost_after contents told [] [] o w rest lost all is same cut = inl (is, same, cut, refl)
@@ -51,7 +51,7 @@ lost_after contents told (p ∷ os) [] o w rest lost all is same cut = absurd al
 lost_after contents told (p ∷ os) (v ∷ ws) o w rest lost all is same cut = inr (all.0, lost_after contents told os ws o w rest lost all.1 is same cut)
 
 -- the first i outputs were written, and the next was lost
-pub lost_at : {W : Type 0} (contents : W → Option (List ℕ)) (told : Report → List ℕ) (texts : List (List ℕ)) (os ws : List (Wanted (Counted W))) (i : ℕ) (d w : Wanted (Counted W)) (text : List ℕ) (lost : Report)
+pub lost_at : {W : Type 0} (contents : W → Option (List ℕ)) (told : Report → List ℕ) (texts : List (List ℕ)) (os ws : List (RequestedOutput (Counted W))) (i : ℕ) (d w : RequestedOutput (Counted W)) (text : List ℕ) (lost : Report)
     → i < length os → i < length ws → drop i ws ≡ drop i os → AreTakenTo i contents texts os ws
     → get_or texts i text ≡ text → w.report ≡ (get_or ws i d).report → lost ≡ (get_or ws i d).report
     → IsCut contents text (get_or ws i d).to w.to → texts ≡ texts_for os told

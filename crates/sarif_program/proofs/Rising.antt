@@ -3,7 +3,7 @@ use Rattle.std.proofs.Common.{◌≡◌, ◌∙◌, ℕ, zero, suc, ◌+◌, ◌
 use Rattle.std.specs.Prelude.{◌↔◌}
 use Rattle.std.proofs.lemmas.Bool.Decides.{nat_tests}
 use Rattle.std.proofs.lemmas.List.Sums.{sum_by-cons}
-use Rattle.sarif_request.specs.declared.wanted.Wanted.{Wanted}
+use Rattle.sarif_request.specs.declared.wanted.RequestedOutput.{RequestedOutput}
 use Rattle.sarif_streams.specs.declared.counted.Counted.{Counted}
 use Rattle.sarif_streams.specs.declared.readers.Readers.{Readers}
 use Rattle.sarif_streams.specs.Counted.{failed_calls, RisesIf}
@@ -15,7 +15,7 @@ use Rattle.sarif_program.specs.Writing.{writer_failures, writers_in, NoWriterFal
 use Rattle.sarif_program.specs.declared.writers.Writers.{Writers}
 
 -- the numbers of the writers of reports don't fall where one of them got its text or failed
-pub none_falls_to : {W : Type 0} (os ws : List (Wanted (Counted W))) (i : ℕ) (d w : Wanted (Counted W)) → i < length ws
+pub none_falls_to : {W : Type 0} (os ws : List (RequestedOutput (Counted W))) (i : ℕ) (d w : RequestedOutput (Counted W)) → i < length ws
     → NoneFalls (writers_in os) (writers_in ws) → failed_calls (get_or ws i d).to ≤ failed_calls w.to → NoneFalls (writers_in os) (writers_in (set ws i w))
 none_falls_to [] [] i d w within none more = absurd (omega (arith, within))
 none_falls_to [] (v ∷ ws) i d w within none more = absurd none
@@ -28,7 +28,7 @@ pub no_writer_has_fallen : {W S P : Type 0} (writers : Writers W S P) → NoWrit
 no_writer_has_fallen writers = record { out = omega arith; reports = none_has_fallen (writers_in writers.reports.items); say = omega arith }
 
 -- the sum over the reports is that over their writers
-sum_to : {W : Type 0} (ws : List (Wanted (Counted W))) → report_failures ws ≡ failed_calls_in (writers_in ws)
+sum_to : {W : Type 0} (ws : List (RequestedOutput (Counted W))) → report_failures ws ≡ failed_calls_in (writers_in ws)
 sum_to [] = refl
 sum_to (w ∷ ws) = sum_by-cons (λ wanted. failed_calls wanted.to) w ws ∙ ap (λ n. failed_calls w.to + n) (sum_to ws) ∙ sym (sum_by-cons failed_calls w.to (writers_in ws))
 

@@ -5,18 +5,18 @@ use Rattle.std.proofs.lemmas.Slice.Zip.{all_zipped_more}
 use Rattle.std.specs.Io.KnownBytes.{Appends}
 use Rattle.std.specs.List.{AllZip}
 use Rattle.sarif_reports.specs.declared.report.Report.{Report}
-use Rattle.sarif_request.specs.declared.wanted.Wanted.{Wanted}
+use Rattle.sarif_request.specs.declared.wanted.RequestedOutput.{RequestedOutput}
 use Rattle.sarif_streams.specs.declared.counted.Counted.{Counted}
 use Rattle.sarif_streams.specs.Counted.{inner_of}
 use Rattle.sarif_streams.proofs.ReadersRead.{same_at}
 use Rattle.sarif_program.specs.Reports.{IsWritten, texts_for}
 
 -- the first i were written if these are their contents
-abbrev pub AreTakenTo : {W : Type 0} → ℕ → (W → Option (List ℕ)) → List (List ℕ) → List (Wanted (Counted W)) → List (Wanted (Counted W)) → Type 0
+abbrev pub AreTakenTo : {W : Type 0} → ℕ → (W → Option (List ℕ)) → List (List ℕ) → List (RequestedOutput (Counted W)) → List (RequestedOutput (Counted W)) → Type 0
 AreTakenTo i contents texts old new = (told : Report → List ℕ) → texts ≡ texts_for old told
     → AllZip (IsWritten contents told) (take i old) (take i new)
 
-pub taken_more : {W : Type 0} (contents : W → Option (List ℕ)) (texts : List (List ℕ)) (os ws : List (Wanted (Counted W))) (i : ℕ) (d w : Wanted (Counted W)) (text : List ℕ)
+pub taken_more : {W : Type 0} (contents : W → Option (List ℕ)) (texts : List (List ℕ)) (os ws : List (RequestedOutput (Counted W))) (i : ℕ) (d w : RequestedOutput (Counted W)) (text : List ℕ)
     → i < length os → i < length ws → drop i ws ≡ drop i os → AreTakenTo i contents texts os ws
     → get_or texts i text ≡ text → w.report ≡ (get_or ws i d).report
     → Appends (contents (inner_of (get_or ws i d).to)) (contents (inner_of w.to)) text

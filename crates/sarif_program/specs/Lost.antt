@@ -10,7 +10,7 @@ use Rattle.sarif_model.specs.declared.merge_fault.Cause.TheVariants.{WriteFailed
 use Rattle.sarif_model.specs.declared.merge_fault.Source.TheVariants.{Output}
 use Rattle.sarif_reports.specs.declared.report.Report.{Report}
 use Rattle.sarif_request.specs.declared.request.Request.{Request}
-use Rattle.sarif_request.specs.declared.wanted.Wanted.{Wanted}
+use Rattle.sarif_request.specs.declared.wanted.RequestedOutput.{RequestedOutput}
 use Rattle.sarif_streams.specs.declared.counted.Counted.{Counted}
 use Rattle.sarif_streams.specs.Counted.{failed_calls, inner_of}
 use Rattle.sarif_program.specs.declared.complaint.Complaint.{Complaint}
@@ -54,7 +54,7 @@ pub record IsCut {W : Type 0} (contents : W → Option (List ℕ)) (text : List 
 
 -- an output of a list was lost: those before it received their text, and those after it are unchanged
 abbrev pub IsLostIn : {W : Type 0} → (W → Option (List ℕ)) → (Report → List ℕ)
-    → List (Wanted (Counted W)) → List (Wanted (Counted W)) → Report → Type 0
+    → List (RequestedOutput (Counted W)) → List (RequestedOutput (Counted W)) → Report → Type 0
 IsLostIn contents told [] news lost = ⊥
 IsLostIn contents told (old ∷ olds) [] lost = ⊥
 IsLostIn contents told (old ∷ olds) (new ∷ news) lost =

@@ -46,7 +46,7 @@ abbrev pub happened : ℕ → ℕ → List ℕ
 happened without unused =
     told_if without (runs_text without) ++ told_if unused (entries_text unused)
 
--- that, if explanations are requested
+-- the lines on what happened, if explanations are requested
 abbrev pub happened_if : Bool → ℕ → ℕ → List ℕ
 happened_if explain without unused = if explain then happened without unused else []
 

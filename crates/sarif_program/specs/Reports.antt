@@ -12,18 +12,18 @@ use Rattle.sarif_reports.specs.Report.{needs_findings, report_of}
 use Rattle.sarif_streams.specs.declared.counted.Counted.{Counted}
 use Rattle.sarif_streams.specs.Counted.{failed_calls, inner_of}
 use Rattle.sarif_request.specs.declared.request.Request.{Request}
-use Rattle.sarif_request.specs.declared.wanted.Wanted.{Wanted}
+use Rattle.sarif_request.specs.declared.wanted.RequestedOutput.{RequestedOutput}
 
 -- what the findings for a request are made by
 abbrev pub reporting_of : Request → Reporting
 reporting_of request = record { policy = request.options.policy; roots = request.roots.items }
 
 -- the outputs of such a list
-abbrev pub wanted_reports : {W : Type 0} → List (Wanted W) → List Report
+abbrev pub wanted_reports : {W : Type 0} → List (RequestedOutput W) → List Report
 wanted_reports writers = map (λ wanted. wanted.report) writers
 
 -- the findings of a merge whose outputs have these writers: none if no output needs them
-abbrev pub reporting_for : {W : Type 0} → Request → List (Wanted W) → Option Reporting
+abbrev pub reporting_for : {W : Type 0} → Request → List (RequestedOutput W) → Option Reporting
 reporting_for request writers =
     if list_any needs_findings (wanted_reports writers) then Some (reporting_of request) else None
 
@@ -58,22 +58,22 @@ abbrev pub report_for : Request → Merged → Report → List ℕ
 report_for request merged one = report_of one (facts_for request merged)
 
 -- the contents of the outputs that there are writers for
-abbrev pub texts_for : {W : Type 0} → List (Wanted W) → (Report → List ℕ) → List (List ℕ)
+abbrev pub texts_for : {W : Type 0} → List (RequestedOutput W) → (Report → List ℕ) → List (List ℕ)
 texts_for writers told = map (λ wanted. told wanted.report) writers
 
 -- the writer of an output got its text
 pub record IsWritten {W : Type 0} (contents : W → Option (List ℕ)) (told : Report → List ℕ)
-    (old new : Wanted (Counted W)) : Type 0 where
+    (old new : RequestedOutput (Counted W)) : Type 0 where
   pub report : new.report ≡ old.report
   pub appended : Appends (contents (inner_of old.to)) (contents (inner_of new.to))
       (told old.report)
 
 -- each writer received its contents: if these are those of its output, each output was written
 abbrev pub AreTaken : {W : Type 0} → (W → Option (List ℕ)) → List (List ℕ)
-    → List (Wanted (Counted W)) → List (Wanted (Counted W)) → Type 0
+    → List (RequestedOutput (Counted W)) → List (RequestedOutput (Counted W)) → Type 0
 AreTaken contents texts old new = (told : Report → List ℕ) → texts ≡ texts_for old told
     → AllZip (IsWritten contents told) old new
 
 -- how many calls of these writers failed
-abbrev pub report_failures : {W : Type 0} → List (Wanted (Counted W)) → ℕ
+abbrev pub report_failures : {W : Type 0} → List (RequestedOutput (Counted W)) → ℕ
 report_failures writers = sum_by (λ wanted. failed_calls wanted.to) writers

@@ -1,7 +1,7 @@
 -- What takes the outputs of a run, and how many of its calls failed.
 use Rattle.std.specs.Prelude.{ℕ, ◌+◌, ◌^◌, ◌≤◌, ◌<◌, ◌⊎◌, List, [], ◌∷◌, map}
 use Rattle.std.specs.List.{All}
-use Rattle.sarif_request.specs.declared.wanted.Wanted.{Wanted}
+use Rattle.sarif_request.specs.declared.wanted.RequestedOutput.{RequestedOutput}
 use Rattle.sarif_streams.specs.declared.counted.Counted.{Counted}
 use Rattle.sarif_streams.specs.declared.readers.Readers.{Readers}
 use Rattle.sarif_streams.specs.Counted.{failed_calls}
@@ -22,7 +22,7 @@ writer_failures writers =
     failed_calls writers.out + report_failures writers.reports.items + failed_calls writers.say
 
 -- the writers of these reports
-abbrev pub writers_in : {W : Type 0} → List (Wanted (Counted W)) → List (Counted W)
+abbrev pub writers_in : {W : Type 0} → List (RequestedOutput (Counted W)) → List (Counted W)
 writers_in reports = map (λ wanted. wanted.to) reports
 
 -- of none of the writers did the number of failed calls fall

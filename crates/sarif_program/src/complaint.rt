@@ -68,7 +68,7 @@ impl<E> Complaints<E> {
     }
 
     /// Notes that are written to `out`, and error messages that the caller writes; there is none so far.
-    pub fn explained(out: E) -> Complaints<E>
+    pub fn with_explanations(out: E) -> Complaints<E>
         ensures none { failed_calls result.out ≡ 0 }
         ensures explained { result.is_explained ≡ true }
         ensures last { result.last ≡ None }

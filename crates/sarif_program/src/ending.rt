@@ -14,7 +14,7 @@ ghost use Rattle.sarif_program.specs.declared.complaint.Complaint.TheVariants.{F
 
 use crate::complaint::{Complaint, Complaints};
 use crate::status::ExitStatus;
-use crate::telling::Texts;
+use crate::telling::OutputTexts;
 use crate::writers::Writers;
 use crate::writing::{Lost, put_outputs, put_summary};
 use sarif_log::Merged;
@@ -55,7 +55,7 @@ fn tell_lost<E: Write>(complaints: &mut Complaints<E>, lost: Lost) -> ExitStatus
 /// summary was not written. A lost summary is reported by the status only, and lost lines are not reported.
 pub(crate) fn accept<W: Write, S: Write, P: Write, E: Write>(
     merged: &Merged,
-    texts: &Texts,
+    texts: &OutputTexts,
     writers: &mut Writers<W, S, P>,
     complaints: &mut Complaints<E>,
 ) -> ExitStatus

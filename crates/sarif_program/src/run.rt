@@ -21,7 +21,7 @@ ghost use Rattle.sarif_program.specs.Writing.{NoWriterFalls, ReaderRises, Writer
 use crate::complaint::Complaints;
 use crate::ending::{accept, refuse};
 use crate::status::ExitStatus;
-use crate::telling::{Texts, texts_of};
+use crate::telling::{OutputTexts, texts_of};
 use crate::writers::Writers;
 use sarif_findings::Reporting;
 use sarif_gather::NoGate;
@@ -29,7 +29,7 @@ use sarif_log::{Facts, Merged};
 use sarif_merge::merge_readers;
 use sarif_model::{MergeFault, Sequence, Text};
 use sarif_prepare::Asked;
-use sarif_request::{Request, Wanted};
+use sarif_request::{Request, RequestedOutput};
 use sarif_streams::{Readers, sources_are_read_in_one_way};
 use std::alloc::{AllocError, Global};
 use std::io::{Read, Write};
@@ -40,7 +40,7 @@ use std::thread::Threads;
 fn reporting_of<W>(
     alloc: Global,
     request: &Request,
-    writers: &[Wanted<W>],
+    writers: &[RequestedOutput<W>],
 ) -> Result<Option<Reporting>, AllocError>
     ensures { IfOk result
         (λ reporting. reporting ≡ reporting_for «request».now writers.now) }
@@ -54,7 +54,7 @@ fn reporting_of<W>(
 }
 
 /// Returns whether one of these writers' outputs is made from findings.
-fn need_findings<W>(writers: &[Wanted<W>]) -> bool
+fn need_findings<W>(writers: &[RequestedOutput<W>]) -> bool
     ensures { result ≡ list_any needs_findings (wanted_reports writers.now) }
 {
     for wanted in writers {
@@ -119,8 +119,8 @@ fn merge_for<R: Read, W, T: Threads + Wait + Sync>(
     alloc: Global,
     request: &Request,
     readers: &mut Readers<R>,
-    writers: &[Wanted<W>],
-) -> Result<(Merged, Texts), MergeFault>
+    writers: &[RequestedOutput<W>],
+) -> Result<(Merged, OutputTexts), MergeFault>
     requires room { HaveRoom readers.old }
     ensures merged { IfOk result (λ all. IsMergedWith R.remaining readers.old readers.new
         «request».now.options (reporting_for «request».now writers.now)
@@ -139,7 +139,7 @@ fn merge_for<R: Read, W, T: Threads + Wait + Sync>(
     ensures unwritten { write_failed_in result ≡ false }
 {
     let made = reporting_of(alloc, request, writers)?;
-    let tell = move |facts: &Facts<'_>| -> Result<Texts, AllocError>
+    let tell = move |facts: &Facts<'_>| -> Result<OutputTexts, AllocError>
         ensures summary { IfOk result (λ texts. texts.summary
             ≡ summary_of (count_at facts.now.counts.now) «request».entry.now.options.policy) }
         ensures lines { IfOk result

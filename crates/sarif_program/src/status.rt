@@ -55,7 +55,7 @@ impl ExitStatus {
     }
 
     /// The status if the arguments can't be read.
-    pub fn unread() -> ExitStatus
+    pub fn for_unread_arguments() -> ExitStatus
         ensures { result ≡ 2 }
     {
         ExitStatus { code: 2 }

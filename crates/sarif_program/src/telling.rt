@@ -12,15 +12,15 @@ use sarif_counts::summary;
 use sarif_log::Facts;
 use sarif_model::Text;
 use sarif_reports::{Report, report_text};
-use sarif_request::{Request, Wanted};
-use sarif_shown::Told;
+use sarif_request::{Request, RequestedOutput};
+use sarif_shown::ReportInput;
 use std::alloc::{AllocError, Global};
 use std::thread;
 use std::thread::Threads;
 
 /// The outputs of an accepted merge, except its log.
 #[derive(Debug, Drop)]
-pub(crate) struct Texts {
+pub(crate) struct OutputTexts {
     /// The outputs besides the log, in the order of their writers.
     pub(crate) reports: Vec<Text>,
     /// The lines on what is for later merges and on what happened.
@@ -32,7 +32,7 @@ pub(crate) struct Texts {
 fn text_of<T: Threads + Sync>(
     rt: &T,
     alloc: Global,
-    told: &Told<'_>,
+    told: &ReportInput<'_>,
     report: Report,
     threads: u32,
 ) -> Result<Text, AllocError>
@@ -47,7 +47,7 @@ fn text_of<T: Threads + Sync>(
 fn texts_told<T: Threads + Sync>(
     rt: &T,
     alloc: Global,
-    told: &Told<'_>,
+    told: &ReportInput<'_>,
     reports: Vec<Report>,
     threads: u32,
 ) -> Result<Vec<Text>, AllocError>
@@ -75,7 +75,10 @@ fn all_made(alloc: Global, made: Vec<Result<Text, AllocError>>) -> Result<Vec<Te
 }
 
 /// Returns the outputs that there are writers for, in the order of the writers.
-fn wanted_reports<W>(alloc: Global, writers: &[Wanted<W>]) -> Result<Vec<Report>, AllocError>
+fn wanted_reports<W>(
+    alloc: Global,
+    writers: &[RequestedOutput<W>],
+) -> Result<Vec<Report>, AllocError>
     ensures { IfOk result (λ reports. reports.items ≡ wanted_reports writers.now) }
 {
     let mut reports = Vec::new(alloc);
@@ -91,12 +94,12 @@ fn reports_of<W, T: Threads + Sync>(
     alloc: Global,
     facts: &Facts<'_>,
     request: &Request,
-    writers: &[Wanted<W>],
+    writers: &[RequestedOutput<W>],
 ) -> Result<Vec<Text>, AllocError>
     ensures { IfOk result
         (λ texts. texts.items ≡ texts_for writers.now (report_with request.now facts.now)) }
 {
-    let told = Told {
+    let told = ReportInput {
         counts: facts.counts,
         policy: &request.options.policy,
         findings: facts.findings.as_slice(),
@@ -116,8 +119,8 @@ pub(crate) fn texts_of<W, T: Threads + Sync>(
     alloc: Global,
     facts: &Facts<'_>,
     request: &Request,
-    writers: &[Wanted<W>],
-) -> Result<Texts, AllocError>
+    writers: &[RequestedOutput<W>],
+) -> Result<OutputTexts, AllocError>
     ensures summary { IfOk result (λ texts. texts.summary
         ≡ summary_of (count_at facts.now.counts.now) request.now.options.policy) }
     ensures lines { IfOk result
@@ -129,7 +132,7 @@ pub(crate) fn texts_of<W, T: Threads + Sync>(
     let summary = Text::from_string(summary)?;
     let lines = lines_with(alloc, request, facts)?;
     let reports = reports_of(rt, alloc, facts, request, writers)?;
-    Ok(Texts {
+    Ok(OutputTexts {
         reports,
         lines,
         summary,

@@ -1,5 +1,5 @@
 //! Where the outputs of a run go.
-use sarif_request::Wanted;
+use sarif_request::RequestedOutput;
 use sarif_streams::Counted;
 
 /// Where the outputs of a run go.
@@ -8,7 +8,7 @@ pub struct Writers<W, S, P> {
     /// The merged log.
     pub out: Counted<W>,
     /// The other outputs that are requested, in the order in which they are written.
-    pub reports: Vec<Wanted<Counted<P>>>,
+    pub reports: Vec<RequestedOutput<Counted<P>>>,
     /// The summary.
     pub say: Counted<S>,
 }

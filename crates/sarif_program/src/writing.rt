@@ -9,11 +9,11 @@ ghost use Rattle.sarif_program.specs.Lost.{IsCut, IsLostAt, IsLostIn};
 ghost use Rattle.sarif_program.specs.Reports.{AreTaken, report_failures, texts_for};
 ghost use Rattle.sarif_program.specs.Writing.{NoWriterFalls, WritersHaveRoom, writer_failures, writers_in};
 
-use crate::telling::Texts;
+use crate::telling::OutputTexts;
 use crate::writers::Writers;
 use sarif_model::Text;
 use sarif_reports::Report;
-use sarif_request::Wanted;
+use sarif_request::RequestedOutput;
 use sarif_streams::{Counted, Failed, write_out};
 use std::io::Write;
 
@@ -45,7 +45,7 @@ fn put_out<W: Write>(out: &mut Counted<W>, text: &[u8]) -> Result<(), Failed>
 }
 
 /// Writes the text of a report to its writer.
-fn put_report<P: Write>(writer: &mut Wanted<Counted<P>>, text: &Text) -> Result<(), Report>
+fn put_report<P: Write>(writer: &mut RequestedOutput<Counted<P>>, text: &Text) -> Result<(), Report>
     requires { failed_calls writer.old.to < 2 ^ 63 }
     ensures same { writer.new.report ≡ writer.old.report }
     ensures taken { OnOk result (Appends (P.contents (inner_of writer.old.to))
@@ -63,7 +63,10 @@ fn put_report<P: Write>(writer: &mut Wanted<Counted<P>>, text: &Text) -> Result<
 
 /// Writes the text of each report to its writer, in order, up to a report that is lost.
 #[tactic(auto, using(sarif_streams::proofs::ReadersRead::none_has_fallen))]
-fn put_reports<P: Write>(writers: &mut [Wanted<Counted<P>>], texts: &[Text]) -> Result<(), Report>
+fn put_reports<P: Write>(
+    writers: &mut [RequestedOutput<Counted<P>>],
+    texts: &[Text],
+) -> Result<(), Report>
     requires room { All (λ wanted. failed_calls wanted.to < 2 ^ 63) writers.old }
     requires number { length texts.now ≡ length writers.old }
     ensures taken { OnOk result (AreTaken P.contents texts.now writers.old writers.new) }
@@ -85,7 +88,7 @@ fn put_reports<P: Write>(writers: &mut [Wanted<Counted<P>>], texts: &[Text]) -> 
 pub(crate) fn put_outputs<W: Write, S, P: Write>(
     writers: &mut Writers<W, S, P>,
     log: &Text,
-    texts: &Texts,
+    texts: &OutputTexts,
 ) -> Result<(), Lost>
     requires room { WritersHaveRoom writers.old }
     requires number { length texts.now.reports.items ≡ length writers.old.reports.items }
@@ -114,7 +117,7 @@ pub(crate) fn put_outputs<W: Write, S, P: Write>(
 #[tactic(auto, using(sarif_streams::proofs::ReadersRead::none_has_fallen))]
 pub(crate) fn put_summary<W, S: Write, P>(
     writers: &mut Writers<W, S, P>,
-    texts: &Texts,
+    texts: &OutputTexts,
 ) -> Result<(), Failed>
     requires { failed_calls writers.old.say < 2 ^ 63 }
     ensures summary { OnOk result (Appends (S.contents (inner_of writers.old.say))

@@ -2,14 +2,14 @@
 
 use sarif_options::{Knowing, Renewal};
 use sarif_reports::Report;
-use sarif_request::{Request, Wanted};
+use sarif_request::{Request, RequestedOutput};
 use sarif_streams::{Counted, Readers};
 use std::alloc::{AllocError, AllocGlobal, Global};
 use std::cell::RefCell;
 use std::sync::Wait;
 use std::test::Fail;
 use std::thread::Threads;
-use test_program::{Ended, Given, Narrow, Setting, plain_request, run_over};
+use test_program::{Ended, GivenBytes, Narrow, Setting, plain_request, run_over};
 
 /// A log of three errors: two of one rule, which differ in their rank, and one of another rule.
 const HITS: &str = concat!(
@@ -74,13 +74,13 @@ const KNOWN_LINE: &str = "sarif_gate: 2 known, 0 left out, 0 kept\n";
 
 /// How many bytes two of the writers of a run accept in all. The others accept every byte.
 #[derive(Clone, Copy)]
-struct Rooms {
+struct LaterRooms {
     later: usize,
     complain: usize,
 }
 
 /// Enough room for every output of these tests.
-const AMPLE: Rooms = Rooms {
+const AMPLE: LaterRooms = LaterRooms {
     later: 10_000,
     complain: 10_000,
 };
@@ -111,21 +111,21 @@ fn run<T: Threads + Wait + Sync + AllocGlobal>(
     request: &Request,
     log: &'static str,
     report: Report,
-    rooms: Rooms,
+    rooms: LaterRooms,
     is_explained: bool,
 ) -> Result<(Ended, Vec<u8>), AllocError> {
     let alloc = threads.alloc();
     let mut readers = Readers {
-        logs: vec![in alloc; Counted::new(Given::whole(log))]?,
+        logs: vec![in alloc; Counted::new(GivenBytes::whole(log))]?,
         baselines: Vec::new(alloc),
         suppressions: None,
     };
     let later = RefCell::new(Vec::new(alloc));
     let to = Counted::new(Narrow::new(&later, 10_000, rooms.later));
-    let reports = vec![in alloc; Wanted { report, to }]?;
+    let reports = vec![in alloc; RequestedOutput { report, to }]?;
     let setting = Setting {
         request,
-        rooms: test_program::Rooms {
+        rooms: test_program::LaterRooms {
             complain: rooms.complain,
             ..test_program::AMPLE
         },
@@ -160,7 +160,7 @@ fn what_is_adopted_is_known(rt: HostRuntime) -> Result<(), Fail> {
 fn a_lost_new_suppression_file_ends_the_run(rt: HostRuntime) -> Result<(), Fail> {
     let request = accepting(rt.alloc())?;
     for room in 0..ACCEPTED.len() {
-        let rooms = Rooms {
+        let rooms = LaterRooms {
             later: room,
             ..AMPLE
         };
@@ -180,7 +180,7 @@ fn a_lost_new_suppression_file_ends_the_run(rt: HostRuntime) -> Result<(), Fail>
 #[test]
 fn a_lost_output_is_named(rt: HostRuntime) -> Result<(), Fail> {
     let request = adopting(rt.alloc())?;
-    let rooms = Rooms { later: 0, ..AMPLE };
+    let rooms = LaterRooms { later: 0, ..AMPLE };
     for (report, line) in [
         (
             Report::Known,
@@ -207,7 +207,7 @@ fn a_lost_output_is_named(rt: HostRuntime) -> Result<(), Fail> {
 fn a_lost_line_changes_no_status(rt: HostRuntime) -> Result<(), Fail> {
     let request = accepting(rt.alloc())?;
     for room in 0..ACCEPTED_LINE.len() {
-        let rooms = Rooms {
+        let rooms = LaterRooms {
             complain: room,
             ..AMPLE
         };

@@ -8,7 +8,7 @@ use std::process::Abort;
 use std::sync::Wait;
 use std::test::Fail;
 use std::thread::Threads;
-use test_program::{AMPLE, Ended, Given, Rooms, Setting, plain_request, run_over};
+use test_program::{AMPLE, Ended, GivenBytes, Rooms, Setting, plain_request, run_over};
 
 /// The log of one result without a level, merged: a new warning.
 const MERGED: &str = "{\"properties\":{\"gate\":{\"counts\":{\
@@ -57,15 +57,15 @@ const TWO: &str = concat!(
 const BROKEN: &str = r#"{"version":"2.1.0","runs":[{"tool":{"driver":{"nam"#;
 
 /// The log, ten bytes per read, which fails after this many reads.
-fn failing(good: u32) -> Given {
-    Given::failing_over(LOG, good)
+fn failing(good: u32) -> GivenBytes {
+    GivenBytes::failing_over(LOG, good)
 }
 
 /// Runs a request over one log alone.
 fn run_by<T: Threads + Wait + Sync + AllocGlobal>(
     threads: &T,
     request: &Request,
-    log: Given,
+    log: GivenBytes,
     rooms: Rooms,
 ) -> Result<Ended, AllocError> {
     let alloc = threads.alloc();
@@ -85,7 +85,7 @@ fn run_by<T: Threads + Wait + Sync + AllocGlobal>(
 /// Runs the request of the standard streams over one log alone.
 fn run<T: Threads + Wait + Sync + AllocGlobal>(
     threads: &T,
-    log: Given,
+    log: GivenBytes,
     rooms: Rooms,
 ) -> Result<Ended, AllocError> {
     let request = plain_request(threads.alloc())?;
@@ -100,16 +100,16 @@ fn run_strict<T: Threads + Wait + Sync + AllocGlobal>(
     let mut request = plain_request(threads.alloc())?;
     request.options.policy.fail_on = Level::Warning;
     request.options.policy.max = max;
-    run_by(threads, &request, Given::whole(LOG), AMPLE)
+    run_by(threads, &request, GivenBytes::whole(LOG), AMPLE)
 }
 
 /// Runs a request over one log with a baseline and a suppression file.
 fn run_all_by<T: Threads + Wait + Sync + AllocGlobal>(
     threads: &T,
     request: &Request,
-    log: Given,
-    baseline: Given,
-    suppressions: Given,
+    log: GivenBytes,
+    baseline: GivenBytes,
+    suppressions: GivenBytes,
 ) -> Result<Ended, AllocError> {
     let alloc = threads.alloc();
     let mut readers = Readers {
@@ -128,9 +128,9 @@ fn run_all_by<T: Threads + Wait + Sync + AllocGlobal>(
 /// Runs the request of the standard streams over one log with a baseline and a suppression file.
 fn run_all<T: Threads + Wait + Sync + AllocGlobal>(
     threads: &T,
-    log: Given,
-    baseline: Given,
-    suppressions: Given,
+    log: GivenBytes,
+    baseline: GivenBytes,
+    suppressions: GivenBytes,
 ) -> Result<Ended, AllocError> {
     let request = plain_request(threads.alloc())?;
     run_all_by(threads, &request, log, baseline, suppressions)
@@ -172,7 +172,7 @@ fn assert_stopped(rt: &impl Abort, ended: &Ended, status: u8, line: &[u8]) {
 
 #[test]
 fn one_new_warning_passes_a_gate_on_errors(rt: HostRuntime) -> Result<(), Fail> {
-    assert_passed(&rt, &run(&rt, Given::whole(LOG), AMPLE)?);
+    assert_passed(&rt, &run(&rt, GivenBytes::whole(LOG), AMPLE)?);
     Ok(())
 }
 
@@ -225,9 +225,9 @@ fn each_read_of_a_log_or_of_its_baseline_may_fail(rt: HostRuntime) -> Result<(),
         for good in 0..reads + 1 {
             let ended = run_all(
                 &rt,
-                Given::failing_over(THREE, if is_log { good } else { 1000 }),
-                Given::failing_over(TWO, if is_log { 1000 } else { good }),
-                Given::whole(none),
+                GivenBytes::failing_over(THREE, if is_log { good } else { 1000 }),
+                GivenBytes::failing_over(TWO, if is_log { 1000 } else { good }),
+                GivenBytes::whole(none),
             )?;
             if good < reads {
                 assert_stopped(&rt, &ended, 3, wanted);
@@ -242,7 +242,7 @@ fn each_read_of_a_log_or_of_its_baseline_may_fail(rt: HostRuntime) -> Result<(),
 #[test]
 fn a_write_that_fails_leaves_the_beginning(rt: HostRuntime) -> Result<(), Fail> {
     let rooms = Rooms { out: 10, ..AMPLE };
-    let ended = run(&rt, Given::whole(LOG), rooms)?;
+    let ended = run(&rt, GivenBytes::whole(LOG), rooms)?;
     assert_eq!(rt; ended.out.as_slice(), b"{\"properti".as_slice());
     assert_cut(&rt, &ended, 10);
     Ok(())
@@ -252,7 +252,7 @@ fn a_write_that_fails_leaves_the_beginning(rt: HostRuntime) -> Result<(), Fail> 
 fn a_write_may_fail_at_each_byte(rt: HostRuntime) -> Result<(), Fail> {
     for room in 0..MERGED.len() {
         let rooms = Rooms { out: room, ..AMPLE };
-        let ended = run(&rt, Given::whole(LOG), rooms)?;
+        let ended = run(&rt, GivenBytes::whole(LOG), rooms)?;
         assert_cut(&rt, &ended, room);
     }
     Ok(())
@@ -261,7 +261,7 @@ fn a_write_may_fail_at_each_byte(rt: HostRuntime) -> Result<(), Fail> {
 #[test]
 fn a_writer_that_takes_a_byte_at_a_time(rt: HostRuntime) -> Result<(), Fail> {
     let rooms = Rooms { piece: 1, ..AMPLE };
-    assert_passed(&rt, &run(&rt, Given::whole(LOG), rooms)?);
+    assert_passed(&rt, &run(&rt, GivenBytes::whole(LOG), rooms)?);
     Ok(())
 }
 
@@ -269,7 +269,7 @@ fn a_writer_that_takes_a_byte_at_a_time(rt: HostRuntime) -> Result<(), Fail> {
 fn a_lost_summary_is_told_by_the_status_alone(rt: HostRuntime) -> Result<(), Fail> {
     for room in 0..SUMMARY.len() {
         let rooms = Rooms { say: room, ..AMPLE };
-        let ended = run(&rt, Given::whole(LOG), rooms)?;
+        let ended = run(&rt, GivenBytes::whole(LOG), rooms)?;
         assert_eq!(rt; ended.status, 3);
         assert_eq!(rt; ended.out.as_slice(), MERGED.as_bytes());
         assert_eq!(rt; ended.say.len(), room);
@@ -285,7 +285,7 @@ fn a_lost_complaint_changes_no_status(rt: HostRuntime) -> Result<(), Fail> {
         ..AMPLE
     };
     for log in [BROKEN, "{}"] {
-        let ended = run(&rt, Given::whole(log), rooms)?;
+        let ended = run(&rt, GivenBytes::whole(log), rooms)?;
         assert_stopped(&rt, &ended, 2, b"");
         assert!(rt; ended.say.is_empty());
     }
@@ -311,9 +311,9 @@ fn the_longest_error_line_is_written(rt: HostRuntime) -> Result<(), Fail> {
 fn a_baseline_is_read_before_a_result_is_judged(rt: HostRuntime) -> Result<(), Fail> {
     let ended = run_all(
         &rt,
-        Given::whole(BAD),
-        Given::whole("{"),
-        Given::whole("{}"),
+        GivenBytes::whole(BAD),
+        GivenBytes::whole("{"),
+        GivenBytes::whole("{}"),
     )?;
     assert_stopped(&rt, &ended, 2, b"sarif_gate: baseline 0: NotJson\n");
     Ok(())
@@ -324,9 +324,9 @@ fn an_entry_without_a_condition_is_refused(rt: HostRuntime) -> Result<(), Fail> 
     let file = "{\"version\":1,\"suppressions\":[{}]}";
     let ended = run_all(
         &rt,
-        Given::whole(BAD),
-        Given::whole(LOG),
-        Given::whole(file),
+        GivenBytes::whole(BAD),
+        GivenBytes::whole(LOG),
+        GivenBytes::whole(file),
     )?;
     assert_stopped(
         &rt,
@@ -339,9 +339,19 @@ fn an_entry_without_a_condition_is_refused(rt: HostRuntime) -> Result<(), Fail> 
 
 #[test]
 fn a_failed_read_is_told_at_its_source(rt: HostRuntime) -> Result<(), Fail> {
-    let ended = run_all(&rt, Given::whole(LOG), failing(1), Given::whole("{}"))?;
+    let ended = run_all(
+        &rt,
+        GivenBytes::whole(LOG),
+        failing(1),
+        GivenBytes::whole("{}"),
+    )?;
     assert_stopped(&rt, &ended, 3, b"sarif_gate: baseline 0: ReadFailed\n");
-    let ended = run_all(&rt, Given::whole(LOG), Given::whole(LOG), failing(1))?;
+    let ended = run_all(
+        &rt,
+        GivenBytes::whole(LOG),
+        GivenBytes::whole(LOG),
+        failing(1),
+    )?;
     assert_stopped(&rt, &ended, 3, b"sarif_gate: suppressions: ReadFailed\n");
     Ok(())
 }

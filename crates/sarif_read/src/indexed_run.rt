@@ -113,7 +113,7 @@ impl<'t, 'a> IndexedRun<'t, 'a> {
     /// Result `seq` of the run, with only its members that have one of these names. Returns `AllocError` if memory
     /// for them runs out.
     #[tactic(auto, using(crate::proofs::RunOf::count_results, crate::proofs::RunOf::nth_result))]
-    pub fn picked(&self, alloc: Global, seq: u32, names: &[&str]) -> Result<Value, AllocError>
+    pub fn pick_result(&self, alloc: Global, seq: u32, names: &[&str]) -> Result<Value, AllocError>
         requires { seq < length (results_of (run_of self.now)) }
         ensures { IfOk result (λ value. view value
             ≡ picked (map (λ name. name.now) names.now) (result_at (run_of self.now) seq)) }

@@ -186,8 +186,8 @@ pub fn index_log<'t, 'a>(
     index: &'t Index<'a>,
     allow_external: bool,
 ) -> Result<Vec<IndexedRun<'t, 'a>>, Refusal<ReadFault>>
-    ensures ok { IfOk result
-        (λ runs. said.log_of_value allow_external (value_at index.now) ≡ Ok (map run_of runs.items)) }
+    ensures ok { IfOk result (λ runs.
+        said.log_of_value allow_external (value_at index.now) ≡ Ok (map run_of runs.items)) }
     ensures few { IfOk result (λ runs. results_total (map run_of runs.items) ≤ most_results) }
     ensures few_runs { IfOk result (λ runs. length runs.items ≤ most_runs) }
     ensures err { IfFault result (λ e. said.log_of_value allow_external (value_at index.now)

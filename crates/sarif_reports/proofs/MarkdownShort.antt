@@ -191,7 +191,7 @@ report_few facts small =
     (accept_few hits)))) in
     omega (arith, whole)
 
--- the length of the same parts, joined one after another
+-- the length of the same parts, joined in order
 pub parts_few : (facts : Facts) → AreSmall facts
     → length ((((heading (verdict_of facts.count facts.policy) (hits_of facts.count facts.policy) facts.policy.max ++ counts_table facts.count) ++ paragraph (notes facts.without facts.unused)) ++ results_table facts.findings)
     ++ paragraph (accept_line (hits_of facts.count facts.policy))) ≤ 61000

@@ -14,7 +14,7 @@ use crate::junit_suites::{Suites, suites_of};
 use indexmap::IndexMap;
 use sarif_counts::{Verdict, verdict};
 use sarif_findings::Finding;
-use sarif_shown::{Told, listed};
+use sarif_shown::{ReportInput, list_findings};
 use std::alloc::{AllocError, Global};
 use std::hash::RandomState;
 
@@ -254,10 +254,10 @@ fn junit_document(
 /// Returns the report for services that read JUnit XML: a test case per result, in a test suite per tool. A hit is a
 /// test case that fails, or one that is skipped if the gate passes. If nothing is reported, one test case passes.
 /// Returns `AllocError` if memory for it runs out.
-pub fn junit_report(alloc: Global, told: &Told<'_>) -> Result<String, AllocError>
+pub fn junit_report(alloc: Global, told: &ReportInput<'_>) -> Result<String, AllocError>
     ensures { IfOk result (λ s. string_bytes s ≡ said.junit_of (facts_of told.now)) }
 {
     let verdict = verdict(told.counts, told.policy);
-    let listed = listed(alloc, told.findings)?;
+    let listed = list_findings(alloc, told.findings)?;
     junit_document(alloc, told.seed, verdict, listed.as_slice())
 }

@@ -12,8 +12,8 @@ use sarif_counts::{Counts, Verdict, hits, verdict};
 use sarif_findings::Finding;
 use sarif_model::State;
 use sarif_shown::{
-    Escaping, Told, accept_text, entries_text, gate_text, listed, more_text, push_place,
-    row_numbers, runs_text,
+    Escaping, ReportInput, accept_text, entries_text, gate_text, list_findings, more_text,
+    push_place, row_numbers, runs_text,
 };
 use std::alloc::{AllocError, Global};
 
@@ -268,7 +268,7 @@ fn push_table(alloc: Global, text: &mut String, findings: &[Finding]) -> Result<
     ensures { OnOk result
         (string_bytes text.new ≡ string_bytes text.old ++ said.table_of findings.now) }
 {
-    let listed = listed(alloc, findings)?;
+    let listed = list_findings(alloc, findings)?;
     let listed = listed.as_slice();
     text.push_str(RESULTS_HEAD)?;
     let count = push_rows(alloc, text, listed)?;
@@ -349,11 +349,11 @@ fn push_notes(alloc: Global, text: &mut String, without: u32, unused: u32) -> Re
 /// Returns the report for job summaries and comments on a change: the verdict, the counts, runs without results,
 /// and a table of the first listed results: at most 200, whose rows take at most 60,000 bytes. The whole report has at
 /// most 61,000 bytes: fewer than a comment may have. Returns `AllocError` if memory for it runs out.
-pub fn markdown_report(alloc: Global, told: &Told<'_>) -> Result<String, AllocError>
+pub fn markdown_report(alloc: Global, told: &ReportInput<'_>) -> Result<String, AllocError>
     ensures text { IfOk result (λ s. string_bytes s ≡ said.markdown_of (facts_of told.now)) }
     ensures short { IfOk result (λ s. length (string_bytes s) ≤ 61000) }
 {
-    let Told {
+    let ReportInput {
         counts,
         policy,
         findings,

@@ -96,7 +96,7 @@ fn append(all: &mut String, text: String) -> Result<(), AllocError>
 }
 
 /// The concatenation of these strings.
-fn joined(alloc: Global, texts: Vec<Result<String, AllocError>>) -> Result<String, AllocError>
+fn join_texts(alloc: Global, texts: Vec<Result<String, AllocError>>) -> Result<String, AllocError>
     ensures { IfOk result (λ all. AreJoined string_bytes texts.items (string_bytes all)) }
 {
     let mut all = String::new(alloc);
@@ -131,5 +131,5 @@ pub(crate) fn objects_of<R: Threads + Sync>(
             ≡ before_part begin.entry.now start ++ joined_objects false (map object_of some.now)) }
     { objects_in_turn(alloc, begin_at(begin, start), some) };
     let texts = share_parts(&sharing, ranked, &part)?;
-    joined(alloc, texts)
+    join_texts(alloc, texts)
 }

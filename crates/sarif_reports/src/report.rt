@@ -4,7 +4,7 @@ ghost use Rattle.sarif_shown.specs.Facts.{facts_of};
 ghost use Rattle.sarif_reports.specs.Report.{is_for_merges, needs_findings, report_name, report_of};
 
 use crate::later_outputs::{known_text, suppressions_text, unused_text};
-use sarif_shown::Told;
+use sarif_shown::ReportInput;
 use std::alloc::{AllocError, Global};
 use std::fmt;
 use std::thread::Threads;
@@ -132,7 +132,7 @@ pub fn report_text<R: Threads + Sync>(
     rt: &R,
     alloc: Global,
     report: Report,
-    told: &Told<'_>,
+    told: &ReportInput<'_>,
     threads: u32,
 ) -> Result<String, AllocError>
     requires { 1 ≤ threads }

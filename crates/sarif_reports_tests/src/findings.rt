@@ -1,5 +1,5 @@
 //! Findings of logs that a merge rejects.
-use sarif_findings::{Finding, Reporting, reported};
+use sarif_findings::{Finding, Reporting, findings_in_log};
 use sarif_model::Sequence;
 use sarif_options::Policy;
 use serde_json::Value;
@@ -13,7 +13,7 @@ fn findings_of(alloc: Global, log: &str) -> Result<Vec<Finding>, Fail> {
         roots: Sequence::new(alloc),
     };
     let log = Value::from_str(alloc, log)?;
-    Ok(reported(alloc, &reporting, &log)?)
+    Ok(findings_in_log(alloc, &reporting, &log)?)
 }
 
 /// Each log has a note whose message has an argument that isn't a string.

@@ -2,7 +2,7 @@
 use sarif_counts::Counts;
 use sarif_options::{Policy, States};
 use sarif_page::html_report;
-use sarif_shown::Told;
+use sarif_shown::ReportInput;
 use std::alloc::{AllocError, Global};
 use std::hash::RandomState;
 use std::test::Fail;
@@ -14,7 +14,7 @@ fn empty_page<'a>(
     counts: &'a Counts,
     policy: &'a Policy,
 ) -> Result<String, AllocError> {
-    let told = Told {
+    let told = ReportInput {
         counts,
         policy,
         findings: &[],

@@ -6,13 +6,13 @@ use Rattle.clap.specs.Words.{Row, Text, first_of, matches_of, one_of}
 use Rattle.sarif_options.specs.declared.upkeep.Renewal.{Renewal}
 use Rattle.sarif_entries.specs.Entries.{is_day}
 use Rattle.sarif_request.specs.declared.request.Request.{Request}
-use Rattle.sarif_request.specs.declared.together.Given.{Given}
+use Rattle.sarif_request.specs.declared.together.GivenOptions.{GivenOptions}
 use Rattle.sarif_request.specs.declared.together.Misfit.{Misfit}
 use Rattle.sarif_request.specs.declared.together.Misfit.TheVariants.{AcceptNeedsFile, PruneNeedsFile, FileNeedsChange, PruneNeedsEntries, ReasonNeedsAccept, UntilIsNoDate, UntilIsPast, UntilNeedsAccept, UntilNeedsToday}
 use Rattle.sarif_request.specs.Command.{program}
 use Rattle.sarif_request.specs.Dates.{IsNotPast}
 use Rattle.sarif_request.specs.Together.{date_misfit, lacks, misfit_of, until_misfit, upkeep_misfit}
-use Rattle.sarif_request.specs.Words.{Answers, AreGiven, IsRead, IsRenewal, is_given, is_set}
+use Rattle.sarif_request.specs.Words.{GivesRequest, AreGiven, IsReadNumber, IsRenewal, is_given, is_set}
 
 -- if nothing is wrong, the first test fails, and nothing is wrong after it
 past : (b : Bool) (why : Misfit) (rest : Option Misfit) → (if b then Some why else rest) ≡ None → (b ≡ false) × (rest ≡ None)
@@ -36,7 +36,7 @@ needed_is true false none is = absurd (true≢false none)
 needed_is false needed none is = absurd (true≢false (sym is))
 
 -- a string represents one number
-same_read : (text : Option Text) (a b : Option ℕ) → IsRead text a → IsRead text b → a ≡ b
+same_read : (text : Option Text) (a b : Option ℕ) → IsReadNumber text a → IsReadNumber text b → a ≡ b
 same_read None a b one other = one ∙ sym other
 same_read (Some text) None None one other = refl
 same_read (Some text) None (Some n) one other = absurd (one other.0)
@@ -53,7 +53,7 @@ date_fits (Some until) (Some today) is =
     let later = past (nat_lt until today) UntilIsPast None dated.1 in
     (is_true (is_day until) dated.0, today, refl, not_less until today later.0)
 
-module _ (given : Given) (none : misfit_of given ≡ None) where
+module _ (given : GivenOptions) (none : misfit_of given ≡ None) where
   parts : (upkeep_misfit given ≡ None) × (until_misfit given ≡ None)
   parts = both_none (upkeep_misfit given) (until_misfit given) none
 
@@ -71,54 +71,54 @@ module _ (given : Given) (none : misfit_of given ≡ None) where
 
 -- ---- requests
 
-dated : (rows : List Row) (given : Given) (today : Option ℕ) (renewal : Option Renewal) → AreGiven rows given → misfit_of given ≡ None → given.today ≡ today
+dated : (rows : List Row) (given : GivenOptions) (today : Option ℕ) (renewal : Option Renewal) → AreGiven rows given → misfit_of given ≡ None → given.today ≡ today
     → IsRenewal rows renewal → IfSome renewal (λ how. IsNotPast today how.until)
 dated rows given today None are none same is = tt
 dated rows given today (Some how) are none same is =
     subst (λ until. IsNotPast today until) (same_read (one_of (codes "until") rows) given.until how.until are.until is.1.until)
     (subst (λ day. IsNotPast day given.until) same (date_fits given.until given.today (date given none).1))
 
-changing : (rows : List Row) (given : Given) (renewal : Option Renewal) → AreGiven rows given → misfit_of given ≡ None → IsRenewal rows renewal
+changing : (rows : List Row) (given : GivenOptions) (renewal : Option Renewal) → AreGiven rows given → misfit_of given ≡ None → IsRenewal rows renewal
     → IfSome renewal (λ how. (how.accept || how.prune) ≡ true)
 changing rows given None are none is = tt
 changing rows given (Some how) are none is =
     let so : (given.accept || given.prune) ≡ true = needed_is given.suppress_out (given.accept || given.prune) (changes_and_reason given none).0 (are.suppress_out ∙ is.0) in
     rw (is.1.accept, is.1.prune, sym are.accept, sym are.prune) so
 
-reasoned : (rows : List Row) (given : Given) (how : Renewal) (reason : Option Text) → AreGiven rows given → misfit_of given ≡ None → how.accept ≡ is_set (codes "accept") rows
+reasoned : (rows : List Row) (given : GivenOptions) (how : Renewal) (reason : Option Text) → AreGiven rows given → misfit_of given ≡ None → how.accept ≡ is_set (codes "accept") rows
     → reason ≡ first_of (codes "reason") rows → IfSome reason (λ _. how.accept ≡ true)
 reasoned rows given how None are none accept is = tt
 reasoned rows given how (Some text) are none accept is =
     accept ∙ sym are.accept ∙ needed_is given.reason given.accept (changes_and_reason given none).1 (are.reason ∙ ap is_some (sym is))
 
-until_given : (rows : List Row) (given : Given) (how : Renewal) (until : Option ℕ) → AreGiven rows given → misfit_of given ≡ None → how.accept ≡ is_set (codes "accept") rows
+until_given : (rows : List Row) (given : GivenOptions) (how : Renewal) (until : Option ℕ) → AreGiven rows given → misfit_of given ≡ None → how.accept ≡ is_set (codes "accept") rows
     → given.until ≡ until → IfSome until (λ _. how.accept ≡ true)
 until_given rows given how None are none accept is = tt
 until_given rows given how (Some last) are none accept is =
     accept ∙ sym are.accept ∙ needed_is (is_some given.until) given.accept (date given none).0 (ap is_some is)
 
-pub not_past : (words : List (List ℕ)) (request : Request) → Answers words (Ok request) → IfSome request.upkeep.renewal (λ renewal. IsNotPast request.options.today renewal.until)
+pub not_past : (words : List (List ℕ)) (request : Request) → GivesRequest words (Ok request) → IfSome request.upkeep.renewal (λ renewal. IsNotPast request.options.today renewal.until)
 not_past words request (levels, named, sound, asks, (given, are, none), apart) =
     let rows : List Row = matches_of (program levels) words in
     dated rows given request.options.today request.upkeep.renewal are none
     (same_read (one_of (codes "today") rows) given.today request.options.today are.today asks.today) asks.renewal
 
-pub changed : (words : List (List ℕ)) (request : Request) → Answers words (Ok request) → IfSome request.upkeep.renewal (λ renewal. (renewal.accept || renewal.prune) ≡ true)
+pub changed : (words : List (List ℕ)) (request : Request) → GivesRequest words (Ok request) → IfSome request.upkeep.renewal (λ renewal. (renewal.accept || renewal.prune) ≡ true)
 changed words request (levels, named, sound, asks, (given, are, none), apart) = changing (matches_of (program levels) words) given request.upkeep.renewal are none asks.renewal
 
-each_reason : (rows : List Row) (given : Given) (renewal : Option Renewal) → AreGiven rows given → misfit_of given ≡ None → IsRenewal rows renewal
+each_reason : (rows : List Row) (given : GivenOptions) (renewal : Option Renewal) → AreGiven rows given → misfit_of given ≡ None → IsRenewal rows renewal
     → IfSome renewal (λ how. IfSome how.reason (λ _. how.accept ≡ true))
 each_reason rows given None are none is = tt
 each_reason rows given (Some how) are none is = reasoned rows given how how.reason are none is.1.accept is.1.reason
 
-each_date : (rows : List Row) (given : Given) (renewal : Option Renewal) → AreGiven rows given → misfit_of given ≡ None → IsRenewal rows renewal
+each_date : (rows : List Row) (given : GivenOptions) (renewal : Option Renewal) → AreGiven rows given → misfit_of given ≡ None → IsRenewal rows renewal
     → IfSome renewal (λ how. IfSome how.until (λ _. how.accept ≡ true))
 each_date rows given None are none is = tt
 each_date rows given (Some how) are none is =
     until_given rows given how how.until are none is.1.accept (same_read (one_of (codes "until") rows) given.until how.until are.until is.1.until)
 
-pub justified : (words : List (List ℕ)) (request : Request) → Answers words (Ok request) → IfSome request.upkeep.renewal (λ renewal. IfSome renewal.reason (λ _. renewal.accept ≡ true))
+pub justified : (words : List (List ℕ)) (request : Request) → GivesRequest words (Ok request) → IfSome request.upkeep.renewal (λ renewal. IfSome renewal.reason (λ _. renewal.accept ≡ true))
 justified words request (levels, named, sound, asks, (given, are, none), apart) = each_reason (matches_of (program levels) words) given request.upkeep.renewal are none asks.renewal
 
-pub expiring : (words : List (List ℕ)) (request : Request) → Answers words (Ok request) → IfSome request.upkeep.renewal (λ renewal. IfSome renewal.until (λ _. renewal.accept ≡ true))
+pub expiring : (words : List (List ℕ)) (request : Request) → GivesRequest words (Ok request) → IfSome request.upkeep.renewal (λ renewal. IfSome renewal.until (λ _. renewal.accept ≡ true))
 expiring words request (levels, named, sound, asks, (given, are, none), apart) = each_date (matches_of (program levels) words) given request.upkeep.renewal are none asks.renewal

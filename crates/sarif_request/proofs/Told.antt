@@ -10,7 +10,7 @@ use Rattle.sarif_request.specs.declared.words.WordsFault.TheVariants.{Usage, Hel
 use Rattle.sarif_request.specs.declared.request.Request.{Request}
 use Rattle.sarif_request.specs.Command.{AreLevels, program}
 use Rattle.sarif_request.specs.Names.{names_of}
-use Rattle.sarif_request.specs.Words.{AsksFor, HaveClash, HaveMisfit, HaveNoStates, IsUsageOrOutOfMemory, Tells, IsAsked, IsFaultOf, names_in}
+use Rattle.sarif_request.specs.Words.{AsksFor, HaveClash, HaveMisfit, HaveNoStates, IsUsageOrOutOfMemory, ReportsError, IsAsked, IsFaultOf, names_in}
 
 -- OutOfMemory is neither the help nor the version
 neither : (k : ErrorKind) → k ≡ kind.OutOfMemory → IsAsked k → ⊥
@@ -18,7 +18,7 @@ neither k e (inl help) = let no : kind.OutOfMemory ≡ kind.DisplayHelp = sym e 
 neither k e (inr version) = let no : kind.OutOfMemory ≡ kind.DisplayVersion = sym e ∙ version in cc
 
 pub told : (levels : Bor (List (Bor Text))) (words : List Text) (k : ErrorKind) (fault : WordsFault) → AreLevels levels
-    → (k ≡ kind.OutOfMemory) ⊎ IsAmong k (fault_of (program levels) words) → Tells k fault → IsFaultOf words fault
+    → (k ≡ kind.OutOfMemory) ⊎ IsAmong k (fault_of (program levels) words) → ReportsError k fault → IsFaultOf words fault
 told levels words k (Usage text) names (inl e) tells = absurd (tells.1 e)
 told levels words k (Usage text) names (inr among) tells = (levels, names, inl (k, among, tells.0))
 told levels words k (Help text) names (inl e) tells = absurd (neither k e tells)

@@ -10,8 +10,8 @@ use Rattle.clap.specs.declared.builder.value_parser.ValueParser.TheVariants.{Sig
 use Rattle.sarif_model.specs.Limits.{first_day, last_day, most_workers}
 use Rattle.sarif_reports.specs.declared.report.Report.{Report}
 use Rattle.sarif_reports.specs.Report.{all_reports, report_name}
-use Rattle.sarif_request.specs.declared.option_rows.Kind.{Kind}
-use Rattle.sarif_request.specs.declared.option_rows.Kind.TheVariants.{Logs, Needed, Once, Many, Level, Number, Flag, Help, Version}
+use Rattle.sarif_request.specs.declared.option_rows.OptionKind.{OptionKind}
+use Rattle.sarif_request.specs.declared.option_rows.OptionKind.TheVariants.{Logs, Needed, Once, Many, Level, Number, Flag, Help, Version}
 use Rattle.sarif_request.specs.declared.option_rows.OptionRow.{OptionRow}
 
 -- an option with one value: `--name VALUE`
@@ -23,7 +23,7 @@ abbrev pub flag_rule : Text → Rule
 flag_rule name = record (new_rule name) { long = Some name; action = Some action.SetTrue }
 
 -- the rule of a kind of option; `levels` is what the name of a level has to be
-abbrev pub rule_by : ValueParser → Kind → Text → Rule
+abbrev pub rule_by : ValueParser → OptionKind → Text → Rule
 rule_by levels Logs name =
     record (new_rule name) { value_names = 1; action = Some action.Append; required = true }
 rule_by levels Needed name = record (option_rule name) { required = true }
@@ -40,7 +40,7 @@ rule_by levels Version name =
 -- what the parser sees of the row of an option
 pub record Argument : Type 0 where
   pub name : Text
-  pub kind : Kind
+  pub kind : OptionKind
   pub default : Option Text
 
 abbrev pub argument_of : OptionRow → Argument
@@ -55,7 +55,7 @@ rule_for levels argument =
     let rule = rule_by levels argument.kind argument.name in
     option_map_or (λ value. record rule { defaults = value ∷ [] }) argument.default rule
 
-abbrev pub argument : Text → Kind → Argument
+abbrev pub argument : Text → OptionKind → Argument
 argument name kind = record { name = name; kind = kind; default = None }
 
 abbrev pub with_default : Text → Argument → Argument

@@ -8,7 +8,7 @@ use Rattle.sarif_reports.specs.declared.report.Report.TheVariants as report
 use Rattle.sarif_request.specs.declared.clash.Clash.{Clash}
 use Rattle.sarif_request.specs.declared.clash.Clash.TheVariants.{RepeatedLog, RepeatedBaseline, Suppressions, Outputs, Log, Inputs}
 use Rattle.sarif_request.specs.declared.request.Request.{Request}
-use Rattle.sarif_request.specs.declared.wanted.Wanted.{Wanted}
+use Rattle.sarif_request.specs.declared.wanted.RequestedOutput.{RequestedOutput}
 
 -- the names of the inputs, and of the outputs that are requested
 pub record Names : Type 0 where
@@ -16,7 +16,7 @@ pub record Names : Type 0 where
   pub baselines : List Text
   pub suppress : Option Text
   pub out : Text
-  pub reports : List (Wanted Text)
+  pub reports : List (RequestedOutput Text)
 
 abbrev pub names_of : Request → Names
 names_of request = record {
@@ -47,7 +47,7 @@ abbrev pub may_replace_suppressions : Report → Bool
 may_replace_suppressions report.Suppressions = true
 may_replace_suppressions _ = false
 
-abbrev pub replaces_file : Text → Wanted Text → Bool
+abbrev pub replaces_file : Text → RequestedOutput Text → Bool
 replaces_file name wanted = not (may_replace_suppressions wanted.report) && bytes_eq wanted.to name
 
 -- another output has the name of the suppression file
@@ -76,7 +76,7 @@ may_replace_baseline names _ = false
 
 -- an output besides the merged log has the name of a log, or of a baseline that it may not replace; standard output has
 -- no name
-abbrev pub replaces_input : Names → Wanted Text → Bool
+abbrev pub replaces_input : Names → RequestedOutput Text → Bool
 replaces_input names wanted = not (bytes_eq wanted.to standard)
     && (is_among wanted.to names.logs
     || (is_among wanted.to names.baselines && not (may_replace_baseline names wanted.report)))

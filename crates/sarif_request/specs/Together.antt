@@ -2,7 +2,7 @@
 use Rattle.std.specs.Prelude.{ℕ, Bool, Option, Some, None, ◌&&◌, ◌||◌, is_some, not, nat_lt, if◌then◌else◌}
 use Rattle.std.specs.Option.{option_or}
 use Rattle.sarif_entries.specs.Entries.{is_day}
-use Rattle.sarif_request.specs.declared.together.Given.{Given}
+use Rattle.sarif_request.specs.declared.together.GivenOptions.{GivenOptions}
 use Rattle.sarif_request.specs.declared.together.Misfit.{Misfit}
 use Rattle.sarif_request.specs.declared.together.Misfit.TheVariants.{AcceptNeedsFile, PruneNeedsFile, FileNeedsChange, PruneNeedsEntries, ReasonNeedsAccept, UnusedNeedsEntries, KnownWithAccept, AdoptNeedsKnown, UntilNeedsAccept, UntilNeedsToday, UntilIsNoDate, UntilIsPast}
 
@@ -11,7 +11,7 @@ abbrev pub lacks : Bool → Bool → Bool
 lacks option needed = option && not needed
 
 -- why the options of the outputs for later merges don't go together, if they don't
-abbrev pub upkeep_misfit : Given → Option Misfit
+abbrev pub upkeep_misfit : GivenOptions → Option Misfit
 upkeep_misfit given =
     if lacks given.accept given.suppress_out then Some AcceptNeedsFile else (
     if lacks given.prune given.suppress_out then Some PruneNeedsFile else (
@@ -33,11 +33,11 @@ date_misfit (Some until) (Some today) =
     None))
 
 -- why the expiry date of added entries doesn't fit, if it doesn't
-abbrev pub until_misfit : Given → Option Misfit
+abbrev pub until_misfit : GivenOptions → Option Misfit
 until_misfit given =
     if lacks (is_some given.until) given.accept then Some UntilNeedsAccept else
     date_misfit given.until given.today
 
 -- why options don't go together, if they don't
-abbrev pub misfit_of : Given → Option Misfit
+abbrev pub misfit_of : GivenOptions → Option Misfit
 misfit_of given = option_or (upkeep_misfit given) (until_misfit given)

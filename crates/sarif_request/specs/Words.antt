@@ -20,9 +20,9 @@ use Rattle.sarif_request.specs.declared.clash.Clash.{Clash}
 use Rattle.sarif_request.specs.declared.words.WordsFault.{WordsFault}
 use Rattle.sarif_request.specs.declared.words.WordsFault.TheVariants.{Usage, Help, OutOfMemory}
 use Rattle.sarif_request.specs.declared.request.Request.{Request}
-use Rattle.sarif_request.specs.declared.together.Given.{Given}
+use Rattle.sarif_request.specs.declared.together.GivenOptions.{GivenOptions}
 use Rattle.sarif_request.specs.declared.together.Misfit.{Misfit}
-use Rattle.sarif_request.specs.declared.wanted.Wanted.{Wanted}
+use Rattle.sarif_request.specs.declared.wanted.RequestedOutput.{RequestedOutput}
 use Rattle.sarif_request.specs.Command.{AreLevels, program}
 use Rattle.sarif_request.specs.Listing.{states_listed}
 use Rattle.sarif_request.specs.Names.{Names, clash_of}
@@ -49,30 +49,30 @@ abbrev pub IsAsked : ErrorKind → Type 0
 IsAsked k = (k ≡ kind.DisplayHelp) ⊎ (k ≡ kind.DisplayVersion)
 
 -- how an error of the parser is reported
-abbrev pub Tells : ErrorKind → WordsFault → Type 0
-Tells k (Usage text) = (¬ IsAsked k) × (k ≢ kind.OutOfMemory)
-Tells k (Help text) = IsAsked k
-Tells k OutOfMemory = ⊤
+abbrev pub ReportsError : ErrorKind → WordsFault → Type 0
+ReportsError k (Usage text) = (¬ IsAsked k) × (k ≢ kind.OutOfMemory)
+ReportsError k (Help text) = IsAsked k
+ReportsError k OutOfMemory = ⊤
 
 -- all values of an argument, in the order of the arguments
 abbrev pub values_of : Text → List Row → List Text
 values_of name rows = unwrap_or (all_of name rows) []
 
 -- a string of digits that represents a 32-bit number
-abbrev pub IsWhole : Text → Type 0
-IsWhole text =
+abbrev pub IsWholeNumber : Text → Type 0
+IsWholeNumber text =
     IsNumeral 10 (without_leading_plus text)
     × (digits_value 10 (without_leading_plus text) < 2 ^ 32)
 
 -- the number that a string represents, if there is a string and it represents one
-abbrev pub IsRead : Option Text → Option ℕ → Type 0
-IsRead None n = n ≡ None
-IsRead (Some text) None = ¬ IsWhole text
-IsRead (Some text) (Some n) = IsWhole text × (n ≡ digits_value 10 (without_leading_plus text))
+abbrev pub IsReadNumber : Option Text → Option ℕ → Type 0
+IsReadNumber None n = n ≡ None
+IsReadNumber (Some text) None = ¬ IsWholeNumber text
+IsReadNumber (Some text) (Some n) = IsWholeNumber text × (n ≡ digits_value 10 (without_leading_plus text))
 
 -- that number, otherwise the default
 abbrev pub IsReadOr : ℕ → Option Text → ℕ → Type 0
-IsReadOr default text n = (read : Option ℕ) × IsRead text read × (n ≡ unwrap_or read default)
+IsReadOr default text n = (read : Option ℕ) × IsReadNumber text read × (n ≡ unwrap_or read default)
 
 -- a number of workers
 abbrev pub in_range : ℕ → ℕ
@@ -90,12 +90,12 @@ states_in rows =
     option_map_or states_listed (first_of (codes "states") rows) (Some default_policy.states)
 
 -- an output is requested if its option has a value, which is the name of its file
-abbrev pub wanted_if : Report → Option Text → List (Wanted Text)
+abbrev pub wanted_if : Report → Option Text → List (RequestedOutput Text)
 wanted_if report None = []
 wanted_if report (Some name) = record { report = report; to = name } ∷ []
 
 -- the outputs that are requested besides the merged log, in the order in which they are written
-abbrev pub reports_in : List Row → List (Wanted Text)
+abbrev pub reports_in : List Row → List (RequestedOutput Text)
 reports_in rows =
     flat_map (λ report. wanted_if report (first_of (report_name report) rows)) all_reports
 
@@ -112,7 +112,7 @@ pub record Renews (rows : List Row) (how : Renewal) : Type 0 where
   pub accept : how.accept ≡ is_set (codes "accept") rows
   pub prune : how.prune ≡ is_set (codes "prune") rows
   pub reason : how.reason ≡ first_of (codes "reason") rows
-  pub until : IsRead (one_of (codes "until") rows) how.until
+  pub until : IsReadNumber (one_of (codes "until") rows) how.until
 
 -- how it is made, if it is requested
 abbrev pub IsRenewal : List Row → Option Renewal → Type 0
@@ -125,14 +125,14 @@ known_in rows = if is_given (codes "known") rows
     then Some (if is_set (codes "adopt") rows then Adopted else Matched) else None
 
 -- which options are given of those that need each other
-pub record AreGiven (rows : List Row) (given : Given) : Type 0 where
+pub record AreGiven (rows : List Row) (given : GivenOptions) : Type 0 where
   pub suppress : given.suppress ≡ is_given (codes "suppress") rows
   pub suppress_out : given.suppress_out ≡ is_given (codes "suppress-out") rows
   pub accept : given.accept ≡ is_set (codes "accept") rows
   pub prune : given.prune ≡ is_set (codes "prune") rows
   pub reason : given.reason ≡ is_given (codes "reason") rows
-  pub until : IsRead (one_of (codes "until") rows) given.until
-  pub today : IsRead (one_of (codes "today") rows) given.today
+  pub until : IsReadNumber (one_of (codes "until") rows) given.until
+  pub today : IsReadNumber (one_of (codes "today") rows) given.today
   pub unused : given.unused ≡ is_given (codes "unused") rows
   pub known : given.known ≡ is_given (codes "known") rows
   pub adopt : given.adopt ≡ is_set (codes "adopt") rows
@@ -149,7 +149,7 @@ pub record AsksFor (rows : List Row) (request : Request) : Type 0 where
   pub renewal : IsRenewal rows request.upkeep.renewal
   pub unused : request.upkeep.unused ≡ is_given (codes "unused") rows
   pub known : request.upkeep.known ≡ known_in rows
-  pub today : IsRead (one_of (codes "today") rows) request.options.today
+  pub today : IsReadNumber (one_of (codes "today") rows) request.options.today
   pub require_success : request.options.checks.require_success
       ≡ is_set (codes "require-success") rows
   pub allow_external : request.options.checks.allow_external
@@ -177,7 +177,7 @@ HaveClash app words = (fault_of app words ≡ [])
 
 -- the options that were found go together, or they don't for this reason
 abbrev pub FitUnless : Option Misfit → List Row → Type 0
-FitUnless misfit rows = (given : Given) × AreGiven rows given × (misfit_of given ≡ misfit)
+FitUnless misfit rows = (given : GivenOptions) × AreGiven rows given × (misfit_of given ≡ misfit)
 
 -- the arguments are valid, but some of the options don't go together
 abbrev pub HaveMisfit : App → List Text → Type 0
@@ -207,9 +207,9 @@ IsFaultOf words OutOfMemory = ⊤
 
 -- a request is returned only if the arguments are valid, they list states, their options go together and no names in
 -- them clash, and it is what they request
-abbrev pub Answers : List Text → Result Request WordsFault → Type 0
-Answers words (Ok request) = (levels : Bor (List (Bor Text))) × AreLevels levels
+abbrev pub GivesRequest : List Text → Result Request WordsFault → Type 0
+GivesRequest words (Ok request) = (levels : Bor (List (Bor Text))) × AreLevels levels
     × (fault_of (program levels) words ≡ []) × AsksFor (matches_of (program levels) words) request
     × FitUnless None (matches_of (program levels) words)
     × (clash_of (names_in (matches_of (program levels) words)) ≡ None)
-Answers words (Err fault) = IsFaultOf words fault
+GivesRequest words (Err fault) = IsFaultOf words fault

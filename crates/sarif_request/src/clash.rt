@@ -5,7 +5,7 @@ ghost use Rattle.sarif_request.specs.Names as said;
 
 use crate::repeated::first_repeated;
 use crate::request::Request;
-use crate::wanted::Wanted;
+use crate::wanted::RequestedOutput;
 use sarif_model::Text;
 use sarif_reports::Report;
 use sarif_streams::STANDARD;
@@ -170,7 +170,7 @@ fn inputs_told(alloc: Global, request: &Request) -> Result<String, AllocError> {
 fn input_told(
     alloc: Global,
     request: &Request,
-    wanted: &Wanted<Text>,
+    wanted: &RequestedOutput<Text>,
 ) -> Result<String, AllocError> {
     let option = wanted.report.name();
     let name = wanted.to.as_str();
@@ -237,7 +237,7 @@ fn replaces_suppressions(request: &Request) -> bool
 }
 
 /// Whether one of these outputs would overwrite the suppression file of this name.
-fn one_replaces(name: &str, outputs: &[Wanted<Text>]) -> bool
+fn one_replaces(name: &str, outputs: &[RequestedOutput<Text>]) -> bool
     ensures { result ≡ list_any (said.replaces_file name.now) outputs.now }
 {
     for wanted in outputs {
@@ -249,7 +249,7 @@ fn one_replaces(name: &str, outputs: &[Wanted<Text>]) -> bool
 }
 
 /// Whether this output would overwrite the suppression file of this name.
-fn replaces_file(name: &str, wanted: &Wanted<Text>) -> bool
+fn replaces_file(name: &str, wanted: &RequestedOutput<Text>) -> bool
     ensures { result ≡ said.replaces_file name.now wanted.now }
 {
     match wanted.report {
@@ -267,7 +267,7 @@ fn share_a_name(request: &Request) -> bool
 }
 
 /// Whether one of the reports has this name.
-fn is_among(name: &str, reports: &[Wanted<Text>]) -> bool
+fn is_among(name: &str, reports: &[RequestedOutput<Text>]) -> bool
     ensures { result ≡ said.is_among name.now (map (λ report. report.to) reports.now) }
 {
     for report in reports {
@@ -279,7 +279,7 @@ fn is_among(name: &str, reports: &[Wanted<Text>]) -> bool
 }
 
 /// Whether two of the reports have one name.
-fn have_one_name(reports: &[Wanted<Text>]) -> bool
+fn have_one_name(reports: &[RequestedOutput<Text>]) -> bool
     ensures { result ≡ said.have_one_name (map (λ report. report.to) reports.now) }
 {
     for (at, report) in reports.iter().enumerate() {
@@ -311,7 +311,7 @@ fn replaces_inputs(request: &Request) -> bool
 }
 
 /// Whether this output has the name of a log, or of a baseline that it may not replace.
-fn replaces_input(request: &Request, wanted: &Wanted<Text>) -> bool
+fn replaces_input(request: &Request, wanted: &RequestedOutput<Text>) -> bool
     ensures { result ≡ said.replaces_input (said.names_of request.now) wanted.now }
 {
     let is_log = request.logs.contains(&wanted.to);

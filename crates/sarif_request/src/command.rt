@@ -5,7 +5,7 @@ ghost use Rattle.sarif_reports.specs.Report.{all_reports, report_name};
 ghost use Rattle.sarif_request.specs.Command.{IsProgram, argument_of, option_rule, with_reports};
 ghost use Rattle.sarif_request.specs.Command.{arguments, rule_by, rule_for, start, with_arguments};
 
-use crate::option_rows::{Group, Kind, OptionRow, rows};
+use crate::option_rows::{Group, OptionKind, OptionRow, rows};
 use clap::builder::ValueParser;
 use clap::{Arg, ArgAction, Command};
 use sarif_reports::Report;
@@ -72,7 +72,7 @@ pub fn with_file_row(alloc: Global, help: &str) -> Result<String, AllocError> {
 fn of_rows<'a>(alloc: Global, levels: ValueParser<'a>) -> Result<Command<'a>, AllocError>
     ensures { IfOk result (λ c. app_of c ≡ with_arguments levels.entry start arguments) }
 {
-    let mut command = named(alloc);
+    let mut command = bare_command(alloc);
     for row in rows() {
         command = command.arg(arg_of(alloc, row, levels))?;
     }
@@ -80,7 +80,7 @@ fn of_rows<'a>(alloc: Global, levels: ValueParser<'a>) -> Result<Command<'a>, Al
 }
 
 /// Returns the command without options. The help shows the logs before the options of their group.
-fn named<'a>(alloc: Global) -> Command<'a>
+fn bare_command<'a>(alloc: Global) -> Command<'a>
     ensures { app_of result ≡ start }
 {
     Command::new(alloc, "sarif_gate")
@@ -147,24 +147,24 @@ fn arg_by<'a>(alloc: Global, row: &OptionRow, levels: ValueParser<'a>) -> Arg<'a
 {
     let arg = Arg::new(alloc, row.id);
     match row.kind {
-        Kind::Logs => arg
+        OptionKind::Logs => arg
             .value_name(row.value)
             .action(ArgAction::Append)
             .required(true)
             .display_order(0),
-        Kind::Needed => arg.long(row.id).value_name(row.value).required(true),
-        Kind::Once => arg.long(row.id).value_name(row.value),
-        Kind::Many => arg
+        OptionKind::Needed => arg.long(row.id).value_name(row.value).required(true),
+        OptionKind::Once => arg.long(row.id).value_name(row.value),
+        OptionKind::Many => arg
             .long(row.id)
             .value_name(row.value)
             .action(ArgAction::Append),
-        Kind::Level => arg.long(row.id).value_name(row.value).value_parser(levels),
-        Kind::Number(least, most) => arg
+        OptionKind::Level => arg.long(row.id).value_name(row.value).value_parser(levels),
+        OptionKind::Number(least, most) => arg
             .long(row.id)
             .value_name(row.value)
             .value_parser(ValueParser::signed(least, most)),
-        Kind::Flag => arg.long(row.id).action(ArgAction::SetTrue),
-        Kind::Help => arg.long(row.id).short('h').action(ArgAction::Help),
-        Kind::Version => arg.long(row.id).short('V').action(ArgAction::Version),
+        OptionKind::Flag => arg.long(row.id).action(ArgAction::SetTrue),
+        OptionKind::Help => arg.long(row.id).short('h').action(ArgAction::Help),
+        OptionKind::Version => arg.long(row.id).short('V').action(ArgAction::Version),
     }
 }

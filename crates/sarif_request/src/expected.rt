@@ -1,5 +1,5 @@
 //! What is expected of a number or a date, in the message about an invalid one.
-use crate::option_rows::{Kind, OptionRow, is_date, rows};
+use crate::option_rows::{OptionKind, OptionRow, is_date, rows};
 use std::alloc::{AllocError, Global};
 
 /// What a date has to be.
@@ -39,13 +39,17 @@ fn ends_with_option(alloc: Global, text: &str, row: &OptionRow) -> Result<bool, 
 }
 
 /// Returns a sentence that starts so, with what is expected of an option of this kind, if that is a number or a date.
-fn with_expected(alloc: Global, start: &str, kind: Kind) -> Result<Option<String>, AllocError> {
+fn with_expected(
+    alloc: Global,
+    start: &str,
+    kind: OptionKind,
+) -> Result<Option<String>, AllocError> {
     match kind {
-        Kind::Number(_, _) if is_date(kind) => {
+        OptionKind::Number(_, _) if is_date(kind) => {
             let sentence = format!(in alloc; "{start}{BEFORE_REASON}expected {A_DATE}")?;
             Ok(Some(sentence))
         }
-        Kind::Number(least, most) => {
+        OptionKind::Number(least, most) => {
             let sentence = format!(in alloc;
                 "{start}{BEFORE_REASON}expected a number from {least} to {most}"
             )?;

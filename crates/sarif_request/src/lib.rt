@@ -15,5 +15,5 @@ mod words;
 
 pub use laws::{expiry_dates_are_not_past, requested_renewals_are_sound};
 pub use request::Request;
-pub use wanted::Wanted;
+pub use wanted::RequestedOutput;
 pub use words::{WordsFault, plain_words, read_words};

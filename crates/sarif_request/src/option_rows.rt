@@ -34,7 +34,7 @@ impl Group {
 
 /// What an option takes, and how often.
 #[derive(Clone, Copy, Debug, PartialEq, Eq)]
-pub enum Kind {
+pub enum OptionKind {
     /// One or more values without an option before them.
     Logs,
     /// One value, which is required.
@@ -67,16 +67,16 @@ pub struct OptionRow {
     /// Where the help shows the option.
     pub group: Group,
     /// What the option takes, and how often.
-    pub kind: Kind,
+    pub kind: OptionKind,
     /// The value if the option is not given.
     pub default: Option<&'static str>,
 }
 
 /// A date as YYYYMMDD. Only its range is checked here.
-const DATE: Kind = Kind::Number(FIRST_DAY as i64, LAST_DAY as i64);
+const DATE: OptionKind = OptionKind::Number(FIRST_DAY as i64, LAST_DAY as i64);
 
 /// Returns whether an option of this kind takes a date.
-pub fn is_date(kind: Kind) -> bool {
+pub fn is_date(kind: OptionKind) -> bool {
     kind == DATE
 }
 
@@ -87,7 +87,7 @@ static ROWS: [OptionRow; 20] = [
         help: "SARIF logs to merge, in this order; - is standard input, at most\n\
             once",
         group: Group::Inputs,
-        kind: Kind::Logs,
+        kind: OptionKind::Logs,
         default: None,
     },
     OptionRow {
@@ -96,7 +96,7 @@ static ROWS: [OptionRow; 20] = [
         help: "SARIF log of known results, for example an earlier merged log;\n\
             all other results are new. May be repeated",
         group: Group::Inputs,
-        kind: Kind::Many,
+        kind: OptionKind::Many,
         default: None,
     },
     OptionRow {
@@ -105,7 +105,7 @@ static ROWS: [OptionRow; 20] = [
         help: "JSON file of accepted findings (suppressions), each with a reason\n\
             and an optional expiry date",
         group: Group::Inputs,
-        kind: Kind::Once,
+        kind: OptionKind::Once,
         default: None,
     },
     OptionRow {
@@ -123,7 +123,7 @@ static ROWS: [OptionRow; 20] = [
         help: "Reject a log if the analysis of a run failed: an invocation was\n\
             not successful, or the run's results are missing or null",
         group: Group::Inputs,
-        kind: Kind::Flag,
+        kind: OptionKind::Flag,
         default: None,
     },
     OptionRow {
@@ -132,7 +132,7 @@ static ROWS: [OptionRow; 20] = [
         help: "Allow runs to name external property files, except for results,\n\
             artifacts, invocations, driver and extensions",
         group: Group::Inputs,
-        kind: Kind::Flag,
+        kind: OptionKind::Flag,
         default: None,
     },
     OptionRow {
@@ -141,7 +141,7 @@ static ROWS: [OptionRow; 20] = [
         help: "Minimum level of a hit. Reports also show the results that are\n\
             below it",
         group: Group::Gate,
-        kind: Kind::Level,
+        kind: OptionKind::Level,
         default: Some("error"),
     },
     OptionRow {
@@ -150,7 +150,7 @@ static ROWS: [OptionRow; 20] = [
         help: "States of hits and reported results, joined by commas. They are new,\n\
             updated, unchanged and absent",
         group: Group::Gate,
-        kind: Kind::Once,
+        kind: OptionKind::Once,
         default: Some("new,updated"),
     },
     OptionRow {
@@ -158,7 +158,7 @@ static ROWS: [OptionRow; 20] = [
         value: "NUMBER",
         help: "Allow up to NUMBER hits, from 0 to 4294967295",
         group: Group::Gate,
-        kind: Kind::Number(0, u32::MAX as i64),
+        kind: OptionKind::Number(0, u32::MAX as i64),
         default: Some("0"),
     },
     OptionRow {
@@ -167,7 +167,7 @@ static ROWS: [OptionRow; 20] = [
         help: "Write the merged log to FILE; - is standard output. A rejected merge leaves\n\
             FILE unchanged",
         group: Group::Outputs,
-        kind: Kind::Needed,
+        kind: OptionKind::Needed,
         default: None,
     },
     OptionRow {
@@ -176,7 +176,7 @@ static ROWS: [OptionRow; 20] = [
         help: "Prefix to strip from paths in reports, for example file:///builds/app/. Of\n\
             the prefixes that fit, the first is stripped. May be repeated",
         group: Group::Outputs,
-        kind: Kind::Many,
+        kind: OptionKind::Many,
         default: None,
     },
     OptionRow {
@@ -185,7 +185,7 @@ static ROWS: [OptionRow; 20] = [
         help: "Add an entry to the new suppression file for each hit, so that the next\n\
             merge accepts it. Needs --suppress-out",
         group: Group::Upkeep,
-        kind: Kind::Flag,
+        kind: OptionKind::Flag,
         default: None,
     },
     OptionRow {
@@ -194,7 +194,7 @@ static ROWS: [OptionRow; 20] = [
         help: "Leave out of the new suppression file what expired, and what matches no\n\
             result of a tool that ran. Needs --suppress and --suppress-out",
         group: Group::Upkeep,
-        kind: Kind::Flag,
+        kind: OptionKind::Flag,
         default: None,
     },
     OptionRow {
@@ -202,7 +202,7 @@ static ROWS: [OptionRow; 20] = [
         value: "TEXT",
         help: "Justification of the entries that --accept adds",
         group: Group::Upkeep,
-        kind: Kind::Once,
+        kind: OptionKind::Once,
         default: None,
     },
     OptionRow {
@@ -220,7 +220,7 @@ static ROWS: [OptionRow; 20] = [
         help: "Let new hits and new suppressed results into the known log too. Needs\n\
             --known",
         group: Group::Upkeep,
-        kind: Kind::Flag,
+        kind: OptionKind::Flag,
         default: None,
     },
     OptionRow {
@@ -229,7 +229,7 @@ static ROWS: [OptionRow; 20] = [
         help: "Number of worker threads, 1 to 64, besides the main thread. The outputs do\n\
             not depend on it",
         group: Group::Other,
-        kind: Kind::Number(1, MOST_WORKERS as i64),
+        kind: OptionKind::Number(1, MOST_WORKERS as i64),
         default: Some("4"),
     },
     OptionRow {
@@ -239,7 +239,7 @@ static ROWS: [OptionRow; 20] = [
             there, what was expected and what to do. After an accepted merge, print\n\
             how many runs have no results and how many suppressions match nothing",
         group: Group::Other,
-        kind: Kind::Flag,
+        kind: OptionKind::Flag,
         default: None,
     },
     OptionRow {
@@ -247,7 +247,7 @@ static ROWS: [OptionRow; 20] = [
         value: "",
         help: "Print help",
         group: Group::Other,
-        kind: Kind::Help,
+        kind: OptionKind::Help,
         default: None,
     },
     OptionRow {
@@ -255,7 +255,7 @@ static ROWS: [OptionRow; 20] = [
         value: "",
         help: "Print version",
         group: Group::Other,
-        kind: Kind::Version,
+        kind: OptionKind::Version,
         default: None,
     },
 ];

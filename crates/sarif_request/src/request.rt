@@ -1,6 +1,6 @@
 //! The request of one run of the program.
 
-use crate::wanted::Wanted;
+use crate::wanted::RequestedOutput;
 use sarif_model::Text;
 use sarif_options::{Options, Upkeep};
 
@@ -17,7 +17,7 @@ pub struct Request {
     pub out: Text,
     /// The other outputs that were requested, in the order of `Report::ALL`, with the names of their files; `-` is
     /// standard output.
-    pub reports: Vec<Wanted<Text>>,
+    pub reports: Vec<RequestedOutput<Text>>,
     /// The prefixes of paths in reports, in the order of the arguments: a path that begins with one loses the first of
     /// these. An empty one is none.
     pub roots: Vec<Text>,

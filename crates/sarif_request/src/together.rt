@@ -6,7 +6,7 @@ use sarif_entries::is_day;
 
 /// Which options are given of those that need each other, and the dates among their values.
 #[derive(Clone, Copy, Debug)]
-pub struct Given {
+pub struct GivenOptions {
     /// The suppression file.
     pub suppress: bool,
     /// The new suppression file.
@@ -82,14 +82,14 @@ impl Misfit {
 }
 
 /// Returns why options don't go together, or `None` if they do.
-pub(crate) fn misfit_of(given: &Given) -> Option<Misfit>
+pub(crate) fn misfit_of(given: &GivenOptions) -> Option<Misfit>
     ensures { result ≡ said.misfit_of given.now }
 {
     upkeep_misfit(given).or(until_misfit(given))
 }
 
 /// Returns why the options of the outputs for later merges don't go together, or `None` if they do.
-fn upkeep_misfit(given: &Given) -> Option<Misfit>
+fn upkeep_misfit(given: &GivenOptions) -> Option<Misfit>
     ensures { result ≡ said.upkeep_misfit given.now }
 {
     if given.accept && !given.suppress_out {
@@ -114,7 +114,7 @@ fn upkeep_misfit(given: &Given) -> Option<Misfit>
 }
 
 /// Returns why the expiry date of added entries doesn't fit, or `None` if it does or there is none.
-fn until_misfit(given: &Given) -> Option<Misfit>
+fn until_misfit(given: &GivenOptions) -> Option<Misfit>
     ensures { result ≡ said.until_misfit given.now }
 {
     if given.until.is_some() && !given.accept {

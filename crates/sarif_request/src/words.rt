@@ -3,7 +3,7 @@ ghost use Rattle.std.specs.Prelude.{◌≡◌, ◌↔◌, ◌++◌, IfOk, IsTrue
 ghost use Rattle.clap.specs.Words.{kind_of, rows_of, found_of, first_of, one_of};
 ghost use Rattle.sarif_model.specs.Level.{level_named};
 ghost use Rattle.sarif_options.specs.Policy.{default_policy};
-ghost use Rattle.sarif_request.specs.Words.{words_status, Tells, IsAsked, AsksFor, Answers, IsRead, IsReadOr, IsUsageOrOutOfMemory};
+ghost use Rattle.sarif_request.specs.Words.{words_status, ReportsError, IsAsked, AsksFor, GivesRequest, IsReadNumber, IsReadOr, IsUsageOrOutOfMemory};
 ghost use Rattle.sarif_request.specs.Words.{fail_on_in, is_set, reports_in, states_in, values_of};
 ghost use Rattle.sarif_reports.specs.Report.{report_name};
 ghost use Rattle.sarif_request.specs.Words.{AreGiven, IsRenewal, is_given, known_in, wanted_if};
@@ -14,8 +14,8 @@ use crate::command::{command, with_file_row};
 use crate::expected::sentence_with_expected;
 use crate::listing::states_of;
 use crate::request::Request;
-use crate::together::{Given, misfit_of};
-use crate::wanted::Wanted;
+use crate::together::{GivenOptions, misfit_of};
+use crate::wanted::RequestedOutput;
 use clap::ArgMatches;
 use clap::error::ErrorKind;
 use sarif_model::{Level, MOST_WORKERS, Text};
@@ -77,7 +77,7 @@ pub fn plain_words(alloc: Global) -> Result<Vec<String>, AllocError>
 /// Returns `Usage` if the arguments are invalid, their list of states is none, options in them don't go together or
 /// names in them clash; `Help` if they request the help or the version; `OutOfMemory` if memory runs out.
 pub fn read_words(alloc: Global, seed: RandomState, words: &[String]) -> Result<Request, WordsFault>
-    ensures { Answers (map string_bytes words.now) result }
+    ensures { GivesRequest (map string_bytes words.now) result }
 {
     let command = command(alloc)?;
     match command.try_get_matches_from(words) {
@@ -245,10 +245,10 @@ fn known_of(matches: &ArgMatches<'_>) -> Option<Knowing>
 }
 
 /// Returns which options are given of those that need each other.
-fn given_of(matches: &ArgMatches<'_>) -> Given
+fn given_of(matches: &ArgMatches<'_>) -> GivenOptions
     ensures { AreGiven (rows_of (found_of matches.now)) result }
 {
-    Given {
+    GivenOptions {
         suppress: is_given(matches, "suppress"),
         suppress_out: is_given(matches, "suppress-out"),
         accept: is_set(matches, "accept"),
@@ -307,7 +307,10 @@ fn text_in(alloc: Global, matches: &ArgMatches<'_>, id: &str) -> Result<Text, Al
 }
 
 /// Returns the outputs that are requested besides the merged log, in the order in which they are written.
-fn reports_of(alloc: Global, matches: &ArgMatches<'_>) -> Result<Vec<Wanted<Text>>, AllocError>
+fn reports_of(
+    alloc: Global,
+    matches: &ArgMatches<'_>,
+) -> Result<Vec<RequestedOutput<Text>>, AllocError>
     ensures { IfOk result
         (λ reports. reports.items ≡ reports_in (rows_of (found_of matches.now))) }
 {
@@ -323,13 +326,13 @@ fn push_wanted(
     alloc: Global,
     matches: &ArgMatches<'_>,
     report: Report,
-    reports: &mut Vec<Wanted<Text>>,
+    reports: &mut Vec<RequestedOutput<Text>>,
 ) -> Result<(), AllocError>
     ensures { OnOk result (reports.new.items ≡ reports.old.items
         ++ wanted_if report (first_of (report_name report) (rows_of (found_of matches.now)))) }
 {
     if let Some(to) = name_of(alloc, matches, report.name())? {
-        reports.push(Wanted { report, to })?;
+        reports.push(RequestedOutput { report, to })?;
     }
     Ok(())
 }
@@ -355,7 +358,7 @@ fn is_set(matches: &ArgMatches<'_>, id: &str) -> bool
 
 /// The number of an argument that has at most one.
 fn number_of(matches: &ArgMatches<'_>, id: &str) -> Option<u32>
-    ensures { IsRead (one_of id.now (rows_of (found_of matches.now))) result }
+    ensures { IsReadNumber (one_of id.now (rows_of (found_of matches.now))) result }
 {
     matches.get_one::<u32>(id)
 }
@@ -413,7 +416,7 @@ fn fail_on_of(matches: &ArgMatches<'_>) -> Option<Level>
 
 /// Returns the result of the parser as an error with the parser's text.
 fn fault_of(alloc: Global, error: &clap::Error) -> WordsFault
-    ensures { Tells (kind_of error.now) result }
+    ensures { ReportsError (kind_of error.now) result }
 {
     if error.kind() == ErrorKind::OutOfMemory {
         return WordsFault::OutOfMemory;

@@ -89,7 +89,7 @@ pub fn draft_current(
     let mut members = into_members(alloc, found);
     let own = take_suppressions(alloc, &mut members)?;
     let applied = file.apply(alloc, record)?;
-    let list = file.written(alloc, own, &applied)?;
+    let list = file.write_suppressions(alloc, own, &applied)?;
     object_holds_no_fraction();
     written_passes_where_its_parts_do();
     let draft = finish_draft(alloc, members, record.level, list, applied)?;

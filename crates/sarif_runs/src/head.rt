@@ -124,8 +124,8 @@ impl RunHead {
         ensures ok { IfOk result (λ place. place_of self.now.artifacts parts.now ≡ Ok place) }
         ensures err { IfFault result (λ fault. place_of self.now.artifacts parts.now ≡ Err fault) }
     {
-        let uri = copied(&parts.uri)?;
-        let base = copied(&parts.base)?;
+        let uri = clone_text(&parts.uri)?;
+        let base = clone_text(&parts.base)?;
         self.place_with(uri, base, parts.artifact)
     }
 
@@ -150,8 +150,8 @@ impl RunHead {
         let Some(named) = self.artifacts.as_slice().get(index as usize) else {
             return Err(Refusal::Fault(Fault::BadIndex));
         };
-        let uri = copied(&named.uri)?;
-        let base = copied(&named.base)?;
+        let uri = clone_text(&named.uri)?;
+        let base = clone_text(&named.base)?;
         Ok(Place { uri, base })
     }
 
@@ -206,7 +206,7 @@ fn share_if_there(own: Option<Text>, held: &Option<Text>) -> Result<Option<Text>
 }
 
 /// A string, if there is one; it is not copied.
-fn copied(text: &Option<Text>) -> Result<Option<Text>, AllocError>
+fn clone_text(text: &Option<Text>) -> Result<Option<Text>, AllocError>
     ensures { IfOk result (λ copy. copy ≡ text.now) }
 {
     match text {

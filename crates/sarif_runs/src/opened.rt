@@ -178,12 +178,12 @@ impl<'t, 'a> OpenedRun<'t, 'a> {
 
     /// Result `seq` of the run, numbered from 0, with only its members that have one of these names. Returns
     /// `AllocError` if memory for them runs out.
-    pub fn picked(&self, alloc: Global, seq: u32, names: &[&str]) -> Result<Value, AllocError>
+    pub fn pick_result(&self, alloc: Global, seq: u32, names: &[&str]) -> Result<Value, AllocError>
         requires { seq < length (results_of (placed_of self.now).run) }
         ensures { IfOk result (λ found. view found ≡ picked (map (λ name. name.now) names.now)
             (result_at (placed_of self.now).run seq)) }
     {
-        self.run.picked(alloc, seq, names)
+        self.run.pick_result(alloc, seq, names)
     }
 
     /// What reports show of the first location of result `seq` of the run, numbered from 0.

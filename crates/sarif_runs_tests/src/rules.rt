@@ -71,9 +71,9 @@ fn answer_in_words(alloc: Global, seed: RandomState, run: &RawRun) -> Result<Str
 
 /// Random bytes that are all the same.
 #[derive(Drop)]
-struct Bytes(u8);
+struct EqualBytes(u8);
 
-impl RandomSource for Bytes {
+impl RandomSource for EqualBytes {
     fn fill_bytes(&self, buf: &mut [u8]) -> io::Result<()> {
         buf.fill(self.0);
         Ok(())
@@ -83,7 +83,7 @@ impl RandomSource for Bytes {
 // The result of a run for one of some seeds, if it isn't the expected one.
 fn wrong_answer(alloc: Global, run: &RawRun, wanted: &str) -> Result<Option<String>, Fail> {
     for byte in [0, 1, 255] {
-        let seed = RandomState::new(&Bytes(byte))?;
+        let seed = RandomState::new(&EqualBytes(byte))?;
         let answer = answer_in_words(alloc, seed, run)?;
         if answer.as_str() != wanted {
             return Ok(Some(answer));

@@ -134,7 +134,7 @@ fn each_in_turn<T, U: Drop, F: Fn(&T) -> Result<U, AllocError>>(
 }
 
 /// Returns the concatenation of these lists, which have this many elements in all.
-fn joined<U: Drop>(
+fn join_lists<U: Drop>(
     alloc: Global,
     count: usize,
     lists: Vec<Result<Vec<U>, AllocError>>,
@@ -168,7 +168,7 @@ pub fn share_each<
         ensures { IfOk result (λ made. GivesEachAt F.Fn one.entry.now some.now made.items) }
     { each_in_turn(alloc, some, one) };
     let lists = share_parts(sharing, items, &part)?;
-    joined(alloc, items.len(), lists)
+    join_lists(alloc, items.len(), lists)
 }
 
 /// Returns references to these, in order: the jobs of a call of `share_jobs` in which each is only read. Returns

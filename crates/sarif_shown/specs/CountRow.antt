@@ -4,10 +4,10 @@ use Rattle.std.specs.Fmt.{decimal}
 use Rattle.sarif_model.specs.declared.kinds.Level.{Level}
 use Rattle.sarif_model.specs.declared.kinds.Level.TheVariants.{NoLevel, Note, Warning, Error}
 use Rattle.sarif_counts.specs.Summary.{suppressed_of}
-use Rattle.sarif_shown.specs.declared.count_row.Row.{Row}
+use Rattle.sarif_shown.specs.declared.count_row.CountRow.{CountRow}
 
 -- a state's active results by level, and its suppressed ones
-abbrev pub numbers_of : (Level → Bool → ℕ) → Row
+abbrev pub numbers_of : (Level → Bool → ℕ) → CountRow
 numbers_of numbers = record {
   error = numbers Error false;
   warning = numbers Warning false;
@@ -27,5 +27,5 @@ row_end note none suppressed =
     ++ (codes " | " ++ (decimal suppressed ++ codes " |\n"))))
 
 -- | STATE | ERROR | WARNING | NOTE | NONE | SUPPRESSED |
-abbrev pub row_of : List ℕ → Row → List ℕ
+abbrev pub row_of : List ℕ → CountRow → List ℕ
 row_of name row = row_begin name row.error row.warning ++ row_end row.note row.none row.suppressed

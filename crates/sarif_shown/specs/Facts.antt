@@ -5,7 +5,7 @@ use Rattle.sarif_options.specs.declared.policy.Policy.{Policy}
 use Rattle.sarif_counts.specs.Counts.{count_at}
 use Rattle.sarif_counts.specs.Hits.{Count}
 use Rattle.sarif_findings.specs.declared.finding.Finding.{Finding}
-use Rattle.sarif_shown.specs.declared.told.Told.{Told}
+use Rattle.sarif_shown.specs.declared.told.ReportInput.{ReportInput}
 
 -- the facts about a merged log
 pub record Facts : Type 0 where
@@ -23,7 +23,7 @@ pub record Facts : Type 0 where
   pub life : Option Life
 
 -- what a report receives
-abbrev pub facts_of : Told → Facts
+abbrev pub facts_of : ReportInput → Facts
 facts_of told = record {
   count = count_at told.counts.now;
   policy = told.policy.now;

@@ -3,7 +3,7 @@ ghost use Rattle.std.specs.Prelude.{◌≡◌, ◌++◌, IfOk, OnOk, string_byte
 ghost use Rattle.sarif_shown.specs.AzureReport as said;
 
 use crate::escaping::Escaping;
-use crate::listing::listed;
+use crate::listing::list_findings;
 use itoa::Buffer;
 use sarif_findings::Finding;
 use sarif_model::{Level, Text};
@@ -152,6 +152,6 @@ fn azure_lines(alloc: Global, findings: &[&Finding]) -> Result<String, AllocErro
 pub fn azure_report(alloc: Global, findings: &[Finding]) -> Result<String, AllocError>
     ensures { IfOk result (λ s. string_bytes s ≡ said.azure_of findings.now) }
 {
-    let listed = listed(alloc, findings)?;
+    let listed = list_findings(alloc, findings)?;
     azure_lines(alloc, listed.as_slice())
 }

@@ -8,7 +8,7 @@ use sarif_counts::Counts;
 use sarif_model::{Level, State};
 
 /// All suppressed results of a state.
-fn suppressed(counts: &Counts, state: State) -> u64
+fn count_suppressed(counts: &Counts, state: State) -> u64
     ensures { result ≡ suppressed_of (count_at counts.now state) }
 {
     u64::from(counts.get(state, Level::Error, true))
@@ -19,7 +19,7 @@ fn suppressed(counts: &Counts, state: State) -> u64
 
 /// The numbers of one state's row.
 #[derive(Drop)]
-pub struct Row {
+pub struct CountRow {
     /// The active results of the level `error`.
     pub error: u32,
     /// The active results of the level `warning`.
@@ -33,14 +33,14 @@ pub struct Row {
 }
 
 /// Returns the numbers of one state's row.
-pub fn row_numbers(counts: &Counts, state: State) -> Row
+pub fn row_numbers(counts: &Counts, state: State) -> CountRow
     ensures { result ≡ numbers_of (count_at counts.now state) }
 {
-    Row {
+    CountRow {
         error: counts.get(state, Level::Error, false),
         warning: counts.get(state, Level::Warning, false),
         note: counts.get(state, Level::Note, false),
         none: counts.get(state, Level::NoLevel, false),
-        suppressed: suppressed(counts, state),
+        suppressed: count_suppressed(counts, state),
     }
 }

@@ -3,7 +3,7 @@ ghost use Rattle.std.specs.Prelude.{◌≡◌, ◌++◌, IfOk, OnOk, flat_map, m
 ghost use Rattle.sarif_shown.specs.GithubReport as said;
 
 use crate::escaping::Escaping;
-use crate::listing::listed;
+use crate::listing::list_findings;
 use itoa::Buffer;
 use sarif_findings::Finding;
 use sarif_model::{Level, Text};
@@ -114,7 +114,7 @@ fn push_lines(alloc: Global, text: &mut String, listed: &[&Finding]) -> Result<(
 pub fn github_report(alloc: Global, findings: &[Finding]) -> Result<String, AllocError>
     ensures { IfOk result (λ s. string_bytes s ≡ said.github_of findings.now) }
 {
-    let listed = listed(alloc, findings)?;
+    let listed = list_findings(alloc, findings)?;
     let mut text = String::new(alloc);
     push_lines(alloc, &mut text, listed.as_slice())?;
     Ok(text)

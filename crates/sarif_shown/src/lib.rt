@@ -14,7 +14,7 @@ mod text_lines;
 mod told;
 
 pub use azure_lines::azure_report;
-pub use count_row::{Row, row_numbers};
+pub use count_row::{CountRow, row_numbers};
 pub use escaping::Escaping;
 pub use github_lines::github_report;
 pub use laws::{
@@ -23,10 +23,10 @@ pub use laws::{
     reported_hits_are_counted, shown_signs_stand_apart, shown_texts_are_seen,
     text_reports_have_a_line_a_result,
 };
-pub use listing::{listed, push_hits, push_others};
+pub use listing::{list_findings, push_hits, push_others};
 pub use place::{push_numbered, push_path, push_place};
 pub use sentences::{
-    accept_text, counted, entries_text, gate_end, gate_text, hits_text, more_text, runs_text,
+    accept_text, count_text, entries_text, gate_end, gate_text, hits_text, more_text, runs_text,
 };
 pub use text_lines::{push_result_line, text_report};
-pub use told::Told;
+pub use told::ReportInput;

@@ -70,7 +70,10 @@ pub fn push_others<'f>(
 
 /// Returns the findings in the order in which reports list them: the hits, then the others, the worst level of each
 /// first, and within a level in the order of the merged log. Returns `AllocError` if memory for their list runs out.
-pub fn listed<'f>(alloc: Global, findings: &'f [Finding]) -> Result<Vec<&'f Finding>, AllocError>
+pub fn list_findings<'f>(
+    alloc: Global,
+    findings: &'f [Finding],
+) -> Result<Vec<&'f Finding>, AllocError>
     ensures { IfOk result
         (λ listed. map (λ f. f.now) listed.items ≡ said.listed findings.now) }
 {

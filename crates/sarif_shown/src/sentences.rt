@@ -6,7 +6,7 @@ use sarif_counts::Verdict;
 use std::alloc::{AllocError, Global};
 
 /// Returns a number and what it counts: `one` for 1, otherwise `more`. Returns `AllocError` if memory runs out.
-pub fn counted(alloc: Global, number: usize, one: &str, more: &str) -> Result<String, AllocError>
+pub fn count_text(alloc: Global, number: usize, one: &str, more: &str) -> Result<String, AllocError>
     ensures { IfOk result (λ s. string_bytes s ≡ said.counted number one.now more.now) }
 {
     let noun = if number == 1 { one } else { more };
@@ -17,7 +17,7 @@ pub fn counted(alloc: Global, number: usize, one: &str, more: &str) -> Result<St
 pub fn hits_text(alloc: Global, hits: usize) -> Result<String, AllocError>
     ensures { IfOk result (λ s. string_bytes s ≡ said.hits_text hits) }
 {
-    counted(alloc, hits, " hit", " hits")
+    count_text(alloc, hits, " hit", " hits")
 }
 
 /// Returns what follows the verdict: the hits and how many of them are allowed. Returns `AllocError` if memory runs
@@ -49,7 +49,7 @@ fn more_with(alloc: Global, number: usize, of_them: &str) -> Result<String, Allo
 fn more_of_both(alloc: Global, number: usize, hits: usize) -> Result<String, AllocError>
     ensures { IfOk result (λ s. string_bytes s ≡ said.more_of_both number hits) }
 {
-    let of_them = counted(alloc, hits, " of them a hit.", " of them hits.")?;
+    let of_them = count_text(alloc, hits, " of them a hit.", " of them hits.")?;
     let text = more_with(alloc, number, of_them.as_str())?;
     Ok(text)
 }
@@ -59,7 +59,7 @@ pub fn more_text(alloc: Global, number: usize, hits: usize) -> Result<String, Al
     ensures { IfOk result (λ s. string_bytes s ≡ said.more_text number hits) }
 {
     if hits == number {
-        return counted(
+        return count_text(
             alloc,
             number,
             " more hit is in the merged log.",
@@ -67,7 +67,7 @@ pub fn more_text(alloc: Global, number: usize, hits: usize) -> Result<String, Al
         );
     }
     if hits == 0 {
-        return counted(
+        return count_text(
             alloc,
             number,
             " more result is in the merged log.",
@@ -97,7 +97,7 @@ pub fn accept_text(
 pub fn runs_text(alloc: Global, number: u32) -> Result<String, AllocError>
     ensures { IfOk result (λ s. string_bytes s ≡ said.runs_text number) }
 {
-    counted(
+    count_text(
         alloc,
         number as usize,
         " run without results: nothing is known of what it looked for.",
@@ -109,7 +109,7 @@ pub fn runs_text(alloc: Global, number: u32) -> Result<String, AllocError>
 pub fn entries_text(alloc: Global, number: u32) -> Result<String, AllocError>
     ensures { IfOk result (λ s. string_bytes s ≡ said.entries_text number) }
 {
-    counted(
+    count_text(
         alloc,
         number as usize,
         " suppression entry matches nothing.",

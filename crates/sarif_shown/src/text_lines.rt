@@ -2,7 +2,7 @@
 ghost use Rattle.std.specs.Prelude.{◌≡◌, ◌++◌, IfOk, OnOk, flat_map, map, string_bytes};
 ghost use Rattle.sarif_shown.specs.TextReport as said;
 
-use crate::listing::listed;
+use crate::listing::list_findings;
 use crate::place::push_place;
 use sarif_findings::Finding;
 use std::alloc::{AllocError, Global};
@@ -83,7 +83,7 @@ fn push_lines(text: &mut String, listed: &[&Finding]) -> Result<(), AllocError>
 pub fn text_report(alloc: Global, findings: &[Finding]) -> Result<String, AllocError>
     ensures { IfOk result (λ s. string_bytes s ≡ said.text_lines_of findings.now) }
 {
-    let listed = listed(alloc, findings)?;
+    let listed = list_findings(alloc, findings)?;
     let mut text = String::new(alloc);
     push_lines(&mut text, listed.as_slice())?;
     Ok(text)

@@ -6,7 +6,7 @@ use std::hash::RandomState;
 
 /// What reports are made from: the results of the merged log, counted, the policy of the gate, and the findings.
 #[derive(Clone, Copy, Drop)]
-pub struct Told<'a> {
+pub struct ReportInput<'a> {
     /// How many results the merged log has, by baseline state, level and suppression.
     pub counts: &'a Counts,
     /// The policy of the gate, which decides the hits and the verdict.

@@ -211,7 +211,7 @@ fn new_file_like<R: Files>(files: &R, name: Path<'_>, mode: u32) -> io::Result<R
 
 /// Syncs a new file and gives it its name, or removes it.
 fn finish<R: Files>(files: &R, place: &OutputPlace<'_>, file: &R::File) -> io::Result<()> {
-    match renamed(files, place, file) {
+    match sync_and_rename(files, place, file) {
         Ok(()) => Ok(()),
         Err(error) => {
             remove_new(files, place);
@@ -221,7 +221,7 @@ fn finish<R: Files>(files: &R, place: &OutputPlace<'_>, file: &R::File) -> io::R
 }
 
 /// Syncs a new file and gives it its name.
-fn renamed<R: Files>(files: &R, place: &OutputPlace<'_>, file: &R::File) -> io::Result<()> {
+fn sync_and_rename<R: Files>(files: &R, place: &OutputPlace<'_>, file: &R::File) -> io::Result<()> {
     file.sync_all()?;
     match &place.found {
         Destination::Named { whole, new } => fs::rename(files, new.as_path(), whole.as_path()),

@@ -51,7 +51,7 @@ fn count_unset(marks: &[bool]) -> usize
 
 impl Marks {
     /// That many marks, none of them set.
-    pub(crate) fn unset(alloc: Global, count: usize) -> Result<Marks, AllocError>
+    pub(crate) fn all_unset(alloc: Global, count: usize) -> Result<Marks, AllocError>
         requires { count ≤ most_entries }
         ensures { IfOk result (λ marks. marks ≡ replicate count false) }
     {

@@ -138,7 +138,7 @@ impl<S: BuildHasher + Copy> Suppressions<S> {
     /// Returns the suppressions of a result to which the file was applied: its `own` suppressions, unchanged, and
     /// then the objects of the matching entries in file order, each only if no equal one comes before it. Returns
     /// `AllocError` if memory for the list runs out.
-    pub fn written(
+    pub fn write_suppressions(
         &self,
         alloc: Global,
         own: Vec<Value>,
@@ -158,6 +158,6 @@ impl<S: BuildHasher + Copy> Suppressions<S> {
     pub fn marks(&self, alloc: Global) -> Result<Marks, AllocError>
         ensures { IfOk result (λ marks. marks ≡ marks_of self.now []) }
     {
-        Ok(Marks::unset(alloc, self.entries.len())?)
+        Ok(Marks::all_unset(alloc, self.entries.len())?)
     }
 }

@@ -30,7 +30,7 @@ fn written_by(
     own: &str,
 ) -> Result<(String, bool), AllocError> {
     let applied = rules.apply(alloc, finding)?;
-    let list = rules.written(alloc, array_of(alloc, own), &applied)?;
+    let list = rules.write_suppressions(alloc, array_of(alloc, own), &applied)?;
     Ok((Value::Array(list).to_string(alloc)?, applied.suppressed))
 }
 

@@ -9,7 +9,7 @@ use Rattle.sarif_suppress.specs.declared.suppressions.Applied.{Applied}
 use Rattle.sarif_entries.specs.File.{File}
 use Rattle.sarif_results.specs.declared.draft.Draft.{Draft}
 use Rattle.sarif_results.specs.Drafts.{applied_of}
-use Rattle.sarif_accept.specs.Adding.{accepted_among, is_hit, stays, Counts}
+use Rattle.sarif_accept.specs.Adding.{accepted_among, is_hit, stays, MayBeHit}
 use Rattle.sarif_upkeep.specs.Renewed.{absent_hits, no_entries, staying_among}
 
 -- the first of what is left of a list
@@ -28,7 +28,7 @@ applied_at file rs drafts n r dr draft dd in_rs in_drafts r_is draft_is same =
     ∙ get_or-map (applied_of file) rs n dr none in_rs
     ∙ ap (applied_of file) (sym r_is)
 
-module _ (counts : Counts) (file : File) where
+module _ (counts : MayBeHit) (file : File) where
   abbrev is_taken : Record → State → Bool
   is_taken r state = is_hit counts file r state && not (stays file r)
 

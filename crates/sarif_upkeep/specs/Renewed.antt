@@ -15,7 +15,7 @@ use Rattle.sarif_counts.specs.declared.life.NewFile.{NewFile}
 use Rattle.sarif_options.specs.declared.upkeep.Renewal.{Renewal}
 use Rattle.sarif_counts.specs.Hits.{count_if}
 use Rattle.sarif_entries.specs.File.{File}
-use Rattle.sarif_accept.specs.Adding.{accepted_among, added_for, is_hit, may_hit, stays, Counts, How}
+use Rattle.sarif_accept.specs.Adding.{accepted_among, added_for, is_hit, may_hit, stays, MayBeHit, How}
 use Rattle.sarif_accept.specs.Entry.{entry_for}
 use Rattle.sarif_accept.specs.Keeping.{is_kept}
 use Rattle.sarif_accept.specs.NewFile.{entries_after, file_object, file_text, new_file}
@@ -59,7 +59,7 @@ rules_after m renewal =
 -- ---- its numbers
 
 -- how many hits among current results stay hits
-abbrev pub staying_among : Counts → File → List Record → List State → ℕ
+abbrev pub staying_among : MayBeHit → File → List Record → List State → ℕ
 staying_among counts file [] states = 0
 staying_among counts file (r ∷ rs) [] = 0
 staying_among counts file (r ∷ rs) (state ∷ states) =
@@ -71,7 +71,7 @@ abbrev pub no_entries : File → File
 no_entries file = record { entries = []; today = file.today }
 
 -- how many results of baselines that no current result matches are hits; an entry suppresses none of them
-abbrev pub absent_hits : Counts → File → List Record → List Bool → ℕ
+abbrev pub absent_hits : MayBeHit → File → List Record → List Bool → ℕ
 absent_hits counts file [] taken = 0
 absent_hits counts file (r ∷ rs) [] = 0
 absent_hits counts file (r ∷ rs) (taken ∷ more) =

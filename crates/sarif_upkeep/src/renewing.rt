@@ -34,7 +34,7 @@ fn rejection_of(refusal: Refusal<Cause>) -> MergeFault
     ensures { result ≡ rejected refusal }
 {
     match refusal {
-        Refusal::Fault(cause) => MergeFault::found(At::Whole(Source::Suppress), cause),
+        Refusal::Fault(cause) => MergeFault::with_place(At::Whole(Source::Suppress), cause),
         Refusal::OutOfMemory => MergeFault::from(AllocError),
     }
 }

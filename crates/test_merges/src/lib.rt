@@ -12,4 +12,4 @@ pub use given::{Bytes, Given, ZEROS, beside, one_log, seed_of};
 pub use merging::{expect_log, expect_runs, merge, merge_watched};
 pub use reading::{Texts, merge_texts, options_by, readers_of};
 pub use runs::{json_of_runs, log_of, log_with};
-pub use wanted::{NOTHING, Wanted};
+pub use wanted::{ExpectedCounts, NOTHING};

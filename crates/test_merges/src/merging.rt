@@ -8,7 +8,7 @@ ghost use Rattle.sarif_streams.specs.WereRead.{contents_of};
 
 use crate::given::{Given, seed_of};
 use crate::runs::json_of_runs;
-use crate::wanted::{Wanted, text_of};
+use crate::wanted::{ExpectedCounts, text_of};
 use sarif_counts::Verdict;
 use sarif_gather::{Gate, NoGate};
 use sarif_log::Merged;
@@ -76,7 +76,7 @@ fn expect_text(text: &str, wanted: &str) -> Result<(), Fail>
 
 /// Fails unless the gate passes, the merged log is this JSON, and the numbers of runs without results and of unused
 /// suppressions are the expected ones.
-fn expect_merged(merged: &Merged, text: &str, wanted: Wanted) -> Result<(), Fail>
+fn expect_merged(merged: &Merged, text: &str, wanted: ExpectedCounts) -> Result<(), Fail>
     ensures log { IfOk result (λ _. merged.now.log ≡ text.now) }
     ensures without { IfOk result (λ _. merged.now.without ≡ wanted.without) }
     ensures unused { IfOk result (λ _. merged.now.unused ≡ wanted.unused) }
@@ -98,7 +98,7 @@ fn expect_merged(merged: &Merged, text: &str, wanted: Wanted) -> Result<(), Fail
 pub fn expect_runs<R: AllocGlobal + Threads + Wait + Sync>(
     rt: &R,
     given: &Given,
-    wanted: Wanted,
+    wanted: ExpectedCounts,
     runs: &str,
 ) -> Result<String, Fail>
     ensures log { IfOk result (λ log. string_bytes log ≡ output_text
@@ -116,7 +116,7 @@ pub fn expect_runs<R: AllocGlobal + Threads + Wait + Sync>(
 pub fn expect_log<R: AllocGlobal + Threads + Wait + Sync>(
     rt: &R,
     given: &Given,
-    wanted: Wanted,
+    wanted: ExpectedCounts,
     runs: &str,
 ) -> Result<String, Fail>
     ensures log { IfOk result (λ log. string_bytes log ≡ output_text

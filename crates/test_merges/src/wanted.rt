@@ -4,7 +4,7 @@ use std::alloc::{AllocError, Global};
 /// The numbers of a merged log without hits under the default policy: its active results by state, and the new
 /// results that are suppressed. Each string has the numbers of errors, warnings, notes and results of no level.
 #[derive(Clone, Copy)]
-pub struct Wanted {
+pub struct ExpectedCounts {
     /// The active results that are absent.
     pub absent: &'static str,
     /// The active ones that are new.
@@ -22,7 +22,7 @@ pub struct Wanted {
 }
 
 /// No results at all.
-pub const NOTHING: Wanted = Wanted {
+pub const NOTHING: ExpectedCounts = ExpectedCounts {
     absent: "0,0,0,0",
     new: "0,0,0,0",
     suppressed: "0,0,0,0",
@@ -33,8 +33,8 @@ pub const NOTHING: Wanted = Wanted {
 };
 
 /// The expected log with these runs, which are JSON.
-pub fn text_of(alloc: Global, wanted: Wanted, runs: &str) -> Result<String, AllocError> {
-    let Wanted {
+pub fn text_of(alloc: Global, wanted: ExpectedCounts, runs: &str) -> Result<String, AllocError> {
+    let ExpectedCounts {
         absent,
         new,
         suppressed,

@@ -4,4 +4,4 @@
 
 mod running;
 
-pub use running::{AMPLE, Ended, Given, Narrow, Rooms, Setting, plain_request, run_over};
+pub use running::{AMPLE, Ended, GivenBytes, Narrow, Rooms, Setting, plain_request, run_over};

@@ -5,7 +5,7 @@ ghost use Rattle.sarif_streams.specs.Counted.{failed_calls};
 ghost use Rattle.sarif_streams.specs.Room.{HaveRoom};
 
 use sarif_program::{Complaints, Writers, run_request, seed_of};
-use sarif_request::{Request, Wanted, plain_words, read_words};
+use sarif_request::{Request, RequestedOutput, plain_words, read_words};
 use sarif_streams::{Counted, Readers};
 use std::alloc::{AllocError, Global};
 use std::cell::RefCell;
@@ -38,16 +38,16 @@ pub fn plain_request(alloc: Global) -> Result<Request, AllocError> {
 
 /// A reader that returns at most `piece` of its bytes per read, and fails once it was read `good` times.
 #[derive(Drop)]
-pub struct Given {
+pub struct GivenBytes {
     bytes: &'static [u8],
     piece: usize,
     good: u32,
 }
 
-impl Given {
+impl GivenBytes {
     /// A reader of a string, which returns ten bytes per read and does not fail within 1,000 reads.
-    pub fn whole(text: &'static str) -> Given {
-        Given {
+    pub fn whole(text: &'static str) -> GivenBytes {
+        GivenBytes {
             bytes: text.as_bytes(),
             piece: 10,
             good: 1000,
@@ -55,8 +55,8 @@ impl Given {
     }
 
     /// A reader of a string, which returns ten bytes per read and fails after `good` reads.
-    pub fn failing_over(text: &'static str, good: u32) -> Given {
-        Given {
+    pub fn failing_over(text: &'static str, good: u32) -> GivenBytes {
+        GivenBytes {
             bytes: text.as_bytes(),
             piece: 10,
             good,
@@ -64,7 +64,7 @@ impl Given {
     }
 }
 
-impl Read for Given {
+impl Read for GivenBytes {
     fn read(&mut self, buf: &mut [u8]) -> io::Result<usize> {
         if self.good == 0 {
             return Err(io::ErrorKind::Interrupted.into());
@@ -161,8 +161,8 @@ pub fn run_over<'a, T: Threads + Wait + Sync>(
     threads: &T,
     alloc: Global,
     setting: &Setting<'_>,
-    readers: &mut Readers<Given>,
-    reports: Vec<Wanted<Counted<Narrow<'a>>>>,
+    readers: &mut Readers<GivenBytes>,
+    reports: Vec<RequestedOutput<Counted<Narrow<'a>>>>,
 ) -> Result<Ended, AllocError>
     requires readers { HaveRoom readers.old }
     requires reports { All (λ wanted. failed_calls wanted.to < 2 ^ 63) reports.items }
@@ -178,7 +178,7 @@ pub fn run_over<'a, T: Threads + Wait + Sync>(
     };
     let told = Narrow::new(&complain, rooms.piece, rooms.complain);
     let mut complaints = if setting.is_explained {
-        Complaints::explained(told)
+        Complaints::with_explanations(told)
     } else {
         Complaints::new(told)
     };

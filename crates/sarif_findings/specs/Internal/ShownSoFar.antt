@@ -17,8 +17,8 @@ shown_with so_far cs =
     else encode_utf8_all (kept so_far.room (parted_signs so_far.after_sign (map plain cs))))
 
 -- these characters were read, and others may follow
-abbrev pub Takes : ShownText → ShownText → List ℕ → Type 0
-Takes old new cs = (rest : List ℕ) → shown_with old (cs ++ rest) ≡ shown_with new rest
+abbrev pub TakesCharacters : ShownText → ShownText → List ℕ → Type 0
+TakesCharacters old new cs = (rest : List ℕ) → shown_with old (cs ++ rest) ≡ shown_with new rest
 
 -- what is kept of characters after the first two steps
 abbrev pub kept_with : ShownText → List ℕ → List ℕ
@@ -30,12 +30,12 @@ abbrev pub Keeps : ShownText → ShownText → ℕ → List ℕ → Type 0
 Keeps old new c cs = kept_with old (c ∷ cs) ≡ kept_with new cs
 
 -- a space was kept where one belongs before the character
-abbrev pub Parts : ShownText → ShownText → ℕ → List ℕ → Type 0
-Parts old new c cs = kept_with old (parted old.after_sign c ++ cs) ≡ kept_with new (c ∷ cs)
+abbrev pub SeparatesCharacter : ShownText → ShownText → ℕ → List ℕ → Type 0
+SeparatesCharacter old new c cs = kept_with old (parted old.after_sign c ++ cs) ≡ kept_with new (c ∷ cs)
 
 -- these characters were read, together with that many further characters of the string
 abbrev pub Writes : ShownText → ShownText → ℕ → List ℕ × ℕ → Type 0
-Writes old new more piece = (more ≡ piece.1) × Takes old new piece.0
+Writes old new more piece = (more ≡ piece.1) × TakesCharacters old new piece.0
 
 -- a character of a message with placeholders was read, of which the first `skip` characters are read already; of what
 -- follows, the first `next` are read then

@@ -1,6 +1,6 @@
 use Rattle.std.proofs.Common.{◌≡◌, List, ℕ, inl, inr, map, string_bytes, subst}
 use Rattle.std.specs.Prelude.{Ok, Err}
-use Rattle.sarif_arguments.specs.Replaced.{AreReplaced, IfFault}
+use Rattle.sarif_arguments.specs.Replaced.{AreReplaced, HoldsForFault}
 use Rattle.sarif_arguments.specs.System.{HasGiven}
 use Rattle.sarif_arguments.specs.declared.fault.ArgumentsFault.{ArgumentsFault}
 use Rattle.sarif_gate.specs.Given.{AreServedAs, AreServedWith, refusal_status}
@@ -9,7 +9,7 @@ use Rattle.sarif_model.specs.declared.refusal.Refusal.{Refusal}
 use Rattle.sarif_model.specs.declared.refusal.Refusal.TheVariants as refusal
 
 refused : (given : List (List ℕ)) (found : Refusal ArgumentsFault) (status : ℕ)
-    → IfFault (AreReplaced HasGiven given) found → status ≡ refusal_status found → AreServedWith given status
+    → HoldsForFault (AreReplaced HasGiven given) found → status ≡ refusal_status found → AreServedWith given status
 refused given (refusal.Fault fault) status replaced e = inl (Err fault, replaced, e)
 refused given refusal.OutOfMemory status replaced e = inr e
 

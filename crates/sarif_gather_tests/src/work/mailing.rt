@@ -90,12 +90,12 @@ const PARCELS: u32 = 1000;
 /// For each sender, how many parcels came in the order in which they were sent, and overall, how many came out of
 /// order.
 #[derive(Clone, Copy)]
-struct Tally {
+struct ArrivalCounts {
     in_order: [u32; 4],
     strays: u32,
 }
 
-impl Tally {
+impl ArrivalCounts {
     fn note(&mut self, sender: u32, parcel: u32) {
         match self.in_order.get_mut(sender as usize) {
             Some(next) if *next == parcel => *next = next.wrapping_add(1),
@@ -138,11 +138,15 @@ fn send_all<R: Threads + Wait + Sync>(
 }
 
 // Takes all parcels but the last three.
-fn take_most<R: Wait>(rt: &R, mailbox: &Mailbox<u32>, mut desk: Desk<u32>) -> (Desk<u32>, Tally)
+fn take_most<R: Wait>(
+    rt: &R,
+    mailbox: &Mailbox<u32>,
+    mut desk: Desk<u32>,
+) -> (Desk<u32>, ArrivalCounts)
     requires { IsDeskOf mailbox.now desk }
     ensures { IsDeskOf mailbox.now result.0 }
 {
-    let mut tally = Tally {
+    let mut tally = ArrivalCounts {
         in_order: [0; 4],
         strays: 0,
     };
@@ -178,7 +182,7 @@ fn what_four_senders_sent_arrives_whole_and_in_order(rt: HostRuntime) -> Result<
             requires { AreAllPosts shared.now posts.items }
             ensures { AreAllPosts shared.entry.now result.items }
         { send_all(threads, shared, posts) },
-        move || -> (Desk<u32>, Tally)
+        move || -> (Desk<u32>, ArrivalCounts)
             requires { IsDeskOf shared.now desk }
             ensures { IsDeskOf shared.entry.now result.0 }
         { take_most(threads, shared, desk) },

@@ -7,7 +7,7 @@ use Rattle.sarif_model.specs.Run.{results_total}
 use Rattle.sarif_model.specs.declared.merge_fault.MergeFault.{MergeFault}
 use Rattle.sarif_model.specs.declared.merge_fault.Source.{Source}
 use Rattle.sarif_model.specs.declared.merge_fault.Source.TheVariants.{Log, Baseline}
-use Rattle.sarif_inputs.specs.declared.sources.Reading.{Reading}
+use Rattle.sarif_inputs.specs.declared.sources.ReadSoFar.{ReadSoFar}
 use Rattle.sarif_inputs.specs.Inputs.{Sourced, numbered, readable}
 use Rattle.sarif_runs.specs.Judging.{run_values}
 use Rattle.sarif_inputs.specs.Internal.ReadRun.{placed_read}
@@ -15,7 +15,7 @@ use Rattle.sarif_inputs.specs.SourceFaults.{reading_faults, limit_faults}
 use Rattle.sarif_model.specs.Limits.{most_results, most_runs}
 
 -- the runs and their results are within the limits, and the results are counted
-abbrev pub IsCounted : Reading → Type 0
+abbrev pub IsCounted : ReadSoFar → Type 0
 IsCounted reading =
     (length reading.runs.items ≤ most_runs)
     × (reading.results ≤ most_results)

@@ -13,7 +13,8 @@ use Rattle.sarif_log.specs.Internal.Texts.{tallied}
 use Rattle.sarif_log.specs.Internal.Side.{texts_of_left, texts_of_runs}
 
 -- the counts of these results that have a state
-pub record AreCounted (drafts : List Draft) (states : List (Option State)) (counts : Counts) : Type 0 where
+pub record AreCounted (drafts : List Draft) (states : List (Option State)) (counts : Counts)
+    : Type 0 where
   pub each : (state : State) (level : Level) (suppressed : Bool)
       → count_at counts state level suppressed ≡ tallied drafts states state level suppressed
   pub few : total_of counts ≤ length drafts

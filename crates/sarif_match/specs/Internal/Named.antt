@@ -32,9 +32,9 @@ put_once number key keyed =
     if ends_with number keyed then keyed else (keyed ++ ((number, key) ∷ []))
 
 -- all these results have numbers below n
-abbrev pub IsBelow : {K : Type 0} → ℕ → List (ℕ × K) → Type 0
-IsBelow n [] = Unit {0}
-IsBelow n (e ∷ es) = (e.0 < n) × IsBelow n es
+abbrev pub AreNumberedBelow : {K : Type 0} → ℕ → List (ℕ × K) → Type 0
+AreNumberedBelow n [] = Unit {0}
+AreNumberedBelow n (e ∷ es) = (e.0 < n) × AreNumberedBelow n es
 
 -- the results that have no mark; past the end nothing is marked
 abbrev pub unmarked : {K : Type 0} → List Bool → List (ℕ × K) → List (ℕ × K)

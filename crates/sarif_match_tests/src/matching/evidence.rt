@@ -1,6 +1,6 @@
 //! The states of two results in version 3, by the evidence that they are the same.
 use super::sketch::{A, Sketch, record};
-use sarif_match::{Version, state, state_in};
+use sarif_match::{MatchingVersion, state, state_in};
 use sarif_model::State;
 use std::alloc::{AllocError, Global};
 use std::process::Abort;
@@ -14,7 +14,7 @@ const HERE: Sketch = Sketch {
 /// The state of a result with this match.
 fn state_of(
     alloc: Global,
-    version: Version,
+    version: MatchingVersion,
     current: &Sketch,
     partner: &Sketch,
 ) -> Result<State, AllocError> {
@@ -29,9 +29,9 @@ type Row<'a> = (Sketch<'a>, Sketch<'a>, State);
 /// Asserts the state of each row in version 3, and that in version 2 each result is unchanged.
 fn expect_states(rt: &(impl Abort + AllocGlobal), rows: &[Row]) -> Result<(), AllocError> {
     for (current, partner, wanted) in rows {
-        let found = state_of(rt.alloc(), Version::Three, current, partner)?;
+        let found = state_of(rt.alloc(), MatchingVersion::Three, current, partner)?;
         assert_eq!(rt; found, *wanted);
-        let before = state_of(rt.alloc(), Version::Two, current, partner)?;
+        let before = state_of(rt.alloc(), MatchingVersion::Two, current, partner)?;
         assert_eq!(rt; before, State::Unchanged);
     }
     Ok(())
@@ -99,7 +99,7 @@ fn a_snippet_is_compared_without_white_space(rt: HostRuntime) -> Result<(), Fail
 #[test]
 fn without_a_match_a_result_is_new(rt: HostRuntime) -> Result<(), Fail> {
     let current = record(rt.alloc(), &HERE)?;
-    for version in [Version::Two, Version::Three] {
+    for version in [MatchingVersion::Two, MatchingVersion::Three] {
         assert_eq!(rt; state_in(version, &current, None), State::New);
     }
     assert_eq!(rt; state(&current, None), State::New);

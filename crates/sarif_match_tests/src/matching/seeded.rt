@@ -260,9 +260,9 @@ fn many_fingerprint_names_are_all_paired(rt: HostRuntime) -> Result<(), Fail> {
 
 /// Random bytes that are all the same.
 #[derive(Drop)]
-struct Bytes(u8);
+struct EqualBytes(u8);
 
-impl RandomSource for Bytes {
+impl RandomSource for EqualBytes {
     fn fill_bytes(&self, buf: &mut [u8]) -> io::Result<()> {
         buf.fill(self.0);
         Ok(())
@@ -288,7 +288,7 @@ fn any_seed_gives_the_same_partners(rt: HostRuntime) -> Result<(), Fail> {
         let baseline = draw.list(rt.alloc())?;
         let wanted = plain_partners(rt.alloc(), &current, &baseline)?;
         for byte in [0, 1, 129, 255] {
-            let seed = RandomState::new(&Bytes(byte))?;
+            let seed = RandomState::new(&EqualBytes(byte))?;
             let matching = matched_with(&rt, seed, &current, &baseline)?;
             let mut number = 0u32;
             for partner in &wanted {

@@ -15,8 +15,8 @@ use Rattle.sarif_findings.specs.declared.reporting.Reporting.{Reporting}
 use Rattle.sarif_findings.specs.Reported.{finding_of}
 use Rattle.sarif_results.specs.declared.draft.Draft.{Draft}
 use Rattle.sarif_model.specs.Run.{present}
-use Rattle.sarif_prepare.specs.declared.told.Told.{Told}
-use Rattle.sarif_prepare.specs.declared.told.ToldRun.{ToldRun}
+use Rattle.sarif_prepare.specs.declared.told.ReportedResult.{ReportedResult}
+use Rattle.sarif_prepare.specs.declared.told.ReportedRun.{ReportedRun}
 
 -- the finding of a result of this run, by its draft and its state, if it is written
 abbrev pub told_as : Reporting → Data → Data → Draft → Option State → Option Finding
@@ -52,11 +52,11 @@ abbrev pub pair_at : List Placed → Spot → Data × Data
 pair_at runs spot = ((placed_at runs spot.run).run, found_at runs spot)
 
 -- the run, as the definitions see it
-abbrev pub placed_told : ToldRun → Placed
+abbrev pub placed_told : ReportedRun → Placed
 placed_told run = placed_of run.opened.now
 
 -- the finding of a reported result
-abbrev pub told_by : Reporting → Told → Finding
+abbrev pub told_by : Reporting → ReportedResult → Finding
 told_by reporting told =
     finding_of reporting (placed_told told.run.now).run
     (result_at (placed_told told.run.now).run told.seq) told.level told.state

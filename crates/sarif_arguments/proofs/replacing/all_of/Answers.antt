@@ -2,7 +2,7 @@ use Rattle.std.proofs.Common.{◌≡◌, ◌∙◌, ◌+◌, ◌++◌, Bool, ◌
 use Rattle.std.proofs.lemmas.List.{map-append}
 use Rattle.std.specs.List.{list_any}
 use Rattle.std.specs.Prelude.{Ok, Err}
-use Rattle.sarif_arguments.specs.Replaced.{IfDone, IfFault, StandFor, StandsFor, is_end}
+use Rattle.sarif_arguments.specs.Replaced.{IfDone, HoldsForFault, StandFor, StandsFor, is_end}
 use Rattle.sarif_arguments.proofs.Leading.{Leads, leads_last, leads_on, leads_refused, left_at, none_left}
 use Rattle.sarif_arguments.proofs.replacing.all_of.Goals as goal
 
@@ -17,8 +17,8 @@ returns-in_err-given g c =
     let left = left_at string_bytes words i c.word-item.result c.loop-word-test.true c.word-item.is in
     let leads = subst (λ (ws : List (List ℕ)). Leads gives ended ws done given) left c.loop-word.invariant in
     let found = c.in_err-given.field-0.0 in
-    let stands : IfFault (StandsFor gives ended (string_bytes c.word-item.result)) found =
-    subst (λ (w : List ℕ). IfFault (StandsFor gives ended w) found) c.as_str.ensures.value c.in_err-given.ensures in
+    let stands : HoldsForFault (StandsFor gives ended (string_bytes c.word-item.result)) found =
+    subst (λ (w : List ℕ). HoldsForFault (StandsFor gives ended w) found) c.as_str.ensures.value c.in_err-given.ensures in
     let told : c.from_residual.result ≡ Err found = search rules in
     subst (λ r. IfDone (StandFor gives false given) r) (sym told)
     (leads_refused gives given ended (string_bytes c.word-item.result) (map string_bytes (drop (i + 1) words)) done found leads stands)

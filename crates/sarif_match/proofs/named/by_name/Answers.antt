@@ -2,15 +2,15 @@ use Rattle.std.proofs.Common.{◌+◌, ◌≤◌, ℕ, List, length, take, subst
 use Rattle.std.proofs.lemmas.List.{length-take-le}
 use Rattle.sarif_match.specs.declared.tier.Tier.TheVariants.{Fingerprint}
 use Rattle.sarif_match.specs.KeyParts.{KeyParts}
-use Rattle.sarif_match.specs.Internal.Named.{IsBelow}
-use Rattle.sarif_match.proofs.NamedLemmas.{IsBelow-keyed_from, groups_step}
+use Rattle.sarif_match.specs.Internal.Named.{AreNumberedBelow}
+use Rattle.sarif_match.proofs.NamedLemmas.{AreNumberedBelow-keyed_from, groups_step}
 use Rattle.sarif_match.proofs.named.by_name.Goals as goal
 
 pub add_finding-requires : goal.add_finding-requires
 add_finding-requires g c = λ q.
     let i = c.loop-number.number in
     let within : 0 + length (take i c.args.findings.now) ≤ i = omega (arith, length-take-le i c.args.findings.now (omega arith)) in
-    subst (λ (keyed : List (ℕ × KeyParts)). IsBelow i keyed) (sym (c.loop-number.invariant q)) (IsBelow-keyed_from (Fingerprint q) 0 i (take i c.args.findings.now) within)
+    subst (λ (keyed : List (ℕ × KeyParts)). AreNumberedBelow i keyed) (sym (c.loop-number.invariant q)) (AreNumberedBelow-keyed_from (Fingerprint q) 0 i (take i c.args.findings.now) within)
 
 pub loop-number-preserved : goal.loop-number-preserved
 loop-number-preserved g c = λ q.

@@ -7,7 +7,7 @@ use Rattle.sarif_match.specs.Internal.Queues.{items_of, same_key}
 use Rattle.sarif_match.proofs.TableLemmas.{read-written}
 use Rattle.sarif_match.proofs.queues.add_last.Goals as goal
 
--- the queue there, or else an empty one
+-- the queue there; if there is none, an empty one
 items_found : (o : Option (VecDeque ℕ Global)) (empty : VecDeque ℕ Global) → empty.items ≡ [] → (unwrap_or o empty).items ≡ items_of o
 items_found None empty is = is
 items_found (Some x) empty is = refl

@@ -16,8 +16,8 @@ use Rattle.sarif_read.specs.contracts.indexed_run.IndexedRun as IndexedRun
 use Rattle.sarif_runs.specs.contracts.opened.OpenedRun as OpenedRun
 use Rattle.sarif_findings.proofs.Shared.{named_sync}
 use Rattle.sarif_findings.specs.contracts.reporting.Reporting as Reporting
-use Rattle.sarif_prepare.specs.contracts.told.Told as Told
-use Rattle.sarif_prepare.specs.contracts.told.ToldRun as ToldRun
+use Rattle.sarif_prepare.specs.contracts.told.ReportedResult as ReportedResult
+use Rattle.sarif_prepare.specs.contracts.told.ReportedRun as ReportedRun
 use Rattle.sarif_prepare.proofs.telling.+telling.Goals as goal
 
 json_sync : IsSync (Json.the_field).row
@@ -29,10 +29,10 @@ indexed_sync κ λ' = search (json_sync, sendable, crosses) depth 40
 opened_sync : (κ λ' : NamedLft) → IsSync (OpenedRun.the_row κ λ')
 opened_sync κ λ' = search (indexed_sync, text.the_sync, fault.the_sync, head.the_sync, sendable, crosses) depth 40
 
-told_sync : (κ λ' μ : NamedLft) → IsSync (ToldRun.the_row κ λ' μ)
+told_sync : (κ λ' μ : NamedLft) → IsSync (ReportedRun.the_row κ λ' μ)
 told_sync κ λ' μ = search (named_sync, opened_sync, sendable) depth 40
 
-slice_send : (ℓ : Lifetime) (κ : Lft) (a b c d : NamedLft) → IsSend (ShrSlice ℓ κ (Told.the_row a b c d))
+slice_send : (ℓ : Lifetime) (κ : Lft) (a b c d : NamedLft) → IsSend (ShrSlice ℓ κ (ReportedResult.the_row a b c d))
 slice_send ℓ κ a b c d = search (told_sync, sendable) depth 40
 
 reporting_send : (ℓ : Lifetime) (κ : Lft) → IsSend (ShrRef ℓ κ Reporting.the_row)

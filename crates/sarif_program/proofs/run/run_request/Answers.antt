@@ -7,7 +7,7 @@ use Rattle.sarif_merge.specs.Given.{given_by}
 use Rattle.sarif_streams.proofs.ReadersRead.{were_read_quiet}
 use Rattle.sarif_merge.specs.FromReaders.{IsMergedWith, IsTooLargeWith}
 use Rattle.sarif_model.specs.FirstFault.{first}
-use Rattle.sarif_request.specs.declared.wanted.Wanted.{Wanted}
+use Rattle.sarif_request.specs.declared.wanted.RequestedOutput.{RequestedOutput}
 use Rattle.sarif_streams.specs.declared.counted.Counted.{Counted}
 use Rattle.sarif_streams.specs.Counted.{inner_of, RisesIf}
 use Rattle.sarif_streams.specs.WereRead.{failures}
@@ -31,11 +31,11 @@ returns-in-Ok-clause-accepted g c = λ low.
       merged,
       record {
         verdict = c.accept.ensures.status low;
-        from = subst (λ (writers : List (Wanted (Counted g.row.P.Denot))). IsMergedWith g.R.Read.remaining c.args.readers.now c.merge_for.new.readers
+        from = subst (λ (writers : List (RequestedOutput (Counted g.row.P.Denot))). IsMergedWith g.R.Read.remaining c.args.readers.now c.merge_for.new.readers
             request.options (reporting_for request writers) (Some request.upkeep) merged) same c.in-Ok.ensures.merged;
         log = c.accept.ensures.written low;
         reports = c.accept.ensures.reported low (report_for request merged)
-            (subst (λ (writers : List (Wanted (Counted g.row.P.Denot))). c.in-Ok.texts.reports.items ≡ texts_for writers (report_for request merged)) same c.in-Ok.ensures.reports);
+            (subst (λ (writers : List (RequestedOutput (Counted g.row.P.Denot))). c.in-Ok.texts.reports.items ≡ texts_for writers (report_for request merged)) same c.in-Ok.ensures.reports);
         summary = subst (λ (text : List ℕ). Appends (g.S.Write.contents (inner_of old.say)) (g.S.Write.contents (inner_of new.say)) text)
             c.in-Ok.ensures.summary (c.accept.ensures.said low);
         noted = subst (λ (lines : List ℕ). AreNoted g.E.Write.contents lines c.args.complaints.now c.accept.new.complaints)
@@ -104,11 +104,11 @@ returns-in-Ok-clause-lost g c = λ rises.
     omega (arith, c.in-Ok.ensures.read_failed, c.accept.ensures.failed) in
     let one = exactly c.accept.result c.args.readers.now c.merge_for.new.readers old new rise c.in-Ok.ensures.risen c.accept.ensures.risen in
     let same = c.as_slice.ensures.value in
-    let texts = subst (λ (writers : List (Wanted (Counted g.row.P.Denot))). c.in-Ok.texts.reports.items ≡ texts_for writers (report_for request merged)) same c.in-Ok.ensures.reports in
+    let texts = subst (λ (writers : List (RequestedOutput (Counted g.row.P.Denot))). c.in-Ok.texts.reports.items ≡ texts_for writers (report_for request merged)) same c.in-Ok.ensures.reports in
     let held : Held g.row.W.Denot g.row.S.Denot g.row.P.Denot g.row.E.Denot = record { log = g.W.Write.contents; report = g.P.Write.contents; summary = g.S.Write.contents; messages = g.E.Write.contents } in
     let said = c.accept.ensures.lost (one.1 (inr rises)) (report_for request merged) texts in (
       merged,
-      subst (λ (writers : List (Wanted (Counted g.row.P.Denot))). IsMergedWith g.R.Read.remaining c.args.readers.now c.merge_for.new.readers
+      subst (λ (writers : List (RequestedOutput (Counted g.row.P.Denot))). IsMergedWith g.R.Read.remaining c.args.readers.now c.merge_for.new.readers
           request.options (reporting_for request writers) (Some request.upkeep) merged) same c.in-Ok.ensures.merged,
       lost_with held merged.log (report_for request merged) old new c.args.complaints.now c.accept.new.complaints _ _ _ _ c.in-Ok.ensures.lines c.in-Ok.ensures.summary said,
     )

@@ -3,7 +3,7 @@ use Rattle.clap.specs.Words.{Text, first_of, found_of, rows_of}
 use Rattle.sarif_reports.specs.declared.report.Report.{Report}
 use Rattle.sarif_reports.specs.declared.report.Report.TheVariants.{Suppressions}
 use Rattle.sarif_reports.specs.Report.{all_reports, report_name}
-use Rattle.sarif_request.specs.declared.wanted.Wanted.{Wanted}
+use Rattle.sarif_request.specs.declared.wanted.RequestedOutput.{RequestedOutput}
 use Rattle.sarif_request.specs.Words.{wanted_if}
 use Rattle.sarif_request.proofs.WantedMore.{wanted_more}
 use Rattle.sarif_request.proofs.words.reports_of.Goals as goal
@@ -12,7 +12,7 @@ use Rattle.sarif_request.proofs.words.reports_of.Goals as goal
 pub loop-report-preserved : goal.loop-report-preserved
 loop-report-preserved c =
     let i = c.loop-report.report-index in
-    let f : Report → List (Wanted Text) = λ report. wanted_if report (first_of (report_name report) (rows_of (found_of c.args.matches.now))) in
+    let f : Report → List (RequestedOutput Text) = λ report. wanted_if report (first_of (report_name report) (rows_of (found_of c.args.matches.now))) in
     c.in_ok-push_wanted.ensures
-    ∙ ap (λ (items : List (Wanted Text)). items ++ f (get_or all_reports i Suppressions)) c.loop-report.invariant
+    ∙ ap (λ (items : List (RequestedOutput Text)). items ++ f (get_or all_reports i Suppressions)) c.loop-report.invariant
     ∙ wanted_more f all_reports i Suppressions (omega arith)

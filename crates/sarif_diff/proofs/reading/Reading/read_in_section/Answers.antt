@@ -11,5 +11,5 @@ returns-in-None-clause-err c =
     let ByLine : List ℕ → Type 0 = λ t. IfFault c.read_inner.result (λ fault. said.inner_line c.args.number t (lines_of c.args.rest.now) c.args.self.now c.args.draft ≡ Err fault) in
     let ByHunk : Option Hunk → Type 0 = λ o. IfFault c.read_inner.result (λ fault. said.section_line c.args.number c.args.line.now (lines_of c.args.rest.now) c.args.self.now c.args.draft o ≡ Err fault) in
     let none : None ≡ hunk_around c.args.draft.hunk c.args.line.now = first_of (cc, search rules) in
-    let cut : ByLine (trimmed c.args.line.now) = subst ByLine c.trimmed.ensures c.read_inner.ensures.err in
+    let cut : ByLine (trimmed c.args.line.now) = subst ByLine c.trim_return.ensures c.read_inner.ensures.err in
     subst ByHunk none cut

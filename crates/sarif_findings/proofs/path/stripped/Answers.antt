@@ -1,5 +1,0 @@
-use Rattle.sarif_findings.proofs.PathMore.{stripped_is}
-use Rattle.sarif_findings.proofs.path.stripped.Goals as goal
-
-pub returns : goal.returns
-returns c = stripped_is c.args.root.now c.args.path.now c.strip_prefix.result c.strip_prefix.ensures.cases
