@@ -14,7 +14,7 @@ use crate::old_file::{entry_nodes, entry_value};
 use json::Scratch;
 use json_parts::{IndexFault, Node, index_text, without_mark};
 use sarif_entries::Entry;
-use sarif_findings::shown;
+use sarif_findings::show_text;
 use sarif_suppress::{Marks, Suppressions};
 use std::alloc::{AllocError, Global};
 use std::hash::BuildHasher;
@@ -52,7 +52,7 @@ fn shown_entry(alloc: Global, entry: &Node<'_, '_>) -> Result<String, AllocError
         ≡ shown_text (chars (compact_text (entry_in (data_of entry.now))))) }
 {
     let text = entry_value(alloc, entry)?.to_string(alloc)?;
-    shown(alloc, text.as_str())
+    show_text(alloc, text.as_str())
 }
 
 /// Adds the line of the entry with that number.

@@ -1,6 +1,6 @@
 //! Explaining on standard error what stopped a run.
 use crate::outputs::Outputs;
-use crate::sources::ProgramSource as Reading;
+use crate::sources::ProgramSource;
 use sarif_explain::{FaultSource, explanation, is_past_limit, output_explanation};
 use sarif_findings::show_text;
 use sarif_model::{At, Cause, MergeFault, Source, Text};

@@ -16,7 +16,7 @@ use Rattle.sarif_options.specs.Policy.{are_hits}
 use Rattle.sarif_counts.specs.Hits.{Count, hits_of, verdict_of, verdict_name}
 use Rattle.sarif_counts.specs.Tally.{same_level}
 use Rattle.sarif_shown.specs.CountRow.{numbers_of}
-use Rattle.sarif_shown.specs.declared.count_row.Row.{Row}
+use Rattle.sarif_shown.specs.declared.count_row.CountRow.{CountRow}
 use Rattle.sarif_findings.specs.declared.finding.Finding.{Finding}
 use Rattle.sarif_shown.specs.declared.escaping.Escaping.TheVariants.{Page, Place}
 use Rattle.sarif_findings.specs.Finding.{numbered, place_path}
@@ -64,7 +64,7 @@ abbrev pub number_cell : Bool → ℕ → List ℕ
 number_cell true n = codes "<td class=\"on\">" ++ (strong n ++ codes "</td>")
 number_cell false n = codes "<td>" ++ (decimal n ++ codes "</td>")
 
-unfoldable pub level_cells : Policy → State → Row → List ℕ
+unfoldable pub level_cells : Policy → State → CountRow → List ℕ
 level_cells policy state row =
     number_cell (are_hits policy state Error) row.error
     ++ (number_cell (are_hits policy state Warning) row.warning
@@ -72,7 +72,7 @@ level_cells policy state row =
     ++ number_cell (are_hits policy state NoLevel) row.none))
 
 -- a state's active results by level, and its suppressed ones
-abbrev pub row_of : Policy → State → Row → List ℕ
+abbrev pub row_of : Policy → State → CountRow → List ℕ
 row_of policy state row =
     codes "<tr><th scope=\"row\" align=\"left\">" ++ (state_name state
     ++ (codes "</th>" ++ (level_cells policy state row

@@ -7,7 +7,7 @@ use crate::html_fixed::{counts_begin, counts_end};
 use sarif_counts::Counts;
 use sarif_model::{Level, State};
 use sarif_options::Policy;
-use sarif_shown::{Row, row_numbers};
+use sarif_shown::{CountRow, row_numbers};
 use std::alloc::{AllocError, Global};
 
 /// A number of hits, set off if there are any.
@@ -44,7 +44,7 @@ fn level_cells(
     alloc: Global,
     policy: &Policy,
     state: State,
-    row: &Row,
+    row: &CountRow,
 ) -> Result<String, AllocError>
     ensures { IfOk result (λ s. string_bytes s ≡ said.level_cells policy.now state row.now) }
 {
@@ -56,7 +56,12 @@ fn level_cells(
 }
 
 /// The row of one state, with these numbers.
-fn row_of(alloc: Global, policy: &Policy, state: State, row: &Row) -> Result<String, AllocError>
+fn row_of(
+    alloc: Global,
+    policy: &Policy,
+    state: State,
+    row: &CountRow,
+) -> Result<String, AllocError>
     ensures { IfOk result (λ s. string_bytes s ≡ said.row_of policy.now state row.now) }
 {
     let name = state.name();
