@@ -14,7 +14,7 @@ use Rattle.sarif_program.specs.Run.{IsRun, Views}
 use Rattle.sarif_program.specs.Writing.{writer_failures}
 use Rattle.sarif_request.specs.declared.request.Request.{Request}
 use Rattle.sarif_request.specs.declared.words.WordsFault.{WordsFault}
-use Rattle.sarif_request.specs.Words.{Answers, words_status}
+use Rattle.sarif_request.specs.Words.{GivesRequest, words_status}
 use Rattle.sarif_streams.specs.declared.input.Input.{Input}
 use Rattle.sarif_streams.specs.declared.kept.Kept.{Kept}
 use Rattle.sarif_streams.specs.declared.readers.Readers.{Readers}
@@ -82,5 +82,5 @@ IsServed request status = IsRunOf request status ⊎ (status ≡ unmade_status)
 
 -- and for arguments that are read: what they request; or, if they make no request, it reports why
 abbrev pub AreServed : List (List ℕ) → ℕ → Type 0
-AreServed words status = (asked : Result Request WordsFault) × Answers words asked
+AreServed words status = (asked : Result Request WordsFault) × GivesRequest words asked
     × MatchResult asked (λ request. IsServed request status) (λ fault. status ≡ words_status fault)

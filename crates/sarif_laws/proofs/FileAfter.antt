@@ -23,7 +23,7 @@ use Rattle.sarif_merge.specs.Life.{merge_in}
 use Rattle.sarif_merge.specs.MergedLog.{current_of, file_given, file_in}
 use Rattle.sarif_merge.specs.OwnResult.{baseline_of}
 use Rattle.sarif_upkeep.specs.Renewed.{entries_count, how_of, renewal_faults}
-use Rattle.sarif_accept.specs.Adding.{Counts, accepted_among, file_after, is_hit, is_said, may_hit, once_each, stays}
+use Rattle.sarif_accept.specs.Adding.{MayBeHit, accepted_among, file_after, is_hit, is_said, may_hit, once_each, stays}
 use Rattle.sarif_accept.specs.Until.{HasGuid, IsDated}
 use Rattle.sarif_accept.proofs.GivenFile.{today_given}
 use Rattle.sarif_accept.proofs.NewFileRead.{new_file_read}
@@ -53,7 +53,7 @@ same_today inputs none = today_given inputs.suppressions inputs.today (file_give
 
 -- ---- the results for which entries are added
 
-accepted_fit : (counts : Counts) (file : File) (rs : List Record) (states : List State) → AllByRecursion HasGuid rs → AllByRecursion HasGuid (accepted_among counts file rs states)
+accepted_fit : (counts : MayBeHit) (file : File) (rs : List Record) (states : List State) → AllByRecursion HasGuid rs → AllByRecursion HasGuid (accepted_among counts file rs states)
 accepted_fit counts file [] states fit = tt
 accepted_fit counts file (r ∷ rs) [] fit = tt
 accepted_fit counts file (r ∷ rs) (state ∷ states) fit =
