@@ -134,6 +134,23 @@ impl Reading {
         Ok(SectionDraft::begin(alloc, number, git, old))
     }
 
+    /// Returns the section that a line `diff --git ` begins, unless it is one too many.
+    fn begin_git(
+        &self,
+        alloc: Global,
+        number: usize,
+        line: &[u8],
+    ) -> Result<SectionDraft, Refusal<DiffFault>>
+        requires { 11 ≤ length line.now }
+        ensures ok { IfOk result (λ begun.
+            said.git_begun number line.now self.now ≡ Ok (self.now, Some begun)) }
+        ensures err { IfFault result (λ fault.
+            said.git_begun number line.now self.now ≡ Err fault) }
+    {
+        let file = git_file_at(alloc, number, &line[11..])?;
+        self.begin_section(alloc, number, file, None)
+    }
+
     /// Reads a line of text, which is in no section. Returns the section that it begins, if it begins one.
     fn read_text(
         &self,
@@ -177,8 +194,7 @@ impl Reading {
             said.outer_line number line.now (lines_of rest.now) self.now ≡ Err fault) }
     {
         if is_section(line) {
-            let file = git_file_at(alloc, number, &line[11..])?;
-            return Ok(Some(self.begin_section(alloc, number, file, None)?));
+            return Ok(Some(self.begin_git(alloc, number, line)?));
         }
         if is_combined(line) {
             return Err(wrong(number, LineFault::Combined));
@@ -257,8 +273,7 @@ impl Reading {
     {
         if is_section(line) {
             self.close(draft)?;
-            let file = git_file_at(alloc, number, &line[11..])?;
-            return Ok(Some(self.begin_section(alloc, number, file, None)?));
+            return Ok(Some(self.begin_git(alloc, number, line)?));
         }
         if is_combined(line) {
             return Err(wrong(number, LineFault::Combined));
