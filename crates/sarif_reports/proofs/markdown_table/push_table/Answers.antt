@@ -13,7 +13,7 @@ returns c =
     let fs = c.args.findings.now in
     let slice = c.as_slice-listed.result.now in
     let more : List ℕ = paragraph (others_line (left_out fs)) in
-    let same : map (λ f. f.now) slice ≡ listed fs = ap (map (λ f. f.now)) c.as_slice-listed.ensures.value ∙ c.in_ok-list_findings.ensures in
+    let same : map (λ f. f.now) slice ≡ listed fs = ap (map (λ f. f.now)) c.as_slice-listed.ensures.value ∙ c.in_ok-listed.ensures in
     let rest : map (λ f. f.now) (drop c.in_ok-count.count slice) ≡ left_out fs =
     sym (drop-map (λ f. f.now) c.in_ok-count.count slice) ∙ ap (λ n. drop n (map (λ f. f.now) slice)) c.in_ok-count.ensures.count
     ∙ ap (λ (gs : List Finding). drop (length (rows_of gs)) gs) same in
