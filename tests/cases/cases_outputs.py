@@ -459,13 +459,14 @@ def explained_forms():
 # What isn't JSON, as --explain names it.
 FORMS = [
     ("an empty file", b""),
-    ("a file with only white space", b"\r\n"),
+    ("an empty file", b"\r\n"),
     ("a gzip file", gzip.compress(ONE)),
     ("a ZIP file", b"PK\x03\x04\x14\x00\x00\x00"),
-    ("text in UTF-16", ONE.decode().encode("utf-16")),
-    ("text in UTF-16", ONE.decode().encode("utf-16-be")),
-    ("an HTML page", b"<!doctype html>\n<title>Sign in</title>\n"),
-    ("JSON Lines, an object on each line", b'{"ruleId":"a"}\n{"ruleId":"b"}\n'),
+    ("UTF-16 or UTF-32", ONE.decode().encode("utf-16")),
+    ("UTF-16 or UTF-32", ONE.decode().encode("utf-16-be")),
+    ("HTML or XML", b"<!doctype html>\n<title>Sign in</title>\n"),
+    ("HTML or XML", b"<?xml version='1.0'?>\n<checkstyle/>\n"),
+    ("several JSON values, one per line", b'{"ruleId":"a"}\n{"ruleId":"b"}\n'),
 ]
 
 

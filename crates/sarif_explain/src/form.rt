@@ -2,13 +2,11 @@
 use json_parts::without_mark;
 use serde_json::Value;
 use std::alloc::{AllocError, Global};
-use std::str;
 
 /// A form of file that is not JSON.
 #[derive(Clone, Copy, Debug, PartialEq, Eq)]
 pub(crate) enum Form {
     Empty,
-    Blank,
     Gzip,
     Zip,
     Utf16,
@@ -21,31 +19,26 @@ impl Form {
     pub(crate) fn name(self) -> &'static str {
         match self {
             Form::Empty => "an empty file",
-            Form::Blank => "a file with only white space",
             Form::Gzip => "a gzip file",
             Form::Zip => "a ZIP file",
-            Form::Utf16 => "text in UTF-16",
-            Form::Html => "an HTML page",
-            Form::JsonLines => "JSON Lines, an object on each line",
+            Form::Utf16 => "UTF-16 or UTF-32",
+            Form::Html => "HTML or XML",
+            Form::JsonLines => "several JSON values, one per line",
         }
     }
 
     /// What to do about such a file.
     pub(crate) fn advice(self) -> &'static str {
         match self {
-            Form::Empty | Form::Blank => {
-                "check that the analyser ended normally and wrote the whole file"
-            }
-            Form::Gzip => "decompress the file, for example with gunzip, and pass the result",
-            Form::Zip => "extract the files in it, for example with unzip, and pass these",
-            Form::Utf16 => {
-                "write the file in UTF-8 (> of Windows PowerShell writes UTF-16), or convert it: \
-                 iconv -f UTF-16 -t UTF-8 FILE > NEW_FILE"
-            }
+            Form::Empty => "check that the analyser ended normally and wrote its log",
+            Form::Gzip => "unpack it first, for example with gzip -d",
+            Form::Zip => "unpack it first, for example with unzip",
+            Form::Utf16 => "convert it to UTF-8, for example with iconv -f UTF-16 -t UTF-8",
             Form::Html => {
-                "check where the file was downloaded from: this may be a login page or an error page"
+                "check where the file comes from: it may be an error page, or a report in another \
+                 format"
             }
-            Form::JsonLines => "configure the analyser to write one JSON object, as SARIF 2.1.0",
+            Form::JsonLines => "pass a SARIF log, which is one JSON object",
         }
     }
 }
@@ -53,72 +46,41 @@ impl Form {
 /// Returns the form of a file with these bytes that is not JSON, or `None` if it is none of the known ones. Returns
 /// `AllocError` if memory runs out.
 pub(crate) fn form_of(alloc: Global, bytes: &[u8]) -> Result<Option<Form>, AllocError> {
-    if let Some(form) = form_by_start(bytes) {
-        return Ok(Some(form));
-    }
-    let text = without_mark(bytes).trim_ascii();
-    if text.is_empty() {
-        Ok(Some(Form::Blank))
-    } else if is_html(text) {
-        Ok(Some(Form::Html))
-    } else if are_json_lines(alloc, text)? {
-        Ok(Some(Form::JsonLines))
-    } else {
-        Ok(None)
-    }
-}
-
-/// Returns the form of a file that is empty, or whose first bytes show its form.
-fn form_by_start(bytes: &[u8]) -> Option<Form> {
-    match without_mark(bytes) {
-        [] => Some(Form::Empty),
-        [0x1f, 0x8b, ..] => Some(Form::Gzip),
-        [b'P', b'K', 3, 4, ..] | [b'P', b'K', 5, 6, ..] => Some(Form::Zip),
-        [0xff, 0xfe, ..] | [0xfe, 0xff, ..] => Some(Form::Utf16),
-        [first, second, ..] if (*first == 0) != (*second == 0) => Some(Form::Utf16),
-        _ => None,
+    let text = without_mark(bytes);
+    let Some(first) = first_byte(text) else {
+        return Ok(Some(Form::Empty));
+    };
+    match text {
+        [0x1f, 0x8b, ..] => Ok(Some(Form::Gzip)),
+        [b'P', b'K', 3, 4, ..] => Ok(Some(Form::Zip)),
+        [0xff, 0xfe, ..] | [0xfe, 0xff, ..] | [0, ..] | [_, 0, ..] => Ok(Some(Form::Utf16)),
+        _ if first == b'<' => Ok(Some(Form::Html)),
+        _ if are_json_lines(alloc, text)? => Ok(Some(Form::JsonLines)),
+        _ => Ok(None),
     }
 }
 
-/// Returns whether the file begins as an HTML page does.
-fn is_html(text: &[u8]) -> bool {
-    begins_with(text, b"<!doctype html") || begins_with(text, b"<html")
-}
-
-/// Returns whether the file begins with these letters, in upper or lower case.
-fn begins_with(text: &[u8], letters: &[u8]) -> bool {
-    match text.get(..letters.len()) {
-        Some(start) => start.eq_ignore_ascii_case(letters),
-        None => false,
+/// Returns the first byte that is not white space of JSON.
+fn first_byte(text: &[u8]) -> Option<u8> {
+    for byte in text {
+        if !matches!(*byte, b' ' | b'\t' | b'\r' | b'\n') {
+            return Some(*byte);
+        }
     }
+    None
 }
 
-/// Returns whether the first two lines of the file that aren't blank are JSON objects.
+/// Returns whether the first line of the file is JSON, and a line that isn't blank follows.
 fn are_json_lines(alloc: Global, text: &[u8]) -> Result<bool, AllocError> {
-    let Ok(text) = str::from_utf8(text) else {
+    let Some(end) = text.iter().position(|byte| *byte == b'\n') else {
         return Ok(false);
     };
-    let mut is_second = false;
-    for line in text.lines() {
-        let line = line.trim_ascii();
-        if line.is_empty() {
-            continue;
-        }
-        if !is_object(alloc, line)? {
-            return Ok(false);
-        }
-        if is_second {
-            return Ok(true);
-        }
-        is_second = true;
+    let (line, rest) = text.split_at(end);
+    if first_byte(rest).is_none() {
+        return Ok(false);
     }
-    Ok(false)
-}
-
-/// Returns whether this string is a JSON object.
-fn is_object(alloc: Global, text: &str) -> Result<bool, AllocError> {
-    match Value::from_slice(alloc, text.as_bytes()) {
-        Ok(value) => Ok(value.is_object()),
+    match Value::from_slice(alloc, line) {
+        Ok(_) => Ok(true),
         Err(error) if error.is_memory() => Err(AllocError),
         Err(_) => Ok(false),
     }

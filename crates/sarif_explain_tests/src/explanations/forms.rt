@@ -28,76 +28,80 @@ fn a_form_that_is_not_json_is_named(rt: HostRuntime) -> Result<(), Fail> {
         (
             &b""[..],
             "an empty file",
-            "check that the analyser ended normally and wrote the whole file",
+            "check that the analyser ended normally and wrote its log",
         ),
         (
             &b"\xef\xbb\xbf"[..],
             "an empty file",
-            "check that the analyser ended normally and wrote the whole file",
+            "check that the analyser ended normally and wrote its log",
         ),
         (
             &b" \r\n\t"[..],
-            "a file with only white space",
-            "check that the analyser ended normally and wrote the whole file",
+            "an empty file",
+            "check that the analyser ended normally and wrote its log",
         ),
         (
             &b"\x1f\x8b\x08\x00"[..],
             "a gzip file",
-            "decompress the file, for example with gunzip, and pass the result",
+            "unpack it first, for example with gzip -d",
         ),
         (
             &b"PK\x03\x04\x14\x00"[..],
             "a ZIP file",
-            "extract the files in it, for example with unzip, and pass these",
-        ),
-        (
-            &b"PK\x05\x06\x00\x00"[..],
-            "a ZIP file",
-            "extract the files in it, for example with unzip, and pass these",
+            "unpack it first, for example with unzip",
         ),
         (
             &b"\xff\xfe{\x00}\x00"[..],
-            "text in UTF-16",
-            "write the file in UTF-8 (> of Windows PowerShell writes UTF-16), or convert it: iconv \
-             -f UTF-16 -t UTF-8 FILE > NEW_FILE",
+            "UTF-16 or UTF-32",
+            "convert it to UTF-8, for example with iconv -f UTF-16 -t UTF-8",
         ),
         (
             &b"\xfe\xff\x00{\x00}"[..],
-            "text in UTF-16",
-            "write the file in UTF-8 (> of Windows PowerShell writes UTF-16), or convert it: iconv \
-             -f UTF-16 -t UTF-8 FILE > NEW_FILE",
+            "UTF-16 or UTF-32",
+            "convert it to UTF-8, for example with iconv -f UTF-16 -t UTF-8",
         ),
         (
             &b"{\x00}\x00"[..],
-            "text in UTF-16",
-            "write the file in UTF-8 (> of Windows PowerShell writes UTF-16), or convert it: iconv \
-             -f UTF-16 -t UTF-8 FILE > NEW_FILE",
+            "UTF-16 or UTF-32",
+            "convert it to UTF-8, for example with iconv -f UTF-16 -t UTF-8",
         ),
         (
             &b"\x00{\x00}"[..],
-            "text in UTF-16",
-            "write the file in UTF-8 (> of Windows PowerShell writes UTF-16), or convert it: iconv \
-             -f UTF-16 -t UTF-8 FILE > NEW_FILE",
+            "UTF-16 or UTF-32",
+            "convert it to UTF-8, for example with iconv -f UTF-16 -t UTF-8",
+        ),
+        (
+            &b"\x00\x00\xfe\xff"[..],
+            "UTF-16 or UTF-32",
+            "convert it to UTF-8, for example with iconv -f UTF-16 -t UTF-8",
+        ),
+        (
+            &b"\n<?xml version='1.0'?>"[..],
+            "HTML or XML",
+            "check where the file comes from: it may be an error page, or a report in another \
+             format",
         ),
         (
             &b"\n<!DOCTYPE html><title>Sign in</title>"[..],
-            "an HTML page",
-            "check where the file was downloaded from: this may be a login page or an error page",
+            "HTML or XML",
+            "check where the file comes from: it may be an error page, or a report in another \
+             format",
         ),
         (
             &b"\xef\xbb\xbf<HTML>"[..],
-            "an HTML page",
-            "check where the file was downloaded from: this may be a login page or an error page",
+            "HTML or XML",
+            "check where the file comes from: it may be an error page, or a report in another \
+             format",
         ),
         (
             &b"{\"a\":1}\n{\"a\":2}\n"[..],
-            "JSON Lines, an object on each line",
-            "configure the analyser to write one JSON object, as SARIF 2.1.0",
+            "several JSON values, one per line",
+            "pass a SARIF log, which is one JSON object",
         ),
         (
-            &b"\r\n{\"a\":1} \r\n\r\n {}\r\n["[..],
-            "JSON Lines, an object on each line",
-            "configure the analyser to write one JSON object, as SARIF 2.1.0",
+            &b"\xef\xbb\xbf[1] \r\n\r\nx"[..],
+            "several JSON values, one per line",
+            "pass a SARIF log, which is one JSON object",
         ),
     ] {
         let told = told_of_bytes(rt.alloc(), bytes)?;
@@ -118,24 +122,18 @@ fn other_text_has_no_form(rt: HostRuntime) -> Result<(), Fail> {
     for bytes in [
         &b"{"[..],
         &b"x"[..],
-        &b"\x00"[..],
-        &b"\x00\x00"[..],
         &b"P"[..],
         &b"PK\x01\x02"[..],
         &b"\x1f"[..],
         &b"\xff"[..],
-        &b"<"[..],
-        &b"<htm"[..],
-        &b"<xml>"[..],
+        &b"PK\x05\x06"[..],
         &b"x<html>"[..],
-        // One object alone, with more after it, or before text that is not JSON.
+        &b"\x0c"[..],
+        // A first line that is no JSON value, or one that nothing follows.
         &b"{\"a\":1}}"[..],
         &b"{\"a\":1} {\"a\":2}"[..],
-        &b"{\"a\":1}\nx\n{}"[..],
-        &b"{\"a\":1}\n[1]"[..],
-        &b"1\n2"[..],
+        &b"\n{}\n{}"[..],
         &b"{\n{}\n{}"[..],
-        &b"{}\n\xff"[..],
     ] {
         let told = told_of_bytes(rt.alloc(), bytes)?;
         let end =
@@ -154,16 +152,16 @@ fn a_position_and_a_form_are_told(rt: HostRuntime) -> Result<(), Fail> {
   column: 0
   found: an empty file
   wanted: JSON in UTF-8, nested at most 127 deep
-  advice: check that the analyser ended normally and wrote the whole file
+  advice: check that the analyser ended normally and wrote its log
 "#;
     let cause = Cause::Of(Fault::NotJson);
     check(&rt, rt.alloc(), LOG, cause, "", wanted)?;
     let wanted = r#"  file: found.sarif
   line: 2
   column: 1
-  found: JSON Lines, an object on each line
+  found: several JSON values, one per line
   wanted: JSON in UTF-8, nested at most 127 deep
-  advice: configure the analyser to write one JSON object, as SARIF 2.1.0
+  advice: pass a SARIF log, which is one JSON object
 "#;
     check(&rt, rt.alloc(), LOG, cause, "{}\n{}\n", wanted)
 }
