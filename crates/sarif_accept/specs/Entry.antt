@@ -30,13 +30,13 @@ abbrev pub is_asked : ConditionKind → Record → Bool
 is_asked kinds.Tool r = true
 is_asked kinds.RuleId r = true
 is_asked kinds.Uri r = is_none r.guid
+is_asked kinds.UriPrefix r = false
 is_asked kinds.Guid r = true
 is_asked kinds.Fingerprints r = is_none r.guid
 is_asked kinds.PartialFingerprints r = has_no_guid_or_full r
 is_asked kinds.Message r = is_unmarked r
 is_asked kinds.MessageId r = is_unmarked r
 is_asked kinds.MessageArguments r = is_unmarked r
-is_asked _ r = false
 
 -- the condition of that kind that the entry names, if it names one
 abbrev pub asked_of : Record → ConditionKind → Option Condition

@@ -39,7 +39,7 @@ fn is_asked(kind: ConditionKind, record: &Record) -> bool
         ConditionKind::Message | ConditionKind::MessageId | ConditionKind::MessageArguments => {
             is_unmarked(record)
         }
-        _ => false,
+        ConditionKind::UriPrefix => false,
     }
 }
 

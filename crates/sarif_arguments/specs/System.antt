@@ -19,7 +19,8 @@ ArgumentFile = Take (InputFile LibcRuntime File Names)
 abbrev pub left : ArgumentFile → Option (List ℕ)
 left = take_remaining (λ file. None)
 
--- the file of this name gave these bytes, or a read of it failed
+-- a reader of the file with this name was read to its end, or a read of it failed. Files don't say which bytes they
+-- hold
 pub record HasGiven (file : List ℕ) (given : Read) : Type 0 where
   pub before : Counted ArgumentFile
   pub after : Counted ArgumentFile

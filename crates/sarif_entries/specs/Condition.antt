@@ -44,11 +44,16 @@ name_of kinds.MessageArguments = codes "messageArguments"
 
 -- the first version of the file whose entries may have it
 abbrev pub since : ConditionKind → Version
+since kinds.Tool = First
+since kinds.RuleId = First
+since kinds.Uri = First
 since kinds.UriPrefix = Second
+since kinds.Guid = First
+since kinds.Fingerprints = First
+since kinds.PartialFingerprints = First
 since kinds.Message = Fourth
 since kinds.MessageId = Fourth
 since kinds.MessageArguments = Fourth
-since _ = First
 
 -- the type of the value: a string, a GUID, an object of strings or an array of strings. The last two make no
 -- condition if they are empty

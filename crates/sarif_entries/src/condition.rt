@@ -103,10 +103,15 @@ impl ConditionKind {
         ensures { result ≡ said.since self }
     {
         match self {
+            ConditionKind::Tool
+            | ConditionKind::RuleId
+            | ConditionKind::Uri
+            | ConditionKind::Guid
+            | ConditionKind::Fingerprints
+            | ConditionKind::PartialFingerprints => Version::First,
             ConditionKind::UriPrefix => Version::Second,
             ConditionKind::Message | ConditionKind::MessageId | ConditionKind::MessageArguments =>
                 Version::Fourth,
-            _ => Version::First,
         }
     }
 }

@@ -16,7 +16,7 @@ abbrev pub files_of : List Finding → List (List ℕ)
 files_of [] = []
 files_of (f ∷ fs) = file_of f ∷ filter (λ file. not (is_in file f)) (files_of fs)
 
--- the findings of each file together, in the order of the log within a file
+-- the findings of each file together, in their order
 abbrev pub by_file : List Finding → List Finding
 by_file fs = flat_map (λ file. filter (is_in file) fs) (files_of fs)
 

@@ -5,7 +5,7 @@ ghost use Rattle.sarif_request.specs.Dates.{IsNotPast};
 ghost use Rattle.sarif_request.specs.Words.{GivesRequest};
 
 /// If the arguments request a new suppression file with an expiry date for the entries that are added, it is a date, and
-/// today's date is known and not after it: so such an entry matches its result today.
+/// today's date is known and not after it.
 pub fn expiry_dates_are_not_past()
     ensures { (words : List (List ℕ)) (request : Request) → GivesRequest words (Ok request)
         → IfSome request.upkeep.renewal
