@@ -7,7 +7,7 @@ use Rattle.json.specs.Json as json
 use Rattle.json.specs.Json.{Json, value}
 use Rattle.json.specs.Find as look
 use Rattle.json.specs.Find.{BeginsWith, later_or}
-use Rattle.json.specs.Tree.{depth, members_depth}
+use Rattle.json.specs.Tree.{depth, members_depth, HasNumbers}
 use Rattle.json.proofs.Nesting.{value-depth}
 use Rattle.serde_json.specs.Data.{Num, Data, null, boolean, number, string, array, object, Items, Members, no_members, member, put}
 use Rattle.serde_json.specs.Find.{get, get_member, as_str}
@@ -49,11 +49,11 @@ depth_is : (ts r : List Token) (j : Json) → value max_depth ts ≡ Some (j, r)
 unfolding depth_of
 depth_is ts r j is = ap (λ o. unwrap_or (option_map (λ p. depth p.0) o) 0) is
 
-pub known : (ts : List Token) → IsReadable ts → (j : Json) × BeginsWith ts j × (depth j ≤ max_depth) × (of_json j ≡ Some (data_of ts)) × (depth_of ts ≡ depth j)
-known ts (j, r, d, is, of) = (j, (max_depth, r, is), value-depth max_depth ts r j is, of ∙ ap Some (sym (data_is ts r j d is of)), depth_is ts r j is)
+pub known : (ts : List Token) → IsReadable ts → (j : Json) × BeginsWith ts j × (depth j ≤ max_depth) × (of_json j ≡ Some (data_of ts)) × (depth_of ts ≡ depth j) × HasNumbers j
+known ts (j, r, d, is, of, numbers) = (j, (max_depth, r, is), value-depth max_depth ts r j is, of ∙ ap Some (sym (data_is ts r j d is of)), depth_is ts r j is, numbers)
 
-pub found : (ts : List Token) (j : Json) (d : Data) → BeginsWith ts j → depth j ≤ max_depth → of_json j ≡ Some d → IsReadable ts × (data_of ts ≡ d) × (depth_of ts ≡ depth j)
-found ts j d (n, r, is) le of = let at = value_at n max_depth ts r j is le in ((j, r, d, at, of), data_is ts r j d at of, depth_is ts r j at)
+pub found : (ts : List Token) (j : Json) (d : Data) → BeginsWith ts j → depth j ≤ max_depth → of_json j ≡ Some d → HasNumbers j → IsReadable ts × (data_of ts ≡ d) × (depth_of ts ≡ depth j)
+found ts j d (n, r, is) le of numbers = let at = value_at n max_depth ts r j is le in ((j, r, d, at, of, numbers), data_is ts r j d at of, depth_is ts r j at)
 
 -- ---- the data of a value, by its kind
 

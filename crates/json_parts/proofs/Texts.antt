@@ -9,6 +9,7 @@ use Rattle.json.specs.Lex.{tokens}
 use Rattle.json.specs.Json.{Json, value, if_last, document}
 use Rattle.json.specs.Tree.{depth}
 use Rattle.json.proofs.Nesting.{value-depth}
+use Rattle.json.proofs.Numbered.{document-HasNumbers}
 use Rattle.serde_json.specs.Read.{max_depth, of_json, read}
 use Rattle.json_parts.specs.Indexed.{json_of, data_of, IsReadable}
 use Rattle.json_parts.specs.Internal.Whole.{IsWhole}
@@ -68,7 +69,7 @@ readable_from text (Some j) e some h =
     let d = present (of_json j) parts.1 in
     let near = parts.0 in
     let le : depth j ≤ max_depth = grind (arith, near) in
-    let r = found (tokens text) j d.0 (128, [], at) le d.1 in
+    let r = found (tokens text) j d.0 (128, [], at) le d.1 (document-HasNumbers text j e) in
     let here = value_at 128 max_depth (tokens text) [] j at le in
     (r.0, ap (λ x. option_and_then of_json (whole x)) here ∙ d.1 ∙ ap Some (sym r.1))
 

@@ -6,7 +6,8 @@ use Rattle.json.specs.Json as json
 use Rattle.json.specs.Json.{Json}
 use Rattle.json.specs.Find as look
 use Rattle.json.specs.Find.{BeginsWith, InItems, InMembers, NextItem, Finds}
-use Rattle.json.specs.Tree.{depth, items_depth, members_depth}
+use Rattle.json.specs.Tree.{depth, items_depth, members_depth, HasNumbers, ItemsHaveNumbers, MembersHaveNumbers}
+use Rattle.json.proofs.Numbered.{HasNumbers-get}
 use Rattle.serde_json.specs.Data.{Data, Items, no_items, item, Members, no_members, member, array}
 use Rattle.serde_json.specs.Find.{get, as_null, as_array, as_object}
 use Rattle.serde_json.specs.Read.{max_depth, of_json, of_items}
@@ -50,7 +51,7 @@ opens_array ts read (Some inner) h =
     let o = h k.0 k.1 in
     let shape : Kind (json.array o.0) (data_of ts) = subst (λ j. Kind j (data_of ts)) o.1 (kind k.0 (data_of ts) k.3) in
     let deep : depth_of ts ≡ suc (items_depth o.0) = k.4 ∙ ap depth o.1 in
-    (items_depth o.0, shape.0, deep, sym shape.2, (o.0, o.2, shape.1, omega arith, omega (arith, k.2, k.4, deep)))
+    (items_depth o.0, shape.0, deep, sym shape.2, (o.0, o.2, shape.1, omega arith, omega (arith, k.2, k.4, deep), subst HasNumbers o.1 k.5))
 
 pub opens_object : (ts : List Token) → IsReadable ts → (r : Option (List Token))
     → ((j : Json) → BeginsWith ts j → MatchOption r (look.as_object j ≡ None) (λ rest. (ms : json.Members) × (j ≡ json.object ms) × InMembers rest ms)) → OpensObject ts r
@@ -60,7 +61,7 @@ opens_object ts read (Some inner) h =
     let o = h k.0 k.1 in
     let shape : Kind (json.object o.0) (data_of ts) = subst (λ j. Kind j (data_of ts)) o.1 (kind k.0 (data_of ts) k.3) in
     let deep : depth_of ts ≡ suc (members_depth o.0) = k.4 ∙ ap depth o.1 in
-    (members_depth o.0, shape.0, deep, sym shape.2, (o.0, o.2, shape.1, omega arith, omega (arith, k.2, k.4, deep)))
+    (members_depth o.0, shape.0, deep, sym shape.2, (o.0, o.2, shape.1, omega arith, omega (arith, k.2, k.4, deep), subst HasNumbers o.1 k.5))
 
 -- ---- a member by name
 
@@ -75,7 +76,7 @@ gets_at name ts read (Some e) h =
     let k = known ts read in
     let o = h k.0 k.1 in
     let f = subst (λ x. Found max_depth x None (get name (data_of ts))) o.1 (get_found name max_depth k.0 (data_of ts) (kind k.0 (data_of ts) k.3) k.2) in
-    let r = found e o.0 f.0 o.2 f.3 f.1 in
+    let r = found e o.0 f.0 o.2 f.3 f.1 (HasNumbers-get name k.0 o.0 k.5 (sym o.1)) in
     (r.0, f.2 ∙ ap Some (sym r.1))
 
 -- ---- the next element
@@ -85,14 +86,15 @@ Stands n ds None new = ds ≡ no_items
 Stands n ds (Some ts) new = IsReadable ts × ((rest : Items) × (ds ≡ item (data_of ts) rest) × (depth_of ts ≤ n) × ElementsAre n new rest)
 
 pub element_at : (n : ℕ) (old new : List Token) (ds : Items) (r : Option (List Token)) → ElementsAre n old ds → NextItem old r new → Stands n ds r new
-element_at n old new ds None (js, within, of, le, most) h = Some_inj ds no_items (sym of ∙ ap of_items (h js within))
-element_at n old new ds (Some ts) (js, within, of, le, most) h =
+element_at n old new ds None (js, within, of, le, most, numbers) h = Some_inj ds no_items (sym of ∙ ap of_items (h js within))
+element_at n old new ds (Some ts) (js, within, of, le, most, numbers) h =
     let f = h js within in
     let first = and_then_some (λ d. option_map (item d) (of_items f.1)) (of_json f.0) ds (ap of_items (sym f.2) ∙ of) in
     let more = mapped_some (item first.0) (of_items f.1) ds first.2 in
     let deep : items_depth js ≡ max (depth f.0) (items_depth f.1) = ap items_depth f.2 in
-    let r = found ts f.0 first.0 f.3 (omega (arith, deep, le, most)) first.1 in
-    (r.0, (more.0, sym more.2 ∙ ap (λ x. item x more.0) (sym r.1), omega (arith, deep, le, r.2), (f.1, f.4, more.1, omega (arith, deep, le), most)))
+    let each = subst ItemsHaveNumbers f.2 numbers in
+    let r = found ts f.0 first.0 f.3 (omega (arith, deep, le, most)) first.1 each.0 in
+    (r.0, (more.0, sym more.2 ∙ ap (λ x. item x more.0) (sym r.1), omega (arith, deep, le, r.2), (f.1, f.4, more.1, omega (arith, deep, le), most, each.1)))
 
 pub next_element_is : (old new : List Token) (r : Option (List Token)) → NextItem old r new → NextElement old r new
 next_element_is old new None h n ds are = element_at n old new ds None are h
@@ -103,14 +105,15 @@ StandsNamed n ms None new = ms ≡ no_members
 StandsNamed n ms (Some m) new = IsReadable m.1 × ((rest : Members) × (ms ≡ member m.0 (data_of m.1) rest) × (depth_of m.1 ≤ n) × MembersAre n new rest)
 
 pub member_at : (n : ℕ) (old new : List Token) (ms : Members) (r : Option (List ℕ × List Token)) → MembersAre n old ms → look.NextMember old r new → StandsNamed n ms r new
-member_at n old new ms None (js, within, of, le, most) h = Some_inj ms no_members (sym of ∙ ap named_of (h js within))
-member_at n old new ms (Some m) (js, within, of, le, most) h =
+member_at n old new ms None (js, within, of, le, most, numbers) h = Some_inj ms no_members (sym of ∙ ap named_of (h js within))
+member_at n old new ms (Some m) (js, within, of, le, most, numbers) h =
     let f = h js within in
     let first = and_then_some (λ d. option_map (member m.0 d) (named_of f.1)) (of_json f.0) ms (ap named_of (sym f.2) ∙ of) in
     let more = mapped_some (member m.0 first.0) (named_of f.1) ms first.2 in
     let deep : members_depth js ≡ max (depth f.0) (members_depth f.1) = ap members_depth f.2 in
-    let r = found m.1 f.0 first.0 f.3 (omega (arith, deep, le, most)) first.1 in
-    (r.0, (more.0, sym more.2 ∙ ap (λ x. member m.0 x more.0) (sym r.1), omega (arith, deep, le, r.2), (f.1, f.4, more.1, omega (arith, deep, le), most)))
+    let each = subst MembersHaveNumbers f.2 numbers in
+    let r = found m.1 f.0 first.0 f.3 (omega (arith, deep, le, most)) first.1 each.0 in
+    (r.0, (more.0, sym more.2 ∙ ap (λ x. member m.0 x more.0) (sym r.1), omega (arith, deep, le, r.2), (f.1, f.4, more.1, omega (arith, deep, le), most, each.1)))
 
 pub next_member_is : (old new : List Token) (r : Option (List ℕ × List Token)) → look.NextMember old r new → NextMember old r new
 next_member_is old new None h n ms are = member_at n old new ms None are h

@@ -21,4 +21,6 @@ pub use laws::{
 };
 pub use mark::without_mark;
 pub use node::Node;
+pub use number::parse_number;
+pub use tape::{Contents, Element};
 pub use text::push_value;

@@ -43,6 +43,14 @@ impl<'t, 'a> Node<'t, 'a> {
         Node { element }
     }
 
+    /// The place of its first token, from which its members and the strings of its numbers are found.
+    pub fn element(&self) -> Element<'t, 'a>
+        ensures same { result ≡ self.now }
+        ensures read { IsReadable result }
+    {
+        self.element.again()
+    }
+
     /// The member of that name, where this is an object; of several the last.
     pub fn get(&self, name: &str) -> Option<Node<'t, 'a>>
         ensures { option_map data_of result ≡ get name.now (data_of self.now) }

@@ -7,8 +7,9 @@ ghost use Rattle.serde_json.specs.View.{number_view};
 use fast_float::Numeral;
 use serde_json::Number;
 
-/// The number that a token writes, where it is in range.
-pub(crate) fn parse_number(text: &str) -> Option<Number>
+/// The number that a token writes, as `serde_json` holds it: an integer, if it is one that fits 64 bits, otherwise a
+/// float. `None` if no finite float is close to it.
+pub fn parse_number(text: &str) -> Option<Number>
     ensures { option_map number_view result ≡ number_of text.now }
 {
     let bytes = text.as_bytes();

@@ -11,7 +11,7 @@ mod element;
 mod filling;
 
 use crate::indexing::IndexFault;
-pub(crate) use element::{Contents, Element};
+pub use element::{Contents, Element};
 use filling::push_value;
 use json::{MAX_DEPTH, Node, Reader, Scratch};
 use std::alloc::Global;

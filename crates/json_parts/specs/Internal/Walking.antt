@@ -4,7 +4,7 @@ use Rattle.json.specs.Token.{Token}
 use Rattle.json.specs.Json as json
 use Rattle.json.specs.Json.{value}
 use Rattle.json.specs.Find.{InItems, InMembers}
-use Rattle.json.specs.Tree.{depth, items_depth, members_depth}
+use Rattle.json.specs.Tree.{depth, items_depth, members_depth, ItemsHaveNumbers, MembersHaveNumbers}
 use Rattle.serde_json.specs.Data.{Data, array, object, Items, no_items, item, Members, no_members, member, put}
 use Rattle.serde_json.specs.Read.{of_json, of_items, max_depth}
 use Rattle.serde_json.specs.Find.{as_array, as_object}
@@ -33,6 +33,7 @@ ElementsAre n ts ds =
     × (of_items js ≡ Some ds)
     × (items_depth js ≤ n)
     × (n ≤ max_depth)
+    × ItemsHaveNumbers js
 
 abbrev pub MembersAre : ℕ → List Token → Members → Type 0
 MembersAre n ts ms =
@@ -40,6 +41,7 @@ MembersAre n ts ms =
     × (named_of js ≡ Some ms)
     × (members_depth js ≤ n)
     × (n ≤ max_depth)
+    × MembersHaveNumbers js
 
 -- the content of an array
 abbrev pub OpensArray : List Token → Option (List Token) → Type 0

@@ -11,7 +11,7 @@ use std::marker::Model;
 
 /// A place in a tape. Contracts see the tokens from here on.
 #[derive(Drop)]
-pub(crate) struct Element<'t, 'a> {
+pub struct Element<'t, 'a> {
     nodes: &'t [Node<'a>],
     at: usize,
 }
@@ -53,6 +53,16 @@ impl<'t, 'a> Element<'t, 'a> {
         Element { nodes, at: 0 }
     }
 
+    /// This place again.
+    pub fn again(&self) -> Element<'t, 'a>
+        ensures { result ≡ self.now }
+    {
+        Element {
+            nodes: self.nodes,
+            at: self.at,
+        }
+    }
+
     fn node(&self) -> Node<'a>
         ensures { (j : Json) → BeginsWith self.now j
             → self.now ≡ node_token result ∷ drop 1 self.now }
@@ -65,7 +75,7 @@ impl<'t, 'a> Element<'t, 'a> {
     }
 
     /// The text, where this is one.
-    pub(crate) fn as_str(&self) -> Option<&'a str>
+    pub fn as_str(&self) -> Option<&'a str>
         ensures { (j : Json) → BeginsWith self.now j → option_map (λ s. s.now) result ≡ as_str j }
     {
         if let Node::String(text) = self.node() {
@@ -76,7 +86,7 @@ impl<'t, 'a> Element<'t, 'a> {
     }
 
     /// The text of the number, where this is one.
-    pub(crate) fn as_number(&self) -> Option<&'a str>
+    pub fn as_number(&self) -> Option<&'a str>
         ensures { (j : Json) → BeginsWith self.now j
             → option_map (λ s. s.now) result ≡ as_number j }
     {
@@ -88,7 +98,7 @@ impl<'t, 'a> Element<'t, 'a> {
     }
 
     /// The boolean, where this is one.
-    pub(crate) fn as_bool(&self) -> Option<bool>
+    pub fn as_bool(&self) -> Option<bool>
         ensures { (j : Json) → BeginsWith self.now j → result ≡ as_bool j }
     {
         if let Node::Bool(b) = self.node() {
@@ -99,7 +109,7 @@ impl<'t, 'a> Element<'t, 'a> {
     }
 
     /// Whether this is `null`.
-    pub(crate) fn is_null(&self) -> bool
+    pub fn is_null(&self) -> bool
         ensures { (j : Json) → BeginsWith self.now j → result ≡ is_null j }
     {
         if let Node::Null = self.node() {
@@ -110,7 +120,7 @@ impl<'t, 'a> Element<'t, 'a> {
     }
 
     /// The items, where this is an array.
-    pub(crate) fn items(&self) -> Option<Contents<'t, 'a>>
+    pub fn items(&self) -> Option<Contents<'t, 'a>>
         ensures { (j : Json) → BeginsWith self.now j
             → MatchOption result (as_array j ≡ None)
             (λ rest. (js : spec.Items) × (j ≡ array js) × InItems rest js) }
@@ -125,7 +135,7 @@ impl<'t, 'a> Element<'t, 'a> {
     }
 
     /// The members, where this is an object.
-    pub(crate) fn members(&self) -> Option<Contents<'t, 'a>>
+    pub fn members(&self) -> Option<Contents<'t, 'a>>
         ensures { (j : Json) → BeginsWith self.now j
             → MatchOption result (as_object j ≡ None)
             (λ rest. (ms : spec.Members) × (j ≡ object ms) × InMembers rest ms) }
@@ -140,7 +150,7 @@ impl<'t, 'a> Element<'t, 'a> {
     }
 
     /// The last member of that name, where this is an object.
-    pub(crate) fn get(&self, name: &str) -> Option<Element<'t, 'a>>
+    pub fn get(&self, name: &str) -> Option<Element<'t, 'a>>
         ensures { (j : Json) → BeginsWith self.now j → Finds result (get name.now j) }
     {
         let mut members = self.members()?;
@@ -196,7 +206,7 @@ impl<'t, 'a> Element<'t, 'a> {
 
 /// An iterator over the items of an array or the members of an object. Contracts see the tokens from the next one on.
 #[derive(Drop)]
-pub(crate) struct Contents<'t, 'a> {
+pub struct Contents<'t, 'a> {
     next: Element<'t, 'a>,
 }
 
@@ -213,7 +223,7 @@ impl<'t, 'a> Model for Contents<'t, 'a> {
 
 impl<'t, 'a> Contents<'t, 'a> {
     /// The next item of an array, if there is one.
-    pub(crate) fn next_item(&mut self) -> Option<Element<'t, 'a>>
+    pub fn next_item(&mut self) -> Option<Element<'t, 'a>>
         ensures value { NextItem self.old result self.new }
         ensures shorter { OnSome result (length self.new < length self.old) }
     {
@@ -221,7 +231,7 @@ impl<'t, 'a> Contents<'t, 'a> {
     }
 
     /// The next member of an object with its name, if there is one.
-    pub(crate) fn next_member(&mut self) -> Option<(&'a str, Element<'t, 'a>)>
+    pub fn next_member(&mut self) -> Option<(&'a str, Element<'t, 'a>)>
         ensures value { NextMember self.old (option_map (λ m. (m.0.now, m.1)) result) self.new }
         ensures shorter { OnSome result (length self.new < length self.old) }
     {
