@@ -58,7 +58,8 @@ def region_and_snippet(result, place):
 
 
 def packed(text):
-    return None if text is None else "".join(it for it in text if it not in WHITE)
+    """A snippet without white space; one of white space alone is none."""
+    return None if text is None else "".join(it for it in text if it not in WHITE) or None
 
 
 def telling(members, version):
@@ -148,7 +149,7 @@ def is_same(record, other):
 
 def has_evidence(record, other):
     """Whether anything tells that the two are the same, in version 3."""
-    if record.snippet is not None and other.snippet is not None:
+    if packed(record.snippet) is not None and packed(other.snippet) is not None:
         return packed(record.snippet) == packed(other.snippet)
     full, others = telling(record.full, 3), telling(other.full, 3)
     partial, others_partial = telling(record.partial, 3), telling(other.partial, 3)

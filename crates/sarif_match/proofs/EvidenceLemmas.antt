@@ -1,10 +1,10 @@
 -- What the test of evidence says.
-use Rattle.std.proofs.Common.{◌≡◌, ℕ, Bool, true, cond, ◌&&◌, ◌⊎◌, inl, inr, List, Option, Some, None, option_map, refl, sym, ap, ◌∙◌}
+use Rattle.std.proofs.Common.{◌≡◌, ℕ, Bool, true, cond, ◌&&◌, ◌⊎◌, inl, inr, List, Option, Some, None, refl, sym, ap, ◌∙◌}
 use Rattle.std.proofs.lemmas.Bool.{and_parts}
 use Rattle.sarif_model.specs.declared.record.Record.{Record}
 use Rattle.sarif_model.specs.declared.kinds.State.TheVariants.{Unchanged, Updated}
 use Rattle.sarif_match.specs.declared.version.MatchingVersion.TheVariants.{Three}
-use Rattle.sarif_match.specs.Seen.{packed, seen}
+use Rattle.sarif_match.specs.Seen.{seen}
 use Rattle.sarif_match.specs.Evidence.{by_snippets, has_evidence, has_other_evidence, state_in}
 use Rattle.sarif_match.specs.State.{is_unchanged, state_of, IsUnchanged}
 use Rattle.sarif_match.proofs.StateLemmas.{equal_is_unchanged, from_unchanged, unchanged_is_equal}
@@ -21,23 +21,23 @@ module _ (current partner : Record) where
   unchanged_is_same is =
       unchanged_is_equal current partner (ap (λ (b : Bool). cond b Unchanged Updated) (both is).0)
 
-  by_both : (o p : Option (List ℕ)) (snippet other : List ℕ) (rest : Bool) → o ≡ Some snippet → p ≡ Some other → by_snippets (option_map packed o) (option_map packed p) rest ≡ true → packed snippet ≡ packed other
+  by_both : (o p : Option (List ℕ)) (snippet other : List ℕ) (rest : Bool) → o ≡ Some snippet → p ≡ Some other → by_snippets o p rest ≡ true → snippet ≡ other
   by_both o p snippet other rest is other_is told =
-      same_text (packed snippet) (packed other) (sym (ap (λ (q : Option (List ℕ)). by_snippets (option_map packed q) (option_map packed p) rest) is ∙ ap (λ (q : Option (List ℕ)). by_snippets (Some (packed snippet)) (option_map packed q) rest) other_is) ∙ told)
+      same_text snippet other (sym (ap (λ (q : Option (List ℕ)). by_snippets q p rest) is ∙ ap (λ (q : Option (List ℕ)). by_snippets (Some snippet) q rest) other_is) ∙ told)
 
-  pub unchanged_has_snippet : (snippet other : List ℕ) → state_in Three current (Some partner) ≡ Unchanged → current.snippet ≡ Some snippet → partner.snippet ≡ Some other → packed snippet ≡ packed other
+  pub unchanged_has_snippet : (snippet other : List ℕ) → state_in Three current (Some partner) ≡ Unchanged → (seen current).snippet ≡ Some snippet → (seen partner).snippet ≡ Some other → snippet ≡ other
   unchanged_has_snippet snippet other is mine theirs =
-      by_both current.snippet partner.snippet snippet other (has_other_evidence (seen current) (seen partner)) mine theirs (both is).1
+      by_both (seen current).snippet (seen partner).snippet snippet other (has_other_evidence (seen current) (seen partner)) mine theirs (both is).1
 
-  without_one : (o p : Option (List ℕ)) (rest : Bool) → (o ≡ None) ⊎ (p ≡ None) → by_snippets (option_map packed o) (option_map packed p) rest ≡ rest
+  without_one : (o p : Option (List ℕ)) (rest : Bool) → (o ≡ None) ⊎ (p ≡ None) → by_snippets o p rest ≡ rest
   without_one None p rest none = refl
   without_one (Some s) None rest none = refl
   without_one (Some s) (Some t) rest (inl none) = let never : ⊥ = cc in absurd never
   without_one (Some s) (Some t) rest (inr none) = let never : ⊥ = cc in absurd never
 
-  pub unchanged_has_other : state_in Three current (Some partner) ≡ Unchanged → (current.snippet ≡ None) ⊎ (partner.snippet ≡ None) → has_other_evidence (seen current) (seen partner) ≡ true
+  pub unchanged_has_other : state_in Three current (Some partner) ≡ Unchanged → ((seen current).snippet ≡ None) ⊎ ((seen partner).snippet ≡ None) → has_other_evidence (seen current) (seen partner) ≡ true
   unchanged_has_other is none =
-      sym (without_one current.snippet partner.snippet (has_other_evidence (seen current) (seen partner)) none) ∙ (both is).1
+      sym (without_one (seen current).snippet (seen partner).snippet (has_other_evidence (seen current) (seen partner)) none) ∙ (both is).1
 
   unchanged_by : state_of current (Some partner) ≡ Unchanged → evidence ≡ true → state_in Three current (Some partner) ≡ Unchanged
   unchanged_by is enough =

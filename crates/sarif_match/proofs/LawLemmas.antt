@@ -143,6 +143,16 @@ module _ (current baseline : List Record) where
   partners-are i j found =
       ⊎_elim (λ was. absurd (nobody (length current) i j was)) (λ h. record { before = h.before; tier = h.tier; after = h.after; in_order = h.split; paired = h.paired }) (all_tell (tiers_of current baseline) (replicate (length current) None) i j (length-replicate (length current) None) found)
 
+  keyed_below : (rs : List Record) (tier : Tier) (j : ℕ) (key : KeyParts) → key_at tier rs j ≡ Some key → j < length rs
+  keyed_below [] tier j key is = absurd (none_is_no_some key is)
+  keyed_below (r ∷ rs) tier zero key is = omega arith
+  keyed_below (r ∷ rs) tier (suc j) key is = let rest = keyed_below rs tier j key is in omega arith
+
+  -- a match is one of the baseline results
+  pub partner_below : (tiers : List Tier) (i j : ℕ) → slice_index_or (partners_after current baseline tiers) i None ≡ Some j → j < length baseline
+  partner_below tiers i j found =
+      ⊎_elim (λ was. absurd (nobody (length current) i j was)) (λ h. keyed_below baseline h.tier j h.paired.key h.paired.baseline_key) (all_tell tiers (replicate (length current) None) i j (length-replicate (length current) None) found)
+
   pub are-partners : (i j : ℕ) → ArePartners current baseline i j → slice_index_or (partners_of current baseline) i None ≡ Some j
   are-partners i j h =
       ap (λ (ts : List Tier). slice_index_or (fold (after_tier current baseline) (replicate (length current) None) ts) i None) h.in_order ∙ all_keep h.before h.tier h.after (replicate (length current) None) i j (length-replicate (length current) None) h.paired
@@ -200,6 +210,9 @@ module _ (current baseline : List Record) where
   once_all (t ∷ tiers) partners counted once =
       once_all tiers (after_tier current baseline partners t) (after_counted partners t counted) (once_after partners t counted once)
 
+  pub once_after_tiers : (tiers : List Tier) (i k j : ℕ) → slice_index_or (partners_after current baseline tiers) i None ≡ Some j → slice_index_or (partners_after current baseline tiers) k None ≡ Some j → i ≡ k
+  once_after_tiers tiers =
+      once_all tiers (replicate (length current) None) (length-replicate (length current) None) (λ i k j found _. absurd (nobody (length current) i j found))
+
   pub partners-once : (i k j : ℕ) → slice_index_or (partners_of current baseline) i None ≡ Some j → slice_index_or (partners_of current baseline) k None ≡ Some j → i ≡ k
-  partners-once =
-      once_all (tiers_of current baseline) (replicate (length current) None) (length-replicate (length current) None) (λ i k j found _. absurd (nobody (length current) i j found))
+  partners-once = once_after_tiers (tiers_of current baseline)

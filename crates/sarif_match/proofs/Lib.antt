@@ -1,5 +1,6 @@
 pub mod EvidenceLemmas
 pub mod FitsLemmas
+pub mod FromEndLemmas
 pub mod KeyLemmas
 pub mod LawLemmas
 pub mod ListLemmas
@@ -7,12 +8,16 @@ pub mod NameLemmas
 pub mod NamedLemmas
 pub mod NoBaseline
 pub mod NoneLeft
+pub mod PackedLemmas
 pub mod PairedLemmas
 pub mod PairingLemmas
 pub mod PartsLemmas
 pub mod PutLemmas
+pub mod RisingLemmas
 pub mod SortedLemmas
 pub mod SplitLemmas
 pub mod StateLemmas
 pub mod TableLemmas
+pub mod TurnedLemmas
 pub mod ValueLemmas
+pub mod VersionLaws

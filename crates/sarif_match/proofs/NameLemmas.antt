@@ -1,4 +1,4 @@
-use Rattle.std.proofs.Common.{◌≡◌, ℕ, ◌+◌, ◌<◌, suc, List, [], ◌∷◌, Ordering, length, get_or, drop, map, reverse, Bor, refl, sym, ap, ◌∙◌, add-one}
+use Rattle.std.proofs.Common.{◌≡◌, ◌==◌, ℕ, ◌+◌, ◌<◌, suc, not, List, [], ◌∷◌, Ordering, length, get_or, drop, map, reverse, Bor, refl, sym, ap, ◌∙◌, add-one, arith}
 use Rattle.std.proofs.Math.Seq.{drop-cons}
 use Rattle.std.specs.Ordering.{nat_cmp, match_ordering}
 use Rattle.std.specs.declared.cmp.Ordering.TheVariants.{Less, Equal, Greater}
@@ -6,7 +6,11 @@ use Rattle.std.specs.Cmp.Lexicographic.{slice_cmp}
 use Rattle.std.specs.BTreeSet.{insert_key}
 use Rattle.std.proofs.lemmas.Simd.{map-map}
 use Rattle.indexmap.proofs.ReorderLemmas.{map-reverse}
-use Rattle.sarif_match.specs.declared.tier.Tier.TheVariants.{Fingerprint}
+use Rattle.sarif_match.specs.declared.tier.Tier.TheVariants.{Fingerprint, FingerprintHere}
+use Rattle.sarif_match.specs.Seen.{filled}
+use Rattle.std.proofs.lemmas.List.{map-append}
+use Rattle.std.proofs.lemmas.List.Elements.{filter-append}
+use Rattle.std.proofs.lemmas.List.Sums.{fold-append}
 use Rattle.sarif_match.specs.Tiers.{with_names}
 
 abbrev pub lent_cmp : Bor (List ℕ) → Bor (List ℕ) → Ordering
@@ -37,3 +41,22 @@ with_names-step old new k pairs i p here within named added =
 pub fingerprints-reverse : (ks : List (Bor (List ℕ))) → map (λ k. Fingerprint k.now) (reverse ks) ≡ map Fingerprint (reverse (lent_names ks))
 fingerprints-reverse ks =
     sym (map-map Fingerprint (λ (k : Bor (List ℕ)). k.now) (reverse ks)) ∙ ap (map Fingerprint) (map-reverse (λ (k : Bor (List ℕ)). k.now) ks)
+
+-- the same for the tiers at one place
+pub fingerprints_here-reverse : (ks : List (Bor (List ℕ))) → map (λ k. FingerprintHere k.now) (reverse ks) ≡ map FingerprintHere (reverse (lent_names ks))
+fingerprints_here-reverse ks =
+    sym (map-map FingerprintHere (λ (k : Bor (List ℕ)). k.now) (reverse ks)) ∙ ap (map FingerprintHere) (map-reverse (λ (k : Bor (List ℕ)). k.now) ks)
+
+-- the names of filled fingerprints, one fingerprint at a time
+pub filled_names-step : (old new : List (List ℕ)) (pairs : List (List ℕ × List ℕ)) (i : ℕ) (p : List ℕ × List ℕ) → p ≡ get_or pairs i p → i < length pairs → new ≡ with_names old (map (λ pair. pair.0) (filled (p ∷ []))) → with_names new (map (λ pair. pair.0) (filled (drop (i + 1) pairs))) ≡ with_names old (map (λ pair. pair.0) (filled (drop i pairs)))
+filled_names-step old new pairs i p here within added =
+    let name_of = λ (pair : List ℕ × List ℕ). pair.0 in
+    let next : i + 1 ≡ suc i = omega arith in
+    let rest : List (List ℕ × List ℕ) = drop (suc i) pairs in
+    let opened : drop i pairs ≡ p ∷ rest = drop-cons pairs i p within ∙ ap (λ (q : List ℕ × List ℕ). q ∷ rest) (sym here) in
+    ap (λ (n : ℕ). with_names new (map name_of (filled (drop n pairs)))) next
+    ∙ ap (λ (ns : List (List ℕ)). with_names ns (map name_of (filled rest))) added
+    ∙ sym (fold-append (insert_key (slice_cmp nat_cmp)) old (map name_of (filled (p ∷ []))) (map name_of (filled rest)))
+    ∙ ap (with_names old) (sym (map-append name_of (filled (p ∷ [])) (filled rest)))
+    ∙ ap (λ (l : List (List ℕ × List ℕ)). with_names old (map name_of l)) (sym (filter-append (λ (member : List ℕ × List ℕ). not (length member.1 == 0)) (p ∷ []) rest))
+    ∙ ap (λ (l : List (List ℕ × List ℕ)). with_names old (map name_of (filled l))) (sym opened)

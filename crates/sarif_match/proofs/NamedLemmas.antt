@@ -9,13 +9,17 @@ use Rattle.std.specs.declared.alloc.Global.{Global}
 use Rattle.std.specs.declared.vec.Vec.{Vec}
 use Rattle.std.specs.Option.{option_map, option_map_or}
 use Rattle.sarif_model.specs.declared.record.Record.{Record}
+use Rattle.std.proofs.Common.{ap₂}
+use Rattle.std.specs.Prelude.{option_and_then}
 use Rattle.sarif_match.specs.declared.tier.Tier.{Tier}
+use Rattle.sarif_match.specs.declared.tier.Tier.TheVariants.{Fingerprint, FingerprintHere}
 use Rattle.sarif_match.specs.declared.tier_key.Key.{Key}
-use Rattle.sarif_match.specs.Key.{key_of, value_of}
-use Rattle.sarif_match.specs.KeyParts.{KeyParts, parts_of, fingerprint_parts}
+use Rattle.sarif_match.specs.Key.{group_of, key_of, value_of}
+use Rattle.sarif_match.specs.KeyParts.{KeyParts, parts_of, fingerprint_parts, fingerprint_here_parts}
+use Rattle.sarif_match.specs.Internal.Paired.{key_at}
 use Rattle.std.proofs.Common.{not, slice_index_or}
 use Rattle.std.proofs.lemmas.List.Elements.{filter-append}
-use Rattle.sarif_match.specs.Internal.Named.{with_parts, ends_with, put_once, AreNumberedBelow, unmarked}
+use Rattle.sarif_match.specs.Internal.Named.{with_parts, ends_with, keyed_at, put_once, AreNumberedBelow, unmarked}
 use Rattle.sarif_match.specs.Partners.{with_key, keyed_from}
 use Rattle.sarif_match.proofs.ValueLemmas.{same_text}
 use Rattle.sarif_match.proofs.ListLemmas.{slice_get-last}
@@ -140,6 +144,49 @@ with_parts-unmarked marks (x ∷ xs) =
 pub IfOk-with_parts : {E : Type 0} (r : Result (Vec (ℕ × Key) Global) E) (marks : List Bool) (group : List (ℕ × Key)) (all : List (ℕ × KeyParts)) → with_parts group ≡ all → IfOk r (λ left. left.items ≡ unmarked marks group) → IfOk r (λ left. with_parts left.items ≡ unmarked marks all)
 IfOk-with_parts (Ok left) marks group all same told = ap with_parts told ∙ with_parts-unmarked marks group ∙ ap (unmarked marks) same
 IfOk-with_parts (Err e) marks group all same told = tt
+
+-- ---- the results of a group, with their keys at another tier
+
+module _ (tier : Tier) (rs : List Record) where
+  keyed_at-with_parts : (es : List (ℕ × Key)) → keyed_at tier rs es ≡ keyed_at tier rs (with_parts es)
+  keyed_at-with_parts [] = refl
+  keyed_at-with_parts (e ∷ es) = ap (with_key e.0 (key_at tier rs e.0)) (keyed_at-with_parts es)
+
+  keyed_at-push : (es : List (ℕ × Key)) (e : ℕ × Key) → keyed_at tier rs (es ++ (e ∷ [])) ≡ keyed_at tier rs es ++ with_key e.0 (key_at tier rs e.0) []
+  keyed_at-push [] e = refl
+  keyed_at-push (x ∷ es) e =
+      ap (with_key x.0 (key_at tier rs x.0)) (keyed_at-push es e) ∙ with_key-append x.0 (key_at tier rs x.0) (keyed_at tier rs es) (with_key e.0 (key_at tier rs e.0) [])
+
+  -- what has no mark among one result of the group more
+  pub grouped_step : (marks : List Bool) (es : List (ℕ × Key)) (i : ℕ) (e : ℕ × Key) (old new : List (ℕ × KeyParts)) → e ≡ get_or es i e → i < length es → new ≡ old ++ unmarked marks (with_key e.0 (key_at tier rs e.0) []) → old ≡ unmarked marks (keyed_at tier rs (take i es)) → new ≡ unmarked marks (keyed_at tier rs (take (i + 1) es))
+  grouped_step marks es i e old new here within step so_far =
+      let more : List (ℕ × KeyParts) = with_key e.0 (key_at tier rs e.0) [] in
+      let longer : take i es ++ (e ∷ []) ≡ take (i + 1) es = ap (λ (x : ℕ × Key). take i es ++ (x ∷ [])) here ∙ sym (take_more es i e within) in
+      step ∙ ap (λ (xs : List (ℕ × KeyParts)). xs ++ unmarked marks more) so_far
+      ∙ sym (filter-append (λ (e : ℕ × KeyParts). not (slice_index_or marks e.0 false)) (keyed_at tier rs (take i es)) more)
+      ∙ ap (unmarked marks) (sym (keyed_at-push (take i es) e)) ∙ ap (λ (xs : List (ℕ × Key)). unmarked marks (keyed_at tier rs xs)) longer
+
+-- those with a name have a key at its tier at one place
+keyed_at-keyed_from : (name : List ℕ) (all rs : List Record) (n : ℕ) → ((k : ℕ) → slice_get all (n + k) ≡ slice_get rs k) → keyed_at (FingerprintHere name) all (keyed_from (Fingerprint name) n rs) ≡ keyed_from (FingerprintHere name) n rs
+keyed_at-keyed_from name all [] n same = refl
+keyed_at-keyed_from name all (r ∷ rs) n same = by_value (value_of name r.full) refl (keyed_at-keyed_from name all rs (suc n) later)
+  where
+    later : (k : ℕ) → slice_get all (suc n + k) ≡ slice_get rs k
+    later k = let at : suc n + k ≡ n + suc k = omega arith in ap (slice_get all) at ∙ same (suc k)
+
+    here : slice_get all n ≡ Some r
+    here = let at : n ≡ n + 0 = omega arith in ap (slice_get all) at ∙ same 0
+
+    by_value : (o : Option (List ℕ)) → value_of name r.full ≡ o → keyed_at (FingerprintHere name) all (keyed_from (Fingerprint name) (suc n) rs) ≡ keyed_from (FingerprintHere name) (suc n) rs → keyed_at (FingerprintHere name) all (with_key n (option_map (λ v. fingerprint_parts r.tool name v) o) (keyed_from (Fingerprint name) (suc n) rs)) ≡ with_key n (option_map (λ v. fingerprint_here_parts (group_of r) name v) o) (keyed_from (FingerprintHere name) (suc n) rs)
+    by_value None is others = others
+    by_value (Some v) is others =
+        let key : key_at (FingerprintHere name) all n ≡ Some (fingerprint_here_parts (group_of r) name v) = ap (option_and_then (λ (x : Record). key_of x (FingerprintHere name))) here ∙ ap (option_map (λ (w : List ℕ). fingerprint_here_parts (group_of r) name w)) is in
+        ap₂ (λ (o : Option KeyParts) (xs : List (ℕ × KeyParts)). with_key n o xs) key others
+
+pub grouped_here : (name : List ℕ) (rs : List Record) (group : List (ℕ × Key)) → with_parts group ≡ keyed_from (Fingerprint name) 0 rs → keyed_at (FingerprintHere name) rs group ≡ keyed_from (FingerprintHere name) 0 rs
+grouped_here name rs group same =
+    keyed_at-with_parts (FingerprintHere name) rs group ∙ ap (keyed_at (FingerprintHere name) rs) same
+    ∙ keyed_at-keyed_from name rs rs 0 (λ k. (let at : 0 + k ≡ k = omega arith in ap (slice_get rs) at))
 
 -- whether two borrowed names are equal
 abbrev pub same_name : Bor (List ℕ) → Bor (List ℕ) → Bool

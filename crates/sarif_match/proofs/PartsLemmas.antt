@@ -7,7 +7,8 @@ use Rattle.std.proofs.lemmas.Bool.Decides.{Decides-eqb}
 use Rattle.std.proofs.lemmas.Slice.Eq.{bytes_eq-Decides}
 use Rattle.sarif_model.specs.declared.message.Message.{Message}
 use Rattle.sarif_model.specs.declared.place.Place.{Place}
-use Rattle.sarif_match.specs.KeyParts.{KeyParts, guid_parts, fingerprint_parts, partial_here_parts, partial_moved_parts, place_parts, same_parts, pairs_eq, place_eq, message_eq}
+use Rattle.sarif_model.specs.declared.region.Region.{Region}
+use Rattle.sarif_match.specs.KeyParts.{Group, KeyParts, guid_parts, fingerprint_parts, partial_here_parts, partial_moved_parts, place_parts, region_parts, text_parts, fingerprint_here_parts, place_text_parts, place_left_parts, same_parts, pairs_eq, place_eq, message_eq, group_eq, region_eq}
 use Rattle.sarif_match.specs.declared.tier_key.Key.{Key}
 use Rattle.sarif_match.specs.KeyParts.{parts_of}
 use Rattle.sarif_match.specs.Internal.Queues.{same_key}
@@ -88,6 +89,61 @@ four_same eq same t t' r r' p p' m m' e =
     let last = and_parts (place_eq p p') (eq m m') rest.1 in
     (same_text t t' both.0, same_text r r' rest.0, place_same p p' last.0, same m m' last.1)
 
+group_same : (a b : Group) → group_eq a b ≡ true → a ≡ b
+group_same a b e =
+    let all = four_same message_eq message_same a.tool b.tool a.rule_id b.rule_id a.place b.place a.message b.message e in
+    λ i. record { tool = all.0 i; rule_id = all.1 i; place = all.2 i; message = all.3 i }
+
+group_refl : (a : Group) → group_eq a a ≡ true
+group_refl a =
+    and_from (bytes_eq a.tool a.tool) (bytes_eq a.rule_id a.rule_id && (place_eq a.place a.place && message_eq a.message a.message)) (text_refl a.tool)
+    (and_from (bytes_eq a.rule_id a.rule_id) (place_eq a.place a.place && message_eq a.message a.message) (text_refl a.rule_id)
+    (and_from (place_eq a.place a.place) (message_eq a.message a.message) (place_refl a.place) (message_refl a.message)))
+
+abbrev number_eq : Option ℕ → Option ℕ → Bool
+number_eq a b = option_eq (λ m n. m == n) a b
+
+number_same : (a b : Option ℕ) → number_eq a b ≡ true → a ≡ b
+number_same None None e = refl
+number_same None (Some b) e = absurd (false≢true e)
+number_same (Some a) None e = absurd (false≢true e)
+number_same (Some a) (Some b) e = ap Some ((Decides-eqb a b).0 e)
+
+number_refl : (a : Option ℕ) → number_eq a a ≡ true
+number_refl None = refl
+number_refl (Some a) = eq-eqb a a refl
+
+region_same : (a b : Region) → region_eq a b ≡ true → a ≡ b
+region_same a b e =
+    let both = and_parts (a.start_line == b.start_line) (number_eq a.start_column b.start_column && (number_eq a.end_line b.end_line && number_eq a.end_column b.end_column)) e in
+    let rest = and_parts (number_eq a.start_column b.start_column) (number_eq a.end_line b.end_line && number_eq a.end_column b.end_column) both.1 in
+    let last = and_parts (number_eq a.end_line b.end_line) (number_eq a.end_column b.end_column) rest.1 in
+    let start_line : a.start_line ≡ b.start_line = (Decides-eqb a.start_line b.start_line).0 both.0 in
+    let start_column : a.start_column ≡ b.start_column = number_same a.start_column b.start_column rest.0 in
+    let end_line : a.end_line ≡ b.end_line = number_same a.end_line b.end_line last.0 in
+    let end_column : a.end_column ≡ b.end_column = number_same a.end_column b.end_column last.1 in
+    λ i. record { start_line = start_line i; start_column = start_column i; end_line = end_line i; end_column = end_column i }
+
+region_refl : (a : Region) → region_eq a a ≡ true
+region_refl a =
+    and_from (a.start_line == a.start_line) (number_eq a.start_column a.start_column && (number_eq a.end_line a.end_line && number_eq a.end_column a.end_column)) (eq-eqb a.start_line a.start_line refl)
+    (and_from (number_eq a.start_column a.start_column) (number_eq a.end_line a.end_line && number_eq a.end_column a.end_column) (number_refl a.start_column)
+    (and_from (number_eq a.end_line a.end_line) (number_eq a.end_column a.end_column) (number_refl a.end_line) (number_refl a.end_column)))
+
+-- group, both types of fingerprints, and what follows
+module _ (g g' : Group) (f f' m m' : List (List ℕ × List ℕ)) (rest : Bool) where
+  whole_same : group_eq g g' && (pairs_eq f f' && (pairs_eq m m' && rest)) ≡ true → (g ≡ g') × (f ≡ f') × (m ≡ m') × (rest ≡ true)
+  whole_same e =
+      let both = and_parts (group_eq g g') (pairs_eq f f' && (pairs_eq m m' && rest)) e in
+      let more = and_parts (pairs_eq f f') (pairs_eq m m' && rest) both.1 in
+      let last = and_parts (pairs_eq m m') rest more.1 in
+      (group_same g g' both.0, pairs_same f f' more.0, pairs_same m m' last.0, last.1)
+
+whole_refl : (g : Group) (f m : List (List ℕ × List ℕ)) (rest : Bool) → rest ≡ true → group_eq g g && (pairs_eq f f && (pairs_eq m m && rest)) ≡ true
+whole_refl g f m rest e =
+    and_from (group_eq g g) (pairs_eq f f && (pairs_eq m m && rest)) (group_refl g)
+    (and_from (pairs_eq f f) (pairs_eq m m && rest) (pairs_refl f) (and_from (pairs_eq m m) rest (pairs_refl m) e))
+
 pub parts_same : (a b : KeyParts) → same_parts a b ≡ true → a ≡ b
 parts_same (guid_parts t g) (guid_parts t' g') e =
     let both = and_parts (bytes_eq t t') (g == g') e in
@@ -114,6 +170,31 @@ parts_same (partial_moved_parts t r m) (partial_moved_parts t' r' m') e =
 parts_same (place_parts t r p m) (place_parts t' r' p' m') e =
     let all = four_same message_eq message_same t t' r r' p p' m m' e in
     λ i. place_parts (all.0 i) (all.1 i) (all.2 i) (all.3 i)
+parts_same (region_parts g f m s l) (region_parts g' f' m' s' l') e =
+    let whole = whole_same g g' f f' m m' (option_eq bytes_eq s s' && region_eq l l') e in
+    let last = and_parts (option_eq bytes_eq s s') (region_eq l l') whole.3 in
+    let snippet : s ≡ s' = option_same s s' last.0 in
+    let region : l ≡ l' = region_same l l' last.1 in
+    λ i. region_parts (whole.0 i) (whole.1 i) (whole.2 i) (snippet i) (region i)
+parts_same (text_parts g f m s) (text_parts g' f' m' s') e =
+    let whole = whole_same g g' f f' m m' (bytes_eq s s') e in
+    let snippet : s ≡ s' = same_text s s' whole.3 in
+    λ i. text_parts (whole.0 i) (whole.1 i) (whole.2 i) (snippet i)
+parts_same (fingerprint_here_parts g n v) (fingerprint_here_parts g' n' v') e =
+    let both = and_parts (group_eq g g') (bytes_eq n n' && bytes_eq v v') e in
+    let rest = and_parts (bytes_eq n n') (bytes_eq v v') both.1 in
+    let group : g ≡ g' = group_same g g' both.0 in
+    let name : n ≡ n' = same_text n n' rest.0 in
+    let value : v ≡ v' = same_text v v' rest.1 in
+    λ i. fingerprint_here_parts (group i) (name i) (value i)
+parts_same (place_text_parts g s) (place_text_parts g' s') e =
+    let both = and_parts (group_eq g g') (bytes_eq s s') e in
+    let group : g ≡ g' = group_same g g' both.0 in
+    let snippet : s ≡ s' = same_text s s' both.1 in
+    λ i. place_text_parts (group i) (snippet i)
+parts_same (place_left_parts g) (place_left_parts g') e =
+    let group : g ≡ g' = group_same g g' e in
+    λ i. place_left_parts (group i)
 parts_same _ _ e = absurd (false≢true e)
 
 pub parts_refl : (a : KeyParts) → same_parts a a ≡ true
@@ -126,6 +207,13 @@ parts_refl (partial_moved_parts t r m) =
     and_from (bytes_eq t t) (bytes_eq r r && pairs_eq m m) (text_refl t) (and_from (bytes_eq r r) (pairs_eq m m) (text_refl r) (pairs_refl m))
 parts_refl (place_parts t r p m) =
     and_from (bytes_eq t t) (bytes_eq r r && (place_eq p p && message_eq m m)) (text_refl t) (and_from (bytes_eq r r) (place_eq p p && message_eq m m) (text_refl r) (and_from (place_eq p p) (message_eq m m) (place_refl p) (message_refl m)))
+parts_refl (region_parts g f m s l) =
+    whole_refl g f m (option_eq bytes_eq s s && region_eq l l) (and_from (option_eq bytes_eq s s) (region_eq l l) (option_refl s) (region_refl l))
+parts_refl (text_parts g f m s) = whole_refl g f m (bytes_eq s s) (text_refl s)
+parts_refl (fingerprint_here_parts g n v) =
+    and_from (group_eq g g) (bytes_eq n n && bytes_eq v v) (group_refl g) (and_from (bytes_eq n n) (bytes_eq v v) (text_refl n) (text_refl v))
+parts_refl (place_text_parts g s) = and_from (group_eq g g) (bytes_eq s s) (group_refl g) (text_refl s)
+parts_refl (place_left_parts g) = group_refl g
 
 -- equal keys have equal parts, and the other way round
 pub key_is_parts : (a b : Key) → (same_key a b ≡ true → parts_of a ≡ parts_of b) × (parts_of a ≡ parts_of b → same_key a b ≡ true)

@@ -6,3 +6,5 @@ pub mod Progress
 pub mod Queues
 pub mod Side
 pub mod InStep
+pub mod Rising
+pub mod Turned

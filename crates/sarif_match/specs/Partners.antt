@@ -1,13 +1,16 @@
 -- Which baseline result each current result is paired with, tier by tier.
-use Rattle.std.specs.Prelude.{ℕ, suc, List, [], ◌∷◌, Bool, false, not, Option, Some, None, ◌==◌, filter, fold, length, replicate, is_some, slice_index_or, slice_set}
+use Rattle.std.specs.Prelude.{ℕ, suc, List, [], ◌∷◌, Bool, false, not, Option, Some, None, ◌==◌, ◌-◌, filter, fold, length, map, option_map, replicate, reverse, is_some, slice_index_or, slice_set}
 use Rattle.std.specs.List.{list_any}
 use Rattle.std.specs.Option.{option_map_or}
 use Rattle.sarif_model.specs.declared.record.Record.{Record}
 use Rattle.sarif_match.specs.declared.tier.Tier.{Tier}
+use Rattle.sarif_match.specs.declared.version.MatchingVersion.{MatchingVersion}
+use Rattle.sarif_match.specs.declared.version.MatchingVersion.TheVariants.{Two, Three}
 use Rattle.sarif_match.specs.Key.{key_of}
 use Rattle.sarif_match.specs.KeyParts.{KeyParts, same_parts}
 use Rattle.sarif_match.specs.Pairing.{pairs_from}
-use Rattle.sarif_match.specs.Tiers.{tiers_of}
+use Rattle.sarif_match.specs.Seen.{seen}
+use Rattle.sarif_match.specs.Tiers.{tiers_in, tiers_of}
 
 -- the results, with one more at the front where it has a key
 abbrev pub with_key : {K : Type 0} → ℕ → Option K → List (ℕ × K) → List (ℕ × K)
@@ -58,6 +61,28 @@ module _ (current baseline : List Record) where
   abbrev pub partners_after : List Tier → List (Option ℕ)
   partners_after tiers = fold after_tier (replicate (length current) None) tiers
 
-  -- the match of each current result
+  -- the match of each current result in version 2
   abbrev pub partners_of : List (Option ℕ)
   partners_of = partners_after (tiers_of current baseline)
+
+-- Version 3 counts ranks from the end: it is the same matching over both lists in reverse order.
+
+-- the number of a result in the list of `count` results in reverse order
+abbrev pub from_end : ℕ → ℕ → ℕ
+from_end count number = count - 1 - number
+
+-- the partners of two lists, given those of the lists in reverse order; the baseline has `count` results
+abbrev pub turned : ℕ → List (Option ℕ) → List (Option ℕ)
+turned count partners = reverse (map (option_map (from_end count)) partners)
+
+-- the results of a list as version 3 sees them, in reverse order
+abbrev pub seen_from_end : List Record → List Record
+seen_from_end rs = reverse (map seen rs)
+
+-- the match of each current result in a version
+abbrev pub partners_in : MatchingVersion → List Record → List Record → List (Option ℕ)
+partners_in Two current baseline = partners_of current baseline
+partners_in Three current baseline =
+    turned (length baseline)
+    (partners_after (seen_from_end current) (seen_from_end baseline)
+    (tiers_in Three current baseline))

@@ -1,5 +1,5 @@
 -- What version 3 sees of a result.
-use Rattle.std.specs.Prelude.{ℕ, List, [], Bool, not, ◌||◌, ◌==◌, length, filter, option_map}
+use Rattle.std.specs.Prelude.{ℕ, List, [], Bool, not, Option, Some, None, ◌||◌, ◌==◌, length, filter, if◌then◌else◌}
 use Rattle.sarif_model.specs.declared.record.Record.{Record}
 
 -- a space, a tab, a line feed, a form feed or a carriage return
@@ -9,6 +9,11 @@ is_white b = (b == 32) || ((b == 9) || ((b == 10) || ((b == 12) || (b == 13))))
 -- the text without white space
 abbrev pub packed : List ℕ → List ℕ
 packed text = filter (λ b. not (is_white b)) text
+
+-- the snippet without white space; one of white space alone is none
+abbrev pub packed_snippet : Option (List ℕ) → Option (List ℕ)
+packed_snippet None = None
+packed_snippet (Some text) = if length (packed text) == 0 then None else Some (packed text)
 
 -- the filled members, whose value isn't the empty string; an empty one says nothing about a result
 abbrev pub filled : List (List ℕ × List ℕ) → List (List ℕ × List ℕ)
@@ -29,5 +34,5 @@ seen r = record {
   partial = filled r.partial;
   held = [];
   region = r.region;
-  snippet = option_map packed r.snippet;
+  snippet = packed_snippet r.snippet;
 }

@@ -6,7 +6,10 @@ use Rattle.std.specs.Cmp.Lexicographic.{slice_cmp}
 use Rattle.std.specs.BTreeSet.{insert_key}
 use Rattle.sarif_model.specs.declared.record.Record.{Record}
 use Rattle.sarif_match.specs.declared.tier.Tier.{Tier}
-use Rattle.sarif_match.specs.declared.tier.Tier.TheVariants.{Guid, Fingerprint, PartialHere, PartialMoved, Place}
+use Rattle.sarif_match.specs.declared.tier.Tier.TheVariants.{Guid, Same, SameText, FingerprintHere, Fingerprint, PartialHere, PartialMoved, PlaceText, Place, PlaceLeft}
+use Rattle.sarif_match.specs.declared.version.MatchingVersion.{MatchingVersion}
+use Rattle.sarif_match.specs.declared.version.MatchingVersion.TheVariants.{Two, Three}
+use Rattle.sarif_match.specs.Seen.{seen}
 
 -- the names of the fingerprints of these results, unchanged (SARIF 2.1.0, "fingerprints property")
 abbrev pub names_of : List Record → List (List ℕ)
@@ -28,7 +31,19 @@ rising_names cs bs = with_names (with_names [] (names_of cs)) (names_of bs)
 abbrev pub falling_names : List Record → List Record → List (List ℕ)
 falling_names cs bs = reverse (rising_names cs bs)
 
--- the tiers in the order in which a merge goes through them
+-- the tiers of version 2 in the order in which a merge goes through them
 abbrev pub tiers_of : List Record → List Record → List Tier
 tiers_of cs bs =
     Guid ∷ (map Fingerprint (falling_names cs bs) ++ PartialHere ∷ (PartialMoved ∷ (Place ∷ [])))
+
+-- those of version 3 for names of fingerprints: a result that stayed in its place comes before one that moved
+abbrev pub finer_tiers : List (List ℕ) → List Tier
+finer_tiers names =
+    Guid ∷ (Same ∷ (SameText ∷ (map FingerprintHere names
+    ++ PartialHere ∷ (map Fingerprint names
+    ++ PartialMoved ∷ (PlaceText ∷ (Place ∷ (PlaceLeft ∷ [])))))))
+
+-- the tiers of a version in order
+abbrev pub tiers_in : MatchingVersion → List Record → List Record → List Tier
+tiers_in Two cs bs = tiers_of cs bs
+tiers_in Three cs bs = finer_tiers (falling_names (map seen cs) (map seen bs))

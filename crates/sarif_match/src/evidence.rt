@@ -1,14 +1,14 @@
 //! Whether there is evidence that two results are the same. A member is filled if its value isn't the empty string.
 ghost use Rattle.std.specs.Prelude.{◌≡◌, ◌&&◌, ◌==◌, not, bytes_eq, length, option_map};
-ghost use Rattle.std.specs.List.{list_any};
 ghost use Rattle.sarif_match.specs.Key.{is_empty};
 ghost use Rattle.sarif_match.specs.KeyParts.{pairs_eq};
 ghost use Rattle.sarif_match.specs.Internal.InStep.{after_first_member, after_first_byte};
-ghost use Rattle.sarif_match.specs.Seen.{packed, seen, filled};
+ghost use Rattle.sarif_match.specs.Seen.{filled, packed, packed_snippet, seen};
 ghost use Rattle.sarif_match.specs.Evidence.{are_same_members, has_evidence, has_no_members};
-ghost use Rattle.sarif_match.specs.Evidence.{has_other_evidence, is_same_guid, share_member};
+ghost use Rattle.sarif_match.specs.Evidence.{has_other_evidence, is_same_guid};
 
 use crate::seeing::{is_filled, is_white};
+use crate::sharing::share_member;
 use sarif_model::{Record, Text};
 
 /// Whether there is evidence that two results are the same: their snippets decide, if both have one; otherwise a GUID,
@@ -16,13 +16,24 @@ use sarif_model::{Record, Text};
 pub(crate) fn has_evidence(current: &Record, partner: &Record) -> bool
     ensures { result ≡ has_evidence (seen current.now) (seen partner.now) }
 {
-    match &current.snippet {
-        Some(snippet) => match &partner.snippet {
-            Some(other) => are_same_packed(snippet.as_str(), other.as_str()),
+    match filled_snippet(current) {
+        Some(snippet) => match filled_snippet(partner) {
+            Some(other) => are_same_packed(snippet, other),
             None => has_other_evidence(current, partner),
         },
         None => has_other_evidence(current, partner),
     }
+}
+
+/// The snippet of a result, unless it is white space alone.
+fn filled_snippet(finding: &Record) -> Option<&str>
+    ensures { option_map (λ text. packed text.now) result ≡ packed_snippet finding.now.snippet }
+{
+    let snippet = finding.snippet.as_ref()?;
+    if is_white_alone(snippet.as_str().as_bytes()) {
+        return None;
+    }
+    Some(snippet.as_str())
 }
 
 /// Whether a GUID, a fingerprint or all partial fingerprints are the same, or neither has a fingerprint.
@@ -48,34 +59,8 @@ fn is_same_guid(guid: Option<u128>, other: Option<u128>) -> bool
     }
 }
 
-/// Whether a name has the same value in both, and not the empty string.
-fn share_member(members: &[(Text, Text)], others: &[(Text, Text)]) -> bool
-    ensures { result ≡ share_member (filled members.now) (filled others.now) }
-{
-    for member in members {
-        if is_filled(member) && has_member(others, member) {
-            return true;
-        }
-    }
-    false
-}
-
-/// Whether this is one of the filled members.
-fn has_member(members: &[(Text, Text)], member: &(Text, Text)) -> bool
-    ensures { result ≡ list_any
-        (λ other. bytes_eq other.0 member.now.0 && bytes_eq other.1 member.now.1)
-        (filled members.now) }
-{
-    for other in members {
-        if is_filled(other) && is_same(other, member) {
-            return true;
-        }
-    }
-    false
-}
-
 /// Whether two members have the same name and the same value.
-fn is_same(other: &(Text, Text), member: &(Text, Text)) -> bool
+pub(crate) fn is_same(other: &(Text, Text), member: &(Text, Text)) -> bool
     ensures { result ≡ (bytes_eq other.now.0 member.now.0 && bytes_eq other.now.1 member.now.1) }
 {
     other.0 == member.0 && other.1 == member.1

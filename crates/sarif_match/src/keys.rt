@@ -5,6 +5,9 @@ ghost use Rattle.sarif_match.specs.Key.{key_of, is_empty, is_unnamed};
 ghost use Rattle.sarif_match.specs.KeyParts.{parts_of};
 ghost use Rattle.sarif_match.specs.declared.tier.Tier.TheVariants.{Guid, Fingerprint};
 
+use crate::finer_keys::{
+    fingerprint_here_key, place_left_key, place_text_key, same_key, same_text_key,
+};
 use crate::tier::Tier;
 use crate::tier_key::Key;
 use sarif_model::{Record, Text};
@@ -33,6 +36,11 @@ pub(crate) fn key_at<'a>(finding: &'a Record, tier: &Tier) -> Option<Key<'a>>
             place: &finding.place,
             message: &finding.message,
         }),
+        Tier::Same => same_key(finding),
+        Tier::SameText => same_text_key(finding),
+        Tier::FingerprintHere(name) => fingerprint_here_key(finding, name),
+        Tier::PlaceText => place_text_key(finding),
+        Tier::PlaceLeft => place_left_key(finding),
         _ => None,
     }
 }

@@ -1,22 +1,24 @@
 //! Laws of tiers, keys, matches and states. Each law is the contract of a function that does nothing.
 ghost use Rattle.std.specs.Prelude.{◌≡◌, ◌↔◌, ◌⊎◌, ◌||◌, ◌∷◌, ◌++◌, [], ℕ, List, Some, None, true, false};
-ghost use Rattle.std.specs.Prelude.{IsTrue, slice_index_or};
+ghost use Rattle.std.specs.Prelude.{IsTrue, slice_get, slice_index_or};
 ghost use Rattle.std.specs.Ordering.{nat_cmp};
 ghost use Rattle.std.specs.Cmp.Lexicographic.{slice_cmp};
 ghost use Rattle.std.specs.List.Sorted.{IsStrictlySortedBy};
 ghost use Rattle.sarif_model.specs.declared.record.Record.{Record};
 ghost use Rattle.sarif_model.specs.declared.kinds.State.TheVariants.{Unchanged};
 ghost use Rattle.sarif_match.specs.declared.tier_key.Key.{Key};
+ghost use Rattle.sarif_match.specs.declared.version.MatchingVersion.{MatchingVersion};
 ghost use Rattle.sarif_match.specs.declared.version.MatchingVersion.TheVariants.{Three};
+ghost use Rattle.sarif_match.specs.Key.{group_of};
 ghost use Rattle.sarif_match.specs.KeyParts.{KeyParts, parts_of};
 ghost use Rattle.sarif_match.specs.Internal.Queues.{same_key};
 ghost use Rattle.sarif_match.specs.declared.tier.Tier.{Tier};
-ghost use Rattle.sarif_match.specs.Internal.Paired.{ArePartners, IsPairedAt, key_at};
-ghost use Rattle.sarif_match.specs.Partners.{is_taken, partners_after, partners_of};
-ghost use Rattle.sarif_match.specs.Seen.{packed, seen};
+ghost use Rattle.sarif_match.specs.Internal.Paired.{ArePartners, IsPairedAt, key_at, key_in_at};
+ghost use Rattle.sarif_match.specs.Partners.{is_taken, partners_after, partners_in, partners_of};
+ghost use Rattle.sarif_match.specs.Seen.{seen};
 ghost use Rattle.sarif_match.specs.Evidence.{has_evidence, has_other_evidence, state_in};
 ghost use Rattle.sarif_match.specs.State.{state_of, IsUnchanged};
-ghost use Rattle.sarif_match.specs.Tiers.{names_of, has_name, rising_names, tiers_of};
+ghost use Rattle.sarif_match.specs.Tiers.{names_of, has_name, rising_names, tiers_in, tiers_of};
 
 /// Two keys are equal if and only if they belong to the same tier and all their parts are equal.
 pub fn keys_are_equal_where_their_parts_are()
@@ -75,19 +77,44 @@ pub fn nothing_is_left_that_could_be_matched()
 
 /// In version 3 a result is unchanged only if its match has the same kind, effective level, message and place, and
 /// there is evidence: if both have a snippet, the two are the same except for white space; otherwise a GUID, a
-/// fingerprint or all partial fingerprints are the same, or neither has a fingerprint of either type. A value that is
-/// the empty string is left out. With all of that it is unchanged.
+/// fingerprint or all partial fingerprints are the same, or neither has a fingerprint of either type. A fingerprint
+/// whose value is the empty string and a snippet of white space alone are left out. With all of that it is unchanged.
 pub fn unchanged_results_have_evidence()
     ensures same { (current partner : Record) →
         state_in Three current (Some partner) ≡ Unchanged → IsUnchanged current partner }
     ensures snippet { (current partner : Record) (snippet other : List ℕ) →
-        state_in Three current (Some partner) ≡ Unchanged → current.snippet ≡ Some snippet →
-        partner.snippet ≡ Some other → packed snippet ≡ packed other }
+        state_in Three current (Some partner) ≡ Unchanged → (seen current).snippet ≡ Some snippet →
+        (seen partner).snippet ≡ Some other → snippet ≡ other }
     ensures other { (current partner : Record) →
         state_in Three current (Some partner) ≡ Unchanged →
-        (current.snippet ≡ None) ⊎ (partner.snippet ≡ None) →
+        ((seen current).snippet ≡ None) ⊎ ((seen partner).snippet ≡ None) →
         has_other_evidence (seen current) (seen partner) ≡ true }
     ensures enough { (current partner : Record) → IsUnchanged current partner →
         has_evidence (seen current) (seen partner) ≡ true →
         state_in Three current (Some partner) ≡ Unchanged }
+{}
+
+/// In either version nothing is left that could be matched: if a current result has no match and a baseline result is
+/// the match of no result, they have no key in common at any tier. So in version 3 two results of one group, with no
+/// GUID, are not both left.
+pub fn nothing_is_left_in_either_version()
+    ensures keys { (version : MatchingVersion) (current baseline : List Record) (before after : List Tier)
+        (tier : Tier) (i j : ℕ) (key : KeyParts) →
+        tiers_in version current baseline ≡ before ++ tier ∷ after
+        → slice_index_or (partners_in version current baseline) i None ≡ None
+        → is_taken (partners_in version current baseline) j ≡ false
+        → key_in_at version tier current i ≡ Some key
+        → ¬ (key_in_at version tier baseline j ≡ Some key) }
+    ensures groups { (current baseline : List Record) (i j : ℕ) (r b : Record) →
+        slice_get current i ≡ Some r → slice_get baseline j ≡ Some b
+        → r.guid ≡ None → b.guid ≡ None → group_of r ≡ group_of b
+        → slice_index_or (partners_in Three current baseline) i None ≡ None
+        → ¬ (is_taken (partners_in Three current baseline) j ≡ false) }
+{}
+
+/// In either version no baseline result is the match of two current results.
+pub fn no_two_have_the_same_match_in_either_version()
+    ensures { (version : MatchingVersion) (current baseline : List Record) (i h j : ℕ) →
+        slice_index_or (partners_in version current baseline) i None ≡ Some j →
+        slice_index_or (partners_in version current baseline) h None ≡ Some j → i ≡ h }
 {}

@@ -3,6 +3,9 @@
 #![tactic(auto)]
 
 mod evidence;
+mod finer_keys;
+mod finer_tiers;
+mod group;
 mod keys;
 pub mod laws;
 mod matching;
@@ -11,6 +14,7 @@ mod pairing;
 mod progress;
 mod queues;
 mod seeing;
+mod sharing;
 mod side;
 mod states;
 mod tier;
@@ -19,10 +23,11 @@ mod tier_list;
 mod version;
 mod whole;
 
-pub use matching::{Matching, match_all_with};
+pub use group::Group;
+pub use matching::{Matching, match_all_in, match_all_with};
 pub use states::{state, state_in};
 pub use tier::Tier;
 pub use tier_key::Key;
 pub use tier_list::tiers;
 pub use version::MatchingVersion;
-pub use whole::{key, match_all};
+pub use whole::{key, match_all, see};

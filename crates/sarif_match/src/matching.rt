@@ -1,15 +1,23 @@
 //! All tiers: which baseline result each current result is paired with.
-ghost use Rattle.std.specs.Prelude.{◌≡◌, ◌≤◌, List, Option, ℕ, None, false, length, slice_index_or, IfOk, OnOk};
-ghost use Rattle.sarif_match.specs.Partners.{is_taken, after_tier, partners_of};
+ghost use Rattle.std.specs.Prelude.{◌≡◌, ◌≤◌, List, Option, ℕ, None, false, length, reverse, slice_index_or};
+ghost use Rattle.std.specs.Prelude.{IfOk, OnOk};
+ghost use Rattle.sarif_match.specs.Partners.{is_taken, after_tier, partners_after, partners_of};
+ghost use Rattle.sarif_match.specs.Partners.{from_end, partners_in, turned};
+ghost use Rattle.sarif_match.specs.declared.version.MatchingVersion.TheVariants.{Three};
+ghost use Rattle.sarif_match.specs.Internal.Turned.{AreBelow};
+ghost use Rattle.std.specs.Option.{option_map};
 ghost use Rattle.sarif_match.specs.Internal.Progress.{IsSound};
 ghost use Rattle.sarif_match.specs.Internal.Side.{IsIndexed};
 ghost use Rattle.sarif_model.specs.Limits.{most_results};
 
+use crate::finer_tiers::finer_tiers;
 use crate::pairing::pair_up;
 use crate::progress::Progress;
+use crate::seeing::seen_from_end;
 use crate::side::IndexedSide;
 use crate::tier::Tier;
-use crate::tier_list::tiers;
+use crate::tier_list::tiers_of;
+use crate::version::MatchingVersion;
 use sarif_model::Record;
 use std::alloc::{AllocError, Global};
 use std::hash::BuildHasher;
@@ -47,6 +55,21 @@ impl Matching {
         Matching { partners, taken }
     }
 
+    /// The matching of two lists, given that of the lists in reverse order.
+    fn turned(alloc: Global, progress: &Progress) -> Result<Matching, AllocError>
+        requires sound { IsSound (length progress.now.partners.items)
+            (length progress.now.taken.items) progress.now }
+        requires below { AreBelow (length progress.now.taken.items) progress.now.partners.items }
+        requires few { length progress.now.taken.items ≤ most_results }
+        ensures { IfOk result
+            (λ m. m ≡ turned (length progress.now.taken.items) progress.now.partners.items) }
+    {
+        let count = progress.taken.len();
+        let partners = turned(alloc, count as u32, &progress.partners)?;
+        let taken = reversed(alloc, &progress.taken)?;
+        Ok(Matching { partners, taken })
+    }
+
     /// Returns the match of current result `i`, if it has one; `None` past the last result.
     pub fn partner(&self, i: u32) -> Option<u32>
         ensures { result ≡ slice_index_or self.now i None }
@@ -76,14 +99,71 @@ pub fn match_all_with<'a, S: BuildHasher + Copy>(
     requires baseline { length baseline.now ≤ most_results }
     ensures { IfOk result (λ matching. matching ≡ partners_of current.now baseline.now) }
 {
-    let mut progress = Progress::new(alloc, current.len(), baseline.len())?;
     if baseline.is_empty() {
+        let progress = Progress::new(alloc, current.len(), baseline.len())?;
         return Ok(Matching::of(progress));
     }
-    let tiers = tiers(alloc, current, baseline)?;
+    let tiers = tiers_of(alloc, current, baseline)?;
+    let progress = match_tiers(alloc, hasher, current, baseline, &tiers)?;
+    Ok(Matching::of(progress))
+}
+
+/// Matches each current result with at most one baseline result in a version, as [`match_all`](crate::match_all)
+/// does, with tables that hash with `hasher`. Each list has at most `MOST_RESULTS` results. Returns `AllocError` if
+/// memory runs out.
+pub fn match_all_in<S: BuildHasher + Copy>(
+    alloc: Global,
+    hasher: S,
+    current: &[Record],
+    baseline: &[Record],
+    version: MatchingVersion,
+) -> Result<Matching, AllocError>
+    requires current { length current.now ≤ most_results }
+    requires baseline { length baseline.now ≤ most_results }
+    ensures { IfOk result (λ matching. matching ≡ partners_in version current.now baseline.now) }
+{
+    match version {
+        MatchingVersion::Two => match_all_with(alloc, hasher, current, baseline),
+        MatchingVersion::Three => match_from_end(alloc, hasher, current, baseline),
+    }
+}
+
+/// Matches by version 3: both lists as it sees them, in reverse order, and each number turned back.
+fn match_from_end<S: BuildHasher + Copy>(
+    alloc: Global,
+    hasher: S,
+    current: &[Record],
+    baseline: &[Record],
+) -> Result<Matching, AllocError>
+    requires current { length current.now ≤ most_results }
+    requires baseline { length baseline.now ≤ most_results }
+    ensures { IfOk result (λ matching. matching ≡ partners_in Three current.now baseline.now) }
+{
+    let tiers = finer_tiers(alloc, current, baseline)?;
+    let current_seen = seen_from_end(alloc, current)?;
+    let baseline_seen = seen_from_end(alloc, baseline)?;
+    let progress = match_tiers(alloc, hasher, &current_seen, &baseline_seen, &tiers)?;
+    Matching::turned(alloc, &progress)
+}
+
+/// Goes through these tiers in order.
+fn match_tiers<'a, S: BuildHasher + Copy>(
+    alloc: Global,
+    hasher: S,
+    current: &'a [Record],
+    baseline: &'a [Record],
+    tiers: &[Tier],
+) -> Result<Progress, AllocError>
+    requires current { length current.now ≤ most_results }
+    requires baseline { length baseline.now ≤ most_results }
+    ensures sound { IfOk result (IsSound (length current.now) (length baseline.now)) }
+    ensures partners { IfOk result (λ progress. progress.partners.items
+        ≡ partners_after current.now baseline.now tiers.now) }
+{
+    let mut progress = Progress::new(alloc, current.len(), baseline.len())?;
     let current_side = IndexedSide::new(alloc, hasher, current)?;
     let baseline_side = IndexedSide::new(alloc, hasher, baseline)?;
-    for tier in &tiers {
+    for tier in tiers {
         match_tier(
             alloc,
             hasher,
@@ -93,7 +173,40 @@ pub fn match_all_with<'a, S: BuildHasher + Copy>(
             &baseline_side,
         )?;
     }
-    Ok(Matching::of(progress))
+    Ok(progress)
+}
+
+/// The partners, each counted from the other end of its list; the baseline has `count` results.
+fn turned(
+    alloc: Global,
+    count: u32,
+    partners: &[Option<u32>],
+) -> Result<Vec<Option<u32>>, AllocError>
+    ensures { IfOk result (λ ps. ps.items ≡ turned count partners.now) }
+{
+    let mut turned_partners = Vec::with_capacity(alloc, partners.len())?;
+    for partner in partners {
+        turned_partners.push(from_end(count, *partner))?;
+    }
+    turned_partners.reverse();
+    Ok(turned_partners)
+}
+
+/// The marks in reverse order.
+fn reversed(alloc: Global, marks: &[bool]) -> Result<Vec<bool>, AllocError>
+    ensures { IfOk result (λ reversed. reversed.items ≡ reverse marks.now) }
+{
+    let mut reversed_marks = marks.to_vec(alloc)?;
+    reversed_marks.reverse();
+    Ok(reversed_marks)
+}
+
+/// A number counted from the other end of a list of `count` results, if there is one.
+fn from_end(count: u32, number: Option<u32>) -> Option<u32>
+    ensures { result ≡ option_map (from_end count) number }
+{
+    let number = number?;
+    Some(count.saturating_sub(1).saturating_sub(number))
 }
 
 /// Pairs what is left over at one tier.

@@ -1,7 +1,9 @@
 //! One side of a matching, and what a tier finds left over there.
 ghost use Rattle.std.specs.Prelude.{◌≡◌, ◌<◌, ◌^◌, ◌++◌, [], false, IfOk, OnOk, length, slice_index_or};
+ghost use Rattle.std.specs.Option.{option_and_then, option_copied};
 ghost use Rattle.sarif_match.specs.Key.{key_of};
-ghost use Rattle.sarif_match.specs.Internal.Named.{with_parts, group_at, unmarked};
+ghost use Rattle.sarif_match.specs.Internal.Named.{with_parts, group_at, keyed_at, unmarked};
+ghost use Rattle.sarif_match.specs.Internal.Paired.{key_at};
 ghost use Rattle.sarif_match.specs.Partners.{keyed_from, with_key};
 
 use crate::keys::key_at;
@@ -51,6 +53,9 @@ impl<'a, S: BuildHasher + Copy> IndexedSide<'a, S> {
     {
         match tier {
             Tier::Fingerprint(name) => unmarked_named(alloc, &self.named, name, marks),
+            Tier::FingerprintHere(name) => {
+                named_at(alloc, tier, &self.named, name, self.findings, marks)
+            }
             _ => unmarked_at(alloc, tier, self.findings, marks),
         }
     }
@@ -68,6 +73,74 @@ fn unmarked_named<'a, S: BuildHasher + Copy>(
     match (&*named).get(&name) {
         Some(group) => unmarked_of(alloc, group, marks),
         None => Ok(Vec::new(alloc)),
+    }
+}
+
+/// The results that have a fingerprint with this name and no mark, with their keys at the tier.
+fn named_at<'a, S: BuildHasher + Copy>(
+    alloc: Global,
+    tier: &Tier,
+    named: &IndexMap<&'a Text, Vec<(u32, Key<'a>)>, S>,
+    name: &Text,
+    findings: &'a [Record],
+    marks: &[bool],
+) -> Result<Vec<(u32, Key<'a>)>, AllocError>
+    ensures { IfOk result (λ left. with_parts left.items ≡ unmarked marks.now
+        (keyed_at tier.now findings.now (group_at named.now name.now))) }
+{
+    match (&*named).get(&name) {
+        Some(group) => grouped_at(alloc, tier, group, findings, marks),
+        None => Ok(Vec::new(alloc)),
+    }
+}
+
+/// The results of a group that have no mark, with their keys at the tier.
+fn grouped_at<'a>(
+    alloc: Global,
+    tier: &Tier,
+    group: &[(u32, Key<'a>)],
+    findings: &'a [Record],
+    marks: &[bool],
+) -> Result<Vec<(u32, Key<'a>)>, AllocError>
+    ensures { IfOk result (λ left. with_parts left.items
+        ≡ unmarked marks.now (keyed_at tier.now findings.now group.now)) }
+{
+    let mut left = Vec::new(alloc);
+    for (number, _) in group {
+        push_numbered(&mut left, tier, findings, *number, marks)?;
+    }
+    Ok(left)
+}
+
+/// Puts the result with this number at the end, where it has no mark and a key at the tier.
+fn push_numbered<'a>(
+    left: &mut Vec<(u32, Key<'a>)>,
+    tier: &Tier,
+    findings: &'a [Record],
+    number: u32,
+    marks: &[bool],
+) -> Result<(), AllocError>
+    ensures { OnOk result (with_parts left.new.items ≡ with_parts left.old.items
+        ++ unmarked marks.now (with_key number (key_at tier.now findings.now number) [])) }
+{
+    push_if_there(left, tier, number, findings.get(number as usize), marks)
+}
+
+/// Puts a result at the end, if there is one, where it has no mark and a key at the tier.
+fn push_if_there<'a>(
+    left: &mut Vec<(u32, Key<'a>)>,
+    tier: &Tier,
+    number: u32,
+    finding: Option<&'a Record>,
+    marks: &[bool],
+) -> Result<(), AllocError>
+    ensures { OnOk result (with_parts left.new.items ≡ with_parts left.old.items
+        ++ unmarked marks.now (with_key number
+        (option_and_then (λ r. key_of r tier.now) (option_copied finding.entry)) [])) }
+{
+    match finding {
+        Some(finding) => push_unmarked(left, tier, number, finding, marks),
+        None => Ok(()),
     }
 }
 

@@ -1,17 +1,35 @@
 //! The tiers of a merge, in order.
 ghost use Rattle.std.specs.Prelude.{◌≡◌, ◌++◌, IfOk, OnOk, map, reverse};
 ghost use Rattle.std.specs.BTreeSet.{keys};
-ghost use Rattle.sarif_match.specs.Tiers.{names_of, with_names, tiers_of};
+ghost use Rattle.sarif_match.specs.Tiers.{names_of, with_names, tiers_in, tiers_of};
 ghost use Rattle.sarif_match.specs.declared.tier.Tier.TheVariants.{Fingerprint};
 
+use crate::finer_tiers::finer_tiers;
 use crate::tier::Tier;
+use crate::version::MatchingVersion;
 use sarif_model::{Record, Text};
 use std::alloc::{AllocError, Global};
 use std::collections::BTreeSet;
 
-/// Returns the tiers of a merge of these results, in order: between `Guid` and the others, one for each
-/// fingerprint name of either list, the greatest name first. Returns `AllocError` if memory for the list runs out.
+/// Returns the tiers of a merge of these results in a version, in order. Each tier of a fingerprint name stands once
+/// for each name of either list, the greatest name first; in version 3 only names with a value that isn't the empty
+/// string count. Returns `AllocError` if memory for the list runs out.
 pub fn tiers(
+    alloc: Global,
+    current: &[Record],
+    baseline: &[Record],
+    version: MatchingVersion,
+) -> Result<Vec<Tier>, AllocError>
+    ensures { IfOk result (λ tiers. tiers.items ≡ tiers_in version current.now baseline.now) }
+{
+    match version {
+        MatchingVersion::Two => tiers_of(alloc, current, baseline),
+        MatchingVersion::Three => finer_tiers(alloc, current, baseline),
+    }
+}
+
+/// The tiers of version 2.
+pub(crate) fn tiers_of(
     alloc: Global,
     current: &[Record],
     baseline: &[Record],
@@ -56,7 +74,7 @@ fn add_names_of<'a>(
 }
 
 /// Puts the tiers of these names at the end, the greatest first.
-fn push_fingerprints(
+pub(crate) fn push_fingerprints(
     alloc: Global,
     tiers: &mut Vec<Tier>,
     names: &BTreeSet<&Text>,
@@ -72,7 +90,10 @@ fn push_fingerprints(
 }
 
 /// The names, the greatest first.
-fn falling<'a>(alloc: Global, names: &BTreeSet<&'a Text>) -> Result<Vec<&'a Text>, AllocError>
+pub(crate) fn falling<'a>(
+    alloc: Global,
+    names: &BTreeSet<&'a Text>,
+) -> Result<Vec<&'a Text>, AllocError>
     ensures { IfOk result (λ falling. falling.items ≡ reverse (keys names.now)) }
 {
     names.iter().rev().copied().collect(alloc)

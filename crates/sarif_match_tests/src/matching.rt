@@ -1,9 +1,10 @@
 //! The matches and states of small lists.
 mod evidence;
+mod finer;
 mod seeded;
 mod sketch;
 
-use sarif_match::{Matching, Tier, key, match_all, state, tiers};
+use sarif_match::{Matching, MatchingVersion, Tier, key, match_all, state, tiers};
 use sarif_model::{Kind, Record, State};
 use sketch::{A, M, Sketch, record, records};
 use std::alloc::{AllocError, Global};
@@ -28,7 +29,7 @@ fn matched<'a>(
 ) -> Result<Matching, AllocError> {
     assert!(rt; current.len() <= 1_000_000);
     assert!(rt; baseline.len() <= 1_000_000);
-    match_all(rt.alloc(), current, baseline)
+    match_all(rt.alloc(), current, baseline, MatchingVersion::Two)
 }
 
 /// Asserts the match and the state of each current result.
@@ -135,6 +136,11 @@ fn word_of(tier: &Tier) -> &str {
         Tier::PartialHere => "here",
         Tier::PartialMoved => "moved",
         Tier::Place => "place",
+        Tier::Same => "same",
+        Tier::SameText => "text",
+        Tier::FingerprintHere(name) => name.as_str(),
+        Tier::PlaceText => "place text",
+        Tier::PlaceLeft => "place left",
     }
 }
 
@@ -152,16 +158,22 @@ fn tiers_among(
     alloc: Global,
     current: &[Record],
     baseline: &[Record],
+    version: MatchingVersion,
 ) -> Result<String, AllocError> {
-    let found = tiers(alloc, current, baseline)?;
+    let found = tiers(alloc, current, baseline, version)?;
     words_of(alloc, &found)
 }
 
-/// The names of the tiers of these results.
-fn tiers_of(alloc: Global, current: &[Sketch], baseline: &[Sketch]) -> Result<String, AllocError> {
+/// The names of the tiers of these results in a version.
+fn tiers_of(
+    alloc: Global,
+    current: &[Sketch],
+    baseline: &[Sketch],
+    version: MatchingVersion,
+) -> Result<String, AllocError> {
     let current = records(alloc, current)?;
     let baseline = records(alloc, baseline)?;
-    tiers_among(alloc, &current, &baseline)
+    tiers_among(alloc, &current, &baseline, version)
 }
 
 #[test]
@@ -179,7 +191,7 @@ fn the_greatest_fingerprint_name_comes_first(rt: HostRuntime) -> Result<(), Fail
         full: Some(("f/v2", "y")),
         ..M
     };
-    let words = tiers_of(rt.alloc(), &[now], &[first, second])?;
+    let words = tiers_of(rt.alloc(), &[now], &[first, second], MatchingVersion::Two)?;
     assert_eq!(rt; words.as_str(), " guid f/v2 f/v1 here moved place");
     expect(
         &rt,
@@ -199,7 +211,7 @@ fn a_moved_result_is_updated_unless_one_stayed(rt: HostRuntime) -> Result<(), Fa
 
 #[test]
 fn two_empty_lists_have_the_four_tiers_without_names(rt: HostRuntime) -> Result<(), Fail> {
-    let found = tiers(rt.alloc(), &[], &[])?;
+    let found = tiers(rt.alloc(), &[], &[], MatchingVersion::Two)?;
     let wanted = [
         Tier::Guid,
         Tier::PartialHere,

@@ -6,7 +6,11 @@ use Rattle.std.specs.declared.alloc.Global.{Global}
 use Rattle.std.specs.declared.vec.Vec.{Vec}
 use Rattle.std.specs.HashMap.{get_by, HashMap}
 use Rattle.sarif_match.specs.declared.tier_key.Key.{Key}
+use Rattle.sarif_model.specs.declared.record.Record.{Record}
+use Rattle.sarif_match.specs.declared.tier.Tier.{Tier}
 use Rattle.sarif_match.specs.KeyParts.{KeyParts, parts_of}
+use Rattle.sarif_match.specs.Internal.Paired.{key_at}
+use Rattle.sarif_match.specs.Partners.{with_key}
 
 -- numbered keys, as numbered parts
 abbrev pub with_parts : List (ℕ × Key) → List (ℕ × KeyParts)
@@ -39,3 +43,8 @@ AreNumberedBelow n (e ∷ es) = (e.0 < n) × AreNumberedBelow n es
 -- the results that have no mark; past the end nothing is marked
 abbrev pub unmarked : {K : Type 0} → List Bool → List (ℕ × K) → List (ℕ × K)
 unmarked marks keyed = filter (λ e. not (slice_index_or marks e.0 false)) keyed
+
+-- the results with the numbers of these, each with its key at a tier, if it has one
+abbrev pub keyed_at : {K : Type 0} → Tier → List Record → List (ℕ × K) → List (ℕ × KeyParts)
+keyed_at tier rs [] = []
+keyed_at tier rs (e ∷ es) = with_key e.0 (key_at tier rs e.0) (keyed_at tier rs es)

@@ -3,7 +3,8 @@ use Rattle.std.specs.Prelude.{◌≡◌, ℕ, List, ◌∷◌, ◌++◌, Bool, f
 use Rattle.std.specs.Option.{option_and_then}
 use Rattle.sarif_model.specs.declared.record.Record.{Record}
 use Rattle.sarif_match.specs.declared.tier.Tier.{Tier}
-use Rattle.sarif_match.specs.Key.{key_of}
+use Rattle.sarif_match.specs.declared.version.MatchingVersion.{MatchingVersion}
+use Rattle.sarif_match.specs.Key.{key_in, key_of}
 use Rattle.sarif_match.specs.KeyParts.{KeyParts, same_parts}
 use Rattle.sarif_match.specs.Partners.{has_partner, is_taken, keyed_from, partners_after}
 use Rattle.sarif_match.specs.Tiers.{tiers_of}
@@ -11,6 +12,10 @@ use Rattle.sarif_match.specs.Tiers.{tiers_of}
 -- the key of result i at a tier, if there is such a result and it has one
 abbrev pub key_at : Tier → List Record → ℕ → Option KeyParts
 key_at tier rs i = option_and_then (λ r. key_of r tier) (slice_get rs i)
+
+-- the same in a version
+abbrev pub key_in_at : MatchingVersion → Tier → List Record → ℕ → Option KeyParts
+key_in_at version tier rs i = option_and_then (λ r. key_in version r tier) (slice_get rs i)
 
 -- the number of these results before number i that are unmatched and have this key
 abbrev pub rank : (ℕ → Bool) → KeyParts → ℕ → List (ℕ × KeyParts) → ℕ

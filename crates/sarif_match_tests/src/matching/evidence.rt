@@ -78,6 +78,8 @@ fn two_snippets_decide(rt: HostRuntime) -> Result<(), Fail> {
         (x.snippet("x"), HERE, State::Updated),
         (y.snippet("x"), x.snippet(" x"), State::Unchanged),
         (x.snippet("x"), x.snippet("y"), State::Updated),
+        (x.snippet(" "), y.snippet(" "), State::Updated),
+        (HERE.snippet(" \n"), HERE.snippet("x"), State::Unchanged),
     ];
     expect_states(&rt, &rows)?;
     Ok(())

@@ -2,7 +2,7 @@
 //! long lists.
 use super::matched;
 use super::sketch::{A, Sketch, record, records};
-use sarif_match::{Matching, Tier, key, match_all_with, state, tiers};
+use sarif_match::{Matching, MatchingVersion, Tier, key, match_all_with, state, tiers};
 use sarif_model::{Record, State};
 use std::alloc::{AllocError, Global};
 use std::hash::RandomState;
@@ -141,7 +141,7 @@ fn plain_partners(
     let mut partners = vec![in alloc; None; current.len()]?;
     let mut left = vec![in alloc; true; current.len()]?;
     let mut free = vec![in alloc; true; baseline.len()]?;
-    for tier in &tiers(alloc, current, baseline)? {
+    for tier in &tiers(alloc, current, baseline, MatchingVersion::Two)? {
         let mut pairs = Vec::new(alloc);
         for i in 0..current.len() {
             if let Some(j) = paired_at(current, &left, baseline, &free, i, tier)? {

@@ -1,7 +1,7 @@
 use Rattle.std.proofs.Common.{◌≡◌, ◌&&◌, bytes_eq, drop}
 use Rattle.std.specs.List.{list_any}
 use Rattle.sarif_match.specs.Seen.{filled}
-use Rattle.sarif_match.proofs.evidence.has_member.Given as goal
+use Rattle.sarif_match.proofs.sharing.has_member.Given as goal
 
 abbrev pub invariant-loop-other : goal.invariant-loop-other
 invariant-loop-other l =

@@ -1,7 +1,7 @@
 use Rattle.std.proofs.Common.{◌≡◌, drop}
 use Rattle.sarif_match.specs.Seen.{filled}
 use Rattle.sarif_match.specs.Evidence.{share_member}
-use Rattle.sarif_match.proofs.evidence.share_member.Given as goal
+use Rattle.sarif_match.proofs.sharing.share_any.Given as goal
 
 abbrev pub invariant-loop-member : goal.invariant-loop-member
 invariant-loop-member l =
