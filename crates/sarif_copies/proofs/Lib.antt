@@ -1,0 +1,4 @@
+pub mod Alike
+pub mod EqualRecords
+pub mod OneFinding
+pub mod SameKeys

@@ -1,0 +1,12 @@
+//! Which results of a merge are copies of an earlier one.
+#![tactic(auto)]
+
+mod firsts;
+mod laws;
+mod whole_record;
+
+pub use firsts::findings;
+pub use laws::{
+    findings_are_their_own, records_are_equal_where_their_fields_are,
+    results_have_one_finding_where_they_are_alike,
+};

@@ -1,0 +1,42 @@
+//! All fields of a record, as a key of a table.
+ghost use Rattle.std.specs.Prelude.{◌≡◌};
+ghost use Rattle.sarif_copies.specs.Internal.Table.{fields_of};
+
+use sarif_model::{Kind, Level, Message, Pairs, Place, Record, Region, Sequence, Status, Text};
+
+/// All fields of a record, borrowed from it. Two are equal if each field is.
+#[derive(Clone, Copy, PartialEq, Eq, Hash)]
+pub(crate) struct WholeRecord<'a> {
+    tool: &'a Text,
+    rule_id: &'a Text,
+    kind: Kind,
+    level: Level,
+    message: &'a Message,
+    place: &'a Place,
+    guid: Option<u128>,
+    full: &'a Pairs,
+    partial: &'a Pairs,
+    held: &'a Sequence<Status>,
+    region: Option<Region>,
+    snippet: &'a Option<Text>,
+}
+
+/// The fields of a record.
+pub(crate) fn whole_record(found: &Record) -> WholeRecord<'_>
+    ensures { fields_of result ≡ found.now }
+{
+    WholeRecord {
+        tool: &found.tool,
+        rule_id: &found.rule_id,
+        kind: found.kind,
+        level: found.level,
+        message: &found.message,
+        place: &found.place,
+        guid: found.guid,
+        full: &found.full,
+        partial: &found.partial,
+        held: &found.held,
+        region: found.region,
+        snippet: &found.snippet,
+    }
+}
