@@ -1,0 +1,11 @@
+pub mod FoundMore
+pub mod IndexMore
+pub mod JoinedMore
+pub mod KeysMore
+pub mod LinksMore
+pub mod OutsideMore
+pub mod PartsMore
+pub mod PathsMore
+pub mod RaisedMore
+pub mod TreeMore
+pub mod UriMore

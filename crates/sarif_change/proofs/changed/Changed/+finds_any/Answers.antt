@@ -1,0 +1,14 @@
+use Rattle.std.proofs.Common.{rules, ◌≡◌, ◌∙◌, ◌∷◌, ap, sym, map, take, drop, length, ◌-◌, arith}
+use Rattle.std.proofs.lemmas.List.{drop_more, take_rest}
+use Rattle.sarif_change.specs.Internal.Sought.{seen}
+use Rattle.sarif_change.proofs.PathsMore.{path_after}
+use Rattle.sarif_change.proofs.changed.Changed.+finds_any.Goals as goal
+
+pub returns-in_ok-more-in-len1-up : goal.returns-in_ok-more-in-len1-up
+returns-in_ok-more-in-len1-up t c = λ sought clean same.
+    let rest = take (length c.args.paths.now - 1) (drop 1 c.args.paths.now) in
+    let whole : c.args.paths.now ≡ c.first-item.result ∷ rest =
+    drop_more c.args.paths.now 0 c.first-item.result (omega (arith, c.in-len1-up.len_at_least))
+    ∙ (ap (λ x. x ∷ drop 1 c.args.paths.now) (sym c.first-item.is) ∙ ap (λ xs. c.first-item.result ∷ xs) (sym (take_rest c.args.paths.now 1))) in
+    path_after c.args.self.now c.args.lines c.first-item.result rest c.in_ok-finds-in-len1-up.field-0 c.in_ok-more-in-len1-up.more
+    c.if-branch.false c.in_ok-finds-in-len1-up.ensures c.in_ok-more-in-len1-up.ensures sought clean (ap (λ paths. map seen paths) (sym whole) ∙ same)

@@ -1,0 +1,7 @@
+pub mod Files
+pub mod Index
+pub mod Keys
+pub mod Raised
+pub mod Sought
+pub mod TreeFalls
+pub mod Trees
