@@ -1,6 +1,6 @@
 //! The results of a log's first run and those of its second, which represent a baseline.
 use crate::reading::log_of;
-use sarif_match::{key, match_all, tiers};
+use sarif_match::{MatchingVersion, key, match_all, tiers};
 use sarif_model::{Fault, Record, Refusal};
 use sarif_read::RawRun;
 use sarif_runs::{make_record, open_run};
@@ -32,7 +32,7 @@ fn records_of(
     let head = open_run(alloc, seed, run)?;
     let mut records = Vec::new(alloc);
     for seq in 0..run.len() {
-        records.push(make_record(alloc, &head, run, seq)?)?;
+        records.push(make_record(alloc, &head, run, seq, false)?)?;
     }
     Ok(records)
 }
@@ -41,7 +41,7 @@ fn records_of(
 pub fn tiers_in_words(alloc: Global, seed: RandomState, log: &str) -> Result<String, AllocError> {
     match sides_of(alloc, seed, log) {
         Ok(sides) => {
-            let tiers = tiers(alloc, &sides.current, &sides.baseline)?;
+            let tiers = tiers(alloc, &sides.current, &sides.baseline, MatchingVersion::Two)?;
             format!(in alloc; "{tiers:?}")
         }
         Err(fault) => format!(in alloc; "{fault}"),
@@ -58,7 +58,7 @@ pub fn keys_in_words(alloc: Global, seed: RandomState, log: &str) -> Result<Stri
 
 fn keys_of(alloc: Global, sides: &MatchedSides) -> Result<String, AllocError> {
     let mut text = String::new(alloc);
-    for tier in &tiers(alloc, &sides.current, &sides.baseline)? {
+    for tier in &tiers(alloc, &sides.current, &sides.baseline, MatchingVersion::Two)? {
         for record in &sides.current {
             let key = key(record, tier)?;
             text.push_str(format!(in alloc; "{key:?};")?.as_str())?;
@@ -83,7 +83,7 @@ fn partners_of(alloc: Global, sides: &MatchedSides) -> Result<String, AllocError
     if sides.current.len() > 1000 || sides.baseline.len() > 1000 {
         return String::from_str(alloc, "too many results");
     }
-    let matching = match_all(alloc, &sides.current, &sides.baseline)?;
+    let matching = match_all(alloc, &sides.current, &sides.baseline, MatchingVersion::Two)?;
     let mut text = String::new(alloc);
     for number in 0..sides.current.len() {
         let partner = matching.partner(number as u32);

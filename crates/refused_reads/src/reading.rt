@@ -61,7 +61,7 @@ pub fn parts_in_words(alloc: Global, log: &str) -> Result<String, AllocError> {
 fn parts_of(alloc: Global, log: &str) -> Result<Parts, Refusal<Fault>> {
     let log = log_of(alloc, log)?;
     match log.runs().first() {
-        Some(run) if run.len() > 0 => read_parts(alloc, run, 0),
+        Some(run) if run.len() > 0 => read_parts(alloc, run, 0, true),
         _ => Err(Refusal::Fault(Fault::NotLog)),
     }
 }
@@ -90,7 +90,7 @@ fn given_by_head(alloc: Global, seed: RandomState, log: &str) -> Result<GivenRun
     if run.len() == 0 {
         return Err(Refusal::Fault(Fault::NotLog));
     }
-    let parts = read_parts(alloc, run, 0)?;
+    let parts = read_parts(alloc, run, 0, false)?;
     Ok(GivenRun {
         descriptor: head.descriptor(&parts)?,
         level: head.level(&parts)?,
@@ -116,5 +116,5 @@ pub fn first_record(alloc: Global, seed: RandomState, log: &str) -> Result<Recor
     if run.len() == 0 {
         return Err(Refusal::Fault(Fault::NotLog));
     }
-    make_record(alloc, &head, run, 0)
+    make_record(alloc, &head, run, 0, true)
 }

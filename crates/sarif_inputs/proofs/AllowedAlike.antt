@@ -12,7 +12,7 @@ use Rattle.sarif_runs.specs.Placed.{Placed}
 use Rattle.sarif_inputs.specs.Internal.Allowing.{IsReadAlike, allowing, checks_allowing}
 use Rattle.sarif_inputs.specs.Faults.{faults_of, file_faults, number_faults}
 use Rattle.sarif_entries.specs.Given.{file_or_none}
-use Rattle.sarif_inputs.specs.Inputs.{Inputs, all_sources, baseline_runs, input_runs, must_succeed, numbered, placed, placed_from, readable}
+use Rattle.sarif_inputs.specs.Inputs.{Inputs, all_sources, baseline_runs, input_runs, numbered, placed, placed_from, readable, run_options}
 use Rattle.sarif_inputs.specs.SourceFaults.{limit_faults, reading_faults, source_faults}
 use Rattle.sarif_inputs.proofs.SourceSteps.{faults_append}
 
@@ -23,17 +23,17 @@ module _ (checks : Checks) where
   abbrev without_files : Checks
   without_files = checks_allowing false checks
 
-  must_alike : (source : Source) → must_succeed with_files source ≡ must_succeed without_files source
-  must_alike (Log k) = refl
-  must_alike (Baseline k) = refl
-  must_alike Suppress = refl
-  must_alike Output = refl
-  must_alike Known = refl
+  options_alike : (source : Source) → run_options with_files source ≡ run_options without_files source
+  options_alike (Log k) = refl
+  options_alike (Baseline k) = refl
+  options_alike Suppress = refl
+  options_alike Output = refl
+  options_alike Known = refl
 
   placed_alike : (source : Source) (n : ℕ) (runs : List Data) → placed_from with_files source n runs ≡ placed_from without_files source n runs
   placed_alike source n [] = refl
   placed_alike source n (run ∷ runs) =
-      λ i. record { source = source; number = n; must_succeed = must_alike source i; run = run } ∷ placed_alike source (n + 1) runs i
+      λ i. record { source = source; number = n; options = options_alike source i; run = run } ∷ placed_alike source (n + 1) runs i
 
   pub runs_alike : (name : ℕ → Source) (n : ℕ) (sources : List (List ℕ)) → AllByRecursion IsReadAlike sources
       → placed (numbered with_files name n sources) ≡ placed (numbered without_files name n sources)

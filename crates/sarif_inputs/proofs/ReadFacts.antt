@@ -11,10 +11,11 @@ use Rattle.sarif_options.specs.declared.checks.Checks.{Checks}
 use Rattle.sarif_read.specs.declared.read_fault.ReadFault.{ReadFault}
 use Rattle.sarif_read.specs.Reading.{log_of}
 use Rattle.sarif_model.specs.declared.merge_fault.MergeFault.{MergeFault}
+use Rattle.sarif_model.specs.declared.merge_fault.Source.{Source}
 use Rattle.sarif_model.specs.declared.merge_fault.Source.TheVariants.{Log, Baseline}
-use Rattle.sarif_inputs.specs.Inputs.{Sourced, numbered, placed, placed_from, readable, runs_in}
+use Rattle.sarif_inputs.specs.Inputs.{Sourced, numbered, placed, placed_from, readable, reads_regions, runs_in}
 use Rattle.sarif_runs.specs.Judging.{skips, run_values}
-use Rattle.sarif_runs.specs.Placed.{Placed}
+use Rattle.sarif_runs.specs.Placed.{AreReadWith, Placed}
 use Rattle.sarif_inputs.proofs.SourceRuns.{data_placed}
 
 pub placed-append : (xs ys : List Sourced) → placed (xs ++ ys) ≡ placed xs ++ placed ys
@@ -43,6 +44,19 @@ pub baseline_sides : (checks : Checks) (k : ℕ) (bs : List (List ℕ)) → AllB
 baseline_sides checks k [] = tt
 baseline_sides checks k (bytes ∷ bs) =
     all-append (λ p. skips p.source ≡ true) (placed_from checks (Baseline k) 0 (readable (log_of checks.allow_external bytes))) (placed (numbered checks Baseline (k + 1) bs)) (baseline_from checks k 0 (readable (log_of checks.allow_external bytes))) (baseline_sides checks (k + 1) bs)
+
+-- ---- regions
+
+regions_from : (checks : Checks) (source : Source) (n : ℕ) (runs : List Data) → AreReadWith (reads_regions checks) (placed_from checks source n runs)
+regions_from checks source n [] = tt
+regions_from checks source n (run ∷ runs) = (refl, regions_from checks source (n + 1) runs)
+
+-- all sources are read with regions, or all without
+pub read_alike : (checks : Checks) (name : ℕ → Source) (k : ℕ) (sources : List (List ℕ)) → AreReadWith (reads_regions checks) (placed (numbered checks name k sources))
+read_alike checks name k [] = tt
+read_alike checks name k (bytes ∷ sources) =
+    let here = readable (log_of checks.allow_external bytes) in
+    all-append (λ p. p.options.read_regions ≡ reads_regions checks) (placed_from checks (name k) 0 here) (placed (numbered checks name (k + 1) sources)) (regions_from checks (name k) 0 here) (read_alike checks name (k + 1) sources)
 
 -- ---- numbers with a fraction
 

@@ -13,28 +13,28 @@ use Rattle.sarif_model.specs.declared.merge_fault.Source.{Source}
 use Rattle.sarif_inputs.specs.declared.read_run.ReadRun.{ReadRun}
 use Rattle.sarif_runs.specs.Placed.{Placed}
 use Rattle.sarif_runs.specs.Judging.{run_values}
-use Rattle.sarif_inputs.specs.Inputs.{must_succeed, placed_from}
+use Rattle.sarif_inputs.specs.Inputs.{placed_from, run_options}
 use Rattle.sarif_inputs.specs.Internal.ReadRun.{placed_read}
 
 placed_push : (checks : Checks) (source : Source) (n : ℕ) (ds : List Data) (d : Data)
-    → placed_from checks source n (ds ++ d ∷ []) ≡ placed_from checks source n ds ++ record { source = source; number = n + length ds; must_succeed = must_succeed checks source; run = d } ∷ []
+    → placed_from checks source n (ds ++ d ∷ []) ≡ placed_from checks source n ds ++ record { source = source; number = n + length ds; options = run_options checks source; run = d } ∷ []
 placed_push checks source n [] d =
     let one : Placed → List Placed = λ p. p ∷ [] in
-    ap (λ m. one (record { source = source; number = m; must_succeed = must_succeed checks source; run = d })) (sym (add-zero n))
+    ap (λ m. one (record { source = source; number = m; options = run_options checks source; run = d })) (sym (add-zero n))
 placed_push checks source n (e ∷ ds) d =
     let rest = placed_push checks source (n + 1) ds d in
     let same : n + 1 + length ds ≡ n + length (e ∷ ds) = omega arith in
-    ap (λ ps. record { source = source; number = n; must_succeed = must_succeed checks source; run = e } ∷ ps)
-    (rest ∙ ap (λ m. placed_from checks source (n + 1) ds ++ record { source = source; number = m; must_succeed = must_succeed checks source; run = d } ∷ []) same)
+    ap (λ ps. record { source = source; number = n; options = run_options checks source; run = e } ∷ ps)
+    (rest ∙ ap (λ m. placed_from checks source (n + 1) ds ++ record { source = source; number = m; options = run_options checks source; run = d } ∷ []) same)
 
 -- one run more of a source
 pub placed_more : (checks : Checks) (source : Source) (vs : List IndexedRun) (v : IndexedRun)
-    → placed_from checks source 0 (map run_of (vs ++ v ∷ [])) ≡ placed_from checks source 0 (map run_of vs) ++ record { source = source; number = length vs; must_succeed = must_succeed checks source; run = run_of v } ∷ []
+    → placed_from checks source 0 (map run_of (vs ++ v ∷ [])) ≡ placed_from checks source 0 (map run_of vs) ++ record { source = source; number = length vs; options = run_options checks source; run = run_of v } ∷ []
 placed_more checks source vs v =
     let same : 0 + length (map run_of vs) ≡ length vs = omega (arith, length-map vs run_of) in
     ap (placed_from checks source 0) (map-append run_of vs (v ∷ []))
     ∙ placed_push checks source 0 (map run_of vs) (run_of v)
-    ∙ ap (λ m. placed_from checks source 0 (map run_of vs) ++ record { source = source; number = m; must_succeed = must_succeed checks source; run = run_of v } ∷ []) same
+    ∙ ap (λ m. placed_from checks source 0 (map run_of vs) ++ record { source = source; number = m; options = run_options checks source; run = run_of v } ∷ []) same
 
 pub data_placed : (checks : Checks) (source : Source) (n : ℕ) (ds : List Data) → run_values (placed_from checks source n ds) ≡ ds
 data_placed checks source n [] = refl

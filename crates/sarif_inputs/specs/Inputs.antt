@@ -3,6 +3,7 @@ use Rattle.std.specs.Prelude.{ℕ, ◌+◌, Bool, false, List, [], ◌∷◌, �
 use Rattle.std.specs.List.{flat_map}
 use Rattle.serde_json.specs.Data.{Data}
 use Rattle.sarif_options.specs.declared.checks.Checks.{Checks}
+use Rattle.sarif_runs.specs.declared.run_options.RunOptions.{RunOptions}
 use Rattle.sarif_runs.specs.Placed.{Placed}
 use Rattle.sarif_read.specs.declared.read_fault.ReadFault.{ReadFault}
 use Rattle.sarif_read.specs.Reading.{log_of}
@@ -48,13 +49,25 @@ must_succeed checks Suppress = false
 must_succeed checks Output = false
 must_succeed checks Known = false
 
+-- whether the regions of results are read: they are not yet
+abbrev pub reads_regions : Checks → Bool
+reads_regions checks = false
+
+-- how the runs of this source are read
+abbrev pub run_options : Checks → Source → RunOptions
+run_options checks source =
+    record {
+      must_succeed = must_succeed checks source;
+      read_regions = reads_regions checks;
+    }
+
 abbrev pub placed_from : Checks → Source → ℕ → List Data → List Placed
 placed_from checks source n [] = []
 placed_from checks source n (run ∷ runs) =
     record {
       source = source;
       number = n;
-      must_succeed = must_succeed checks source;
+      options = run_options checks source;
       run = run;
     } ∷ placed_from checks source (n + 1) runs
 

@@ -21,10 +21,10 @@ fn open_one<'t, 'a>(
     let ReadRun {
         source,
         number,
-        must_succeed,
+        options,
         run,
     } = read;
-    OpenedRun::open(alloc, seed, source, number, must_succeed, run)
+    OpenedRun::open(alloc, seed, source, number, options, run)
 }
 
 /// Opens runs in at most `threads` threads, this one among them, and gives them in their order.

@@ -5,6 +5,7 @@ ghost use Rattle.sarif_read.specs.Internal.Indexed.{run_of};
 
 use sarif_model::Source;
 use sarif_read::IndexedRun;
+use sarif_runs::RunOptions;
 
 /// A run whose form was checked, and which isn't opened yet (SARIF 2.1.0, "run object").
 #[derive(Drop)]
@@ -12,8 +13,8 @@ pub(crate) struct ReadRun<'t, 'a> {
     pub(crate) source: Source,
     /// Its number in its source, from 0.
     pub(crate) number: u32,
-    /// Whether its analysis must have been successful.
-    pub(crate) must_succeed: bool,
+    /// How it is read.
+    pub(crate) options: RunOptions,
     pub(crate) run: IndexedRun<'t, 'a>,
     ghost whole: { has_float (run_of run) ≡ false },
 }
@@ -25,7 +26,7 @@ impl<'t, 'a> ReadRun<'t, 'a> {
     pub(crate) fn new(
         source: Source,
         number: u32,
-        must_succeed: bool,
+        options: RunOptions,
         run: IndexedRun<'t, 'a>,
     ) -> ReadRun<'t, 'a>
         requires whole { has_float (run_of run) ≡ false }
@@ -33,14 +34,14 @@ impl<'t, 'a> ReadRun<'t, 'a> {
             ≡ record {
               source = source;
               number = number;
-              must_succeed = must_succeed;
+              options = options;
               run = run_of run.entry;
             } }
     {
         ReadRun {
             source,
             number,
-            must_succeed,
+            options,
             run,
         }
     }

@@ -31,7 +31,7 @@ use sarif_model::{
 };
 use sarif_options::Checks;
 use sarif_read::{IndexedRun, ReadFault, read_runs_hold_no_fraction};
-use sarif_runs::OpenedRun;
+use sarif_runs::{OpenedRun, RunOptions};
 use std::alloc::{AllocError, Global};
 use std::hash::RandomState;
 use std::thread::Threads;
@@ -146,6 +146,16 @@ fn must_succeed(checks: Checks, source: Source) -> bool
     }
 }
 
+/// How the runs of this source are read.
+fn run_options(checks: Checks, source: Source) -> RunOptions
+    ensures { result ≡ said.run_options checks source }
+{
+    RunOptions {
+        must_succeed: must_succeed(checks, source),
+        read_regions: false,
+    }
+}
+
 /// Adds the runs of a source with their numbers.
 fn place_runs<'t, 'a>(
     checks: Checks,
@@ -161,7 +171,7 @@ fn place_runs<'t, 'a>(
 {
     let mut number = 0;
     for run in runs {
-        let read = ReadRun::new(source, number, must_succeed(checks, source), run);
+        let read = ReadRun::new(source, number, run_options(checks, source), run);
         all.push(read)?;
         number += 1;
     }

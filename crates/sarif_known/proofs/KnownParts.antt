@@ -1,5 +1,5 @@
 -- The members of a known result are read as they were written.
-use Rattle.std.proofs.Common.{◌≡◌, ℕ, ◌<◌, ◌^◌, true, List, [], ◌∷◌, map, Option, Some, None, option_map, codes, refl, ap, arith}
+use Rattle.std.proofs.Common.{◌≡◌, ℕ, ◌<◌, ◌^◌, true, false, List, [], ◌∷◌, map, Option, Some, None, option_map, codes, refl, ap, arith}
 use Rattle.std.specs.Prelude.{Ok, option_and_then, unwrap_or, IfSome, nat_lt}
 use Rattle.std.proofs.lemmas.Bool.Decides.{nat_tests}
 use Rattle.serde_json.specs.Data.{string}
@@ -64,6 +64,8 @@ known_parts r artifact = record {
   full = r.full;
   partial = r.partial;
   held = r.held;
+  region = None;
+  snippet = None;
 }
 
 kind_back : (kind : Kind) → result_map (λ k. unwrap_or k Fail) (of_kind BadKind as_kind (option_and_then unless_null (kind_unless_fail kind))) ≡ Ok kind
@@ -192,7 +194,7 @@ location_is r None fits = location_at r r.place.uri r.place.base refl refl
 
 module _ (r : Record) (artifact : Option ℕ) where
   -- the members of a known result are those of the record that it was written from
-  pub parts_is : IfSome r.guid (λ guid. guid < 2 ^ 128) → IfSome artifact (λ n. n < 2 ^ 32) → parts_of (known_result r artifact) ≡ Ok (known_parts r artifact)
+  pub parts_is : IfSome r.guid (λ guid. guid < 2 ^ 128) → IfSome artifact (λ n. n < 2 ^ 32) → parts_of false (known_result r artifact) ≡ Ok (known_parts r artifact)
   unfolding parts_of
   parts_is fits index =
       rw (present_is r artifact, kind_is r artifact, level_is r artifact, guid_is r artifact fits, fingerprints_is r artifact, statuses_is r artifact, message_and_rule_is r artifact, indexes_is r artifact, location_is r artifact index) refl

@@ -26,12 +26,14 @@ use Rattle.sarif_runs.specs.Head.{head_of}
 use Rattle.sarif_runs.specs.Level.{first_level, is_fail, level_of, overriding_level_at}
 use Rattle.sarif_members.specs.OwnMembers.{as_guid, check_present, own_fingerprints, own_guid, own_indexes, own_kind, own_level, own_location, own_message_and_rule, own_statuses, parts_of}
 use Rattle.sarif_runs.specs.Place.{place_of}
-use Rattle.sarif_runs.specs.Record.{record_by, record_in, record_of}
+use Rattle.sarif_members.specs.Regions.{own_region}
+use Rattle.sarif_runs.specs.Record.{if_placed, record_by, record_in, record_of}
 use Rattle.sarif_model.specs.Written.{text_members}
 use Rattle.sarif_model.specs.Driver.{tool_name}
 use Rattle.sarif_known.specs.Laws.{IsOfTool}
 use Rattle.sarif_accept.proofs.GivenFile.{json_ordered}
 use Rattle.sarif_accept.proofs.GuidFits.{guid_fits}
+use Rattle.sarif_known.proofs.RecordBack.{none_placed}
 use Rattle.sarif_known.proofs.Rising.{rises}
 
 -- both steps went well
@@ -82,15 +84,17 @@ at_ordered name d ps ordered is =
     pairs_ordered steps.0 ps (object_ordered (get name d) steps.0 (get_ordered name d ordered) steps.1) steps.2
 
 -- what is read from a result, and from which member
-pub record AreReadFrom (d : Data) (parts : Parts) : Type 0 where
+pub record AreReadFrom (regions : Bool) (d : Data) (parts : Parts) : Type 0 where
   pub guid : IfSome parts.guid (λ n. n < 2 ^ 128)
   pub held : own_statuses d ≡ Ok parts.held
   pub full : pairs_at (codes "fingerprints") d ≡ Ok parts.full
   pub partial : pairs_at (codes "partialFingerprints") d ≡ Ok parts.partial
+  pub region : parts.region ≡ (own_region regions d).region
+  pub snippet : parts.snippet ≡ (own_region regions d).snippet
 
-pub parts_read : (d : Data) (parts : Parts) → parts_of d ≡ Ok parts → AreReadFrom d parts
+pub parts_read : (regions : Bool) (d : Data) (parts : Parts) → parts_of regions d ≡ Ok parts → AreReadFrom regions d parts
 unfolding parts_of own_fingerprints
-parts_read d parts is =
+parts_read regions d parts is =
     let present = bind_ok (check_present d) _ parts is in
     let kind = bind_ok (own_kind d) _ parts present.2 in
     let level = bind_ok (own_level d) _ parts kind.2 in
@@ -104,12 +108,14 @@ parts_read d parts is =
     let full = bind_ok (pairs_at (codes "fingerprints") d) _ fingerprints.0 fingerprints.1 in
     let partial = bind_ok (pairs_at (codes "partialFingerprints") d) _ fingerprints.0 full.2 in
     let both = ok_is _ fingerprints.0 partial.2 in
-    record {
-      guid = subst (λ p. IfSome p.guid (λ n. n < 2 ^ 128)) whole (guid_is_small (member_at (codes "correlationGuid") d) guid.0 guid.1);
-      held = subst (λ p. own_statuses d ≡ Ok p.held) whole held.1;
-      full = subst (λ p. pairs_at (codes "fingerprints") d ≡ Ok p.full) whole (subst (λ f. pairs_at (codes "fingerprints") d ≡ Ok f.full) both full.1);
-      partial = subst (λ p. pairs_at (codes "partialFingerprints") d ≡ Ok p.partial) whole (subst (λ f. pairs_at (codes "partialFingerprints") d ≡ Ok f.partial) both partial.1);
-    }
+    subst (AreReadFrom regions d) whole (record {
+      guid = guid_is_small (member_at (codes "correlationGuid") d) guid.0 guid.1;
+      held = held.1;
+      full = subst (λ f. pairs_at (codes "fingerprints") d ≡ Ok f.full) both full.1;
+      partial = subst (λ f. pairs_at (codes "partialFingerprints") d ≡ Ok f.partial) both partial.1;
+      region = refl;
+      snippet = refl;
+    })
 
 no_level : (fails : Bool) (own overriding default : Option Level) → fails ≡ false → first_level fails own overriding default ≡ NoLevel
 no_level true own overriding default is = let never : ⊥ = cc in absurd never
@@ -121,7 +127,7 @@ level_right head parts level is passes =
     let overriding = bind_ok (overriding_level_at head.invocations parts.invocation descriptor.0) _ level descriptor.2 in
     sym (ok_is _ level overriding.2) ∙ no_level (is_fail parts.kind) _ _ _ passes
 
-by_sound : (d : Data) (head : RunHead) (tool : List ℕ) (parts : Parts) (r : Record) → IsOrdered d → AreReadFrom d parts → record_by head tool parts ≡ Ok r → IsOfTool tool r
+by_sound : (d : Data) (head : RunHead) (tool : List ℕ) (parts : Parts) (r : Record) → IsOrdered d → AreReadFrom false d parts → record_by head tool parts ≡ Ok r → IsOfTool tool r
 unfolding record_by
 by_sound d head tool parts r ordered read is =
     let descriptor = bind_ok (descriptor_of head.components (reference_of parts)) _ r is in
@@ -136,8 +142,8 @@ by_sound d head tool parts r ordered read is =
         level = level_right head parts level.0 level.1;
         full = at_ordered (codes "fingerprints") d parts.full ordered read.full;
         partial = at_ordered (codes "partialFingerprints") d parts.partial ordered read.partial;
-        region = refl;
-        snippet = refl;
+        region = ap (if_placed place.0) read.region ∙ none_placed place.0;
+        snippet = ap (if_placed place.0) read.snippet ∙ none_placed place.0;
       };
     })
 
@@ -157,20 +163,20 @@ listed_ordered (Some (string s)) i ordered = tt
 listed_ordered (Some (array ds)) i ordered = nth_ordered ds i ordered
 listed_ordered (Some (object ms)) i ordered = tt
 
-record_sound : (run : Data) (seq : ℕ) (r : Record) → IsOrdered run → record_of run seq ≡ Ok r → IsOfTool (tool_name run) r
+record_sound : (run : Data) (seq : ℕ) (r : Record) → IsOrdered run → record_of false run seq ≡ Ok r → IsOfTool (tool_name run) r
 unfolding record_of record_in
 record_sound run seq r ordered is =
     let head = bind_ok (head_of run) _ r is in
-    let parts = bind_ok (parts_of (result_at run seq)) (record_by head.0 (tool_name run)) r head.2 in
+    let parts = bind_ok (parts_of false (result_at run seq)) (record_by head.0 (tool_name run)) r head.2 in
     let result : IsOrdered (result_at run seq) = listed_ordered (get (codes "results") run) seq (get_ordered (codes "results") run ordered) in
-    by_sound (result_at run seq) head.0 (tool_name run) parts.0 r result (parts_read (result_at run seq) parts.0 parts.1) parts.2
+    by_sound (result_at run seq) head.0 (tool_name run) parts.0 r result (parts_read false (result_at run seq) parts.0 parts.1) parts.2
 
 some_ok : {A : Type 0} (o : Option A) (fault : Fault) (x : A) → at_whole (ok_or o fault) ≡ Ok x → o ≡ Some x
 some_ok None fault x is = let never : ⊥ = cc in absurd never
 some_ok (Some y) fault x is = ap Some (ok_is y x is)
 
 -- each result of a log that is read has a record that can be read again
-pub read_sound : (allow : Bool) (bytes : List ℕ) (runs : List Data) (k seq : ℕ) (r : Record) → log_of allow bytes ≡ Ok runs → record_of (slice_index_or runs k null) seq ≡ Ok r → IsOfTool (tool_name (slice_index_or runs k null)) r
+pub read_sound : (allow : Bool) (bytes : List ℕ) (runs : List Data) (k seq : ℕ) (r : Record) → log_of allow bytes ≡ Ok runs → record_of false (slice_index_or runs k null) seq ≡ Ok r → IsOfTool (tool_name (slice_index_or runs k null)) r
 unfolding log_of log_of_value
 read_sound allow bytes runs k seq r is got =
     let value = bind_ok (at_whole (ok_or (json_of (without_mark bytes)) NotJson)) _ runs is in

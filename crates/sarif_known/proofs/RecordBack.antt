@@ -1,6 +1,6 @@
 -- The record of a known result is the record that it was written from.
-use Rattle.std.proofs.Common.{◌≡◌, ℕ, false, List, [], ◌∷◌, map, Option, Some, None, option_map, refl, sym}
-use Rattle.std.specs.Prelude.{Result, Ok, IfSome, slice_get}
+use Rattle.std.proofs.Common.{◌≡◌, ◌∙◌, ◌||◌, ℕ, Bool, true, false, if◌then◌else◌, List, [], ◌∷◌, map, Option, Some, None, option_map, refl, sym}
+use Rattle.std.specs.Prelude.{is_some, Result, Ok, IfSome, slice_get}
 use Rattle.sarif_model.specs.declared.fault.Fault.{Fault}
 use Rattle.sarif_model.specs.declared.kinds.Kind.{Kind}
 use Rattle.sarif_model.specs.declared.kinds.Kind.TheVariants.{Pass, Undecided, Informational, NotApplicable, Review, Fail}
@@ -13,7 +13,7 @@ use Rattle.sarif_runs.specs.declared.head.RunHead.{RunHead}
 use Rattle.sarif_runs.specs.Descriptor.{descriptor_of}
 use Rattle.sarif_runs.specs.Level.{is_fail, first_level}
 use Rattle.sarif_runs.specs.Place.{place_by}
-use Rattle.sarif_runs.specs.Record.{record_by, rule_id_of}
+use Rattle.sarif_runs.specs.Record.{if_placed, record_by, rule_id_of}
 use Rattle.sarif_known.specs.KnownRun.{base_alone, base_without}
 use Rattle.sarif_known.specs.Laws.{IsReadable}
 use Rattle.sarif_known.proofs.KnownParts.{level_read, uri_read, base_read, known_parts}
@@ -58,17 +58,25 @@ no_descriptor (Some id) = refl
 abbrev pub number_for : ℕ → Record → Option ℕ
 number_for n r = option_map (λ _. n) (base_alone r)
 
+-- without a region in the result there is none in its record
+pub none_placed : {X : Type 0} (place : Place) → ◌≡◌ {A = Option X} (if_placed place None) None
+none_placed {X} place = by_test (is_some place.uri || is_some place.base)
+  where
+    by_test : (b : Bool) → ◌≡◌ {A = Option X} (if b then None else None) None
+    by_test true = refl
+    by_test false = refl
+
 pub record_back : (bases : List (List ℕ)) (n : ℕ) (r : Record) → IsReadable r → HasArtifact bases n (base_alone r)
     → record_by (known_head bases) r.tool (known_parts r (number_for n r)) ≡ Ok r
 unfolding record_by
 record_back bases n r readable there =
     rw (no_descriptor (none_if_empty r.rule_id), place_back bases n r.place.uri r.place.base there, level_back r.kind r.level readable.level, id_back r.rule_id) whole_back
   where
-    no_region : None ≡ r.region
-    no_region = sym readable.region
+    no_region : if_placed r.place None ≡ r.region
+    no_region = none_placed r.place ∙ sym readable.region
 
-    no_snippet : None ≡ r.snippet
-    no_snippet = sym readable.snippet
+    no_snippet : if_placed r.place None ≡ r.snippet
+    no_snippet = none_placed r.place ∙ sym readable.snippet
 
-    whole_back : ◌≡◌ {A = Result Record Fault} (Ok (record { tool = r.tool; rule_id = r.rule_id; kind = r.kind; level = r.level; message = r.message; place = r.place; guid = r.guid; full = r.full; partial = r.partial; held = r.held; region = None; snippet = None })) (Ok r)
+    whole_back : ◌≡◌ {A = Result Record Fault} (Ok (record { tool = r.tool; rule_id = r.rule_id; kind = r.kind; level = r.level; message = r.message; place = r.place; guid = r.guid; full = r.full; partial = r.partial; held = r.held; region = if_placed r.place None; snippet = if_placed r.place None })) (Ok r)
     whole_back = λ i. Ok (record { tool = r.tool; rule_id = r.rule_id; kind = r.kind; level = r.level; message = r.message; place = r.place; guid = r.guid; full = r.full; partial = r.partial; held = r.held; region = no_region i; snippet = no_snippet i })

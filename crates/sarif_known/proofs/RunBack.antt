@@ -21,7 +21,7 @@ use Rattle.sarif_runs.specs.Judging.{first_bad, item_by, item_of, items_of as al
 use Rattle.sarif_runs.specs.Overrides.{invocations_of}
 use Rattle.sarif_members.specs.OwnMembers.{parts_of}
 use Rattle.sarif_runs.specs.Place.{artifact_of, artifacts_of}
-use Rattle.sarif_runs.specs.Placed.{Placed}
+use Rattle.sarif_runs.specs.Placed.{AreReadWith, Placed}
 use Rattle.sarif_runs.specs.Record.{record_by, record_in, record_of}
 use Rattle.sarif_runs.specs.Rules.{components_of, rules_of}
 use Rattle.sarif_known.specs.Chosen.{Chosen, results_among}
@@ -128,11 +128,11 @@ not_absent r artifact = by_check (is_absent_result (known_result r artifact)) (p
     by_check false is = refl
 
 record_from : (v : Data) (head : RunHead) (tool : List ℕ) (seq : ℕ) (d : Data) (parts : Parts) (r : Record)
-    → head_of v ≡ Ok head → tool_name v ≡ tool → result_at v seq ≡ d → parts_of d ≡ Ok parts → record_by head tool parts ≡ Ok r → record_of v seq ≡ Ok r
+    → head_of v ≡ Ok head → tool_name v ≡ tool → result_at v seq ≡ d → parts_of false d ≡ Ok parts → record_by head tool parts ≡ Ok r → record_of false v seq ≡ Ok r
 unfolding record_of record_in
 record_from v head tool seq d parts r opened named here read by =
-    ap (λ h. h >>= λ head. parts_of (result_at v seq) >>= record_by head (tool_name v)) opened
-    ∙ ap (λ x. parts_of x >>= record_by head (tool_name v)) here
+    ap (λ h. h >>= λ head. parts_of false (result_at v seq) >>= record_by head (tool_name v)) opened
+    ∙ ap (λ x. parts_of false x >>= record_by head (tool_name v)) here
     ∙ ap (λ x. x >>= record_by head (tool_name v)) read
     ∙ ap (λ t. record_by head t parts) named
     ∙ by
@@ -141,11 +141,11 @@ pub count_is : (n : ℕ) (rs : List Record) → length (results_from n rs) ≡ l
 count_is n [] = refl
 count_is n (r ∷ rs) = ap suc (count_is (next_number n (base_alone r)) rs)
 
-module _ (run : Chosen) (p : Placed) (is_run : p.run ≡ known_run run) where
+module _ (run : Chosen) (p : Placed) (is_run : p.run ≡ known_run run) (alike : p.options.read_regions ≡ false) where
   one_item : (seq n : ℕ) (r : Record) → result_at p.run seq ≡ known_result r (number_for n r) → IsOfTool run.tool r → HasArtifact (bases_alone run.records) n (base_alone r) → n < 2 ^ 32 → item_of p seq ≡ Sound r
   one_item seq n r here of_tool there small =
-      by_skip (skips p.source) (is_absent_result (result_at p.run seq)) (record_of p.run seq) (ap is_absent_result here ∙ not_absent r (number_for n r))
-      (record_from p.run (known_head (bases_alone run.records)) r.tool seq (known_result r (number_for n r)) (known_parts r (number_for n r)) r
+      by_skip (skips p.source) (is_absent_result (result_at p.run seq)) (record_of p.options.read_regions p.run seq) (ap is_absent_result here ∙ not_absent r (number_for n r))
+      (ap (λ b. record_of b p.run seq) alike ∙ record_from p.run (known_head (bases_alone run.records)) r.tool seq (known_result r (number_for n r)) (known_parts r (number_for n r)) r
       (ap head_of is_run ∙ head_is run) (ap tool_name is_run ∙ tool_is run ∙ sym of_tool.tool_is) here (parts_is r (number_for n r) of_tool.readable.guid (number_small n (base_alone r) small))
       (record_back (bases_alone run.records) n r of_tool.readable there))
     where
@@ -183,10 +183,10 @@ no_bad : (at : ℕ → Rattle.sarif_model.specs.declared.merge_fault.At.At) (n :
 no_bad at n [] = refl
 no_bad at n (r ∷ rs) = no_bad at (n + 1) rs
 
-no_faults : (run : Chosen) (p : Placed) → p.run ≡ known_run run → AllByRecursion (IsOfTool run.tool) run.records → length run.records ≤ most_results → run_faults p ≡ []
-no_faults run p is_run all few =
-    let opened = ap (opened_of p.must_succeed) is_run ∙ opened_is run p.must_succeed in
-    rw (opened, items_are run p is_run all few) (no_bad (λ n. Rattle.sarif_model.specs.declared.merge_fault.At.TheVariants.Single p.source p.number n) 0 run.records)
+no_faults : (run : Chosen) (p : Placed) → p.run ≡ known_run run → p.options.read_regions ≡ false → AllByRecursion (IsOfTool run.tool) run.records → length run.records ≤ most_results → run_faults p ≡ []
+no_faults run p is_run alike all few =
+    let opened = ap (opened_of p.options.must_succeed) is_run ∙ opened_is run p.options.must_succeed in
+    rw (opened, items_are run p is_run alike all few) (no_bad (λ n. Rattle.sarif_model.specs.declared.merge_fault.At.TheVariants.Single p.source p.number n) 0 run.records)
 
 -- ---- runs
 
@@ -194,15 +194,15 @@ cons_run : (x y : Data) (xs ys : List Data) → x ∷ xs ≡ y ∷ ys → (x ≡
 cons_run x y xs ys is = (cc, cc)
 
 -- the runs have no errors, and their records are exactly these
-pub known_again : (runs : List Chosen) (placed : List Placed) → run_values placed ≡ map known_run runs → AllByRecursion (λ run. AllByRecursion (IsOfTool run.tool) run.records) runs → results_among runs ≤ most_results → AreKnownAgain runs placed
-known_again [] [] are all few = record { faultless = refl; records = refl }
-known_again [] (p ∷ placed) are all few = let never : ⊥ = cc in absurd never
-known_again (run ∷ runs) [] are all few = let never : ⊥ = cc in absurd never
-known_again (run ∷ runs) (p ∷ placed) are all few =
+pub known_again : (runs : List Chosen) (placed : List Placed) → AreReadWith false placed → run_values placed ≡ map known_run runs → AllByRecursion (λ run. AllByRecursion (IsOfTool run.tool) run.records) runs → results_among runs ≤ most_results → AreKnownAgain runs placed
+known_again [] [] alike are all few = record { faultless = refl; records = refl }
+known_again [] (p ∷ placed) alike are all few = let never : ⊥ = cc in absurd never
+known_again (run ∷ runs) [] alike are all few = let never : ⊥ = cc in absurd never
+known_again (run ∷ runs) (p ∷ placed) alike are all few =
     let parts = cons_run p.run (known_run run) (run_values placed) (map known_run runs) are in
-    let rest = known_again runs placed parts.1 all.1 (omega (arith, few)) in
+    let rest = known_again runs placed alike.1 parts.1 all.1 (omega (arith, few)) in
     let some : length run.records ≤ most_results = omega (arith, few) in
     record {
-      faultless = rw (no_faults run p parts.0 all.0 some, rest.faultless) refl;
-      records = rw (items_are run p parts.0 all.0 some, all_records run.records, rest.records) refl;
+      faultless = rw (no_faults run p parts.0 alike.0 all.0 some, rest.faultless) refl;
+      records = rw (items_are run p parts.0 alike.0 all.0 some, all_records run.records, rest.records) refl;
     }

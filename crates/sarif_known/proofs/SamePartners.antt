@@ -3,7 +3,7 @@ use Rattle.std.proofs.Common.{◌≡◌, ℕ, zero, suc, List, [], ◌∷◌, �
 use Rattle.std.specs.Prelude.{option_and_then, slice_get}
 use Rattle.sarif_model.specs.declared.record.Record.{Record}
 use Rattle.sarif_match.specs.declared.tier.Tier.{Tier}
-use Rattle.sarif_match.specs.declared.tier.Tier.TheVariants.{Guid, Fingerprint, PartialHere, PartialMoved, Place}
+use Rattle.sarif_match.specs.declared.tier.Tier.TheVariants.{Guid, Same, SameText, FingerprintHere, Fingerprint, PartialHere, PartialMoved, PlaceText, Place, PlaceLeft}
 use Rattle.sarif_match.specs.Key.{key_of}
 use Rattle.sarif_match.specs.KeyParts.{same_parts}
 use Rattle.sarif_match.specs.Pairing.{pairs_from}
@@ -18,6 +18,11 @@ same_key (Fingerprint name) r = refl
 same_key PartialHere r = refl
 same_key PartialMoved r = refl
 same_key Place r = refl
+same_key Same r = refl
+same_key SameText r = refl
+same_key (FingerprintHere name) r = refl
+same_key PlaceText r = refl
+same_key PlaceLeft r = refl
 
 same_keyed : (tier : Tier) (n : ℕ) (bs : List Record) → keyed_from tier n (map without_own bs) ≡ keyed_from tier n bs
 same_keyed tier n [] = refl

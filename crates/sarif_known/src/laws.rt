@@ -1,5 +1,5 @@
 //! Laws of the known log, each the contract of a function that does nothing.
-ghost use Rattle.std.specs.Prelude.{◌≡◌, ◌∷◌, ℕ, Bool, List, Option, Some, Ok, map, option_and_then};
+ghost use Rattle.std.specs.Prelude.{◌≡◌, ◌∷◌, ℕ, Bool, false, List, Option, Some, Ok, map, option_and_then};
 ghost use Rattle.std.specs.Prelude.{slice_get, slice_index_or};
 ghost use Rattle.serde_json.specs.Data.{Data, null};
 ghost use Rattle.json_parts.specs.Indexed.{json_of};
@@ -12,7 +12,7 @@ ghost use Rattle.sarif_options.specs.declared.policy.Policy.{Policy};
 ghost use Rattle.sarif_entries.specs.File.{File};
 ghost use Rattle.sarif_read.specs.Reading.{log_of};
 ghost use Rattle.sarif_runs.specs.Judging.{run_values};
-ghost use Rattle.sarif_runs.specs.Placed.{Placed};
+ghost use Rattle.sarif_runs.specs.Placed.{AreReadWith, Placed};
 ghost use Rattle.sarif_runs.specs.Record.{record_of};
 ghost use Rattle.sarif_known.specs.Chosen.{Chosen};
 ghost use Rattle.sarif_known.specs.JustKnown.{StaysOut};
@@ -22,20 +22,22 @@ ghost use Rattle.sarif_known.specs.Laws.{AreAlike, AreKnownAgain, CanBeRead, IsO
 ghost use Rattle.sarif_known.specs.Selected.{known_of};
 ghost use Rattle.sarif_model.specs.Driver.{tool_name};
 
-/// What is known is read again: the known log is read without an error, and the records of its results are exactly
-/// those that were written, in their order. `known_text` ensures the premise.
+/// What is known is read again: the known log is read without an error, and the records of its results, read without
+/// regions, are exactly those that were written, in their order. `known_text` ensures the premise.
 pub fn what_is_known_is_read_again()
     ensures log { (allow : Bool) (runs : List Chosen) (text : List ℕ) → CanBeRead runs
         → json_of (without_mark text) ≡ Some (known_log runs)
         → log_of allow text ≡ Ok (map known_run runs) }
     ensures records { (runs : List Chosen) (placed : List Placed) → CanBeRead runs
-        → run_values placed ≡ map known_run runs → AreKnownAgain runs placed }
+        → AreReadWith false placed → run_values placed ≡ map known_run runs
+        → AreKnownAgain runs placed }
 {}
 
-/// Each result that was read can become known: its record is of its run's tool, and can be read again.
+/// Each result that was read without its region can become known: its record is of its run's tool, and can be read
+/// again.
 pub fn what_is_read_can_be_known()
     ensures { (allow : Bool) (bytes : List ℕ) (runs : List Data) (k seq : ℕ) (r : Record)
-        → log_of allow bytes ≡ Ok runs → record_of (slice_index_or runs k null) seq ≡ Ok r
+        → log_of allow bytes ≡ Ok runs → record_of false (slice_index_or runs k null) seq ≡ Ok r
         → IsOfTool (tool_name (slice_index_or runs k null)) r }
 {}
 

@@ -1,5 +1,5 @@
 -- What is read from a result depends on thirteen of its members.
-use Rattle.std.proofs.Common.{◌≡◌, ℕ, List, [], ◌∷◌, codes, refl, ap}
+use Rattle.std.proofs.Common.{◌≡◌, ℕ, Bool, true, false, List, [], ◌∷◌, codes, refl, ap}
 use Rattle.std.specs.Prelude.{Ok, Err, option_and_then, unwrap_or, if◌then◌else◌}
 use Rattle.serde_json.specs.Data.{Data}
 use Rattle.serde_json.specs.Find.{get, as_str, as_array, as_object}
@@ -7,10 +7,11 @@ use Rattle.sarif_model.specs.declared.fault.Fault.{Fault}
 use Rattle.sarif_model.specs.declared.fault.Fault.TheVariants.{AbsentInput, BadKind, BadLevel, BadGuid, BadFingerprint, BadSuppression, BadMember}
 use Rattle.sarif_model.specs.declared.kinds.Kind.TheVariants.{Fail}
 use Rattle.sarif_members.specs.Fingerprints.{pairs_at, pairs_of}
-use Rattle.sarif_model.specs.Members.{◌>>=◌, result_map, unless_null, member_at, of_kind, text_at, object_at, objects_at, itself_if_object, elements_of, if_objects, read_each}
+use Rattle.sarif_members.specs.Regions.{member_in, region_within, own_region}
+use Rattle.sarif_model.specs.Members.{◌>>=◌, first_of, result_map, unless_null, member_at, of_kind, text_at, object_at, objects_at, itself_if_object, elements_of, if_objects, read_each}
 use Rattle.sarif_members.specs.OwnMembers.{check_present, own_kind, as_kind, own_level, as_level, own_guid, as_guid, own_fingerprints, own_statuses, own_message, own_rule_id, own_message_and_rule, own_indexes, own_location, parts_of}
 use Rattle.sarif_read.specs.Internal.Picked.{picked}
-use Rattle.sarif_model.specs.Run.{is_absent_result, is_text}
+use Rattle.sarif_model.specs.Run.{elements_or_none, is_absent_result, is_text}
 use Rattle.sarif_model.specs.Suppression.{status_of}
 use Rattle.sarif_read.proofs.PickedMembers.{picked_get}
 
@@ -110,11 +111,17 @@ location_same : (x y : Data) → AreRecordedAlike x y → own_location x ≡ own
 unfolding own_location
 location_same x y same = rw (member_same (codes "locations") x y same.locations) refl
 
+region_same : (regions : Bool) (x y : Data) → AreRecordedAlike x y → own_region regions x ≡ own_region regions y
+region_same false x y same = refl
+region_same true x y same =
+    ap (λ l. region_within (member_in (codes "physicalLocation") (first_of (elements_or_none (option_and_then as_array l)))))
+    same.locations
+
 -- ---- all of them
 
-parts_same : (x y : Data) → AreRecordedAlike x y → parts_of x ≡ parts_of y
+parts_same : (regions : Bool) (x y : Data) → AreRecordedAlike x y → parts_of regions x ≡ parts_of regions y
 unfolding parts_of
-parts_same x y same =
+parts_same regions x y same =
     rw (
       present_same x y same,
       kind_same x y same,
@@ -125,6 +132,7 @@ parts_same x y same =
       said_same x y same,
       indexes_same x y same,
       location_same x y same,
+      region_same regions x y same,
     ) refl
 
 abbrev pub record_names : List (List ℕ)
@@ -155,5 +163,5 @@ pub absent_members : (x : Data) → is_absent_result (picked record_names x) ≡
 absent_members x = absent_same (picked record_names x) x (picked_alike x)
 
 -- a result's own members depend only on these members
-pub own_members : (x : Data) → parts_of (picked record_names x) ≡ parts_of x
-own_members x = parts_same (picked record_names x) x (picked_alike x)
+pub own_members : (regions : Bool) (x : Data) → parts_of regions (picked record_names x) ≡ parts_of regions x
+own_members regions x = parts_same regions (picked record_names x) x (picked_alike x)

@@ -1,2 +1,3 @@
 pub mod Fingerprints
 pub mod OwnMembers
+pub mod Regions

@@ -1,6 +1,6 @@
 -- A result's own members, each with a separate check, and all of them in the order of these checks (SARIF 2.1.0,
 -- "result object"). Missing members and null pass each check that does not say "must".
-use Rattle.std.specs.Prelude.{ℕ, List, [], Option, Some, None, Result, Ok, Err, codes, if◌then◌else◌, ⊤, option_and_then, unwrap_or}
+use Rattle.std.specs.Prelude.{ℕ, Bool, List, [], Option, Some, None, Result, Ok, Err, codes, if◌then◌else◌, ⊤, option_and_then, unwrap_or}
 use Rattle.std.specs.Option.{option_or}
 use Rattle.serde_json.specs.Data.{Data}
 use Rattle.serde_json.specs.Find.{as_str}
@@ -20,6 +20,7 @@ use Rattle.sarif_model.specs.Kind.{kind_named}
 use Rattle.sarif_model.specs.Level.{level_named}
 use Rattle.sarif_model.specs.Guid.{guid_of_text}
 use Rattle.sarif_members.specs.Fingerprints.{pairs_at}
+use Rattle.sarif_members.specs.Regions.{own_region}
 use Rattle.sarif_model.specs.Suppression.{status_of}
 use Rattle.sarif_model.specs.Run.{is_absent_result}
 use Rattle.sarif_model.specs.Members.{◌>>=◌, result_map, of_kind, member_at, text_at, object_at, elements_at, objects_at, index_at, if_there, first_of, if_object, read_each}
@@ -130,9 +131,10 @@ own_location result = do
   index ← index_within (codes "index") artifact
   Ok (record { uri = uri; base = base; artifact = index })
 
--- the members of a result, or its first error in the order of these checks
-unfoldable pub parts_of : Data → Result Parts Fault
-parts_of result = do
+-- the members of a result, or its first error in the order of these checks; its region and its snippet if regions are
+-- read
+unfoldable pub parts_of : Bool → Data → Result Parts Fault
+parts_of regions result = do
   _ ← check_present result
   kind ← own_kind result
   level ← own_level result
@@ -157,4 +159,6 @@ parts_of result = do
     full = fingerprints.full;
     partial = fingerprints.partial;
     held = held;
+    region = (own_region regions result).region;
+    snippet = (own_region regions result).snippet;
   })

@@ -9,6 +9,7 @@ mod fingerprints;
 mod indexes;
 mod location;
 mod message;
+mod region;
 mod suppressions;
 
 use crate::parts::Parts;
@@ -16,6 +17,7 @@ use fingerprints::read_fingerprints;
 use indexes::read_indexes;
 use location::read_location;
 use message::read_message_and_rule;
+use region::read_region;
 use sarif_model::members::member_at;
 use sarif_model::{Fault, Kind, Level, Refusal, read_guid};
 use sarif_read::is_marked_absent;
@@ -81,11 +83,17 @@ fn read_correlation_guid(result_value: &Value) -> Result<Option<u128>, Fault>
 /// `BadFingerprint` for `fingerprints` and `partialFingerprints`; `BadSuppression` for `suppressions`; `BadMember`
 /// for `message`, `ruleId`, `rule` and `provenance`; `BadIndex` for the indexes in `ruleIndex`, `rule` and
 /// `provenance`; `BadLocation` for the first of `locations`, then `BadIndex` for its artifact. Returns
-/// `OutOfMemory` instead of any of these except the first four if memory runs out.
+/// `OutOfMemory` instead of any of these except the first four if memory runs out. With `regions` the region and the
+/// snippet of the first location are read too; no result is rejected for them.
 #[tactic(auto, unfolding(crate::specs::OwnMembers::parts_of))]
-pub fn read_members(alloc: Global, result_value: &Value) -> Result<Parts, Refusal<Fault>>
-    ensures ok { IfOk result (λ parts. parts_of (seen result_value.now) ≡ Ok parts) }
-    ensures err { IfFault result (λ fault. parts_of (seen result_value.now) ≡ Err fault) }
+pub fn read_members(
+    alloc: Global,
+    result_value: &Value,
+    regions: bool,
+) -> Result<Parts, Refusal<Fault>>
+    ensures ok { IfOk result (λ parts. parts_of regions (seen result_value.now) ≡ Ok parts) }
+    ensures err { IfFault result
+        (λ fault. parts_of regions (seen result_value.now) ≡ Err fault) }
 {
     check_is_present(result_value)?;
     let kind = read_kind(result_value)?;
@@ -96,6 +104,7 @@ pub fn read_members(alloc: Global, result_value: &Value) -> Result<Parts, Refusa
     let said = read_message_and_rule(alloc, result_value)?;
     let indexes = read_indexes(result_value)?;
     let location = read_location(alloc, result_value)?;
+    let found = read_region(alloc, result_value, regions)?;
     Ok(Parts {
         kind,
         level,
@@ -111,5 +120,7 @@ pub fn read_members(alloc: Global, result_value: &Value) -> Result<Parts, Refusa
         full: fingerprints.full,
         partial: fingerprints.partial,
         held,
+        region: found.region,
+        snippet: found.snippet,
     })
 }

@@ -1,5 +1,5 @@
 //! A result's own members, without what its run says about it.
-use sarif_model::{Kind, Level, Message, Pairs, Sequence, Status, Text};
+use sarif_model::{Kind, Level, Message, Pairs, Region, Sequence, Status, Text};
 
 /// The members of a result that the merge reads (SARIF 2.1.0, "result object"). An index that is
 /// absent or -1 is `None`.
@@ -33,4 +33,8 @@ pub struct Parts {
     pub partial: Pairs,
     /// The statuses of `suppressions`, in order.
     pub held: Sequence<Status>,
+    /// The region of the first location, if it was read.
+    pub region: Option<Region>,
+    /// The text of the snippet of that region, if it was read.
+    pub snippet: Option<Text>,
 }

@@ -37,7 +37,7 @@ many : (p : Placed) (at : ℕ → At) (n a m : ℕ) → a + m ≡ length (result
 many p at n a zero all sound = sym (ap (λ ds. length (kept (skips p.source) ds)) (drop_all a (results_of p.run) (omega arith)))
 many p at n a (suc m) all sound =
     let rest = drop (a + 1) (results_of p.run) in
-    one (skips p.source && is_absent_result (result_at p.run a)) (record_of p.run a) at n (map (item_of p) (range_with_len (a + 1) m)) (result_at p.run a)
+    one (skips p.source && is_absent_result (result_at p.run a)) (record_of p.options.read_regions p.run a) at n (map (item_of p) (range_with_len (a + 1) m)) (result_at p.run a)
     (kept (skips p.source) rest) sound (many p at (n + 1) (a + 1) m (omega arith))
     ∙ sym (ap (λ ds. length (kept (skips p.source) ds)) (drop_more (results_of p.run) a null (omega arith)))
 

@@ -1,5 +1,5 @@
 -- What is read of a run doesn't depend on the external property files that it names.
-use Rattle.std.proofs.Common.{◌≡◌, ℕ, refl, codes}
+use Rattle.std.proofs.Common.{◌≡◌, ℕ, Bool, refl, codes}
 use Rattle.serde_json.specs.Data.{Data}
 use Rattle.sarif_model.specs.Run.{results_of}
 use Rattle.sarif_read.specs.Failed.{failed}
@@ -27,9 +27,9 @@ same_head run =
       member_beside (codes "externalPropertyFileReferences") (codes "invocations") run refl,
     ) refl
 
-pub same_record : (run : Data) (seq : ℕ) → record_of (without_files run) seq ≡ record_of run seq
+pub same_record : (regions : Bool) (run : Data) (seq : ℕ) → record_of regions (without_files run) seq ≡ record_of regions run seq
 unfolding record_of
-same_record run seq =
+same_record regions run seq =
     rw (
       same_head run,
       member_beside (codes "externalPropertyFileReferences") (codes "tool") run refl,

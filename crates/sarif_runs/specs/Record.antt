@@ -1,8 +1,9 @@
 -- The record of a result: its own members, and what its run says about it (SARIF 2.1.0, "result object").
-use Rattle.std.specs.Prelude.{ℕ, List, [], Option, Some, None, Result, Ok, option_map, unwrap_or}
+use Rattle.std.specs.Prelude.{ℕ, Bool, ◌||◌, List, [], Option, Some, None, Result, Ok, if◌then◌else◌, is_some, option_map, unwrap_or}
 use Rattle.serde_json.specs.Data.{Data}
 use Rattle.sarif_model.specs.declared.fault.Fault.{Fault}
 use Rattle.sarif_members.specs.declared.parts.Parts.{Parts}
+use Rattle.sarif_model.specs.declared.place.Place.{Place}
 use Rattle.sarif_model.specs.declared.record.Record.{Record}
 use Rattle.sarif_model.specs.Members.{◌>>=◌}
 use Rattle.sarif_members.specs.OwnMembers.{parts_of}
@@ -26,6 +27,10 @@ abbrev pub rule_id_of : List (List Rule) → Option (List ℕ) → Option Descri
 rule_id_of components (Some id) descriptor = id
 rule_id_of components None descriptor = unwrap_or (descriptor_id components descriptor) []
 
+-- a region or a snippet is that of an artifact: without a URI and a base there is none
+abbrev pub if_placed : {X : Type 0} → Place → Option X → Option X
+if_placed place found = if is_some place.uri || is_some place.base then found else None
+
 -- the record of a result with these own members, in a run with that head and that tool
 unfoldable pub record_by : RunHead → List ℕ → Parts → Result Record Fault
 record_by head tool parts = do
@@ -43,16 +48,17 @@ record_by head tool parts = do
     full = parts.full;
     partial = parts.partial;
     held = parts.held;
-    region = None;
-    snippet = None;
+    region = if_placed place parts.region;
+    snippet = if_placed place parts.snippet;
   })
 
--- the record of a result of a run with that head and that tool, or its first error
-unfoldable pub record_in : RunHead → List ℕ → Data → Result Record Fault
-record_in head tool result = parts_of result >>= record_by head tool
+-- the record of a result of a run with that head and that tool, or its first error; with its region and its snippet if
+-- regions are read
+unfoldable pub record_in : Bool → RunHead → List ℕ → Data → Result Record Fault
+record_in regions head tool result = parts_of regions result >>= record_by head tool
 
 -- the record of the result with that number, or the first error
-unfoldable pub record_of : Data → ℕ → Result Record Fault
-record_of run seq = do
+unfoldable pub record_of : Bool → Data → ℕ → Result Record Fault
+record_of regions run seq = do
   head ← head_of run
-  record_in head (tool_name run) (result_at run seq)
+  record_in regions head (tool_name run) (result_at run seq)

@@ -11,6 +11,7 @@ mod making;
 mod open;
 mod opened;
 mod reading;
+mod run_options;
 mod spots;
 mod whole;
 
@@ -22,5 +23,6 @@ pub use laws::external_files_change_no_record;
 pub use making::{copy_tool_name, make_record_of};
 pub use open::open_value;
 pub use opened::OpenedRun;
+pub use run_options::RunOptions;
 pub use spots::{Spot, list_spots};
 pub use whole::{make_record, open_run, read_parts};

@@ -3,32 +3,33 @@ ghost use Rattle.std.specs.Prelude.{◌≡◌, Ok, Err, IfOk};
 ghost use Rattle.serde_json.specs.View.{view};
 ghost use Rattle.sarif_model.specs.Internal.Refusal.{IfFault};
 ghost use Rattle.sarif_runs.specs.Reading.{Gives};
-ghost use Rattle.sarif_runs.specs.Record.{rule_id_of, record_by, record_in};
+ghost use Rattle.sarif_runs.specs.Record.{rule_id_of, if_placed, record_by, record_in};
 ghost use Rattle.sarif_model.specs.Driver.{tool_name};
 
 use crate::head::RunHead;
 use sarif_members::{Parts, read_members};
-use sarif_model::{Fault, Record, Refusal, Text, driver_name};
+use sarif_model::{Fault, Place, Record, Refusal, Text, driver_name};
 use serde_json::Value;
 use std::alloc::{AllocError, Global};
 
 /// Makes the record of a result of a run with that head and that tool (SARIF 2.1.0, "result object"). The errors
 /// are those of [`read_members`](sarif_members::read_members), and then `BadIndex` if the component, the rule, the
 /// invocation or, without a `uri`, the artifact is past the end of its table. Returns `OutOfMemory` if memory runs
-/// out.
+/// out. With `regions` the record has the region and the snippet of the first location, if that names an artifact.
 #[tactic(auto, unfolding(crate::specs::Record::record_in))]
 pub fn make_record_of(
     alloc: Global,
     head: &RunHead,
     tool: &Text,
     result_value: &Value,
+    regions: bool,
 ) -> Result<Record, Refusal<Fault>>
     ensures ok { IfOk result
-        (λ made. record_in head.now tool.now (view result_value.now) ≡ Ok made) }
+        (λ made. record_in regions head.now tool.now (view result_value.now) ≡ Ok made) }
     ensures err { IfFault result
-        (λ fault. record_in head.now tool.now (view result_value.now) ≡ Err fault) }
+        (λ fault. record_in regions head.now tool.now (view result_value.now) ≡ Err fault) }
 {
-    let parts = read_members(alloc, result_value)?;
+    let parts = read_members(alloc, result_value, regions)?;
     let tool = tool.clone()?;
     finish_record(alloc, head, tool, parts)
 }
@@ -41,6 +42,17 @@ pub fn copy_tool_name(alloc: Global, run: &Value) -> Result<Text, AllocError>
     match driver_name(run) {
         Some(name) => Text::copy_of(alloc, name),
         None => Text::copy_of(alloc, ""),
+    }
+}
+
+/// A region or a snippet of a result of that place: without a `uri` and a base there is none.
+fn keep_if_placed<T: Drop>(place: &Place, found: Option<T>) -> Option<T>
+    ensures { result ≡ if_placed place.now found }
+{
+    if place.uri.is_some() || place.base.is_some() {
+        found
+    } else {
+        None
     }
 }
 
@@ -58,6 +70,8 @@ fn finish_record(
     let level = head.level_with(&parts, descriptor)?;
     let place = head.place_with(parts.uri, parts.base, parts.artifact)?;
     let rule_id = head.rule_id(alloc, parts.rule_id, descriptor)?;
+    let region = keep_if_placed(&place, parts.region);
+    let snippet = keep_if_placed(&place, parts.snippet);
     Ok(Record {
         tool,
         rule_id,
@@ -69,7 +83,7 @@ fn finish_record(
         full: parts.full,
         partial: parts.partial,
         held: parts.held,
-        region: None,
-        snippet: None,
+        region,
+        snippet,
     })
 }

@@ -11,6 +11,7 @@ use crate::head::RunHead;
 use crate::item::Item;
 use crate::making::{copy_tool_name, make_record_of};
 use crate::open::open_value;
+use crate::run_options::RunOptions;
 use sarif_model::{Fault, FirstLocation, Refusal, RuleReference, Source, Text};
 use sarif_read::{IndexedRun, ReadMessage};
 use serde_json::Value;
@@ -25,8 +26,8 @@ pub struct OpenedRun<'t, 'a> {
     pub source: Source,
     /// Its number in its source, from 0.
     pub number: u32,
-    /// Whether its analysis must have been successful.
-    pub must_succeed: bool,
+    /// How it is read.
+    pub options: RunOptions,
     pub(crate) run: IndexedRun<'t, 'a>,
     pub(crate) tool: Text,
     pub(crate) head: Result<RunHead, Fault>,
@@ -63,7 +64,7 @@ impl<'t, 'a> OpenedRun<'t, 'a> {
     ghost use Rattle.sarif_model.specs.Run.{result_at, results_array, results_of};
 
     /// Opens run `number` of a source, which holds no number with a fraction. The tables of its head hash with
-    /// `seed`, on which no result depends. With `must_succeed` it is an error of the run that its analysis failed.
+    /// `seed`, on which no result depends. If the run must succeed, it is an error of it that its analysis failed.
     /// Returns `AllocError` if memory runs out. An error of the run is not returned; it is kept with the run (see
     /// `fault`).
     #[tactic(auto, using(crate::proofs::Beside::bare_head, crate::proofs::Beside::bare_tool_name))]
@@ -72,7 +73,7 @@ impl<'t, 'a> OpenedRun<'t, 'a> {
         seed: RandomState,
         source: Source,
         number: u32,
-        must_succeed: bool,
+        options: RunOptions,
         run: IndexedRun<'t, 'a>,
     ) -> Result<OpenedRun<'t, 'a>, AllocError>
         requires whole { has_float (run_of run) ≡ false }
@@ -80,7 +81,7 @@ impl<'t, 'a> OpenedRun<'t, 'a> {
             ≡ record {
               source = source;
               number = number;
-              must_succeed = must_succeed;
+              options = options;
               run = run_of run.entry;
             }) }
     {
@@ -89,7 +90,7 @@ impl<'t, 'a> OpenedRun<'t, 'a> {
         Ok(OpenedRun {
             source,
             number,
-            must_succeed,
+            options,
             run,
             tool,
             head,
@@ -103,7 +104,7 @@ impl<'t, 'a> OpenedRun<'t, 'a> {
     {
         match &self.head {
             Ok(_) => {
-                if self.must_succeed && self.has_failed() {
+                if self.options.must_succeed && self.has_failed() {
                     Some(Fault::NotSuccessful)
                 } else {
                     None
@@ -159,17 +160,17 @@ impl<'t, 'a> OpenedRun<'t, 'a> {
         self.run.result(alloc, seq)
     }
 
-    /// The item of this value as a result of the run: its record, or its first error. Returns `AllocError` if
-    /// memory runs out.
+    /// The item of this value as a result of the run: its record, with its region and its snippet if the options say
+    /// so, or its first error. Returns `AllocError` if memory runs out.
     pub fn item_of(&self, alloc: Global, found: &Value) -> Result<Item, AllocError>
-        ensures { IfOk result
-            (λ item. item ≡ record_item (placed_of self.now).run (view found.now)) }
+        ensures { IfOk result (λ item. item ≡ record_item (placed_of self.now).options.read_regions
+            (placed_of self.now).run (view found.now)) }
     {
         let head = match &self.head {
             Ok(head) => head,
             Err(fault) => return Ok(Item::Bad(*fault)),
         };
-        match make_record_of(alloc, head, &self.tool, found) {
+        match make_record_of(alloc, head, &self.tool, found, self.options.read_regions) {
             Ok(record) => Ok(Item::Sound(record)),
             Err(Refusal::Fault(fault)) => Ok(Item::Bad(fault)),
             Err(Refusal::OutOfMemory) => Err(AllocError),

@@ -29,30 +29,38 @@ pub fn open_run(alloc: Global, seed: RandomState, run: &RawRun) -> Result<RunHea
 
 /// The own members of result `seq` of `run`, numbered from 0 (SARIF 2.1.0, run object, "results property"), or its
 /// first error: the errors are those of [`read_members`](sarif_members::read_members), in the same order, and
-/// `OutOfMemory` if memory runs out.
-pub fn read_parts(alloc: Global, run: &RawRun, seq: u32) -> Result<Parts, Refusal<Fault>>
+/// `OutOfMemory` if memory runs out. With `regions` its region and its snippet are read too.
+pub fn read_parts(
+    alloc: Global,
+    run: &RawRun,
+    seq: u32,
+    regions: bool,
+) -> Result<Parts, Refusal<Fault>>
     requires { seq < length (results_of (view run.now)) }
-    ensures ok { IfOk result (λ parts. parts_of (result_at (view run.now) seq) ≡ Ok parts) }
-    ensures err { IfFault result (λ fault. parts_of (result_at (view run.now) seq) ≡ Err fault) }
+    ensures ok { IfOk result
+        (λ parts. parts_of regions (result_at (view run.now) seq) ≡ Ok parts) }
+    ensures err { IfFault result
+        (λ fault. parts_of regions (result_at (view run.now) seq) ≡ Err fault) }
 {
-    read_members(alloc, run.result(seq))
+    read_members(alloc, run.result(seq), regions)
 }
 
 /// Makes the record of result `seq` of a run, numbered from 0, with the head that was opened from that run and the
 /// name of the run's driver. The errors are those of [`make_record_of`](crate::make_record_of), including
-/// `BadIndex` and `OutOfMemory`.
+/// `BadIndex` and `OutOfMemory`. With `regions` the record has the region and the snippet of the result.
 #[tactic(auto, unfolding(crate::specs::Record::record_of))]
 pub fn make_record(
     alloc: Global,
     head: &RunHead,
     run: &RawRun,
     seq: u32,
+    regions: bool,
 ) -> Result<Record, Refusal<Fault>>
     requires opened { head_of (view run.now) ≡ Ok head.now }
     requires in_run { seq < length (results_of (view run.now)) }
-    ensures ok { IfOk result (λ made. record_of (view run.now) seq ≡ Ok made) }
-    ensures err { IfFault result (λ fault. record_of (view run.now) seq ≡ Err fault) }
+    ensures ok { IfOk result (λ made. record_of regions (view run.now) seq ≡ Ok made) }
+    ensures err { IfFault result (λ fault. record_of regions (view run.now) seq ≡ Err fault) }
 {
     let tool = copy_tool_name(alloc, run.value())?;
-    make_record_of(alloc, head, &tool, run.result(seq))
+    make_record_of(alloc, head, &tool, run.result(seq), regions)
 }

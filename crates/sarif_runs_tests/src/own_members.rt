@@ -15,7 +15,7 @@ fn read(alloc: Global, text: &str) -> Result<Result<Parts, Refusal<Fault>>, Fail
     let log = format!(in alloc; "{{\"version\":\"2.1.0\",\"runs\":[{run}]}}")?;
     let log = read_log(alloc, log.as_bytes(), false)?;
     match log.runs() {
-        [run] if run.len() == 1 => Ok(read_parts(alloc, run, 0)),
+        [run] if run.len() == 1 => Ok(read_parts(alloc, run, 0, true)),
         _ => Err(Fail::new("one result is wanted")),
     }
 }
@@ -120,6 +120,7 @@ fn is_empty(parts: &Parts) -> bool {
         && parts.uri.is_none()
         && parts.base.is_none()
         && parts.artifact.is_none();
+    let is_nowhere = parts.region.is_none() && parts.snippet.is_none();
     let is_no_twin = parts.guid.is_none()
         && parts.full.as_slice().is_empty()
         && parts.partial.as_slice().is_empty();
@@ -128,6 +129,7 @@ fn is_empty(parts: &Parts) -> bool {
         && parts.held.as_slice().is_empty()
         && names_nothing
         && points_nowhere
+        && is_nowhere
         && is_no_twin
 }
 

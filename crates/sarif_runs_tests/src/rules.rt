@@ -41,7 +41,7 @@ fn answer_in(alloc: Global, head: &RunHead, run: &RawRun) -> Result<Answer, Refu
     if run.len() == 0 {
         return Err(Refusal::Fault(Fault::NotLog));
     }
-    let parts = read_parts(alloc, run, 0)?;
+    let parts = read_parts(alloc, run, 0, false)?;
     answer_by(head, &parts)
 }
 
@@ -142,7 +142,7 @@ fn record_of(alloc: Global, seed: RandomState, run: &RawRun) -> Result<Record, R
     if run.len() == 0 {
         return Err(Refusal::Fault(Fault::NotLog));
     }
-    make_record(alloc, &head, run, 0)
+    make_record(alloc, &head, run, 0, false)
 }
 
 const BY_INDEX_OR_ID: &str =

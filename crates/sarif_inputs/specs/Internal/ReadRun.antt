@@ -8,6 +8,6 @@ placed_read read =
     record {
       source = read.source;
       number = read.number;
-      must_succeed = read.must_succeed;
+      options = read.options;
       run = run_of read.run;
     }

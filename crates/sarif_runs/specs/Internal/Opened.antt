@@ -8,6 +8,6 @@ placed_of opened =
     record {
       source = opened.source;
       number = opened.number;
-      must_succeed = opened.must_succeed;
+      options = opened.options;
       run = run_of opened.run;
     }

@@ -9,7 +9,13 @@ use Rattle.sarif_runs.specs.Placed.{Placed}
 
 -- stands past the end of a list of runs
 abbrev pub no_run : Placed
-no_run = record { source = Output; number = 0; must_succeed = false; run = null }
+no_run =
+    record {
+      source = Output;
+      number = 0;
+      options = record { must_succeed = false; read_regions = false };
+      run = null;
+    }
 
 abbrev pub placed_at : List Placed → ℕ → Placed
 placed_at runs k = slice_index_or runs k no_run

@@ -5,7 +5,7 @@ use Rattle.std.proofs.lemmas.Grind.{common_steps}
 use Rattle.std.proofs.lemmas.List.{map-append}
 use Rattle.sarif_read.specs.Internal.Indexed.{run_of}
 use Rattle.sarif_runs.specs.Placed.{Placed}
-use Rattle.sarif_inputs.specs.Inputs.{must_succeed, placed_from}
+use Rattle.sarif_inputs.specs.Inputs.{placed_from, run_options}
 use Rattle.sarif_inputs.specs.Internal.ReadRun.{placed_read}
 use Rattle.sarif_inputs.proofs.SourceRuns.{placed_more, whole_at}
 use Rattle.sarif_inputs.proofs.sources.place_runs.Goals as goal
@@ -17,7 +17,7 @@ loop-run-preserved c =
     let vs = c.loop-run.yielded in
     let before = map placed_read c.args.all.now.items in
     let found = c.new-read.result in
-    let one : ℕ → List Placed = λ n. record { source = source; number = n; must_succeed = must_succeed c.args.checks source; run = run_of run } ∷ [] in
+    let one : ℕ → List Placed = λ n. record { source = source; number = n; options = run_options c.args.checks source; run = run_of run } ∷ [] in
     let rest : c.loop-run.run-iterator.rest.items ≡ run ∷ c.next.new.self.rest.items = search rules in
     record {
       parts = grind (arith, common_steps, rest);
@@ -26,7 +26,7 @@ loop-run-preserved c =
           ap (map placed_read) c.in_ok-push.ensures.items
           ∙ map-append placed_read c.loop-run.all.items (found ∷ [])
           ∙ ap (λ p. map placed_read c.loop-run.all.items ++ p ∷ []) c.new-read.ensures.placed
-          ∙ ap (λ b. map placed_read c.loop-run.all.items ++ record { source = source; number = c.loop-run.number; must_succeed = b; run = run_of run } ∷ []) c.must_succeed.ensures
+          ∙ ap (λ o. map placed_read c.loop-run.all.items ++ record { source = source; number = c.loop-run.number; options = o; run = run_of run } ∷ []) c.run_options.ensures
           ∙ ap (λ ps. ps ++ one c.loop-run.number) c.loop-run.invariant.placed
           ∙ append_assoc before (placed_from c.args.checks source 0 (map run_of vs)) (one c.loop-run.number)
           ∙ ap (λ n. before ++ (placed_from c.args.checks source 0 (map run_of vs) ++ one n)) c.loop-run.invariant.number

@@ -5,5 +5,5 @@ use Rattle.sarif_known.proofs.laws.what_is_known_is_read_again.Goals as goal
 pub returns : goal.returns
 returns c = record {
   log = λ allow runs text can is. log_back allow runs text can is;
-  records = λ runs placed can are. known_again runs placed are can.each can.few_results;
+  records = λ runs placed can alike are. known_again runs placed alike are can.each can.few_results;
 }
