@@ -15,14 +15,14 @@ _sarif_gate() {
         mapfile -t COMPREPLY < <(compgen -W 'error warning note none' -- "$word")
         return
         ;;
-    --today | --states | --max | --root | --reason | --until | --workers)
+    --today | --states | --max | --root | --show | --reason | --until | --workers)
         return
         ;;
     esac
     if [[ $word == -* ]]; then
         mapfile -t COMPREPLY < <(compgen -W '--baseline --suppress --today --require-success --allow-external-properties
-            --fail-on --states --max --out --root --text --github --markdown --gitlab --html
-            --junit --azure --unused --accept --prune --reason --until --adopt
+            --fail-on --states --max --out --root --show --text --github --markdown --gitlab
+            --html --junit --azure --unused --accept --prune --reason --until --adopt
             --suppress-out --known --workers --explain --help -h --version -V' -- "$word")
         return
     fi

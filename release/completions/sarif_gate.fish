@@ -11,6 +11,7 @@ complete -c sarif_gate -l states -x -d 'States of hits and reported results, joi
 complete -c sarif_gate -l max -x -d 'Allow up to NUMBER hits, from 0 to 4294967295'
 complete -c sarif_gate -l out -r -F -d 'Write the merged log to FILE'
 complete -c sarif_gate -l root -x -d 'Prefix to strip from paths in reports, for example file:///builds/app/'
+complete -c sarif_gate -l show -x -d 'Which results reports show: hits (only the hits) or all'
 complete -c sarif_gate -l text -r -F -d 'Write one line per reported result, for people, editors and problem matchers'
 complete -c sarif_gate -l github -r -F -d 'Write one workflow command of GitHub Actions per reported result'
 complete -c sarif_gate -l markdown -r -F -d 'Write the verdict, the counts and a table, for job summaries and comments'

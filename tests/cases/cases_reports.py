@@ -41,6 +41,7 @@ class Reporting(Case):
 
     def of_policy(self):
         words = ["--fail-on", self.policy.fail_on, "--max", str(self.policy.max)]
+        words += ["--show", "hits"] * (self.policy.show == "hits")
         return words + [word for root in self.policy.roots() for word in ("--root", root) if root]
 
     @cached_property
@@ -184,6 +185,18 @@ def hostile_logs():
     yield strange("a log beside itself", [alike], baselines=[alike, hostile.placed()])
 
 
+def only_hits():
+    """Reports that show only the hits."""
+    for name, given in (("each level and kind", hostile.levelled()), ("results that look alike", hostile.alike())):
+        for fail_on in ("error", "warning", "note", "none"):
+            policy = Policy(fail_on, 1, show="hits")
+            yield strange(f"{name}, only hits from {fail_on}", given, policy=policy)
+    for count in (1, 200, 201, 10_203):
+        policy = Policy("warning", show="hits")
+        yield Reporting("many", f"the hits of {count} results", logs=[hostile.scattered(count)], policy=policy)
+    yield of_examples("the hits of two logs", [CLANG, BANDIT], BEFORE[:1], policy=Policy("error", show="hits"))
+
+
 def many():
     for count in (0, 1, 199, 200, 201, 202, 10_000, 10_001, 10_203):
         policy = Policy("warning", count // 2)
@@ -208,7 +221,7 @@ def drawn(seed, count):
         before = [logs[0]] * (rng.random() < 0.2) + [makes.log()] * (rng.random() < 0.2)
         root = rng.choice(["", "", ROOT_FOLDER, "a", "%", "./", ("a", ROOT_FOLDER), ("", "src/")])
         level = rng.choice(["error", "warning", "note", "none"])
-        policy = Policy(level, rng.choice([0, 1, 4]), root=root)
+        policy = Policy(level, rng.choice([0, 1, 4]), root=root, show="hits" if number % 4 == 3 else "all")
         name = f"seed {seed}, number {number}"
         yield Reporting("drawn", name, logs=logs, baselines=before, policy=policy)
 
@@ -237,6 +250,6 @@ def of_rows():
 
 
 def cases(seed=1, count=200):
-    for part in (of_rows, examples, hostile_logs, many, scattered):
+    for part in (of_rows, examples, hostile_logs, only_hits, many, scattered):
         yield from part()
     yield from drawn(seed, count)

@@ -327,6 +327,7 @@ def of_lines():
     wanted = {"text": MIXED_TEXT, "github": MIXED_GITHUB, "gitlab": order}
     yield report("hits come first in lines, and GitLab's report has the order of the log", given, wanted, status=1)
     yield worst_first()
+    yield from only_hits()
 
 
 def worst_first():
@@ -353,6 +354,42 @@ def worst_first():
     }
     given = log(run("lint", *made), run("other", other))
     return report("the worst level comes first", given, wanted, ["--fail-on", "warning"], status=1)
+
+
+def only_hits():
+    """Reports show only the hits."""
+    results = [("note", "one"), ("error", "two"), ("warning", "three"), ("error", "four")]
+    made = [{"level": level, "ruleId": "R1", **said(it), **placed("a.c")} for level, it in results]
+    other = {"level": "error", "ruleId": "R1", **said("five"), **placed("a.c")}
+    lines = "".join(WORST_TEXT.splitlines(keepends=True)[:3])
+    not_shown, hits = "2 other results aren't shown.", ["--show", "hits"]
+    no_cells = ("<td>three</td>", "<td>one</td>")
+    wanted = {
+        "text": lines,
+        "github": "".join(WORST_GITHUB.splitlines(keepends=True)[:3]),
+        "azure": has("]two (", "]four (", "]five (", without=("]three (", "]one (")),
+        "junit": has('<testsuites name="sarif_gate" tests="3" failures="3">\n', without=('"three"', '"one"')),
+        "gitlab": has('"two"', '"four"', '"five"', without=('"three"', '"one"')),
+        "markdown": both(ends(f"\n{not_shown}\n", table=3, hits=3), has(without=("three", "<code>one</code>"))),
+        "html": has(*(f"<td>{it}</td>" for it in ("two", "four", "five")), f'<p class="mind">{not_shown}</p>', without=no_cells),
+    }
+    given = log(run("lint", *made), run("other", other))
+    yield report("only hits are shown", given, wanted, hits, status=1)
+    every = {"text": WORST_TEXT, "markdown": has("three", without=("shown",)), "html": has("three", without=("shown.",))}
+    yield report("all results are shown", given, every, ["--show", "all", "--fail-on", "error"], status=1)
+    one, none = "1 other result isn't shown.", "No results are reported."
+    wanted = {
+        "text": "",
+        "github": "",
+        "azure": "",
+        "gitlab": "[]",
+        "junit": has('<testcase name="gate" classname="sarif_gate"/>\n'),
+        "markdown": ends(f"| absent | 0 | 0 | 0 | 0 | 0 |\n\n{one}\n"),
+        "html": has(f'<p class="mind">{one}</p>\n', without=(none, "<section")),
+    }
+    yield report("no hit is there to show", log(run("lint", made[2])), wanted, hits)
+    wanted = {"markdown": has(without=("shown",)), "html": has(none, without=("shown.",))}
+    yield report("nothing is reported, and only hits are to be shown", log(), wanted, hits)
 
 
 # ---- One log in all reports
@@ -598,7 +635,7 @@ def of_junit():
 HOSTILE_ROWS = (
     '<tr data-level="error" data-state="new" data-hit="yes"><th scope="row"><code>&lt;/<wbr>th&gt;/<wbr>a.c<b>:1</b>'
     "</code></th><td><span>error</span></td><td>&lt;/td&gt;&lt;script&gt;alert(&quot;1&quot;)&lt;/script&gt; &amp; "
-    '&#39;x&#39;</td><td><a href="https://e.org/?a=1&amp;b=&quot;2&quot;" rel="noopener noreferrer"><code>R&lt;1&gt;'
+    '&#39;x&#39;</td><td><a href="https://e.org/?a=1&amp;b=(2)" rel="noopener noreferrer"><code>R&lt;1&gt;'
     "</code></a></td><td>new</td><td>T</td></tr>\n",
     '<tr data-level="note" data-state="updated" data-hit="no"><th scope="row"><code>a.c<b>:2</b></code></th><td><span>'
     "note</span></td><td>m</td><td><code>R2</code></td><td>updated</td><td>T</td></tr>\n",
@@ -623,7 +660,7 @@ def counts(piece, number):
 
 def of_pages():
     script, old = '</td><script>alert("1")</script> & \'x\'', {"ruleIndex": 1, "correlationGuid": GUID}
-    helps = ['https://e.org/?a=1&b="2"', "javascript:alert(1)"]
+    helps = ["https://e.org/?a=1&b=(2)", "javascript:alert(1)"]
     named = [{"helpUri": uri, "id": name} for uri, name in zip(helps, ("R<1>", "R2"))]
     tool = {"driver": {"name": "T", "rules": named}}
     results = [
@@ -634,6 +671,7 @@ def of_pages():
     wanted, given = has(*HOSTILE_ROWS, without=["<script", "javascript:"]), log({"tool": tool, "results": results})
     yield report("the page: strings of a log stay in their cells", given, {"html": wanted}, baselines=[before], status=1)
     yield by_file()
+    yield from linked()
     first = lambda report: [f"it begins with {report[:20]!r}"] * (not report.startswith("<!DOCTYPE html>"))
     gone = ["<section", "<nav", "<input", 'class="mind"']
     title = "<title>Gate: pass, 0 hits, 0 allowed</title>"
@@ -644,6 +682,29 @@ def of_pages():
         wanted = has(f"<p>A hit is a {reason}</p>")
         yield report(f"the page: the reason for {states} from {fail_on}", log(), {"html": wanted}, more)
     yield from allowed()
+
+
+# Each address, and whether a rule links to it.
+ADDRESSES = [
+    *((it, True) for it in ("https://e.org", "http://e/a?b=1&c=2#d", "https://e.org/a_(b)", "https://e.org/" + "a" * 986)),
+    *((it, True) for it in ("http://a.B-c_9:80", "https://e?q", "https://e#/~@!&()*+,;=%20?#", "https://e/#a#b")),
+    *((it, False) for it in ("https://", "https:///x", "https://e.org/a b", 'https://e.org/"', "https://e.org/'")),
+    *((it, False) for it in ("https://e.org/|", "https://e.org/`", "https://e.org/$x$", "https://e.org/<b>")),
+    *((it, False) for it in ("https://e.org/[b]", "https://e.org/\u00e4", "https://u@e.org/", "https://e.org/##")),
+    *((it, False) for it in ("javascript:alert(1)", "HTTPS://e.org", "//e.org", 5, "https://e.org/" + "a" * 987)),
+    *((it, False) for it in ("https://e.org\\a", "https://?a", "https://e.org~", "http:/e.org", "https://e.org/^", "")),
+]
+
+
+def linked():
+    """A rule is a link exactly if its page has an address."""
+    for number, (uri, is_link) in enumerate(ADDRESSES):
+        tool = {"driver": {"name": "T", "rules": [{"id": "R", "helpUri": uri}]}}
+        given = log({"tool": tool, "results": [note(ruleIndex=0, **said("m"))]})
+        cell = "<td><code>R</code></td>"
+        if is_link:
+            cell = f'<td><a href="{uri.replace("&", "&amp;")}" rel="noopener noreferrer"><code>R</code></a></td>'
+        yield report(f"the page: address {number}, {str(uri)[:30]!r}", given, {"html": has(cell)})
 
 
 def by_file():

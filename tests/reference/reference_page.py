@@ -4,7 +4,7 @@ It follows crates/sarif_page/README.md sentence by sentence, and takes the repor
 `reference_reports.Reports`. It shares no code with the program.
 """
 
-from reference_reports import LEVELS, MOST_PAGE_ROWS, STATES, accept_line
+from reference_reports import LEVELS, MOST_PAGE_ROWS, STATES, accept_line, unshown_line
 
 FALLING = tuple(reversed(LEVELS))
 LEVELS_FROM = {
@@ -111,13 +111,14 @@ class PageOf:
         return [(name, heading, [row_of(it) for it in rows]) for name, heading, rows in found if rows]
 
     def rest(self):
-        """The line after the tables, or none."""
+        """The lines after the tables, as many as there are."""
+        unshown = [unshown_line(self.reports.unshown)] * (self.reports.unshown > 0)
         if not self.reports.results:
-            return ["No results are reported."]
+            return unshown or ["No results are reported."]
         number = len(self.reports.results) - len(self.rows)
         hits = len(self.hits) - len(self.hit_rows)
         accept = [accept_line(self.reports.hits(), "{}")] * (self.reports.hits() > 0)
-        return [more_text(number, hits)] * (number > 0) + accept
+        return [more_text(number, hits)] * (number > 0) + unshown + accept
 
 
 def row_of(it):

@@ -2,7 +2,7 @@
 """The reports of a merged log, in plain Python, for tests/program/reports.
 
 tests/reference/reference_reports.py text|github|markdown|gitlab|junit|azure [--fail-on L] [--max N] [--states LIST]
-    [--root PREFIX].. LOG
+    [--root PREFIX].. [--show hits|all] LOG
 
 It follows the chapter on reports in docs/formats.md and crates/sarif_reports/README.md sentence by sentence. Its
 only inputs are the finished merged log and the policy. It shares no code with the program, so that a mistake in either shows as a difference.
@@ -30,12 +30,13 @@ LARGEST = 2**32 - 1
 
 @dataclass
 class Policy:
-    """The policy of the gate, and the prefixes to strip from paths: one, or several in a tuple."""
+    """The policy of the gate, the prefixes to strip from paths (one, or several in a tuple), and what reports show."""
 
     fail_on: str = "error"
     max: int = 0
     states: tuple = ("new", "updated")
     root: object = ""
+    show: str = "all"
 
     def roots(self):
         return (self.root,) if isinstance(self.root, str) else tuple(self.root)
@@ -289,10 +290,16 @@ def reported(found, policy):
 
 
 def link_of(found):
-    """The help page of the rule, if there is a rule and the address can be shown."""
+    """The help page of the rule, if there is a rule and its page has an address."""
     uri = a_text(at(found.descriptor, "helpUri")) or ""
-    is_fit = uri.startswith(("https://", "http://")) and shown(uri) == uri
-    return uri if is_fit and found.rule() else None
+    return uri if is_address(uri) and found.rule() else None
+
+
+ADDRESS = re.compile(r"https?://[A-Za-z0-9.:_-]+(?:[/?#][A-Za-z0-9.:_/?#~@!&()*+,;=%-]*)?")
+
+
+def is_address(text):
+    return len(text) <= MOST_CHARACTERS and "##" not in text and bool(ADDRESS.fullmatch(text))
 
 
 @dataclass
@@ -303,16 +310,19 @@ class Reports:
     policy: Policy
     found: list = field(init=False)
     results: list = field(init=False)
+    unshown: int = field(init=False)
 
     def __post_init__(self):
         self.found = [
             Found(run, result) for run in self.log["runs"] for result in run.get("results", [])
         ]
-        self.results = [
+        every = [
             reported(it, self.policy)
             for it in self.found
             if it.is_active() and it.state in self.policy.states
         ]
+        self.results = [it for it in every if it.is_hit or self.policy.show == "all"]
+        self.unshown = len(every) - len(self.results)
 
     def hits(self):
         return sum(it.is_hit for it in self.results)
@@ -329,7 +339,7 @@ class Reports:
         return counted
 
     def listed(self):
-        """The reported results in the order of reports: the hits first, and of each the worst level first."""
+        """The shown results in the order of reports: the hits first, and of each the worst level first."""
         return sorted(self.results, key=lambda it: (not it.is_hit, -LEVELS.index(it.level)))
 
     def text(self):
@@ -348,6 +358,7 @@ class Reports:
             rows = self.markdown_rows()
             others = self.listed()[len(rows) :]
             lines += rows + ["", more_line(others)] * bool(others)
+        lines += ["", unshown_line(self.unshown)] * bool(self.unshown)
         lines += ["", accept_line(self.hits())] * bool(self.hits())
         return "".join(f"{line}\n" for line in lines).encode()
 
@@ -426,7 +437,7 @@ class Reports:
         ]
 
     def others(self):
-        """The number of reported results that the page leaves out."""
+        """The number of shown results that the page leaves out."""
         return max(0, len(self.results) - MOST_PAGE_ROWS)
 
 
@@ -447,6 +458,11 @@ def more_line(others):
         return f"{noun} {'is' if number == 1 else 'are'} in the merged log."
     them = "1 of them a hit." if hits == 1 else f"{hits} of them hits."
     return f"{number} more results are in the merged log, {them}"
+
+
+def unshown_line(number):
+    """The line on reported results that are not shown."""
+    return "1 other result isn't shown." if number == 1 else f"{number} other results aren't shown."
 
 
 def accept_line(hits, command="`{}`"):
@@ -609,9 +625,10 @@ def main(words):
     about.add_argument("--max", type=int, default=0)
     about.add_argument("--states", default="new,updated")
     about.add_argument("--root", action="append", default=[])
+    about.add_argument("--show", choices=("hits", "all"), default="all")
     given = about.parse_args(words)
     states = tuple(given.states.split(","))
-    policy = Policy(given.fail_on, given.max, states, tuple(given.root))
+    policy = Policy(given.fail_on, given.max, states, tuple(given.root), given.show)
     with open(given.log, "rb") as source:
         reports = Reports(json.load(source), policy)
     sys.stdout.buffer.write(getattr(reports, given.report)())

@@ -8,7 +8,7 @@ use Rattle.sarif_model.specs.declared.kinds.State.{State}
 use Rattle.sarif_findings.specs.declared.finding.Finding.{Finding}
 use Rattle.sarif_findings.specs.declared.reporting.Reporting.{Reporting}
 use Rattle.sarif_findings.specs.Lookup.{elements_in}
-use Rattle.sarif_findings.specs.Reported.{reported_of, reported_in, finding_if, finding_by, finding_of, is_reported, level_in, state_in}
+use Rattle.sarif_findings.specs.Reported.{reported_of, reported_in, finding_if, finding_by, finding_of, is_shown, level_in, state_in}
 
 module _ (P : Finding → Type 0) (reporting : Reporting) (any : (run result : Data) (l : Level) (s : State) → P (finding_of reporting run result l s)) where
   chosen : (b : Bool) (f : Finding) → P f → IfSome (if b then Some f else None) P
@@ -18,7 +18,7 @@ module _ (P : Finding → Type 0) (reporting : Reporting) (any : (run result : D
   found : (run result : Data) (ol : Option Level) (os : Option State) → IfSome (finding_by reporting run result ol os) P
   found run result None os = tt
   found run result (Some l) None = tt
-  found run result (Some l) (Some s) = chosen (is_reported reporting result s) (finding_of reporting run result l s) (any run result l s)
+  found run result (Some l) (Some s) = chosen (is_shown reporting result l s) (finding_of reporting run result l s) (any run result l s)
 
   one_more : (o : Option Finding) (fs : List Finding) → IfSome o P → AllByRecursion P fs → AllByRecursion P (cons_option o fs)
   one_more None fs h rest = rest

@@ -8,6 +8,7 @@ pub mod EachFinding
 pub mod EmptiesPassed
 pub mod FirstChar
 pub mod HighBytes
+pub mod HitsAlone
 pub mod HitsCounted
 pub mod HitsReported
 pub mod LinksMore

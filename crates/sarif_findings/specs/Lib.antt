@@ -1,3 +1,4 @@
+pub mod Address
 pub mod Finding
 pub mod Internal
 pub mod Links

@@ -1,7 +1,7 @@
--- The reported results of a merged log, in the order of the log: the active results whose baseline state the
--- policy lists.
-use Rattle.std.specs.Prelude.{ℕ, Bool, not, ◌&&◌, ◌||◌, nat_eq, bytes_eq, List, [], ◌∷◌, Option, Some, None, codes, chars, flat_map, option_and_then, if◌then◌else◌}
-use Rattle.std.specs.List.{filter_map, starts_with}
+-- The shown results of a merged log, in the order of the log: the active results whose baseline state the policy lists
+-- (the reported results), or only the hits among them.
+use Rattle.std.specs.Prelude.{ℕ, Bool, true, not, ◌&&◌, List, [], ◌∷◌, Option, Some, None, codes, chars, flat_map, option_and_then, if◌then◌else◌}
+use Rattle.std.specs.List.{filter_map}
 use Rattle.serde_json.specs.Data.{Data}
 use Rattle.sarif_model.specs.declared.kinds.Level.{Level}
 use Rattle.sarif_model.specs.declared.kinds.State.{State}
@@ -12,8 +12,11 @@ use Rattle.sarif_model.specs.Level.{is_at_least}
 use Rattle.sarif_model.specs.Members.{text_in, none_if_empty}
 use Rattle.sarif_options.specs.Policy.{is_listed}
 use Rattle.sarif_counts.specs.CountOf.{suppressions_in, suppresses}
+use Rattle.sarif_findings.specs.Address.{is_address}
 use Rattle.sarif_findings.specs.declared.finding.Finding.{Finding}
 use Rattle.sarif_findings.specs.declared.reporting.Reporting.{Reporting}
+use Rattle.sarif_findings.specs.declared.reporting.Show.{Show}
+use Rattle.sarif_findings.specs.declared.reporting.Show.TheVariants.{Hits, All}
 use Rattle.sarif_findings.specs.Lookup.{elements_in, rule_id, help_uri, uri_of, position_in}
 use Rattle.sarif_findings.specs.Message.{message_of}
 use Rattle.sarif_findings.specs.PathOf.{path_chars}
@@ -55,14 +58,9 @@ abbrev pub column_in : Reporting → Data → Data → Option ℕ
 column_in reporting run result =
     only_with (line_in reporting run result) (position_in (codes "startColumn") result)
 
--- whether an address is one of the web, all of whose characters are shown
-abbrev pub is_link : List ℕ → Bool
-is_link uri =
-    (starts_with nat_eq uri (codes "https://") || starts_with nat_eq uri (codes "http://"))
-    && bytes_eq (shown (chars uri)) uri
-
+-- what reports link to, if it is an address
 abbrev pub link_of : List ℕ → Option (List ℕ)
-link_of uri = if is_link uri then Some uri else None
+link_of uri = if is_address uri then Some uri else None
 
 abbrev pub help_in : Data → Data → Option (List ℕ)
 help_in run result = option_and_then link_of (help_uri run result)
@@ -82,15 +80,26 @@ finding_of reporting run result level state = record {
   hit = is_at_least reporting.policy.fail_on level;
 }
 
-abbrev pub is_reported : Reporting → Data → State → Bool
-is_reported reporting result state = is_listed reporting.policy.states state && is_active result
+-- whether a reported result is shown that is a hit, or is none
+abbrev pub is_among : Show → Bool → Bool
+is_among Hits hit = hit
+is_among All hit = true
 
--- a result of a merged log has a level and a state; a result without one of them is not reported
+-- whether active results of this state and level are shown
+abbrev pub are_shown : Reporting → State → Level → Bool
+are_shown reporting state level =
+    is_listed reporting.policy.states state
+    && is_among reporting.show (is_at_least reporting.policy.fail_on level)
+
+abbrev pub is_shown : Reporting → Data → Level → State → Bool
+is_shown reporting result level state = are_shown reporting state level && is_active result
+
+-- a result of a merged log has a level and a state; a result without one of them is not shown
 abbrev pub finding_by : Reporting → Data → Data → Option Level → Option State → Option Finding
 finding_by reporting run result None state = None
 finding_by reporting run result (Some level) None = None
 finding_by reporting run result (Some level) (Some state) =
-    if is_reported reporting result state
+    if is_shown reporting result level state
     then Some (finding_of reporting run result level state) else None
 
 abbrev pub finding_if : Reporting → Data → Data → Option Finding

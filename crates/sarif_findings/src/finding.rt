@@ -21,7 +21,7 @@ pub struct Finding {
     /// `region.startColumn` of its first location, from 1, in the unit of the log; `None` if it is missing or
     /// there is no line.
     pub column: Option<u32>,
-    /// The address of a page on the rule, its `helpUri`, as it is in the log.
+    /// The address of a page on the rule: its `helpUri`, if reports may link to it.
     pub help: Option<Text>,
     /// Whether the gate counts it: its level is at least that of the policy.
     pub hit: bool,

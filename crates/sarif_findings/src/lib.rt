@@ -2,6 +2,7 @@
 //! merge doesn't make.
 #![tactic(auto)]
 
+mod address;
 mod arguments;
 mod artifacts;
 mod brackets;
@@ -27,7 +28,7 @@ mod whole;
 pub use finding::Finding;
 pub use named_run::NamedRun;
 pub use reported_results::finding_of;
-pub use reporting::Reporting;
+pub use reporting::{Reporting, Show};
 pub use shown_text::{MOST_CHARACTERS, show_text};
 pub use told_result::ToldResult;
 pub use whole::findings_in_log;

@@ -6,29 +6,19 @@ ghost use Rattle.sarif_findings.specs.Shown.{shown as text_shown};
 ghost use Rattle.sarif_findings.specs.Reported as said;
 ghost use Rattle.sarif_findings.specs.Internal.Subject.{IsDescribed};
 
+use crate::address::is_address;
 use crate::finding::Finding;
 use crate::lookup::{help_uri, rule_id};
 use crate::message::push_message;
 use crate::named_run::NamedRun;
 use crate::reporting::Reporting;
-use crate::shown_text::{ShownText, show_text, shown_copy};
+use crate::shown_text::{ShownText, shown_copy};
 use crate::spot::{ShownPlace, spot_of};
 use crate::subject::Subject;
 use crate::told_result::ToldResult;
 use sarif_model::{Level, State, Text};
 use serde_json::Value;
 use std::alloc::{AllocError, Global};
-
-/// Whether an address is one of the web, all of whose characters are shown.
-fn is_link(alloc: Global, uri: &str) -> Result<bool, AllocError>
-    ensures { IfOk result (λ b. b ≡ said.is_link uri.now) }
-{
-    if uri.starts_with("https://") || uri.starts_with("http://") {
-        let shown = show_text(alloc, uri)?;
-        return Ok(shown.as_str() == uri);
-    }
-    Ok(false)
-}
 
 /// The address of a page on a result's rule, where it can be a link.
 fn help_in(alloc: Global, subject: &Subject<'_>) -> Result<Option<Text>, AllocError>
@@ -39,7 +29,7 @@ fn help_in(alloc: Global, subject: &Subject<'_>) -> Result<Option<Text>, AllocEr
     let Some(uri) = help_uri(subject) else {
         return Ok(None);
     };
-    if is_link(alloc, uri)? {
+    if is_address(uri) {
         return Ok(Some(Text::copy_of(alloc, uri)?));
     }
     Ok(None)

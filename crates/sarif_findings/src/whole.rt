@@ -66,7 +66,7 @@ fn finding_of_whole(
     finding_of(alloc, reporting, run, &told, level, state)
 }
 
-/// The finding of a result of a run, if it is reported. Nothing more is read from a result that is not reported.
+/// The finding of a result of a run, if it is shown. Nothing more is read from a result that is not shown.
 fn finding_if(
     alloc: Global,
     reporting: &Reporting,
@@ -81,14 +81,14 @@ fn finding_if(
     let Some(state) = state_in(found) else {
         return Ok(None);
     };
-    if !reporting.policy.states.lists(state) || !is_active(found) {
+    if !reporting.shows(state, level) || !is_active(found) {
         return Ok(None);
     }
     let finding = finding_of_whole(alloc, reporting, run, found, level, state)?;
     Ok(Some(finding))
 }
 
-/// Adds the findings of the reported results among these results of a run.
+/// Adds the findings of the shown results among these results of a run.
 fn push_told(
     alloc: Global,
     findings: &mut Vec<Finding>,
@@ -107,7 +107,7 @@ fn push_told(
     Ok(())
 }
 
-/// Adds the findings of the reported results of a run.
+/// Adds the findings of the shown results of a run.
 fn push_reported(
     alloc: Global,
     findings: &mut Vec<Finding>,
@@ -128,8 +128,8 @@ fn push_reported(
     Ok(())
 }
 
-/// Returns the findings of the reported results, in the order of this merged log: the active results whose
-/// baseline state is in the policy. A reported result is a hit if its level is at least the policy's level.
+/// Returns the findings of the shown results, in the order of this merged log: the active results whose baseline state
+/// is in the policy, or only the hits among them. Such a result is a hit if its level is at least the policy's level.
 /// Returns `AllocError` if memory runs out.
 pub fn findings_in_log(
     alloc: Global,

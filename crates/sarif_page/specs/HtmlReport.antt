@@ -26,7 +26,8 @@ use Rattle.sarif_page.specs.HtmlFixed.{page_begin, title_end, body_begin, counts
 use Rattle.sarif_page.specs.HtmlRows.{Tables, tables_of}
 use Rattle.sarif_page.specs.HtmlStyle.{style}
 use Rattle.sarif_page.specs.HtmlWords.{reason, hits_heading, others_text}
-use Rattle.sarif_shown.specs.Sentences.{accept_text, entries_text, gate_end, gate_text, hits_text, more_text, runs_text}
+use Rattle.sarif_shown.specs.Sentences.{accept_text, entries_text, gate_end, gate_text, hits_text, more_text, runs_text, unshown_text}
+use Rattle.sarif_shown.specs.Unshown.{unshown_number}
 
 -- ---- the verdict
 
@@ -245,9 +246,13 @@ section_if name heading rows = if length rows == 0 then [] else section_of name 
 unfoldable pub more_line : ℕ → ℕ → List ℕ
 more_line more hits = if more == 0 then [] else mind (more_text more hits)
 
-unfoldable pub rest_line : Tables → List ℕ
-rest_line tables =
-    if tables.all_hits == 0 && tables.all_others == 0 then nothing_reported
+-- that nothing is reported, if that is so and not only nothing is shown
+abbrev pub nothing_line : ℕ → List ℕ
+nothing_line unshown = if unshown == 0 then nothing_reported else []
+
+unfoldable pub rest_line : ℕ → Tables → List ℕ
+rest_line unshown tables =
+    if tables.all_hits == 0 && tables.all_others == 0 then nothing_line unshown
     else more_line
     ((tables.all_hits - length tables.hits) + (tables.all_others - length tables.others))
     (tables.all_hits - length tables.hits)
@@ -257,9 +262,14 @@ sections verdict max tables =
     section_if (codes "hits") (hits_heading verdict tables.all_hits max) tables.hits
     ++ section_if (codes "others") (others_text tables.all_others) tables.others
 
-unfoldable pub results_of : Verdict → ℕ → Tables → List ℕ
-results_of verdict max tables =
-    filters_of (tables.hits ++ tables.others) ++ (sections verdict max tables ++ rest_line tables)
+-- how many reported results are not shown, if there are any
+unfoldable pub unshown_line : ℕ → List ℕ
+unshown_line unshown = if unshown == 0 then [] else mind (unshown_text unshown)
+
+unfoldable pub results_of : Verdict → ℕ → Tables → ℕ → List ℕ
+results_of verdict max tables unshown =
+    filters_of (tables.hits ++ tables.others) ++ (sections verdict max tables
+    ++ (rest_line unshown tables ++ unshown_line unshown))
 
 -- a sentence that says how something is done
 unfoldable pub how : List ℕ → List ℕ
@@ -281,6 +291,7 @@ page_of facts verdict hits tables =
     top_of verdict hits facts.policy
     ++ (links tables ++ (counts_table facts.count facts.policy ++ (minds facts.without facts.unused
     ++ (header_end ++ (results_of verdict facts.policy.max tables
+    (unshown_number facts.show facts.count facts.policy)
     ++ (accept_line hits ++ page_end))))))
 
 unfoldable pub html_of : Facts → List ℕ

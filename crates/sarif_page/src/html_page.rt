@@ -17,6 +17,7 @@ use sarif_counts::{Verdict, hits, verdict};
 use sarif_options::Policy;
 use sarif_shown::{
     ReportInput, accept_text, entries_text, gate_end, gate_text, hits_text, more_text, runs_text,
+    unshown_number, unshown_text,
 };
 use std::alloc::{AllocError, Global};
 
@@ -163,17 +164,32 @@ fn push_more(alloc: Global, text: &mut String, more: usize, hits: usize) -> Resu
     Ok(())
 }
 
+/// Adds that nothing is reported, if that is so and not only nothing is shown.
+fn push_nothing(text: &mut String, unshown: u32) -> Result<(), AllocError>
+    ensures { OnOk result
+        (string_bytes text.new ≡ string_bytes text.old ++ said.nothing_line unshown) }
+{
+    if unshown == 0 {
+        text.push_str(nothing_reported())?;
+    }
+    Ok(())
+}
+
 /// Adds that nothing is reported, or how many results have no row.
 #[tactic(auto, unfolding(crate::specs::HtmlReport::rest_line))]
-fn push_rest(alloc: Global, text: &mut String, rows: &Rows<'_>) -> Result<(), AllocError>
+fn push_rest(
+    alloc: Global,
+    text: &mut String,
+    rows: &Rows<'_>,
+    unshown: u32,
+) -> Result<(), AllocError>
     requires { rows.now.all_hits + rows.now.all_others < 2 ^ 64 }
-    ensures { OnOk result
-        (string_bytes text.new ≡ string_bytes text.old ++ said.rest_line (tables_in rows.now)) }
+    ensures { OnOk result (string_bytes text.new
+        ≡ string_bytes text.old ++ said.rest_line unshown (tables_in rows.now)) }
 {
     let is_empty = rows.all_hits == 0 && rows.all_others == 0;
     if is_empty {
-        text.push_str(nothing_reported())?;
-        return Ok(());
+        return push_nothing(text, unshown);
     }
     let hits = rows.all_hits.saturating_sub(rows.hits.len());
     let others = rows.all_others.saturating_sub(rows.others.len());
@@ -200,6 +216,20 @@ fn push_sections(
     Ok(())
 }
 
+/// Adds how many reported results are not shown, if there are any.
+#[tactic(auto, unfolding(crate::specs::HtmlReport::unshown_line))]
+fn push_unshown(alloc: Global, text: &mut String, unshown: u32) -> Result<(), AllocError>
+    ensures { OnOk result
+        (string_bytes text.new ≡ string_bytes text.old ++ said.unshown_line unshown) }
+{
+    if unshown != 0 {
+        let sentence = unshown_text(alloc, unshown)?;
+        let line = mind(alloc, sentence.as_str())?;
+        text.push_str(line.as_str())?;
+    }
+    Ok(())
+}
+
 /// Adds the boxes and the tables.
 #[tactic(auto, unfolding(crate::specs::HtmlReport::results_of))]
 fn push_results(
@@ -208,14 +238,16 @@ fn push_results(
     verdict: Verdict,
     max: u32,
     rows: &Rows<'_>,
+    unshown: u32,
 ) -> Result<(), AllocError>
     requires { rows.now.all_hits + rows.now.all_others < 2 ^ 64 }
     ensures { OnOk result (string_bytes text.new
-        ≡ string_bytes text.old ++ said.results_of verdict max (tables_in rows.now)) }
+        ≡ string_bytes text.old ++ said.results_of verdict max (tables_in rows.now) unshown) }
 {
     push_filters(alloc, text, rows)?;
     push_sections(alloc, text, verdict, max, rows)?;
-    push_rest(alloc, text, rows)?;
+    push_rest(alloc, text, rows, unshown)?;
+    push_unshown(alloc, text, unshown)?;
     Ok(())
 }
 
@@ -240,7 +272,7 @@ fn push_accept(alloc: Global, text: &mut String, hits: u32) -> Result<(), AllocE
     Ok(())
 }
 
-/// Returns the page: the verdict, the counts, and a row for each of the first 10,000 reported results, the hits
+/// Returns the page: the verdict, the counts, and a row for each of the first 10,000 shown results, the hits
 /// before the others, by file. Returns `AllocError` if memory for it runs out.
 #[tactic(auto, unfolding(crate::specs::HtmlReport::html_of, crate::specs::HtmlReport::page_of))]
 pub fn html_report(alloc: Global, told: &ReportInput<'_>) -> Result<String, AllocError>
@@ -256,7 +288,8 @@ pub fn html_report(alloc: Global, told: &ReportInput<'_>) -> Result<String, Allo
     push_counts(alloc, &mut text, counts, policy)?;
     push_minds(alloc, &mut text, told.without, told.unused)?;
     text.push_str(header_end())?;
-    push_results(alloc, &mut text, verdict, policy.max, &rows)?;
+    let unshown = unshown_number(told.show, counts, policy);
+    push_results(alloc, &mut text, verdict, policy.max, &rows, unshown)?;
     push_accept(alloc, &mut text, hits)?;
     text.push_str(page_end())?;
     Ok(text)

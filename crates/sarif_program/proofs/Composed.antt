@@ -7,13 +7,15 @@ use Rattle.std.specs.List.{FoldsTo, concat}
 use Rattle.std.specs.Fmt.{WritesInCalls}
 use Rattle.sarif_streams.specs.Counted.{RisesIf}
 
-parts_append : {P : Type 0} (bytes : P → List ℕ) (parts : List (List ℕ)) (s t : P) → FoldsTo (λ old part new. bytes new ≡ bytes old ++ part) s parts t → bytes t ≡ bytes s ++ concat parts
+parts_append : {P : Type 0} (bytes : P → List ℕ) (parts : List (List ℕ)) (s t : P) → FoldsTo (λ old part new. bytes new ≡ bytes old ++ part) s parts t
+    → bytes t ≡ bytes s ++ concat parts
 parts_append bytes [] s t all = ap bytes (sym all) ∙ sym (append-nil (bytes s))
 parts_append bytes (part ∷ parts) s t all =
     parts_append bytes parts all.0 t all.2 ∙ (ap (λ front. front ++ concat parts) all.1 ∙ append_assoc (bytes s) part (concat parts))
 
 -- calls that each append their part append the whole
-pub composed : {P : Type 0} (bytes : P → List ℕ) (text : List ℕ) (s t : P) → bytes s ≡ [] → WritesInCalls (λ old part new. bytes new ≡ bytes old ++ part) s text t → bytes t ≡ text
+pub composed : {P : Type 0} (bytes : P → List ℕ) (text : List ℕ) (s t : P) → bytes s ≡ []
+    → WritesInCalls (λ old part new. bytes new ≡ bytes old ++ part) s text t → bytes t ≡ text
 composed bytes text s t none wrote =
     parts_append bytes wrote.parts s t wrote.calls ∙ (ap (λ front. front ++ concat wrote.parts) none ∙ wrote.whole)
 

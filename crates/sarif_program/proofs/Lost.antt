@@ -42,7 +42,8 @@ cut_after contents text old mid new first then all kept = record {
   );
 }
 
-lost_after : {W : Type 0} (contents : W → Option (List ℕ)) (told : Report → List ℕ) (os ws : List (RequestedOutput (Counted W))) (o w : RequestedOutput (Counted W)) (rest : List (RequestedOutput (Counted W))) (lost : Report)
+lost_after : {W : Type 0} (contents : W → Option (List ℕ)) (told : Report → List ℕ) (os ws : List (RequestedOutput (Counted W)))
+    (o w : RequestedOutput (Counted W)) (rest : List (RequestedOutput (Counted W))) (lost : Report)
     → AllZip (IsWritten contents told) os ws → lost ≡ o.report → w.report ≡ o.report → IsCut contents (told o.report) o.to w.to
     → IsLostIn contents told (os ++ o ∷ rest) (ws ++ w ∷ rest) lost
 lost_after contents told [] [] o w rest lost all is same cut = inl (is, same, cut, refl)
@@ -51,7 +52,8 @@ lost_after contents told (p ∷ os) [] o w rest lost all is same cut = absurd al
 lost_after contents told (p ∷ os) (v ∷ ws) o w rest lost all is same cut = inr (all.0, lost_after contents told os ws o w rest lost all.1 is same cut)
 
 -- the first i outputs were written, and the next was lost
-pub lost_at : {W : Type 0} (contents : W → Option (List ℕ)) (told : Report → List ℕ) (texts : List (List ℕ)) (os ws : List (RequestedOutput (Counted W))) (i : ℕ) (d w : RequestedOutput (Counted W)) (text : List ℕ) (lost : Report)
+pub lost_at : {W : Type 0} (contents : W → Option (List ℕ)) (told : Report → List ℕ) (texts : List (List ℕ))
+    (os ws : List (RequestedOutput (Counted W))) (i : ℕ) (d w : RequestedOutput (Counted W)) (text : List ℕ) (lost : Report)
     → i < length os → i < length ws → drop i ws ≡ drop i os → AreTakenTo i contents texts os ws
     → get_or texts i text ≡ text → w.report ≡ (get_or ws i d).report → lost ≡ (get_or ws i d).report
     → IsCut contents text (get_or ws i d).to w.to → texts ≡ texts_for os told
@@ -68,11 +70,14 @@ lost_at contents told texts os ws i d w text lost in_os in_ws left all is same n
     let after : drop (suc i) ws ≡ rest =
     ap (λ n. drop n ws) (sym (add-one i)) ∙ sym (drop-drop 1 i ws) ∙ ap (drop 1) left ∙ drop-drop 1 i os in
     let now : set ws i w ≡ take i ws ++ w ∷ rest = set_split ws i w in_ws ∙ ap (λ xs. take i ws ++ w ∷ xs) after in
-    let found = lost_after contents told (take i os) (take i ws) o w rest lost (all told are) (named ∙ ap (λ x. x.report) at) (same ∙ ap (λ x. x.report) at) cut_due in
+    let found =
+    lost_after contents told (take i os) (take i ws) o w rest lost (all told are) (named ∙ ap (λ x. x.report) at) (same ∙ ap (λ x. x.report) at)
+    cut_due in
     subst (λ xs. IsLostIn contents told xs (set ws i w) lost) (sym whole) (subst (λ xs. IsLostIn contents told (take i os ++ o ∷ rest) xs lost) (sym now) found)
 
 -- a loss with equal lines and an equal summary
-pub lost_with : {W S P E : Type 0} (held : Held W S P E) (log : List ℕ) (report : Report → List ℕ) (old new : Writers W S P) (complaints after : Complaints E) (lines due_lines summary due_summary : List ℕ)
+pub lost_with : {W S P E : Type 0} (held : Held W S P E) (log : List ℕ) (report : Report → List ℕ) (old new : Writers W S P)
+    (complaints after : Complaints E) (lines due_lines summary due_summary : List ℕ)
     → lines ≡ due_lines → summary ≡ due_summary
     → HasLost held (record { log = log; report = report; lines = lines; summary = summary }) old new complaints after
     → HasLost held (record { log = log; report = report; lines = due_lines; summary = due_summary }) old new complaints after

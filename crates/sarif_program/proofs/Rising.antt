@@ -30,7 +30,9 @@ no_writer_has_fallen writers = record { out = omega arith; reports = none_has_fa
 -- the sum over the reports is that over their writers
 sum_to : {W : Type 0} (ws : List (RequestedOutput (Counted W))) → report_failures ws ≡ failed_calls_in (writers_in ws)
 sum_to [] = refl
-sum_to (w ∷ ws) = sum_by-cons (λ wanted. failed_calls wanted.to) w ws ∙ ap (λ n. failed_calls w.to + n) (sum_to ws) ∙ sym (sum_by-cons failed_calls w.to (writers_in ws))
+sum_to (w ∷ ws) =
+    sum_by-cons (λ wanted. failed_calls wanted.to) w ws ∙ ap (λ n. failed_calls w.to + n) (sum_to ws)
+    ∙ sym (sum_by-cons failed_calls w.to (writers_in ws))
 
 none_less : {D : Type 0} (os ws : List (Counted D)) → NoneFalls os ws → failed_calls_in os ≤ failed_calls_in ws
 none_less [] [] none = omega arith
@@ -71,23 +73,61 @@ reader_less old new none =
 
 writer_less : {W S P : Type 0} (old new : Writers W S P) → NoWriterFalls old new → writer_failures old ≤ writer_failures new
 writer_less old new none =
-    omega (arith, none.out, none.say, none_less (writers_in old.reports.items) (writers_in new.reports.items) none.reports, sum_to old.reports.items, sum_to new.reports.items)
+    omega (
+      arith,
+      none.out,
+      none.say,
+      none_less (writers_in old.reports.items) (writers_in new.reports.items)
+          none.reports,
+      sum_to old.reports.items,
+      sum_to new.reports.items,
+    )
 
 reader_more : {R : Type 0} (old new : Readers R) → NoNumberFalls old new → ReaderRises old new → failures old < failures new
 reader_more old new none (inl log) =
     omega (arith, one_more old.logs.items new.logs.items none.logs log, none_less old.baselines.items new.baselines.items none.baselines, none.suppressions)
 reader_more old new none (inr (inl baseline)) =
-    omega (arith, none_less old.logs.items new.logs.items none.logs, one_more old.baselines.items new.baselines.items none.baselines baseline, none.suppressions)
+    omega (
+      arith,
+      none_less old.logs.items new.logs.items none.logs,
+      one_more old.baselines.items new.baselines.items none.baselines
+          baseline,
+      none.suppressions,
+    )
 reader_more old new none (inr (inr file)) =
     omega (arith, none_less old.logs.items new.logs.items none.logs, none_less old.baselines.items new.baselines.items none.baselines, file)
 
 writer_more : {W S P : Type 0} (old new : Writers W S P) → NoWriterFalls old new → WriterRises old new → writer_failures old < writer_failures new
 writer_more old new none (inl out) =
-    omega (arith, out, none.say, none_less (writers_in old.reports.items) (writers_in new.reports.items) none.reports, sum_to old.reports.items, sum_to new.reports.items)
+    omega (
+      arith,
+      out,
+      none.say,
+      none_less (writers_in old.reports.items) (writers_in new.reports.items)
+          none.reports,
+      sum_to old.reports.items,
+      sum_to new.reports.items,
+    )
 writer_more old new none (inr (inl report)) =
-    omega (arith, none.out, none.say, one_more (writers_in old.reports.items) (writers_in new.reports.items) none.reports report, sum_to old.reports.items, sum_to new.reports.items)
+    omega (
+      arith,
+      none.out,
+      none.say,
+      one_more (writers_in old.reports.items) (writers_in new.reports.items)
+          none.reports report,
+      sum_to old.reports.items,
+      sum_to new.reports.items,
+    )
 writer_more old new none (inr (inr say)) =
-    omega (arith, none.out, say, none_less (writers_in old.reports.items) (writers_in new.reports.items) none.reports, sum_to old.reports.items, sum_to new.reports.items)
+    omega (
+      arith,
+      none.out,
+      say,
+      none_less (writers_in old.reports.items) (writers_in new.reports.items)
+          none.reports,
+      sum_to old.reports.items,
+      sum_to new.reports.items,
+    )
 
 -- none rises where nothing was written
 pub none_rises : {W S P : Type 0} (writers : Writers W S P) → WriterRises writers writers → ⊥
@@ -132,7 +172,9 @@ exactly status readers after writers done rise read written = (
         | inr same ↦ inr (more_writer writers done written (omega (arith, more, same)))
       ],
   λ one. elim one [
-    | inl reader ↦ rose status (failures readers + writer_failures writers) (failures after + writer_failures done) rise (omega (arith, reader_more readers after read reader, writer_less writers done written))
-    | inr writer ↦ rose status (failures readers + writer_failures writers) (failures after + writer_failures done) rise (omega (arith, reader_less readers after read, writer_more writers done written writer))
+    | inl reader ↦ rose status (failures readers + writer_failures writers) (failures after + writer_failures done) rise
+        (omega (arith, reader_more readers after read reader, writer_less writers done written))
+    | inr writer ↦ rose status (failures readers + writer_failures writers) (failures after + writer_failures done) rise
+        (omega (arith, reader_less readers after read, writer_more writers done written writer))
   ],
 )

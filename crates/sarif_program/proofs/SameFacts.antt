@@ -14,6 +14,7 @@ pub same_facts : (request : Request) (merged : Merged) (facts : MergeFacts) → 
 same_facts request merged facts are = λ i. record {
   count = count_at (are.counts i);
   policy = request.options.policy;
+  show = request.show;
   findings = (are.findings i).items;
   without = are.without i;
   unused = are.unused i;

@@ -12,11 +12,13 @@ use Rattle.sarif_streams.proofs.ReadersRead.{same_at}
 use Rattle.sarif_program.specs.Reports.{IsWritten, texts_for}
 
 -- the first i were written if these are their contents
-abbrev pub AreTakenTo : {W : Type 0} → ℕ → (W → Option (List ℕ)) → List (List ℕ) → List (RequestedOutput (Counted W)) → List (RequestedOutput (Counted W)) → Type 0
+abbrev pub AreTakenTo : {W : Type 0} → ℕ → (W → Option (List ℕ)) → List (List ℕ) → List (RequestedOutput (Counted W))
+    → List (RequestedOutput (Counted W)) → Type 0
 AreTakenTo i contents texts old new = (told : Report → List ℕ) → texts ≡ texts_for old told
     → AllZip (IsWritten contents told) (take i old) (take i new)
 
-pub taken_more : {W : Type 0} (contents : W → Option (List ℕ)) (texts : List (List ℕ)) (os ws : List (RequestedOutput (Counted W))) (i : ℕ) (d w : RequestedOutput (Counted W)) (text : List ℕ)
+pub taken_more : {W : Type 0} (contents : W → Option (List ℕ)) (texts : List (List ℕ)) (os ws : List (RequestedOutput (Counted W))) (i : ℕ)
+    (d w : RequestedOutput (Counted W)) (text : List ℕ)
     → i < length os → i < length ws → drop i ws ≡ drop i os → AreTakenTo i contents texts os ws
     → get_or texts i text ≡ text → w.report ≡ (get_or ws i d).report
     → Appends (contents (inner_of (get_or ws i d).to)) (contents (inner_of w.to)) text
@@ -30,4 +32,5 @@ taken_more contents texts os ws i d w text in_os in_ws left all is same took = �
       report = same ∙ ap (λ o. o.report) at;
       appended = subst (λ it. Appends (contents (inner_of (get_or os i d).to)) (contents (inner_of w.to)) it) due here;
     } in
-    rw (take_more os i d in_os, take_more_set ws i w in_ws) (all_zipped_more (IsWritten contents told) (take i os) (take i ws) (get_or os i d) w (all told are) one)
+    rw (take_more os i d in_os, take_more_set ws i w in_ws)
+    (all_zipped_more (IsWritten contents told) (take i os) (take i ws) (get_or os i d) w (all told are) one)

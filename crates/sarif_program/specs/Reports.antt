@@ -16,7 +16,11 @@ use Rattle.sarif_request.specs.declared.wanted.RequestedOutput.{RequestedOutput}
 
 -- what the findings for a request are made by
 abbrev pub reporting_of : Request → Reporting
-reporting_of request = record { policy = request.options.policy; roots = request.roots.items }
+reporting_of request = record {
+  policy = request.options.policy;
+  show = request.show;
+  roots = request.roots.items;
+}
 
 -- the outputs of such a list
 abbrev pub wanted_reports : {W : Type 0} → List (RequestedOutput W) → List Report
@@ -32,6 +36,7 @@ abbrev pub facts_with : Request → MergeFacts → Facts
 facts_with request facts = record {
   count = count_at facts.counts.now;
   policy = request.options.policy;
+  show = request.show;
   findings = facts.findings.now.items;
   without = facts.without;
   unused = facts.unused;
@@ -43,6 +48,7 @@ abbrev pub facts_for : Request → Merged → Facts
 facts_for request merged = record {
   count = count_at merged.counts;
   policy = request.options.policy;
+  show = request.show;
   findings = merged.findings.items;
   without = merged.without;
   unused = merged.unused;

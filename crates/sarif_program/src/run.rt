@@ -50,7 +50,11 @@ fn reporting_of<W>(
     }
     let policy = request.options.policy;
     let roots = roots_of(alloc, request.roots.as_slice())?;
-    Ok(Some(Reporting { policy, roots }))
+    Ok(Some(Reporting {
+        policy,
+        show: request.show,
+        roots,
+    }))
 }
 
 /// Returns whether one of these writers' outputs is made from findings.

@@ -102,6 +102,7 @@ fn reports_of<W, T: Threads + Sync>(
     let told = ReportInput {
         counts: facts.counts,
         policy: &request.options.policy,
+        show: request.show,
         findings: facts.findings.as_slice(),
         without: facts.without,
         unused: facts.unused,

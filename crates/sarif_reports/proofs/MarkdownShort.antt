@@ -22,8 +22,11 @@ use Rattle.sarif_findings.specs.declared.finding.Finding.{Finding}
 use Rattle.sarif_shown.specs.CountRow.{row_begin, row_end}
 use Rattle.sarif_shown.specs.Facts.{Facts}
 use Rattle.sarif_reports.specs.MarkdownLaws.{AreSmall}
-use Rattle.sarif_reports.specs.MarkdownReport.{accept_line, count_row, counts_table, heading, in_table, left_out, line_if, markdown_of, notes, others_line, paragraph, result_row, results_table, table_of}
-use Rattle.sarif_shown.specs.Sentences.{accept_text, counted, entries_text, gate_end, gate_text, hits_text, more_hits, more_of_both, more_others, more_text, runs_text}
+use Rattle.sarif_reports.specs.MarkdownReport.{accept_line, count_row, counts_table, heading, in_table, last_lines, left_out, line_if, markdown_of, notes, others_line, paragraph, result_row, results_table, table_of, unshown_line}
+use Rattle.sarif_shown.specs.Sentences.{accept_text, counted, entries_text, gate_end, gate_text, hits_text, more_hits, more_of_both, more_others, more_text, runs_text, unshown_text}
+use Rattle.sarif_shown.specs.Unshown.{reported_number, unshown_number}
+use Rattle.sarif_findings.specs.declared.reporting.Show.{Show}
+use Rattle.sarif_findings.specs.declared.reporting.Show.TheVariants.{Hits, All}
 use Rattle.sarif_reports.proofs.TableRows.{hits_few, results_parted, table_fits, state_few}
 
 -- two strings in sequence
@@ -106,6 +109,15 @@ accept_few hits =
     (two 12 126 (if hits == 1 then codes "this hit" else codes "these hits") _
     (noun_few (hits == 1) 12 (codes "this hit") (codes "these hits") (omega arith) (omega arith)) (omega arith))))
 
+unshown_few : (unshown : ℕ) → unshown < 2 ^ 36 → length (paragraph (unshown_line unshown)) ≤ 41
+unfolding unshown_line
+unshown_few unshown small =
+    paragraph_few 40 (unshown_line unshown) (line_few 39 unshown (unshown_text unshown)
+    (counted_few 11 28 unshown _ _ (length-decimal-le 11 unshown (omega arith) (omega (arith, small)) (omega (arith, small))) (omega arith) (omega arith)))
+
+last_few : (unshown hits : ℕ) → unshown < 2 ^ 36 → length (last_lines unshown hits) ≤ 191
+last_few unshown hits small = two 41 150 (paragraph (unshown_line unshown)) (paragraph (accept_line hits)) (unshown_few unshown small) (accept_few hits)
+
 -- ---- the counts
 
 begin_few : (name : List ℕ) (error warning : ℕ) → length name ≤ 9 → error < 2 ^ 32 → warning < 2 ^ 32 → length (row_begin name error warning) ≤ 40
@@ -167,7 +179,7 @@ state_hits count policy s small =
     let o = side_hits (is_at_least policy.fail_on NoLevel) (count s NoLevel false) (small s NoLevel false) in
     listed_few (is_listed policy.states s) (severe_of (λ level. count s level false) policy.fail_on) (omega (arith, e, w, n, o))
 
-all_hits : (count : Count) (policy : Policy) → ((s : State) (l : Level) (b : Bool) → count s l b < 2 ^ 32) → hits_of count policy < 2 ^ 64
+all_hits : (count : Count) (policy : Policy) → ((s : State) (l : Level) (b : Bool) → count s l b < 2 ^ 32) → hits_of count policy < 2 ^ 36
 all_hits count policy small =
     let f = state_hits count policy New small in
     let c = state_hits count policy Unchanged small in
@@ -175,32 +187,38 @@ all_hits count policy small =
     let a = state_hits count policy Absent small in
     omega (arith, f, c, u, a)
 
+all_unshown : (show : Show) (count : Count) (policy : Policy) → ((s : State) (l : Level) (b : Bool) → count s l b < 2 ^ 32) → unshown_number show count policy < 2 ^ 36
+all_unshown All count policy small = omega arith
+all_unshown Hits count policy small = let all = all_hits count (record policy { fail_on = NoLevel }) small in omega (arith, all)
+
 pub report_few : (facts : Facts) → AreSmall facts → length (markdown_of facts) ≤ 61000
 report_few facts small =
     let hits = hits_of facts.count facts.policy in
-    let ends : List ℕ = paragraph (accept_line hits) in
+    let unshown = unshown_number facts.show facts.count facts.policy in
+    let few = all_hits facts.count facts.policy small.counts in
+    let ends : List ℕ = last_lines unshown hits in
     let results : List ℕ = results_table facts.findings ++ ends in
     let noted : List ℕ = paragraph (notes facts.without facts.unused) ++ results in
     let whole =
-    two 70 60882 (heading (verdict_of facts.count facts.policy) hits facts.policy.max) (counts_table facts.count ++ noted)
-    (heading_few (verdict_of facts.count facts.policy) hits facts.policy.max (all_hits facts.count facts.policy small.counts) small.max)
-    (two 400 60482 (counts_table facts.count) noted (counts_few facts.count small.counts)
-    (two 122 60360 (paragraph (notes facts.without facts.unused)) results
+    two 70 60923 (heading (verdict_of facts.count facts.policy) hits facts.policy.max) (counts_table facts.count ++ noted)
+    (heading_few (verdict_of facts.count facts.policy) hits facts.policy.max (omega (arith, few)) small.max)
+    (two 400 60523 (counts_table facts.count) noted (counts_few facts.count small.counts)
+    (two 122 60401 (paragraph (notes facts.without facts.unused)) results
     (paragraph_few 121 (notes facts.without facts.unused) (notes_few facts.without facts.unused small.without small.unused))
-    (two 60210 150 (results_table facts.findings) ends (results_by (length facts.findings == 0) facts.findings small.findings)
-    (accept_few hits)))) in
+    (two 60210 191 (results_table facts.findings) ends (results_by (length facts.findings == 0) facts.findings small.findings)
+    (last_few unshown hits (all_unshown facts.show facts.count facts.policy small.counts))))) in
     omega (arith, whole)
 
 -- the length of the same parts, joined in order
 pub parts_few : (facts : Facts) → AreSmall facts
     → length ((((heading (verdict_of facts.count facts.policy) (hits_of facts.count facts.policy) facts.policy.max ++ counts_table facts.count) ++ paragraph (notes facts.without facts.unused)) ++ results_table facts.findings)
-    ++ paragraph (accept_line (hits_of facts.count facts.policy))) ≤ 61000
+    ++ last_lines (unshown_number facts.show facts.count facts.policy) (hits_of facts.count facts.policy)) ≤ 61000
 parts_few facts small =
     let first = heading (verdict_of facts.count facts.policy) (hits_of facts.count facts.policy) facts.policy.max in
     let second = counts_table facts.count in
     let third = paragraph (notes facts.without facts.unused) in
     let fourth = results_table facts.findings in
-    let last = paragraph (accept_line (hits_of facts.count facts.policy)) in
+    let last = last_lines (unshown_number facts.show facts.count facts.policy) (hits_of facts.count facts.policy) in
     subst (λ bytes. length bytes ≤ 61000)
     (sym (append_assoc ((first ++ second) ++ third) fourth last ∙ append_assoc (first ++ second) third (fourth ++ last) ∙ append_assoc first second (third ++ (fourth ++ last))))
     (report_few facts small)

@@ -16,7 +16,8 @@ use Rattle.sarif_findings.specs.Finding.{spot_text}
 use Rattle.sarif_shown.specs.Escaped.{escaped}
 use Rattle.sarif_shown.specs.Facts.{Facts}
 use Rattle.sarif_shown.specs.Listed.{listed}
-use Rattle.sarif_shown.specs.Sentences.{accept_text, entries_text, gate_text, more_text, runs_text}
+use Rattle.sarif_shown.specs.Sentences.{accept_text, entries_text, gate_text, more_text, runs_text, unshown_text}
+use Rattle.sarif_shown.specs.Unshown.{unshown_number}
 
 -- ---- strings
 
@@ -118,9 +119,17 @@ table_of findings =
 abbrev pub results_table : List Finding → List ℕ
 results_table findings = if length findings == 0 then [] else table_of findings
 
+-- the line on reported results that are not shown, if there are any
+unfoldable pub unshown_line : ℕ → List ℕ
+unshown_line unshown = line_if unshown (unshown_text unshown)
+
 -- the line on accepting the hits, if there are any
 unfoldable pub accept_line : ℕ → List ℕ
 accept_line hits = line_if hits (accept_text (codes "`") (codes "`") hits)
+
+-- these two, each after an empty line
+abbrev pub last_lines : ℕ → ℕ → List ℕ
+last_lines unshown hits = paragraph (unshown_line unshown) ++ paragraph (accept_line hits)
 
 abbrev pub markdown_of : Facts → List ℕ
 markdown_of facts =
@@ -128,4 +137,5 @@ markdown_of facts =
     ++ (counts_table facts.count
     ++ (paragraph (notes facts.without facts.unused)
     ++ (results_table facts.findings
-    ++ paragraph (accept_line (hits_of facts.count facts.policy)))))
+    ++ last_lines (unshown_number facts.show facts.count facts.policy)
+    (hits_of facts.count facts.policy))))

@@ -13,7 +13,7 @@ use sarif_findings::Finding;
 use sarif_model::State;
 use sarif_shown::{
     Escaping, ReportInput, accept_text, entries_text, gate_text, list_findings, more_text,
-    push_place, row_numbers, runs_text,
+    push_place, row_numbers, runs_text, unshown_number, unshown_text,
 };
 use std::alloc::{AllocError, Global};
 
@@ -324,6 +324,29 @@ fn accept_line(alloc: Global, hits: u32) -> Result<String, AllocError>
     format!(in alloc; "{sentence}\n")
 }
 
+/// The line on reported results that are not shown, if there are any.
+#[tactic(auto, unfolding(crate::specs::MarkdownReport::unshown_line))]
+fn unshown_line(alloc: Global, unshown: u32) -> Result<String, AllocError>
+    ensures { IfOk result (λ s. string_bytes s ≡ said.unshown_line unshown) }
+{
+    if unshown == 0 {
+        return Ok(String::new(alloc));
+    }
+    let sentence = unshown_text(alloc, unshown)?;
+    format!(in alloc; "{sentence}\n")
+}
+
+/// Adds the lines on results that are not shown and on accepting the hits, if there are any.
+fn push_last(alloc: Global, text: &mut String, unshown: u32, hits: u32) -> Result<(), AllocError>
+    ensures { OnOk result
+        (string_bytes text.new ≡ string_bytes text.old ++ said.last_lines unshown hits) }
+{
+    let line = unshown_line(alloc, unshown)?;
+    push_paragraph(text, line.as_str())?;
+    push_accept(alloc, text, hits)?;
+    Ok(())
+}
+
 /// Adds the line on accepting the hits, if there are any.
 fn push_accept(alloc: Global, text: &mut String, hits: u32) -> Result<(), AllocError>
     ensures { OnOk result (string_bytes text.new
@@ -364,6 +387,7 @@ pub fn markdown_report(alloc: Global, told: &ReportInput<'_>) -> Result<String, 
     push_counts(alloc, &mut text, counts)?;
     push_notes(alloc, &mut text, told.without, told.unused)?;
     push_results(alloc, &mut text, findings)?;
-    push_accept(alloc, &mut text, hits)?;
+    let unshown = unshown_number(told.show, counts, policy);
+    push_last(alloc, &mut text, unshown, hits)?;
     Ok(text)
 }

@@ -1,5 +1,5 @@
 //! Findings of logs that a merge rejects.
-use sarif_findings::{Finding, Reporting, findings_in_log};
+use sarif_findings::{Finding, Reporting, Show, findings_in_log};
 use sarif_model::Sequence;
 use sarif_options::Policy;
 use serde_json::Value;
@@ -10,6 +10,7 @@ use std::test::Fail;
 fn findings_of(alloc: Global, log: &str) -> Result<Vec<Finding>, Fail> {
     let reporting = Reporting {
         policy: Policy::default(),
+        show: Show::All,
         roots: Sequence::new(alloc),
     };
     let log = Value::from_str(alloc, log)?;

@@ -1,5 +1,6 @@
 //! The page under a policy that the command line can't give.
 use sarif_counts::Counts;
+use sarif_findings::Show;
 use sarif_options::{Policy, States};
 use sarif_page::html_report;
 use sarif_shown::ReportInput;
@@ -17,6 +18,7 @@ fn empty_page<'a>(
     let told = ReportInput {
         counts,
         policy,
+        show: Show::All,
         findings: &[],
         without: 0,
         unused: 0,

@@ -75,6 +75,7 @@ arguments =
     ∷ with_default (codes "0") (argument (codes "max") (Number (pos 0) (pos (2 ^ 32 - 1))))
     ∷ argument (codes "out") Needed
     ∷ argument (codes "root") Many
+    ∷ with_default (codes "all") (argument (codes "show") Once)
     ∷ argument (codes "accept") Flag
     ∷ argument (codes "prune") Flag
     ∷ argument (codes "reason") Once

@@ -2,5 +2,6 @@ pub mod Command
 pub mod Dates
 pub mod Listing
 pub mod Names
+pub mod Showing
 pub mod Together
 pub mod Words

@@ -14,6 +14,8 @@ use Rattle.sarif_options.specs.declared.upkeep.Knowing.{Knowing}
 use Rattle.sarif_options.specs.declared.upkeep.Knowing.TheVariants.{Adopted, Matched}
 use Rattle.sarif_options.specs.declared.upkeep.Renewal.{Renewal}
 use Rattle.sarif_options.specs.Policy.{default_policy}
+use Rattle.sarif_findings.specs.declared.reporting.Show.{Show}
+use Rattle.sarif_findings.specs.declared.reporting.Show.TheVariants.{All}
 use Rattle.sarif_reports.specs.declared.report.Report.{Report}
 use Rattle.sarif_reports.specs.Report.{all_reports, report_name}
 use Rattle.sarif_request.specs.declared.clash.Clash.{Clash}
@@ -26,6 +28,7 @@ use Rattle.sarif_request.specs.declared.wanted.RequestedOutput.{RequestedOutput}
 use Rattle.sarif_request.specs.Command.{AreLevels, program}
 use Rattle.sarif_request.specs.Listing.{states_listed}
 use Rattle.sarif_request.specs.Names.{Names, clash_of}
+use Rattle.sarif_request.specs.Showing.{show_named}
 use Rattle.sarif_request.specs.Together.{misfit_of}
 
 -- the arguments that are read if there are none: one worker merges one log from standard input to standard output
@@ -89,6 +92,10 @@ abbrev pub states_in : List Row → Option States
 states_in rows =
     option_map_or states_listed (first_of (codes "states") rows) (Some default_policy.states)
 
+-- which results reports show, if the name is one
+abbrev pub show_in : List Row → Option Show
+show_in rows = option_map_or show_named (first_of (codes "show") rows) (Some All)
+
 -- an output is requested if its option has a value, which is the name of its file
 abbrev pub wanted_if : Report → Option Text → List (RequestedOutput Text)
 wanted_if report None = []
@@ -145,6 +152,7 @@ pub record AsksFor (rows : List Row) (request : Request) : Type 0 where
   pub out : request.out ≡ unwrap_or (first_of (codes "out") rows) []
   pub reports : request.reports.items ≡ reports_in rows
   pub roots : request.roots.items ≡ values_of (codes "root") rows
+  pub show : show_in rows ≡ Some request.show
   pub explain : request.explain ≡ is_set (codes "explain") rows
   pub renewal : IsRenewal rows request.upkeep.renewal
   pub unused : request.upkeep.unused ≡ is_given (codes "unused") rows
@@ -188,6 +196,10 @@ HaveMisfit app words = (fault_of app words ≡ [])
 abbrev pub HaveNoStates : App → List Text → Type 0
 HaveNoStates app words = (fault_of app words ≡ []) × (states_in (matches_of app words) ≡ None)
 
+-- the arguments are valid, but what reports are to show has no name
+abbrev pub HaveNoShow : App → List Text → Type 0
+HaveNoShow app words = (fault_of app words ≡ []) × (show_in (matches_of app words) ≡ None)
+
 -- an error that says so, or that memory ran out
 abbrev pub IsUsageOrOutOfMemory : WordsFault → Type 0
 IsUsageOrOutOfMemory (Usage text) = ⊤
@@ -199,14 +211,14 @@ IsUsageOrOutOfMemory OutOfMemory = ⊤
 abbrev pub IsFaultOf : List Text → WordsFault → Type 0
 IsFaultOf words (Usage text) = (levels : Bor (List (Bor Text))) × AreLevels levels
     × (((k : ErrorKind) × IsAmong k (fault_of (program levels) words) × (¬ IsAsked k))
-    ⊎ (HaveNoStates (program levels) words
-    ⊎ (HaveMisfit (program levels) words ⊎ HaveClash (program levels) words)))
+    ⊎ (HaveNoStates (program levels) words ⊎ (HaveNoShow (program levels) words
+    ⊎ (HaveMisfit (program levels) words ⊎ HaveClash (program levels) words))))
 IsFaultOf words (Help text) = (levels : Bor (List (Bor Text))) × AreLevels levels
     × (k : ErrorKind) × IsAmong k (fault_of (program levels) words) × IsAsked k
 IsFaultOf words OutOfMemory = ⊤
 
--- a request is returned only if the arguments are valid, they list states, their options go together and no names in
--- them clash, and it is what they request
+-- a request is returned only if the arguments are valid, they list states and name what reports show, their options go
+-- together and no names in them clash, and it is what they request
 abbrev pub GivesRequest : List Text → Result Request WordsFault → Type 0
 GivesRequest words (Ok request) = (levels : Bor (List (Bor Text))) × AreLevels levels
     × (fault_of (program levels) words ≡ []) × AsksFor (matches_of (program levels) words) request

@@ -240,12 +240,7 @@ fn replaces_suppressions(request: &Request) -> bool
 fn one_replaces(name: &str, outputs: &[RequestedOutput<Text>]) -> bool
     ensures { result ≡ list_any (said.replaces_file name.now) outputs.now }
 {
-    for wanted in outputs {
-        if replaces_file(name, wanted) {
-            return true;
-        }
-    }
-    false
+    outputs.iter().any(|wanted| replaces_file(name, wanted))
 }
 
 /// Whether this output would overwrite the suppression file of this name.
@@ -302,12 +297,10 @@ fn replaces_log(request: &Request) -> bool
 fn replaces_inputs(request: &Request) -> bool
     ensures { result ≡ said.replaces_inputs (said.names_of request.now) }
 {
-    for wanted in &request.reports {
-        if replaces_input(request, wanted) {
-            return true;
-        }
-    }
-    false
+    request
+        .reports
+        .iter()
+        .any(|wanted| replaces_input(request, wanted))
 }
 
 /// Whether this output has the name of a log, or of a baseline that it may not replace.

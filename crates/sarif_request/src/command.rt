@@ -39,7 +39,7 @@ Exit status:
   3  a file could not be read or written
 
 Examples:
-  sarif_gate --out merged.sarif --text - scan.sarif
+  sarif_gate --fail-on warning --out merged.sarif --text - scan.sarif
   sarif_gate --baseline known.sarif --fail-on warning --out merged.sarif scan.sarif";
 
 /// The last row of the help's options. The parser does not know it: files of arguments are put in their places before.

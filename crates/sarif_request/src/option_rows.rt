@@ -80,7 +80,7 @@ pub fn is_date(kind: OptionKind) -> bool {
     kind == DATE
 }
 
-static ROWS: [OptionRow; 20] = [
+static ROWS: [OptionRow; 21] = [
     OptionRow {
         id: "log",
         value: "LOG",
@@ -178,6 +178,15 @@ static ROWS: [OptionRow; 20] = [
         group: Group::Outputs,
         kind: OptionKind::Many,
         default: None,
+    },
+    OptionRow {
+        id: "show",
+        value: "WHICH",
+        help: "Which results reports show: hits (only the hits) or all. The merged log\n\
+            and the gate do not depend on it",
+        group: Group::Outputs,
+        kind: OptionKind::Once,
+        default: Some("all"),
     },
     OptionRow {
         id: "accept",

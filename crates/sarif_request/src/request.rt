@@ -1,6 +1,7 @@
 //! The request of one run of the program.
 
 use crate::wanted::RequestedOutput;
+use sarif_findings::Show;
 use sarif_model::Text;
 use sarif_options::{Options, Upkeep};
 
@@ -21,6 +22,8 @@ pub struct Request {
     /// The prefixes of paths in reports, in the order of the arguments: a path that begins with one loses the first of
     /// these. An empty one is none.
     pub roots: Vec<Text>,
+    /// Which of the reported results reports show.
+    pub show: Show,
     /// Whether errors are explained.
     pub explain: bool,
     /// What is made for later merges.

@@ -4,7 +4,7 @@ ghost use Rattle.clap.specs.Words.{kind_of, rows_of, found_of, first_of, one_of}
 ghost use Rattle.sarif_model.specs.Level.{level_named};
 ghost use Rattle.sarif_options.specs.Policy.{default_policy};
 ghost use Rattle.sarif_request.specs.Words.{words_status, ReportsError, IsAsked, AsksFor, GivesRequest, IsReadNumber, IsReadOr, IsUsageOrOutOfMemory};
-ghost use Rattle.sarif_request.specs.Words.{fail_on_in, is_set, reports_in, states_in, values_of};
+ghost use Rattle.sarif_request.specs.Words.{fail_on_in, is_set, reports_in, show_in, states_in, values_of};
 ghost use Rattle.sarif_reports.specs.Report.{report_name};
 ghost use Rattle.sarif_request.specs.Words.{AreGiven, IsRenewal, is_given, known_in, wanted_if};
 ghost use Rattle.sarif_request.specs.Words as said;
@@ -14,10 +14,12 @@ use crate::command::{command, with_file_row};
 use crate::expected::sentence_with_expected;
 use crate::listing::states_of;
 use crate::request::Request;
+use crate::showing::show_named;
 use crate::together::{GivenOptions, misfit_of};
 use crate::wanted::RequestedOutput;
 use clap::ArgMatches;
 use clap::error::ErrorKind;
+use sarif_findings::Show;
 use sarif_model::{Level, MOST_WORKERS, Text};
 use sarif_options::{Checks, Knowing, Options, Policy, Renewal, States, Upkeep};
 use sarif_reports::Report;
@@ -74,8 +76,8 @@ pub fn plain_words(alloc: Global) -> Result<Vec<String>, AllocError>
 }
 
 /// Returns the request of the arguments after the program's name. The tables of the merge hash with `seed`.
-/// Returns `Usage` if the arguments are invalid, their list of states is none, options in them don't go together or
-/// names in them clash; `Help` if they request the help or the version; `OutOfMemory` if memory runs out.
+/// Returns `Usage` if the arguments are invalid, their list of states is none, what reports are to show has no name,
+/// options in them don't go together or names in them clash; `Help` if they request the help or the version; `OutOfMemory` if memory runs out.
 pub fn read_words(alloc: Global, seed: RandomState, words: &[String]) -> Result<Request, WordsFault>
     ensures { GivesRequest (map string_bytes words.now) result }
 {
@@ -85,10 +87,13 @@ pub fn read_words(alloc: Global, seed: RandomState, words: &[String]) -> Result<
             let Some(states) = listed_states(alloc, &matches)? else {
                 return Err(usage_of(told_of(alloc, NO_STATES)));
             };
+            let Some(show) = named_show(&matches) else {
+                return Err(usage_of(told_of(alloc, NO_SHOW)));
+            };
             if let Some(misfit) = misfit_of(&given_of(&matches)) {
                 return Err(usage_of(told_of(alloc, misfit.sentence())));
             }
-            let request = request_of(alloc, seed, &matches, states)?;
+            let request = request_of(alloc, seed, &matches, states, show)?;
             let found = clash_of(alloc, &request)?;
             if let Some(clash) = found {
                 return Err(usage_of(told_clash(alloc, clash, &request, words)));
@@ -102,6 +107,9 @@ pub fn read_words(alloc: Global, seed: RandomState, words: &[String]) -> Result<
 /// What is wrong with a list of states.
 const NO_STATES: &str = "invalid value for '--states <LIST>': expected new, updated, unchanged or \
     absent, each at most once, joined by commas";
+
+/// What is wrong with a name of what reports show.
+const NO_SHOW: &str = "invalid value for '--show <WHICH>': expected hits or all";
 
 /// Returns a message about the arguments as the parser reports a mistake.
 fn usage_of(told: Result<Text, AllocError>) -> WordsFault
@@ -164,8 +172,10 @@ fn request_of(
     seed: RandomState,
     matches: &ArgMatches<'_>,
     states: States,
+    show: Show,
 ) -> Result<Request, AllocError>
     requires listed { states_in (rows_of (found_of matches.now)) ≡ Some states }
+    requires named { show_in (rows_of (found_of matches.now)) ≡ Some show }
     ensures { IfOk result (AsksFor (rows_of (found_of matches.now))) }
 {
     let logs = names_of(alloc, matches, "log")?;
@@ -192,6 +202,7 @@ fn request_of(
         out,
         reports,
         roots,
+        show,
         explain: is_set(matches, "explain"),
         upkeep,
         options,
@@ -399,6 +410,17 @@ fn listed_states(alloc: Global, matches: &ArgMatches<'_>) -> Result<Option<State
     match matches.get_str("states") {
         Some(list) => states_of(alloc, list),
         None => Ok(Some(Policy::default().states)),
+    }
+}
+
+/// Returns which results reports show, or `None` if it has no such name.
+#[tactic(auto, using(crate::proofs::Rows::first_in_rows))]
+fn named_show(matches: &ArgMatches<'_>) -> Option<Show>
+    ensures { result ≡ show_in (rows_of (found_of matches.now)) }
+{
+    match matches.get_str("show") {
+        Some(name) => show_named(name),
+        None => Some(Show::All),
     }
 }
 

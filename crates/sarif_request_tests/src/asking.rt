@@ -1,4 +1,5 @@
 //! What arguments request.
+use sarif_findings::Show;
 use sarif_model::{Level, Text};
 use sarif_options::{Checks, Options, Policy, States};
 use sarif_reports::Report;
@@ -230,6 +231,31 @@ fn a_list_that_names_no_states_is_explained(rt: HostRuntime) -> Result<(), Fail>
 }
 
 #[test]
+fn what_reports_show_is_read(rt: HostRuntime) -> Result<(), Fail> {
+    for (line, show) in [
+        ("a --out o", Show::All),
+        ("a --out o --show all", Show::All),
+        ("--show hits a --out o", Show::Hits),
+        ("a --text t --show=hits --out o", Show::Hits),
+    ] {
+        let request = accepted(&rt, line)?;
+        check_show(&rt, request.show, show)?;
+    }
+    Ok(())
+}
+
+fn check_show(rt: &impl Abort, show: Show, wanted: Show) -> Result<(), Fail> {
+    assert_eq!(rt; show, wanted);
+    Ok(())
+}
+
+#[test]
+fn a_name_of_nothing_that_reports_show_is_explained(rt: HostRuntime) -> Result<(), Fail> {
+    let told = "invalid value for '--show <WHICH>': expected hits or all";
+    expect_usage(&rt, "a --out o --show errors", told)
+}
+
+#[test]
 fn the_last_day_is_taken(rt: HostRuntime) -> Result<(), Fail> {
     let request = accepted(&rt, "a --out o --today 99991231 --fail-on warning")?;
     check_last_day(&rt, &request.options)
@@ -281,6 +307,12 @@ fn wrong_words_are_usage(rt: HostRuntime) -> Result<(), Fail> {
         "a --out o --states new;updated",
         "a --out o --states all",
         "a --out o --states new --states new",
+        "a --out o --show",
+        "a --out o --show=",
+        "a --out o --show Hits",
+        "a --out o --show hit",
+        "a --out o --show hits,all",
+        "a --out o --show hits --show hits",
         "a --out o --states",
     ] {
         match read(&rt, line)? {

@@ -1,3 +1,4 @@
+pub mod AddressSigns
 pub mod AzureApart
 pub mod EscapedApart
 pub mod EscapedMore
@@ -8,4 +9,5 @@ pub mod ListedMore
 pub mod ListedSorted
 pub mod PathsApart
 pub mod SeenTexts
+pub mod ShownCounted
 pub mod TextApart

@@ -5,6 +5,7 @@ use Rattle.sarif_options.specs.declared.policy.Policy.{Policy}
 use Rattle.sarif_counts.specs.Counts.{count_at}
 use Rattle.sarif_counts.specs.Hits.{Count}
 use Rattle.sarif_findings.specs.declared.finding.Finding.{Finding}
+use Rattle.sarif_findings.specs.declared.reporting.Show.{Show}
 use Rattle.sarif_shown.specs.declared.told.ReportInput.{ReportInput}
 
 -- the facts about a merged log
@@ -13,7 +14,9 @@ pub record Facts : Type 0 where
   pub count : Count
   -- the policy of the gate
   pub policy : Policy
-  -- the reported results, in the order of the log
+  -- which of the reported results are shown
+  pub show : Show
+  -- the shown results, in the order of the log
   pub findings : List Finding
   -- how many input runs have no results
   pub without : ℕ
@@ -27,6 +30,7 @@ abbrev pub facts_of : ReportInput → Facts
 facts_of told = record {
   count = count_at told.counts.now;
   policy = told.policy.now;
+  show = told.show;
   findings = told.findings.now;
   without = told.without;
   unused = told.unused;

@@ -13,3 +13,4 @@ pub mod ListedLaws
 pub mod Sentences
 pub mod TextLaws
 pub mod TextReport
+pub mod Unshown

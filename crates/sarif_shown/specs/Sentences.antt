@@ -45,6 +45,11 @@ abbrev pub more_text : ℕ → ℕ → List ℕ
 more_text n hits =
     if hits == n then more_hits n else (if hits == 0 then more_others n else more_of_both n hits)
 
+-- how many reported results are not shown
+abbrev pub unshown_text : ℕ → List ℕ
+unshown_text n =
+    counted n (codes " other result isn't shown.") (codes " other results aren't shown.")
+
 -- how to accept the hits; each part of a command is between `before` and `after`
 abbrev pub accept_text : List ℕ → List ℕ → ℕ → List ℕ
 accept_text before after hits =

@@ -1,8 +1,9 @@
 //! Laws of what reports show, and of the reports of one line per result. Each law is the contract of a function that
 //! does nothing. A log may be hostile, so the laws cover any strings.
-ghost use Rattle.std.specs.Prelude.{◌≡◌, ◌==◌, ◌++◌, ℕ, Bool, List, AllPairs, IsPermutation, true, false};
-ghost use Rattle.std.specs.Prelude.{drop, flat_map, length, take};
-ghost use Rattle.std.specs.List.{All, AllByRecursion, count_by, list_all};
+ghost use Rattle.std.specs.Prelude.{◌≡◌, ◌==◌, ◌++◌, ◌+◌, ℕ, Bool, List, AllPairs, IsPermutation, true, false};
+ghost use Rattle.std.specs.Prelude.{codes, drop, flat_map, length, nat_eq, take};
+ghost use Rattle.std.specs.List.{AllByRecursion, count_by, filter, list_all, starts_with};
+ghost use Rattle.std.specs.List as list;
 ghost use Rattle.serde_json.specs.Data.{Data};
 ghost use Rattle.sarif_model.specs.declared.kinds.Level.{Level};
 ghost use Rattle.sarif_model.specs.Run.{runs_of};
@@ -14,17 +15,20 @@ ghost use Rattle.sarif_shown.specs.AzureLaws.{AreIssues, is_within_property, pro
 ghost use Rattle.sarif_shown.specs.AzureReport.{azure_line, azure_of};
 ghost use Rattle.sarif_shown.specs.Escaped.{escaped};
 ghost use Rattle.sarif_shown.specs.GithubLaws.{are_commands};
-ghost use Rattle.sarif_shown.specs.FindingLaws.{IsNamed, has_target};
+ghost use Rattle.sarif_shown.specs.FindingLaws.{HasAddress, IsNamed, has_target};
+ghost use Rattle.sarif_findings.specs.Address.{is_address, is_address_sign};
 ghost use Rattle.sarif_shown.specs.GithubReport.{github_line, github_of};
 ghost use Rattle.sarif_shown.specs.Listed.{hits_among, listed, others_among};
 ghost use Rattle.sarif_shown.specs.ListedLaws.{MayPrecede, of_standing};
 ghost use Rattle.sarif_findings.specs.Links.{unlinked};
 ghost use Rattle.sarif_findings.specs.declared.reporting.Reporting.{Reporting};
+ghost use Rattle.sarif_findings.specs.declared.reporting.Show.TheVariants.{Hits, All};
 ghost use Rattle.sarif_findings.specs.Reported.{reported_of};
 ghost use Rattle.sarif_findings.specs.Shown.{shown_chars};
 ghost use Rattle.sarif_findings.specs.ShownLaws.{are_seen, has_two_signs};
 ghost use Rattle.sarif_shown.specs.TextLaws.{IsTextOfLines};
 ghost use Rattle.sarif_shown.specs.TextReport.{text_line, text_lines_of};
+ghost use Rattle.sarif_shown.specs.Unshown.{unshown_number};
 
 /// No character of a shown string is a control character, a line separator, or a character that hides or controls
 /// others.
@@ -37,7 +41,22 @@ pub fn shown_signs_stand_apart()
     ensures { (cs : List ℕ) → has_two_signs false (shown_chars cs) ≡ false }
 {}
 
-/// The number of hits among the reported results of a merged log is the number that the gate counts.
+/// The shown results of a merged log are the reported ones, or only the hits among them: then they are as many as the
+/// gate counts. The shown results and those that are not shown are together as many as the reported results.
+pub fn shown_results_are_counted()
+    ensures shown { (reporting : Reporting) (log : Data) →
+        reported_of (record reporting { show = Hits }) log
+        ≡ filter (λ f. f.hit) (reported_of (record reporting { show = All }) log) }
+    ensures hits { (reporting : Reporting) (log : Data) →
+        length (reported_of (record reporting { show = Hits }) log)
+        ≡ hits_of (count_of (runs_of log)) reporting.policy }
+    ensures all { (reporting : Reporting) (log : Data) →
+        length (reported_of reporting log)
+        + unshown_number reporting.show (count_of (runs_of log)) reporting.policy
+        ≡ length (reported_of (record reporting { show = All }) log) }
+{}
+
+/// The number of hits among the shown results of a merged log is the number that the gate counts.
 pub fn reported_hits_are_counted()
     ensures { (reporting : Reporting) (log : Data) →
         count_by (λ f. f.hit) (reported_of reporting log)
@@ -49,12 +68,23 @@ pub fn messages_without_targets_stay()
     ensures { (args : List Data) (cs : List ℕ) → has_target cs ≡ false → unlinked args cs ≡ cs }
 {}
 
-/// No path of a reported result begins with `./`.
+/// No path of a shown result begins with `./`.
 pub fn paths_begin_with_names()
-    ensures { (reporting : Reporting) (log : Data) → All IsNamed (reported_of reporting log) }
+    ensures { (reporting : Reporting) (log : Data) → list.All IsNamed (reported_of reporting log) }
 {}
 
-/// Reports list each reported result once: a hit before every other result, and among the hits and among the others
+/// A rule is a link only to an address: it has only the characters of an address, and begins with `http`. So no quote,
+/// bracket, bar, backquote, dollar, backslash, space or character beyond ASCII is in it.
+pub fn rules_link_to_addresses()
+    ensures links { (reporting : Reporting) (log : Data) →
+        list.All HasAddress (reported_of reporting log) }
+    ensures signs { (text : List ℕ) → is_address text ≡ true
+        → list_all is_address_sign text ≡ true }
+    ensures scheme { (text : List ℕ) → is_address text ≡ true
+        → starts_with nat_eq text (codes "http") ≡ true }
+{}
+
+/// Reports list each shown result once: a hit before every other result, and among the hits and among the others
 /// none before a worse one. Those of one level stay in the order of the merged log. The first of them are the hits, as
 /// many as the gate counts.
 pub fn listed_results_are_sorted()
@@ -71,7 +101,7 @@ pub fn listed_results_are_sorted()
     ensures length { (findings : List Finding) → length (listed findings) ≡ length findings }
 {}
 
-/// The text report of a log has exactly one line per reported result, no control character except their ends, no
+/// The text report of a log has exactly one line per shown result, no control character except their ends, no
 /// line that begins with a colon, and no two adjacent `#`. Its first lines are those of the hits.
 pub fn text_reports_have_a_line_a_result()
     ensures lines { (reporting : Reporting) (log : Data) →
@@ -87,7 +117,7 @@ pub fn text_reports_have_a_line_a_result()
 {}
 
 /// Each line of the report for GitHub Actions begins with one of its three commands, and there is one line per
-/// reported result: no log adds a command. Its first lines are those of the hits.
+/// shown result: no log adds a command. Its first lines are those of the hits.
 #[tactic(auto, using(crate::proofs::GithubApart::commands_begin, crate::proofs::GithubApart::lines_end, crate::proofs::GithubApart::hit_lines, crate::proofs::GithubApart::hits_first))]
 pub fn github_lines_begin_with_commands()
     ensures commands { (reporting : Reporting) (log : Data) →
@@ -104,7 +134,7 @@ pub fn github_lines_begin_with_commands()
         ++ flat_map github_line (others_among (reported_of reporting log)) }
 {}
 
-/// The report for Azure Pipelines has one line per reported result. Each begins with the command
+/// The report for Azure Pipelines has one line per shown result. Each begins with the command
 /// `##vso[task.logissue type=`, has no other two adjacent `#` and no control character. A reader finds as many
 /// properties as its result has: no log adds a command or a property. Its first lines are those of the hits.
 pub fn azure_lines_are_commands()

@@ -12,6 +12,7 @@ mod place;
 mod sentences;
 mod text_lines;
 mod told;
+mod unshown;
 
 pub use azure_lines::azure_report;
 pub use count_row::{CountRow, row_numbers};
@@ -20,13 +21,15 @@ pub use github_lines::github_report;
 pub use laws::{
     azure_lines_are_commands, azure_properties_hold_no_end, github_lines_begin_with_commands,
     listed_results_are_sorted, messages_without_targets_stay, paths_begin_with_names,
-    reported_hits_are_counted, shown_signs_stand_apart, shown_texts_are_seen,
-    text_reports_have_a_line_a_result,
+    reported_hits_are_counted, rules_link_to_addresses, shown_results_are_counted,
+    shown_signs_stand_apart, shown_texts_are_seen, text_reports_have_a_line_a_result,
 };
 pub use listing::{list_findings, push_hits, push_others};
 pub use place::{push_numbered, push_path, push_place};
 pub use sentences::{
     accept_text, count_text, entries_text, gate_end, gate_text, hits_text, more_text, runs_text,
+    unshown_text,
 };
 pub use text_lines::{push_result_line, text_report};
 pub use told::ReportInput;
+pub use unshown::unshown_number;

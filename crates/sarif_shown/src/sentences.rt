@@ -77,6 +77,18 @@ pub fn more_text(alloc: Global, number: usize, hits: usize) -> Result<String, Al
     more_of_both(alloc, number, hits)
 }
 
+/// Returns how many reported results are not shown. Returns `AllocError` if memory runs out.
+pub fn unshown_text(alloc: Global, number: u32) -> Result<String, AllocError>
+    ensures { IfOk result (λ s. string_bytes s ≡ said.unshown_text number) }
+{
+    count_text(
+        alloc,
+        number as usize,
+        " other result isn't shown.",
+        " other results aren't shown.",
+    )
+}
+
 /// Returns how to accept the hits, with each part of a command between `before` and `after`. Returns `AllocError` if
 /// memory runs out.
 pub fn accept_text(

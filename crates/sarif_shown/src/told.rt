@@ -1,6 +1,6 @@
 //! The input of reports.
 use sarif_counts::{Counts, Life};
-use sarif_findings::Finding;
+use sarif_findings::{Finding, Show};
 use sarif_options::Policy;
 use std::hash::RandomState;
 
@@ -11,7 +11,9 @@ pub struct ReportInput<'a> {
     pub counts: &'a Counts,
     /// The policy of the gate, which decides the hits and the verdict.
     pub policy: &'a Policy,
-    /// The findings, in the order of the merged log.
+    /// Which of the reported results are shown.
+    pub show: Show,
+    /// The findings of the shown results, in the order of the merged log.
     pub findings: &'a [Finding],
     /// How many input runs have no results.
     pub without: u32,

@@ -42,7 +42,8 @@ returns-clause-reports g c =
     IfOk-weaker c.merge_told.result _ (λ all. all.1.reports.items ≡ texts_for writers (report_for request all.0))
     (λ all told.
     subst (λ (facts : Facts). all.1.reports.items ≡ texts_for writers (λ one. report_of one facts)) (same_facts request all.0 told.0 told.2)
-    (subst (λ (facts : MergeFacts). all.1.reports.items ≡ texts_for writers (report_with request facts)) {x = told.1.0.now} {y = told.0} told.1.2 (search rules)))
+    (subst (λ (facts : MergeFacts). all.1.reports.items ≡ texts_for writers (report_with request facts)) {x = told.1.0.now} {y = told.0} told.1.2
+    (search rules)))
     c.merge_told.ensures.told
 
 pub returns-in_err-made-clause-refused : goal.returns-in_err-made-clause-refused

@@ -35,7 +35,8 @@ returns-in-Ok-clause-accepted g c = λ low.
             request.options (reporting_for request writers) (Some request.upkeep) merged) same c.in-Ok.ensures.merged;
         log = c.accept.ensures.written low;
         reports = c.accept.ensures.reported low (report_for request merged)
-            (subst (λ (writers : List (RequestedOutput (Counted g.row.P.Denot))). c.in-Ok.texts.reports.items ≡ texts_for writers (report_for request merged)) same c.in-Ok.ensures.reports);
+            (subst (λ (writers : List (RequestedOutput (Counted g.row.P.Denot))). c.in-Ok.texts.reports.items
+            ≡ texts_for writers (report_for request merged)) same c.in-Ok.ensures.reports);
         summary = subst (λ (text : List ℕ). Appends (g.S.Write.contents (inner_of old.say)) (g.S.Write.contents (inner_of new.say)) text)
             c.in-Ok.ensures.summary (c.accept.ensures.said low);
         noted = subst (λ (lines : List ℕ). AreNoted g.E.Write.contents lines c.args.complaints.now c.accept.new.complaints)
@@ -104,13 +105,17 @@ returns-in-Ok-clause-lost g c = λ rises.
     omega (arith, c.in-Ok.ensures.read_failed, c.accept.ensures.failed) in
     let one = exactly c.accept.result c.args.readers.now c.merge_for.new.readers old new rise c.in-Ok.ensures.risen c.accept.ensures.risen in
     let same = c.as_slice.ensures.value in
-    let texts = subst (λ (writers : List (RequestedOutput (Counted g.row.P.Denot))). c.in-Ok.texts.reports.items ≡ texts_for writers (report_for request merged)) same c.in-Ok.ensures.reports in
-    let held : Held g.row.W.Denot g.row.S.Denot g.row.P.Denot g.row.E.Denot = record { log = g.W.Write.contents; report = g.P.Write.contents; summary = g.S.Write.contents; messages = g.E.Write.contents } in
+    let texts =
+    subst (λ (writers : List (RequestedOutput (Counted g.row.P.Denot))). c.in-Ok.texts.reports.items
+    ≡ texts_for writers (report_for request merged)) same c.in-Ok.ensures.reports in
+    let held : Held g.row.W.Denot g.row.S.Denot g.row.P.Denot g.row.E.Denot =
+    record { log = g.W.Write.contents; report = g.P.Write.contents; summary = g.S.Write.contents; messages = g.E.Write.contents } in
     let said = c.accept.ensures.lost (one.1 (inr rises)) (report_for request merged) texts in (
       merged,
       subst (λ (writers : List (RequestedOutput (Counted g.row.P.Denot))). IsMergedWith g.R.Read.remaining c.args.readers.now c.merge_for.new.readers
           request.options (reporting_for request writers) (Some request.upkeep) merged) same c.in-Ok.ensures.merged,
-      lost_with held merged.log (report_for request merged) old new c.args.complaints.now c.accept.new.complaints _ _ _ _ c.in-Ok.ensures.lines c.in-Ok.ensures.summary said,
+      lost_with held merged.log (report_for request merged)
+          old new c.args.complaints.now c.accept.new.complaints _ _ _ _ c.in-Ok.ensures.lines c.in-Ok.ensures.summary said,
     )
 
 pub returns-in-Err-clause-lost : goal.returns-in-Err-clause-lost

@@ -21,7 +21,8 @@ pub returns-in_err-put_report-clause-risen : goal.returns-in_err-put_report-clau
 returns-in_err-put_report-clause-risen g c =
     let i = c.loop-number.number in
     let d = c.index-writers-number.result in
-    none_falls_to c.args.writers.now c.loop-number.writers i d c.put_report.new.writer (omega arith) c.loop-number.invariant.risen (no_fall true _ _ c.in_err-put_report.ensures.counted)
+    none_falls_to c.args.writers.now c.loop-number.writers i d c.put_report.new.writer (omega arith) c.loop-number.invariant.risen
+    (no_fall true _ _ c.in_err-put_report.ensures.counted)
 
 pub loop-number-preserved : goal.loop-number-preserved
 loop-number-preserved g c =
@@ -33,7 +34,8 @@ loop-number-preserved g c =
     record {
       left = same_after now given i writer c.loop-number.invariant.left;
       taken = taken_more g.P.Write.contents c.args.texts.now given now i d writer c.index-texts-number.result
-          (omega arith) (omega arith) c.loop-number.invariant.left c.loop-number.invariant.taken (search rules) c.in_ok-put_report.ensures.same c.in_ok-put_report.ensures.taken;
+          (omega arith) (omega arith) c.loop-number.invariant.left c.loop-number.invariant.taken (search rules)
+          c.in_ok-put_report.ensures.same c.in_ok-put_report.ensures.taken;
       quiet = grind (arith, common_steps, c.in_ok-put_report.ensures.counted, c.loop-number.invariant.quiet);
       risen = none_falls_to given now i d writer (omega arith) c.loop-number.invariant.risen (no_fall false _ _ c.in_ok-put_report.ensures.counted);
     }
@@ -44,5 +46,7 @@ returns-in_err-put_report-clause-lost g c =
     let i = c.loop-number.number in
     let d = c.index-writers-number.result in
     rw (p.1, p.2)
-    (λ told are. lost_at g.P.Write.contents told c.args.texts.now c.args.writers.now c.loop-number.writers i d c.put_report.new.writer c.index-texts-number.result _
-    (omega arith) (omega arith) c.loop-number.invariant.left c.loop-number.invariant.taken (search rules) c.in_err-put_report.ensures.same c.in_err-put_report.ensures.lost c.in_err-put_report.ensures.cut are)
+    (λ told are. lost_at g.P.Write.contents told c.args.texts.now c.args.writers.now c.loop-number.writers i d c.put_report.new.writer
+    c.index-texts-number.result _
+    (omega arith) (omega arith) c.loop-number.invariant.left c.loop-number.invariant.taken (search rules)
+    c.in_err-put_report.ensures.same c.in_err-put_report.ensures.lost c.in_err-put_report.ensures.cut are)
