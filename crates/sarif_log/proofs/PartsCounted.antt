@@ -47,7 +47,14 @@ module _ {F : Type 0} (g : Shared F (ℕ × (Bor (List Draft) × Unit {0})) Coun
   few_counted start [] (c ∷ cs) given = absurd given
   few_counted start (p ∷ ps) [] given = absurd given
   few_counted start (p ∷ ps) (c ∷ cs) given =
-      omega (arith, sum_by-cons total_of c cs, (each start p c given.0).few, few_counted (start + length p) ps cs given.1, length-append p (flat_map (λ q. q) ps))
+      omega (
+        arith,
+        sum_by-cons total_of c cs,
+        (each start p c given.0).few,
+        few_counted (start + length p) ps cs given.1,
+        length-append p
+            (flat_map (λ q. q) ps),
+      )
 
   -- counts that are the sum of those of all parts
   pub parts_counted : (drafts : List Draft) (cs : List Counts) (all : Counts) → GivesInParts g f drafts cs

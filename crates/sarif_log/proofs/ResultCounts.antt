@@ -25,7 +25,8 @@ draft_counts listed applied r state (number n) s l b is = absurd is
 draft_counts listed applied r state (string t) s l b is = absurd is
 draft_counts listed applied r state (array ds) s l b is = absurd is
 
-pub tallied_written : (listed : Listing) (applied : Record → Applied) (rs : List Record) (states : List State) (ds : List Data) (s : State) (l : Level) (b : Bool)
+pub tallied_written : (listed : Listing) (applied : Record → Applied) (rs : List Record) (states : List State) (ds : List Data) (s : State)
+    (l : Level) (b : Bool)
     → length rs ≡ length ds → length states ≡ length ds → AllByRecursion IsObject ds
     → tallied (drafts_by listed applied rs ds) (map Some states) s l b ≡ count_in (items_of (written_all listed rs states ds)) s l b
 tallied_written listed applied [] states [] s l b same_r same_s objects = refl
@@ -34,7 +35,8 @@ tallied_written listed applied (r ∷ rs) states [] s l b same_r same_s objects 
 tallied_written listed applied (r ∷ rs) [] (d ∷ ds) s l b same_r same_s objects = absurd (omega (arith, same_s))
 tallied_written listed applied (r ∷ rs) (state ∷ states) (d ∷ ds) s l b same_r same_s objects =
     ap (λ n. n + tallied (drafts_by listed applied rs ds) (map Some states) s l b) (draft_counts listed applied r state d s l b objects.0)
-    ∙ ap (λ n. count_if (carries s l b (written listed r state d)) 1 + n) (tallied_written listed applied rs states ds s l b (omega (arith, same_r)) (omega (arith, same_s)) objects.1)
+    ∙ ap (λ n. count_if (carries s l b (written listed r state d)) 1 + n)
+    (tallied_written listed applied rs states ds s l b (omega (arith, same_r)) (omega (arith, same_s)) objects.1)
 
 pub tallied_unmatched : (rs : List Record) (taken : List Bool) (ds : List Data) (s : State) (l : Level) (b : Bool) → AllByRecursion IsObject ds
     → tallied (drafts_by (λ _ own. own) unapplied rs ds) (map unless_taken taken) s l b ≡ count_in (items_of (unmatched rs taken ds)) s l b
@@ -44,5 +46,6 @@ tallied_unmatched (r ∷ rs) [] (d ∷ ds) s l b objects = refl
 tallied_unmatched (r ∷ rs) (t ∷ taken) [] s l b objects = refl
 tallied_unmatched (r ∷ rs) (true ∷ taken) (d ∷ ds) s l b objects = let rest = tallied_unmatched rs taken ds s l b objects.1 in omega (arith, rest)
 tallied_unmatched (r ∷ rs) (false ∷ taken) (d ∷ ds) s l b objects =
-    ap (λ n. n + tallied (drafts_by (λ _ own. own) unapplied rs ds) (map unless_taken taken) s l b) (draft_counts (λ _ own. own) unapplied r Absent d s l b objects.0)
+    ap (λ n. n + tallied (drafts_by (λ _ own. own) unapplied rs ds) (map unless_taken taken) s l b)
+    (draft_counts (λ _ own. own) unapplied r Absent d s l b objects.0)
     ∙ ap (λ n. count_if (carries s l b (written (λ _ own. own) r Absent d)) 1 + n) (tallied_unmatched rs taken ds s l b objects.1)

@@ -18,7 +18,8 @@ use Rattle.sarif_log.specs.MergedRuns.{unmatched, written, written_all}
 -- an object's draft, with its state
 pub draft_text : (listed : Listing) (applied : Record → Applied) (r : Record) (state : State) (d : Data) → IsObject d
     → text_with state (draft_by listed applied r (members_in d)) ≡ compact_text (written listed r state d)
-draft_text listed applied r state (object ms) is = filled_is_put (codes "baselineState") (string (state_name state)) (drafted_members r.level (listed_in listed r ms) ms)
+draft_text listed applied r state (object ms) is =
+    filled_is_put (codes "baselineState") (string (state_name state)) (drafted_members r.level (listed_in listed r ms) ms)
 draft_text listed applied r state null is = absurd is
 draft_text listed applied r state (boolean b) is = absurd is
 draft_text listed applied r state (number n) is = absurd is
@@ -34,7 +35,8 @@ texts_written listed applied (r ∷ rs) states [] same_r same_s objects = absurd
 texts_written listed applied (r ∷ rs) [] (d ∷ ds) same_r same_s objects = absurd (omega (arith, same_s))
 texts_written listed applied (r ∷ rs) (state ∷ states) (d ∷ ds) same_r same_s objects =
     ap (λ t. t ∷ texts_of (drafts_by listed applied rs ds) (map Some states)) (draft_text listed applied r state d objects.0)
-    ∙ ap (λ ts. compact_text (written listed r state d) ∷ ts) (texts_written listed applied rs states ds (omega (arith, same_r)) (omega (arith, same_s)) objects.1)
+    ∙ ap (λ ts. compact_text (written listed r state d) ∷ ts)
+    (texts_written listed applied rs states ds (omega (arith, same_r)) (omega (arith, same_s)) objects.1)
 
 pub texts_unmatched : (rs : List Record) (taken : List Bool) (ds : List Data) → AllByRecursion IsObject ds
     → texts_of (drafts_by (λ _ own. own) unapplied rs ds) (map unless_taken taken) ≡ map compact_text (unmatched rs taken ds)
@@ -52,4 +54,5 @@ pub joined_items : (later : Bool) (ds : List Data) → joined later (map compact
 joined_items later [] = refl
 joined_items later (d ∷ ds) =
     append_assoc (comma_if later) (compact_text d ++ joined true (map compact_text ds)) (93 ∷ [])
-    ∙ ap (λ t. comma_if later ++ t) (append_assoc (compact_text d) (joined true (map compact_text ds)) (93 ∷ []) ∙ ap (λ t. compact_text d ++ t) (joined_items true ds))
+    ∙ ap (λ t. comma_if later ++ t)
+    (append_assoc (compact_text d) (joined true (map compact_text ds)) (93 ∷ []) ∙ ap (λ t. compact_text d ++ t) (joined_items true ds))

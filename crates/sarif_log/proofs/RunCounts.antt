@@ -32,10 +32,12 @@ tallied_split (suc n) (d ∷ ds) [] s l b = tallied_none (drop n ds) where
   tallied_none (e ∷ es) = refl
 tallied_split (suc n) (d ∷ ds) (t ∷ ss) s l b = let rest = tallied_split n ds ss s l b in omega (arith, rest)
 
-found_counts : (listed : Listing) (applied : Record → Applied) (rs : List Record) (ss : List State) (bs : Members) (found : Option Items) (s : State) (l : Level) (b : Bool)
+found_counts : (listed : Listing) (applied : Record → Applied) (rs : List Record) (ss : List State) (bs : Members) (found : Option Items) (s : State)
+    (l : Level) (b : Bool)
     → results_in (object bs) ≡ items_in None
     → length rs ≡ length (elements_or_none found) → length ss ≡ length (elements_or_none found) → AllByRecursion IsObject (elements_or_none found)
-    → tallied (drafts_by listed applied rs (elements_or_none found)) (map Some ss) s l b ≡ count_in (results_in (object (with_results (annotated_items listed rs ss found) bs))) s l b
+    → tallied (drafts_by listed applied rs (elements_or_none found)) (map Some ss) s l b
+    ≡ count_in (results_in (object (with_results (annotated_items listed rs ss found) bs))) s l b
 found_counts listed applied [] ss bs None s l b none same_r same_s objects = ap (λ ds. count_in ds s l b) (sym none)
 found_counts listed applied (r ∷ rs) ss bs None s l b none same_r same_s objects = absurd (omega (arith, same_r))
 found_counts listed applied rs ss bs (Some ds) s l b none same_r same_s objects =
@@ -71,9 +73,12 @@ runs_count listed applied rs ss (run ∷ runs) s l b are same_r same_s =
     ∙ ap (λ es. tallied es (take n (map Some ss)) s l b + tallied (drop n ds) (drop n (map Some ss)) s l b) (drafts_front listed applied rs xs ys)
     ∙ ap (λ zs. tallied (drafts_by listed applied (take n rs) xs) zs s l b + tallied (drop n ds) (drop n (map Some ss)) s l b) (take-map Some n ss)
     ∙ ap (λ m. m + tallied (drop n ds) (drop n (map Some ss)) s l b) (run_counts listed applied (take n rs) (take n ss) run s l b are.0 long_r long_s)
-    ∙ ap (λ es. count_in (results_in (merged_run listed (take n rs) (take n ss) run)) s l b + tallied es (drop n (map Some ss)) s l b) (drafts_back listed applied rs xs ys)
-    ∙ ap (λ zs. count_in (results_in (merged_run listed (take n rs) (take n ss) run)) s l b + tallied (drafts_by listed applied (drop n rs) ys) zs s l b) (drop-map Some n ss)
-    ∙ ap (λ m. count_in (results_in (merged_run listed (take n rs) (take n ss) run)) s l b + m) (runs_count listed applied (drop n rs) (drop n ss) runs s l b are.1 rest_r rest_s)
+    ∙ ap (λ es. count_in (results_in (merged_run listed (take n rs) (take n ss) run)) s l b + tallied es (drop n (map Some ss)) s l b)
+    (drafts_back listed applied rs xs ys)
+    ∙ ap (λ zs. count_in (results_in (merged_run listed (take n rs) (take n ss) run)) s l b + tallied (drafts_by listed applied (drop n rs) ys)
+    zs s l b) (drop-map Some n ss)
+    ∙ ap (λ m. count_in (results_in (merged_run listed (take n rs) (take n ss) run)) s l b + m)
+    (runs_count listed applied (drop n rs) (drop n ss) runs s l b are.1 rest_r rest_s)
 
 left_counts_at : (ds : List Data) (run : Data) (more : List Data) (s : State) (l : Level) (b : Bool) → IsObject run
     → count_in (items_of ds) s l b + count_of more s l b ≡ count_of (if_any ds run more) s l b

@@ -31,11 +31,14 @@ run_filled bs ds ts same =
 
 run_at : (listed : Listing) (applied : Record → Applied) (rs : List Record) (ss : List State) (bs : Members) (found : Option Items)
     → length rs ≡ length (elements_or_none found) → length ss ≡ length (elements_or_none found) → AllByRecursion IsObject (elements_or_none found)
-    → run_text bs (option_map (λ _. texts_of (drafts_by listed applied rs (elements_or_none found)) (map Some ss)) (option_map (λ ds. length (elements ds)) found))
+    → run_text bs
+    (option_map (λ _. texts_of (drafts_by listed applied rs (elements_or_none found)) (map Some ss))
+    (option_map (λ ds. length (elements ds)) found))
     ≡ compact_text (object (with_results (annotated_items listed rs ss found) bs))
 run_at listed applied rs ss bs None same_r same_s objects = refl
 run_at listed applied rs ss bs (Some ds) same_r same_s objects =
-    run_filled bs (written_all listed rs ss (elements ds)) (texts_of (drafts_by listed applied rs (elements ds)) (map Some ss)) (texts_written listed applied rs ss (elements ds) same_r same_s objects)
+    run_filled bs (written_all listed rs ss (elements ds)) (texts_of (drafts_by listed applied rs (elements ds)) (map Some ss))
+    (texts_written listed applied rs ss (elements ds) same_r same_s objects)
 
 run_written : (listed : Listing) (applied : Record → Applied) (rs : List Record) (ss : List State) (parts : RunParts) (run : Data)
     → IsRun run → members_view parts.members.entries ≡ bare (members_in run) → parts.results ≡ own_count run
@@ -118,10 +121,12 @@ runs_written listed applied rs ss (p ∷ all) (run ∷ runs) are parts same_r sa
     ap (λ m. parts_text p (take m ds) (take m (map Some ss)) ∷ runs_texts all (drop m ds) (drop m (map Some ss))) counted
     ∙ ap (λ es. parts_text p es (take n (map Some ss)) ∷ runs_texts all (drop n ds) (drop n (map Some ss))) (drafts_front listed applied rs xs ys)
     ∙ ap (λ zs. parts_text p (drafts_by listed applied (take n rs) xs) zs ∷ runs_texts all (drop n ds) (drop n (map Some ss))) (take-map Some n ss)
-    ∙ ap (λ t. t ∷ runs_texts all (drop n ds) (drop n (map Some ss))) (run_written listed applied (take n rs) (take n ss) p run are.0 parts.0 parts.1 long_r long_s)
+    ∙ ap (λ t. t ∷ runs_texts all (drop n ds) (drop n (map Some ss)))
+    (run_written listed applied (take n rs) (take n ss) p run are.0 parts.0 parts.1 long_r long_s)
     ∙ ap (λ es. compact_text (merged_run listed (take n rs) (take n ss) run) ∷ runs_texts all es (drop n (map Some ss))) (drafts_back listed applied rs xs ys)
     ∙ ap (λ zs. compact_text (merged_run listed (take n rs) (take n ss) run) ∷ runs_texts all (drafts_by listed applied (drop n rs) ys) zs) (drop-map Some n ss)
-    ∙ ap (λ ts. compact_text (merged_run listed (take n rs) (take n ss) run) ∷ ts) (runs_written listed applied (drop n rs) (drop n ss) all runs are.1 parts.2 rest_r rest_s)
+    ∙ ap (λ ts. compact_text (merged_run listed (take n rs) (take n ss) run) ∷ ts)
+    (runs_written listed applied (drop n rs) (drop n ss) all runs are.1 parts.2 rest_r rest_s)
 
 -- whether something is left
 any_left : (rs : List Record) (taken : List Bool) (ds : List Data) (t : List ℕ) (run : Data) (ts : List (List ℕ)) (more : List Data)
@@ -132,8 +137,10 @@ any_left [] [] (d ∷ ds) t run ts more same_r same_t is rest = rest
 any_left [] (b ∷ taken) ds t run ts more same_r same_t is rest = absurd (omega (arith, same_t))
 any_left (r ∷ rs) [] ds t run ts more same_r same_t is rest = absurd (omega (arith, same_t))
 any_left (r ∷ rs) (b ∷ taken) [] t run ts more same_r same_t is rest = absurd (omega (arith, same_r))
-any_left (r ∷ rs) (true ∷ taken) (d ∷ ds) t run ts more same_r same_t is rest = any_left rs taken ds t run ts more (omega (arith, same_r)) (omega (arith, same_t)) is rest
-any_left (r ∷ rs) (false ∷ taken) (d ∷ ds) t run ts more same_r same_t is rest = ap (λ x. x ∷ ts) is ∙ ap (λ xs. compact_text (with_absent (unmatched (r ∷ rs) (false ∷ taken) (d ∷ ds)) run) ∷ xs) rest
+any_left (r ∷ rs) (true ∷ taken) (d ∷ ds) t run ts more same_r same_t is rest =
+    any_left rs taken ds t run ts more (omega (arith, same_r)) (omega (arith, same_t)) is rest
+any_left (r ∷ rs) (false ∷ taken) (d ∷ ds) t run ts more same_r same_t is rest =
+    ap (λ x. x ∷ ts) is ∙ ap (λ xs. compact_text (with_absent (unmatched (r ∷ rs) (false ∷ taken) (d ∷ ds)) run) ∷ xs) rest
 
 pub runs_left : (rs : List Record) (taken : List Bool) (all : List RunParts) (runs : List Data)
     → AllByRecursion IsRun runs → ArePartsOf present_count all runs → length rs ≡ length (present_results runs) → length taken ≡ length rs
@@ -156,11 +163,16 @@ runs_left rs taken (p ∷ all) (run ∷ runs) are parts same_r same_t =
     let rest_t : length (drop n taken) ≡ length (drop n rs) = omega (arith, length-drop n rs, length-drop n taken, same_t) in
     let text = run_left (take n rs) (take n taken) p run xs are.0.0 (present_objects (results_of run) are.0.1) parts.0 parts.1 in
     ap (λ m. text_if (list_any is_some (take m ss)) (parts_text p (take m ds) (take m ss)) (left_texts all (drop m ds) (drop m ss))) counted
-    ∙ ap (λ es. text_if (list_any is_some (take n ss)) (parts_text p es (take n ss)) (left_texts all (drop n ds) (drop n ss))) (drafts_front listed unapplied rs xs ys)
-    ∙ ap (λ es. text_if (list_any is_some (take n ss)) (parts_text p (drafts_by listed unapplied (take n rs) xs) (take n ss)) (left_texts all es (drop n ss))) (drafts_back listed unapplied rs xs ys)
-    ∙ ap (λ zs. text_if (list_any is_some zs) (parts_text p (drafts_by listed unapplied (take n rs) xs) zs) (left_texts all (drafts_by listed unapplied (drop n rs) ys) (drop n ss)))
+    ∙ ap (λ es. text_if (list_any is_some (take n ss)) (parts_text p es (take n ss)) (left_texts all (drop n ds) (drop n ss)))
+    (drafts_front listed unapplied rs xs ys)
+    ∙ ap (λ es. text_if (list_any is_some (take n ss)) (parts_text p (drafts_by listed unapplied (take n rs) xs) (take n ss))
+    (left_texts all es (drop n ss))) (drafts_back listed unapplied rs xs ys)
+    ∙ ap (λ zs. text_if (list_any is_some zs) (parts_text p (drafts_by listed unapplied (take n rs) xs) zs)
+    (left_texts all (drafts_by listed unapplied (drop n rs) ys) (drop n ss)))
     (take-map unless_taken n taken)
-    ∙ ap (λ zs. text_if (list_any is_some (map unless_taken (take n taken))) (parts_text p (drafts_by listed unapplied (take n rs) xs) (map unless_taken (take n taken))) (left_texts all (drafts_by listed unapplied (drop n rs) ys) zs))
+    ∙ ap (λ zs. text_if (list_any is_some (map unless_taken (take n taken)))
+    (parts_text p (drafts_by listed unapplied (take n rs) xs) (map unless_taken (take n taken)))
+    (left_texts all (drafts_by listed unapplied (drop n rs) ys) zs))
     (drop-map unless_taken n taken)
     ∙ any_left (take n rs) (take n taken) xs (parts_text p (drafts_by listed unapplied (take n rs) xs) (map unless_taken (take n taken))) run
     (left_texts all (drafts_by listed unapplied (drop n rs) ys) (map unless_taken (drop n taken))) (absent_runs (drop n rs) (drop n taken) runs)

@@ -29,7 +29,8 @@ runs_long count [] (run ∷ runs) parts = absurd parts
 runs_long count (p ∷ all) [] parts = absurd parts
 runs_long count (p ∷ all) (run ∷ runs) parts = ap suc (runs_long count all runs parts.2)
 
-pub drafts_long : (listed : Listing) (applied : Record → Applied) (rs : List Record) (ds : List Data) → length rs ≡ length ds → length (drafts_by listed applied rs ds) ≡ length rs
+pub drafts_long : (listed : Listing) (applied : Record → Applied) (rs : List Record) (ds : List Data) → length rs ≡ length ds
+    → length (drafts_by listed applied rs ds) ≡ length rs
 drafts_long listed applied [] ds same = refl
 drafts_long listed applied (r ∷ rs) [] same = absurd (omega (arith, same))
 drafts_long listed applied (r ∷ rs) (d ∷ ds) same = ap suc (drafts_long listed applied rs ds (omega (arith, same)))
@@ -89,15 +90,16 @@ counted : (all : List RunParts) (runs : List Data) → ArePartsOf own_count all 
 counted [] [] parts = refl
 counted [] (run ∷ runs) parts = absurd parts
 counted (p ∷ all) [] parts = absurd parts
-counted (p ∷ all) (run ∷ runs) parts = one (is_some p.results) (is_some (results_array run)) (ap is_some parts.1 ∙ found_same (results_array run)) (counted all runs parts.2) where
-  one : (a b : Bool) → a ≡ b
-      → length (filter (λ parts. not (is_some parts.results)) all) ≡ length (filter (λ run. not (is_some (results_array run))) runs)
-      → length (cond (not a) (p ∷ filter (λ parts. not (is_some parts.results)) all) (filter (λ parts. not (is_some parts.results)) all))
-      ≡ length (cond (not b) (run ∷ filter (λ run. not (is_some (results_array run))) runs) (filter (λ run. not (is_some (results_array run))) runs))
-  one true true same rest = rest
-  one false false same rest = ap suc rest
-  one true false same rest = cc
-  one false true same rest = cc
+counted (p ∷ all) (run ∷ runs) parts =
+    one (is_some p.results) (is_some (results_array run)) (ap is_some parts.1 ∙ found_same (results_array run)) (counted all runs parts.2) where
+      one : (a b : Bool) → a ≡ b
+          → length (filter (λ parts. not (is_some parts.results)) all) ≡ length (filter (λ run. not (is_some (results_array run))) runs)
+          → length (cond (not a) (p ∷ filter (λ parts. not (is_some parts.results)) all) (filter (λ parts. not (is_some parts.results)) all))
+          ≡ length (cond (not b) (run ∷ filter (λ run. not (is_some (results_array run))) runs) (filter (λ run. not (is_some (results_array run))) runs))
+      one true true same rest = rest
+      one false false same rest = ap suc rest
+      one true false same rest = cc
+      one false true same rest = cc
 
 pub without_results : (all : List RunParts) (runs : List Data) (n : ℕ) → ArePartsOf own_count all runs → n ≡ count_by (λ parts. not (is_some parts.results)) all
     → n ≡ runs_without_results runs

@@ -10,6 +10,7 @@ use Rattle.sarif_results.proofs.WholeMembers.{without_whole, list_float}
 pub bare_whole : (ms : Members) → members_have_float ms ≡ false → members_have_float (bare ms) ≡ false
 bare_whole ms of_ms = without_whole (codes "baselineGuid") (without (codes "results") ms) (without_whole (codes "results") ms of_ms)
 
-pub with_results_whole : (list : Option Items) (ms : Members) → list_float list ≡ false → members_have_float ms ≡ false → members_have_float (with_results list ms) ≡ false
+pub with_results_whole : (list : Option Items) (ms : Members) → list_float list ≡ false → members_have_float ms ≡ false
+    → members_have_float (with_results list ms) ≡ false
 with_results_whole None ms of_list of_ms = of_ms
 with_results_whole (Some ds) ms of_list of_ms = put_whole (codes "results") (array ds) ms of_list of_ms

@@ -1,4 +1,4 @@
-//! Assembling the merged log.
+//! Assembling the merged log, while what is no longer needed is released.
 ghost use Rattle.std.specs.Prelude.{◌≡◌, List, Ok, Option, IfOk};
 ghost use Rattle.sarif_entries.specs.File.{File};
 ghost use Rattle.sarif_runs.specs.Placed.{Placed};
@@ -6,6 +6,7 @@ ghost use Rattle.sarif_findings.specs.declared.reporting.Reporting.{Reporting};
 ghost use Rattle.sarif_log.specs.Beside.{IsMadeBy};
 ghost use Rattle.sarif_log.specs.Assembled.{IsMergedBy};
 ghost use Rattle.sarif_log.specs.Internal.Prepared.{IsPrepared};
+ghost use denote.Param.Send.{IsSend};
 
 use crate::facts::Facts;
 use crate::merged::Merged;
@@ -13,17 +14,24 @@ use crate::prepared::Prepared;
 use crate::written::write_log;
 use sarif_options::Options;
 use std::alloc::{AllocError, Global};
+use std::thread;
 use std::thread::Threads;
 
 /// Returns the merged log of what was prepared, with the gate of the policy of `options`, with what is for later
 /// merges, and what `tell` returns for the facts of the merge. As many threads as there are workers count the
-/// results, and `tell` is called while the log's text is made. Returns `AllocError` if memory runs out or if `tell`
-/// returns it.
-pub fn assemble<R: Threads + Sync, B: Drop, Tell: FnOnce(&Facts<'_>) -> Result<B, AllocError>>(
+/// results, and `tell` is called while the log's text is made. Meanwhile one more thread releases `spent`, such as the
+/// memory of the sources. Returns `AllocError` if memory runs out or if `tell` returns it.
+pub fn assemble<
+    R: Threads + Sync,
+    B: Drop,
+    X: Send + Drop,
+    Tell: FnOnce(&Facts<'_>) -> Result<B, AllocError>,
+>(
     rt: &R,
     alloc: Global,
     prepared: Prepared,
     options: &Options,
+    spent: X,
     tell: Tell,
 ) -> Result<(Merged, B), AllocError>
     requires tells { Tell.IsAlwaysCallable tell }
@@ -33,5 +41,18 @@ pub fn assemble<R: Threads + Sync, B: Drop, Tell: FnOnce(&Facts<'_>) -> Result<B
     ensures life { IfOk result (λ made. made.0.life ≡ prepared.life) }
     ensures told { IfOk result (λ made. IsMadeBy Tell.FnOnce tell made.0 (Ok made.1)) }
 {
-    write_log(rt, alloc, prepared, options, tell)
+    let write = move || -> Result<(Merged, B), AllocError>
+        requires { Tell.IsAlwaysCallable tell }
+        ensures merged { IfOk result (λ made. (file : File)
+            (current_runs baseline_runs : List Placed) (asked : Option Reporting)
+            → IsPrepared file current_runs baseline_runs asked prepared
+            → IsMergedBy file current_runs baseline_runs options.entry.now.policy asked made.0) }
+        ensures life { IfOk result (λ made. made.0.life ≡ prepared.life) }
+        ensures told { IfOk result (λ made. IsMadeBy Tell.FnOnce tell made.0 (Ok made.1)) }
+    { write_log(rt, alloc, prepared, options, tell) };
+    let release = move ||
+        requires { IsSend X.row }
+    { drop(spent) };
+    let (_, made) = thread::join(rt, release, write);
+    made
 }

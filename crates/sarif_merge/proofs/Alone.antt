@@ -16,7 +16,8 @@ use Rattle.sarif_streams.specs.declared.readers.Readers.{Readers}
 use Rattle.sarif_merge.specs.FromReaders.{IsMergedFrom, IsMergedWith, IsRefused, IsRefusedWith}
 
 -- the merge that was read is that of the log alone
-pub merged_alone : {R : Type 0} → (remaining : R → Option (List ℕ)) → (old new : Readers R) → (options : Options) → (asked : Option Reporting) → (upkeep : Option Upkeep) → (merged : Merged)
+pub merged_alone : {R : Type 0} → (remaining : R → Option (List ℕ)) → (old new : Readers R) → (options : Options) → (asked : Option Reporting)
+    → (upkeep : Option Upkeep) → (merged : Merged)
     → IsMergedWith remaining old new options asked upkeep merged → IsMergedFrom remaining old new options asked merged
 merged_alone remaining old new options asked upkeep merged with_life = (with_life.0, with_life.1, with_life.2)
 
@@ -33,11 +34,13 @@ pub refused_alone : {R : Type 0} → (remaining : R → Option (List ℕ)) → (
     → IsRefusedWith remaining old new options None fault → IsRefused remaining old new options fault
 refused_alone remaining old new options fault refused = elim refused [ inl same ↦ same | inr large ↦ let never : ⊥ = cc large.1.3 in absurd never ]
 
-pub refusal_alone : (inputs : Inputs) (policy : Policy) (fault : MergeFault) → IsRefusal inputs policy None fault → IsOutOfResources fault ⊎ (first_fault inputs ≡ Some fault)
+pub refusal_alone : (inputs : Inputs) (policy : Policy) (fault : MergeFault) → IsRefusal inputs policy None fault → IsOutOfResources fault
+    ⊎ (first_fault inputs ≡ Some fault)
 refusal_alone inputs policy fault (inl same) = same
 refusal_alone inputs policy fault (inr large) = let never : ⊥ = cc large.1 in absurd never
 
 -- what rejects the merge of the log alone rejects the merge
-pub refused_first : {R : Type 0} → (remaining : R → Option (List ℕ)) → (old new : Readers R) → (options : Options) → (upkeep : Option Upkeep) → (fault : MergeFault)
+pub refused_first : {R : Type 0} → (remaining : R → Option (List ℕ)) → (old new : Readers R) → (options : Options) → (upkeep : Option Upkeep)
+    → (fault : MergeFault)
     → IsRefused remaining old new options fault → IsRefusedWith remaining old new options upkeep fault
 refused_first remaining old new options upkeep fault refused = inl refused

@@ -60,8 +60,10 @@ same_large file bytes policy now before xs ys upkeep fault h e f =
     (subst (λ k. first (life_faults (merge_of file bytes policy k before) upkeep) ≡ Some fault) e h)
 
 -- what is assembled of what was prepared for these inputs
-pub assembled_is : (inputs : Inputs) (policy : Policy) (asked : Option Reporting) (upkeep : Option Upkeep) (prepared : Prepared) (merged : Merged) → IsPreparedFor inputs policy asked upkeep prepared
-    → ((file : File) (now before : List Placed) (told : Option Reporting) → IsPrepared file now before told prepared → IsMergedBy file now before policy told merged)
+pub assembled_is : (inputs : Inputs) (policy : Policy) (asked : Option Reporting) (upkeep : Option Upkeep) (prepared : Prepared) (merged : Merged)
+    → IsPreparedFor inputs policy asked upkeep prepared
+    → ((file : File) (now before : List Placed) (told : Option Reporting) → IsPrepared file now before told prepared
+    → IsMergedBy file now before policy told merged)
     → IsMerged inputs policy asked merged
 assembled_is inputs policy asked upkeep prepared merged ready assembled =
     let entries = file_in (file_or_none inputs.suppressions inputs.today) in
@@ -69,7 +71,12 @@ assembled_is inputs policy asked upkeep prepared merged ready assembled =
     let baselines = placed (numbered inputs.checks Baseline 0 inputs.baselines) in
     let made = assembled entries logs baselines asked ready.written in record {
       faultless = ready.faultless;
-      begins = (gate_of (count_of (runs_by entries logs baselines)) policy (runs_without_results (run_values logs)) (unused_of entries (records_of logs)), leftover_runs logs baselines, made.written.log);
+      begins = (
+        gate_of (count_of (runs_by entries logs baselines)) policy (runs_without_results (run_values logs))
+            (unused_of entries (records_of logs)),
+        leftover_runs logs baselines,
+        made.written.log,
+      );
       log = made.written.log;
       gate = made.written.gate;
       told = made.told;
@@ -92,14 +99,16 @@ few_sources ls few = let within : nat_lt most_sources (length ls) ≡ false = gr
 few_baselines : (bs : List (List ℕ)) → length bs ≤ most_sources → number_faults Baseline bs ≡ []
 few_baselines bs few = let within : nat_lt most_sources (length bs) ≡ false = grind (arith, nat_tests) in rw within refl
 
-pub number_is_no_fault : (ls bs : List (List ℕ)) → length ls ≤ most_sources → length bs ≤ most_sources → (rest : List MergeFault) → number_faults Log ls ++ (number_faults Baseline bs ++ rest) ≡ rest
+pub number_is_no_fault : (ls bs : List (List ℕ)) → length ls ≤ most_sources → length bs ≤ most_sources → (rest : List MergeFault)
+    → number_faults Log ls ++ (number_faults Baseline bs ++ rest) ≡ rest
 number_is_no_fault ls bs few_ls few_bs rest =
     ap (λ x. x ++ (number_faults Baseline bs ++ rest)) (few_sources ls few_ls) ∙ ap (λ x. x ++ rest) (few_baselines bs few_bs)
 
 -- ---- indexes
 
 -- the indexes of the sources as they are held
-pub are_indexes : (ls bs : List (Vec ℕ Global)) (indexes : List (Result (List Token) IndexFault)) (n : ℕ) → n ≡ length ls → length ls ≤ most_sources → length bs ≤ most_sources
+pub are_indexes : (ls bs : List (Vec ℕ Global)) (indexes : List (Result (List Token) IndexFault)) (n : ℕ) → n ≡ length ls → length ls ≤ most_sources
+    → length bs ≤ most_sources
     → AreIndexed (map without_mark (map (λ v. v.items) ls ++ map (λ v. v.items) bs)) indexes
     → AreIndexesOf (map (λ v. v.items) ls) (map (λ v. v.items) bs) indexes n
 are_indexes ls bs indexes n count few_ls few_bs indexed = record {

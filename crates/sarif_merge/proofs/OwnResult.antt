@@ -22,7 +22,7 @@ use Rattle.sarif_model.proofs.Elements.{items_back}
 use Rattle.sarif_runs.specs.declared.item.Item.{Item}
 use Rattle.sarif_runs.specs.declared.item.Item.TheVariants.{Skipped}
 use Rattle.sarif_runs.specs.Judging.{faults_of_runs, first_bad, item_by, item_of, items_of, opening_fault, records_in, records_of, run_faults, skips, with_record, run_values}
-use Rattle.sarif_runs.specs.Placed.{Placed}
+use Rattle.sarif_runs.specs.Placed.{AreReadWith, Placed}
 use Rattle.sarif_results.specs.Drafts.{Listing}
 use Rattle.sarif_log.specs.MergedRuns.{annotated_items, bare, merged_run, merged_runs, own_results, with_results, written, written_all}
 use Rattle.json_parts.specs.Without.{without}
@@ -32,9 +32,9 @@ use Rattle.sarif_results.proofs.JudgedCounts.{no_fault, no_faults_here, no_fault
 use Rattle.sarif_log.proofs.Sides.{states_long}
 use Rattle.sarif_inputs.specs.Faults.{faults_of, file_faults, number_faults}
 use Rattle.sarif_entries.specs.Given.{file_or_none}
-use Rattle.sarif_inputs.specs.Inputs.{Inputs, all_runs, all_sources, baseline_runs, input_runs}
+use Rattle.sarif_inputs.specs.Inputs.{Inputs, all_runs, all_sources, baseline_runs, input_runs, reads_regions}
 use Rattle.sarif_inputs.specs.SourceFaults.{source_faults}
-use Rattle.sarif_inputs.proofs.ReadFacts.{log_sides}
+use Rattle.sarif_inputs.proofs.ReadFacts.{log_sides, read_alike}
 use Rattle.sarif_merge.specs.MergedLog.{current_of, file_given, written_inputs}
 use Rattle.sarif_merge.specs.OwnResult.{IsResult, baseline_of, partner_at, number_among_all, run_at, written_by, written_run}
 
@@ -44,7 +44,8 @@ module _ (listed : Listing) where
   -- a written run uses the records and states of its own results
   merged_at : (rs : List Record) (ss : List State) (runs : List Data) (k : ℕ) → k < length runs
       → get_or (merged_runs listed rs ss runs) k null
-      ≡ merged_run listed (take (length (results_of (get_or runs k null))) (drop (results_total (take k runs)) rs)) (take (length (results_of (get_or runs k null))) (drop (results_total (take k runs)) ss)) (get_or runs k null)
+      ≡ merged_run listed (take (length (results_of (get_or runs k null))) (drop (results_total (take k runs)) rs))
+      (take (length (results_of (get_or runs k null))) (drop (results_total (take k runs)) ss)) (get_or runs k null)
   merged_at rs ss [] k within = absurd (omega (arith, within))
   merged_at rs ss (run ∷ runs) zero within = refl
   merged_at rs ss (run ∷ runs) (suc k) within =
@@ -72,7 +73,8 @@ module _ (listed : Listing) where
   found_results rs ss None ms none =
       ap (λ found. elements_or_none (option_and_then as_array found)) none ∙ sym (nothing_written rs ss)
   found_results rs ss (Some ds) ms none =
-      ap (λ found. elements_or_none (option_and_then as_array found)) (get_member-put (codes "results") (array (items_as_data (written_all listed rs ss (elements ds)))) ms)
+      ap (λ found. elements_or_none (option_and_then as_array found))
+      (get_member-put (codes "results") (array (items_as_data (written_all listed rs ss (elements ds)))) ms)
       ∙ items_back (written_all listed rs ss (elements ds))
 
   -- a run is written with its results
@@ -83,7 +85,8 @@ module _ (listed : Listing) where
   merged_results rs ss (string s) = sym (nothing_written rs ss)
   merged_results rs ss (array ds) = sym (nothing_written rs ss)
   merged_results rs ss (object ms) =
-      found_results rs ss (own_results ms) (bare ms) (still_out (codes "results") (codes "baselineGuid") (without (codes "results") ms) (taken_out (codes "results") ms))
+      found_results rs ss (own_results ms) (bare ms)
+      (still_out (codes "results") (codes "baselineGuid") (without (codes "results") ms) (taken_out (codes "results") ms))
 
   -- as many results are written as are read
   results_written : (rs : List Record) (ss : List State) (ds : List Data) → length (written_all listed rs ss ds) ≡ length ds
@@ -126,42 +129,56 @@ not_skipped p a log = ap (λ skip. skip && is_absent_result (result_at p.run a))
 -- among those from result a on
 record_from : (p : Placed) (at : ℕ → At) (n a m i j : ℕ) → skips p.source ≡ false → i < m → a + i ≡ j
     → first_bad at n (map (item_of p) (range_with_len a m)) ≡ []
-    → (r : Record) × (record_of p.run j ≡ Ok r) × ((d : Record) → get_or (records_in (map (item_of p) (range_with_len a m))) i d ≡ r)
+    → (r : Record) × (record_of p.options.read_regions p.run j ≡ Ok r) × ((d : Record) → get_or (records_in (map (item_of p) (range_with_len a m))) i d ≡ r)
 record_from p at n a zero i j log within is sound = absurd (omega (arith, within))
 record_from p at n a (suc m) zero j log within is sound =
     let here : a ≡ j = omega (arith, is) in
-    subst (λ k. (r : Record) × (record_of p.run k ≡ Ok r) × ((d : Record) → get_or (records_in (map (item_of p) (range_with_len a (suc m)))) 0 d ≡ r)) here
-    (first_one (skips p.source && is_absent_result (result_at p.run a)) (record_of p.run a) at n (map (item_of p) (range_with_len (a + 1) m)) (not_skipped p a log) sound)
+    subst (λ k. (r : Record) × (record_of p.options.read_regions p.run k ≡ Ok r)
+    × ((d : Record) → get_or (records_in (map (item_of p) (range_with_len a (suc m)))) 0 d ≡ r)) here
+    (first_one (skips p.source && is_absent_result (result_at p.run a)) (record_of p.options.read_regions p.run a) at n
+    (map (item_of p) (range_with_len (a + 1) m)) (not_skipped p a log) sound)
 record_from p at n a (suc m) (suc i) j log within is sound =
-    let rest = after_one (skips p.source && is_absent_result (result_at p.run a)) (record_of p.run a) at n (map (item_of p) (range_with_len (a + 1) m)) (not_skipped p a log) sound in
+    let rest =
+    after_one (skips p.source && is_absent_result (result_at p.run a)) (record_of p.options.read_regions p.run a) at n
+    (map (item_of p) (range_with_len (a + 1) m)) (not_skipped p a log) sound in
     let later = record_from p at (n + 1) (a + 1) m i j log (omega (arith, within)) (omega (arith, is)) rest.0 in
     (later.0, later.1, λ d. rest.1 i d ∙ later.2 d)
 
 -- in its run
 record_in_run : (p : Placed) (seq : ℕ) → skips p.source ≡ false → run_faults p ≡ [] → seq < length (results_of p.run)
-    → (r : Record) × (record_of p.run seq ≡ Ok r) × ((d : Record) → get_or (records_in (items_of p)) seq d ≡ r)
+    → (r : Record) × (record_of p.options.read_regions p.run seq ≡ Ok r) × ((d : Record) → get_or (records_in (items_of p)) seq d ≡ r)
 record_in_run p seq log sound within =
     record_from p (Single p.source p.number) 0 0 (length (results_of p.run)) seq seq log within (omega arith)
     (no_fault p.source p.number (opening_fault p) (items_of p) sound)
 
 -- among the records of all runs
-pub record_at : (ps : List Placed) (k seq : ℕ) → faults_of_runs ps ≡ [] → AllByRecursion (λ p. skips p.source ≡ false) ps
+pub record_at : (regions : Bool) (ps : List Placed) (k seq : ℕ) → faults_of_runs ps ≡ [] → AllByRecursion (λ p. skips p.source ≡ false) ps
+    → AreReadWith regions ps
     → k < length ps → seq < length (results_of (get_or (run_values ps) k null))
-    → (r : Record) × (record_of (get_or (run_values ps) k null) seq ≡ Ok r) × ((d : Record) → get_or (records_of ps) (results_total (take k (run_values ps)) + seq) d ≡ r)
-record_at [] k seq sound logs there within = absurd (omega (arith, there))
-record_at (p ∷ ps) zero seq sound logs there within =
+    → (r : Record) × (record_of regions (get_or (run_values ps) k null) seq ≡ Ok r)
+    × ((d : Record) → get_or (records_of ps) (results_total (take k (run_values ps)) + seq) d ≡ r)
+record_at regions [] k seq sound logs alike there within = absurd (omega (arith, there))
+record_at regions (p ∷ ps) zero seq sound logs alike there within =
     let none = no_faults_here (run_faults p) (faults_of_runs ps) sound in
     let own = record_in_run p seq logs.0 none within in
     let inside : seq < length (records_in (items_of p)) = omega (arith, within, records_of_log p logs.0 none) in
-    let place : 0 + seq ≡ seq = omega arith in
-    (own.0, own.1, λ d. ap (λ i. get_or (records_in (items_of p) ++ records_of ps) i d) place ∙ get_or_append_left (records_in (items_of p)) (records_of ps) d seq inside ∙ own.2 d)
-record_at (p ∷ ps) (suc k) seq sound logs there within =
+    let place : 0 + seq ≡ seq = omega arith in (
+      own.0,
+      subst (λ b. record_of b p.run seq ≡ Ok own.0) alike.0 own.1,
+      λ d. ap (λ i. get_or (records_in (items_of p) ++ records_of ps) i d) place
+          ∙ get_or_append_left (records_in (items_of p)) (records_of ps) d seq inside ∙ own.2 d,
+    )
+record_at regions (p ∷ ps) (suc k) seq sound logs alike there within =
     let none = no_faults_here (run_faults p) (faults_of_runs ps) sound in
     let before = results_total (take k (run_values ps)) in
-    let own = record_at ps k seq (no_faults_left (run_faults p) (faults_of_runs ps) sound) logs.1 (omega (arith, there)) within in
+    let own = record_at regions ps k seq (no_faults_left (run_faults p) (faults_of_runs ps) sound) logs.1 alike.1 (omega (arith, there)) within in
     let many = records_of_log p logs.0 none in
-    let place : (length (results_of p.run) + before) + seq ≡ length (records_in (items_of p)) + (before + seq) = omega (arith, many) in
-    (own.0, own.1, λ d. ap (λ i. get_or (records_in (items_of p) ++ records_of ps) i d) place ∙ get_or-append-add (records_in (items_of p)) (records_of ps) (before + seq) d ∙ own.2 d)
+    let place : (length (results_of p.run) + before) + seq ≡ length (records_in (items_of p)) + (before + seq) = omega (arith, many) in (
+      own.0,
+      own.1,
+      λ d. ap (λ i. get_or (records_in (items_of p) ++ records_of ps) i d) place
+          ∙ get_or-append-add (records_in (items_of p)) (records_of ps) (before + seq) d ∙ own.2 d,
+    )
 
 -- ---- the state of a result
 
@@ -211,7 +228,8 @@ runs_same inputs =
     runs_written (listing_of (file_given inputs)) (current_of inputs) (states_of (current_of inputs) (baseline_of inputs)) (run_values now)
     ∙ length-map now (λ p. p.run)
 
-pub results_same : (inputs : Inputs) (k : ℕ) → k < length (input_runs inputs) → length (results_of (written_run inputs k)) ≡ length (results_of (run_at inputs k))
+pub results_same : (inputs : Inputs) (k : ℕ) → k < length (input_runs inputs)
+    → length (results_of (written_run inputs k)) ≡ length (results_of (run_at inputs k))
 results_same inputs k there =
     let now = input_runs inputs in
     let runs = run_values now in
@@ -226,7 +244,7 @@ results_same inputs k there =
     ∙ results_written listed own_records own_states (results_of run)
 
 pub own_result : (inputs : Inputs) (k seq : ℕ) → faults_of inputs ≡ [] → IsResult inputs k seq
-    → (r : Record) × (record_of (run_at inputs k) seq ≡ Ok r)
+    → (r : Record) × (record_of (reads_regions inputs.checks) (run_at inputs k) seq ≡ Ok r)
     × (result_at (written_run inputs k) seq ≡ written_by inputs r (number_among_all inputs k seq) (result_at (run_at inputs k) seq))
 own_result inputs k seq none there =
     let now = input_runs inputs in
@@ -240,7 +258,8 @@ own_result inputs k seq none there =
     let c = length (results_of run) in
     let sound = faultless_runs inputs none in
     let logs = log_sides inputs.checks 0 inputs.logs in
-    let own = record_at now k seq sound logs there.0 there.1 in
+    let alike = read_alike inputs.checks Log 0 inputs.logs in
+    let own = record_at (reads_regions inputs.checks) now k seq sound logs alike there.0 there.1 in
     let r = own.0 in
     let s = state_of r (partner_at inputs (b + seq)) in
     let in_runs : k < length runs = omega (arith, there.0, length-map now (λ p. p.run)) in

@@ -99,5 +99,9 @@ pub objects_in : (sources : List Sourced) → AllByRecursion IsRun (run_values (
 objects_in [] = tt
 objects_in (s ∷ rest) =
     let here = placed_from s.checks s.source 0 (runs_in s) in
-    let same = map-append (λ (p : Placed). p.run) here (placed rest) ∙ ap (λ ds. ds ++ run_values (placed rest)) (data_placed s.checks s.source 0 (runs_in s)) in
-    subst (AllByRecursion IsRun) (sym same) (all_append (runs_in s) (run_values (placed rest)) (readable_objects s.checks.allow_external s.bytes (log_of s.checks.allow_external s.bytes) refl) (objects_in rest))
+    let same =
+    map-append (λ (p : Placed). p.run) here (placed rest)
+    ∙ ap (λ ds. ds ++ run_values (placed rest)) (data_placed s.checks s.source 0 (runs_in s)) in
+    subst (AllByRecursion IsRun) (sym same)
+    (all_append (runs_in s) (run_values (placed rest))
+    (readable_objects s.checks.allow_external s.bytes (log_of s.checks.allow_external s.bytes) refl) (objects_in rest))

@@ -64,7 +64,8 @@ rejected_by m these others fault are found quiet =
 
 -- ---- index
 
-pub indexed_in : (m : Merging) (ls bs : List (Vec ℕ Global)) (indexes : List (Result (List Token) IndexFault)) → ls ≡ m.sources.now.logs.items → bs ≡ m.sources.now.baselines.items
+pub indexed_in : (m : Merging) (ls bs : List (Vec ℕ Global)) (indexes : List (Result (List Token) IndexFault)) → ls ≡ m.sources.now.logs.items
+    → bs ≡ m.sources.now.baselines.items
     → length m.sources.now.logs.items ≤ most_sources → length m.sources.now.baselines.items ≤ most_sources
     → AreIndexed (map without_mark (map (λ v. v.items) ls ++ map (λ v. v.items) bs)) indexes → AreIndexesIn m indexes
 unfolding AreIndexesIn
@@ -82,11 +83,13 @@ pub are_indexes_in : (m : Merging) (indexes : List (Result (List Token) IndexFau
 unfolding AreIndexesIn
 are_indexes_in m indexes are = are
 
-pub logs_opened : (m : Merging) (runs : Runs) → AreRunsOf (inputs_in m).checks (inputs_in m).logs (inputs_in m).baselines runs → AreLogsOpened m runs.current.items
+pub logs_opened : (m : Merging) (runs : Runs) → AreRunsOf (inputs_in m).checks (inputs_in m).logs (inputs_in m).baselines runs
+    → AreLogsOpened m runs.current.items
 unfolding AreLogsOpened
 logs_opened m runs read = record { are = read.current; few = omega (arith, read.few); few_results = omega (arith, read.few_results) }
 
-pub baselines_opened : (m : Merging) (runs : Runs) → AreRunsOf (inputs_in m).checks (inputs_in m).logs (inputs_in m).baselines runs → AreBaselinesOpened m runs.baseline.items
+pub baselines_opened : (m : Merging) (runs : Runs) → AreRunsOf (inputs_in m).checks (inputs_in m).logs (inputs_in m).baselines runs
+    → AreBaselinesOpened m runs.baseline.items
 unfolding AreBaselinesOpened
 baselines_opened m runs read = record { are = read.baseline; few = omega (arith, read.few); few_results = omega (arith, read.few_results) }
 
@@ -110,15 +113,18 @@ pub rejected_sources : (m : Merging) (indexes : List (Result (List Token) IndexF
     → IsOutOfResources fault ⊎ (first (source_faults 0 0 (all_sources (inputs_in m))) ≡ Some fault) → exit_status fault.cause ≡ 2 → IsRejection m fault
 unfolding AreIndexesIn
 rejected_sources m indexes fault are found quiet =
-    rejected_by m (source_faults 0 0 (all_sources (inputs_in m))) (file_faults (file_or_none (inputs_in m).suppressions (inputs_in m).today) ++ faults_of_runs (all_runs (inputs_in m))) fault
+    rejected_by m (source_faults 0 0 (all_sources (inputs_in m)))
+    (file_faults (file_or_none (inputs_in m).suppressions (inputs_in m).today) ++ faults_of_runs (all_runs (inputs_in m))) fault
     (after_sources m are.few_logs are.few_baselines) found quiet
 
 -- ---- read the suppression file
 
-pub file_read : (m : Merging) (bytes : Option (List ℕ)) (file : File) → IsRead m → bytes ≡ (inputs_in m).suppressions → file_or_none bytes (inputs_in m).today ≡ Ok file → IsFileIn m file
+pub file_read : (m : Merging) (bytes : Option (List ℕ)) (file : File) → IsRead m → bytes ≡ (inputs_in m).suppressions
+    → file_or_none bytes (inputs_in m).today ≡ Ok file → IsFileIn m file
 unfolding IsRead IsFileIn
 file_read m bytes file read is_bytes is_file =
-    let is : file_or_none (inputs_in m).suppressions (inputs_in m).today ≡ Ok file = subst (λ b. file_or_none b (inputs_in m).today ≡ Ok file) is_bytes is_file in
+    let is : file_or_none (inputs_in m).suppressions (inputs_in m).today ≡ Ok file =
+    subst (λ b. file_or_none b (inputs_in m).today ≡ Ok file) is_bytes is_file in
     (is, read ∙ ap (λ r. file_faults r ++ faults_of_runs (all_runs (inputs_in m))) is)
 
 pub rejected_file : (m : Merging) (bytes : Option (List ℕ)) (fault : MergeFault) → IsRead m → bytes ≡ (inputs_in m).suppressions
@@ -164,7 +170,8 @@ judged_side m baseline wanted runs file judged sides objects opened read same ou
     } in
     (are, subst (λ f. IsJudged f baseline judged) (same_file m file read) made)
 
-pub logs_judged : (m : Merging) (runs : List OpenedRun) (file : File) (judged : Judged) → AreLogsOpened m runs → IsFileIn m file → placed_in judged ≡ map placed_of runs
+pub logs_judged : (m : Merging) (runs : List OpenedRun) (file : File) (judged : Judged) → AreLogsOpened m runs → IsFileIn m file
+    → placed_in judged ≡ map placed_of runs
     → judged.outcomes.items ≡ all_outcomes file (placed_in judged) → faults_of_runs (map placed_of runs) ≡ [] → AreLogsJudged m judged
 unfolding AreLogsOpened AreLogsJudged
 logs_judged m runs file judged opened read same outcomes none =
@@ -181,10 +188,12 @@ pub rejected_logs : (m : Merging) (runs : List OpenedRun) (file : File) (fault :
     → IsOutOfResources fault ⊎ (first (faults_of_runs (map placed_of runs)) ≡ Some fault) → exit_status fault.cause ≡ 2 → IsRejection m fault
 unfolding AreLogsOpened IsFileIn
 rejected_logs m runs file fault opened read found quiet =
-    rejected_by m (faults_of_runs (input_runs (inputs_in m))) (faults_of_runs (baseline_runs (inputs_in m))) fault (read.1 ∙ faults_apart (input_runs (inputs_in m)) (baseline_runs (inputs_in m)))
+    rejected_by m (faults_of_runs (input_runs (inputs_in m))) (faults_of_runs (baseline_runs (inputs_in m))) fault
+    (read.1 ∙ faults_apart (input_runs (inputs_in m)) (baseline_runs (inputs_in m)))
     (subst (λ ps. IsOutOfResources fault ⊎ (first (faults_of_runs ps) ≡ Some fault)) opened.are found) quiet
 
-pub baselines_judged : (m : Merging) (runs : List OpenedRun) (file : File) (judged : Judged) → AreBaselinesOpened m runs → IsFileIn m file → placed_in judged ≡ map placed_of runs
+pub baselines_judged : (m : Merging) (runs : List OpenedRun) (file : File) (judged : Judged) → AreBaselinesOpened m runs → IsFileIn m file
+    → placed_in judged ≡ map placed_of runs
     → judged.outcomes.items ≡ all_outcomes file (placed_in judged) → faults_of_runs (map placed_of runs) ≡ [] → AreBaselinesJudged m judged
 unfolding AreBaselinesOpened AreBaselinesJudged
 baselines_judged m runs file judged opened read same outcomes none =
@@ -216,13 +225,15 @@ unfolding AreBaselinesJudged
 judged_second m file judged read baselines = subst (λ f. IsJudged f true judged) (sym (same_file m file read)) baselines.1
 
 -- no input has an error
-none_left : (m : Merging) (file : File) (now before : Judged) → IsFileIn m file → AreLogsJudged m now → AreBaselinesJudged m before → faults_of (inputs_in m) ≡ []
+none_left : (m : Merging) (file : File) (now before : Judged) → IsFileIn m file → AreLogsJudged m now → AreBaselinesJudged m before
+    → faults_of (inputs_in m) ≡ []
 unfolding IsFileIn AreLogsJudged AreBaselinesJudged
 none_left m file now before read logs baselines =
     read.1 ∙ left_after_first (input_runs (inputs_in m)) (baseline_runs (inputs_in m)) (ap faults_of_runs (sym logs.0) ∙ logs.1.faultless)
     ∙ ap faults_of_runs (sym baselines.0) ∙ baselines.1.faultless
 
-pub is_ready : (m : Merging) (bytes : Option (List ℕ)) (file : File) (now before : Judged) (prepared : Prepared) → IsFileIn m file → AreLogsJudged m now → AreBaselinesJudged m before
+pub is_ready : (m : Merging) (bytes : Option (List ℕ)) (file : File) (now before : Judged) (prepared : Prepared) → IsFileIn m file
+    → AreLogsJudged m now → AreBaselinesJudged m before
     → bytes ≡ (inputs_in m).suppressions → IsPrepared file (placed_in now) (placed_in before) (reporting_in m.asked.now) prepared
     → IsKept (merge_of file bytes (policy_in m) (placed_in now) (placed_in before)) (upkeep_in m.asked.now) prepared.life → IsReady m prepared
 unfolding IsReady AreLogsJudged AreBaselinesJudged
@@ -233,14 +244,18 @@ is_ready m bytes file now before prepared read logs baselines is ready kept =
     let xs = input_runs inputs in
     let ys = baseline_runs inputs in record {
       faultless = none_left m file now before read logs baselines;
-      written = subst (λ f. IsPrepared f xs ys asked prepared) (same_file m file read) (same_runs file (placed_in now) (placed_in before) xs ys asked prepared ready logs.0 baselines.0);
+      written =
+          subst (λ f. IsPrepared f xs ys asked prepared) (same_file m file read)
+          (same_runs file (placed_in now) (placed_in before) xs ys asked prepared ready logs.0 baselines.0);
       kept = subst (λ f. IsKept (merge_of f inputs.suppressions (policy_in m) xs ys) upkeep prepared.life) (same_file m file read)
           (subst (λ b. IsKept (merge_of file b (policy_in m) xs ys) upkeep prepared.life) is
           (same_kept file bytes (policy_in m) (placed_in now) (placed_in before) xs ys upkeep prepared.life kept logs.0 baselines.0));
     }
 
-pub rejected_life : (m : Merging) (bytes : Option (List ℕ)) (file : File) (now before : Judged) (fault : MergeFault) → IsFileIn m file → AreLogsJudged m now → AreBaselinesJudged m before
-    → bytes ≡ (inputs_in m).suppressions → IsUnkept (merge_of file bytes (policy_in m) (placed_in now) (placed_in before)) (upkeep_in m.asked.now) fault → IsRejection m fault
+pub rejected_life : (m : Merging) (bytes : Option (List ℕ)) (file : File) (now before : Judged) (fault : MergeFault) → IsFileIn m file
+    → AreLogsJudged m now → AreBaselinesJudged m before
+    → bytes ≡ (inputs_in m).suppressions
+    → IsUnkept (merge_of file bytes (policy_in m) (placed_in now) (placed_in before)) (upkeep_in m.asked.now) fault → IsRejection m fault
 unfolding IsRejection AreLogsJudged AreBaselinesJudged
 rejected_life m bytes file now before fault read logs baselines is unkept =
     let inputs = inputs_in m in
@@ -262,7 +277,8 @@ rejected_life m bytes file now before fault read logs baselines is unkept =
 -- ---- assemble
 
 pub is_merge_of : (m : Merging) (prepared : Prepared) (merged : Merged) → IsReady m prepared
-    → ((file : File) (now before : List Placed) (told : Option Reporting) → IsPrepared file now before told prepared → IsMergedBy file now before (policy_in m) told merged)
+    → ((file : File) (now before : List Placed) (told : Option Reporting) → IsPrepared file now before told prepared
+    → IsMergedBy file now before (policy_in m) told merged)
     → merged.life ≡ prepared.life → IsMergeOf m merged
 unfolding IsReady IsMergeOf
 is_merge_of m prepared merged ready assembled same = (

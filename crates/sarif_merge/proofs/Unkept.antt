@@ -41,12 +41,14 @@ of_text entries value =
     elim (nat_lt most_entries entries) as (λ b. AllByRecursion IsQuietFault (if b then fault_at (Whole Suppress) (cause_of TooMany) ∷ []
     else (if nat_lt most_bytes (length (file_text value)) then fault_at (Whole Suppress) TooLong ∷ [] else []))) [
       | true ↦ (refl, tt)
-      | false ↦ elim (nat_lt most_bytes (length (file_text value))) as (λ b. AllByRecursion IsQuietFault (if b then fault_at (Whole Suppress) TooLong ∷ [] else [])) [ true ↦ (refl, tt) | false ↦ tt ]
+      | false ↦ elim (nat_lt most_bytes (length (file_text value))) as
+          (λ b. AllByRecursion IsQuietFault (if b then fault_at (Whole Suppress) TooLong ∷ [] else [])) [ true ↦ (refl, tt) | false ↦ tt ]
     ]
 
 of_known : (m : Merge) (knowing : Knowing) → AllByRecursion IsQuietFault (known_faults m knowing)
 of_known m knowing =
-    elim (nat_lt most_bytes (length (known_text (runs_known m knowing)))) as (λ b. AllByRecursion IsQuietFault (if b then fault_at (Whole Known) TooLong ∷ [] else [])) [ true ↦ (refl, tt) | false ↦ tt ]
+    elim (nat_lt most_bytes (length (known_text (runs_known m knowing)))) as
+    (λ b. AllByRecursion IsQuietFault (if b then fault_at (Whole Known) TooLong ∷ [] else [])) [ true ↦ (refl, tt) | false ↦ tt ]
 
 of_renewed : (m : Merge) (renewal : Option Renewal) → AllByRecursion IsQuietFault (if_renewed m renewal)
 of_renewed m None = tt

@@ -35,9 +35,11 @@ module _ (listed : Listing) (adds_none : (r : Record) (own : List Data) → list
   members_whole r state ms of_ms =
       let own = elements (own_suppressions ms) in
       let list = items_of (listed r own) in
-      let of_own : list_any has_float own ≡ false = any_element (own_suppressions ms) ∙ items_in_whole (get_member (codes "suppressions") ms) (found_whole (codes "suppressions") ms of_ms) in
+      let of_own : list_any has_float own ≡ false =
+      any_element (own_suppressions ms) ∙ items_in_whole (get_member (codes "suppressions") ms) (found_whole (codes "suppressions") ms of_ms) in
       let of_list : items_have_float list ≡ false = items_whole (listed r own) ∙ adds_none r own of_own in
-      put_whole (codes "baselineState") (string (state_name state)) (put (codes "level") (string (level_name r.level)) (put (codes "suppressions") (array list) ms)) refl
+      put_whole (codes "baselineState") (string (state_name state))
+      (put (codes "level") (string (level_name r.level)) (put (codes "suppressions") (array list) ms)) refl
       (put_whole (codes "level") (string (level_name r.level)) (put (codes "suppressions") (array list) ms) refl
       (put_whole (codes "suppressions") (array list) ms of_list of_ms))
 
@@ -45,7 +47,8 @@ module _ (listed : Listing) (adds_none : (r : Record) (own : List Data) → list
   written_whole r state d of_d =
       on_members_whole (λ ms. annotated_members r.level state (items_of (listed r (elements (own_suppressions ms)))) ms) (members_whole r state) d of_d
 
-  written_all_whole : (rs : List Record) (states : List State) (ds : List Data) → list_any has_float ds ≡ false → list_any has_float (written_all listed rs states ds) ≡ false
+  written_all_whole : (rs : List Record) (states : List State) (ds : List Data) → list_any has_float ds ≡ false
+      → list_any has_float (written_all listed rs states ds) ≡ false
   written_all_whole [] states ds of_ds = of_ds
   written_all_whole (r ∷ rs) [] ds of_ds = of_ds
   written_all_whole (r ∷ rs) (state ∷ states) [] of_ds = refl
@@ -53,7 +56,8 @@ module _ (listed : Listing) (adds_none : (r : Record) (own : List Data) → list
       let parts = or_parts (has_float d) (list_any has_float ds) of_ds in
       both (written listed r state d) (written_all listed rs states ds) (written_whole r state d parts.0) (written_all_whole rs states ds parts.1)
 
-  annotated_whole : (rs : List Record) (states : List State) (list : Option Items) → list_float list ≡ false → list_float (annotated_items listed rs states list) ≡ false
+  annotated_whole : (rs : List Record) (states : List State) (list : Option Items) → list_float list ≡ false
+      → list_float (annotated_items listed rs states list) ≡ false
   annotated_whole rs states None of_list = refl
   annotated_whole rs states (Some ds) of_list =
       items_whole (written_all listed rs states (elements ds)) ∙ written_all_whole rs states (elements ds) (any_element ds ∙ of_list)
@@ -62,13 +66,15 @@ module _ (listed : Listing) (adds_none : (r : Record) (own : List Data) → list
       → members_have_float (with_results (annotated_items listed rs states (own_results ms)) (bare ms)) ≡ false
   merged_members_whole rs states ms of_ms =
       with_results_whole (annotated_items listed rs states (own_results ms)) (bare ms)
-      (annotated_whole rs states (own_results ms) (array_whole (get_member (codes "results") ms) (found_whole (codes "results") ms of_ms))) (bare_whole ms of_ms)
+      (annotated_whole rs states (own_results ms) (array_whole (get_member (codes "results") ms) (found_whole (codes "results") ms of_ms)))
+      (bare_whole ms of_ms)
 
   merged_run_whole : (rs : List Record) (states : List State) (run : Data) → has_float run ≡ false → has_float (merged_run listed rs states run) ≡ false
   merged_run_whole rs states run of_run =
       on_members_whole (λ ms. with_results (annotated_items listed rs states (own_results ms)) (bare ms)) (merged_members_whole rs states) run of_run
 
-  pub merged_runs_whole : (rs : List Record) (states : List State) (runs : List Data) → list_any has_float runs ≡ false → list_any has_float (merged_runs listed rs states runs) ≡ false
+  pub merged_runs_whole : (rs : List Record) (states : List State) (runs : List Data) → list_any has_float runs ≡ false
+      → list_any has_float (merged_runs listed rs states runs) ≡ false
   merged_runs_whole rs states [] of_runs = refl
   merged_runs_whole rs states (run ∷ runs) of_runs =
       let n = length (results_of run) in
@@ -78,7 +84,8 @@ module _ (listed : Listing) (adds_none : (r : Record) (own : List Data) → list
 
 -- ---- baseline runs
 
-present_at : (there : Bool) (d : Data) (ds : List Data) → has_float d ≡ false → list_any has_float ds ≡ false → list_any has_float (cond there (d ∷ ds) ds) ≡ false
+present_at : (there : Bool) (d : Data) (ds : List Data) → has_float d ≡ false → list_any has_float ds ≡ false
+    → list_any has_float (cond there (d ∷ ds) ds) ≡ false
 present_at true d ds of_d of_ds = both d ds of_d of_ds
 present_at false d ds of_d of_ds = of_ds
 
@@ -103,17 +110,21 @@ unmatched_whole (r ∷ rs) (t ∷ taken) (d ∷ ds) of_ds =
 
 with_absent_whole : (ds : List Data) (run : Data) → list_any has_float ds ≡ false → has_float run ≡ false → has_float (with_absent ds run) ≡ false
 with_absent_whole ds run of_ds of_run =
-    on_members_whole (λ ms. with_results (Some (items_of ds)) (bare ms)) (λ ms of_ms. with_results_whole (Some (items_of ds)) (bare ms) (items_whole ds ∙ of_ds) (bare_whole ms of_ms)) run of_run
+    on_members_whole (λ ms. with_results (Some (items_of ds)) (bare ms))
+    (λ ms of_ms. with_results_whole (Some (items_of ds)) (bare ms) (items_whole ds ∙ of_ds) (bare_whole ms of_ms)) run of_run
 
-if_any_whole : (ds : List Data) (run : Data) (runs : List Data) → list_any has_float ds ≡ false → has_float run ≡ false → list_any has_float runs ≡ false → list_any has_float (if_any ds run runs) ≡ false
+if_any_whole : (ds : List Data) (run : Data) (runs : List Data) → list_any has_float ds ≡ false → has_float run ≡ false
+    → list_any has_float runs ≡ false → list_any has_float (if_any ds run runs) ≡ false
 if_any_whole [] run runs of_ds of_run of_runs = of_runs
 if_any_whole (d ∷ ds) run runs of_ds of_run of_runs = both (with_absent (d ∷ ds) run) runs (with_absent_whole (d ∷ ds) run of_ds of_run) of_runs
 
-pub absent_runs_whole : (rs : List Record) (taken : List Bool) (runs : List Data) → list_any has_float runs ≡ false → list_any has_float (absent_runs rs taken runs) ≡ false
+pub absent_runs_whole : (rs : List Record) (taken : List Bool) (runs : List Data) → list_any has_float runs ≡ false
+    → list_any has_float (absent_runs rs taken runs) ≡ false
 absent_runs_whole rs taken [] of_runs = refl
 absent_runs_whole rs taken (run ∷ runs) of_runs =
     let ds = present (results_of run) in
     let n = length ds in
     let parts = or_parts (has_float run) (list_any has_float runs) of_runs in
     if_any_whole (unmatched (take n rs) (take n taken) ds) run (absent_runs (drop n rs) (drop n taken) runs)
-    (unmatched_whole (take n rs) (take n taken) ds (present_whole (results_of run) (results_whole run parts.0))) parts.0 (absent_runs_whole (drop n rs) (drop n taken) runs parts.1)
+    (unmatched_whole (take n rs) (take n taken) ds (present_whole (results_of run) (results_whole run parts.0))) parts.0
+    (absent_runs_whole (drop n rs) (drop n taken) runs parts.1)

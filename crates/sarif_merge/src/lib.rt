@@ -1,7 +1,6 @@
 //! The merge of SARIF 2.1.0 logs, from bytes or from readers into a writer.
 #![tactic(auto)]
 
-mod assembling;
 mod laws;
 mod merge;
 mod merge_sources;

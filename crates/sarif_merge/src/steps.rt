@@ -5,13 +5,12 @@ ghost use Rattle.std.specs.Prelude.{◌≡◌, ◌≤◌, ◌+◌, Ok, length, o
 ghost use Rattle.sarif_log.specs.Beside.{IsMadeBy};
 ghost use Rattle.sarif_model.specs.Limits.{most_sources};
 
-use crate::assembling::assemble_beside;
 use json::Scratch;
 use json_parts::{Index, IndexFault};
 use sarif_gather::Gate;
 use sarif_inputs::{Opening, Runs, index_sources, open_sources, read_file};
 use sarif_judge::{Team, judge_runs};
-use sarif_log::{Facts, Merged, Prepared};
+use sarif_log::{Facts, Merged, Prepared, assemble};
 use sarif_model::MergeFault;
 use sarif_prepare::{Asked, FileRead, prepare};
 use sarif_results::Judged;
@@ -207,7 +206,7 @@ impl<'m, 'o: 'm> Merging<'m, 'o> {
         ensures refused { IfErr result (IsRejection self.now) }
     {
         let options = self.asked.options;
-        let made = assemble_beside(rt, alloc, prepared, options, scratches, tell)?;
+        let made = assemble(rt, alloc, prepared, options, scratches, tell)?;
         Ok(made)
     }
 }

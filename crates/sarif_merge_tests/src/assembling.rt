@@ -47,7 +47,7 @@ fn merge_nothing<R: Threads + Sync>(
         upkeep: None,
     };
     let prepared = prepare(rt, alloc, no_runs(alloc), no_runs(alloc), &rules, &asked)?;
-    let (merged, ()) = assemble(rt, alloc, prepared, options, |_| Ok(()))?;
+    let (merged, ()) = assemble(rt, alloc, prepared, options, (), |_| Ok(()))?;
     Ok(merged)
 }
 

@@ -53,7 +53,8 @@ seam (i ∷ is) js (s ∷ ss) ts same = one i (seam is js ss ts (omega (arith, s
 
 -- ---- the results at these places
 
-one : {X : Type 0} (f : Spot → X) (g : Data → X) (skip absent : Bool) (found : Result Record Fault) (at : ℕ → At) (n : ℕ) (items : List Item) (spot : Spot) (spots : List Spot) (d : Data) (rest : List Data)
+one : {X : Type 0} (f : Spot → X) (g : Data → X) (skip absent : Bool) (found : Result Record Fault) (at : ℕ → At) (n : ℕ) (items : List Item)
+    (spot : Spot) (spots : List Spot) (d : Data) (rest : List Data)
     → skip ≡ true → f spot ≡ g d
     → first_bad at n ((if skip && absent then Skipped else item_by found) ∷ items) ≡ []
     → (first_bad at (n + 1) items ≡ [] → map f spots ≡ map g rest)
@@ -71,8 +72,10 @@ many all p run at n a zero is skip whole sound =
     sym (ap (λ ds. with_run p.run (present ds)) (drop_all a (results_of p.run) (omega (arith, whole))))
 many all p run at n a (suc m) is skip whole sound =
     let rest = drop (a + 1) (results_of p.run) in
-    one (pair_at all) (λ d. (p.run, d)) (skips p.source) (is_absent_result (result_at p.run a)) (record_of p.run a) at n (map (item_of p) (range_with_len (a + 1) m))
-    (record { run = run; seq = a }) (spots_with_record (map (item_of p) (range_with_len (a + 1) m)) (map (λ seq. record { run = run; seq = seq }) (range_with_len (a + 1) m)))
+    one (pair_at all) (λ d. (p.run, d)) (skips p.source) (is_absent_result (result_at p.run a)) (record_of p.options.read_regions p.run a) at n
+    (map (item_of p) (range_with_len (a + 1) m))
+    (record { run = run; seq = a })
+    (spots_with_record (map (item_of p) (range_with_len (a + 1) m)) (map (λ seq. record { run = run; seq = seq }) (range_with_len (a + 1) m)))
     (result_at p.run a) (present rest) skip (ap (λ q. (q.run, result_at q.run a)) is) sound
     (many all p run at (n + 1) (a + 1) m is skip (omega (arith, whole)))
     ∙ sym (ap (λ ds. with_run p.run (present ds)) (drop_more (results_of p.run) a null (omega (arith, whole))))
@@ -80,7 +83,8 @@ many all p run at n a (suc m) is skip whole sound =
 of_run : (all : List Placed) (p : Placed) (run : ℕ) → placed_at all run ≡ p → skips p.source ≡ true → run_faults p ≡ []
     → map (pair_at all) (spots_with_record (items_of p) (spots_in run (length (results_of p.run)))) ≡ present_in p.run
 of_run all p run is skip sound =
-    many all p run (Single p.source p.number) 0 0 (length (results_of p.run)) is skip (omega arith) (no_fault p.source p.number (opening_fault p) (items_of p) sound)
+    many all p run (Single p.source p.number) 0 0 (length (results_of p.run)) is skip (omega arith)
+    (no_fault p.source p.number (opening_fault p) (items_of p) sound)
 
 items_long : (p : Placed) (run : ℕ) → length (items_of p) ≡ length (spots_in run (length (results_of p.run)))
 items_long p run =
@@ -98,9 +102,12 @@ from done (p ∷ rest) n is skip sound =
     let later = spots_from (n + 1) rest in
     ap (map (pair_at all)) (seam (items_of p) (flat_map items_of rest) these later (items_long p n))
     ∙ map-append (pair_at all) (spots_with_record (items_of p) these) (spots_with_record (flat_map items_of rest) later)
-    ∙ ap (λ ds. ds ++ map (pair_at all) (spots_with_record (flat_map items_of rest) later)) (of_run all p n here skip.0 (no_faults_here (run_faults p) (faults_of_runs rest) sound))
+    ∙ ap (λ ds. ds ++ map (pair_at all) (spots_with_record (flat_map items_of rest) later))
+    (of_run all p n here skip.0 (no_faults_here (run_faults p) (faults_of_runs rest) sound))
     ∙ ap (λ ps. present_in p.run ++ map (pair_at ps) (spots_with_record (flat_map items_of rest) later)) (sym again)
-    ∙ ap (λ ds. present_in p.run ++ ds) (from (done ++ p ∷ []) rest (n + 1) (omega (arith, is, length-append done (p ∷ []))) skip.1 (no_faults_left (run_faults p) (faults_of_runs rest) sound))
+    ∙ ap (λ ds. present_in p.run ++ ds)
+    (from (done ++ p ∷ []) rest (n + 1) (omega (arith, is, length-append done (p ∷ []))) skip.1
+    (no_faults_left (run_faults p) (faults_of_runs rest) sound))
 
 pub pairs_at_spots : (runs : List Placed) → AllByRecursion (λ p. skips p.source ≡ true) runs → faults_of_runs runs ≡ []
     → map (pair_at runs) (spots_with_record (flat_map items_of runs) (spots_from 0 runs)) ≡ flat_map present_in (run_values runs)

@@ -43,7 +43,8 @@ counts_are [] = refl
 counts_are (p ∷ ps) = ap (λ l. length (present (results_of p.run)) ∷ l) (counts_are ps)
 
 -- what is handed on is the merge
-pub matched_is : (file : File) (bytes : Option (List ℕ)) (policy : Policy) (now before : List Placed) (c : Half) (b : Baselines) (p : Paired) (matched : Matched)
+pub matched_is : (file : File) (bytes : Option (List ℕ)) (policy : Policy) (now before : List Placed) (c : Half) (b : Baselines) (p : Paired)
+    (matched : Matched)
     → AreTogether file now before c b → IsPaired c b p → IsFileOf bytes file
     → matched.file.now ≡ file → option_map (λ x. x.now) matched.bytes ≡ bytes → matched.policy ≡ policy
     → matched.current.runs.now ≡ c.runs.items → matched.current.records.now ≡ c.records.items → matched.current.drafts.now ≡ c.drafts.items
@@ -51,7 +52,8 @@ pub matched_is : (file : File) (bytes : Option (List ℕ)) (policy : Policy) (no
     → matched.before.runs.now ≡ b.runs.items → matched.before.counts.now ≡ b.counts.items → matched.before.records.now ≡ b.records.items
     → matched.before.taken.now ≡ p.taken.items
     → IsMatched (merge_of file bytes policy now before) matched
-matched_is file bytes policy now before c b p matched h q read file_is bytes_are policy_is runs_are records_are drafts_are states_are old_runs_are counts_is known_are taken_is =
+matched_is file bytes policy now before c b p matched h q read file_is bytes_are policy_is runs_are records_are drafts_are states_are old_runs_are
+    counts_is known_are taken_is =
     let rs = records_of now in
     let bs = records_of before in
     let long : length rs ≡ length (flat_map results_of (run_values now)) = h.current_records ∙ sym (results_long (run_values now)) in record {

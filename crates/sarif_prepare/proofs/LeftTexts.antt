@@ -102,7 +102,8 @@ front p all these_ds bs counted =
     ap (λ m. text_if (list_any is_some (take m ss)) (parts_text p (take m ds) (take m ss)) (left_texts all (drop m ds) (drop m ss))) counted
     ∙ ap (λ es. text_if (list_any is_some (take n ss)) (parts_text p es (take n ss)) (left_texts all (drop n ds) (drop n ss))) (take-append_seam these_ds bs)
     ∙ ap (λ zs. text_if (list_any is_some zs) (parts_text p these_ds zs) (left_texts all (drop n ds) (drop n ss))) first
-    ∙ ap (λ es. text_if (list_any is_some (map absent these_ds)) (parts_text p these_ds (map absent these_ds)) (left_texts all es (drop n ss))) (drop-append_seam these_ds bs)
+    ∙ ap (λ es. text_if (list_any is_some (map absent these_ds)) (parts_text p these_ds (map absent these_ds)) (left_texts all es (drop n ss)))
+    (drop-append_seam these_ds bs)
     ∙ ap (λ zs. text_if (list_any is_some (map absent these_ds)) (parts_text p these_ds (map absent these_ds)) (left_texts all bs zs)) rest
 
 whole : (all : List RunParts) (taken : List Bool) (runs : List Data) (ds : List Draft) → AreLeftParts all taken runs
@@ -133,9 +134,12 @@ whole (p ∷ all) taken (run ∷ runs) ds parts same total =
     ∙ front p all these_ds bs counted
     ∙ ap (λ b. text_if b (parts_text p these_ds (map absent these_ds)) (left_texts all bs (map absent bs))) (any these (take n ds) front_same)
     ∙ ap (λ t. text_if (list_any is_some (map unless_taken these)) t (left_texts all bs (map absent bs))) shown
-    ∙ ap (λ ts. text_if (list_any is_some (map unless_taken these)) (run_text (members_view p.members.entries) (Some (texts_of (take n ds) (map unless_taken these)))) ts) rest
-    ∙ ap (λ zs. text_if (list_any is_some zs) (run_text (members_view p.members.entries) (Some (texts_of (take n ds) zs))) (left_texts (full all runs) (drop n ds) (map unless_taken later))) (sym (take-map unless_taken n taken))
-    ∙ ap (λ zs. text_if (list_any is_some (take n ss)) (run_text (members_view p.members.entries) (Some (texts_of (take n ds) (take n ss)))) (left_texts (full all runs) (drop n ds) zs)) (sym (drop-map unless_taken n taken))
+    ∙ ap (λ ts. text_if (list_any is_some (map unless_taken these))
+    (run_text (members_view p.members.entries) (Some (texts_of (take n ds) (map unless_taken these)))) ts) rest
+    ∙ ap (λ zs. text_if (list_any is_some zs) (run_text (members_view p.members.entries) (Some (texts_of (take n ds) zs)))
+    (left_texts (full all runs) (drop n ds) (map unless_taken later))) (sym (take-map unless_taken n taken))
+    ∙ ap (λ zs. text_if (list_any is_some (take n ss)) (run_text (members_view p.members.entries) (Some (texts_of (take n ds) (take n ss))))
+    (left_texts (full all runs) (drop n ds) zs)) (sym (drop-map unless_taken n taken))
 
 -- the texts of the unmatched results are those of the runs of a merged log
 pub left_written : (rs : List Record) (taken : List Bool) (all : List RunParts) (runs : List Data) (ds : List Draft)

@@ -22,7 +22,9 @@ pub told_next : (reporting : Reporting) (runs : List ReportedRun) (spots : List 
     → (run : ReportedRun) (none : Spot) (draft : Draft) (old new whole : List Finding)
     → n < length spots → n < length drafts → n < length states → (get_or spots n none).run < length runs
     → run ≡ get_or runs (get_or spots n none).run run → draft ≡ get_or drafts n draft
-    → new ≡ old ++ cons_option (told_as reporting (placed_told run).run (result_at (placed_told run).run (get_or spots n none).seq) draft (get_or states n None)) []
+    → new ≡ old
+    ++ cons_option
+    (told_as reporting (placed_told run).run (result_at (placed_told run).run (get_or spots n none).seq) draft (get_or states n None)) []
     → old ++ told_each reporting (map (pair_at (map placed_told runs)) (drop n spots)) (drop n drafts) (drop n states) ≡ whole
     → new ++ told_each reporting (map (pair_at (map placed_told runs)) (drop (n + 1) spots)) (drop (n + 1) drafts) (drop (n + 1) states) ≡ whole
 told_next reporting runs spots drafts states n run none draft old new whole in_spots in_drafts in_states in_runs run_is draft_is pushed held =

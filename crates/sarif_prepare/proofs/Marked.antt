@@ -17,7 +17,9 @@ marks_drawn file before [] ds same = ap (marks_of file) (sym (append-nil before)
 marks_drawn file before (r ∷ rs) [] same = absurd (omega (arith, same))
 marks_drawn file before (r ∷ rs) (d ∷ ds) same =
     let rest = drafts_by (listing_of file) (applied_of file) rs ds in
-    let here = one_more (marks_of file before) (with_marks (marks_of file before) (matching_numbers file r)) (matching_numbers file r) file before r refl refl refl in
+    let here =
+    one_more (marks_of file before) (with_marks (marks_of file before) (matching_numbers file r)) (matching_numbers file r)
+    file before r refl refl refl in
     ap (λ marks. marked marks rest) here
     ∙ marks_drawn file (before ++ r ∷ []) rs ds (omega (arith, same))
     ∙ ap (marks_of file) (append_assoc before (r ∷ []) rs)

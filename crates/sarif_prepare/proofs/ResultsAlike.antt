@@ -91,7 +91,8 @@ physical_same x y same =
 
 path_same : (reporting : Reporting) (run x y : Data) → AreToldAlike x y → path_in reporting run x ≡ path_in reporting run y
 path_same reporting run x y same =
-    ap (λ p. option_and_then (shown_path reporting.roots) (option_and_then (location_uri run) (option_and_then (get (codes "artifactLocation")) p))) (physical_same x y same)
+    ap (λ p. option_and_then (shown_path reporting.roots) (option_and_then (location_uri run) (option_and_then (get (codes "artifactLocation")) p)))
+    (physical_same x y same)
 
 position_same : (name : List ℕ) (x y : Data) → AreToldAlike x y → position_in name x ≡ position_in name y
 position_same name x y same =

@@ -52,7 +52,8 @@ help_same a b x same =
 artifact_same : (a b : Data) (o : Option ℕ) → AreAlike a b → option_and_then (artifact_uri a) o ≡ option_and_then (artifact_uri b) o
 artifact_same a b None same = refl
 artifact_same a b (Some n) same =
-    ap (λ found. option_and_then (text_in (codes "uri")) (option_and_then (get (codes "location")) (slice_get (elements_or_none (option_and_then as_array found)) n))) same.artifacts
+    ap (λ found. option_and_then (text_in (codes "uri"))
+    (option_and_then (get (codes "location")) (slice_get (elements_or_none (option_and_then as_array found)) n))) same.artifacts
 
 location_same : (a b : Data) (o : Option Data) → AreAlike a b → option_and_then (location_uri a) o ≡ option_and_then (location_uri b) o
 location_same a b None same = refl

@@ -13,9 +13,8 @@ use Rattle.sarif_model.specs.Level.{level_name}
 use Rattle.sarif_model.specs.State.{state_name}
 use Rattle.sarif_suppress.specs.declared.suppressions.Applied.{Applied}
 use Rattle.sarif_counts.specs.CountOf.{suppresses}
-use Rattle.sarif_options.specs.Policy.{is_listed}
 use Rattle.sarif_findings.specs.declared.reporting.Reporting.{Reporting}
-use Rattle.sarif_findings.specs.Reported.{finding_by, finding_if, finding_of, state_in}
+use Rattle.sarif_findings.specs.Reported.{are_shown, finding_by, finding_if, finding_of, state_in}
 use Rattle.sarif_prepare.proofs.ResultsAlike.{same_told, AreToldAlike}
 use Rattle.sarif_prepare.proofs.RunsAlike.{AreAlike}
 use Rattle.sarif_results.specs.Annotated.{annotated_members}
@@ -33,7 +32,8 @@ kept : (name : List ℕ) (level : Level) (state : State) (list : Items) (ms : Me
     → (name ≡ codes "baselineState" → ⊥) → (name ≡ codes "level" → ⊥) → (name ≡ codes "suppressions" → ⊥)
     → get_member name (annotated_members level state list ms) ≡ get_member name ms
 kept name level state list ms no_state no_level no_list =
-    get_member-put_other name (codes "baselineState") (string (state_name state)) (put (codes "level") (string (level_name level)) (put (codes "suppressions") (array list) ms)) no_state
+    get_member-put_other name (codes "baselineState") (string (state_name state))
+    (put (codes "level") (string (level_name level)) (put (codes "suppressions") (array list) ms)) no_state
     ∙ get_member-put_other name (codes "level") (string (level_name level)) (put (codes "suppressions") (array list) ms) no_level
     ∙ get_member-put_other name (codes "suppressions") (array list) ms no_list
 
@@ -48,17 +48,18 @@ alike level state list ms = record {
 
 object_told : (reporting : Reporting) (later run : Data) (level : Level) (state : State) (list : Items) (ms : Members) → AreAlike later run
     → finding_if reporting later (object (annotated_members level state list ms))
-    ≡ (if is_listed reporting.policy.states state && not (suppresses list) then Some (finding_of reporting run (object ms) level state) else None)
+    ≡ (if are_shown reporting state level && not (suppresses list) then Some (finding_of reporting run (object ms) level state) else None)
 object_told reporting later run level state list ms same =
     let x = object (annotated_members level state list ms) in
     ap (λ o. finding_by reporting later x o (state_in x)) (level_told level state list ms)
     ∙ ap (finding_by reporting later x (Some level)) (state_told level state list ms)
-    ∙ ap (λ b. if is_listed reporting.policy.states state && b then Some (finding_of reporting later x level state) else None) (active_told level state list ms)
-    ∙ ap (λ f. if is_listed reporting.policy.states state && not (suppresses list) then Some f else None)
+    ∙ ap (λ b. if are_shown reporting state level && b then Some (finding_of reporting later x level state) else None) (active_told level state list ms)
+    ∙ ap (λ f. if are_shown reporting state level && not (suppresses list) then Some f else None)
     (same_told reporting later run x (object ms) level state same (alike level state list ms))
 
 -- a result of a run, and the same as it is written in a run that is alike
-draft_told : (reporting : Reporting) (later run : Data) (listed : Listing) (applied : Record → Applied) (r : Record) (state : State) (d : Data) → AreAlike later run → IsObject d
+draft_told : (reporting : Reporting) (later run : Data) (listed : Listing) (applied : Record → Applied) (r : Record) (state : State) (d : Data)
+    → AreAlike later run → IsObject d
     → told_as reporting run d (draft_by listed applied r (members_in d)) (Some state) ≡ finding_if reporting later (written listed r state d)
 draft_told reporting later run listed applied r state null same is = absurd is
 draft_told reporting later run listed applied r state (boolean b) same is = absurd is
@@ -70,9 +71,11 @@ draft_told reporting later run listed applied r state (object ms) same is =
 
 -- ---- the results of a run
 
-pub told_written : (reporting : Reporting) (later run : Data) (listed : Listing) (applied : Record → Applied) (rs : List Record) (states : List State) (ds : List Data)
+pub told_written : (reporting : Reporting) (later run : Data) (listed : Listing) (applied : Record → Applied) (rs : List Record) (states : List State)
+    (ds : List Data)
     → AreAlike later run → length rs ≡ length ds → length states ≡ length ds → AllByRecursion IsObject ds
-    → told_each reporting (with_run run ds) (drafts_by listed applied rs ds) (map Some states) ≡ filter_map (finding_if reporting later) (written_all listed rs states ds)
+    → told_each reporting (with_run run ds) (drafts_by listed applied rs ds) (map Some states)
+    ≡ filter_map (finding_if reporting later) (written_all listed rs states ds)
 told_written reporting later run listed applied [] states [] same same_r same_s objects = refl
 told_written reporting later run listed applied [] states (d ∷ ds) same same_r same_s objects = absurd (omega (arith, same_r))
 told_written reporting later run listed applied (r ∷ rs) states [] same same_r same_s objects = absurd (omega (arith, same_r))
@@ -85,7 +88,8 @@ told_written reporting later run listed applied (r ∷ rs) (state ∷ states) (d
 
 pub told_unmatched : (reporting : Reporting) (later run : Data) (rs : List Record) (taken : List Bool) (ds : List Data)
     → AreAlike later run → length rs ≡ length ds → length taken ≡ length ds → AllByRecursion IsObject ds
-    → told_each reporting (with_run run ds) (drafts_by (λ _ own. own) unapplied rs ds) (map unless_taken taken) ≡ filter_map (finding_if reporting later) (unmatched rs taken ds)
+    → told_each reporting (with_run run ds) (drafts_by (λ _ own. own) unapplied rs ds) (map unless_taken taken)
+    ≡ filter_map (finding_if reporting later) (unmatched rs taken ds)
 told_unmatched reporting later run [] taken [] same same_r same_t objects = refl
 told_unmatched reporting later run [] taken (d ∷ ds) same same_r same_t objects = absurd (omega (arith, same_r))
 told_unmatched reporting later run (r ∷ rs) taken [] same same_r same_t objects = absurd (omega (arith, same_r))

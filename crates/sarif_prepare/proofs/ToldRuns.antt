@@ -44,7 +44,8 @@ use Rattle.sarif_prepare.proofs.ToldResults.{told_unmatched, told_written}
 -- members that writing doesn't touch
 beside : (name : List ℕ) (ms : Members) → (name ≡ codes "results" → ⊥) → (name ≡ codes "baselineGuid" → ⊥) → get_member name (bare ms) ≡ get_member name ms
 beside name ms no_results no_guid =
-    get-without_other name (codes "baselineGuid") (object (without (codes "results") ms)) no_guid ∙ get-without_other name (codes "results") (object ms) no_results
+    get-without_other name (codes "baselineGuid") (object (without (codes "results") ms)) no_guid
+    ∙ get-without_other name (codes "results") (object ms) no_results
 
 kept : (name : List ℕ) (results : Option Items) (ms : Members) → (name ≡ codes "results" → ⊥) → (name ≡ codes "baselineGuid" → ⊥)
     → get_member name (with_results results (bare ms)) ≡ get_member name ms
@@ -63,10 +64,12 @@ no_results ms = still_out (codes "results") (codes "baselineGuid") (without (cod
 
 -- the findings of a run with these results
 of_results : (reporting : Reporting) (xs : List Data) (ms : Members)
-    → reported_in reporting (object (with_results (Some (items_of xs)) (bare ms))) ≡ filter_map (finding_if reporting (object (with_results (Some (items_of xs)) (bare ms)))) xs
+    → reported_in reporting (object (with_results (Some (items_of xs)) (bare ms)))
+    ≡ filter_map (finding_if reporting (object (with_results (Some (items_of xs)) (bare ms)))) xs
 of_results reporting xs ms =
     let run = object (with_results (Some (items_of xs)) (bare ms)) in
-    ap (λ o. filter_map (finding_if reporting run) (elements_or_none (option_and_then as_array o))) (get_member-put (codes "results") (array (items_of xs)) (bare ms))
+    ap (λ o. filter_map (finding_if reporting run) (elements_or_none (option_and_then as_array o)))
+    (get_member-put (codes "results") (array (items_of xs)) (bare ms))
     ∙ ap (filter_map (finding_if reporting run)) (items_back xs)
 
 found_told : (reporting : Reporting) (listed : Listing) (applied : Record → Applied) (rs : List Record) (ss : List State) (ms : Members) (found : Option Items)
@@ -77,7 +80,8 @@ found_told reporting listed applied rs ss ms None same_r same_s objects =
     sym (ap (λ o. filter_map (finding_if reporting (object (bare ms))) (elements_or_none (option_and_then as_array o))) (no_results ms))
 found_told reporting listed applied rs ss ms (Some ds) same_r same_s objects =
     let xs = written_all listed rs ss (elements ds) in
-    told_written reporting (object (with_results (Some (items_of xs)) (bare ms))) (object ms) listed applied rs ss (elements ds) (alike (Some (items_of xs)) ms) same_r same_s objects
+    told_written reporting (object (with_results (Some (items_of xs)) (bare ms))) (object ms) listed applied rs ss (elements ds)
+    (alike (Some (items_of xs)) ms) same_r same_s objects
     ∙ sym (of_results reporting xs ms)
 
 run_told : (reporting : Reporting) (listed : Listing) (applied : Record → Applied) (rs : List Record) (ss : List State) (run : Data)
@@ -122,8 +126,10 @@ seam : (reporting : Reporting) (ps qs : List (Data × Data)) (n : ℕ) (ds : Lis
     → told_each reporting (ps ++ qs) ds ss ≡ told_each reporting ps (take n ds) (take n ss) ++ told_each reporting qs (drop n ds) (drop n ss)
 seam reporting ps qs n ds ss same =
     split reporting n (ps ++ qs) ds ss
-    ∙ ap (λ xs. told_each reporting xs (take n ds) (take n ss) ++ told_each reporting (drop n (ps ++ qs)) (drop n ds) (drop n ss)) (ap (λ m. take m (ps ++ qs)) same ∙ take-append_seam ps qs)
-    ∙ ap (λ xs. told_each reporting ps (take n ds) (take n ss) ++ told_each reporting xs (drop n ds) (drop n ss)) (ap (λ m. drop m (ps ++ qs)) same ∙ drop-append_seam ps qs)
+    ∙ ap (λ xs. told_each reporting xs (take n ds) (take n ss) ++ told_each reporting (drop n (ps ++ qs)) (drop n ds) (drop n ss))
+    (ap (λ m. take m (ps ++ qs)) same ∙ take-append_seam ps qs)
+    ∙ ap (λ xs. told_each reporting ps (take n ds) (take n ss) ++ told_each reporting xs (drop n ds) (drop n ss))
+    (ap (λ m. drop m (ps ++ qs)) same ∙ drop-append_seam ps qs)
 
 with_long : (run : Data) (ds : List Data) → length ds ≡ length (with_run run ds)
 with_long run ds = sym (length-map ds (λ d. (run, d)))
@@ -145,12 +151,18 @@ runs_told reporting listed applied rs ss (run ∷ runs) are same_r same_s =
     let rest_r : length (drop n rs) ≡ results_total runs = omega (arith, length-drop n rs, same_r) in
     let rest_s : length (drop n ss) ≡ length (drop n rs) = omega (arith, length-drop n rs, length-drop n ss, same_s) in
     seam reporting here later n ds (map Some ss) (with_long run xs)
-    ∙ ap (λ es. told_each reporting here es (take n (map Some ss)) ++ told_each reporting later (drop n ds) (drop n (map Some ss))) (drafts_front listed applied rs xs ys)
-    ∙ ap (λ zs. told_each reporting here (drafts_by listed applied (take n rs) xs) zs ++ told_each reporting later (drop n ds) (drop n (map Some ss))) (take-map Some n ss)
-    ∙ ap (λ fs. fs ++ told_each reporting later (drop n ds) (drop n (map Some ss))) (run_told reporting listed applied (take n rs) (take n ss) run are.0 long_r long_s)
-    ∙ ap (λ es. reported_in reporting (merged_run listed (take n rs) (take n ss) run) ++ told_each reporting later es (drop n (map Some ss))) (drafts_back listed applied rs xs ys)
-    ∙ ap (λ zs. reported_in reporting (merged_run listed (take n rs) (take n ss) run) ++ told_each reporting later (drafts_by listed applied (drop n rs) ys) zs) (drop-map Some n ss)
-    ∙ ap (λ fs. reported_in reporting (merged_run listed (take n rs) (take n ss) run) ++ fs) (runs_told reporting listed applied (drop n rs) (drop n ss) runs are.1 rest_r rest_s)
+    ∙ ap (λ es. told_each reporting here es (take n (map Some ss)) ++ told_each reporting later (drop n ds) (drop n (map Some ss)))
+    (drafts_front listed applied rs xs ys)
+    ∙ ap (λ zs. told_each reporting here (drafts_by listed applied (take n rs) xs) zs ++ told_each reporting later (drop n ds) (drop n (map Some ss)))
+    (take-map Some n ss)
+    ∙ ap (λ fs. fs ++ told_each reporting later (drop n ds) (drop n (map Some ss)))
+    (run_told reporting listed applied (take n rs) (take n ss) run are.0 long_r long_s)
+    ∙ ap (λ es. reported_in reporting (merged_run listed (take n rs) (take n ss) run) ++ told_each reporting later es (drop n (map Some ss)))
+    (drafts_back listed applied rs xs ys)
+    ∙ ap (λ zs. reported_in reporting (merged_run listed (take n rs) (take n ss) run)
+    ++ told_each reporting later (drafts_by listed applied (drop n rs) ys) zs) (drop-map Some n ss)
+    ∙ ap (λ fs. reported_in reporting (merged_run listed (take n rs) (take n ss) run) ++ fs)
+    (runs_told reporting listed applied (drop n rs) (drop n ss) runs are.1 rest_r rest_s)
 
 -- ---- what is left of baselines
 
@@ -198,16 +210,19 @@ left_told reporting rs taken (run ∷ runs) are same_r same_t =
     let told = told_each reporting here (drafts_by listed unapplied (take n rs) xs) (map unless_taken (take n taken)) in
     seam reporting here later n ds ss (with_long run xs)
     ∙ ap (λ es. told_each reporting here es (take n ss) ++ told_each reporting later (drop n ds) (drop n ss)) (drafts_front listed unapplied rs xs ys)
-    ∙ ap (λ zs. told_each reporting here (drafts_by listed unapplied (take n rs) xs) zs ++ told_each reporting later (drop n ds) (drop n ss)) (take-map unless_taken n taken)
+    ∙ ap (λ zs. told_each reporting here (drafts_by listed unapplied (take n rs) xs) zs ++ told_each reporting later (drop n ds) (drop n ss))
+    (take-map unless_taken n taken)
     ∙ ap (λ es. told ++ told_each reporting later es (drop n ss)) (drafts_back listed unapplied rs xs ys)
     ∙ ap (λ zs. told ++ told_each reporting later (drafts_by listed unapplied (drop n rs) ys) zs) (drop-map unless_taken n taken)
     ∙ ap (λ fs. told ++ fs) (left_told reporting (drop n rs) (drop n taken) runs are.1 rest_r rest_t)
     ∙ absent_told reporting left run others told are.0
-    (told_unmatched reporting (with_absent left run) run (take n rs) (take n taken) xs (absent_alike left run are.0) long_r long_t (present_objects (results_of run) are.0.1))
+    (told_unmatched reporting (with_absent left run) run (take n rs) (take n taken) xs (absent_alike left run are.0) long_r long_t
+    (present_objects (results_of run) are.0.1))
 
 -- findings only for the results that are not taken
 untaken : (reporting : Reporting) (taken : List Bool) (ps : List (Data × Data)) (ds : List Draft) → length ps ≡ length taken → length ds ≡ length taken
-    → told_each reporting (not_taken taken ps) (not_taken taken ds) (map (λ _. Some Absent) (not_taken taken ds)) ≡ told_each reporting ps ds (map unless_taken taken)
+    → told_each reporting (not_taken taken ps) (not_taken taken ds) (map (λ _. Some Absent) (not_taken taken ds))
+    ≡ told_each reporting ps ds (map unless_taken taken)
 untaken reporting [] [] [] same_p same_d = refl
 untaken reporting [] [] (d ∷ ds) same_p same_d = absurd (omega (arith, same_d))
 untaken reporting [] (p ∷ ps) ds same_p same_d = absurd (omega (arith, same_p))

@@ -47,8 +47,10 @@ current_told reporting file now before c b p h q =
     q.states ∙ ap (λ rs. map Some (states_of rs b.records.items)) h.is_current.records ∙ ap (λ rs. map Some (states_of cs rs)) h.are_baselines.records in
     ap (λ ps. told_each reporting ps c.drafts.items p.states.items) (pairs_of_all now)
     ∙ ap (λ ds. told_each reporting (flat_map own_results (run_values now)) ds p.states.items) h.is_current.drafts
-    ∙ ap (told_each reporting (flat_map own_results (run_values now)) (drafts_by (listing_of file) (applied_of file) cs (flat_map results_of (run_values now)))) states
-    ∙ runs_told reporting (listing_of file) (applied_of file) cs (states_of cs bs) (run_values now) h.current_are_runs h.current_records (states_long bs (partners_of cs bs) 0 cs)
+    ∙ ap (told_each reporting (flat_map own_results (run_values now))
+    (drafts_by (listing_of file) (applied_of file) cs (flat_map results_of (run_values now)))) states
+    ∙ runs_told reporting (listing_of file) (applied_of file) cs (states_of cs bs) (run_values now) h.current_are_runs h.current_records
+    (states_long bs (partners_of cs bs) 0 cs)
 
 left_told : (reporting : Reporting) (file : File) (now before : List Placed) (c : Half) (b : Baselines) (p : Paired)
     → AreTogether file now before c b → IsPaired c b p
@@ -63,10 +65,12 @@ left_told reporting file now before c b p h q =
     let long = taken_long (records_of now) (records_of before) in
     let pairs_long : length pairs ≡ length taken =
     pairs_count (run_values before) ∙ sym h.are_baselines.count ∙ sym long in
-    ap (λ ps. told_each reporting ps p.left.items (map (λ _. Some Absent) p.left.items)) (not_taken-map (pair_at before) p.taken.items b.spots.items ∙ ap (not_taken p.taken.items) h.are_baselines.pairs)
+    ap (λ ps. told_each reporting ps p.left.items (map (λ _. Some Absent) p.left.items))
+    (not_taken-map (pair_at before) p.taken.items b.spots.items ∙ ap (not_taken p.taken.items) h.are_baselines.pairs)
     ∙ ap (λ ds. told_each reporting (not_taken p.taken.items pairs) ds (map (λ _. Some Absent) ds)) (q.left before h.are_baselines)
     ∙ ap (λ ts. told_each reporting (not_taken ts pairs) (not_taken ts drafts) (map (λ _. Some Absent) (not_taken ts drafts))) is
-    ∙ untaken_told reporting (records_of before) taken (run_values before) h.baseline_are_runs h.are_baselines.count long pairs_long (baseline_long before b h.are_baselines ∙ sym long)
+    ∙ untaken_told reporting (records_of before) taken (run_values before) h.baseline_are_runs h.are_baselines.count long pairs_long
+    (baseline_long before b h.are_baselines ∙ sym long)
 
 -- both, in order
 pub sides_told : (asked : Option Reporting) (file : File) (now before : List Placed) (c : Half) (b : Baselines) (p : Paired)

@@ -35,10 +35,12 @@ use Rattle.sarif_log.proofs.Sides.{drafts_long, few_present, own_total, results_
 
 -- ---- the runs of logs
 
-pub current_long : (file : File) (now before : List Placed) (c : Half) (b : Baselines) → AreTogether file now before c b → length c.drafts.items ≡ length (records_of now)
+pub current_long : (file : File) (now before : List Placed) (c : Half) (b : Baselines) → AreTogether file now before c b
+    → length c.drafts.items ≡ length (records_of now)
 current_long file now before c b h =
     ap length h.is_current.drafts
-    ∙ drafts_long (listing_of file) (applied_of file) (records_of now) (flat_map results_of (run_values now)) (h.current_records ∙ sym (results_long (run_values now)))
+    ∙ drafts_long (listing_of file) (applied_of file) (records_of now) (flat_map results_of (run_values now))
+    (h.current_records ∙ sym (results_long (run_values now)))
 
 pub current_side : (file : File) (now before : List Placed) (c : Half) (b : Baselines) (s : Side) → AreTogether file now before c b
     → ArePartsOf own_count s.runs.items (run_values now) → AllByRecursion IsWholeRun s.runs.items
@@ -109,7 +111,8 @@ baseline_texts file now before c b t h left =
     ∙ left_written (records_of before) taken t.runs.items (run_values before) ds h.baseline_are_runs left.parts h.are_baselines.count taken_all refl
     (baseline_long before b h.are_baselines ∙ sym taken_all)
 
-current_counts : (file : File) (now before : List Placed) (c : Half) (b : Baselines) (s : Side) (x : State) (l : Level) (y : Bool) → AreTogether file now before c b
+current_counts : (file : File) (now before : List Placed) (c : Half) (b : Baselines) (s : Side) (x : State) (l : Level) (y : Bool)
+    → AreTogether file now before c b
     → s.drafts.items ≡ c.drafts.items → s.states.items ≡ map Some (states_of (records_of now) (records_of before))
     → tallied s.drafts.items s.states.items x l y ≡ count_of (current_runs file now before) x l y
 current_counts file now before c b s x l y h drafts states =
@@ -118,7 +121,8 @@ current_counts file now before c b s x l y h drafts states =
     ∙ runs_count (listing_of file) (applied_of file) (records_of now) (states_of (records_of now) (records_of before)) (run_values now) x l y
     h.current_are_runs h.current_records (states_long (records_of before) (partners_of (records_of now) (records_of before)) 0 (records_of now))
 
-baseline_counts : (file : File) (now before : List Placed) (c : Half) (b : Baselines) (t : Side) (x : State) (l : Level) (y : Bool) → AreTogether file now before c b
+baseline_counts : (file : File) (now before : List Placed) (c : Half) (b : Baselines) (t : Side) (x : State) (l : Level) (y : Bool)
+    → AreTogether file now before c b
     → IsLeft before (taken_of (records_of now) (records_of before)) t
     → tallied t.drafts.items t.states.items x l y ≡ count_of (leftover_runs now before) x l y
 baseline_counts file now before c b t x l y h left =

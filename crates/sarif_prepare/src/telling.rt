@@ -20,12 +20,12 @@ use sarif_findings::{Finding, NamedRun, Reporting, ToldResult, finding_of};
 use sarif_model::State;
 use sarif_results::Draft;
 use sarif_runs::{OpenedRun, Spot, list_spots};
+use sarif_share::{Sharing, each_of, share_jobs};
 use std::alloc::{AllocError, Global};
-use std::thread;
 use std::thread::Threads;
 
 /// For fewer results it is not worth starting another thread.
-const FEWEST_SHARED: usize = 64;
+const LEAST_SHARED: usize = 32;
 
 /// Each of these runs, with the names that are looked up for its results.
 #[tactic(auto, using(crate::proofs::RunsAlike::bare_told))]
@@ -43,7 +43,7 @@ fn name_runs<'w, 't, 'a>(
     Ok(made)
 }
 
-/// Adds the result at this place of a run, where it is written and reported.
+/// Adds the result at this place of a run, if it is written and shown.
 fn push_told<'l, 'w, 't, 'a>(
     told: &mut Vec<ReportedResult<'l, 'w, 't, 'a>>,
     reporting: &Reporting,
@@ -60,8 +60,8 @@ fn push_told<'l, 'w, 't, 'a>(
     let Some(state) = state else {
         return Ok(());
     };
-    if reporting.policy.states.lists(state) && !draft.suppressed {
-        let level = draft.level;
+    let level = draft.level;
+    if reporting.shows(state, level) && !draft.suppressed {
         told.push(ReportedResult {
             run,
             seq,
@@ -123,53 +123,27 @@ fn tell(
     finding_of(alloc, reporting, named, &result, told.level, told.state)
 }
 
-/// Returns the findings of these, in order.
-fn tell_in_turn(
-    alloc: Global,
-    reporting: &Reporting,
-    told: &[ReportedResult<'_, '_, '_, '_>],
-) -> Result<Vec<Finding>, AllocError>
-    ensures { IfOk result (λ findings. findings.items ≡ map (told_by reporting.now) told.now) }
-{
-    let mut findings = Vec::with_capacity(alloc, told.len())?;
-    for one in told {
-        findings.push(tell(alloc, reporting, one)?)?;
-    }
-    Ok(findings)
-}
-
 /// Returns the findings of these. At most `threads` threads collect them, including this one.
-#[cycle(telling)]
-fn tell_all<R: Threads + Sync>(
+fn tell_all<'s, 'l, 'w, 't, 'a, R: Threads + Sync>(
     rt: &R,
     alloc: Global,
     reporting: &Reporting,
-    told: &[ReportedResult<'_, '_, '_, '_>],
+    told: &'s [ReportedResult<'l, 'w, 't, 'a>],
     threads: u32,
 ) -> Result<Vec<Finding>, AllocError>
-    requires { 1 ≤ threads }
     ensures { IfOk result (λ findings. findings.items ≡ map (told_by reporting.now) told.now) }
 {
-    if threads < 2 || told.len() < FEWEST_SHARED {
-        return tell_in_turn(alloc, reporting, told);
-    }
-    let few = threads / 2;
-    let others = threads - few;
-    let (low, high) = told.split_at(told.len() / 2);
-    let front = move || -> Result<Vec<Finding>, AllocError>
-        requires { 1 ≤ few }
-        ensures { IfOk result
-            (λ findings. findings.items ≡ map (told_by reporting.entry.now) low.entry.now) }
-    { tell_all(rt, alloc, reporting, low, few) };
-    let back = move || -> Result<Vec<Finding>, AllocError>
-        requires { 1 ≤ others }
-        ensures { IfOk result
-            (λ findings. findings.items ≡ map (told_by reporting.entry.now) high.entry.now) }
-    { tell_all(rt, alloc, reporting, high, others) };
-    let (first, second) = thread::join(rt, front, back);
-    let mut findings = first?;
-    let mut rest = second?;
-    findings.append(&mut rest)?;
+    let sharing = Sharing {
+        rt,
+        alloc,
+        threads,
+        least: LEAST_SHARED,
+    };
+    let one = move |told|
+        ensures { IfOk result (λ finding. finding ≡ told_by reporting.entry.now told.now) }
+    { tell(alloc, reporting, told) };
+    let each = each_of(alloc, told)?;
+    let findings = share_jobs(&sharing, each, &one)?;
     Ok(findings)
 }
 

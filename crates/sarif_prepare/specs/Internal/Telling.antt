@@ -4,7 +4,6 @@ use Rattle.std.specs.List.{cons_option}
 use Rattle.serde_json.specs.Data.{Data}
 use Rattle.sarif_model.specs.declared.kinds.State.{State}
 use Rattle.sarif_model.specs.Run.{result_at, results_of}
-use Rattle.sarif_options.specs.Policy.{is_listed}
 use Rattle.sarif_runs.specs.declared.spots.Spot.{Spot}
 use Rattle.sarif_prepare.specs.Internal.Leftover.{found_at}
 use Rattle.sarif_runs.specs.Internal.Opened.{placed_of}
@@ -12,17 +11,17 @@ use Rattle.sarif_runs.specs.Placed.{Placed}
 use Rattle.sarif_runs.specs.Internal.Spots.{placed_at}
 use Rattle.sarif_findings.specs.declared.finding.Finding.{Finding}
 use Rattle.sarif_findings.specs.declared.reporting.Reporting.{Reporting}
-use Rattle.sarif_findings.specs.Reported.{finding_of}
+use Rattle.sarif_findings.specs.Reported.{are_shown, finding_of}
 use Rattle.sarif_results.specs.declared.draft.Draft.{Draft}
 use Rattle.sarif_model.specs.Run.{present}
 use Rattle.sarif_prepare.specs.declared.told.ReportedResult.{ReportedResult}
 use Rattle.sarif_prepare.specs.declared.told.ReportedRun.{ReportedRun}
 
--- the finding of a result of this run, by its draft and its state, if it is written
+-- the finding of a result of this run, by its draft and its state, if it is written and shown
 abbrev pub told_as : Reporting → Data → Data → Draft → Option State → Option Finding
 told_as reporting run result draft None = None
 told_as reporting run result draft (Some state) =
-    if is_listed reporting.policy.states state && not draft.suppressed
+    if are_shown reporting state draft.level && not draft.suppressed
     then Some (finding_of reporting run result draft.level state) else None
 
 -- the same for results, each with its run

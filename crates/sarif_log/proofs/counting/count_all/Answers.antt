@@ -12,7 +12,8 @@ add_counts-requires g c =
     let few = few_counted _ _ states
     (λ start p r part. subst (λ ds. AreCounted ds (take (length ds) (drop start states)) r) part.shows part.call)
     0 made.parts c.in_ok-parts.parts.items made.given in
-    let below : sum_by total_of c.deref.result.now < 2 ^ 32 = subst (λ cs. sum_by total_of cs < 2 ^ 32) (sym c.deref.ensures.value) (omega (arith, few, ap length made.whole, c.requires.few)) in
+    let below : sum_by total_of c.deref.result.now < 2 ^ 32 =
+    subst (λ cs. sum_by total_of cs < 2 ^ 32) (sym c.deref.ensures.value) (omega (arith, few, ap length made.whole, c.requires.few)) in
     record { few = below }
 
 pub returns : goal.returns

@@ -35,7 +35,8 @@ returns c =
     let places = c.deref-4.ensures.value ∙ c.in_ok-places.ensures ∙ ap (λ rs. spots_from 0 (map placed_of rs)) c.deref-3.ensures.value in
     let found = c.in_ok-records.ensures in
     let pairs =
-    ap (map (pair_at placed)) (found.spots ∙ ap (λ is. spots_with_record is c.deref-4.result.now) items ∙ ap (spots_with_record (flat_map items_of placed)) places)
+    ap (map (pair_at placed))
+    (found.spots ∙ ap (λ is. spots_with_record is c.deref-4.result.now) items ∙ ap (spots_with_record (flat_map items_of placed)) places)
     ∙ pairs_at_spots placed judged.sources judged.faultless in record {
       opened = refl;
       counts = c.in_ok-counts.ensures ∙ ap (λ rs. present_counts (map placed_of rs)) c.deref.ensures.value;
@@ -44,6 +45,7 @@ returns c =
       pairs = pairs;
       within =
           subst (All (IsSpotOf placed)) (sym found.spots)
-          (recorded_within (IsSpotOf placed) (map (λ o. o.item) c.args.judged.outcomes.items) c.deref-4.result.now (subst (All (IsSpotOf placed)) (sym places) (spots_within placed)));
+          (recorded_within (IsSpotOf placed) (map (λ o. o.item) c.args.judged.outcomes.items) c.deref-4.result.now
+          (subst (All (IsSpotOf placed)) (sym places) (spots_within placed)));
       count = records_present placed judged.faultless judged.sources;
     }

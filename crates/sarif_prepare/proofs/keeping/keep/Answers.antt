@@ -12,7 +12,8 @@ life_of-requires c =
     let before = c.requires.together.1 in
     let h = c.requires.together.2 in (
       merge_of rules.file.now (bytes_of rules) c.args.asked.now.options.now.policy now before,
-      matched_is rules.file.now (bytes_of rules) c.args.asked.now.options.now.policy now before sides.current.now sides.baselines.now sides.paired.now _ h c.requires.paired c.requires.read
+      matched_is rules.file.now (bytes_of rules)
+          c.args.asked.now.options.now.policy now before sides.current.now sides.baselines.now sides.paired.now _ h c.requires.paired c.requires.read
           refl refl refl c.deref-2.ensures.value c.deref-3.ensures.value c.deref-4.ensures.value
           (c.deref-5.ensures.value ∙ c.in_ok-states.ensures ∙ states_there c.deref.result.now _ (c.deref.ensures.value ∙ c.requires.paired.states))
           c.deref-6.ensures.value c.deref-7.ensures.value c.deref-8.ensures.value c.deref-9.ensures.value,
@@ -24,7 +25,8 @@ returns-in_err-life-clause-unkept c = λ now before h.
     let sides = c.args.sides.now in
     let p = err_from_is_err_and c.from_residual-in_err-life.result c.from_residual-in_err-life.ensures.1 in
     rw (p.1, p.2) (c.in_err-life.ensures.refused (merge_of rules.file.now (bytes_of rules) c.args.asked.now.options.now.policy now before)
-    (matched_is rules.file.now (bytes_of rules) c.args.asked.now.options.now.policy now before sides.current.now sides.baselines.now sides.paired.now _ h c.requires.paired c.requires.read
+    (matched_is rules.file.now (bytes_of rules)
+    c.args.asked.now.options.now.policy now before sides.current.now sides.baselines.now sides.paired.now _ h c.requires.paired c.requires.read
     refl refl refl c.deref-2.ensures.value c.deref-3.ensures.value c.deref-4.ensures.value
     (c.deref-5.ensures.value ∙ c.in_ok-states.ensures ∙ states_there c.deref.result.now _ (c.deref.ensures.value ∙ c.requires.paired.states))
     c.deref-6.ensures.value c.deref-7.ensures.value c.deref-8.ensures.value c.deref-9.ensures.value))
@@ -35,7 +37,8 @@ returns-clause-kept c = λ now before h.
     let sides = c.args.sides.now in
     let m = merge_of rules.file.now (bytes_of rules) c.args.asked.now.options.now.policy now before in
     let is =
-    matched_is rules.file.now (bytes_of rules) c.args.asked.now.options.now.policy now before sides.current.now sides.baselines.now sides.paired.now _ h c.requires.paired c.requires.read
+    matched_is rules.file.now (bytes_of rules)
+    c.args.asked.now.options.now.policy now before sides.current.now sides.baselines.now sides.paired.now _ h c.requires.paired c.requires.read
     refl refl refl c.deref-2.ensures.value c.deref-3.ensures.value c.deref-4.ensures.value
     (c.deref-5.ensures.value ∙ c.in_ok-states.ensures ∙ states_there c.deref.result.now _ (c.deref.ensures.value ∙ c.requires.paired.states))
     c.deref-6.ensures.value c.deref-7.ensures.value c.deref-8.ensures.value c.deref-9.ensures.value in record {

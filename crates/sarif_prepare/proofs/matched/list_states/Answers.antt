@@ -9,4 +9,6 @@ loop-number-preserved c =
     let r = c.index-current-number.result in
     let bs = c.args.baseline.now in
     let said = c.state_beside.ensures ∙ ap (λ p. state_of r (partner_in bs p)) c.partner-partner.ensures in
-    rw c.in_ok-push.ensures.items (states_more bs c.args.matching.now c.args.current.now c.loop-number.states.items c.loop-number.number r c.state_beside.result _ c.loop-number-test.true c.index-current-number.is said c.loop-number.invariant)
+    rw c.in_ok-push.ensures.items
+    (states_more bs c.args.matching.now c.args.current.now c.loop-number.states.items c.loop-number.number r c.state_beside.result _
+    c.loop-number-test.true c.index-current-number.is said c.loop-number.invariant)

@@ -16,6 +16,7 @@ loop-run-preserved c =
       l.invariant.0 ∙ ap (λ rs. l.yielded ++ rs) step ∙ sym (append_assoc l.yielded (c.in-Some.run' ∷ []) left),
       subst (λ ds. ArePartsOf own_count c.push.new.self.items ds) (data_more l.yielded c.in-Some.run')
           (subst (λ ps. ArePartsOf own_count ps (run_values (map placed_of l.yielded) ++ (placed_of c.in-Some.run').run ∷ [])) (sym pushed)
-          (parts_more own_count l.all.items (run_values (map placed_of l.yielded)) c.current_run.result (placed_of c.in-Some.run').run l.invariant.1 made.members made.results)),
+          (parts_more own_count l.all.items (run_values (map placed_of l.yielded)) c.current_run.result
+          (placed_of c.in-Some.run').run l.invariant.1 made.members made.results)),
       subst (AllByRecursion IsWholeRun) (sym pushed) (whole_more l.all.items c.current_run.result l.invariant.2 made.whole),
     )

@@ -26,7 +26,8 @@ invariant_of-result g c =
     let t = c.in_ok-unmatched.unmatched.side in
     let taken = c.deref.result.now in
     let left =
-    c.in_ok-unmatched.ensures before h.are_baselines (q.left before h.are_baselines ∙ ap (λ ts. not_taken ts (baseline_drafts before)) (sym c.deref.ensures.value)) in
+    c.in_ok-unmatched.ensures before h.are_baselines
+    (q.left before h.are_baselines ∙ ap (λ ts. not_taken ts (baseline_drafts before)) (sym c.deref.ensures.value)) in
     let taken_all =
     ap length (c.deref.ensures.value ∙ q.taken) ∙ taken_long c.args.current.records.items c.args.baselines.records.items ∙ ap length h.are_baselines.records in
     let many = current_long file now before c.args.current c.args.baselines h in
@@ -48,7 +49,8 @@ returns-clause-prepared g c = λ now before h.
     let t = c.in_ok-unmatched.unmatched.side in
     let parts = subst (λ ps. ArePartsOf own_count s.runs.items (run_values ps)) h.is_current.opened c.in_ok-side.ensures.parts in
     let left =
-    c.in_ok-unmatched.ensures before h.are_baselines (q.left before h.are_baselines ∙ ap (λ ts. not_taken ts (baseline_drafts before)) (sym c.deref.ensures.value)) in
+    c.in_ok-unmatched.ensures before h.are_baselines
+    (q.left before h.are_baselines ∙ ap (λ ts. not_taken ts (baseline_drafts before)) (sym c.deref.ensures.value)) in
     let taken =
     c.deref.ensures.value ∙ q.taken ∙ ap (λ rs. taken_of rs c.args.baselines.records.items) h.is_current.records
     ∙ ap (taken_of (records_of now)) h.are_baselines.records in record {
@@ -57,7 +59,8 @@ returns-clause-prepared g c = λ now before h.
           (subst (λ ts. IsLeft before ts t) taken left);
       without = without_results s.runs.items (run_values now) c.in_ok-side.field-0.without parts c.in_ok-side.ensures.without;
       unused =
-          c.in_ok-side.ensures.unused (records_of now) (flat_map results_of (run_values now)) (h.current_records ∙ sym (results_long (run_values now))) h.is_current.drafts;
+          c.in_ok-side.ensures.unused (records_of now) (flat_map results_of (run_values now))
+          (h.current_records ∙ sym (results_long (run_values now))) h.is_current.drafts;
       told = c.in_ok-paired.ensures.findings file now before h;
     }
 

@@ -64,9 +64,15 @@ returns g c = λ file now before h.
     ∙ ap (λ ss. if_asked asked (λ r. told_each r (map (pair_at now) (spots_from 0 now)) drafts ss)) c.deref.ensures.value in
     let absent =
     c.in_ok-absent.ensures
-    ∙ ap (λ ps. if_asked asked (λ r. told_each r (map (pair_at ps) (not_taken c.deref-2.result.now spots)) c.deref-3.result.now (map (λ _. Some Absent) c.deref-3.result.now))) h.are_baselines.opened
-    ∙ ap (λ ts. if_asked asked (λ r. told_each r (map (pair_at before) (not_taken ts spots)) c.deref-3.result.now (map (λ _. Some Absent) c.deref-3.result.now))) c.deref-2.ensures.value
-    ∙ ap (λ ds. if_asked asked (λ r. told_each r (map (pair_at before) (not_taken c.args.paired.now.taken.items spots)) ds (map (λ _. Some Absent) ds))) c.deref-3.ensures.value in
+    ∙ ap (λ ps. if_asked asked
+    (λ r. told_each r (map (pair_at ps) (not_taken c.deref-2.result.now spots)) c.deref-3.result.now
+    (map (λ _. Some Absent) c.deref-3.result.now))) h.are_baselines.opened
+    ∙ ap (λ ts. if_asked asked
+    (λ r. told_each r (map (pair_at before) (not_taken ts spots)) c.deref-3.result.now (map (λ _. Some Absent) c.deref-3.result.now)))
+    c.deref-2.ensures.value
+    ∙ ap (λ ds. if_asked asked
+    (λ r. told_each r (map (pair_at before) (not_taken c.args.paired.now.taken.items spots)) ds (map (λ _. Some Absent) ds)))
+    c.deref-3.ensures.value in
     c.in_ok-append.ensures.items ∙ ap (λ fs. fs ++ c.in_ok-absent.absent.items) current
     ∙ ap (λ fs. if_asked asked (λ r. told_each r (map (pair_at now) (spots_from 0 now)) drafts c.args.paired.now.states.items) ++ fs) absent
     ∙ sides_told asked file now before c.args.current.now c.args.baselines.now c.args.paired.now h c.requires.paired

@@ -5,4 +5,5 @@ use Rattle.sarif_prepare.proofs.run_parts.drop_member.Goals as goal
 
 pub returns : goal.returns
 returns c =
-    ap members_view c.remove.ensures.entries ∙ view-remove_entry c.args.name.now c.args.members.now.entries (rw c.remove.ensures.entries at c.remove.ensures.updates.1)
+    ap members_view c.remove.ensures.entries
+    ∙ view-remove_entry c.args.name.now c.args.members.now.entries (rw c.remove.ensures.entries at c.remove.ensures.updates.1)

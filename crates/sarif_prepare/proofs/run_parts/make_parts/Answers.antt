@@ -6,4 +6,5 @@ use Rattle.sarif_prepare.proofs.run_parts.make_parts.Goals as goal
 
 pub returns-clause-whole : goal.returns-clause-whole
 returns-clause-whole c =
-    ap members_have_float c.drop_member.ensures ∙ without_whole (codes "baselineGuid") (members_view c.into_members-members.result.entries) c.into_members-members.ensures.whole
+    ap members_have_float c.drop_member.ensures
+    ∙ without_whole (codes "baselineGuid") (members_view c.into_members-members.result.entries) c.into_members-members.ensures.whole

@@ -6,7 +6,8 @@ use Rattle.sarif_merge.proofs.StepFacts.{file_was_given, is_ready, judged_first,
 use Rattle.sarif_merge.proofs.steps.Merging.prepare.Goals as goal
 
 pub prepare-requires-clause-read : goal.prepare-requires-clause-read
-prepare-requires-clause-read g c κs within = file_was_given c.args.self.now (option_map (λ b. b.now) c.slice_of.result) c.args.file.now c.requires.file c.slice_of.ensures
+prepare-requires-clause-read g c κs within =
+    file_was_given c.args.self.now (option_map (λ b. b.now) c.slice_of.result) c.args.file.now c.requires.file c.slice_of.ensures
 
 pub prepare-requires-clause-current : goal.prepare-requires-clause-current
 prepare-requires-clause-current g c κs within = judged_first c.args.self.now c.args.file.now c.args.logs c.requires.file c.requires.logs

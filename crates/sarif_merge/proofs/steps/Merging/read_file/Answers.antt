@@ -11,7 +11,8 @@ returns-in_err-file-clause-refused c =
     let p = err_from_is_err_and c.from_residual.result c.from_residual.ensures.1 in
     let is : c.from_residual.result ≡ Err fault = rw (p.1, p.2) refl in
     subst (λ r. IfErr r (IsRejection c.args.self.now)) (sym is)
-    (rejected_file c.args.self.now (option_map (λ b. b.now) c.slice_of-bytes.result) fault c.requires c.slice_of-bytes.ensures c.in_err-file.ensures.faults c.in_err-file.ensures.quiet)
+    (rejected_file c.args.self.now (option_map (λ b. b.now) c.slice_of-bytes.result)
+    fault c.requires c.slice_of-bytes.ensures c.in_err-file.ensures.faults c.in_err-file.ensures.quiet)
 
 pub returns-clause-file : goal.returns-clause-file
 returns-clause-file c =

@@ -1,8 +1,4 @@
-use mir.Syntax.{Lifetime}
-use base.Fml.{Lft}
-use denote.Ref.{ShrRef}
-use denote.Slice.{ShrSlice}
-use denote.Param.Send.{IsSend, IsSync, sendable}
+use denote.Param.Send.{IsSync, sendable}
 use denote.Ref.{NamedLft}
 use Rattle.std.proofs.Crossing.{crosses}
 use Rattle.std.proofs.MapsCrossing.{crosses as maps}
@@ -15,10 +11,11 @@ use Rattle.sarif_findings.proofs.reporting.Reporting.TheSendSync as reporting
 use Rattle.sarif_read.specs.contracts.indexed_run.IndexedRun as IndexedRun
 use Rattle.sarif_runs.specs.contracts.opened.OpenedRun as OpenedRun
 use Rattle.sarif_findings.proofs.Shared.{named_sync}
-use Rattle.sarif_findings.specs.contracts.reporting.Reporting as Reporting
 use Rattle.sarif_prepare.specs.contracts.told.ReportedResult as ReportedResult
 use Rattle.sarif_prepare.specs.contracts.told.ReportedRun as ReportedRun
-use Rattle.sarif_prepare.proofs.telling.+telling.Goals as goal
+use Rattle.sarif_prepare.specs.Internal.Telling.{told_by}
+use Rattle.sarif_prepare.proofs.Shared.{made_of_shown}
+use Rattle.sarif_prepare.proofs.telling.tell_all.Goals as goal
 
 json_sync : IsSync (Json.the_field).row
 json_sync = search (knot.crosses, sendable, crosses, maps) depth 60
@@ -32,11 +29,13 @@ opened_sync κ λ' = search (indexed_sync, text.the_sync, fault.the_sync, head.t
 told_sync : (κ λ' μ : NamedLft) → IsSync (ReportedRun.the_row κ λ' μ)
 told_sync κ λ' μ = search (named_sync, opened_sync, sendable) depth 40
 
-slice_send : (ℓ : Lifetime) (κ : Lft) (a b c d : NamedLft) → IsSend (ShrSlice ℓ κ (ReportedResult.the_row a b c d))
-slice_send ℓ κ a b c d = search (told_sync, sendable) depth 40
+result_sync : (a b c d : NamedLft) → IsSync (ReportedResult.the_row a b c d)
+result_sync a b c d = search (told_sync, sendable) depth 40
 
-reporting_send : (ℓ : Lifetime) (κ : Lft) → IsSend (ShrRef ℓ κ Reporting.the_row)
-reporting_send ℓ κ = search (reporting.the_sync, sendable) depth 40
+pub share_jobs-requires-send-J : goal.share_jobs-requires-send-J
+share_jobs-requires-send-J g c κs within = search (result_sync, sendable) depth 12
 
-pub join-first-requires-send-F : goal.join-first-requires-send-F
-join-first-requires-send-F g t c κs within = search (slice_send, reporting_send, sendable) depth 12
+pub returns : goal.returns
+returns g c =
+    made_of_shown (told_by c.args.reporting.now) c.in_ok-each.each.items c.args.told.now c.in_ok-findings.findings.items c.in_ok-each.ensures
+    c.in_ok-findings.ensures
