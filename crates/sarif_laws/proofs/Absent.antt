@@ -24,7 +24,9 @@ StaysIfHit policy d = is_hit_in policy d ≡ stays_in policy d
 
 module _ (policy : Policy) where
   absent_stays : (d : Data) → is_absent_result d ≡ true → StaysIfHit policy d
-  absent_stays d is = by_tests (is_hit_in policy d) (not (is_empty (suppressions_listed d))) ∙ ap (λ b. is_hit_in policy d && (not (is_empty (suppressions_listed d)) || b)) (sym is)
+  absent_stays d is =
+      by_tests (is_hit_in policy d) (not (is_empty (suppressions_listed d)))
+      ∙ ap (λ b. is_hit_in policy d && (not (is_empty (suppressions_listed d)) || b)) (sym is)
     where
       by_tests : (a b : Bool) → a ≡ (a && (b || true))
       by_tests true true = refl
@@ -40,7 +42,8 @@ module _ (policy : Policy) where
   written_stays r (object ms) =
       absent_stays (written (λ _ own. own) r Absent (object ms)) (absent_told r.level Absent (items_of (elements (own_suppressions ms))) ms)
 
-  kept_stays : (keep : Bool) (d : Data) (ds : List Data) → StaysIfHit policy d → AllByRecursion (StaysIfHit policy) ds → AllByRecursion (StaysIfHit policy) (keep_if keep d ds)
+  kept_stays : (keep : Bool) (d : Data) (ds : List Data) → StaysIfHit policy d → AllByRecursion (StaysIfHit policy) ds
+      → AllByRecursion (StaysIfHit policy) (keep_if keep d ds)
   kept_stays true d ds here rest = (here, rest)
   kept_stays false d ds here rest = rest
 
@@ -48,7 +51,8 @@ module _ (policy : Policy) where
   unmatched_stay [] taken ds = tt
   unmatched_stay (r ∷ rs) [] ds = tt
   unmatched_stay (r ∷ rs) (t ∷ taken) [] = tt
-  unmatched_stay (r ∷ rs) (t ∷ taken) (d ∷ ds) = kept_stays (not t) (written (λ _ own. own) r Absent d) (unmatched rs taken ds) (written_stays r d) (unmatched_stay rs taken ds)
+  unmatched_stay (r ∷ rs) (t ∷ taken) (d ∷ ds) =
+      kept_stays (not t) (written (λ _ own. own) r Absent d) (unmatched rs taken ds) (written_stays r d) (unmatched_stay rs taken ds)
 
   run_stays : (ds : List Data) (run : Data) → AllByRecursion (StaysIfHit policy) ds → AllByRecursion (StaysIfHit policy) (results_of (with_absent ds run))
   run_stays ds null all = tt
@@ -61,14 +65,17 @@ module _ (policy : Policy) where
       ap (λ o. elements_or_none (option_and_then as_array o)) (get_member-put (codes "results") (array (items_of ds)) (bare ms)) ∙ items_back ds in
       subst (AllByRecursion (StaysIfHit policy)) (sym found) all
 
-  if_any_stay : (ds : List Data) (run : Data) (runs : List Data) → AllByRecursion (StaysIfHit policy) ds → AllByRecursion (λ x. AllByRecursion (StaysIfHit policy) (results_of x)) runs
+  if_any_stay : (ds : List Data) (run : Data) (runs : List Data) → AllByRecursion (StaysIfHit policy) ds
+      → AllByRecursion (λ x. AllByRecursion (StaysIfHit policy) (results_of x)) runs
       → AllByRecursion (λ x. AllByRecursion (StaysIfHit policy) (results_of x)) (if_any ds run runs)
   if_any_stay [] run runs here rest = rest
   if_any_stay (d ∷ ds) run runs here rest = (run_stays (d ∷ ds) run here, rest)
 
-  pub absent_stay : (rs : List Record) (taken : List Bool) (runs : List Data) → AllByRecursion (λ x. AllByRecursion (StaysIfHit policy) (results_of x)) (absent_runs rs taken runs)
+  pub absent_stay : (rs : List Record) (taken : List Bool) (runs : List Data)
+      → AllByRecursion (λ x. AllByRecursion (StaysIfHit policy) (results_of x)) (absent_runs rs taken runs)
   absent_stay rs taken [] = tt
   absent_stay rs taken (run ∷ runs) =
       let ds = present (results_of run) in
       let n = length ds in
-      if_any_stay (unmatched (take n rs) (take n taken) ds) run (absent_runs (drop n rs) (drop n taken) runs) (unmatched_stay (take n rs) (take n taken) ds) (absent_stay (drop n rs) (drop n taken) runs)
+      if_any_stay (unmatched (take n rs) (take n taken) ds) run (absent_runs (drop n rs) (drop n taken) runs)
+      (unmatched_stay (take n rs) (take n taken) ds) (absent_stay (drop n rs) (drop n taken) runs)

@@ -41,7 +41,8 @@ all_present n (r ∷ rs) =
 
 -- ---- a run
 
-unmatched_split : (xs ys : List Record) (taken : List Bool) → unmatched_of (xs ++ ys) taken ≡ unmatched_of xs (take (length xs) taken) ++ unmatched_of ys (drop (length xs) taken)
+unmatched_split : (xs ys : List Record) (taken : List Bool)
+    → unmatched_of (xs ++ ys) taken ≡ unmatched_of xs (take (length xs) taken) ++ unmatched_of ys (drop (length xs) taken)
 unmatched_split [] ys taken = refl
 unmatched_split (x ∷ xs) [] [] = refl
 unmatched_split (x ∷ xs) (y ∷ ys) [] = refl
@@ -68,7 +69,8 @@ results_if_any (d ∷ ds) ms runs =
 
 -- ---- all runs
 
-pub absent_zip : (runs : List Chosen) (taken : List Bool) → AllZip IsAbsentOf (unmatched_of (records_among runs) taken) (flat_map results_of (absent_runs (records_among runs) taken (map known_run runs)))
+pub absent_zip : (runs : List Chosen) (taken : List Bool)
+    → AllZip IsAbsentOf (unmatched_of (records_among runs) taken) (flat_map results_of (absent_runs (records_among runs) taken (map known_run runs)))
 absent_zip [] taken = tt
 absent_zip (run ∷ runs) taken =
     let here = run.records in
@@ -78,11 +80,18 @@ absent_zip (run ∷ runs) taken =
     let ds = results_from 0 here in
     let are : present (results_of (known_run run)) ≡ ds = ap present (results_are run) ∙ all_present 0 here in
     let long : length (present (results_of (known_run run))) ≡ n = ap length are ∙ count_is 0 here in
-    let result : flat_map results_of (absent_runs (here ++ rest) taken (map known_run (run ∷ runs))) ≡ unmatched here (take n taken) ds ++ flat_map results_of (absent_runs rest (drop n taken) more) =
-    ap₂ (λ k es. flat_map results_of (if_any (unmatched (take k (here ++ rest)) (take k taken) es) (known_run run) (absent_runs (drop k (here ++ rest)) (drop k taken) more))) long are
-    ∙ results_if_any (unmatched (take n (here ++ rest)) (take n taken) ds) (members_from (run_rows run)) (absent_runs (drop n (here ++ rest)) (drop n taken) more)
-    ∙ ap₂ (λ xs ys. unmatched xs (take n taken) ds ++ flat_map results_of (absent_runs ys (drop n taken) more)) (take-append_seam here rest) (drop-append_seam here rest) in
+    let result : flat_map results_of (absent_runs (here ++ rest) taken (map known_run (run ∷ runs)))
+    ≡ unmatched here (take n taken) ds ++ flat_map results_of (absent_runs rest (drop n taken) more) =
+    ap₂ (λ k es. flat_map results_of
+    (if_any (unmatched (take k (here ++ rest)) (take k taken) es) (known_run run) (absent_runs (drop k (here ++ rest)) (drop k taken) more)))
+    long are
+    ∙ results_if_any (unmatched (take n (here ++ rest)) (take n taken) ds) (members_from (run_rows run))
+    (absent_runs (drop n (here ++ rest)) (drop n taken) more)
+    ∙ ap₂ (λ xs ys. unmatched xs (take n taken) ds ++ flat_map results_of (absent_runs ys (drop n taken) more)) (take-append_seam here rest)
+    (drop-append_seam here rest) in
     subst (λ l. AllZip IsAbsentOf (unmatched_of (here ++ rest) taken) l) (sym result)
-    (subst (λ l. AllZip IsAbsentOf l (unmatched here (take n taken) ds ++ flat_map results_of (absent_runs rest (drop n taken) more))) (sym (unmatched_split here rest taken))
-    (zip_append (unmatched_of here (take n taken)) (unmatched_of rest (drop n taken)) (unmatched here (take n taken) ds) (flat_map results_of (absent_runs rest (drop n taken) more))
+    (subst (λ l. AllZip IsAbsentOf l (unmatched here (take n taken) ds ++ flat_map results_of (absent_runs rest (drop n taken) more)))
+    (sym (unmatched_split here rest taken))
+    (zip_append (unmatched_of here (take n taken)) (unmatched_of rest (drop n taken)) (unmatched here (take n taken) ds)
+    (flat_map results_of (absent_runs rest (drop n taken) more))
     (zip_unmatched 0 here (take n taken)) (absent_zip runs (drop n taken))))

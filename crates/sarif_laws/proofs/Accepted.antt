@@ -18,7 +18,7 @@ use Rattle.sarif_model.specs.declared.kinds.State.TheVariants.{Unchanged, Update
 use Rattle.sarif_runs.specs.Judging.{records_of, run_values}
 use Rattle.sarif_runs.specs.Record.{record_of}
 use Rattle.sarif_inputs.specs.Faults.{faults_of}
-use Rattle.sarif_inputs.specs.Inputs.{Inputs, baseline_runs, input_runs}
+use Rattle.sarif_inputs.specs.Inputs.{Inputs, baseline_runs, input_runs, reads_regions}
 use Rattle.sarif_log.specs.LogBy.{listing_of, states_of, taken_of}
 use Rattle.sarif_log.specs.MergedRuns.{written}
 use Rattle.sarif_merge.specs.Life.{merge_in}
@@ -60,14 +60,16 @@ pub input_run : (inputs : Inputs) (k : ℕ) → k < length (input_runs inputs) �
 input_run inputs k there = get_or_append_left (written_inputs inputs) (absent_written inputs) null k (omega (arith, there, runs_same inputs))
 
 -- a run of absent results
-pub absent_run : (inputs : Inputs) (k : ℕ) → length (input_runs inputs) ≤ k → merged_run_at inputs k ≡ get_or (absent_written inputs) (k - length (input_runs inputs)) null
+pub absent_run : (inputs : Inputs) (k : ℕ) → length (input_runs inputs) ≤ k
+    → merged_run_at inputs k ≡ get_or (absent_written inputs) (k - length (input_runs inputs)) null
 absent_run inputs k past = get_or-append_right (written_inputs inputs) (absent_written inputs) (length (input_runs inputs)) k null (runs_same inputs) past
 
 pub runs_long : (inputs : Inputs) → length (runs_written inputs) ≡ length (input_runs inputs) + length (absent_written inputs)
 runs_long inputs = length-append (written_inputs inputs) (absent_written inputs) ∙ ap (λ n. n + length (absent_written inputs)) (runs_same inputs)
 
 -- past the results of an input run
-pub no_result : (inputs : Inputs) (k seq : ℕ) → k < length (input_runs inputs) → length (results_of (run_at inputs k)) ≤ seq → result_at (written_run inputs k) seq ≡ null
+pub no_result : (inputs : Inputs) (k seq : ℕ) → k < length (input_runs inputs) → length (results_of (run_at inputs k)) ≤ seq
+    → result_at (written_run inputs k) seq ≡ null
 no_result inputs k seq there past = get_or_past (results_of (written_run inputs k)) seq null (omega (arith, past, results_same inputs k there))
 
 module _ (inputs : Inputs) (text : List ℕ) where
@@ -78,7 +80,8 @@ module _ (inputs : Inputs) (text : List ℕ) where
   pub same_results : (k : ℕ) → length (results_of (merged_run_at (with_file inputs text) k)) ≡ length (results_of (merged_run_at inputs k))
   same_results k = by_place (nat_lt k (length (input_runs inputs))) refl
     where
-      by_place : (b : Bool) → nat_lt k (length (input_runs inputs)) ≡ b → length (results_of (merged_run_at (with_file inputs text) k)) ≡ length (results_of (merged_run_at inputs k))
+      by_place : (b : Bool) → nat_lt k (length (input_runs inputs)) ≡ b
+          → length (results_of (merged_run_at (with_file inputs text) k)) ≡ length (results_of (merged_run_at inputs k))
       by_place true is =
           let there = ltb-true k (length (input_runs inputs)) is in
           ap (λ run. length (results_of run)) (input_run (with_file inputs text) k there) ∙ results_same (with_file inputs text) k there
@@ -87,7 +90,8 @@ module _ (inputs : Inputs) (text : List ℕ) where
           let past = ltb-false k (length (input_runs inputs)) is in
           ap (λ run. length (results_of run)) (absent_run (with_file inputs text) k past) ∙ ap (λ run. length (results_of run)) (sym (absent_run inputs k past))
 
-module _ (inputs : Inputs) (policy : Policy) (renewal : Renewal) (text : List ℕ) (none : faults_of inputs ≡ []) (small : renewal_faults (merge_in inputs policy) renewal ≡ [])
+module _ (inputs : Inputs) (policy : Policy) (renewal : Renewal) (text : List ℕ) (none : faults_of inputs ≡ [])
+    (small : renewal_faults (merge_in inputs policy) renewal ≡ [])
     (accepts : renewal.accept ≡ true) (until : IsUntil inputs.today renewal.until) (is : IsNewFileOf inputs policy renewal text) where
   dated : IsDated inputs.today renewal.until
   dated = dated_until inputs.today renewal.until until
@@ -96,9 +100,10 @@ module _ (inputs : Inputs) (policy : Policy) (renewal : Renewal) (text : List �
   later_none = faultless_later inputs policy renewal text none small dated is
 
   -- the same result in the next merge
-  later_result : (k seq : ℕ) (r : Record) → IsResult inputs k seq → record_of (run_at inputs k) seq ≡ Ok r
+  later_result : (k seq : ℕ) (r : Record) → IsResult inputs k seq → record_of (reads_regions inputs.checks) (run_at inputs k) seq ≡ Ok r
       → result_at (written_run (with_file inputs text) k) seq
-      ≡ written (listing_of (later_file inputs policy renewal)) r (state_of r (partner_at inputs (number_among_all inputs k seq))) (result_at (run_at inputs k) seq)
+      ≡ written (listing_of (later_file inputs policy renewal)) r (state_of r (partner_at inputs (number_among_all inputs k seq)))
+      (result_at (run_at inputs k) seq)
   later_result k seq r there read =
       let own = own_result (with_file inputs text) k seq later_none there in
       let place = number_among_all inputs k seq in
@@ -107,7 +112,8 @@ module _ (inputs : Inputs) (policy : Policy) (renewal : Renewal) (text : List �
       ∙ ap (λ x. written (listing_of (file_given (with_file inputs text))) x (state_of x (partner_at inputs place)) d) (one_record own.0 r (sym own.1 ∙ read))
       ∙ ap (λ file. written (listing_of file) r (state_of r (partner_at inputs place)) d) (later_is inputs policy renewal text none small dated is)
 
-  left_current : (k seq : ℕ) → IsResult inputs k seq → IsLeft policy (result_at (written_run inputs k) seq) (result_at (written_run (with_file inputs text) k) seq)
+  left_current : (k seq : ℕ) → IsResult inputs k seq
+      → IsLeft policy (result_at (written_run inputs k) seq) (result_at (written_run (with_file inputs text) k) seq)
   left_current k seq there =
       let own = own_result inputs k seq none there in
       let r = own.0 in
@@ -120,16 +126,20 @@ module _ (inputs : Inputs) (policy : Policy) (renewal : Renewal) (text : List �
       let how = how_of (merge_in inputs policy) renewal in
       let until_file : IsUntil file.today renewal.until = subst (λ today. IsUntil today renewal.until) (sym (same_today inputs none)) until in
       let left =
-      left_by policy r state file (later_file inputs policy renewal) (hits_after how (may_hit policy) file rs states r state place at.in_records at.in_states at.record_is at.state_is accepts until_file)
-      (still_suppressed how (may_hit policy) file rs states r place at.in_records at.record_is) (λ given. list_begins how (may_hit policy) file rs states r place given at.in_records at.record_is)
-      (current_state r (partner_at inputs place)) (result_at (run_at inputs k) seq) (record_read (run_at inputs k) seq r own.1) in
+      left_by policy r state file (later_file inputs policy renewal)
+      (hits_after how (may_hit policy) file rs states r state place at.in_records at.in_states at.record_is at.state_is accepts until_file)
+      (still_suppressed how (may_hit policy) file rs states r place at.in_records at.record_is)
+      (λ given. list_begins how (may_hit policy) file rs states r place given at.in_records at.record_is)
+      (current_state r (partner_at inputs place)) (result_at (run_at inputs k) seq) (record_read (reads_regions inputs.checks) (run_at inputs k) seq r own.1) in
       subst (λ before. IsLeft policy before (result_at (written_run (with_file inputs text) k) seq)) (sym own.2)
       (subst (IsLeft policy (written_by inputs r place (result_at (run_at inputs k) seq))) (sym (later_result k seq r there own.1)) left)
 
-  left_in_run : (k seq : ℕ) → k < length (input_runs inputs) → IsLeft policy (result_at (written_run inputs k) seq) (result_at (written_run (with_file inputs text) k) seq)
+  left_in_run : (k seq : ℕ) → k < length (input_runs inputs)
+      → IsLeft policy (result_at (written_run inputs k) seq) (result_at (written_run (with_file inputs text) k) seq)
   left_in_run k seq there = by_place (nat_lt seq (length (results_of (run_at inputs k)))) refl
     where
-      by_place : (b : Bool) → nat_lt seq (length (results_of (run_at inputs k))) ≡ b → IsLeft policy (result_at (written_run inputs k) seq) (result_at (written_run (with_file inputs text) k) seq)
+      by_place : (b : Bool) → nat_lt seq (length (results_of (run_at inputs k))) ≡ b
+          → IsLeft policy (result_at (written_run inputs k) seq) (result_at (written_run (with_file inputs text) k) seq)
       by_place true inside = left_current k seq (there, ltb-true seq (length (results_of (run_at inputs k))) inside)
       by_place false outside =
           let past = ltb-false seq (length (results_of (run_at inputs k))) outside in
@@ -138,22 +148,29 @@ module _ (inputs : Inputs) (policy : Policy) (renewal : Renewal) (text : List �
 
   left_absent : (k seq : ℕ) → IsLeft policy (result_at (get_or (absent_written inputs) k null) seq) (result_at (get_or (absent_written inputs) k null) seq)
   left_absent k seq =
-      let all = absent_stay policy (records_of (baseline_runs inputs)) (taken_of (current_of inputs) (baseline_of inputs)) (run_values (baseline_runs inputs)) in
+      let all =
+      absent_stay policy (records_of (baseline_runs inputs)) (taken_of (current_of inputs) (baseline_of inputs))
+      (run_values (baseline_runs inputs)) in
       let run = all_at (λ x. AllByRecursion (StaysIfHit policy) (results_of x)) (absent_written inputs) k null all tt in
-      left_same policy (result_at (get_or (absent_written inputs) k null) seq) (all_at (StaysIfHit policy) (results_of (get_or (absent_written inputs) k null)) seq null run refl)
+      left_same policy (result_at (get_or (absent_written inputs) k null) seq)
+      (all_at (StaysIfHit policy) (results_of (get_or (absent_written inputs) k null)) seq null run refl)
 
   left_at : (k seq : ℕ) → IsLeft policy (merged_result inputs k seq) (merged_result (with_file inputs text) k seq)
   left_at k seq = by_place (nat_lt k (length (input_runs inputs))) refl
     where
-      by_runs : (a b : Data) → merged_run_at inputs k ≡ a → merged_run_at (with_file inputs text) k ≡ b → IsLeft policy (result_at a seq) (result_at b seq) → IsLeft policy (merged_result inputs k seq) (merged_result (with_file inputs text) k seq)
+      by_runs : (a b : Data) → merged_run_at inputs k ≡ a → merged_run_at (with_file inputs text) k ≡ b
+          → IsLeft policy (result_at a seq) (result_at b seq)
+          → IsLeft policy (merged_result inputs k seq) (merged_result (with_file inputs text) k seq)
       by_runs a b first second left =
           subst (λ x. IsLeft policy (result_at x seq) (merged_result (with_file inputs text) k seq)) (sym first)
           (subst (λ y. IsLeft policy (result_at a seq) (result_at y seq)) (sym second) left)
 
-      by_place : (b : Bool) → nat_lt k (length (input_runs inputs)) ≡ b → IsLeft policy (merged_result inputs k seq) (merged_result (with_file inputs text) k seq)
+      by_place : (b : Bool) → nat_lt k (length (input_runs inputs)) ≡ b
+          → IsLeft policy (merged_result inputs k seq) (merged_result (with_file inputs text) k seq)
       by_place true inside =
           let there = ltb-true k (length (input_runs inputs)) inside in
-          by_runs (written_run inputs k) (written_run (with_file inputs text) k) (input_run inputs k there) (input_run (with_file inputs text) k there) (left_in_run k seq there)
+          by_runs (written_run inputs k) (written_run (with_file inputs text) k) (input_run inputs k there)
+          (input_run (with_file inputs text) k there) (left_in_run k seq there)
       by_place false outside =
           let past = ltb-false k (length (input_runs inputs)) outside in
           let run = get_or (absent_written inputs) (k - length (input_runs inputs)) null in
@@ -162,7 +179,8 @@ module _ (inputs : Inputs) (policy : Policy) (renewal : Renewal) (text : List �
   later_hits : hits_of (count_of (runs_written (with_file inputs text))) policy ≡ count_by (stays_in policy) (flat_map results_of (runs_written inputs))
   later_hits =
       hits_counted policy (runs_written (with_file inputs text))
-      ∙ same_counts (is_hit_in policy) (stays_in policy) (runs_written (with_file inputs text)) (runs_written inputs) (same_runs inputs text) (same_results inputs text) (λ k seq. (left_at k seq).hit)
+      ∙ same_counts (is_hit_in policy) (stays_in policy) (runs_written (with_file inputs text)) (runs_written inputs) (same_runs inputs text)
+      (same_results inputs text) (λ k seq. (left_at k seq).hit)
 
   pub law_of_accepting : LeavesWhatStays inputs policy text
   law_of_accepting = record {

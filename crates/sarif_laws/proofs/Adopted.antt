@@ -31,29 +31,38 @@ module _ {Y : Type 0} where
   apart_numbered n [] = tt
   apart_numbered n (y ∷ ys) = (above n (suc n) ys (omega arith), apart_numbered (suc n) ys)
 
-  at_numbered : (all : List Y) (n : ℕ) (ys : List Y) → ((m : ℕ) (y : Y) → slice_get ys m ≡ Some y → slice_get all (n + m) ≡ Some y) → AllByRecursion (λ e. slice_get all e.0 ≡ Some e.1) (numbered n ys)
+  at_numbered : (all : List Y) (n : ℕ) (ys : List Y) → ((m : ℕ) (y : Y) → slice_get ys m ≡ Some y → slice_get all (n + m) ≡ Some y)
+      → AllByRecursion (λ e. slice_get all e.0 ≡ Some e.1) (numbered n ys)
   at_numbered all n [] within = tt
   at_numbered all n (y ∷ ys) within =
-      let first : n ≡ n + 0 = omega arith in
-      (ap (slice_get all) first ∙ within 0 y refl, at_numbered all (suc n) ys (λ m z is. let next : suc n + m ≡ n + suc m = omega arith in ap (slice_get all) next ∙ within (suc m) z is))
+      let first : n ≡ n + 0 = omega arith in (
+        ap (slice_get all) first
+            ∙ within 0 y refl,
+        at_numbered all (suc n) ys
+            (λ m z is. let next : suc n + m ≡ n + suc m = omega arith in ap (slice_get all) next ∙ within (suc m) z is),
+      )
 
   -- the elements from number n on
   from_here : (n m : ℕ) (ys : List Y) → n ≤ m → filter (λ e. not (nat_lt e.0 n)) (numbered m ys) ≡ numbered m ys
   from_here n m [] le = refl
   from_here n m (y ∷ ys) le =
-      ap (λ b. cond (not b) ((m, y) ∷ filter (λ (e : ℕ × Y). not (nat_lt e.0 n)) (numbered (suc m) ys)) (filter (λ (e : ℕ × Y). not (nat_lt e.0 n)) (numbered (suc m) ys))) (le-ltb m n le)
+      ap (λ b. cond (not b) ((m, y) ∷ filter (λ (e : ℕ × Y). not (nat_lt e.0 n)) (numbered (suc m) ys))
+      (filter (λ (e : ℕ × Y). not (nat_lt e.0 n)) (numbered (suc m) ys))) (le-ltb m n le)
       ∙ ap (λ l. (m, y) ∷ l) (from_here n (suc m) ys (omega (arith, le)))
 
   from_number : (n m : ℕ) (xs ys : List Y) → m + length xs ≡ n → filter (λ e. not (nat_lt e.0 n)) (numbered m (xs ++ ys)) ≡ numbered n ys
   from_number n m [] ys is = let here : m ≡ n = omega (arith, is) in from_here n m ys (omega (arith, is)) ∙ ap (λ k. numbered k ys) here
   from_number n m (x ∷ xs) ys is =
-      ap (λ b. cond (not b) ((m, x) ∷ filter (λ (e : ℕ × Y). not (nat_lt e.0 n)) (numbered (suc m) (xs ++ ys))) (filter (λ (e : ℕ × Y). not (nat_lt e.0 n)) (numbered (suc m) (xs ++ ys)))) (lt-ltb m n (omega (arith, is)))
+      ap (λ b. cond (not b) ((m, x) ∷ filter (λ (e : ℕ × Y). not (nat_lt e.0 n)) (numbered (suc m) (xs ++ ys)))
+      (filter (λ (e : ℕ × Y). not (nat_lt e.0 n)) (numbered (suc m) (xs ++ ys)))) (lt-ltb m n (omega (arith, is)))
       ∙ from_number n (suc m) xs ys (omega (arith, is))
 
 untag_of : (t : List ℕ) (xs : List (ℕ × Record)) → of_tool tool_of t (untag xs) ≡ untag (of_tagged tool_of t xs)
 untag_of t [] = refl
 untag_of t (x ∷ xs) =
-    elim (bytes_eq x.1.tool t) as (λ b. cond b (x.1 ∷ of_tool tool_of t (untag xs)) (of_tool tool_of t (untag xs)) ≡ untag (cond b (x ∷ of_tagged tool_of t xs) (of_tagged tool_of t xs)))
+    elim (bytes_eq x.1.tool t) as
+    (λ b. cond b (x.1 ∷ of_tool tool_of t (untag xs)) (of_tool tool_of t (untag xs))
+    ≡ untag (cond b (x ∷ of_tagged tool_of t xs) (of_tagged tool_of t xs)))
     [ true ↦ ap (λ l. x.1 ∷ l) (untag_of t xs) | false ↦ untag_of t xs ]
 
 untag_numbered : (n : ℕ) (rs : List Record) → untag (numbered n rs) ≡ rs
@@ -78,16 +87,21 @@ nobody (suc n) (suc i) j found = nobody n i j found
 
 -- ---- states and unmatched results, by what is so of each
 
-all_unchanged : (bs : List Record) (partners : List (Option ℕ)) (n : ℕ) (rs : List Record) → ((m : ℕ) (r : Record) → slice_get rs m ≡ Some r → partner_in bs (slice_index_or partners (n + m) None) ≡ Some r)
+all_unchanged : (bs : List Record) (partners : List (Option ℕ)) (n : ℕ) (rs : List Record)
+    → ((m : ℕ) (r : Record) → slice_get rs m ≡ Some r → partner_in bs (slice_index_or partners (n + m) None) ≡ Some r)
     → AllByRecursion (λ s. s ≡ Unchanged) (states_from bs partners n rs)
 all_unchanged bs partners n [] matched = tt
 all_unchanged bs partners n (r ∷ rs) matched =
     let first : n ≡ n + 0 = omega arith in (
-      ap (state_of r) (ap (λ k. partner_in bs (slice_index_or partners k None)) first ∙ matched 0 r refl) ∙ equal_is_unchanged r r (record { kind = refl; level = refl; message = refl; place = refl }),
-      all_unchanged bs partners (n + 1) rs (λ m s is. let next : n + 1 + m ≡ n + suc m = omega arith in ap (λ k. partner_in bs (slice_index_or partners k None)) next ∙ matched (suc m) s is),
+      ap (state_of r) (ap (λ k. partner_in bs (slice_index_or partners k None)) first ∙ matched 0 r refl)
+          ∙ equal_is_unchanged r r (record { kind = refl; level = refl; message = refl; place = refl }),
+      all_unchanged bs partners (n + 1) rs
+          (λ m s is. let next : n + 1 + m ≡ n + suc m =
+          omega arith in ap (λ k. partner_in bs (slice_index_or partners k None)) next ∙ matched (suc m) s is),
     )
 
-unmatched_are : (partners : List (Option ℕ)) (q : ℕ × Record → Bool) (n : ℕ) (rest : List (ℕ × Record)) → ((m : ℕ) (x : ℕ × Record) → slice_get rest m ≡ Some x → is_taken partners (n + m) ≡ q x)
+unmatched_are : (partners : List (Option ℕ)) (q : ℕ × Record → Bool) (n : ℕ) (rest : List (ℕ × Record))
+    → ((m : ℕ) (x : ℕ × Record) → slice_get rest m ≡ Some x → is_taken partners (n + m) ≡ q x)
     → unmatched_of (untag rest) (map (is_taken partners) (range_with_len n (length (untag rest)))) ≡ untag (filter (λ x. not (q x)) rest)
 unmatched_are partners q n [] taken = refl
 unmatched_are partners q n (x ∷ rest) taken =
@@ -95,8 +109,10 @@ unmatched_are partners q n (x ∷ rest) taken =
     by_test (is_taken partners n) (q x) (ap (is_taken partners) first ∙ taken 0 x refl)
     (unmatched_are partners q (n + 1) rest (λ m y is. let next : n + 1 + m ≡ n + suc m = omega arith in ap (is_taken partners) next ∙ taken (suc m) y is))
   where
-    by_test : (a b : Bool) → a ≡ b → unmatched_of (untag rest) (map (is_taken partners) (range_with_len (n + 1) (length (untag rest)))) ≡ untag (filter (λ x. not (q x)) rest)
-        → keep_unless a x.1 (unmatched_of (untag rest) (map (is_taken partners) (range_with_len (n + 1) (length (untag rest))))) ≡ untag (cond (not b) (x ∷ filter (λ x. not (q x)) rest) (filter (λ x. not (q x)) rest))
+    by_test : (a b : Bool) → a ≡ b
+        → unmatched_of (untag rest) (map (is_taken partners) (range_with_len (n + 1) (length (untag rest)))) ≡ untag (filter (λ x. not (q x)) rest)
+        → keep_unless a x.1 (unmatched_of (untag rest) (map (is_taken partners) (range_with_len (n + 1) (length (untag rest)))))
+        ≡ untag (cond (not b) (x ∷ filter (λ x. not (q x)) rest) (filter (λ x. not (q x)) rest))
     by_test true true same later = later
     by_test true false same later = let never : ⊥ = cc in absurd never
     by_test false true same later = let never : ⊥ = cc in absurd never
@@ -121,7 +137,8 @@ module _ (cs more bs : List Record) (same_tools : (t : List ℕ) → of_tool too
   same t = same_of_tool tool_of t bs (numbered 0 (cs ++ more)) fits
 
   at_own : AllByRecursion (λ (e : ℕ × Record). slice_get (cs ++ more) e.0 ≡ Some e.1) tags
-  at_own = all_arranged tool_of (λ (e : ℕ × Record). slice_get (cs ++ more) e.0 ≡ Some e.1) bs (numbered 0 (cs ++ more)) (at_numbered (cs ++ more) 0 (cs ++ more) (λ m y is. let zero_more : 0 + m ≡ m = omega arith in ap (slice_get (cs ++ more)) zero_more ∙ is))
+  at_own = all_arranged tool_of (λ (e : ℕ × Record). slice_get (cs ++ more) e.0 ≡ Some e.1) bs (numbered 0 (cs ++ more))
+      (at_numbered (cs ++ more) 0 (cs ++ more) (λ m y is. let zero_more : 0 + m ≡ m = omega arith in ap (slice_get (cs ++ more)) zero_more ∙ is))
 
   none_yet : IsOwn tags (replicate (length cs) None)
   none_yet = record { at = λ i j found. absurd (nobody (length cs) i j found) }
@@ -135,21 +152,26 @@ module _ (cs more bs : List Record) (same_tools : (t : List ℕ) → of_tool too
   has : (i : ℕ) (r : Record) → slice_get cs i ≡ Some r → has_partner (partners_of cs (untag tags)) i ≡ true
   has i r found =
       let t = has_tier cs (untag tags) r i found in
-      all_have tags cs more apart same (tiers_of cs (untag tags)) (replicate (length cs) None) i r t.tier t.key t.among (length-replicate (length cs) None) none_yet found t.is
+      all_have tags cs more apart same (tiers_of cs (untag tags)) (replicate (length cs) None) i r t.tier t.key t.among
+      (length-replicate (length cs) None) none_yet found t.is
 
   matched_there : (i : ℕ) (r : Record) → slice_get cs i ≡ Some r → partner_in (untag tags) (slice_index_or (partners_of cs (untag tags)) i None) ≡ Some r
   matched_there i r found =
       let some = some_of (slice_index_or (partners_of cs (untag tags)) i None) (has i r found) in
       let at = own.at i some.0 some.1 in
       let here : slice_get (cs ++ more) i ≡ Some at.0 = all_get (λ (e : ℕ × Record). slice_get (cs ++ more) e.0 ≡ Some e.1) tags some.0 (i, at.0) at_own at.1 in
-      ap (partner_in (untag tags)) some.1 ∙ slice_get-map (λ (e : ℕ × Record). e.1) tags some.0 ∙ ap (option_map (λ (e : ℕ × Record). e.1)) at.1 ∙ sym here ∙ get_front cs more i r found
+      ap (partner_in (untag tags)) some.1 ∙ slice_get-map (λ (e : ℕ × Record). e.1) tags some.0 ∙ ap (option_map (λ (e : ℕ × Record). e.1)) at.1
+      ∙ sym here ∙ get_front cs more i r found
 
   -- each current result is matched with itself
   pub matched : (i : ℕ) (r : Record) → slice_get cs i ≡ Some r → partner_in bs (slice_index_or (partners_of cs bs) i None) ≡ Some r
   matched i r found = subst (λ l. partner_in l (slice_index_or (partners_of cs l) i None) ≡ Some r) are (matched_there i r found)
 
   pub unchanged : AllByRecursion (λ s. s ≡ Unchanged) (states_of cs bs)
-  unchanged = all_unchanged bs (partners_of cs bs) 0 cs (λ m r is. let zero_more : 0 + m ≡ m = omega arith in ap (λ k. partner_in bs (slice_index_or (partners_of cs bs) k None)) zero_more ∙ matched m r is)
+  unchanged =
+      all_unchanged bs (partners_of cs bs) 0 cs
+      (λ m r is. let zero_more : 0 + m ≡ m =
+      omega arith in ap (λ k. partner_in bs (slice_index_or (partners_of cs bs) k None)) zero_more ∙ matched m r is)
 
   has_just : (i : ℕ) → has_partner (partners_of cs (untag tags)) i ≡ nat_lt i (length cs)
   has_just i = ⊎_elim within past (cases_lt i (length cs))
@@ -173,7 +195,15 @@ module _ (cs more bs : List Record) (same_tools : (t : List ℕ) → of_tool too
   pub unmatched : (t : List ℕ) → of_tool tool_of t (unmatched_of bs (taken_of cs bs)) ≡ of_tool tool_of t more
   unmatched t =
       ap (λ l. of_tool tool_of t (unmatched_of l (taken_of cs l))) (sym are)
-      ∙ ap (of_tool tool_of t) (unmatched_are (partners_of cs (untag tags)) (λ x. nat_lt x.0 (length cs)) 0 tags (λ m x is. let zero_more : 0 + m ≡ m = omega arith in ap (is_taken (partners_of cs (untag tags))) zero_more ∙ taken_is tags (partners_of cs (untag tags)) m x apart own is ∙ has_just x.0))
+      ∙ ap (of_tool tool_of t)
+      (unmatched_are (partners_of cs (untag tags)) (λ x. nat_lt x.0 (length cs)) 0 tags
+      (λ m x is. let zero_more : 0 + m ≡ m =
+      omega arith in ap (is_taken (partners_of cs (untag tags))) zero_more ∙ taken_is tags (partners_of cs (untag tags)) m x apart own is
+      ∙ has_just x.0))
       ∙ untag_of t (filter (λ (x : ℕ × Record). not (nat_lt x.0 (length cs))) tags)
-      ∙ ap untag (filter_swap (λ (x : ℕ × Record). bytes_eq x.1.tool t) (λ (x : ℕ × Record). not (nat_lt x.0 (length cs))) tags ∙ ap (filter (λ (x : ℕ × Record). not (nat_lt x.0 (length cs)))) (same t) ∙ sym (filter_swap (λ (x : ℕ × Record). bytes_eq x.1.tool t) (λ (x : ℕ × Record). not (nat_lt x.0 (length cs))) (numbered 0 (cs ++ more))) ∙ ap (of_tagged tool_of t) (from_number (length cs) 0 cs more (omega arith)))
+      ∙ ap untag
+      (filter_swap (λ (x : ℕ × Record). bytes_eq x.1.tool t) (λ (x : ℕ × Record). not (nat_lt x.0 (length cs))) tags
+      ∙ ap (filter (λ (x : ℕ × Record). not (nat_lt x.0 (length cs)))) (same t)
+      ∙ sym (filter_swap (λ (x : ℕ × Record). bytes_eq x.1.tool t) (λ (x : ℕ × Record). not (nat_lt x.0 (length cs))) (numbered 0 (cs ++ more)))
+      ∙ ap (of_tagged tool_of t) (from_number (length cs) 0 cs more (omega arith)))
       ∙ of_numbered t (length cs) more

@@ -38,7 +38,8 @@ module _ {Y : Type 0} (tool : Y → List ℕ) where
   rest_of t z zs [] is = let never : ⊥ = cc in absurd never
   rest_of t z zs (x ∷ xs) is = by_test (bytes_eq (tool x.1) t) refl is (rest_of t z zs xs)
     where
-      by_test : (b : Bool) → bytes_eq (tool x.1) t ≡ b → cond b (x ∷ of_tagged t xs) (of_tagged t xs) ≡ z ∷ zs → (of_tagged t xs ≡ z ∷ zs → of_tagged t (without_first t xs) ≡ zs)
+      by_test : (b : Bool) → bytes_eq (tool x.1) t ≡ b → cond b (x ∷ of_tagged t xs) (of_tagged t xs) ≡ z ∷ zs
+          → (of_tagged t xs ≡ z ∷ zs → of_tagged t (without_first t xs) ≡ zs)
           → of_tagged t (cond b xs (x ∷ without_first t xs)) ≡ zs
       by_test true test is later = cons_rest x z (of_tagged t xs) zs is
       by_test false test is later = ap (λ b. cond b (x ∷ of_tagged t (without_first t xs)) (of_tagged t (without_first t xs))) test ∙ later is
@@ -78,11 +79,13 @@ module _ {Y : Type 0} (tool : Y → List ℕ) where
       elim (bytes_eq (tool x.1) t) as (λ b. AreApart (cond b xs (x ∷ without_first t xs)))
       [ true ↦ apart.1 | false ↦ (all_without (λ y. x.0 ≡ y.0 → ⊥) t xs apart.0, apart_without t xs apart.1) ]
 
-  first_apart : (t : List ℕ) (z : ℕ × Y) (zs items : List (ℕ × Y)) → of_tagged t items ≡ z ∷ zs → AreApart items → AllByRecursion (λ y. z.0 ≡ y.0 → ⊥) (without_first t items)
+  first_apart : (t : List ℕ) (z : ℕ × Y) (zs items : List (ℕ × Y)) → of_tagged t items ≡ z ∷ zs → AreApart items
+      → AllByRecursion (λ y. z.0 ≡ y.0 → ⊥) (without_first t items)
   first_apart t z zs [] is apart = tt
   first_apart t z zs (x ∷ xs) is apart = by_test (bytes_eq (tool x.1) t) refl is (λ later. first_apart t z zs xs later apart.1)
     where
-      by_test : (b : Bool) → bytes_eq (tool x.1) t ≡ b → cond b (x ∷ of_tagged t xs) (of_tagged t xs) ≡ z ∷ zs → (of_tagged t xs ≡ z ∷ zs → AllByRecursion (λ y. z.0 ≡ y.0 → ⊥) (without_first t xs))
+      by_test : (b : Bool) → bytes_eq (tool x.1) t ≡ b → cond b (x ∷ of_tagged t xs) (of_tagged t xs) ≡ z ∷ zs
+          → (of_tagged t xs ≡ z ∷ zs → AllByRecursion (λ y. z.0 ≡ y.0 → ⊥) (without_first t xs))
           → AllByRecursion (λ y. z.0 ≡ y.0 → ⊥) (cond b xs (x ∷ without_first t xs))
       by_test true test is later =
           let same : x ≡ z = cons_first x z (of_tagged t xs) zs is in
@@ -107,12 +110,15 @@ module _ {Y : Type 0} (tool : Y → List ℕ) where
     fits : Fits ys (without_first (tool y) items)
 
   head_of : (y : Y) (ys : List Y) (items : List (ℕ × Y)) → Fits (y ∷ ys) items → Head y ys items
-  head_of y ys items fits = by_own (of_tagged (tool y) items) refl (sym (ap (λ b. cond b (y ∷ of_tool (tool y) ys) (of_tool (tool y) ys)) (itself (tool y))) ∙ fits (tool y))
+  head_of y ys items fits =
+      by_own (of_tagged (tool y) items) refl
+      (sym (ap (λ b. cond b (y ∷ of_tool (tool y) ys) (of_tool (tool y) ys)) (itself (tool y))) ∙ fits (tool y))
     where
       fits_rest : (z : ℕ × Y) (zs : List (ℕ × Y)) → of_tagged (tool y) items ≡ z ∷ zs → of_tool (tool y) ys ≡ untag zs → Fits ys (without_first (tool y) items)
       fits_rest z zs found rest t = by_test (bytes_eq (tool y) t) refl (fits t)
         where
-          by_test : (b : Bool) → bytes_eq (tool y) t ≡ b → cond b (y ∷ of_tool t ys) (of_tool t ys) ≡ untag (of_tagged t items) → of_tool t ys ≡ untag (of_tagged t (without_first (tool y) items))
+          by_test : (b : Bool) → bytes_eq (tool y) t ≡ b → cond b (y ∷ of_tool t ys) (of_tool t ys) ≡ untag (of_tagged t items)
+              → of_tool t ys ≡ untag (of_tagged t (without_first (tool y) items))
           by_test true test was =
               let same : tool y ≡ t = (bytes_eq-Decides (tool y) t).0 test in
               subst (λ u. of_tool u ys ≡ untag (of_tagged u (without_first (tool y) items))) same (rest ∙ ap untag (sym (rest_of (tool y) z zs items found)))
@@ -144,30 +150,38 @@ module _ {Y : Type 0} (tool : Y → List ℕ) where
   same_of_tool t (y ∷ ys) items fits =
       let h = head_of y ys items fits in
       ap (λ l. of_tagged t (with_head l (arranged ys (without_first (tool y) items)))) h.found
-      ∙ ap (λ u. cond (bytes_eq (tool u) t) (h.first ∷ of_tagged t (arranged ys (without_first (tool y) items))) (of_tagged t (arranged ys (without_first (tool y) items)))) h.is
+      ∙ ap (λ u. cond (bytes_eq (tool u) t) (h.first ∷ of_tagged t (arranged ys (without_first (tool y) items)))
+      (of_tagged t (arranged ys (without_first (tool y) items)))) h.is
       ∙ by_test h.first h.rest h.found (bytes_eq (tool y) t) refl (same_of_tool t ys (without_first (tool y) items) h.fits)
     where
-      by_test : (z : ℕ × Y) (zs : List (ℕ × Y)) → of_tagged (tool y) items ≡ z ∷ zs → (b : Bool) → bytes_eq (tool y) t ≡ b → of_tagged t (arranged ys (without_first (tool y) items)) ≡ of_tagged t (without_first (tool y) items)
+      by_test : (z : ℕ × Y) (zs : List (ℕ × Y)) → of_tagged (tool y) items ≡ z ∷ zs → (b : Bool) → bytes_eq (tool y) t ≡ b
+          → of_tagged t (arranged ys (without_first (tool y) items)) ≡ of_tagged t (without_first (tool y) items)
           → cond b (z ∷ of_tagged t (arranged ys (without_first (tool y) items))) (of_tagged t (arranged ys (without_first (tool y) items))) ≡ of_tagged t items
       by_test z zs found true test later =
           let same : tool y ≡ t = (bytes_eq-Decides (tool y) t).0 test in
-          ap (λ l. z ∷ l) (later ∙ ap (λ u. of_tagged u (without_first (tool y) items)) (sym same) ∙ rest_of (tool y) z zs items found) ∙ sym found ∙ ap (λ u. of_tagged u items) same
+          ap (λ l. z ∷ l) (later ∙ ap (λ u. of_tagged u (without_first (tool y) items)) (sym same) ∙ rest_of (tool y) z zs items found) ∙ sym found
+          ∙ ap (λ u. of_tagged u items) same
       by_test z zs found false test later = later ∙ others_stay (tool y) t items test
 
   -- what is so of each is so of each of them in that order
   pub all_arranged : (P : ℕ × Y → Type 0) (ys : List Y) (items : List (ℕ × Y)) → AllByRecursion P items → AllByRecursion P (arranged ys items)
   all_arranged P [] items all = tt
-  all_arranged P (y ∷ ys) items all = by_own (of_tagged (tool y) items) (all_of_tool P (tool y) items all) (all_arranged P ys (without_first (tool y) items) (all_without P (tool y) items all))
+  all_arranged P (y ∷ ys) items all =
+      by_own (of_tagged (tool y) items) (all_of_tool P (tool y) items all)
+      (all_arranged P ys (without_first (tool y) items) (all_without P (tool y) items all))
     where
-      by_own : (own : List (ℕ × Y)) → AllByRecursion P own → AllByRecursion P (arranged ys (without_first (tool y) items)) → AllByRecursion P (with_head own (arranged ys (without_first (tool y) items)))
+      by_own : (own : List (ℕ × Y)) → AllByRecursion P own → AllByRecursion P (arranged ys (without_first (tool y) items))
+          → AllByRecursion P (with_head own (arranged ys (without_first (tool y) items)))
       by_own [] here rest = rest
       by_own (z ∷ zs) here rest = (here.0, rest)
 
   pub apart_arranged : (ys : List Y) (items : List (ℕ × Y)) → AreApart items → AreApart (arranged ys items)
   apart_arranged [] items apart = tt
-  apart_arranged (y ∷ ys) items apart = by_own (of_tagged (tool y) items) refl (apart_arranged ys (without_first (tool y) items) (apart_without (tool y) items apart))
+  apart_arranged (y ∷ ys) items apart =
+      by_own (of_tagged (tool y) items) refl (apart_arranged ys (without_first (tool y) items) (apart_without (tool y) items apart))
     where
-      by_own : (own : List (ℕ × Y)) → of_tagged (tool y) items ≡ own → AreApart (arranged ys (without_first (tool y) items)) → AreApart (with_head own (arranged ys (without_first (tool y) items)))
+      by_own : (own : List (ℕ × Y)) → of_tagged (tool y) items ≡ own → AreApart (arranged ys (without_first (tool y) items))
+          → AreApart (with_head own (arranged ys (without_first (tool y) items)))
       by_own [] is rest = rest
       by_own (z ∷ zs) is rest = (all_arranged (λ e. z.0 ≡ e.0 → ⊥) ys (without_first (tool y) items) (first_apart (tool y) z zs items is apart), rest)
 
@@ -184,7 +198,8 @@ module _ {Y : Type 0} (tool : Y → List ℕ) where
   pub fits_long : (ys : List Y) (items : List (ℕ × Y)) → Fits ys items → length items ≡ length ys
   fits_long [] [] fits = refl
   fits_long [] (x ∷ xs) fits =
-      let none : [] ≡ untag (x ∷ of_tagged (tool x.1) xs) = fits (tool x.1) ∙ ap (λ b. untag (cond b (x ∷ of_tagged (tool x.1) xs) (of_tagged (tool x.1) xs))) (itself (tool x.1)) in
+      let none : [] ≡ untag (x ∷ of_tagged (tool x.1) xs) =
+      fits (tool x.1) ∙ ap (λ b. untag (cond b (x ∷ of_tagged (tool x.1) xs) (of_tagged (tool x.1) xs))) (itself (tool x.1)) in
       let never : ⊥ = cc in absurd never
   fits_long (y ∷ ys) items fits =
       let h = head_of y ys items fits in

@@ -37,10 +37,14 @@ module _ (t : List ℕ) where
   of_same [] sound = refl
   of_same (run ∷ all) sound = by_tests (bytes_eq run.tool t) run.records refl refl (of_same all sound.1)
     where
-      kept : of_tool tool_of t (records_among (runs_of_tool all t)) ≡ of_tool tool_of t (records_among all) → of_tool tool_of t (run.records ++ records_among (runs_of_tool all t)) ≡ of_tool tool_of t (run.records ++ records_among all)
-      kept rest = append_of run.records (records_among (runs_of_tool all t)) ∙ ap (λ l. of_tool tool_of t run.records ++ l) rest ∙ sym (append_of run.records (records_among all))
+      kept : of_tool tool_of t (records_among (runs_of_tool all t)) ≡ of_tool tool_of t (records_among all)
+          → of_tool tool_of t (run.records ++ records_among (runs_of_tool all t)) ≡ of_tool tool_of t (run.records ++ records_among all)
+      kept rest =
+          append_of run.records (records_among (runs_of_tool all t)) ∙ ap (λ l. of_tool tool_of t run.records ++ l) rest
+          ∙ sym (append_of run.records (records_among all))
 
-      by_tests : (b : Bool) (rs : List Record) → bytes_eq run.tool t ≡ b → run.records ≡ rs → of_tool tool_of t (records_among (runs_of_tool all t)) ≡ of_tool tool_of t (records_among all)
+      by_tests : (b : Bool) (rs : List Record) → bytes_eq run.tool t ≡ b → run.records ≡ rs
+          → of_tool tool_of t (records_among (runs_of_tool all t)) ≡ of_tool tool_of t (records_among all)
           → of_tool tool_of t (records_among (runs_of_tool (run ∷ all) t)) ≡ of_tool tool_of t (records_among (run ∷ all))
       by_tests true (r ∷ rs) test are rest =
           ap (λ b. of_tool tool_of t (records_among (cond (b && not (is_empty run.records)) (run ∷ runs_of_tool all t) (runs_of_tool all t)))) test
@@ -52,7 +56,9 @@ module _ (t : List ℕ) where
           ∙ rest ∙ sym (ap (λ l. of_tool tool_of t (l ++ records_among all)) are)
       by_tests false rs test are rest =
           ap (λ b. of_tool tool_of t (records_among (cond (b && not (is_empty run.records)) (run ∷ runs_of_tool all t) (runs_of_tool all t)))) test
-          ∙ rest ∙ sym (append_of run.records (records_among all) ∙ ap (λ l. l ++ of_tool tool_of t (records_among all)) (none_of_other run.tool run.records sound.0 test))
+          ∙ rest ∙ sym
+          (append_of run.records (records_among all)
+          ∙ ap (λ l. l ++ of_tool tool_of t (records_among all)) (none_of_other run.tool run.records sound.0 test))
 
   -- the runs of another tool have none of its results
   of_other : (u : List ℕ) (all : List Chosen) → AllByRecursion IsOfOne all → bytes_eq u t ≡ false → of_tool tool_of t (records_among (runs_of_tool all u)) ≡ []
@@ -64,11 +70,13 @@ module _ (t : List ℕ) where
       by_test true false test rest =
           let same : run.tool ≡ u = (bytes_eq-Decides run.tool u).0 test in
           append_of run.records (records_among (runs_of_tool all u))
-          ∙ ap (λ l. l ++ of_tool tool_of t (records_among (runs_of_tool all u))) (none_of_other run.tool run.records sound.0 (ap (λ s. bytes_eq s t) same ∙ other)) ∙ rest
+          ∙ ap (λ l. l ++ of_tool tool_of t (records_among (runs_of_tool all u)))
+          (none_of_other run.tool run.records sound.0 (ap (λ s. bytes_eq s t) same ∙ other)) ∙ rest
       by_test true true test rest = rest
       by_test false e test rest = rest
 
-  none_named : (runs : List Chosen) → AllByRecursion IsOfOne runs → list_any (bytes_eq t) (map (λ run. run.tool) runs) ≡ false → of_tool tool_of t (records_among runs) ≡ []
+  none_named : (runs : List Chosen) → AllByRecursion IsOfOne runs → list_any (bytes_eq t) (map (λ run. run.tool) runs) ≡ false
+      → of_tool tool_of t (records_among runs) ≡ []
   none_named [] sound none = refl
   none_named (run ∷ runs) sound none =
       let parts = or_parts (bytes_eq t run.tool) (list_any (bytes_eq t) (map (λ run. run.tool) runs)) none in
@@ -84,24 +92,33 @@ module _ (t : List ℕ) where
 
     next_tool : (u : List ℕ) (tools : List (List ℕ)) → found (u ∷ tools) ≡ of_tool tool_of t (records_among (runs_of_tool all u)) ++ found tools
     next_tool u tools =
-        ap (of_tool tool_of t) (flat_map-append (λ run. run.records) (runs_of_tool all u) (flat_map (runs_of_tool all) tools)) ∙ append_of (records_among (runs_of_tool all u)) (records_among (flat_map (runs_of_tool all) tools))
+        ap (of_tool tool_of t) (flat_map-append (λ run. run.records) (runs_of_tool all u) (flat_map (runs_of_tool all) tools))
+        ∙ append_of (records_among (runs_of_tool all u)) (records_among (flat_map (runs_of_tool all) tools))
 
     -- a tool that came before doesn't come again
     found_before : (before tools : List (List ℕ)) → list_any (bytes_eq t) before ≡ true → found (once_each before tools) ≡ []
     found_before before [] there = refl
-    found_before before (u ∷ tools) there = by_test (list_any (bytes_eq u) before) refl (found_before before tools there) (found_before (before ++ u ∷ []) tools (list_any-append (bytes_eq t) before (u ∷ []) ∙ or_left (list_any (bytes_eq t) before) (list_any (bytes_eq t) (u ∷ [])) there))
+    found_before before (u ∷ tools) there =
+        by_test (list_any (bytes_eq u) before) refl (found_before before tools there)
+        (found_before (before ++ u ∷ []) tools
+        (list_any-append (bytes_eq t) before (u ∷ []) ∙ or_left (list_any (bytes_eq t) before) (list_any (bytes_eq t) (u ∷ [])) there))
       where
         by_test : (b : Bool) → list_any (bytes_eq u) before ≡ b → found (once_each before tools) ≡ [] → found (once_each (before ++ u ∷ []) tools) ≡ []
             → found (cond b (once_each before tools) (u ∷ once_each (before ++ u ∷ []) tools)) ≡ []
         by_test true test skipped rest = skipped
         by_test false test skipped rest =
-            let other : bytes_eq u t ≡ false = false_from_ne_true (bytes_eq u t) (λ same. true≢false (sym there ∙ ap (λ s. list_any (bytes_eq s) before) (sym ((bytes_eq-Decides u t).0 same)) ∙ test)) in
+            let other : bytes_eq u t ≡ false =
+            false_from_ne_true (bytes_eq u t)
+            (λ same. true≢false (sym there ∙ ap (λ s. list_any (bytes_eq s) before) (sym ((bytes_eq-Decides u t).0 same)) ∙ test)) in
             next_tool u (once_each (before ++ u ∷ []) tools) ∙ ap₂ (λ xs ys. xs ++ ys) (of_other u all sound other) rest
 
-    found_once : (before tools : List (List ℕ)) → list_any (bytes_eq t) before ≡ false → (list_any (bytes_eq t) tools ≡ false → of_tool tool_of t (records_among all) ≡ [])
+    found_once : (before tools : List (List ℕ)) → list_any (bytes_eq t) before ≡ false
+        → (list_any (bytes_eq t) tools ≡ false → of_tool tool_of t (records_among all) ≡ [])
         → found (once_each before tools) ≡ of_tool tool_of t (records_among all)
     found_once before [] none unnamed = sym (unnamed refl)
-    found_once before (u ∷ tools) none unnamed = by_test (list_any (bytes_eq u) before) refl (bytes_eq u t) refl (found_once before tools none) (found_once (before ++ u ∷ []) tools) (found_before (before ++ u ∷ []) tools)
+    found_once before (u ∷ tools) none unnamed =
+        by_test (list_any (bytes_eq u) before) refl (bytes_eq u t) refl (found_once before tools none) (found_once (before ++ u ∷ []) tools)
+        (found_before (before ++ u ∷ []) tools)
       where
         apart : bytes_eq u t ≡ false → bytes_eq t u ≡ false
         apart is = false_from_ne_true (bytes_eq t u) (λ same. true≢false (sym ((bytes_eq-Decides u t).1 (sym ((bytes_eq-Decides t u).0 same))) ∙ is))
@@ -110,11 +127,14 @@ module _ (t : List ℕ) where
         later other is = unnamed (or_from (bytes_eq t u) (list_any (bytes_eq t) tools) (apart other) is)
 
         by_test : (b : Bool) → list_any (bytes_eq u) before ≡ b → (c : Bool) → bytes_eq u t ≡ c
-            → ((list_any (bytes_eq t) tools ≡ false → of_tool tool_of t (records_among all) ≡ []) → found (once_each before tools) ≡ of_tool tool_of t (records_among all))
-            → (list_any (bytes_eq t) (before ++ u ∷ []) ≡ false → (list_any (bytes_eq t) tools ≡ false → of_tool tool_of t (records_among all) ≡ []) → found (once_each (before ++ u ∷ []) tools) ≡ of_tool tool_of t (records_among all))
+            → ((list_any (bytes_eq t) tools ≡ false → of_tool tool_of t (records_among all) ≡ [])
+            → found (once_each before tools) ≡ of_tool tool_of t (records_among all))
+            → (list_any (bytes_eq t) (before ++ u ∷ []) ≡ false → (list_any (bytes_eq t) tools ≡ false → of_tool tool_of t (records_among all) ≡ [])
+            → found (once_each (before ++ u ∷ []) tools) ≡ of_tool tool_of t (records_among all))
             → (list_any (bytes_eq t) (before ++ u ∷ []) ≡ true → found (once_each (before ++ u ∷ []) tools) ≡ [])
             → found (cond b (once_each before tools) (u ∷ once_each (before ++ u ∷ []) tools)) ≡ of_tool tool_of t (records_among all)
-        by_test true seen true same skipped rest gone = absurd (true≢false (sym seen ∙ ap (λ s. list_any (bytes_eq s) before) ((bytes_eq-Decides u t).0 same) ∙ none))
+        by_test true seen true same skipped rest gone =
+            absurd (true≢false (sym seen ∙ ap (λ s. list_any (bytes_eq s) before) ((bytes_eq-Decides u t).0 same) ∙ none))
         by_test true seen false other skipped rest gone = skipped (later other)
         by_test false seen true same skipped rest gone =
             let is : u ≡ t = (bytes_eq-Decides u t).0 same in
@@ -127,10 +147,13 @@ module _ (t : List ℕ) where
             ∙ ap₂ (λ xs ys. xs ++ ys) (of_other u all sound other)
             (rest (list_any-append (bytes_eq t) before (u ∷ []) ∙ ap₂ (λ x y. x || (y || false)) none (apart other)) (later other))
 
-  names_apart : (xs ys : List Chosen) → list_any (bytes_eq t) (map (λ run. run.tool) (ys ++ xs)) ≡ false → list_any (bytes_eq t) (map (λ run. run.tool) (xs ++ ys)) ≡ false
+  names_apart : (xs ys : List Chosen) → list_any (bytes_eq t) (map (λ run. run.tool) (ys ++ xs)) ≡ false
+      → list_any (bytes_eq t) (map (λ run. run.tool) (xs ++ ys)) ≡ false
   names_apart xs ys none =
       let names = λ (runs : List Chosen). map (λ (run : Chosen). run.tool) runs in
-      let split = sym (ap (list_any (bytes_eq t)) (map-append (λ (run : Chosen). run.tool) ys xs) ∙ list_any-append (bytes_eq t) (names ys) (names xs)) ∙ none in
+      let split =
+      sym (ap (list_any (bytes_eq t)) (map-append (λ (run : Chosen). run.tool) ys xs) ∙ list_any-append (bytes_eq t) (names ys) (names xs))
+      ∙ none in
       let parts = or_parts (list_any (bytes_eq t) (names ys)) (list_any (bytes_eq t) (names xs)) split in
       ap (list_any (bytes_eq t)) (map-append (λ (run : Chosen). run.tool) xs ys) ∙ list_any-append (bytes_eq t) (names xs) (names ys)
       ∙ or_from (list_any (bytes_eq t) (names xs)) (list_any (bytes_eq t) (names ys)) parts.1 parts.0
@@ -139,5 +162,6 @@ module _ (t : List ℕ) where
       → of_tool tool_of t (records_among (known_runs current baseline)) ≡ of_tool tool_of t (records_among current ++ records_among baseline)
   known_of_tool current baseline now before =
       let sound = all_append IsOfOne current baseline now before in
-      found_once (current ++ baseline) sound [] (map (λ run. run.tool) (baseline ++ current)) refl (λ none. none_named (current ++ baseline) sound (names_apart current baseline none))
+      found_once (current ++ baseline) sound [] (map (λ run. run.tool) (baseline ++ current)) refl
+      (λ none. none_named (current ++ baseline) sound (names_apart current baseline none))
       ∙ ap (of_tool tool_of t) (flat_map-append (λ (run : Chosen). run.records) current baseline)

@@ -42,7 +42,8 @@ told policy (Some s) level suppressed =
 one_hit : (policy : Policy) (result : Data) → hits_of (λ s l x. count_if (carries s l x result) 1) policy ≡ cond (is_hit_in policy result) 1 0
 one_hit policy result =
     let suppressed = suppresses (suppressions_in result) in
-    hits_same (λ s l x. count_if (carries s l x result) 1) (one_of (state_in result) (level_in result) suppressed) policy (λ s l. ap (λ b. count_if b 1) (carried s l result))
+    hits_same (λ s l x. count_if (carries s l x result) 1) (one_of (state_in result) (level_in result) suppressed) policy
+    (λ s l. ap (λ b. count_if b 1) (carried s l result))
     ∙ hits_one policy (state_in result) (level_in result) suppressed
     ∙ told policy (state_in result) (level_in result) suppressed
 

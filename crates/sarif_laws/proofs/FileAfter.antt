@@ -53,12 +53,14 @@ same_today inputs none = today_given inputs.suppressions inputs.today (file_give
 
 -- ---- the results for which entries are added
 
-accepted_fit : (counts : MayBeHit) (file : File) (rs : List Record) (states : List State) → AllByRecursion HasGuid rs → AllByRecursion HasGuid (accepted_among counts file rs states)
+accepted_fit : (counts : MayBeHit) (file : File) (rs : List Record) (states : List State) → AllByRecursion HasGuid rs
+    → AllByRecursion HasGuid (accepted_among counts file rs states)
 accepted_fit counts file [] states fit = tt
 accepted_fit counts file (r ∷ rs) [] fit = tt
 accepted_fit counts file (r ∷ rs) (state ∷ states) fit =
     let rest = accepted_fit counts file rs states fit.1 in
-    elim (is_hit counts file r state && not (stays file r)) as (λ b. AllByRecursion HasGuid (if b then r ∷ accepted_among counts file rs states else accepted_among counts file rs states))
+    elim (is_hit counts file r state && not (stays file r)) as
+    (λ b. AllByRecursion HasGuid (if b then r ∷ accepted_among counts file rs states else accepted_among counts file rs states))
     [ true ↦ (fit.0, rest) | false ↦ rest ]
 
 once_fit : (before rs : List Record) → AllByRecursion HasGuid rs → AllByRecursion HasGuid (once_each before rs)
@@ -90,16 +92,20 @@ another_file (x ∷ a) b c d e more none new = let never : ⊥ = cc in absurd ne
 -- the suppression file of the next merge, as it is meant
 abbrev pub later_file : Inputs → Policy → Renewal → File
 later_file inputs policy renewal =
-    file_after (how_of (merge_in inputs policy) renewal) (may_hit policy) (file_given inputs) (current_of inputs) (states_of (current_of inputs) (baseline_of inputs))
+    file_after (how_of (merge_in inputs policy) renewal) (may_hit policy) (file_given inputs) (current_of inputs)
+    (states_of (current_of inputs) (baseline_of inputs))
 
-module _ (inputs : Inputs) (policy : Policy) (renewal : Renewal) (text : List ℕ) (none : faults_of inputs ≡ []) (small : renewal_faults (merge_in inputs policy) renewal ≡ [])
+module _ (inputs : Inputs) (policy : Policy) (renewal : Renewal) (text : List ℕ) (none : faults_of inputs ≡ [])
+    (small : renewal_faults (merge_in inputs policy) renewal ≡ [])
     (dated : IsDated inputs.today renewal.until) (is : IsNewFileOf inputs policy renewal text) where
   later_read : file_of text inputs.today ≡ Ok (later_file inputs policy renewal)
   later_read =
       let rs = current_of inputs in
       let states = states_of rs (baseline_of inputs) in
-      new_file_read (how_of (merge_in inputs policy) renewal) (may_hit policy) inputs.suppressions inputs.today (file_given inputs) rs states text (input_file inputs none)
-      (added_fit renewal.accept (accepted_among (may_hit policy) (file_given inputs) rs states) (accepted_fit (may_hit policy) (file_given inputs) rs states (guids_fit (input_runs inputs))))
+      new_file_read (how_of (merge_in inputs policy) renewal) (may_hit policy) inputs.suppressions inputs.today (file_given inputs) rs states text
+      (input_file inputs none)
+      (added_fit renewal.accept (accepted_among (may_hit policy) (file_given inputs) rs states)
+      (accepted_fit (may_hit policy) (file_given inputs) rs states (guids_fit (input_runs inputs))))
       dated (few_by (entries_count (merge_in inputs policy) renewal) _ _ small) is
 
   pub later_is : file_given (with_file inputs text) ≡ later_file inputs policy renewal
@@ -107,5 +113,6 @@ module _ (inputs : Inputs) (policy : Policy) (renewal : Renewal) (text : List �
 
   pub faultless_later : faults_of (with_file inputs text) ≡ []
   faultless_later =
-      another_file (number_faults Log inputs.logs) (number_faults Baseline inputs.baselines) (source_faults 0 0 (all_sources inputs)) (file_faults (file_or_none inputs.suppressions inputs.today))
+      another_file (number_faults Log inputs.logs) (number_faults Baseline inputs.baselines) (source_faults 0 0 (all_sources inputs))
+      (file_faults (file_or_none inputs.suppressions inputs.today))
       (faults_of_runs (all_runs inputs)) (file_faults (file_of text inputs.today)) none (ap file_faults later_read)

@@ -11,10 +11,14 @@ use Rattle.sarif_known.specs.Order.{known_runs, runs_of_tool, tools_of}
 use Rattle.sarif_known.proofs.Grouped.{tools_apart}
 
 -- a tool that comes before isn't among those that follow
-not_later : (tool : List ℕ) (before tools : List (List ℕ)) → list_any (bytes_eq tool) before ≡ true → AreApart before tools → list_any (bytes_eq tool) tools ≡ false
+not_later : (tool : List ℕ) (before tools : List (List ℕ)) → list_any (bytes_eq tool) before ≡ true → AreApart before tools
+    → list_any (bytes_eq tool) tools ≡ false
 not_later tool before [] there apart = refl
 not_later tool before (x ∷ xs) there apart =
-    by_test (bytes_eq tool x) refl (not_later tool (before ++ x ∷ []) xs (list_any-append (bytes_eq tool) before (x ∷ []) ∙ or_left (list_any (bytes_eq tool) before) (list_any (bytes_eq tool) (x ∷ [])) there) apart.1)
+    by_test (bytes_eq tool x) refl
+    (not_later tool (before ++ x ∷ []) xs
+    (list_any-append (bytes_eq tool) before (x ∷ []) ∙ or_left (list_any (bytes_eq tool) before) (list_any (bytes_eq tool) (x ∷ [])) there)
+    apart.1)
   where
     by_test : (b : Bool) → bytes_eq tool x ≡ b → list_any (bytes_eq tool) xs ≡ false → (b || list_any (bytes_eq tool) xs) ≡ false
     by_test true is rest =
@@ -36,7 +40,8 @@ module _ (weight : Chosen → ℕ) where
     other_tool : (tool : List ℕ) → bytes_eq run.tool tool ≡ false → runs_of_tool (run ∷ all) tool ≡ runs_of_tool all tool
     other_tool tool other = ap (λ b. if b && not (is_empty run.records) then run ∷ runs_of_tool all tool else runs_of_tool all tool) other
 
-    none_more : (tools : List (List ℕ)) → list_any (bytes_eq run.tool) tools ≡ false → flat_map (runs_of_tool (run ∷ all)) tools ≡ flat_map (runs_of_tool all) tools
+    none_more : (tools : List (List ℕ)) → list_any (bytes_eq run.tool) tools ≡ false
+        → flat_map (runs_of_tool (run ∷ all)) tools ≡ flat_map (runs_of_tool all) tools
     none_more [] none = refl
     none_more (t ∷ ts) none =
         let parts = or_parts (bytes_eq run.tool t) (list_any (bytes_eq run.tool) ts) none in
@@ -46,7 +51,8 @@ module _ (weight : Chosen → ℕ) where
     one_of true tool = omega arith
     one_of false tool = omega arith
 
-    one_more : (before tools : List (List ℕ)) → AreApart before tools → total (flat_map (runs_of_tool (run ∷ all)) tools) ≤ weight run + total (flat_map (runs_of_tool all) tools)
+    one_more : (before tools : List (List ℕ)) → AreApart before tools
+        → total (flat_map (runs_of_tool (run ∷ all)) tools) ≤ weight run + total (flat_map (runs_of_tool all) tools)
     one_more before [] apart = omega arith
     one_more before (t ∷ ts) apart = by_test (bytes_eq run.tool t) refl (one_more (before ++ t ∷ []) ts apart.1)
       where
@@ -62,12 +68,27 @@ module _ (weight : Chosen → ℕ) where
             → total (flat_map (runs_of_tool (run ∷ all)) (t ∷ ts)) ≤ weight run + total (flat_map (runs_of_tool all) (t ∷ ts))
         by_test true is rest =
             let same : t ≡ run.tool = sym ((bytes_eq-Decides run.tool t).0 is) in
-            let none : list_any (bytes_eq run.tool) ts ≡ false = ap (λ x. list_any (bytes_eq x) ts) (sym same) ∙ not_later t (before ++ t ∷ []) ts itself apart.1 in
+            let none : list_any (bytes_eq run.tool) ts ≡ false =
+            ap (λ x. list_any (bytes_eq x) ts) (sym same) ∙ not_later t (before ++ t ∷ []) ts itself apart.1 in
             let later = ap total (none_more ts none) in
-            omega (arith, total-append (runs_of_tool (run ∷ all) t) (flat_map (runs_of_tool (run ∷ all)) ts), total-append (runs_of_tool all t) (flat_map (runs_of_tool all) ts), one_of (bytes_eq run.tool t && not (is_empty run.records)) t, later)
+            omega (
+              arith,
+              total-append (runs_of_tool (run ∷ all) t) (flat_map (runs_of_tool (run ∷ all)) ts),
+              total-append (runs_of_tool all t)
+                  (flat_map (runs_of_tool all) ts),
+              one_of (bytes_eq run.tool t && not (is_empty run.records)) t,
+              later,
+            )
         by_test false is rest =
             let here = ap total (other_tool t is) in
-            omega (arith, total-append (runs_of_tool (run ∷ all) t) (flat_map (runs_of_tool (run ∷ all)) ts), total-append (runs_of_tool all t) (flat_map (runs_of_tool all) ts), here, rest)
+            omega (
+              arith,
+              total-append (runs_of_tool (run ∷ all) t) (flat_map (runs_of_tool (run ∷ all)) ts),
+              total-append (runs_of_tool all t)
+                  (flat_map (runs_of_tool all) ts),
+              here,
+              rest,
+            )
 
   none_at_all : (tools : List (List ℕ)) → flat_map (runs_of_tool []) tools ≡ []
   none_at_all [] = refl
@@ -79,7 +100,12 @@ module _ (weight : Chosen → ℕ) where
 
   pub known_total : (current baseline : List Chosen) → total (known_runs current baseline) ≤ total current + total baseline
   known_total current baseline =
-      omega (arith, grouped (current ++ baseline) [] (tools_of (baseline ++ current)) (tools_apart (baseline ++ current) (tools_of (baseline ++ current)) refl), total-append current baseline)
+      omega (
+        arith,
+        grouped (current ++ baseline) [] (tools_of (baseline ++ current))
+            (tools_apart (baseline ++ current) (tools_of (baseline ++ current)) refl),
+        total-append current baseline,
+      )
 
 -- how many runs and results there are
 pub total_runs : (runs : List Chosen) → total (λ _. 1) runs ≡ length runs

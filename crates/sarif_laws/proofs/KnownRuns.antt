@@ -34,7 +34,8 @@ module _ (P : Record → Type 0) where
   kept_unless true r rs here rest = rest
   kept_unless false r rs here rest = (here, rest)
 
-  known_sound : (file : File) (policy : Policy) (adopt : Bool) (rs : List Record) (states : List State) → AllByRecursion P rs → AllByRecursion P (known_of file policy adopt rs states)
+  known_sound : (file : File) (policy : Policy) (adopt : Bool) (rs : List Record) (states : List State) → AllByRecursion P rs
+      → AllByRecursion P (known_of file policy adopt rs states)
   known_sound file policy adopt [] states all = tt
   known_sound file policy adopt (r ∷ rs) [] all = tt
   known_sound file policy adopt (r ∷ rs) (state ∷ states) all =
@@ -55,7 +56,8 @@ take_own xs ys n long = ap (λ m. take m (xs ++ ys)) (sym long) ∙ take-append_
 drop_own : (xs ys : List Record) (n : ℕ) → length xs ≡ n → drop n (xs ++ ys) ≡ ys
 drop_own xs ys n long = ap (λ m. drop m (xs ++ ys)) (sym long) ∙ drop-append_seam xs ys
 
-pub now_sound : (file : File) (policy : Policy) (adopt : Bool) (ps : List Placed) (states : List State) → faults_of_runs ps ≡ [] → AllByRecursion (λ p. skips p.source ≡ false) ps → AllByRecursion (λ p. IsSoundRun p.run) ps
+pub now_sound : (file : File) (policy : Policy) (adopt : Bool) (ps : List Placed) (states : List State) → faults_of_runs ps ≡ []
+    → AllByRecursion (λ p. skips p.source ≡ false) ps → AllByRecursion IsSoundRun ps
     → AllByRecursion IsChosenSound (chosen_now file policy adopt (run_values ps) (records_of ps) states)
 now_sound file policy adopt [] states sound logs all = tt
 now_sound file policy adopt (p ∷ ps) states sound logs all =
@@ -69,7 +71,8 @@ now_sound file policy adopt (p ∷ ps) states sound logs all =
           (now_sound file policy adopt ps (drop n states) (no_faults_left (run_faults p) (faults_of_runs ps) sound) logs.1 all.1),
     )
 
-pub before_sound : (heard : Option (List ℕ) → Bool) (ps : List Placed) (taken : List Bool) → faults_of_runs ps ≡ [] → AllByRecursion (λ p. skips p.source ≡ true) ps → AllByRecursion (λ p. IsSoundRun p.run) ps
+pub before_sound : (heard : Option (List ℕ) → Bool) (ps : List Placed) (taken : List Bool) → faults_of_runs ps ≡ []
+    → AllByRecursion (λ p. skips p.source ≡ true) ps → AllByRecursion IsSoundRun ps
     → AllByRecursion IsChosenSound (chosen_before heard (run_values ps) (records_of ps) taken)
 before_sound heard [] taken sound logs all = tt
 before_sound heard (p ∷ ps) taken sound logs all =
@@ -88,14 +91,18 @@ before_sound heard (p ∷ ps) taken sound logs all =
 of_tool_sound : (runs : List Chosen) (tool : List ℕ) → AllByRecursion IsChosenSound runs → AllByRecursion IsChosenSound (runs_of_tool runs tool)
 of_tool_sound [] tool all = tt
 of_tool_sound (run ∷ runs) tool all =
-    elim (bytes_eq run.tool tool && not (is_empty run.records)) as (λ b. AllByRecursion IsChosenSound (if b then run ∷ runs_of_tool runs tool else runs_of_tool runs tool))
+    elim (bytes_eq run.tool tool && not (is_empty run.records)) as
+    (λ b. AllByRecursion IsChosenSound (if b then run ∷ runs_of_tool runs tool else runs_of_tool runs tool))
     [ true ↦ (all.0, of_tool_sound runs tool all.1) | false ↦ of_tool_sound runs tool all.1 ]
 
-of_tools_sound : (runs : List Chosen) (tools : List (List ℕ)) → AllByRecursion IsChosenSound runs → AllByRecursion IsChosenSound (flat_map (runs_of_tool runs) tools)
+of_tools_sound : (runs : List Chosen) (tools : List (List ℕ)) → AllByRecursion IsChosenSound runs
+    → AllByRecursion IsChosenSound (flat_map (runs_of_tool runs) tools)
 of_tools_sound runs [] all = tt
-of_tools_sound runs (t ∷ ts) all = all_append IsChosenSound (runs_of_tool runs t) (flat_map (runs_of_tool runs) ts) (of_tool_sound runs t all) (of_tools_sound runs ts all)
+of_tools_sound runs (t ∷ ts) all =
+    all_append IsChosenSound (runs_of_tool runs t) (flat_map (runs_of_tool runs) ts) (of_tool_sound runs t all) (of_tools_sound runs ts all)
 
-pub grouped_sound : (current baseline : List Chosen) → AllByRecursion IsChosenSound current → AllByRecursion IsChosenSound baseline → AllByRecursion IsChosenSound (known_runs current baseline)
+pub grouped_sound : (current baseline : List Chosen) → AllByRecursion IsChosenSound current → AllByRecursion IsChosenSound baseline
+    → AllByRecursion IsChosenSound (known_runs current baseline)
 grouped_sound current baseline now before =
     of_tools_sound (current ++ baseline) (tools_of (baseline ++ current)) (all_append IsChosenSound current baseline now before)
 
@@ -109,22 +116,35 @@ part_few (suc n) (r ∷ rs) = omega (arith, part_few n rs)
 fewer_present : (ds : List Data) → length (present ds) ≤ length ds
 fewer_present ds = few_kept (λ d. not (is_absent_result d)) ds
 
-pub now_few : (file : File) (policy : Policy) (adopt : Bool) (runs : List Data) (rs : List Record) (states : List State) → results_among (chosen_now file policy adopt runs rs states) ≤ results_total runs
+pub now_few : (file : File) (policy : Policy) (adopt : Bool) (runs : List Data) (rs : List Record) (states : List State)
+    → results_among (chosen_now file policy adopt runs rs states) ≤ results_total runs
 now_few file policy adopt [] rs states = omega arith
 now_few file policy adopt (run ∷ runs) rs states =
     let n = length (results_of run) in
     omega (arith, known_fewer file policy adopt (take n rs) (take n states), part_few n rs, now_few file policy adopt runs (drop n rs) (drop n states))
 
-pub before_few : (heard : Option (List ℕ) → Bool) (runs : List Data) (rs : List Record) (taken : List Bool) → results_among (chosen_before heard runs rs taken) ≤ results_total runs
+pub before_few : (heard : Option (List ℕ) → Bool) (runs : List Data) (rs : List Record) (taken : List Bool)
+    → results_among (chosen_before heard runs rs taken) ≤ results_total runs
 before_few heard [] rs taken = omega arith
 before_few heard (run ∷ runs) rs taken =
     let n = length (present (results_of run)) in
-    omega (arith, kept_of_fewer (heard (Some (tool_name run))) (take n rs) (take n taken), part_few n rs, fewer_present (results_of run), before_few heard runs (drop n rs) (drop n taken))
+    omega (
+      arith,
+      kept_of_fewer (heard (Some (tool_name run))) (take n rs) (take n taken),
+      part_few n rs,
+      fewer_present
+          (results_of run),
+      before_few heard runs (drop n rs) (drop n taken),
+    )
 
-pub now_long : (file : File) (policy : Policy) (adopt : Bool) (runs : List Data) (rs : List Record) (states : List State) → length (chosen_now file policy adopt runs rs states) ≡ length runs
+pub now_long : (file : File) (policy : Policy) (adopt : Bool) (runs : List Data) (rs : List Record) (states : List State)
+    → length (chosen_now file policy adopt runs rs states) ≡ length runs
 now_long file policy adopt [] rs states = refl
-now_long file policy adopt (run ∷ runs) rs states = ap suc (now_long file policy adopt runs (drop (length (results_of run)) rs) (drop (length (results_of run)) states))
+now_long file policy adopt (run ∷ runs) rs states =
+    ap suc (now_long file policy adopt runs (drop (length (results_of run)) rs) (drop (length (results_of run)) states))
 
-pub before_long : (heard : Option (List ℕ) → Bool) (runs : List Data) (rs : List Record) (taken : List Bool) → length (chosen_before heard runs rs taken) ≡ length runs
+pub before_long : (heard : Option (List ℕ) → Bool) (runs : List Data) (rs : List Record) (taken : List Bool)
+    → length (chosen_before heard runs rs taken) ≡ length runs
 before_long heard [] rs taken = refl
-before_long heard (run ∷ runs) rs taken = ap suc (before_long heard runs (drop (length (present (results_of run))) rs) (drop (length (present (results_of run))) taken))
+before_long heard (run ∷ runs) rs taken =
+    ap suc (before_long heard runs (drop (length (present (results_of run))) rs) (drop (length (present (results_of run))) taken))

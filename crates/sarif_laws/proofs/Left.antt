@@ -77,7 +77,8 @@ by_statuses [] active = refl
 by_statuses (s ∷ ss) active = sym (ap not active)
 
 -- a result that isn't suppressed has suppressions if and only if it stays
-has_some : (file : File) (r : Record) (own : List Data) → read_each status_of own ≡ Ok r.held → is_suppressed file r ≡ false → not (is_empty (suppressions_of own file r)) ≡ stays file r
+has_some : (file : File) (r : Record) (own : List Data) → read_each status_of own ≡ Ok r.held → is_suppressed file r ≡ false
+    → not (is_empty (suppressions_of own file r)) ≡ stays file r
 has_some file r own read active =
     let es = matching file r in
     ap not (written_empty own es ∙ ap (λ b. b && is_empty es) (none_read own r.held read) ∙ ap (λ b. is_empty r.held && b) (empty_map es)
@@ -96,12 +97,14 @@ stays_by true false false d so = so refl
 
 module _ (policy : Policy) (r : Record) (state : State) where
   module _ (file : File) (ms : Members) (read : read_each status_of (elements (own_suppressions ms)) ≡ Ok r.held) where
-    active_by : is_active (object (annotated_members r.level state (items_of (suppressions_of (elements (own_suppressions ms)) file r)) ms)) ≡ not (is_suppressed file r)
+    active_by : is_active (object (annotated_members r.level state (items_of (suppressions_of (elements (own_suppressions ms)) file r)) ms))
+        ≡ not (is_suppressed file r)
     active_by =
         active_told r.level state (items_of (suppressions_of (elements (own_suppressions ms)) file r)) ms
         ∙ ap not (counted_again read_back (elements (own_suppressions ms)) file r read)
 
-    hit_by : is_hit_in policy (object (annotated_members r.level state (items_of (suppressions_of (elements (own_suppressions ms)) file r)) ms)) ≡ is_hit (may_hit policy) file r state
+    hit_by : is_hit_in policy (object (annotated_members r.level state (items_of (suppressions_of (elements (own_suppressions ms)) file r)) ms))
+        ≡ is_hit (may_hit policy) file r state
     hit_by =
         let list = items_of (suppressions_of (elements (own_suppressions ms)) file r) in
         let d = object (annotated_members r.level state list ms) in
@@ -109,13 +112,15 @@ module _ (policy : Policy) (r : Record) (state : State) where
         ∙ ap (λ o. (is_listed policy.states state && fails_on policy o) && is_active d) (level_told r.level state list ms)
         ∙ ap (λ b. (is_listed policy.states state && is_at_least policy.fail_on r.level) && b) active_by
 
-    listed_by : suppressions_listed (object (annotated_members r.level state (items_of (suppressions_of (elements (own_suppressions ms)) file r)) ms)) ≡ suppressions_of (elements (own_suppressions ms)) file r
+    listed_by : suppressions_listed (object (annotated_members r.level state (items_of (suppressions_of (elements (own_suppressions ms)) file r)) ms))
+        ≡ suppressions_of (elements (own_suppressions ms)) file r
     listed_by =
         list_told r.level state (items_of (suppressions_of (elements (own_suppressions ms)) file r)) ms
         ∙ items_back (suppressions_of (elements (own_suppressions ms)) file r)
 
     stays_when : bytes_eq (codes "absent") (state_name state) ≡ false
-        → stays_in policy (object (annotated_members r.level state (items_of (suppressions_of (elements (own_suppressions ms)) file r)) ms)) ≡ (is_hit (may_hit policy) file r state && stays file r)
+        → stays_in policy (object (annotated_members r.level state (items_of (suppressions_of (elements (own_suppressions ms)) file r)) ms))
+        ≡ (is_hit (may_hit policy) file r state && stays file r)
     stays_when current =
         let own = elements (own_suppressions ms) in
         let list = items_of (suppressions_of own file r) in
@@ -125,8 +130,10 @@ module _ (policy : Policy) (r : Record) (state : State) where
         ∙ ap (λ b. is_hit (may_hit policy) file r state && (not (is_empty (suppressions_of own file r)) || b)) (absent_told r.level state list ms ∙ current)
         ∙ stays_by (may_hit policy r state) (is_suppressed file r) (not (is_empty (suppressions_of own file r))) (stays file r) (has_some file r own read)
 
-  module _ (old new : File) (hits : is_hit (may_hit policy) new r state ≡ (is_hit (may_hit policy) old r state && stays old r)) (still : is_suppressed old r ≡ true → is_suppressed new r ≡ true)
-      (begins : (own : List Data) → (rest : List Data) × (suppressions_of own new r ≡ suppressions_of own old r ++ rest)) (current : bytes_eq (codes "absent") (state_name state) ≡ false) where
+  module _ (old new : File) (hits : is_hit (may_hit policy) new r state ≡ (is_hit (may_hit policy) old r state && stays old r))
+      (still : is_suppressed old r ≡ true → is_suppressed new r ≡ true)
+      (begins : (own : List Data) → (rest : List Data) × (suppressions_of own new r ≡ suppressions_of own old r ++ rest))
+      (current : bytes_eq (codes "absent") (state_name state) ≡ false) where
     -- a current result
     pub left_by : (d : Data) → IsRead d r → IsLeft policy (written (listing_of old) r state d) (written (listing_of new) r state d)
     left_by null read = left_same policy null refl

@@ -137,4 +137,5 @@ unused_lines inputs policy none =
     let file = file_given inputs in
     let given : IsFileOf inputs.suppressions file = file_was_read inputs.suppressions inputs.today file (input_file inputs none) in
     let few = few_given inputs.suppressions file given in
-    lines_counted file (current_of inputs) 0 file.entries (entries_in (file_object inputs.suppressions)) (values_long inputs.suppressions file given) (omega (arith, few))
+    lines_counted file (current_of inputs) 0 file.entries (entries_in (file_object inputs.suppressions)) (values_long inputs.suppressions file given)
+    (omega (arith, few))

@@ -34,7 +34,8 @@ module _ {X : Type 0} (P : X → Type 0) where
 
 -- ---- counting in two lists
 
-same_count : (f g : Data → Bool) (xs ys : List Data) → length xs ≡ length ys → ((i : ℕ) → f (get_or xs i null) ≡ g (get_or ys i null)) → count_by f xs ≡ count_by g ys
+same_count : (f g : Data → Bool) (xs ys : List Data) → length xs ≡ length ys → ((i : ℕ) → f (get_or xs i null) ≡ g (get_or ys i null))
+    → count_by f xs ≡ count_by g ys
 same_count f g [] [] long each = refl
 same_count f g [] (y ∷ ys) long each = absurd (omega (arith, long))
 same_count f g (x ∷ xs) [] long each = absurd (omega (arith, long))
@@ -45,7 +46,8 @@ same_count f g (x ∷ xs) (y ∷ ys) long each =
     ∙ sym (sum_by-cons (λ d. cond (g d) 1 0) y ys)
 
 -- in the results of two lists of runs
-pub same_counts : (f g : Data → Bool) (xs ys : List Data) → length xs ≡ length ys → ((k : ℕ) → length (results_of (get_or xs k null)) ≡ length (results_of (get_or ys k null)))
+pub same_counts : (f g : Data → Bool) (xs ys : List Data) → length xs ≡ length ys
+    → ((k : ℕ) → length (results_of (get_or xs k null)) ≡ length (results_of (get_or ys k null)))
     → ((k seq : ℕ) → f (result_at (get_or xs k null) seq) ≡ g (result_at (get_or ys k null) seq))
     → count_by f (flat_map results_of xs) ≡ count_by g (flat_map results_of ys)
 same_counts f g [] [] long longs each = refl

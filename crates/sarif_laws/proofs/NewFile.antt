@@ -34,9 +34,11 @@ module _ (m : Merge) (renewal : Renewal) (small : IsSmall renewal.until) where
   reread : IsUtf8 (file_text (rules_after m renewal)) → json_of (without_mark (file_text (rules_after m renewal))) ≡ Some (rules_after m renewal)
   reread utf8 =
       let sound = new_sound m.bytes (kept_in m renewal) (added_in m renewal) renewal small in
-      text_read (rules_after m renewal) _ refl sound.rises sound.fits (is_whole m.bytes (kept_in m renewal) (added_in m renewal) renewal (rules_after m renewal) refl)
+      text_read (rules_after m renewal) _ refl sound.rises sound.fits
+      (is_whole m.bytes (kept_in m renewal) (added_in m renewal) renewal (rules_after m renewal) refl)
       (is_shallow m.bytes (kept_in m renewal) (added_in m renewal) renewal (rules_after m renewal) refl) utf8
 
 pub new_file_read : (inputs : Inputs) (policy : Policy) (renewal : Renewal) → IsDated inputs.today renewal.until
-    → IsUtf8 (file_text (rules_after (merge_in inputs policy) renewal)) → IsNewFileOf inputs policy renewal (file_text (rules_after (merge_in inputs policy) renewal))
+    → IsUtf8 (file_text (rules_after (merge_in inputs policy) renewal))
+    → IsNewFileOf inputs policy renewal (file_text (rules_after (merge_in inputs policy) renewal))
 new_file_read inputs policy renewal dated utf8 = reread (merge_in inputs policy) renewal (small_until inputs.today renewal.until dated) utf8

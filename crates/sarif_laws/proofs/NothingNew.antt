@@ -34,8 +34,8 @@ use Rattle.sarif_known.specs.Laws.{IsOfTool}
 use Rattle.sarif_known.specs.Selected.{is_left_out, keep_unless, known_of, unmatched_of}
 use Rattle.sarif_read.specs.Reading.{log_of}
 use Rattle.sarif_inputs.specs.Faults.{faults_of}
-use Rattle.sarif_inputs.specs.Inputs.{Inputs, baseline_runs, baseline_sources, input_runs, log_sources, numbered, placed, placed_from, readable}
-use Rattle.sarif_inputs.proofs.ReadFacts.{baseline_sides, log_sides}
+use Rattle.sarif_inputs.specs.Inputs.{Inputs, baseline_runs, baseline_sources, input_runs, log_sources, numbered, placed, placed_from, readable, reads_regions}
+use Rattle.sarif_inputs.proofs.ReadFacts.{baseline_sides, log_sides, read_alike}
 use Rattle.sarif_inputs.proofs.SourceRuns.{data_placed}
 use Rattle.sarif_log.specs.LogBy.{listing_of, taken_of}
 use Rattle.sarif_log.specs.MergedRuns.{absent_runs, written}
@@ -66,23 +66,34 @@ use Rattle.sarif_laws.proofs.SameLogs.{same_current}
 
 -- ---- nothing is left out
 
-whole_list : (file : File) (policy : Policy) (adopt : Bool) (rs : List Record) (states : List State) → length rs ≤ length (known_of file policy adopt rs states) → known_of file policy adopt rs states ≡ rs
+whole_list : (file : File) (policy : Policy) (adopt : Bool) (rs : List Record) (states : List State)
+    → length rs ≤ length (known_of file policy adopt rs states) → known_of file policy adopt rs states ≡ rs
 whole_list file policy adopt [] states long = refl
 whole_list file policy adopt (r ∷ rs) [] long = absurd (omega (arith, long))
 whole_list file policy adopt (r ∷ rs) (state ∷ states) long = by_test (is_left_out file policy adopt r state) long (whole_list file policy adopt rs states)
   where
-    by_test : (b : Bool) → suc (length rs) ≤ length (keep_unless b r (known_of file policy adopt rs states)) → (length rs ≤ length (known_of file policy adopt rs states) → known_of file policy adopt rs states ≡ rs)
+    by_test : (b : Bool) → suc (length rs) ≤ length (keep_unless b r (known_of file policy adopt rs states))
+        → (length rs ≤ length (known_of file policy adopt rs states) → known_of file policy adopt rs states ≡ rs)
         → keep_unless b r (known_of file policy adopt rs states) ≡ r ∷ rs
     by_test true long rest = absurd (omega (arith, long, known_fewer file policy adopt rs states))
     by_test false long rest = ap (λ l. r ∷ l) (rest (omega (arith, long)))
 
-fewer_chosen : (file : File) (policy : Policy) (adopt : Bool) (runs : List Data) (rs : List Record) (states : List State) → results_among (chosen_now file policy adopt runs rs states) ≤ length rs
+fewer_chosen : (file : File) (policy : Policy) (adopt : Bool) (runs : List Data) (rs : List Record) (states : List State)
+    → results_among (chosen_now file policy adopt runs rs states) ≤ length rs
 fewer_chosen file policy adopt [] rs states = omega arith
 fewer_chosen file policy adopt (run ∷ runs) rs states =
     let n = length (results_of run) in
-    omega (arith, known_fewer file policy adopt (take n rs) (take n states), fewer_chosen file policy adopt runs (drop n rs) (drop n states), ap length (take-append-drop n rs), length-append (take n rs) (drop n rs))
+    omega (
+      arith,
+      known_fewer file policy adopt (take n rs) (take n states),
+      fewer_chosen file policy adopt runs (drop n rs)
+          (drop n states),
+      ap length (take-append-drop n rs),
+      length-append (take n rs) (drop n rs),
+    )
 
-whole_now : (file : File) (policy : Policy) (adopt : Bool) (runs : List Data) (rs : List Record) (states : List State) → length rs ≤ results_among (chosen_now file policy adopt runs rs states)
+whole_now : (file : File) (policy : Policy) (adopt : Bool) (runs : List Data) (rs : List Record) (states : List State)
+    → length rs ≤ results_among (chosen_now file policy adopt runs rs states)
     → records_among (chosen_now file policy adopt runs rs states) ≡ rs
 whole_now file policy adopt [] [] states long = refl
 whole_now file policy adopt [] (r ∷ rs) states long = absurd (omega (arith, long))
@@ -138,7 +149,9 @@ module _ (policy : Policy) where
   none_absent (r ∷ rs) (d ∷ ds) all none =
       sum_by-cons (λ x. cond (is_hit_in policy x) 1 0) d ds
       ∙ ap (λ b. cond b 1 0 + count_by (is_hit_in policy) ds)
-      (ap (is_hit_in policy) all.0.1 ∙ not_listed Absent (written (λ _ own. own) r Absent (known_result r all.0.0)) (state_written (λ _ own. own) r Absent (known_result r all.0.0) tt) none)
+      (ap (is_hit_in policy) all.0.1
+      ∙ not_listed Absent (written (λ _ own. own) r Absent (known_result r all.0.0))
+      (state_written (λ _ own. own) r Absent (known_result r all.0.0) tt) none)
       ∙ ap (λ n. 0 + n) (none_absent rs ds all.1 none)
 
 none_at_all : (ds : List Data) → count_by (λ _. false) ds ≡ 0
@@ -154,19 +167,24 @@ zip_long (r ∷ rs) [] all = absurd all
 zip_long (r ∷ rs) (d ∷ ds) all = ap suc (zip_long rs ds all.1)
 
 module _ (inputs : Inputs) (policy : Policy) (knowing : Knowing) (known : List ℕ) (later : Inputs) (sound : faults_of inputs ≡ [])
-    (whole : (remembered (merge_in inputs policy) knowing).left_out ≡ 0) (again : IsKnownAgain (runs_known (merge_in inputs policy) knowing) known) (next : IsNextWith inputs known later) where
+    (whole : (remembered (merge_in inputs policy) knowing).left_out ≡ 0) (again : IsKnownAgain (runs_known (merge_in inputs policy) knowing) known)
+    (next : IsNextWith inputs known later) where
   abbrev runs : List Chosen
   runs = runs_known (merge_in inputs policy) knowing
 
   now_own : AllByRecursion IsOfOne (known_now (merge_in inputs policy) (adopts knowing))
   now_own =
       let m = merge_in inputs policy in
-      all_of_one (known_now m (adopts knowing)) (now_sound m.file m.policy (adopts knowing) (input_runs inputs) m.states (faultless_runs inputs sound) (log_sides inputs.checks 0 inputs.logs) (sources_sound (log_sources inputs)))
+      all_of_one (known_now m (adopts knowing))
+      (now_sound m.file m.policy (adopts knowing) (input_runs inputs) m.states (faultless_runs inputs sound)
+      (log_sides inputs.checks 0 inputs.logs) (sources_sound (log_sources inputs)))
 
   before_own : AllByRecursion IsOfOne (known_before (merge_in inputs policy))
   before_own =
       let m = merge_in inputs policy in
-      all_of_one (known_before m) (before_sound (heard m.runs) (baseline_runs inputs) m.taken (faultless_before inputs sound) (baseline_sides inputs.checks 0 inputs.baselines) (sources_sound (baseline_sources inputs)))
+      all_of_one (known_before m)
+      (before_sound (heard m.runs) (baseline_runs inputs) m.taken (faultless_before inputs sound)
+      (baseline_sides inputs.checks 0 inputs.baselines) (sources_sound (baseline_sources inputs)))
 
   all_now : records_among (known_now (merge_in inputs policy) (adopts knowing)) ≡ current_of later
   all_now =
@@ -184,7 +202,7 @@ module _ (inputs : Inputs) (policy : Policy) (knowing : Knowing) (known : List �
       ∙ ap readable (again.log allow)
 
   records_are : baseline_of later ≡ records_among runs
-  records_are = (again.again (baseline_runs later) baseline_is).records
+  records_are = (again.again (baseline_runs later) (read_alike later.checks Baseline 0 later.baselines) baseline_is).records
 
   same_tools : (tool : List ℕ) → of_tool tool (baseline_of later) ≡ of_tool tool (current_of later ++ results_kept inputs policy)
   same_tools tool =
@@ -192,11 +210,13 @@ module _ (inputs : Inputs) (policy : Policy) (knowing : Knowing) (known : List �
       ap (of_tool tool) records_are ∙ known_of_tool tool (known_now m (adopts knowing)) (known_before m) now_own before_own
       ∙ ap (λ l. of_tool tool (l ++ results_kept inputs policy)) all_now
 
-  matched_there : (k seq : ℕ) (r : Record) → IsResult later k seq → record_of (run_at later k) seq ≡ Ok r → partner_at later (number_among_all later k seq) ≡ Some r
+  matched_there : (k seq : ℕ) (r : Record) → IsResult later k seq → record_of (reads_regions later.checks) (run_at later k) seq ≡ Ok r
+      → partner_at later (number_among_all later k seq) ≡ Some r
   matched_there k seq r there is =
       let place = number_among_all later k seq in
       let at = has_place later k seq r next.faultless there is in
-      matched (current_of later) (results_kept inputs policy) (baseline_of later) same_tools place r (slice_get-get_or (current_of later) place r at.in_records ∙ ap Some at.record_is)
+      matched (current_of later) (results_kept inputs policy) (baseline_of later) same_tools place r
+      (slice_get-get_or (current_of later) place r at.in_records ∙ ap Some at.record_is)
 
   unchanged_written : (k seq : ℕ) → IsResult later k seq → state_in (result_at (written_run later k) seq) ≡ Some Unchanged
   unchanged_written k seq there =
@@ -207,7 +227,8 @@ module _ (inputs : Inputs) (policy : Policy) (knowing : Knowing) (known : List �
       let has = get_object (results_of (run_at later k)) seq there.1 (run_objects (run_values (input_runs later)) k in_runs (objects_in (log_sources later))) in
       ap state_in own.2
       ∙ ap (λ partner. state_in (written (listing_of (file_given later)) r (state_of r partner) d)) (matched_there k seq r there own.1)
-      ∙ ap (λ state. state_in (written (listing_of (file_given later)) r state d)) (equal_is_unchanged r r (record { kind = refl; level = refl; message = refl; place = refl }))
+      ∙ ap (λ state. state_in (written (listing_of (file_given later)) r state d))
+      (equal_is_unchanged r r (record { kind = refl; level = refl; message = refl; place = refl }))
       ∙ state_written (listing_of (file_given later)) r Unchanged d has
 
   others_there : (tool : List ℕ) → of_tool tool (results_unmatched later) ≡ of_tool tool (results_kept inputs policy)
@@ -217,18 +238,21 @@ module _ (inputs : Inputs) (policy : Policy) (knowing : Knowing) (known : List �
   absent_there =
       let taken = taken_of (current_of later) (baseline_of later) in
       subst (λ bs. AllZip IsAbsentOf (unmatched_of bs taken) (flat_map results_of (absent_runs bs taken (run_values (baseline_runs later))))) (sym records_are)
-      (subst (λ vs. AllZip IsAbsentOf (unmatched_of (records_among runs) taken) (flat_map results_of (absent_runs (records_among runs) taken vs))) (sym baseline_is) (absent_zip runs taken))
+      (subst (λ vs. AllZip IsAbsentOf (unmatched_of (records_among runs) taken) (flat_map results_of (absent_runs (records_among runs) taken vs)))
+      (sym baseline_is) (absent_zip runs taken))
 
   module _ (any : Policy) (current : any.states.unchanged ≡ false) (gone : any.states.absent ≡ false) where
     no_hit : (k seq : ℕ) → is_hit_in any (result_at (written_run later k) seq) ≡ false
     no_hit k seq = by_run (nat_lt k (length (input_runs later))) refl (nat_lt seq (length (results_of (run_at later k)))) refl
       where
-        by_run : (a : Bool) → nat_lt k (length (input_runs later)) ≡ a → (b : Bool) → nat_lt seq (length (results_of (run_at later k))) ≡ b → is_hit_in any (result_at (written_run later k) seq) ≡ false
+        by_run : (a : Bool) → nat_lt k (length (input_runs later)) ≡ a → (b : Bool) → nat_lt seq (length (results_of (run_at later k))) ≡ b
+            → is_hit_in any (result_at (written_run later k) seq) ≡ false
         by_run true run true result =
             let there : IsResult later k seq = (ltb-true k (length (input_runs later)) run, ltb-true seq (length (results_of (run_at later k))) result) in
             not_listed any Unchanged (result_at (written_run later k) seq) (unchanged_written k seq there) current
         by_run true run false result =
-            ap (is_hit_in any) (no_result later k seq (ltb-true k (length (input_runs later)) run) (ltb-false seq (length (results_of (run_at later k))) result))
+            ap (is_hit_in any)
+            (no_result later k seq (ltb-true k (length (input_runs later)) run) (ltb-false seq (length (results_of (run_at later k))) result))
         by_run false run b result =
             let past = ltb-false k (length (input_runs later)) run in
             ap (λ run. is_hit_in any (result_at run seq)) (get_or_past (written_inputs later) k null (omega (arith, past, runs_same later)))
@@ -238,7 +262,8 @@ module _ (inputs : Inputs) (policy : Policy) (knowing : Knowing) (known : List �
         let hit = is_hit_in any in
         let one = λ (d : Data). cond (hit d) 1 0 in
         let here : count_by hit (flat_map results_of (written_inputs later)) ≡ 0 =
-        same_counts hit (λ _. false) (written_inputs later) (written_inputs later) refl (λ k. refl) no_hit ∙ none_at_all (flat_map results_of (written_inputs later)) in
+        same_counts hit (λ _. false) (written_inputs later) (written_inputs later) refl (λ k. refl) no_hit
+        ∙ none_at_all (flat_map results_of (written_inputs later)) in
         let there = none_absent any (results_unmatched later) (flat_map results_of (absent_written later)) absent_there gone in
         hits_counted any (runs_written later)
         ∙ ap (count_by hit) (flat_map-append results_of (written_inputs later) (absent_written later))
@@ -251,6 +276,7 @@ module _ (inputs : Inputs) (policy : Policy) (knowing : Knowing) (known : List �
     unchanged = λ k seq there. ap (λ run. state_in (result_at run seq)) (input_run later k there.0) ∙ unchanged_written k seq there;
     others = others_there;
     absent = absent_there;
-    count = zip_long (results_unmatched later) (flat_map results_of (absent_written later)) absent_there ∙ same_long (results_unmatched later) (results_kept inputs policy) others_there;
+    count = zip_long (results_unmatched later) (flat_map results_of (absent_written later)) absent_there
+        ∙ same_long (results_unmatched later) (results_kept inputs policy) others_there;
     verdict = λ any current gone. none_fails any (hits_of (count_of (runs_written later)) any) (no_hits any current gone);
   }

@@ -3,6 +3,7 @@ use Rattle.std.proofs.Common.{◌≡◌, ℕ, ◌<◌, [], length, get_or, Resul
 use Rattle.std.proofs.lemmas.List.{length-map}
 use Rattle.sarif_model.specs.declared.fault.Fault.{Fault}
 use Rattle.sarif_model.specs.declared.kinds.State.{State}
+use Rattle.sarif_model.specs.declared.merge_fault.Source.TheVariants.{Log}
 use Rattle.sarif_model.specs.declared.record.Record.{Record}
 use Rattle.sarif_match.specs.Partners.{partners_of}
 use Rattle.sarif_match.specs.State.{state_of}
@@ -12,8 +13,8 @@ use Rattle.sarif_results.proofs.JudgedCounts.{records_of_logs}
 use Rattle.sarif_log.specs.LogBy.{states_of}
 use Rattle.sarif_log.proofs.Sides.{states_long}
 use Rattle.sarif_inputs.specs.Faults.{faults_of}
-use Rattle.sarif_inputs.specs.Inputs.{Inputs, input_runs}
-use Rattle.sarif_inputs.proofs.ReadFacts.{log_sides}
+use Rattle.sarif_inputs.specs.Inputs.{Inputs, input_runs, reads_regions}
+use Rattle.sarif_inputs.proofs.ReadFacts.{log_sides, read_alike}
 use Rattle.sarif_merge.specs.MergedLog.{current_of}
 use Rattle.sarif_merge.specs.OwnResult.{IsResult, baseline_of, number_among_all, partner_at, run_at}
 use Rattle.sarif_merge.proofs.OwnResult.{faultless_runs, record_at, state_at, within_total}
@@ -28,7 +29,8 @@ pub record HasPlace (inputs : Inputs) (place : ℕ) (r : Record) (s : State) : T
   pub record_is : get_or (current_of inputs) place r ≡ r
   pub state_is : get_or (states_of (current_of inputs) (baseline_of inputs)) place s ≡ s
 
-pub has_place : (inputs : Inputs) (k seq : ℕ) (r : Record) → faults_of inputs ≡ [] → IsResult inputs k seq → record_of (run_at inputs k) seq ≡ Ok r
+pub has_place : (inputs : Inputs) (k seq : ℕ) (r : Record) → faults_of inputs ≡ [] → IsResult inputs k seq
+    → record_of (reads_regions inputs.checks) (run_at inputs k) seq ≡ Ok r
     → HasPlace inputs (number_among_all inputs k seq) r (state_of r (partner_at inputs (number_among_all inputs k seq)))
 has_place inputs k seq r none there is =
     let now = input_runs inputs in
@@ -40,7 +42,8 @@ has_place inputs k seq r none there is =
     let logs = log_sides inputs.checks 0 inputs.logs in
     let in_runs : k < length (run_values now) = omega (arith, there.0, length-map now (λ p. p.run)) in
     let inside : place < length rs = omega (arith, within_total (run_values now) k in_runs, records_of_logs now sound logs, there.1) in
-    let own = record_at now k seq sound logs there.0 there.1 in
+    let alike = read_alike inputs.checks Log 0 inputs.logs in
+    let own = record_at (reads_regions inputs.checks) now k seq sound logs alike there.0 there.1 in
     let record_is : get_or rs place r ≡ r = own.2 r ∙ same_record own.0 r (sym own.1 ∙ is) in
     record {
       in_records = inside;

@@ -54,13 +54,15 @@ module _ (one other : Listing) where
   alike_result r state (array ds) alike = refl
   alike_result r state (object ms) alike = ap (λ list. object (annotated_members r.level state (items_of list) ms)) (alike (elements (own_suppressions ms)))
 
-  alike_all : (rs : List Record) (states : List State) (ds : List Data) → AllByRecursion IsAlike rs → written_all one rs states ds ≡ written_all other rs states ds
+  alike_all : (rs : List Record) (states : List State) (ds : List Data) → AllByRecursion IsAlike rs
+      → written_all one rs states ds ≡ written_all other rs states ds
   alike_all [] states ds alike = refl
   alike_all (r ∷ rs) [] ds alike = refl
   alike_all (r ∷ rs) (state ∷ states) [] alike = refl
   alike_all (r ∷ rs) (state ∷ states) (d ∷ ds) alike = ap₂ (λ x xs. x ∷ xs) (alike_result r state d alike.0) (alike_all rs states ds alike.1)
 
-  alike_items : (rs : List Record) (states : List State) (found : Option Items) → AllByRecursion IsAlike rs → annotated_items one rs states found ≡ annotated_items other rs states found
+  alike_items : (rs : List Record) (states : List State) (found : Option Items) → AllByRecursion IsAlike rs
+      → annotated_items one rs states found ≡ annotated_items other rs states found
   alike_items rs states None alike = refl
   alike_items rs states (Some ds) alike = ap (λ es. Some (items_of es)) (alike_all rs states (elements ds) alike)
 
@@ -72,11 +74,13 @@ module _ (one other : Listing) where
   alike_run rs states (array ds) alike = refl
   alike_run rs states (object ms) alike = ap (λ found. object (with_results found (bare ms))) (alike_items rs states (own_results ms) alike)
 
-  alike_runs : (rs : List Record) (states : List State) (runs : List Data) → AllByRecursion IsAlike rs → merged_runs one rs states runs ≡ merged_runs other rs states runs
+  alike_runs : (rs : List Record) (states : List State) (runs : List Data) → AllByRecursion IsAlike rs
+      → merged_runs one rs states runs ≡ merged_runs other rs states runs
   alike_runs rs states [] alike = refl
   alike_runs rs states (run ∷ runs) alike =
       let n = length (results_of run) in
-      ap₂ (λ x xs. x ∷ xs) (alike_run (take n rs) (take n states) run (all_take IsAlike n rs alike)) (alike_runs (drop n rs) (drop n states) runs (all_drop IsAlike n rs alike))
+      ap₂ (λ x xs. x ∷ xs) (alike_run (take n rs) (take n states) run (all_take IsAlike n rs alike))
+      (alike_runs (drop n rs) (drop n states) runs (all_drop IsAlike n rs alike))
 
 -- ---- unused entries
 
@@ -85,7 +89,8 @@ kept_at keep [] i e within is = absurd (omega (arith, within))
 kept_at keep (x ∷ xs) i e within is = by_test (keep x) refl (λ j. kept_at keep xs j e) i within is
   where
     by_test : (b : Bool) → keep x ≡ b → ((j : ℕ) → j < length (filter keep xs) → get_or (filter keep xs) j e ≡ e → keep e ≡ true)
-        → (i : ℕ) → i < length (if b then x ∷ filter keep xs else filter keep xs) → get_or (if b then x ∷ filter keep xs else filter keep xs) i e ≡ e → keep e ≡ true
+        → (i : ℕ) → i < length (if b then x ∷ filter keep xs else filter keep xs) → get_or (if b then x ∷ filter keep xs else filter keep xs) i e ≡ e
+        → keep e ≡ true
     by_test true kept more zero within is = subst (λ y. keep y ≡ true) is kept
     by_test true kept more (suc i) within is = more i (omega (arith, within)) is
     by_test false kept more i within is = more i within is
@@ -112,18 +117,25 @@ module _ (inputs : Inputs) (policy : Policy) (renewal : Renewal) (none : renewal
 
   same_small : renewal_faults (merge_in inputs policy) renewal ≡ renewal_faults (merge_in inputs policy) (undated renewal)
   same_small =
-      ap₂ text_faults (ap (λ values. length (entries_after (file_object inputs.suppressions) (kept_in (merge_in inputs policy) renewal) values)) none_added) same_file
+      ap₂ text_faults
+      (ap (λ values. length (entries_after (file_object inputs.suppressions) (kept_in (merge_in inputs policy) renewal) values)) none_added)
+      same_file
 
-module _ (inputs : Inputs) (policy : Policy) (renewal : Renewal) (text : List ℕ) (sound : faults_of inputs ≡ []) (small : renewal_faults (merge_in inputs policy) renewal ≡ [])
+module _ (inputs : Inputs) (policy : Policy) (renewal : Renewal) (text : List ℕ) (sound : faults_of inputs ≡ [])
+    (small : renewal_faults (merge_in inputs policy) renewal ≡ [])
     (prunes : renewal.prune ≡ true) (none : renewal.accept ≡ false) (is : IsNewFileOf inputs policy renewal text) where
   how : How
   how = how_of (merge_in inputs policy) (undated renewal)
 
   later_none : faults_of (with_file inputs text) ≡ []
-  later_none = faultless_later inputs policy (undated renewal) text sound (sym (same_small inputs policy renewal none) ∙ small) tt (is ∙ ap Some (same_file inputs policy renewal none))
+  later_none =
+      faultless_later inputs policy (undated renewal) text sound (sym (same_small inputs policy renewal none) ∙ small) tt
+      (is ∙ ap Some (same_file inputs policy renewal none))
 
   later_file_is : file_given (with_file inputs text) ≡ later_file inputs policy (undated renewal)
-  later_file_is = later_is inputs policy (undated renewal) text sound (sym (same_small inputs policy renewal none) ∙ small) tt (is ∙ ap Some (same_file inputs policy renewal none))
+  later_file_is =
+      later_is inputs policy (undated renewal) text sound (sym (same_small inputs policy renewal none) ∙ small) tt
+      (is ∙ ap Some (same_file inputs policy renewal none))
 
   same_inputs : written_inputs (with_file inputs text) ≡ written_inputs inputs
   same_inputs =
@@ -132,13 +144,15 @@ module _ (inputs : Inputs) (policy : Policy) (renewal : Renewal) (text : List �
       ap (λ file. merged_runs (listing_of file) rs states (run_values (input_runs inputs))) later_file_is
       ∙ alike_runs (listing_of (later_file inputs policy (undated renewal))) (listing_of (file_given inputs)) rs states (run_values (input_runs inputs))
       (all_placed (IsAlike (listing_of (later_file inputs policy (undated renewal))) (listing_of (file_given inputs))) rs
-      (λ r i within at own. same_list (how_of (merge_in inputs policy) (undated renewal)) (may_hit policy) (file_given inputs) rs states r i own within at none))
+      (λ r i within at own. same_list (how_of (merge_in inputs policy) (undated renewal)) (may_hit policy) (file_given inputs)
+      rs states r i own within at none))
 
   same_log : runs_written (with_file inputs text) ≡ runs_written inputs
   same_log = ap (λ runs. runs ++ absent_written inputs) same_inputs
 
   -- its entries are those that are kept
-  later_entries : (file_given (with_file inputs text)).entries ≡ filter (is_kept true (heard (run_values (input_runs inputs))) (file_given inputs) (current_of inputs)) (file_given inputs).entries
+  later_entries : (file_given (with_file inputs text)).entries
+      ≡ filter (is_kept true (heard (run_values (input_runs inputs))) (file_given inputs) (current_of inputs)) (file_given inputs).entries
   later_entries = ap (λ file. file.entries) later_file_is ∙ rw (none, prunes) (append-nil _)
 
   same_unused : (e : Entry) → is_unused (file_given (with_file inputs text)) (current_of inputs) e ≡ is_unused (file_given inputs) (current_of inputs) e
@@ -154,8 +168,10 @@ module _ (inputs : Inputs) (policy : Policy) (renewal : Renewal) (text : List �
       let so = unused_stays (heard (run_values (input_runs inputs))) (file_given inputs) (current_of inputs) e kept (sym (same_unused e) ∙ unused) in
       (subst (λ today. is_expired today e ≡ false) (same_today inputs sound) so.0, so.1)
 
-  used_by : (b : Bool) (e : Entry) (i : ℕ) → i < length (file_given (with_file inputs text)).entries → get_or (file_given (with_file inputs text)).entries i e ≡ e
-      → heard (run_values (input_runs inputs)) (text_in kinds.Tool e.conditions) ≡ true → is_unused (file_given (with_file inputs text)) (current_of inputs) e ≡ b → b ≡ false
+  used_by : (b : Bool) (e : Entry) (i : ℕ) → i < length (file_given (with_file inputs text)).entries
+      → get_or (file_given (with_file inputs text)).entries i e ≡ e
+      → heard (run_values (input_runs inputs)) (text_in kinds.Tool e.conditions) ≡ true
+      → is_unused (file_given (with_file inputs text)) (current_of inputs) e ≡ b → b ≡ false
   used_by true e i within at heard_is unused = absurd (true≢false (sym heard_is ∙ (unused_now e i within at unused).1))
   used_by false e i within at heard_is unused = refl
 

@@ -57,12 +57,14 @@ negative_ranged (suc n) some fits = omega (arith, fits)
 from_ranged : (sign : Bool) (p : Parts) → If IsRangedNumber (number_from sign p)
 from_ranged false p = by_test (is_integer p && nat_lt (digits_of p) (2 ^ 64)) refl
   where
-    by_test : (b : Bool) → (is_integer p && nat_lt (digits_of p) (2 ^ 64)) ≡ b → If IsRangedNumber (if b then Some (unsigned (digits_of p)) else float_of false p)
+    by_test : (b : Bool) → (is_integer p && nat_lt (digits_of p) (2 ^ 64)) ≡ b
+        → If IsRangedNumber (if b then Some (unsigned (digits_of p)) else float_of false p)
     by_test true is = ltb-true (digits_of p) (2 ^ 64) (and_parts (is_integer p) (nat_lt (digits_of p) (2 ^ 64)) is).1
     by_test false is = float_ranged false p
 from_ranged true p = by_test (is_integer p && nat_lt 0 (digits_of p) && nat_le (digits_of p) (2 ^ 63)) refl
   where
-    by_test : (b : Bool) → (is_integer p && nat_lt 0 (digits_of p) && nat_le (digits_of p) (2 ^ 63)) ≡ b → If IsRangedNumber (if b then Some (negative (with_sign true (digits_of p))) else float_of true p)
+    by_test : (b : Bool) → (is_integer p && nat_lt 0 (digits_of p) && nat_le (digits_of p) (2 ^ 63)) ≡ b
+        → If IsRangedNumber (if b then Some (negative (with_sign true (digits_of p))) else float_of true p)
     by_test true is =
         let last = and_parts (is_integer p && nat_lt 0 (digits_of p)) (nat_le (digits_of p) (2 ^ 63)) is in
         let first = and_parts (is_integer p) (nat_lt 0 (digits_of p)) last.0 in

@@ -28,13 +28,15 @@ filter_swap p q (x ∷ xs) = by_tests (p x) (q x) refl refl (filter_swap p q xs)
     by_tests false false first second rest = rest
 
 module _ {E : Type 0} {F : Type 0} (R : E → F → Type 0) where
-  pub zip_filter : (p : E → Bool) (q : F → Bool) → ((e : E) (f : F) → R e f → p e ≡ q f) → (es : List E) (fs : List F) → AllZip R es fs → AllZip R (filter p es) (filter q fs)
+  pub zip_filter : (p : E → Bool) (q : F → Bool) → ((e : E) (f : F) → R e f → p e ≡ q f) → (es : List E) (fs : List F) → AllZip R es fs
+      → AllZip R (filter p es) (filter q fs)
   zip_filter p q agree [] [] all = tt
   zip_filter p q agree [] (f ∷ fs) all = absurd all
   zip_filter p q agree (e ∷ es) [] all = absurd all
   zip_filter p q agree (e ∷ es) (f ∷ fs) all = by_tests (p e) (q f) (agree e f all.0) (zip_filter p q agree es fs all.1)
     where
-      by_tests : (a b : Bool) → a ≡ b → AllZip R (filter p es) (filter q fs) → AllZip R (cond a (e ∷ filter p es) (filter p es)) (cond b (f ∷ filter q fs) (filter q fs))
+      by_tests : (a b : Bool) → a ≡ b → AllZip R (filter p es) (filter q fs)
+          → AllZip R (cond a (e ∷ filter p es) (filter p es)) (cond b (f ∷ filter q fs) (filter q fs))
       by_tests true true same rest = (all.0, rest)
       by_tests true false same rest = absurd (true≢false same)
       by_tests false true same rest = absurd (true≢false (sym same))
@@ -44,7 +46,9 @@ module _ {E : Type 0} {F : Type 0} (R : E → F → Type 0) where
 
 module _ {K : Type 0} (eq : K → K → Bool) (itself : (k : K) → eq k k ≡ true) (IsAt : ℕ → ℕ → Type 0) where
   pub places-append : (k : K) (xs ys : List (ℕ × K)) → places eq k (xs ++ ys) ≡ places eq k xs ++ places eq k ys
-  places-append k xs ys = ap (map (λ (e : ℕ × K). e.0)) (filter-append (λ (e : ℕ × K). eq e.1 k) xs ys) ∙ map-append (λ (e : ℕ × K). e.0) (filter (λ (e : ℕ × K). eq e.1 k) xs) (filter (λ (e : ℕ × K). eq e.1 k) ys)
+  places-append k xs ys =
+      ap (map (λ (e : ℕ × K). e.0)) (filter-append (λ (e : ℕ × K). eq e.1 k) xs ys)
+      ∙ map-append (λ (e : ℕ × K). e.0) (filter (λ (e : ℕ × K). eq e.1 k) xs) (filter (λ (e : ℕ × K). eq e.1 k) ys)
 
   -- each element with a key is at the same rank in the baseline list
   abbrev pub AreRanked : List (ℕ × K) → List (ℕ × K) → Type 0
@@ -53,7 +57,9 @@ module _ {K : Type 0} (eq : K → K → Bool) (itself : (k : K) → eq k k ≡ t
   own_place : (seen es : List (ℕ × K)) (e : ℕ × K) → slice_get (places eq e.1 (seen ++ (e ∷ es))) (length (places eq e.1 seen)) ≡ Some e.0
   own_place seen es e =
       ap (λ l. slice_get l (length (places eq e.1 seen)))
-      (places-append e.1 seen (e ∷ es) ∙ ap (λ b. places eq e.1 seen ++ map (λ (d : ℕ × K). d.0) (cond b (e ∷ filter (λ (d : ℕ × K). eq d.1 e.1) es) (filter (λ (d : ℕ × K). eq d.1 e.1) es))) (itself e.1))
+      (places-append e.1 seen (e ∷ es)
+      ∙ ap (λ b. places eq e.1 seen
+      ++ map (λ (d : ℕ × K). d.0) (cond b (e ∷ filter (λ (d : ℕ × K). eq d.1 e.1) es) (filter (λ (d : ℕ × K). eq d.1 e.1) es))) (itself e.1))
       ∙ slice_get-middle (places eq e.1 seen) e.0 (places eq e.1 es)
 
   -- each is in one of the pairs, and they are in order

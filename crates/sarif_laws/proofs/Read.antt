@@ -35,7 +35,9 @@ ok_is x y is = cc
 
 -- ---- the statuses of its own suppressions
 
-held_read : (o : Option Data) (held : List Status) → ((elements_of (of_kind BadSuppression as_array (option_and_then unless_null o)) >>= if_objects BadSuppression) >>= read_each status_of) ≡ Ok held
+held_read : (o : Option Data) (held : List Status)
+    → ((elements_of (of_kind BadSuppression as_array (option_and_then unless_null o)) >>= if_objects BadSuppression) >>= read_each status_of)
+    ≡ Ok held
     → read_each status_of (elements (items_in o)) ≡ Ok held
 held_read None held is = is
 held_read (Some null) held is = is
@@ -45,7 +47,8 @@ held_read (Some (string s)) held is = let never : ⊥ = cc in absurd never
 held_read (Some (object ms)) held is = let never : ⊥ = cc in absurd never
 held_read (Some (array ds)) held is = by_objects (are_objects (elements ds)) is
   where
-    by_objects : (b : Bool) → ((if b then Ok (elements ds) else Err BadSuppression) >>= read_each status_of) ≡ Ok held → read_each status_of (elements ds) ≡ Ok held
+    by_objects : (b : Bool) → ((if b then Ok (elements ds) else Err BadSuppression) >>= read_each status_of) ≡ Ok held
+        → read_each status_of (elements ds) ≡ Ok held
     by_objects true is = is
     by_objects false is = let never : ⊥ = cc in absurd never
 
@@ -55,20 +58,21 @@ pub record IsRead (d : Data) (r : Record) : Type 0 where
   pub guid : HasGuid r
   pub held : own_statuses d ≡ Ok r.held
 
-by_parts : (d : Data) (head : RunHead) (tool : List ℕ) (parts : Parts) (r : Record) → AreReadFrom d parts → record_by head tool parts ≡ Ok r → IsRead d r
+by_parts : (regions : Bool) (d : Data) (head : RunHead) (tool : List ℕ) (parts : Parts) (r : Record) → AreReadFrom regions d parts
+    → record_by head tool parts ≡ Ok r → IsRead d r
 unfolding record_by
-by_parts d head tool parts r are is =
+by_parts regions d head tool parts r are is =
     let descriptor = bind_ok (descriptor_of head.components (reference_of parts)) _ r is in
     let level = bind_ok (level_of head parts) _ r descriptor.2 in
     let place = bind_ok (place_of head.artifacts parts) _ r level.2 in
     subst (IsRead d) (ok_is _ r place.2) (record { guid = are.guid; held = are.held })
 
-pub record_read : (run : Data) (seq : ℕ) (r : Record) → record_of run seq ≡ Ok r → IsRead (result_at run seq) r
+pub record_read : (regions : Bool) (run : Data) (seq : ℕ) (r : Record) → record_of regions run seq ≡ Ok r → IsRead (result_at run seq) r
 unfolding record_of record_in
-record_read run seq r is =
+record_read regions run seq r is =
     let head = bind_ok (head_of run) _ r is in
-    let parts = bind_ok (parts_of (result_at run seq)) (record_by head.0 (tool_name run)) r head.2 in
-    by_parts (result_at run seq) head.0 (tool_name run) parts.0 r (parts_read (result_at run seq) parts.0 parts.1) parts.2
+    let parts = bind_ok (parts_of regions (result_at run seq)) (record_by head.0 (tool_name run)) r head.2 in
+    by_parts regions (result_at run seq) head.0 (tool_name run) parts.0 r (parts_read regions (result_at run seq) parts.0 parts.1) parts.2
 
 -- the statuses are those of the suppressions that are written unchanged
 pub statuses_read : (ms : Members) (r : Record) → IsRead (object ms) r → read_each status_of (elements (own_suppressions ms)) ≡ Ok r.held
@@ -78,18 +82,23 @@ statuses_read ms r read = held_read (get_member (codes "suppressions") ms) r.hel
 -- ---- all records
 
 module _ (P : Record → Type 0) where
-  with_each : (skipped : Bool) (found : Result Record Fault) (rs : List Record) → ((r : Record) → found ≡ Ok r → P r) → AllByRecursion P rs → AllByRecursion P (with_record (if skipped then Skipped else item_by found) rs)
+  with_each : (skipped : Bool) (found : Result Record Fault) (rs : List Record) → ((r : Record) → found ≡ Ok r → P r) → AllByRecursion P rs
+      → AllByRecursion P (with_record (if skipped then Skipped else item_by found) rs)
   with_each true found rs here rest = rest
   with_each false (Ok r) rs here rest = (here r refl, rest)
   with_each false (Err fault) rs here rest = rest
 
   -- what is true for each record that is read from a run
-  pub in_run : (p : Placed) → ((seq : ℕ) (r : Record) → record_of p.run seq ≡ Ok r → P r) → (seqs : List ℕ) → AllByRecursion P (records_in (map (item_of p) seqs))
+  pub in_run : (p : Placed) → ((seq : ℕ) (r : Record) → record_of p.options.read_regions p.run seq ≡ Ok r → P r) → (seqs : List ℕ)
+      → AllByRecursion P (records_in (map (item_of p) seqs))
   in_run p each [] = tt
   in_run p each (seq ∷ seqs) =
-      with_each (skips p.source && is_absent_result (result_at p.run seq)) (record_of p.run seq) (records_in (map (item_of p) seqs)) (each seq) (in_run p each seqs)
+      with_each (skips p.source && is_absent_result (result_at p.run seq)) (record_of p.options.read_regions p.run seq)
+      (records_in (map (item_of p) seqs)) (each seq) (in_run p each seqs)
 
 pub guids_fit : (ps : List Placed) → AllByRecursion HasGuid (records_of ps)
 guids_fit [] = tt
 guids_fit (p ∷ ps) =
-    all_append HasGuid (records_in (items_of p)) (records_of ps) (in_run HasGuid p (λ seq r is. (record_read p.run seq r is).guid) (range_with_len 0 (length (results_of p.run)))) (guids_fit ps)
+    all_append HasGuid (records_in (items_of p)) (records_of ps)
+    (in_run HasGuid p (λ seq r is. (record_read p.options.read_regions p.run seq r is).guid) (range_with_len 0 (length (results_of p.run))))
+    (guids_fit ps)

@@ -45,7 +45,8 @@ use Rattle.sarif_laws.proofs.Printed.{pretty_tokens}
 within_limits : (source : _) (runs results : ℕ) → limit_faults source runs results ≡ [] → (runs ≤ most_runs) × (results ≤ most_results)
 within_limits source runs results none = by_tests (nat_lt most_runs runs) (nat_lt most_results results) refl refl none
   where
-    by_tests : (a b : Bool) → nat_lt most_runs runs ≡ a → nat_lt most_results results ≡ b → limit_faults source runs results ≡ [] → (runs ≤ most_runs) × (results ≤ most_results)
+    by_tests : (a b : Bool) → nat_lt most_runs runs ≡ a → nat_lt most_results results ≡ b → limit_faults source runs results ≡ [] → (runs ≤ most_runs)
+        × (results ≤ most_results)
     by_tests true b first second none = let never : ⊥ = cc in absurd never
     by_tests false true first second none = let never : ⊥ = cc in absurd never
     by_tests false false first second none = (ltb-false most_runs runs first, ltb-false most_results results second)
@@ -58,7 +59,8 @@ record AreWithin (runs results : ℕ) (sources : List Sourced) : Type 0 where
   runs_fit : runs + length (placed sources) ≤ most_runs
   results_fit : results + results_total (run_values (placed sources)) ≤ most_results
 
-all_within : (runs results : ℕ) (sources : List Sourced) → runs ≤ most_runs → results ≤ most_results → source_faults runs results sources ≡ [] → AreWithin runs results sources
+all_within : (runs results : ℕ) (sources : List Sourced) → runs ≤ most_runs → results ≤ most_results → source_faults runs results sources ≡ []
+    → AreWithin runs results sources
 all_within runs results [] few few_results none = record { runs_fit = omega (arith, few); results_fit = omega (arith, few_results) }
 all_within runs results (s ∷ rest) few few_results none =
     let here = runs_in s in
@@ -91,7 +93,8 @@ all_faultless inputs none =
 
 pub faultless_before : (inputs : Inputs) → faults_of inputs ≡ [] → faults_of_runs (baseline_runs inputs) ≡ []
 faultless_before inputs none =
-    no_faults_left (faults_of_runs (input_runs inputs)) (faults_of_runs (baseline_runs inputs)) (sym (flat_map-append run_faults (input_runs inputs) (baseline_runs inputs)) ∙ (all_faultless inputs none).1)
+    no_faults_left (faults_of_runs (input_runs inputs)) (faults_of_runs (baseline_runs inputs))
+    (sym (flat_map-append run_faults (input_runs inputs) (baseline_runs inputs)) ∙ (all_faultless inputs none).1)
 
 -- ---- the known log can be read
 
@@ -105,14 +108,19 @@ module _ (inputs : Inputs) (policy : Policy) (knowing : Knowing) (none : faults_
       let limits = all_within 0 0 (all_sources inputs) (omega arith) (omega arith) (all_faultless inputs none).0 in
       let split = placed-append (log_sources inputs) (baseline_sources inputs) in
       let runs_split = ap length split ∙ length-append (input_runs inputs) (baseline_runs inputs) in
-      let results_split = ap (λ ps. results_total (run_values ps)) split ∙ ap results_total (map-append (λ p. p.run) (input_runs inputs) (baseline_runs inputs)) ∙ total-append (run_values (input_runs inputs)) (run_values (baseline_runs inputs)) in
+      let results_split =
+      ap (λ ps. results_total (run_values ps)) split ∙ ap results_total (map-append (λ p. p.run) (input_runs inputs) (baseline_runs inputs))
+      ∙ total-append (run_values (input_runs inputs)) (run_values (baseline_runs inputs)) in
       let now_is = now_long m.file m.policy adopt m.runs m.records m.states in
       let before_is = before_long (heard m.runs) m.before m.known m.taken in
       let now_fits = now_few m.file m.policy adopt m.runs m.records m.states in
       let before_fits = before_few (heard m.runs) m.before m.known m.taken in
       record {
-        each = grouped_sound now before (now_sound m.file m.policy adopt (input_runs inputs) m.states (faultless_runs inputs none) (log_sides inputs.checks 0 inputs.logs) (sources_sound (log_sources inputs)))
-            (before_sound (heard m.runs) (baseline_runs inputs) m.taken (faultless_before inputs none) (baseline_sides inputs.checks 0 inputs.baselines) (sources_sound (baseline_sources inputs)));
+        each = grouped_sound now before
+            (now_sound m.file m.policy adopt (input_runs inputs) m.states (faultless_runs inputs none) (log_sides inputs.checks 0 inputs.logs)
+            (sources_sound (log_sources inputs)))
+            (before_sound (heard m.runs) (baseline_runs inputs) m.taken (faultless_before inputs none)
+            (baseline_sides inputs.checks 0 inputs.baselines) (sources_sound (baseline_sources inputs)));
         few_runs = omega (
           arith,
           known_total (λ _. 1) now before,
@@ -160,15 +168,18 @@ mutual
   members_numbers no_members plain = tt
   members_numbers (member k d ms) plain = (plain_numbers d plain.1, members_numbers ms plain.2)
 
-pub known_read : (inputs : Inputs) (policy : Policy) (knowing : Knowing) → faults_of inputs ≡ [] → IsUtf8 (known_text (runs_known (merge_in inputs policy) knowing))
+pub known_read : (inputs : Inputs) (policy : Policy) (knowing : Knowing) → faults_of inputs ≡ []
+    → IsUtf8 (known_text (runs_known (merge_in inputs policy) knowing))
     → IsKnownAgain (runs_known (merge_in inputs policy) knowing) (known_text (runs_known (merge_in inputs policy) knowing))
 known_read inputs policy knowing none utf8 =
     let runs = runs_known (merge_in inputs policy) knowing in
     let can = can_be_read inputs policy knowing none in
     let d = known_log runs in
-    let same = pretty_tokens (tree.json_tokens (outline d)) (ArePrintable-json_tokens (outline d) (plain_numbers d (log_plain runs can.each can.few_results))) in
+    let same =
+    pretty_tokens (tree.json_tokens (outline d))
+    (ArePrintable-json_tokens (outline d) (plain_numbers d (log_plain runs can.each can.few_results))) in
     let value = text_read runs (pretty_text d) can refl same utf8 in
     record {
       log = λ allow. log_back allow runs (known_text runs) can value;
-      again = λ placed are. known_again runs placed are can.each can.few_results;
+      again = λ placed alike are. known_again runs placed alike are can.each can.few_results;
     }

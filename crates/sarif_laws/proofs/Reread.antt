@@ -42,7 +42,8 @@ mutual
       let parts = or_parts (has_float d) (items_have_float ds) whole in
       rw (back d rises.0 fits.0 parts.0, items_back ds rises.1 fits.1 parts.1) refl
 
-  members_back : (ms acc : Members) → AreMembersOrdered ms → AreMembersRanged ms → members_have_float ms ≡ false → AreBefore acc ms → of_members (members_outline ms) acc ≡ Some (joined acc ms)
+  members_back : (ms acc : Members) → AreMembersOrdered ms → AreMembersRanged ms → members_have_float ms ≡ false → AreBefore acc ms
+      → of_members (members_outline ms) acc ≡ Some (joined acc ms)
   members_back no_members acc rises fits whole before = ap Some (join_none acc)
   members_back (member k d ms) acc rises fits whole before =
       let parts = or_parts (has_float d) (members_have_float ms) whole in
@@ -67,11 +68,13 @@ mutual
 
   items_numbers : (ds : Items) → AreItemsRanged ds → items_have_float ds ≡ false → tree.ItemsHaveNumbers (items_outline ds)
   items_numbers no_items fits whole = tt
-  items_numbers (item d ds) fits whole = let parts = or_parts (has_float d) (items_have_float ds) whole in (has_numbers d fits.0 parts.0, items_numbers ds fits.1 parts.1)
+  items_numbers (item d ds) fits whole =
+      let parts = or_parts (has_float d) (items_have_float ds) whole in (has_numbers d fits.0 parts.0, items_numbers ds fits.1 parts.1)
 
   members_numbers : (ms : Members) → AreMembersRanged ms → members_have_float ms ≡ false → tree.MembersHaveNumbers (members_outline ms)
   members_numbers no_members fits whole = tt
-  members_numbers (member k d ms) fits whole = let parts = or_parts (has_float d) (members_have_float ms) whole in (has_numbers d fits.0 parts.0, members_numbers ms fits.1 parts.1)
+  members_numbers (member k d ms) fits whole =
+      let parts = or_parts (has_float d) (members_have_float ms) whole in (has_numbers d fits.0 parts.0, members_numbers ms fits.1 parts.1)
 
 -- ---- its text
 
@@ -87,7 +90,8 @@ pretty_read d rises fits whole shallow =
     let ts = tree.json_tokens (outline d) in
     let deep : tree.depth (outline d) ≤ max_depth = subst (λ n. n ≤ max_depth) (sym (outline_depth d)) shallow in
     let found : json.value max_depth (tokens (pretty ts)) ≡ Some (outline d, []) =
-    ap (json.value max_depth) (pretty_tokens ts (ArePrintable-json_tokens (outline d) (has_numbers d fits whole)) ∙ sym (append-nil ts)) ∙ value-json_tokens (outline d) max_depth [] deep in
+    ap (json.value max_depth) (pretty_tokens ts (ArePrintable-json_tokens (outline d) (has_numbers d fits whole)) ∙ sym (append-nil ts))
+    ∙ value-json_tokens (outline d) max_depth [] deep in
     ap (λ o. option_and_then of_json (option_and_then (λ p. json.if_last p.0 p.1) o)) found ∙ back d rises fits whole
 
 pub text_read : (d : Data) (ms : Members) → d ≡ object ms → IsOrdered d → IsRanged d → has_float d ≡ false → depth d ≤ max_depth → IsUtf8 (file_text d)

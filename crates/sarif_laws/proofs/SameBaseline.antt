@@ -28,11 +28,14 @@ module _ (bs others : List Record) (alike : AreAlike bs others) where
   taken_same : (cs : List Record) → taken_of cs bs ≡ taken_of cs others
   taken_same cs = ap₂ (λ partners n. map (is_taken partners) (range_with_len 0 n)) (same_partners cs bs others alike) as_many
 
-pub same_results : (inputs : Inputs) (baselines : List (List ℕ)) → AreAlike (baseline_of inputs) (baseline_of (with_baselines inputs baselines)) → HasSameResults inputs (with_baselines inputs baselines)
+pub same_results : (inputs : Inputs) (baselines : List (List ℕ)) → AreAlike (baseline_of inputs) (baseline_of (with_baselines inputs baselines))
+    → HasSameResults inputs (with_baselines inputs baselines)
 same_results inputs baselines alike =
     let bs = baseline_of inputs in
     let others = baseline_of (with_baselines inputs baselines) in
     record {
-      written = ap (λ states. merged_runs (listing_of (file_given inputs)) (current_of inputs) states (run_values (input_runs inputs))) (sym (all_states_same bs others alike (current_of inputs)));
+      written =
+          ap (λ states. merged_runs (listing_of (file_given inputs)) (current_of inputs) states (run_values (input_runs inputs)))
+          (sym (all_states_same bs others alike (current_of inputs)));
       matched = sym (taken_same bs others alike (current_of inputs));
     }

@@ -18,7 +18,7 @@ use Rattle.sarif_read.proofs.WholeRuns.{bind_ok}
 use Rattle.sarif_runs.specs.Judging.{items_of, records_in, records_of}
 use Rattle.sarif_results.proofs.JudgedCounts.{no_faults_here, no_faults_left}
 use Rattle.sarif_inputs.specs.Faults.{faults_of}
-use Rattle.sarif_inputs.specs.Inputs.{Inputs, Sourced, all_sources, baseline_sources, log_sources, must_succeed, numbered, placed, placed_from, readable, runs_in}
+use Rattle.sarif_inputs.specs.Inputs.{Inputs, Sourced, all_sources, baseline_sources, log_sources, numbered, placed, placed_from, readable, run_options, runs_in}
 use Rattle.sarif_inputs.specs.SourceFaults.{limit_faults, reading_faults, source_faults}
 use Rattle.sarif_merge.specs.MergedLog.{current_of}
 use Rattle.sarif_laws.proofs.Read.{ok_is}
@@ -41,7 +41,8 @@ each_read runs results (s ∷ rest) none =
     let all = results + results_total here in
     let reading = reading_faults s.source (log_of s.checks.allow_external s.bytes) in
     let limits = limit_faults s.source now all in (
-      reading_ok s.source (log_of s.checks.allow_external s.bytes) (no_faults_here reading limits (no_faults_here (reading ++ limits) (source_faults now all rest) none)),
+      reading_ok s.source (log_of s.checks.allow_external s.bytes)
+          (no_faults_here reading limits (no_faults_here (reading ++ limits) (source_faults now all rest) none)),
       each_read now all rest (no_faults_left (reading ++ limits) (source_faults now all rest) none),
     )
 
@@ -75,9 +76,10 @@ module _ (c d : Checks) where
   placed_same : (k n : ℕ) (runs : List Data) → records_of (placed_from c (Log k) n runs) ≡ records_of (placed_from d (Log k) n runs)
   placed_same k n [] = refl
   placed_same k n (run ∷ runs) =
-      ap (λ l. records_in (items_of (record { source = Log k; number = n; must_succeed = must_succeed c (Log k); run = run })) ++ l) (placed_same k (n + 1) runs)
+      ap (λ l. records_in (items_of (record { source = Log k; number = n; options = run_options c (Log k); run = run })) ++ l) (placed_same k (n + 1) runs)
 
-  same_records : (k : ℕ) (logs : List (List ℕ)) → AllByRecursion IsReadable (numbered c Log k logs) → AllByRecursion IsReadable (numbered d Log k logs) → records_of (placed (numbered c Log k logs)) ≡ records_of (placed (numbered d Log k logs))
+  same_records : (k : ℕ) (logs : List (List ℕ)) → AllByRecursion IsReadable (numbered c Log k logs)
+      → AllByRecursion IsReadable (numbered d Log k logs) → records_of (placed (numbered c Log k logs)) ≡ records_of (placed (numbered d Log k logs))
   same_records k [] here there = refl
   same_records k (bytes ∷ logs) here there =
       let xs = here.0.0 in
@@ -85,9 +87,11 @@ module _ (c d : Checks) where
       let same : xs ≡ ys = one_log c.allow_external d.allow_external bytes xs ys here.0.1 there.0.1 in
       flat_map-append (λ p. records_in (items_of p)) (placed_from c (Log k) 0 (readable (log_of c.allow_external bytes))) (placed (numbered c Log (k + 1) logs))
       ∙ ap₂ (λ rs more. rs ++ more)
-      (ap (λ r. records_of (placed_from c (Log k) 0 (readable r))) here.0.1 ∙ placed_same k 0 xs ∙ ap (λ runs. records_of (placed_from d (Log k) 0 runs)) same ∙ sym (ap (λ r. records_of (placed_from d (Log k) 0 (readable r))) there.0.1))
+      (ap (λ r. records_of (placed_from c (Log k) 0 (readable r))) here.0.1 ∙ placed_same k 0 xs
+      ∙ ap (λ runs. records_of (placed_from d (Log k) 0 runs)) same ∙ sym (ap (λ r. records_of (placed_from d (Log k) 0 (readable r))) there.0.1))
       (same_records (k + 1) logs here.1 there.1)
-      ∙ sym (flat_map-append (λ p. records_in (items_of p)) (placed_from d (Log k) 0 (readable (log_of d.allow_external bytes))) (placed (numbered d Log (k + 1) logs)))
+      ∙ sym (flat_map-append (λ p. records_in (items_of p)) (placed_from d (Log k) 0 (readable (log_of d.allow_external bytes)))
+      (placed (numbered d Log (k + 1) logs)))
 
 pub same_current : (inputs later : Inputs) → later.logs ≡ inputs.logs → faults_of inputs ≡ [] → faults_of later ≡ [] → current_of inputs ≡ current_of later
 same_current inputs later same first second =

@@ -180,11 +180,15 @@ pub new_sound : (given : Option (List ℕ)) (kept : List Bool) (added : List Rec
     → IsSound (new_file (file_object given) kept (map (λ r. entry_for r renewal.reason renewal.until) added))
 new_sound given kept added renewal small =
     let d = file_object given in
-    let old = chosen_sound kept (entries_in d) (entries_sound (elements_or_none (option_and_then as_array (get (codes "suppressions") d))) (listed_sound (get (codes "suppressions") d) (get_sound (codes "suppressions") d (file_sound given)))) in
+    let old =
+    chosen_sound kept (entries_in d)
+    (entries_sound (elements_or_none (option_and_then as_array (get (codes "suppressions") d)))
+    (listed_sound (get (codes "suppressions") d) (get_sound (codes "suppressions") d (file_sound given)))) in
     let new = map (λ r. entry_for r renewal.reason renewal.until) added in
     let all = all_append IsSound (chosen kept (entries_in d)) new old (added_sound added renewal.reason renewal.until small) in
     let others = stripped_sound (without_member (codes "suppressions") d) (without_sound (codes "suppressions") d (file_sound given)) in
     let four : IsSound (number (unsigned 4)) = record { rises = tt; fits = omega arith } in
     object_sound (put (codes "suppressions") (array (items_of (entries_after d kept new))) (put (codes "version") (number (unsigned 4)) (others_in d)))
-    (put_sound (codes "suppressions") (array (items_of (entries_after d kept new))) (put (codes "version") (number (unsigned 4)) (others_in d)) (list_sound (entries_after d kept new) all)
+    (put_sound (codes "suppressions") (array (items_of (entries_after d kept new))) (put (codes "version") (number (unsigned 4)) (others_in d))
+    (list_sound (entries_after d kept new) all)
     (put_sound (codes "version") (number (unsigned 4)) (others_in d) four others))

@@ -44,7 +44,8 @@ in_map f x (y ∷ xs) (inr later) = inr (in_map f x xs later)
 in_names : (name : List ℕ) (names : List (List ℕ)) → has_name name names ≡ true → IsIn name names
 in_names name [] has = absurd (true≢false (sym has))
 in_names name (own ∷ names) has =
-    ⊎_elim (λ here. inl (sym ((bytes_eq-Decides own name).0 here))) (λ later. inr (in_names name names later)) (or_cases (bytes_eq own name) (has_name name names) has)
+    ⊎_elim (λ here. inl (sym ((bytes_eq-Decides own name).0 here))) (λ later. inr (in_names name names later))
+    (or_cases (bytes_eq own name) (has_name name names) has)
 
 -- ---- the tier of a result
 
@@ -58,11 +59,14 @@ module _ (cs bs : List Record) (r : Record) where
     pub among : IsIn tier (tiers_of cs bs)
     pub is : key_of r tier ≡ Some key
 
-  own_name : (p : List ℕ × List ℕ) (ps : List (List ℕ × List ℕ)) (rs : List Record) (i : ℕ) → slice_get rs i ≡ Some r → r.full ≡ p ∷ ps → has_name p.0 (names_of rs) ≡ true
+  own_name : (p : List ℕ × List ℕ) (ps : List (List ℕ × List ℕ)) (rs : List Record) (i : ℕ) → slice_get rs i ≡ Some r → r.full ≡ p ∷ ps
+      → has_name p.0 (names_of rs) ≡ true
   own_name p ps [] i found full = let never : ⊥ = cc in absurd never
   own_name p ps (x ∷ rs) zero found full =
       let names = map (λ (pair : List ℕ × List ℕ). pair.0) ps in
-      let here : map (λ (pair : List ℕ × List ℕ). pair.0) x.full ≡ p.0 ∷ names = ap (λ (y : Record). map (λ (pair : List ℕ × List ℕ). pair.0) y.full) (same_Some x r found) ∙ ap (map (λ (pair : List ℕ × List ℕ). pair.0)) full in
+      let here : map (λ (pair : List ℕ × List ℕ). pair.0) x.full ≡ p.0 ∷ names =
+      ap (λ (y : Record). map (λ (pair : List ℕ × List ℕ). pair.0) y.full) (same_Some x r found)
+      ∙ ap (map (λ (pair : List ℕ × List ℕ). pair.0)) full in
       ap (λ l. has_name p.0 (l ++ names_of rs)) here ∙ ap (λ b. b || has_name p.0 (names ++ names_of rs)) (itself p.0)
   own_name p ps (x ∷ rs) (suc i) found full =
       let own = map (λ (pair : List ℕ × List ℕ). pair.0) x.full in
@@ -75,7 +79,9 @@ module _ (cs bs : List Record) (r : Record) where
       record {
         tier = Fingerprint p.0;
         key = fingerprint_parts r.tool p.0 p.1;
-        among = inr (in_front (Fingerprint p.0) (map Fingerprint (falling_names cs bs)) (PartialHere ∷ (PartialMoved ∷ (Place ∷ []))) (in_map Fingerprint p.0 (falling_names cs bs) among));
+        among = inr
+            (in_front (Fingerprint p.0) (map Fingerprint (falling_names cs bs)) (PartialHere ∷ (PartialMoved ∷ (Place ∷ [])))
+            (in_map Fingerprint p.0 (falling_names cs bs) among));
         is = ap (λ l. option_map (λ value. fingerprint_parts r.tool p.0 value) (value_of p.0 l)) full
             ∙ ap (λ b. option_map (λ value. fingerprint_parts r.tool p.0 value) (cond b (Some p.1) (value_of p.0 ps))) (itself p.0);
       }

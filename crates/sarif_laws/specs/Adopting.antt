@@ -15,7 +15,7 @@ use Rattle.sarif_runs.specs.Record.{record_of}
 use Rattle.sarif_known.specs.KnownResult.{known_result}
 use Rattle.sarif_known.specs.Selected.{unmatched_of}
 use Rattle.sarif_inputs.specs.Faults.{faults_of}
-use Rattle.sarif_inputs.specs.Inputs.{Inputs}
+use Rattle.sarif_inputs.specs.Inputs.{Inputs, reads_regions}
 use Rattle.sarif_log.specs.LogBy.{taken_of}
 use Rattle.sarif_log.specs.MergedRuns.{written}
 use Rattle.sarif_merge.specs.Life.{merge_in}
@@ -57,7 +57,7 @@ IsAbsentOf r d =
 pub record HasNothingNew (kept : List Record) (inputs : Inputs) : Type 0 where
   -- the match of each current result has the same record, and so each is unchanged
   pub matched : (k seq : ℕ) (r : Record) → IsResult inputs k seq
-      → record_of (run_at inputs k) seq ≡ Ok r
+      → record_of (reads_regions inputs.checks) (run_at inputs k) seq ≡ Ok r
       → partner_at inputs (number_among_all inputs k seq) ≡ Some r
   pub unchanged : (k seq : ℕ) → IsResult inputs k seq
       → state_in (merged_result inputs k seq) ≡ Some Unchanged

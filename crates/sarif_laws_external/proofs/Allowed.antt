@@ -45,7 +45,8 @@ pub log_alike : (inputs : Inputs) (policy : Policy) → AreFileless inputs → m
 log_alike inputs policy fileless =
     λ i. merged_by (file_given inputs) (current inputs fileless i) (baseline inputs fileless i) policy
 
-pub text_alike : (inputs : Inputs) (policy : Policy) → AreFileless inputs → output_text (allowing true inputs) policy ≡ output_text (allowing false inputs) policy
+pub text_alike : (inputs : Inputs) (policy : Policy) → AreFileless inputs
+    → output_text (allowing true inputs) policy ≡ output_text (allowing false inputs) policy
 text_alike inputs policy fileless = ap compact_text (log_alike inputs policy fileless)
 
 pub later_alike : (inputs : Inputs) (policy : Policy) → AreFileless inputs → merge_in (allowing true inputs) policy ≡ merge_in (allowing false inputs) policy

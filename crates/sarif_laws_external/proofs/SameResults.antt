@@ -45,7 +45,8 @@ files = codes "externalPropertyFileReferences"
 own_same : (ms : Members) → own_results (without files ms) ≡ own_results ms
 own_same ms = ap (option_and_then as_array) (member_beside files (codes "results") (object ms) refl)
 
-one_run : (listed : Listing) (rs : List Record) (states : List State) (run : Data) → results_array (merged_run listed rs states (without_files run)) ≡ results_array (merged_run listed rs states run)
+one_run : (listed : Listing) (rs : List Record) (states : List State) (run : Data)
+    → results_array (merged_run listed rs states (without_files run)) ≡ results_array (merged_run listed rs states run)
 one_run listed rs states null = refl
 one_run listed rs states (boolean b) = refl
 one_run listed rs states (number n) = refl
@@ -69,10 +70,12 @@ one_left ds (object ms) = put_found (Some (items_of ds)) (without files ms) ∙ 
 abbrev arrays : List Data → List (Option Items)
 arrays runs = map results_array runs
 
-merged_same : (listed : Listing) (rs : List Record) (states : List State) (runs : List Data) → arrays (merged_runs listed rs states (map without_files runs)) ≡ arrays (merged_runs listed rs states runs)
+merged_same : (listed : Listing) (rs : List Record) (states : List State) (runs : List Data)
+    → arrays (merged_runs listed rs states (map without_files runs)) ≡ arrays (merged_runs listed rs states runs)
 merged_same listed rs states [] = refl
 merged_same listed rs states (run ∷ runs) =
-    ap (λ (found : List Data). results_array (merged_run listed (take (length found) rs) (take (length found) states) (without_files run)) ∷ arrays (merged_runs listed (drop (length found) rs) (drop (length found) states) (map without_files runs))) (same_results run)
+    ap (λ (found : List Data). results_array (merged_run listed (take (length found) rs) (take (length found) states) (without_files run)) ∷ arrays
+    (merged_runs listed (drop (length found) rs) (drop (length found) states) (map without_files runs))) (same_results run)
     ∙ ap₂ (λ first rest. first ∷ rest)
     (one_run listed (take (length (results_of run)) rs) (take (length (results_of run)) states) run)
     (merged_same listed (drop (length (results_of run)) rs) (drop (length (results_of run)) states) runs)
@@ -86,7 +89,8 @@ left_by found rs taken run runs =
     if_any (unmatched (take (length (present found)) rs) (take (length (present found)) taken) (present found)) run
     (absent_runs (drop (length (present found)) rs) (drop (length (present found)) taken) runs)
 
-absent_same : (rs : List Record) (taken : List Bool) (runs : List Data) → arrays (absent_runs rs taken (map without_files runs)) ≡ arrays (absent_runs rs taken runs)
+absent_same : (rs : List Record) (taken : List Bool) (runs : List Data)
+    → arrays (absent_runs rs taken (map without_files runs)) ≡ arrays (absent_runs rs taken runs)
 absent_same rs taken [] = refl
 absent_same rs taken (run ∷ runs) =
     let ds : List Data = present (results_of run) in
@@ -98,7 +102,9 @@ absent_same rs taken (run ∷ runs) =
 module _ (file : File) (current baseline : List Placed) where
   current_same : arrays (current_runs file (all_without current) (all_without baseline)) ≡ arrays (current_runs file current baseline)
   current_same =
-      (λ i. arrays (merged_runs (listing_of file) (records_same current i) (states_of (records_same current i) (records_same baseline i)) (values_same current i)))
+      (λ i. arrays
+      (merged_runs (listing_of file) (records_same current i) (states_of (records_same current i) (records_same baseline i))
+      (values_same current i)))
       ∙ merged_same (listing_of file) (records_of current) (states_of (records_of current) (records_of baseline)) (run_values current)
 
   left_same : arrays (leftover_runs (all_without current) (all_without baseline)) ≡ arrays (leftover_runs current baseline)
@@ -128,7 +134,8 @@ counted_in [] state level suppressed = 0
 counted_in (found ∷ rest) state level suppressed =
     count_in (items_or_none found) state level suppressed + counted_in rest state level suppressed
 
-counted : (runs : List Data) (state : State) (level : Level) (suppressed : Bool) → count_of runs state level suppressed ≡ counted_in (arrays runs) state level suppressed
+counted : (runs : List Data) (state : State) (level : Level) (suppressed : Bool)
+    → count_of runs state level suppressed ≡ counted_in (arrays runs) state level suppressed
 counted [] state level suppressed = refl
 counted (run ∷ runs) state level suppressed =
     ap₂ (λ (here later : ℕ). here + later)
@@ -142,7 +149,8 @@ counts_alike xs ys same = λ i state level suppressed.
     ∙ ap (λ found. counted_in found state level suppressed) same
     ∙ sym (counted ys state level suppressed)) i
 
-pub counts_same : (file : File) (current baseline : List Placed) → count_of (runs_by file (all_without current) (all_without baseline)) ≡ count_of (runs_by file current baseline)
+pub counts_same : (file : File) (current baseline : List Placed)
+    → count_of (runs_by file (all_without current) (all_without baseline)) ≡ count_of (runs_by file current baseline)
 counts_same file current baseline =
     counts_alike (runs_by file (all_without current) (all_without baseline)) (runs_by file current baseline) (written_same file current baseline)
 
@@ -158,6 +166,8 @@ lacking_same (run ∷ runs) =
     (lacking_same runs)
     ∙ sym (sum_by-cons (λ x. cond (has_none x) 1 0) run runs)
 
-pub gate_same : (file : File) (current baseline : List Placed) (policy : Policy) → gate_in (merged_by file (all_without current) (all_without baseline) policy) ≡ gate_in (merged_by file current baseline policy)
+pub gate_same : (file : File) (current baseline : List Placed) (policy : Policy)
+    → gate_in (merged_by file (all_without current) (all_without baseline) policy) ≡ gate_in (merged_by file current baseline policy)
 gate_same file current baseline policy = λ i.
-    Some (gate_of (counts_same file current baseline i) policy ((ap runs_without_results (values_same current) ∙ lacking_same (run_values current)) i) (unused_of file (records_same current i)))
+    Some (gate_of (counts_same file current baseline i) policy ((ap runs_without_results (values_same current) ∙ lacking_same (run_values current)) i)
+    (unused_of file (records_same current i)))

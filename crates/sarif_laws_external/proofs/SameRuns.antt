@@ -55,7 +55,7 @@ same_array run =
 item_same : (p : Placed) (seq : ℕ) → item_of (placed_without p) seq ≡ item_of p seq
 item_same p seq = λ i.
     if skips p.source && is_absent_result (slice_index_or (same_results p.run i) seq null) then Skipped
-    else item_by (same_record p.run seq i)
+    else item_by (same_record p.options.read_regions p.run seq i)
 
 items_same : (p : Placed) → items_of (placed_without p) ≡ items_of p
 items_same p = λ i. map (λ seq. item_same p seq i) (range_with_len 0 (length (same_results p.run i)))
@@ -71,7 +71,7 @@ opened_same true run = λ i.
 
 faults_same_at : (p : Placed) → run_faults (placed_without p) ≡ run_faults p
 faults_same_at p = λ i.
-    opened_or p.source p.number (fault_of (opened_same p.must_succeed p.run i)) (items_same p i)
+    opened_or p.source p.number (fault_of (opened_same p.options.must_succeed p.run i)) (items_same p i)
 
 pub faults_same : (runs : List Placed) → faults_of_runs (all_without runs) ≡ faults_of_runs runs
 faults_same [] = refl

@@ -29,7 +29,7 @@ placed_without p =
     record {
       source = p.source;
       number = p.number;
-      must_succeed = p.must_succeed;
+      options = p.options;
       run = without_files p.run;
     }
 

@@ -6,5 +6,6 @@ use Rattle.sarif_laws.proofs.laws.adopting_leaves_nothing_new.Goals as goal
 pub returns : goal.returns
 returns c = record {
   bytes = law_of_adopting;
-  text = λ inputs policy knowing later none utf8 whole next. law_of_adopting inputs policy knowing (text_known inputs policy knowing) later none whole (known_read inputs policy knowing none utf8) next;
+  text = λ inputs policy knowing later none utf8 whole next. law_of_adopting inputs policy knowing (text_known inputs policy knowing) later none whole
+      (known_read inputs policy knowing none utf8) next;
 }
