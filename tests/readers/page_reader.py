@@ -1,5 +1,6 @@
 """Reads the page of a merge strictly, and checks it without other files."""
 
+import re
 from html.parser import HTMLParser
 
 from reference_page import FALLING, PageOf
@@ -13,6 +14,8 @@ ELEMENTS |= set("fieldset legend label nav b".split())
 LOADING = ("src", "srcset", "data", "action", "formaction", "poster", "ping", "background", "cite")
 ENTITIES = {"amp": "&", "lt": "<", "gt": ">", "quot": '"', "apos": "'"}
 REFERENCES = {"#39": "'", "#x27": "'", "#34": '"', "#x22": '"', "#38": "&", "#60": "<", "#62": ">"}
+# The one sentence of the page itself that has an apostrophe.
+NOT_SHOWN = re.compile(r"1 other result isn't shown\.|\d+ other results aren't shown\.")
 
 
 class Element:
@@ -80,7 +83,8 @@ class PageReader(HTMLParser):
             element.parts.append(text)
 
     def handle_data(self, text):
-        if self.open[-1].name != "style" and any(it in text for it in "&<>\"'"):
+        is_ours = self.open[-1].name == "style" or NOT_SHOWN.fullmatch(text)
+        if not is_ours and any(it in text for it in "&<>\"'"):
             self.wrong.append(f"{text[:60]!r} stands as it is")
         self.say(text)
 

@@ -125,7 +125,7 @@ fn run<T: Threads + Wait + Sync + AllocGlobal>(
     let reports = vec![in alloc; RequestedOutput { report, to }]?;
     let setting = Setting {
         request,
-        rooms: test_program::LaterRooms {
+        rooms: test_program::Rooms {
             complain: rooms.complain,
             ..test_program::AMPLE
         },
