@@ -29,7 +29,8 @@ module _ {T C : Type 0} where
       (cases_eq (run_in p) run)
 
   -- if no arrival is rejected, no piece of any run is, and no arrival belongs to an unknown run
-  run_accepted : (runs : List (Held T C)) (ps : List (Piece T C)) (run : ℕ) (h : Held T C) → slice_get runs run ≡ Some h → AllAccepted runs ps → Accepted h (on_run run ps)
+  run_accepted : (runs : List (Held T C)) (ps : List (Piece T C)) (run : ℕ) (h : Held T C) → slice_get runs run ≡ Some h
+      → AllAccepted runs ps → Accepted h (on_run run ps)
   run_accepted runs [] run h at all = tt
   run_accepted runs (p ∷ ps) run h at all = ⊎_elim
       (λ (e : run_in p ≡ run).
@@ -44,8 +45,10 @@ module _ {T C : Type 0} where
   no_stranger : (runs : List (Held T C)) (ps : List (Piece T C)) → AllAccepted runs ps → (run : ℕ) → length runs ≤ run → on_run run ps ≡ []
   no_stranger runs [] all run le = refl
   no_stranger runs (p ∷ ps) all run le = ⊎_elim
-      (λ (e : run_in p ≡ run). absurd (let refused : Some Stranger ≡ None = ap (λ o. refusal_in o p) (sym (slice_get_past runs (run_in p) (omega (arith, e)))) ∙ all.0 in cc))
-      (λ (n : run_in p ≡ run → ⊥). on_other run p ps n ∙ no_stranger (with_piece runs p) ps all.1 run (let same = length_by runs p (slice_get runs (run_in p)) in omega (arith, same)))
+      (λ (e : run_in p ≡ run). absurd
+      (let refused : Some Stranger ≡ None = ap (λ o. refusal_in o p) (sym (slice_get_past runs (run_in p) (omega (arith, e)))) ∙ all.0 in cc))
+      (λ (n : run_in p ≡ run → ⊥). on_other run p ps n
+      ∙ no_stranger (with_piece runs p) ps all.1 run (let same = length_by runs p (slice_get runs (run_in p)) in omega (arith, same)))
       (cases_eq (run_in p) run)
 
   -- if no piece of any run is rejected, and no arrival belongs to an unknown run, no arrival is rejected
@@ -54,7 +57,9 @@ module _ {T C : Type 0} where
   all_accepted runs [] known each = tt
   all_accepted runs (p ∷ ps) known each =
       let below : run_in p < length runs = ⊎_elim (λ (h : run_in p < length runs). h)
-      (λ (h : length runs ≤ run_in p). absurd (let none : p ∷ on_run (run_in p) ps ≡ [] = sym (on_same (run_in p) p ps refl) ∙ known (run_in p) h in cc)) (cases_lt (run_in p) (length runs)) in
+      (λ (h : length runs ≤ run_in p). absurd
+      (let none : p ∷ on_run (run_in p) ps ≡ [] = sym (on_same (run_in p) p ps refl) ∙ known (run_in p) h in cc))
+      (cases_lt (run_in p) (length runs)) in
       let here = at_below runs (run_in p) below in
       let mine : Accepted here.0 (p ∷ on_run (run_in p) ps) = subst (Accepted here.0) (on_same (run_in p) p ps refl) (each (run_in p) here.0 here.1) in
       let same = length_by runs p (slice_get runs (run_in p)) in (
@@ -66,7 +71,8 @@ module _ {T C : Type 0} where
             let now : Some g ≡ Some (step_at here.0 p) = sym at ∙ ap (slice_get (with_piece runs p)) (sym e) ∙ with_same runs p here.0 here.1 in
             let is : g ≡ step_at here.0 p = cc in
             subst (λ r. Accepted g (on_run r ps)) e (subst (λ k. Accepted k (on_run (run_in p) ps)) (sym is) mine.1))
-            (λ (n : run_in p ≡ run → ⊥). subst (Accepted g) (on_other run p ps n) (each run g (sym (with_other_by runs p (slice_get runs (run_in p)) run n) ∙ at)))
+            (λ (n : run_in p ≡ run → ⊥). subst (Accepted g) (on_other run p ps n)
+            (each run g (sym (with_other_by runs p (slice_get runs (run_in p)) run n) ∙ at)))
             (cases_eq (run_in p) run)),
       )
 
@@ -78,7 +84,8 @@ module _ {A : Type 0} (f : ℕ → List A) where
       let first = each a (omega arith) (omega arith) in
       ap (λ l. length (l ++ flat_map f (range_with_len (a + 1) n))) first.1 ∙ ap suc (ones_length n (a + 1) (λ r low high. each r (omega arith) (omega arith)))
 
-  ones_at : (n a : ℕ) → ((r : ℕ) → a ≤ r → r < a + n → (w : A) × (f r ≡ w ∷ [])) → (k : ℕ) (w : A) → k < n → f (a + k) ≡ w ∷ [] → slice_get (flat_map f (range_with_len a n)) k ≡ Some w
+  ones_at : (n a : ℕ) → ((r : ℕ) → a ≤ r → r < a + n → (w : A) × (f r ≡ w ∷ [])) → (k : ℕ) (w : A) → k < n → f (a + k) ≡ w ∷ []
+      → slice_get (flat_map f (range_with_len a n)) k ≡ Some w
   ones_at zero a each k w lt is = absurd (omega arith)
   ones_at (suc n) a each zero w lt is =
       let at_a : a + 0 ≡ a = omega arith in
@@ -86,25 +93,32 @@ module _ {A : Type 0} (f : ℕ → List A) where
   ones_at (suc n) a each (suc k) w lt is =
       let first = each a (omega arith) (omega arith) in
       let next : a + 1 + k ≡ a + suc k = omega arith in
-      ap (λ l. slice_get (l ++ flat_map f (range_with_len (a + 1) n)) (suc k)) first.1 ∙ ones_at n (a + 1) (λ r low high. each r (omega arith) (omega arith)) k w (omega arith) (ap f next ∙ is)
+      ap (λ l. slice_get (l ++ flat_map f (range_with_len (a + 1) n)) (suc k)) first.1
+      ∙ ones_at n (a + 1) (λ r low high. each r (omega arith) (omega arith)) k w (omega arith) (ap f next ∙ is)
 
 module _ {T C : Type 0} (runs : ℕ) (arrivals : List (Piece T C)) where
   empty_at : (run : ℕ) (h : Held T C) → slice_get (replicate runs empty_run) run ≡ Some h → (run < runs) × (h ≡ empty_run)
   empty_at run h at =
-      let low : run < runs = (let within = slice_get_within (replicate runs empty_run) run h at in let len = length-replicate {A = Held T C} runs empty_run in omega (arith, within, len)) in
+      let low : run < runs =
+      (let within = slice_get_within (replicate runs empty_run) run h at in let len =
+      length-replicate {A = Held T C} runs empty_run in omega (arith, within, len)) in
       let same : Some h ≡ Some empty_run = sym at ∙ at_replicate runs run empty_run low in
       (low, cc)
 
   -- accepted arrivals that close every run are lawful
-  pub accepted_lawful : AllAccepted (replicate runs empty_run) arrivals → first_open (all_after (replicate runs empty_run) arrivals) ≡ None → IsLawful runs arrivals
+  pub accepted_lawful : AllAccepted (replicate runs empty_run) arrivals → first_open (all_after (replicate runs empty_run) arrivals) ≡ None
+      → IsLawful runs arrivals
   accepted_lawful all closed = record {
-    strangers = λ run le. no_stranger (replicate runs empty_run) arrivals all run (let len = length-replicate {A = Held T C} runs empty_run in omega (arith, len));
+    strangers = λ run le. no_stranger (replicate runs empty_run) arrivals all run
+        (let len = length-replicate {A = Held T C} runs empty_run in omega (arith, len));
     each = λ run lt.
         let at = at_replicate {A = Held T C} runs run empty_run lt in
         let ok = run_accepted (replicate runs empty_run) arrivals run empty_run at all in
         let last = run_by_run (replicate runs empty_run) arrivals run empty_run at in
-        let whole = whole_after [] (on_run run arrivals) ok (closed_at 0 (all_after (replicate runs empty_run) arrivals) closed run (run_after empty_run (on_run run arrivals)) last) in
-        lawful_run run (on_run run arrivals) whole.0 (ends run [] [] (on_run run arrivals) whole.0 (record { len = refl; at = λ k. refl }) (on_mine run arrivals) ok whole.1);
+        let whole = whole_after [] (on_run run arrivals) ok
+        (closed_at 0 (all_after (replicate runs empty_run) arrivals) closed run (run_after empty_run (on_run run arrivals)) last) in
+        lawful_run run (on_run run arrivals) whole.0
+        (ends run [] [] (on_run run arrivals) whole.0 (record { len = refl; at = λ k. refl }) (on_mine run arrivals) ok whole.1);
   }
 
   module _ (lawful : IsLawful runs arrivals) where
@@ -112,10 +126,12 @@ module _ {T C : Type 0} (runs : ℕ) (arrivals : List (Piece T C)) where
     pub lawful_accepted : AllAccepted (replicate runs empty_run) arrivals
     lawful_accepted = all_accepted (replicate runs empty_run) arrivals
         (λ run le. lawful.strangers run (let len = length-replicate {A = Held T C} runs empty_run in omega (arith, len)))
-        (λ run h at. let e = empty_at run h at in subst (λ k. Accepted k (on_run run arrivals)) (sym e.1) (accepts_lawful run (on_run run arrivals) (lawful.each run e.0)).0)
+        (λ run h at. let e = empty_at run h at in subst (λ k. Accepted k (on_run run arrivals)) (sym e.1)
+        (accepts_lawful run (on_run run arrivals) (lawful.each run e.0)).0)
 
     -- and leave each run closed, as it is assembled
-    whole : (run : ℕ) → run < runs → (w : Whole T C) × (run_after empty_run (on_run run arrivals) ≡ closed_run w) × (assembled_run (on_run run arrivals) ≡ w ∷ [])
+    whole : (run : ℕ) → run < runs
+        → (w : Whole T C) × (run_after empty_run (on_run run arrivals) ≡ closed_run w) × (assembled_run (on_run run arrivals) ≡ w ∷ [])
     whole run lt =
         let ok = accepts_lawful run (on_run run arrivals) (lawful.each run lt) in
         let w = whole_after [] (on_run run arrivals) ok.0 ok.1 in
@@ -126,7 +142,8 @@ module _ {T C : Type 0} (runs : ℕ) (arrivals : List (Piece T C)) where
     lawful_held =
         let own : ℕ → List (Whole T C) = λ run. assembled_run (on_run run arrivals) in
         let each : (r : ℕ) → 0 ≤ r → r < 0 + runs → (w : Whole T C) × (own r ≡ w ∷ []) = λ r low high. let w = whole r (omega arith) in (w.0, w.2) in
-        let len : length (all_after (replicate runs empty_run) arrivals) ≡ runs = length-all_after (replicate runs empty_run) arrivals ∙ length-replicate runs empty_run in
+        let len : length (all_after (replicate runs empty_run) arrivals) ≡ runs = length-all_after (replicate runs empty_run) arrivals
+        ∙ length-replicate runs empty_run in
         same_places (all_after (replicate runs empty_run) arrivals) (map closed_run (assembled runs arrivals))
         (len ∙ sym (length-map (assembled runs arrivals) closed_run ∙ ones_length own runs 0 each))
         (λ run lt. let low : run < runs = omega (arith, len) in
@@ -141,11 +158,15 @@ module _ {T C : Type 0} (runs : ℕ) (arrivals : List (Piece T C)) where
 
 -- properties of arrivals
 module _ {T C : Type 0} (runs : ℕ) (arrivals ps : List (Piece T C)) (is : arrivals ≡ ps) where
-  pub told_lists : (lists : List (Whole T C)) → AllAccepted (replicate runs empty_run) ps → all_after (replicate runs empty_run) ps ≡ map closed_run lists → IsLawful runs arrivals × (lists ≡ assembled runs arrivals)
+  pub told_lists : (lists : List (Whole T C)) → AllAccepted (replicate runs empty_run) ps
+      → all_after (replicate runs empty_run) ps ≡ map closed_run lists → IsLawful runs arrivals × (lists ≡ assembled runs arrivals)
   told_lists lists all held =
-      let lawful = accepted_lawful runs arrivals (subst (AllAccepted (replicate runs empty_run)) (sym is) all) (ap (λ l. first_open (all_after (replicate runs empty_run) l)) is ∙ ap first_open held ∙ no_open lists) in
+      let lawful = accepted_lawful runs arrivals (subst (AllAccepted (replicate runs empty_run)) (sym is) all)
+      (ap (λ l. first_open (all_after (replicate runs empty_run) l)) is ∙ ap first_open held ∙ no_open lists) in
       (lawful, wholes_again lists (assembled runs arrivals) (sym held ∙ ap (all_after (replicate runs empty_run)) (sym is) ∙ lawful_held runs arrivals lawful))
 
 module _ {T C : Type 0} (runs : ℕ) (arrivals : List (Piece T C)) where
   pub told_fault : (at : ℕ) (why : Why) → IsFirstFault (replicate runs empty_run) arrivals at why → IsLawful runs arrivals → why ≡ OutOfMemory
-  told_fault at why first lawful = taken_lacks (replicate runs empty_run) arrivals at why (lawful_accepted runs arrivals lawful) (lawful_closed runs arrivals lawful) first.here
+  told_fault at why first lawful =
+      taken_lacks (replicate runs empty_run) arrivals at why (lawful_accepted runs arrivals lawful)
+      (lawful_closed runs arrivals lawful) first.here

@@ -27,20 +27,27 @@ module _ {T C : Type 0} where
   on_cons run (End s) ps = refl
 
   -- a run's pieces come from the one sender that has any of it
-  pub from_one : (run k : ℕ) (h : List (ℕ × Parcel T C)) → ((j : ℕ) → j ≢ k → on_run run (carried (of_sender j h)) ≡ []) → on_run run (carried (parcels_in h)) ≡ on_run run (carried (of_sender k h))
+  pub from_one : (run k : ℕ) (h : List (ℕ × Parcel T C)) → ((j : ℕ) → j ≢ k → on_run run (carried (of_sender j h)) ≡ [])
+      → on_run run (carried (parcels_in h)) ≡ on_run run (carried (of_sender k h))
   from_one run k [] none = refl
   from_one run k (x ∷ h) none = ⊎_elim
       (λ (e : x.0 ≡ k).
-      let others : (j : ℕ) → j ≢ k → on_run run (carried (of_sender j h)) ≡ [] = λ j n. ap (λ l. on_run run (carried l)) (sym (of_other x.0 j x.1 h (λ q. n (sym q ∙ e)))) ∙ none j n in
+      let others : (j : ℕ) → j ≢ k → on_run run (carried (of_sender j h)) ≡ [] =
+      λ j n. ap (λ l. on_run run (carried l)) (sym (of_other x.0 j x.1 h (λ q. n (sym q ∙ e)))) ∙ none j n in
       let here : of_sender k (x ∷ h) ≡ x.1 ∷ of_sender k h = subst (λ j. of_sender j (x ∷ h) ≡ x.1 ∷ of_sender j h) e (of_same x.0 x.1 h) in
-      on_cons run x.1 (parcels_in h) ∙ ap (λ l. on_run run (carried (x.1 ∷ [])) ++ l) (from_one run k h others) ∙ sym (on_cons run x.1 (of_sender k h)) ∙ ap (λ l. on_run run (carried l)) (sym here))
+      on_cons run x.1 (parcels_in h) ∙ ap (λ l. on_run run (carried (x.1 ∷ [])) ++ l) (from_one run k h others)
+      ∙ sym (on_cons run x.1 (of_sender k h)) ∙ ap (λ l. on_run run (carried l)) (sym here))
       (λ (n : x.0 ≡ k → ⊥).
-      let mine : on_run run (carried (x.1 ∷ [])) ++ on_run run (carried (of_sender x.0 h)) ≡ [] = sym (on_cons run x.1 (of_sender x.0 h)) ∙ ap (λ l. on_run run (carried l)) (sym (of_same x.0 x.1 h)) ∙ none x.0 n in
+      let mine : on_run run (carried (x.1 ∷ [])) ++ on_run run (carried (of_sender x.0 h)) ≡ [] = sym (on_cons run x.1 (of_sender x.0 h))
+      ∙ ap (λ l. on_run run (carried l)) (sym (of_same x.0 x.1 h)) ∙ none x.0 n in
       let others : (j : ℕ) → j ≢ k → on_run run (carried (of_sender j h)) ≡ [] = λ j m. ⊎_elim
-      (λ (q : x.0 ≡ j). ap (λ i. on_run run (carried (of_sender i h))) (sym q) ∙ nil_right (on_run run (carried (x.1 ∷ []))) (on_run run (carried (of_sender x.0 h))) mine)
+      (λ (q : x.0 ≡ j). ap (λ i. on_run run (carried (of_sender i h))) (sym q)
+      ∙ nil_right (on_run run (carried (x.1 ∷ []))) (on_run run (carried (of_sender x.0 h))) mine)
       (λ (q : x.0 ≡ j → ⊥). ap (λ l. on_run run (carried l)) (sym (of_other x.0 j x.1 h q)) ∙ none j m)
       (cases_eq x.0 j) in
-      on_cons run x.1 (parcels_in h) ∙ ap (λ l. l ++ on_run run (carried (parcels_in h))) (nil_left (on_run run (carried (x.1 ∷ []))) (on_run run (carried (of_sender x.0 h))) mine)
+      on_cons run x.1 (parcels_in h)
+      ∙ ap (λ l. l ++ on_run run (carried (parcels_in h)))
+      (nil_left (on_run run (carried (x.1 ∷ []))) (on_run run (carried (of_sender x.0 h))) mine)
       ∙ from_one run k h others ∙ ap (λ l. on_run run (carried l)) (sym (of_other x.0 k x.1 h n)))
       (cases_eq x.0 k)
 
@@ -51,7 +58,8 @@ module _ {T C : Type 0} where
 
   items_same : (run : ℕ) (item : ℕ → T) (l : List ℕ) → on_run {C = C} run (map (λ s. Item run s (item s)) l) ≡ map (λ s. Item run s (item s)) l
   items_same run item [] = refl
-  items_same run item (s ∷ l) = on_same run (Item run s (item s)) (map (λ s. Item run s (item s)) l) refl ∙ ap (λ r. Item run s (item s) ∷ r) (items_same run item l)
+  items_same run item (s ∷ l) = on_same run (Item run s (item s)) (map (λ s. Item run s (item s)) l) refl
+      ∙ ap (λ r. Item run s (item s) ∷ r) (items_same run item l)
 
   items_other : (run other : ℕ) (item : ℕ → T) (l : List ℕ) → other ≢ run → on_run {C = C} run (map (λ s. Item other s (item s)) l) ≡ []
   items_other run other item [] n = refl
@@ -59,11 +67,13 @@ module _ {T C : Type 0} where
 
   pieces_same : (run : ℕ) (item : ℕ → T) (count : ℕ) (end : C) → on_run run (pieces_of run item count end) ≡ pieces_of run item count end
   pieces_same run item count end =
-      on_run-append run (map (λ s. Item run s (item s)) (range_with_len 0 count)) (Close run count end ∷ []) ∙ (λ i. items_same run item (range_with_len 0 count) i ++ on_same run (Close run count end) [] refl i)
+      on_run-append run (map (λ s. Item run s (item s)) (range_with_len 0 count)) (Close run count end ∷ [])
+      ∙ (λ i. items_same run item (range_with_len 0 count) i ++ on_same run (Close run count end) [] refl i)
 
   pieces_other : (run other : ℕ) (item : ℕ → T) (count : ℕ) (end : C) → other ≢ run → on_run run (pieces_of other item count end) ≡ []
   pieces_other run other item count end n =
-      on_run-append run (map (λ s. Item other s (item s)) (range_with_len 0 count)) (Close other count end ∷ []) ∙ (λ i. items_other run other item (range_with_len 0 count) n i ++ on_other run (Close other count end) [] n i)
+      on_run-append run (map (λ s. Item other s (item s)) (range_with_len 0 count)) (Close other count end ∷ [])
+      ∙ (λ i. items_other run other item (range_with_len 0 count) n i ++ on_other run (Close other count end) [] n i)
 
 module _ {T C : Type 0} (count : ℕ → ℕ) (item : ℕ → ℕ → T) (end : ℕ → C) where
   not_drawn : (run : ℕ) (rs : List ℕ) → times run rs ≡ 0 → on_run run (pieces_of_runs count item end rs) ≡ []
@@ -71,7 +81,8 @@ module _ {T C : Type 0} (count : ℕ → ℕ) (item : ℕ → ℕ → T) (end : 
   not_drawn run (r ∷ rs) none = ⊎_elim
       (λ (e : r ≡ run). absurd (let one : ◌≡◌ {A = ℕ} (cond (eqb r run) 1 0) 1 = ap (λ b. cond b 1 0) (eq-eqb r run e) in omega arith))
       (λ (n : r ≡ run → ⊥). on_run-append run (pieces_of r (item r) (count r) (end r)) (pieces_of_runs count item end rs)
-      ∙ (λ i. pieces_other run r (item r) (count r) (end r) n i ++ not_drawn run rs (let zero_here : ◌≡◌ {A = ℕ} (cond (eqb r run) 1 0) 0 = ap (λ b. cond b 1 0) (ne_eqb r run n) in omega arith) i))
+      ∙ (λ i. pieces_other run r (item r) (count r) (end r) n i
+      ++ not_drawn run rs (let zero_here : ◌≡◌ {A = ℕ} (cond (eqb r run) 1 0) 0 = ap (λ b. cond b 1 0) (ne_eqb r run n) in omega arith) i))
       (cases_eq r run)
 
   drawn_once : (run : ℕ) (rs : List ℕ) → times run rs ≡ 1 → on_run run (pieces_of_runs count item end rs) ≡ pieces_of run (item run) (count run) (end run)
@@ -83,7 +94,8 @@ module _ {T C : Type 0} (count : ℕ → ℕ) (item : ℕ → ℕ → T) (end : 
       ∙ append-nil (on_run run (pieces_of run (item run) (count run) (end run)))
       ∙ pieces_same run (item run) (count run) (end run))
       (λ (n : r ≡ run → ⊥). on_run-append run (pieces_of r (item r) (count r) (end r)) (pieces_of_runs count item end rs)
-      ∙ (λ i. pieces_other run r (item r) (count r) (end r) n i ++ drawn_once run rs (let zero_here : ◌≡◌ {A = ℕ} (cond (eqb r run) 1 0) 0 = ap (λ b. cond b 1 0) (ne_eqb r run n) in omega arith) i))
+      ∙ (λ i. pieces_other run r (item r) (count r) (end r) n i
+      ++ drawn_once run rs (let zero_here : ◌≡◌ {A = ℕ} (cond (eqb r run) 1 0) 0 = ap (λ b. cond b 1 0) (ne_eqb r run n) in omega arith) i))
       (cases_eq r run)
 
   -- the pieces of a run that the worker didn't draw, and of one that it drew
@@ -98,7 +110,8 @@ none_of f [] none j y at = absurd (cc)
 none_of f (x ∷ xs) none zero y at = let same : x ≡ y = cc in ap f (sym same) ∙ omega arith
 none_of f (x ∷ xs) none (suc j) y at = none_of f xs (omega arith) j y at
 
-others_later : {A : Type 0} (f : A → ℕ) (x : A) (xs : List A) (k : ℕ) → f x ≡ 0 → ((j : ℕ) (y : A) → j ≢ k → slice_get xs j ≡ Some y → f y ≡ 0) → (j : ℕ) (y : A) → j ≢ suc k → slice_get (x ∷ xs) j ≡ Some y → f y ≡ 0
+others_later : {A : Type 0} (f : A → ℕ) (x : A) (xs : List A) (k : ℕ) → f x ≡ 0
+    → ((j : ℕ) (y : A) → j ≢ k → slice_get xs j ≡ Some y → f y ≡ 0) → (j : ℕ) (y : A) → j ≢ suc k → slice_get (x ∷ xs) j ≡ Some y → f y ≡ 0
 others_later f x xs k z rest zero y n at = let same : x ≡ y = cc in ap f (sym same) ∙ z
 others_later f x xs k z rest (suc j) y n at = rest j y (λ e. n (ap suc e)) at
 
@@ -107,7 +120,8 @@ others_first f x xs none zero y n at = absurd (n refl)
 others_first f x xs none (suc j) y n at = none_of f xs none j y at
 
 -- the one that has it, if there is exactly one
-pub the_one : {A : Type 0} (f : A → ℕ) (xs : List A) → total f xs ≡ 1 → (k : ℕ) × (x : A) × (slice_get xs k ≡ Some x) × (f x ≡ 1) × ((j : ℕ) (y : A) → j ≢ k → slice_get xs j ≡ Some y → f y ≡ 0)
+pub the_one : {A : Type 0} (f : A → ℕ) (xs : List A) → total f xs ≡ 1
+    → (k : ℕ) × (x : A) × (slice_get xs k ≡ Some x) × (f x ≡ 1) × ((j : ℕ) (y : A) → j ≢ k → slice_get xs j ≡ Some y → f y ≡ 0)
 the_one f [] one = absurd (omega arith)
 the_one f (x ∷ xs) one = ⊎_elim
     (λ (z : f x ≡ 0). let r = the_one f xs (omega arith) in (suc r.0, r.1, r.2, r.3, others_later f x xs r.0 z r.4))

@@ -33,7 +33,8 @@ never_short true w late e = cc
 never_short false w late e = never_is Short w (λ l. l) late e
 
 module _ {T C : Type 0} where
-  pub accepted_push : (runs : List (Held T C)) (ps : List (Piece T C)) (p : Piece T C) → AllAccepted runs ps → refusal_of (all_after runs ps) p ≡ None → AllAccepted runs (ps ++ p ∷ [])
+  pub accepted_push : (runs : List (Held T C)) (ps : List (Piece T C)) (p : Piece T C) → AllAccepted runs ps
+      → refusal_of (all_after runs ps) p ≡ None → AllAccepted runs (ps ++ p ∷ [])
   accepted_push runs [] p all none = (none, tt)
   accepted_push runs (q ∷ ps) p all none = (all.0, accepted_push (with_piece runs q) ps p all.1 none)
 
@@ -55,7 +56,8 @@ module _ {T C : Type 0} where
   never (Some h) p w late e = never_tail h.tail h.bodies p w late e
 
   -- the first rejected arrival
-  module _ (runs : List (Held T C)) (arrivals ps : List (Piece T C)) (p : Piece T C) (rest : List (Piece T C)) (is : arrivals ≡ ps ++ p ∷ rest) (at : ℕ) (len : at ≡ length ps) (all : AllAccepted runs ps) where
+  module _ (runs : List (Held T C)) (arrivals ps : List (Piece T C)) (p : Piece T C) (rest : List (Piece T C))
+      (is : arrivals ≡ ps ++ p ∷ rest) (at : ℕ) (len : at ≡ length ps) (all : AllAccepted runs ps) where
     taken_before : take at arrivals ≡ ps
     taken_before = ap (take at) is ∙ take_at ps (p ∷ rest) at (sym len)
 
@@ -84,7 +86,8 @@ module _ {T C : Type 0} where
     }
 
   -- all were accepted, and a run has no close
-  pub left_open : (runs : List (Held T C)) (arrivals ps : List (Piece T C)) → arrivals ≡ ps → (at : ℕ) → at ≡ length ps → AllAccepted runs ps → (run : ℕ) → first_open (all_after runs ps) ≡ Some run → IsFirstFault runs arrivals at (Unclosed run)
+  pub left_open : (runs : List (Held T C)) (arrivals ps : List (Piece T C)) → arrivals ≡ ps → (at : ℕ) → at ≡ length ps
+      → AllAccepted runs ps → (run : ℕ) → first_open (all_after runs ps) ≡ Some run → IsFirstFault runs arrivals at (Unclosed run)
   left_open runs arrivals ps is at len all run open_run = record {
     before = subst (AllAccepted runs) (sym (ap (take at) is ∙ take_all at ps (omega arith))) all;
     here = (len ∙ ap length (sym is), ap (λ l. first_open (all_after runs l)) is ∙ open_run);
@@ -99,7 +102,8 @@ module _ {T C : Type 0} where
   taken_at runs (p ∷ ps) (suc at) why all refused = taken_at (with_piece runs p) ps at why all.1 refused
 
   -- arrivals with an error are rejected, or leave a run open, unless memory ran out
-  pub taken_lacks : (runs : List (Held T C)) (arrivals : List (Piece T C)) (at : ℕ) (why : Why) → AllAccepted runs arrivals → first_open (all_after runs arrivals) ≡ None → FaultHere runs arrivals at why → why ≡ OutOfMemory
+  pub taken_lacks : (runs : List (Held T C)) (arrivals : List (Piece T C)) (at : ℕ) (why : Why) → AllAccepted runs arrivals
+      → first_open (all_after runs arrivals) ≡ None → FaultHere runs arrivals at why → why ≡ OutOfMemory
   taken_lacks runs arrivals at OutOfMemory all closed here = refl
   taken_lacks runs arrivals at (Unclosed run) all closed here = absurd (let e : Some run ≡ None = sym here.1 ∙ closed in cc)
   taken_lacks runs arrivals at Stranger all closed here = absurd (taken_at runs arrivals at Stranger all here)

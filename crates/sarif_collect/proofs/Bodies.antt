@@ -44,14 +44,16 @@ module _ {T : Type 0} where
   insert_mine k v (e ∷ es) none =
       ⊎_elim (λ (h : k ≡ e.0). absurd (true≢false (sym (has_here k e es h) ∙ none)))
       (λ o. ⊎_elim (λ (h : k < e.0). ap (bodies_at k) (insert_less k v e es h) ∙ of_same k v (e ∷ es) ∙ ap (λ l. v ∷ l) (none_at k (e ∷ es) none))
-      (λ (h : e.0 < k). ap (bodies_at k) (insert_greater k v e es h) ∙ at_other k e (insert_entry nat_cmp es k v) (λ q. omega arith) ∙ insert_mine k v es (sym (has_greater k e es h) ∙ none)) o) (cases_order k e.0)
+      (λ (h : e.0 < k). ap (bodies_at k) (insert_greater k v e es h) ∙ at_other k e (insert_entry nat_cmp es k v) (λ q. omega arith)
+      ∙ insert_mine k v es (sym (has_greater k e es h) ∙ none)) o) (cases_order k e.0)
 
   insert_others : (k : ℕ) (v : T) (es : List (ℕ × T)) → has_number k es ≡ false → (j : ℕ) → k ≢ j → bodies_at j (insert_entry nat_cmp es k v) ≡ bodies_at j es
   insert_others k v [] none j n = of_other k j v [] n
   insert_others k v (e ∷ es) none j n =
       ⊎_elim (λ (h : k ≡ e.0). absurd (true≢false (sym (has_here k e es h) ∙ none)))
       (λ o. ⊎_elim (λ (h : k < e.0). ap (bodies_at j) (insert_less k v e es h) ∙ of_other k j v (e ∷ es) n)
-      (λ (h : e.0 < k). ap (bodies_at j) (insert_greater k v e es h) ∙ cons_at j e (insert_entry nat_cmp es k v) es (insert_others k v es (sym (has_greater k e es h) ∙ none) j n)) o) (cases_order k e.0)
+      (λ (h : e.0 < k). ap (bodies_at j) (insert_greater k v e es h)
+      ∙ cons_at j e (insert_entry nat_cmp es k v) es (insert_others k v es (sym (has_greater k e es h) ∙ none) j n)) o) (cases_order k e.0)
 
   length-insert : (k : ℕ) (v : T) (es : List (ℕ × T)) → has_number k es ≡ false → length (insert_entry nat_cmp es k v) ≡ suc (length es)
   length-insert k v [] none = refl
@@ -65,13 +67,15 @@ module _ {T : Type 0} where
     pub len : length es ≡ length bodies
     pub at : (k : ℕ) → bodies_at k es ≡ bodies_at k bodies
 
-  pub tells_more : (k : ℕ) (v : T) (es bodies : List (ℕ × T)) → has_number k es ≡ false → Tells es bodies → Tells (insert_entry nat_cmp es k v) (bodies ++ (k, v) ∷ [])
+  pub tells_more : (k : ℕ) (v : T) (es bodies : List (ℕ × T)) → has_number k es ≡ false → Tells es bodies
+      → Tells (insert_entry nat_cmp es k v) (bodies ++ (k, v) ∷ [])
   tells_more k v es bodies none t = record {
     len = let one = length-insert k v es none in let more = length_push bodies (k, v) in omega (arith, one, more, t.len);
     at = λ j. ⊎_elim
         (λ (h : k ≡ j). subst (λ m. bodies_at m (insert_entry nat_cmp es k v) ≡ bodies_at m (bodies ++ (k, v) ∷ [])) h
         (insert_mine k v es none ∙ sym (of-append k bodies ((k, v) ∷ []) ∙ (λ i. (sym (t.at k) ∙ none_at k es none) i ++ of_same k v [] i))))
-        (λ (n : k ≡ j → ⊥). insert_others k v es none j n ∙ t.at j ∙ sym (of-append j bodies ((k, v) ∷ []) ∙ ap (λ l. bodies_at j bodies ++ l) (of_other k j v [] n) ∙ append-nil (bodies_at j bodies)))
+        (λ (n : k ≡ j → ⊥). insert_others k v es none j n ∙ t.at j
+        ∙ sym (of-append j bodies ((k, v) ∷ []) ∙ ap (λ l. bodies_at j bodies ++ l) (of_other k j v [] n) ∙ append-nil (bodies_at j bodies)))
         (cases_eq k j);
   }
 
@@ -85,7 +89,8 @@ module _ {T : Type 0} where
   rising-insert a k v (e ∷ es) none low up =
       ⊎_elim (λ (h : k ≡ e.0). absurd (true≢false (sym (has_here k e es h) ∙ none)))
       (λ o. ⊎_elim (λ (h : k < e.0). subst (Rising a) (sym (insert_less k v e es h)) (low, (omega arith, up.1)))
-      (λ (h : e.0 < k). subst (Rising a) (sym (insert_greater k v e es h)) (up.0, rising-insert (e.0 + 1) k v es (sym (has_greater k e es h) ∙ none) (omega arith) up.1)) o) (cases_order k e.0)
+      (λ (h : e.0 < k). subst (Rising a) (sym (insert_greater k v e es h))
+      (up.0, rising-insert (e.0 + 1) k v es (sym (has_greater k e es h) ∙ none) (omega arith) up.1)) o) (cases_order k e.0)
 
   below_rising : (a k : ℕ) (es : List (ℕ × T)) → k < a → Rising a es → bodies_at k es ≡ []
   below_rising a k [] lt up = refl
@@ -95,9 +100,12 @@ module _ {T : Type 0} where
   pub counts : (a n : ℕ) (es : List (ℕ × T)) → Rising a es → a + length es ≡ n → ((k : ℕ) → a ≤ k → k < n → bodies_at k es ≢ []) → counts_up a n es ≡ true
   counts a n [] up len there = eq-eqb a n (omega arith)
   counts a n (e ∷ es) up len there =
-      let first : e.0 ≡ a = ⊎_elim (λ (h : e.0 ≡ a). h) (λ (m : e.0 ≡ a → ⊥). absurd (there a (omega arith) (omega arith) (at_other a e es m ∙ below_rising (e.0 + 1) a es (omega (arith, up.0)) up.1))) (cases_eq e.0 a) in
+      let first : e.0 ≡ a = ⊎_elim (λ (h : e.0 ≡ a). h)
+      (λ (m : e.0 ≡ a → ⊥). absurd
+      (there a (omega arith) (omega arith) (at_other a e es m ∙ below_rising (e.0 + 1) a es (omega (arith, up.0)) up.1))) (cases_eq e.0 a) in
       and_from _ _ (eq-eqb e.0 a first)
-      (counts (a + 1) n es (subst (λ m. Rising (m + 1) es) first up.1) (omega arith) (λ k low high none. there k (omega arith) high (at_other k e es (λ q. omega (arith, first)) ∙ none)))
+      (counts (a + 1) n es (subst (λ m. Rising (m + 1) es) first up.1) (omega arith)
+      (λ k low high none. there k (omega arith) high (at_other k e es (λ q. omega (arith, first)) ∙ none)))
 
   -- numbers that count up
   pub row_below : (a k : ℕ) (xs : List T) → k < a → bodies_at k (enumerate_from a xs) ≡ []
@@ -111,14 +119,18 @@ module _ {T : Type 0} where
   pub row_in : (a k : ℕ) (xs : List T) → a ≤ k → k < a + length xs → length (bodies_at k (enumerate_from a xs)) ≡ 1
   row_in a k [] low high = absurd (omega arith)
   row_in a k (x ∷ xs) low high =
-      ⊎_elim (λ (h : a ≡ k). subst (λ m. length (bodies_at m ((a, x) ∷ enumerate_from (a + 1) xs)) ≡ 1) h (ap length (of_same a x (enumerate_from (a + 1) xs) ∙ ap (λ l. x ∷ l) (row_below (a + 1) a xs (omega arith)))))
+      ⊎_elim
+      (λ (h : a ≡ k). subst (λ m. length (bodies_at m ((a, x) ∷ enumerate_from (a + 1) xs)) ≡ 1) h
+      (ap length (of_same a x (enumerate_from (a + 1) xs) ∙ ap (λ l. x ∷ l) (row_below (a + 1) a xs (omega arith)))))
       (λ (n : a ≡ k → ⊥). ap length (of_other a k x (enumerate_from (a + 1) xs) n) ∙ row_in (a + 1) k xs (omega (arith, n)) (omega arith))
       (cases_eq a k)
 
-  in_order_from : (a : ℕ) (xs : List T) (bodies : List (ℕ × T)) → ((k : ℕ) → a ≤ k → bodies_at k bodies ≡ bodies_at k (enumerate_from a xs)) → flat_map (λ k. bodies_at k bodies) (range_with_len a (length xs)) ≡ xs
+  in_order_from : (a : ℕ) (xs : List T) (bodies : List (ℕ × T)) → ((k : ℕ) → a ≤ k → bodies_at k bodies ≡ bodies_at k (enumerate_from a xs))
+      → flat_map (λ k. bodies_at k bodies) (range_with_len a (length xs)) ≡ xs
   in_order_from a [] bodies same = refl
   in_order_from a (x ∷ xs) bodies same =
-      (λ i. (same a (omega arith) ∙ of_same a x (enumerate_from (a + 1) xs) ∙ ap (λ l. x ∷ l) (row_below (a + 1) a xs (omega arith))) i ++ flat_map (λ k. bodies_at k bodies) (range_with_len (a + 1) (length xs)))
+      (λ i. (same a (omega arith) ∙ of_same a x (enumerate_from (a + 1) xs) ∙ ap (λ l. x ∷ l) (row_below (a + 1) a xs (omega arith))) i
+      ++ flat_map (λ k. bodies_at k bodies) (range_with_len (a + 1) (length xs)))
       ∙ ap (λ l. x ∷ l) (in_order_from (a + 1) xs bodies (λ k le. same k (omega arith) ∙ of_other a k x (enumerate_from (a + 1) xs) (λ q. omega arith)))
 
   pub length-enumerate : (a : ℕ) (xs : List T) → length (enumerate_from a xs) ≡ length xs
@@ -133,4 +145,5 @@ module _ {T : Type 0} where
 
   pub counts_length : (n count : ℕ) (es : List (ℕ × T)) → counts_up n count es ≡ true → count ≡ n + length es
   counts_length n count [] h = let e = eqb-true n count h in omega arith
-  counts_length n count (e ∷ es) h = let r : count ≡ n + 1 + length es = counts_length (n + 1) count es (and_parts (eqb e.0 n) (counts_up (n + 1) count es) h).1 in omega arith
+  counts_length n count (e ∷ es) h = let r : count ≡ n + 1 + length es =
+      counts_length (n + 1) count es (and_parts (eqb e.0 n) (counts_up (n + 1) count es) h).1 in omega arith

@@ -21,11 +21,13 @@ use Rattle.sarif_dispatch.proofs.Places.{at_below, at_replicate, at_range, same_
 use Rattle.sarif_collect.proofs.RunByRun.{run_by_run, length-all_after, run_after-pieces}
 use Rattle.sarif_collect.proofs.Wholes.{wholes_again}
 
-module _ {T C : Type 0} (count : ℕ → ℕ) (item : ℕ → ℕ → T) (end : ℕ → C) (runs : ℕ) (shares : List (List ℕ)) (arrived : List (ℕ × Parcel T C)) (honest : AreHonest count item end runs shares arrived) where
+module _ {T C : Type 0} (count : ℕ → ℕ) (item : ℕ → ℕ → T) (end : ℕ → C) (runs : ℕ) (shares : List (List ℕ))
+    (arrived : List (ℕ × Parcel T C)) (honest : AreHonest count item end runs shares arrived) where
   -- nothing of the run arrived from a worker that does not have the run
   none_from : (run j : ℕ) → ((share : List ℕ) → slice_get shares j ≡ Some share → times run share ≡ 0) → on_run run (carried (of_sender j arrived)) ≡ []
   none_from run j none = ⊎_elim
-      (λ (low : j < length shares). let s = at_below shares j low in ap (λ l. on_run run (carried l)) (honest.each j s.0 s.1) ∙ not_mine count item end run s.0 (none s.0 s.1))
+      (λ (low : j < length shares). let s = at_below shares j low in ap (λ l. on_run run (carried l)) (honest.each j s.0 s.1)
+      ∙ not_mine count item end run s.0 (none s.0 s.1))
       (λ (high : length shares ≤ j). ap (λ l. on_run run (carried l)) (honest.strangers j high))
       (cases_lt j (length shares))
 
@@ -53,7 +55,8 @@ module _ {T C : Type 0} (count : ℕ → ℕ) (item : ℕ → ℕ → T) (end : 
   pub held_whole : all_after (replicate runs empty_run) (carried (parcels_in arrived)) ≡ map closed_run (lists_of count item end runs)
   held_whole =
       let pieces = carried (parcels_in arrived) in
-      let len : length (all_after (replicate runs empty_run) pieces) ≡ runs = length-all_after (replicate runs empty_run) pieces ∙ length-replicate runs empty_run in
+      let len : length (all_after (replicate runs empty_run) pieces) ≡ runs = length-all_after (replicate runs empty_run) pieces
+      ∙ length-replicate runs empty_run in
       same_places (all_after (replicate runs empty_run) pieces) (map closed_run (lists_of count item end runs))
       (len ∙ sym (length-map (lists_of count item end runs) closed_run ∙ length-map-range_with_len (λ run. whole_run (count run) (item run) (end run)) 0 runs))
       (λ run lt. let low : run < runs = omega arith in
@@ -61,12 +64,14 @@ module _ {T C : Type 0} (count : ℕ → ℕ) (item : ℕ → ℕ → T) (end : 
       ∙ ap (λ l. Some (run_after empty_run l)) (of_run run low)
       ∙ ap (λ h. Some h) (run_after-pieces run (item run) (count run) (end run))
       ∙ sym (into_mapped closed_run (lists_of count item end runs) run (whole_run (count run) (item run) (end run))
-      (slice_get-map (λ r. whole_run (count r) (item r) (end r)) (range_with_len 0 runs) run ∙ ap (option_map (λ r. whole_run (count r) (item r) (end r))) (at_range 0 runs run low ∙ ap (λ m. Some m) (zero-add run)))))
+      (slice_get-map (λ r. whole_run (count r) (item r) (end r)) (range_with_len 0 runs) run
+      ∙ ap (option_map (λ r. whole_run (count r) (item r) (end r))) (at_range 0 runs run low ∙ ap (λ m. Some m) (zero-add run)))))
 
   pub taken : AreTaken count item end runs arrived
   taken = record {
     lawful = lawful;
     of_run = of_run;
     accepted = lawful_accepted runs (carried (parcels_in arrived)) lawful;
-    lists = wholes_again (assembled runs (carried (parcels_in arrived))) (lists_of count item end runs) (sym (lawful_held runs (carried (parcels_in arrived)) lawful) ∙ held_whole);
+    lists = wholes_again (assembled runs (carried (parcels_in arrived))) (lists_of count item end runs)
+        (sym (lawful_held runs (carried (parcels_in arrived)) lawful) ∙ held_whole);
   }

@@ -53,7 +53,8 @@ module _ {T C : Type 0} where
   after_close bodies tail (p ∷ ps) ok = absurd (let e = ok.0 in cc)
 
   -- pieces that are accepted and close the run leave it whole
-  pub whole_after : (es : List (ℕ × T)) (ps : List (Piece T C)) → Accepted (open_with es) ps → is_none (run_after (open_with es) ps).tail ≡ false → (w : Whole T C) × (run_after (open_with es) ps ≡ closed_run w)
+  pub whole_after : (es : List (ℕ × T)) (ps : List (Piece T C)) → Accepted (open_with es) ps
+      → is_none (run_after (open_with es) ps).tail ≡ false → (w : Whole T C) × (run_after (open_with es) ps ≡ closed_run w)
   whole_after es [] ok closed = absurd (true≢false closed)
   whole_after es (Item r s b ∷ ps) ok closed = whole_after (insert_entry nat_cmp es s b) ps ok.1 closed
   whole_after es (Close r c t ∷ ps) ok closed =
@@ -81,13 +82,16 @@ module _ {T C : Type 0} where
       let later = ends run (insert_entry nat_cmp es s b) (bodies ++ (s, b) ∷ []) ps w (tells_more s b es bodies fresh t) mine.1 ok.1 is in
       record {
         more = (s, b) ∷ later.more;
-        order = (λ i. Item (mine.0 i) s b ∷ later.order i) ∙ ap (λ (l : List (ℕ × T)). map (λ c. Item run c.0 c.1) ((s, b) ∷ later.more) ++ Close run (length l) w.tail ∷ []) (append_assoc bodies ((s, b) ∷ []) later.more);
+        order = (λ i. Item (mine.0 i) s b ∷ later.order i)
+            ∙ ap (λ (l : List (ℕ × T)). map (λ c. Item run c.0 c.1) ((s, b) ∷ later.more) ++ Close run (length l) w.tail ∷ [])
+            (append_assoc bodies ((s, b) ∷ []) later.more);
         tells = subst (Tells (enumerate_from 0 w.items)) (append_assoc bodies ((s, b) ∷ []) later.more) later.tells;
       }
   ends run es bodies (Close r c t' ∷ ps) w t mine ok is =
       let all = not_short (counts_up 0 c es) Short ok.0 in
       let none : ps ≡ [] = after_close es t' ps ok.1 in
-      let end : ◌≡◌ {A = Held T C} (record { bodies = es; tail = Some t' }) (closed_run w) = sym (ap (run_after (record { bodies = es; tail = Some t' })) none) ∙ is in
+      let end : ◌≡◌ {A = Held T C} (record { bodies = es; tail = Some t' }) (closed_run w) =
+      sym (ap (run_after (record { bodies = es; tail = Some t' })) none) ∙ is in
       let same_tail : Some t' ≡ Some w.tail = ap (λ h. h.tail) end in
       let tail : t' ≡ w.tail = cc in
       let count : c ≡ length (bodies ++ []) = counts_length 0 c es all ∙ zero-add (length es) ∙ t.len ∙ ap length (sym (append-nil bodies)) in
@@ -106,8 +110,10 @@ module _ {T C : Type 0} where
         tail = w.tail;
         order = e.order;
         numbers = λ k. ⊎_elim
-            (λ (h : k < length e.more). ap length (sym (e.tells.at k)) ∙ row_in 0 k w.items (omega arith) (omega (arith, len)) ∙ sym (ap (λ b. cond {A = ℕ} b 1 0) (lt-ltb k (length e.more) h)))
-            (λ (h : length e.more ≤ k). ap length (sym (e.tells.at k)) ∙ ap length (row_above 0 k w.items (omega (arith, len))) ∙ sym (ap (λ b. cond {A = ℕ} b 1 0) (le-ltb k (length e.more) h)))
+            (λ (h : k < length e.more). ap length (sym (e.tells.at k)) ∙ row_in 0 k w.items (omega arith) (omega (arith, len))
+            ∙ sym (ap (λ b. cond {A = ℕ} b 1 0) (lt-ltb k (length e.more) h)))
+            (λ (h : length e.more ≤ k). ap length (sym (e.tells.at k)) ∙ ap length (row_above 0 k w.items (omega (arith, len)))
+            ∙ sym (ap (λ b. cond {A = ℕ} b 1 0) (le-ltb k (length e.more) h)))
             (cases_lt k (length e.more));
       }
 
@@ -128,7 +134,8 @@ module _ {T C : Type 0} where
       λ i. map (λ tail. record { items = items i; tail = tail }) (tails i)
 
   -- lawful pieces are accepted, and close the run
-  module _ (run count : ℕ) (tail : C) (all : List (ℕ × T)) (len : count ≡ length all) (numbers : (k : ℕ) → length (bodies_at k all) ≡ cond (ltb k (length all)) 1 0) where
+  module _ (run count : ℕ) (tail : C) (all : List (ℕ × T)) (len : count ≡ length all)
+      (numbers : (k : ℕ) → length (bodies_at k all) ≡ cond (ltb k (length all)) 1 0) where
     at_most_one : (k : ℕ) → length (bodies_at k all) ≤ 1
     at_most_one k = ⊎_elim
         (λ (h : k < length all). let e = numbers k ∙ ap (λ b. cond {A = ℕ} b 1 0) (lt-ltb k (length all) h) in omega (arith, e))
@@ -136,23 +143,30 @@ module _ {T C : Type 0} where
         (cases_lt k (length all))
 
     there : (k : ℕ) → k < length all → bodies_at k all ≢ []
-    there k lt none = let one = numbers k ∙ ap (λ b. cond {A = ℕ} b 1 0) (lt-ltb k (length all) lt) in let zero_here : length (bodies_at k all) ≡ 0 = ap length none in omega (arith, one, zero_here)
+    there k lt none = let one = numbers k
+        ∙ ap (λ b. cond {A = ℕ} b 1 0) (lt-ltb k (length all) lt) in let zero_here : length (bodies_at k all) ≡ 0 =
+        ap length none in omega (arith, one, zero_here)
 
     none_before : (done more : List (ℕ × T)) (b : ℕ × T) → all ≡ done ++ b ∷ more → bodies_at b.0 done ≡ []
     none_before done more b is =
-        let parts : bodies_at b.0 all ≡ bodies_at b.0 done ++ b.1 ∷ bodies_at b.0 more = ap (bodies_at b.0) is ∙ of-append b.0 done (b ∷ more) ∙ ap (λ l. bodies_at b.0 done ++ l) (of_same b.0 b.1 more) in
+        let parts : bodies_at b.0 all ≡ bodies_at b.0 done ++ b.1 ∷ bodies_at b.0 more = ap (bodies_at b.0) is
+        ∙ of-append b.0 done (b ∷ more) ∙ ap (λ l. bodies_at b.0 done ++ l) (of_same b.0 b.1 more) in
         short (bodies_at b.0 done) b.1 (bodies_at b.0 more) (subst (λ l. length l ≤ 1) parts (at_most_one b.0))
 
-    pub closes : (es done more : List (ℕ × T)) → all ≡ done ++ more → Rising 0 es → Tells es done → Accepted (open_with es) (map (λ b. Item run b.0 b.1) more ++ Close run count tail ∷ [])
+    pub closes : (es done more : List (ℕ × T)) → all ≡ done ++ more → Rising 0 es → Tells es done
+        → Accepted (open_with es) (map (λ b. Item run b.0 b.1) more ++ Close run count tail ∷ [])
         × (is_none (run_after (open_with es) (map (λ b. Item run b.0 b.1) more ++ Close run count tail ∷ [])).tail ≡ false)
     closes es done [] is up t =
         let same : all ≡ done = is ∙ append-nil done in
         let total_length : length es ≡ count = t.len ∙ ap length (sym same) ∙ sym len in
-        let up_to : counts_up 0 count es ≡ true = counts 0 count es up (omega (arith, total_length)) (λ k low high none. there k (omega (arith, len)) (ap (bodies_at k) same ∙ sym (t.at k) ∙ none)) in
+        let up_to : counts_up 0 count es ≡ true =
+        counts 0 count es up (omega (arith, total_length))
+        (λ k low high none. there k (omega (arith, len)) (ap (bodies_at k) same ∙ sym (t.at k) ∙ none)) in
         ((ap (λ b. cond {A = Option Why} b None (Some Short)) up_to, tt), refl)
     closes es done (b ∷ more) is up t =
         let fresh : has_number b.0 es ≡ false = absent b.0 es (t.at b.0 ∙ none_before done more b is) in
-        let later = closes (insert_entry nat_cmp es b.0 b.1) (done ++ b ∷ []) more (is ∙ sym (append_assoc done (b ∷ []) more)) (rising-insert 0 b.0 b.1 es fresh (omega arith) up) (tells_more b.0 b.1 es done fresh t) in
+        let later = closes (insert_entry nat_cmp es b.0 b.1) (done ++ b ∷ []) more (is ∙ sym (append_assoc done (b ∷ []) more))
+        (rising-insert 0 b.0 b.1 es fresh (omega arith) up) (tells_more b.0 b.1 es done fresh t) in
         ((ap (λ c. cond {A = Option Why} c (Some Double) None) fresh, later.0), later.1)
 
   pub accepts_lawful : (run : ℕ) (ps : List (Piece T C)) → IsLawfulRun run ps → Accepted empty_run ps × (is_none (run_after empty_run ps).tail ≡ false)
@@ -161,7 +175,8 @@ module _ {T C : Type 0} where
       subst F (sym l.order) (closes run (length l.bodies) l.tail l.bodies refl l.numbers [] [] l.bodies refl tt (record { len = refl; at = λ k. refl }))
 
   -- a work's own pieces of a run are lawful
-  items_numbered : (run : ℕ) (item : ℕ → T) (l : List ℕ) → ◌≡◌ {A = List (Piece T C)} (map (λ s. Item run s (item s)) l) (map (λ (b : ℕ × T). Item run b.0 b.1) (map (λ s. (s, item s)) l))
+  items_numbered : (run : ℕ) (item : ℕ → T) (l : List ℕ)
+      → ◌≡◌ {A = List (Piece T C)} (map (λ s. Item run s (item s)) l) (map (λ (b : ℕ × T). Item run b.0 b.1) (map (λ s. (s, item s)) l))
   items_numbered run item [] = refl
   items_numbered run item (s ∷ l) = ap (λ r. Item run s (item s) ∷ r) (items_numbered run item l)
 
@@ -177,7 +192,9 @@ module _ {T C : Type 0} where
         tail = end;
         order = λ i. items_numbered run item (range_with_len 0 count) i ++ Close run (sym len i) end ∷ [];
         numbers = λ k. ⊎_elim
-            (λ (h : k < length bodies). ap (λ l. length (bodies_at k l)) row ∙ row_in 0 k xs (omega arith) (omega (arith, len, len_xs)) ∙ sym (ap (λ b. cond {A = ℕ} b 1 0) (lt-ltb k (length bodies) h)))
-            (λ (h : length bodies ≤ k). ap (λ l. length (bodies_at k l)) row ∙ ap length (row_above 0 k xs (omega (arith, len, len_xs))) ∙ sym (ap (λ b. cond {A = ℕ} b 1 0) (le-ltb k (length bodies) h)))
+            (λ (h : k < length bodies). ap (λ l. length (bodies_at k l)) row ∙ row_in 0 k xs (omega arith) (omega (arith, len, len_xs))
+            ∙ sym (ap (λ b. cond {A = ℕ} b 1 0) (lt-ltb k (length bodies) h)))
+            (λ (h : length bodies ≤ k). ap (λ l. length (bodies_at k l)) row ∙ ap length (row_above 0 k xs (omega (arith, len, len_xs)))
+            ∙ sym (ap (λ b. cond {A = ℕ} b 1 0) (le-ltb k (length bodies) h)))
             (cases_lt k (length bodies));
       }

@@ -48,16 +48,19 @@ module _ {T : Type 0} where
   insert_greater k v e es h = ap (λ o. match_ordering o ((k, v) ∷ e ∷ es) ((e.0, v) ∷ es) (e ∷ insert_entry nat_cmp es k v)) (cmp_greater k e.0 h)
 
   -- a number past the row goes among the early ones
-  pub insert_past_row : (a k : ℕ) (v : T) (xs : List T) (es : List (ℕ × T)) → a + length xs ≤ k → insert_entry nat_cmp (enumerate_from a xs ++ es) k v ≡ enumerate_from a xs ++ insert_entry nat_cmp es k v
+  pub insert_past_row : (a k : ℕ) (v : T) (xs : List T) (es : List (ℕ × T)) → a + length xs ≤ k
+      → insert_entry nat_cmp (enumerate_from a xs ++ es) k v ≡ enumerate_from a xs ++ insert_entry nat_cmp es k v
   insert_past_row a k v [] es high = refl
-  insert_past_row a k v (x ∷ xs) es high = insert_greater k v (a, x) (enumerate_from (a + 1) xs ++ es) (omega arith) ∙ ap (λ l. (a, x) ∷ l) (insert_past_row (a + 1) k v xs es (omega arith))
+  insert_past_row a k v (x ∷ xs) es high = insert_greater k v (a, x) (enumerate_from (a + 1) xs ++ es) (omega arith)
+      ∙ ap (λ l. (a, x) ∷ l) (insert_past_row (a + 1) k v xs es (omega arith))
 
   -- a number below all goes before all
   pub insert_below : (k : ℕ) (v : T) (es : List (ℕ × T)) → all_from k es ≡ true → has_number k es ≡ false → insert_entry nat_cmp es k v ≡ (k, v) ∷ es
   insert_below k v [] low none = refl
   insert_below k v (e ∷ es) low none =
       ⊎_elim (λ (h : k ≡ e.0). absurd (true≢false (sym (has_here k e es h) ∙ none)))
-      (λ o. ⊎_elim (λ (h : k < e.0). insert_less k v e es h) (λ (h : e.0 < k). absurd (let low' = leb-true k e.0 (and_parts _ _ low).0 in omega arith)) o) (cases_order k e.0)
+      (λ o. ⊎_elim (λ (h : k < e.0). insert_less k v e es h)
+      (λ (h : e.0 < k). absurd (let low' = leb-true k e.0 (and_parts _ _ low).0 in omega arith)) o) (cases_order k e.0)
 
   pub enumerate-push : (a : ℕ) (xs : List T) (x : T) → enumerate_from a (xs ++ x ∷ []) ≡ enumerate_from a xs ++ (a + length xs, x) ∷ []
   enumerate-push a [] x = ap (λ n. (n, x) ∷ []) (omega arith)
@@ -68,7 +71,8 @@ module _ {T : Type 0} where
       → insert_entry nat_cmp (enumerate_from 0 xs ++ es) k v ≡ enumerate_from 0 (xs ++ v ∷ []) ++ es
   insert_next k v xs es is low none =
       insert_past_row 0 k v xs es (omega arith) ∙ ap (λ l. enumerate_from 0 xs ++ l) (insert_below k v es low none)
-      ∙ sym (append_assoc (enumerate_from 0 xs) ((k, v) ∷ []) es) ∙ ap (λ (l : List (ℕ × T)). l ++ es) (ap (λ n. enumerate_from 0 xs ++ (n, v) ∷ []) (omega arith) ∙ sym (enumerate-push 0 xs v))
+      ∙ sym (append_assoc (enumerate_from 0 xs) ((k, v) ∷ []) es)
+      ∙ ap (λ (l : List (ℕ × T)). l ++ es) (ap (λ n. enumerate_from 0 xs ++ (n, v) ∷ []) (omega arith) ∙ sym (enumerate-push 0 xs v))
 
   -- what is from k on, without k, is from k + 1 on
   pub all_from_next : (k : ℕ) (es : List (ℕ × T)) → all_from k es ≡ true → has_number k es ≡ false → all_from (k + 1) es ≡ true
@@ -81,7 +85,8 @@ module _ {T : Type 0} where
   pub all_from-insert : (n k : ℕ) (v : T) (es : List (ℕ × T)) → n ≤ k → all_from n es ≡ true → all_from n (insert_entry nat_cmp es k v) ≡ true
   all_from-insert n k v [] h low = and_from _ _ (le-leb n k h) refl
   all_from-insert n k v (e ∷ es) h low = let parts = and_parts _ _ low in
-      ⊎_elim (λ (i : k ≡ e.0). let P : Ordering → Type 0 = λ o. all_from n (match_ordering o ((k, v) ∷ e ∷ es) ((e.0, v) ∷ es) (e ∷ insert_entry nat_cmp es k v)) ≡ true in
+      ⊎_elim (λ (i : k ≡ e.0). let P : Ordering
+      → Type 0 = λ o. all_from n (match_ordering o ((k, v) ∷ e ∷ es) ((e.0, v) ∷ es) (e ∷ insert_entry nat_cmp es k v)) ≡ true in
       subst P (sym (cmp_equal k e.0 i)) low)
       (λ o. ⊎_elim (λ (i : k < e.0). ap (all_from n) (insert_less k v e es i) ∙ and_from _ _ (le-leb n k h) low)
       (λ (i : e.0 < k). ap (all_from n) (insert_greater k v e es i) ∙ and_from _ _ parts.0 (all_from-insert n k v es h parts.1)) o) (cases_order k e.0)
@@ -99,7 +104,8 @@ module _ {T : Type 0} where
 
   pub enumerate-append : (a : ℕ) (xs ys : List T) → enumerate_from a (xs ++ ys) ≡ enumerate_from a xs ++ enumerate_from (a + length xs) ys
   enumerate-append a [] ys = ap (λ n. enumerate_from n ys) (omega arith)
-  enumerate-append a (x ∷ xs) ys = ap (λ l. (a, x) ∷ l) (enumerate-append (a + 1) xs ys ∙ ap (λ n. enumerate_from (a + 1) xs ++ enumerate_from n ys) (omega arith))
+  enumerate-append a (x ∷ xs) ys =
+      ap (λ l. (a, x) ∷ l) (enumerate-append (a + 1) xs ys ∙ ap (λ n. enumerate_from (a + 1) xs ++ enumerate_from n ys) (omega arith))
 
   -- an absent number is past the row, and no early one
   pub absent : (k : ℕ) (xs : List T) (es : List (ℕ × T)) → has_number k (enumerate_from 0 xs ++ es) ≡ false → (length xs ≤ k) × (has_number k es ≡ false)
@@ -108,7 +114,8 @@ module _ {T : Type 0} where
       (λ (h : length xs ≤ k). (h, sym (has_past_row 0 k xs es (omega arith)) ∙ none)) (cases_lt k (length xs))
 
   -- a row followed by early bodies, consecutive together, is one list
-  pub list_of : (count : ℕ) (xs : List T) (es : List (ℕ × T)) → counts_up 0 count (enumerate_from 0 xs ++ es) ≡ true → enumerate_from 0 xs ++ es ≡ enumerate_from 0 (xs ++ map (λ e. e.1) es)
+  pub list_of : (count : ℕ) (xs : List T) (es : List (ℕ × T)) → counts_up 0 count (enumerate_from 0 xs ++ es) ≡ true
+      → enumerate_from 0 xs ++ es ≡ enumerate_from 0 (xs ++ map (λ e. e.1) es)
   list_of count xs es h =
       let rest : counts_up (length xs) count es ≡ true = ap (λ n. counts_up n count es) (omega arith) ∙ sym (counts_through_row 0 count xs es) ∙ h in
       ap (λ (l : List (ℕ × T)). enumerate_from 0 xs ++ l) (counted (length xs) count es rest)

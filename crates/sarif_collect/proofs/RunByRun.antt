@@ -42,10 +42,12 @@ module _ {T C : Type 0} where
       (cases_eq (run_in p) run)
 
   -- one piece
-  pub with_same : (runs : List (Held T C)) (p : Piece T C) (h : Held T C) → slice_get runs (run_in p) ≡ Some h → slice_get (with_piece runs p) (run_in p) ≡ Some (step_at h p)
+  pub with_same : (runs : List (Held T C)) (p : Piece T C) (h : Held T C) → slice_get runs (run_in p) ≡ Some h
+      → slice_get (with_piece runs p) (run_in p) ≡ Some (step_at h p)
   with_same runs p h at = ap (λ o. slice_get (set_in runs o p) (run_in p)) at ∙ slice_get-set_same runs (run_in p) (step_at h p) h at
 
-  pub with_other_by : (runs : List (Held T C)) (p : Piece T C) (o : Option (Held T C)) (run : ℕ) → (run_in p ≡ run → ⊥) → slice_get (set_in runs o p) run ≡ slice_get runs run
+  pub with_other_by : (runs : List (Held T C)) (p : Piece T C) (o : Option (Held T C)) (run : ℕ) → (run_in p ≡ run → ⊥)
+      → slice_get (set_in runs o p) run ≡ slice_get runs run
   with_other_by runs p None run n = refl
   with_other_by runs p (Some h) run n = slice_get-set_other runs (run_in p) run (step_at h p) n
 
@@ -54,7 +56,8 @@ module _ {T C : Type 0} where
   length_by runs p (Some h) = length-set runs (run_in p) (step_at h p)
 
   -- all pieces: each run ends as its own pieces leave it
-  pub run_by_run : (runs : List (Held T C)) (ps : List (Piece T C)) (run : ℕ) (h : Held T C) → slice_get runs run ≡ Some h → slice_get (all_after runs ps) run ≡ Some (run_after h (on_run run ps))
+  pub run_by_run : (runs : List (Held T C)) (ps : List (Piece T C)) (run : ℕ) (h : Held T C) → slice_get runs run ≡ Some h
+      → slice_get (all_after runs ps) run ≡ Some (run_after h (on_run run ps))
   run_by_run runs [] run h at = at
   run_by_run runs (p ∷ ps) run h at = ⊎_elim
       (λ (e : run_in p ≡ run).
@@ -62,7 +65,8 @@ module _ {T C : Type 0} where
       run_by_run (with_piece runs p) ps run (step_at h p) (ap (slice_get (with_piece runs p)) (sym e) ∙ with_same runs p h there)
       ∙ ap (λ l. Some (run_after h l)) (sym (on_same run p ps e)))
       (λ (n : run_in p ≡ run → ⊥).
-      run_by_run (with_piece runs p) ps run h (with_other_by runs p (slice_get runs (run_in p)) run n ∙ at) ∙ ap (λ l. Some (run_after h l)) (sym (on_other run p ps n)))
+      run_by_run (with_piece runs p) ps run h (with_other_by runs p (slice_get runs (run_in p)) run n ∙ at)
+      ∙ ap (λ l. Some (run_after h l)) (sym (on_other run p ps n)))
       (cases_eq (run_in p) run)
 
   pub length-all_after : (runs : List (Held T C)) (ps : List (Piece T C)) → length (all_after runs ps) ≡ length runs
@@ -74,22 +78,28 @@ module _ {T C : Type 0} where
   run_after-append h (p ∷ a) b = run_after-append (step_at h p) a b
 
   -- one more item in order
-  item_after : (run : ℕ) (x : T) (xs : List T) → step_at {C = C} (record { bodies = enumerate_from 0 xs; tail = None }) (Item run (length xs) x) ≡ record { bodies = enumerate_from 0 (xs ++ x ∷ []); tail = None }
+  item_after : (run : ℕ) (x : T) (xs : List T)
+      → step_at {C = C} (record { bodies = enumerate_from 0 xs; tail = None }) (Item run (length xs) x)
+      ≡ record { bodies = enumerate_from 0 (xs ++ x ∷ []); tail = None }
   item_after run x xs =
       ap (λ l. record { bodies = l; tail = None })
-      (ap (λ l. insert_entry nat_cmp l (length xs) x) (sym (append-nil (enumerate_from 0 xs))) ∙ insert_next (length xs) x xs [] refl refl refl ∙ append-nil (enumerate_from 0 (xs ++ x ∷ [])))
+      (ap (λ l. insert_entry nat_cmp l (length xs) x) (sym (append-nil (enumerate_from 0 xs)))
+      ∙ insert_next (length xs) x xs [] refl refl refl ∙ append-nil (enumerate_from 0 (xs ++ x ∷ [])))
 
   -- the items of a run, in their order, from any number on
   items_after : (run : ℕ) (item : ℕ → T) (n a : ℕ) (xs : List T) → a ≡ length xs
-      → run_after {C = C} (record { bodies = enumerate_from 0 xs; tail = None }) (map (λ s. Item run s (item s)) (range_with_len a n)) ≡ record { bodies = enumerate_from 0 (xs ++ map item (range_with_len a n)); tail = None }
+      → run_after {C = C} (record { bodies = enumerate_from 0 xs; tail = None }) (map (λ s. Item run s (item s)) (range_with_len a n))
+      ≡ record { bodies = enumerate_from 0 (xs ++ map item (range_with_len a n)); tail = None }
   items_after run item zero a xs is = ap (λ l. record { bodies = enumerate_from 0 l; tail = None }) (sym (append-nil xs))
   items_after run item (suc n) a xs is =
-      ap (λ h. run_after h (map (λ s. Item run s (item s)) (range_with_len (a + 1) n))) (ap (λ k. step_at {C = C} (record { bodies = enumerate_from 0 xs; tail = None }) (Item run k (item a))) is ∙ item_after run (item a) xs)
+      ap (λ h. run_after h (map (λ s. Item run s (item s)) (range_with_len (a + 1) n)))
+      (ap (λ k. step_at {C = C} (record { bodies = enumerate_from 0 xs; tail = None }) (Item run k (item a))) is ∙ item_after run (item a) xs)
       ∙ items_after run item n (a + 1) (xs ++ item a ∷ []) (ap (λ k. k + 1) is ∙ sym (length_push xs (item a)))
       ∙ ap (λ l. record { bodies = enumerate_from 0 l; tail = None }) (append_assoc xs (item a ∷ []) (map item (range_with_len (a + 1) n)))
 
   -- a run's own pieces, as a work sends them, close it with its items and its tail
-  pub run_after-pieces : (run : ℕ) (item : ℕ → T) (count : ℕ) (end : C) → run_after empty_run (pieces_of run item count end) ≡ closed_run (whole_run count item end)
+  pub run_after-pieces : (run : ℕ) (item : ℕ → T) (count : ℕ) (end : C)
+      → run_after empty_run (pieces_of run item count end) ≡ closed_run (whole_run count item end)
   run_after-pieces run item count end =
       run_after-append empty_run (map (λ s. Item run s (item s)) (range_with_len 0 count)) (Close run count end ∷ [])
       ∙ ap (λ h. run_after h (Close run count end ∷ [])) (items_after run item count 0 [] refl)

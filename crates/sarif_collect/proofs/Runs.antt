@@ -16,9 +16,11 @@ set_same (y ∷ ys) zero x at = ap (λ z. z ∷ ys) (sym (cc))
 set_same (y ∷ ys) (suc i) x at = ap (λ zs. y ∷ zs) (set_same ys i x at)
 
 -- A step on the slot i, which holds `old`, is the step on the run that the piece names
-module _ {S T C : Type 0} (held : S → Held T C) (xs : List S) (runs : List (Held T C)) (is : map held xs ≡ runs) (piece : Piece T C) (i : ℕ) (run : i ≡ run_in piece) (within : i < length xs) (old : S) (at : old ≡ get_or xs i old) where
+module _ {S T C : Type 0} (held : S → Held T C) (xs : List S) (runs : List (Held T C)) (is : map held xs ≡ runs) (piece : Piece T C) (i : ℕ)
+    (run : i ≡ run_in piece) (within : i < length xs) (old : S) (at : old ≡ get_or xs i old) where
   there : slice_get runs (run_in piece) ≡ Some (held old)
-  there = ap (λ r. slice_get r (run_in piece)) (sym is) ∙ slice_get-map held xs (run_in piece) ∙ ap (option_map held) (ap (slice_get xs) (sym run) ∙ slice_get_read xs (length xs) i old refl within at)
+  there = ap (λ r. slice_get r (run_in piece)) (sym is) ∙ slice_get-map held xs (run_in piece)
+      ∙ ap (option_map held) (ap (slice_get xs) (sym run) ∙ slice_get_read xs (length xs) i old refl within at)
 
   refusal_there : refusal_of runs piece ≡ refusal_at (held old) piece
   refusal_there = ap (λ o. refusal_in o piece) there
@@ -34,10 +36,12 @@ module _ {S T C : Type 0} (held : S → Held T C) (xs : List S) (runs : List (He
   taken (Ok u) new h = (refusal_there ∙ h.0, taken_there new h.1)
   taken (Err e) new h = tt
 
-  pub same : (r : Result (Unit {0}) (Refused T C)) (new : S) → IfErr r (λ e. (new ≡ old) × (e.piece ≡ piece)) → IfErr r (λ e. (map held (set xs i new) ≡ runs) × (e.piece ≡ piece))
+  pub same : (r : Result (Unit {0}) (Refused T C)) (new : S) → IfErr r (λ e. (new ≡ old) × (e.piece ≡ piece))
+      → IfErr r (λ e. (map held (set xs i new) ≡ runs) × (e.piece ≡ piece))
   same (Ok u) new h = tt
   same (Err e) new h = (same_there new h.0, h.1)
 
-  pub why : (r : Result (Unit {0}) (Refused T C)) → IfErr r (λ e. IsReason (refusal_at (held old) piece) e.why) → IfErr r (λ e. IsReason (refusal_of runs piece) e.why)
+  pub why : (r : Result (Unit {0}) (Refused T C)) → IfErr r (λ e. IsReason (refusal_at (held old) piece) e.why)
+      → IfErr r (λ e. IsReason (refusal_of runs piece) e.why)
   why (Ok u) h = tt
   why (Err e) h = rw refusal_there h

@@ -1,4 +1,4 @@
--- Closed runs as a collector has them.
+-- Closed runs in a collector.
 use Rattle.std.proofs.Common.{◌≡◌, ℕ, ◌+◌, Bool, true, false, List, [], ◌∷◌, map, Option, Some, None, cond, refl, sym, ap, ◌∙◌, zero, suc}
 use Rattle.std.specs.Prelude.{slice_get, is_none}
 use Rattle.std.specs.List.{enumerate_from, position_from}
@@ -23,7 +23,7 @@ module _ {T : Type 0} where
       λ i. (head i).1 ∷ items_again (a + 1) xs ys tail i
 
 module _ {T C : Type 0} where
-  -- closed runs as a collector has them determine the runs
+  -- a closed run in a collector determines the run
   closed_again : (v w : Whole T C) → closed_run v ≡ closed_run w → v ≡ w
   closed_again v w e =
       let items = items_again 0 v.items w.items (ap (λ h. h.bodies) e) in
@@ -48,7 +48,9 @@ module _ {T C : Type 0} where
   no_open ws = none_open 0 ws
 
   -- if no run is open, each is closed
-  pub closed_at : (n : ℕ) (hs : List (Held T C)) → position_from (λ h. is_none h.tail) n hs ≡ None → (k : ℕ) (h : Held T C) → slice_get hs k ≡ Some h → is_none h.tail ≡ false
+  pub closed_at : (n : ℕ) (hs : List (Held T C)) → position_from (λ h. is_none h.tail) n hs ≡ None → (k : ℕ) (h : Held T C)
+      → slice_get hs k ≡ Some h → is_none h.tail ≡ false
   closed_at n [] none k h at = absurd (cc)
-  closed_at n (g ∷ hs) none zero h at = let same : g ≡ h = cc in ap (λ r. is_none r.tail) (sym same) ∙ closed_head (is_none g.tail) n (position_from (λ r. is_none r.tail) (n + 1) hs) none
+  closed_at n (g ∷ hs) none zero h at = let same : g ≡ h = cc in ap (λ r. is_none r.tail) (sym same)
+      ∙ closed_head (is_none g.tail) n (position_from (λ r. is_none r.tail) (n + 1) hs) none
   closed_at n (g ∷ hs) none (suc k) h at = closed_at (n + 1) hs (closed_rest (is_none g.tail) n (position_from (λ r. is_none r.tail) (n + 1) hs) none) k h at

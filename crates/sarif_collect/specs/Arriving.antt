@@ -13,7 +13,7 @@ module _ {T C : Type 0} where
   AllAccepted runs (piece ∷ pieces) =
       (refusal_of runs piece ≡ None) × AllAccepted (with_piece runs piece) pieces
 
-  -- this is the first reason against the arrival at this position
+  -- there is a reason against the arrival at this position, and this is the first one
   abbrev pub RefusesAt : List (Held T C) → List (Piece T C) → ℕ → Why → Type 0
   RefusesAt runs arrivals at why =
       (piece : Piece T C)

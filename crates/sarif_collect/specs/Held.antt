@@ -15,7 +15,7 @@ module _ {T C : Type 0} where
   abbrev pub empty_run : Held T C
   empty_run = record { bodies = []; tail = None }
 
-  -- a closed run as a collector has it: the items are numbered from 0
+  -- a closed run in a collector: the items are numbered from 0
   abbrev pub closed_run : Whole T C → Held T C
   closed_run w = record { bodies = enumerate_from 0 w.items; tail = Some w.tail }
 

@@ -1,4 +1,4 @@
-//! A collector puts the numbered pieces of a work's runs together again, in whatever order they arrive.
+//! A collector puts the numbered pieces of a work's runs together again, in any order of arrival.
 //! `whole.rt` has the call for a whole list of arrivals, which the merge doesn't make.
 #![tactic(auto)]
 

@@ -40,7 +40,8 @@ total_le f g [] le = omega arith
 total_le f g (u ∷ vs) le = let h = total_le f g vs (λ j w at. le (suc j) w at) in let here = le 0 u refl in omega arith
 
 -- if one has all of g, it has all of f
-pub total_whole : {A : Type 0} (f g : A → ℕ) (vs : List A) (i : ℕ) (v : A) → get_elem? vs i ≡ some v → g v ≡ total g vs → ((j : ℕ) (u : A) → get_elem? vs j ≡ some u → g u ≡ 0 → f u ≡ 0) → total f vs ≡ f v
+pub total_whole : {A : Type 0} (f g : A → ℕ) (vs : List A) (i : ℕ) (v : A) → get_elem? vs i ≡ some v → g v ≡ total g vs
+    → ((j : ℕ) (u : A) → get_elem? vs j ≡ some u → g u ≡ 0 → f u ≡ 0) → total f vs ≡ f v
 total_whole f g [] i v at whole none = absurd (some-ne-none v (sym at))
 total_whole f g (u ∷ vs) zero v at whole none =
     let same : u ≡ v = some-injective u v at in
@@ -59,10 +60,13 @@ fits_more k c d v le h = record { marks = h.marks; spent = λ m. (let s = h.spen
 
 once_more : (x c runs : ℕ) → c < runs → once_below x (min (c + 1) runs) ≡ once_below x (min c runs) + cond (eqb c x) 1 0
 once_more x c runs lt = ⊎_elim
-    (λ (e : x ≡ c). ap (λ b. cond b 1 0) (lt-ltb x (min (c + 1) runs) (omega arith)) ∙ sym (λ i. cond (le-ltb x (min c runs) (omega arith) i) 1 0 + cond (eq-eqb c x (sym e) i) 1 0))
+    (λ (e : x ≡ c). ap (λ b. cond b 1 0) (lt-ltb x (min (c + 1) runs) (omega arith))
+    ∙ sym (λ i. cond (le-ltb x (min c runs) (omega arith) i) 1 0 + cond (eq-eqb c x (sym e) i) 1 0))
     (λ o. ⊎_elim
-    (λ (l : x < c). ap (λ b. cond b 1 0) (lt-ltb x (min (c + 1) runs) (omega arith)) ∙ sym (λ i. cond (lt-ltb x (min c runs) (omega arith) i) 1 0 + cond (ne_eqb c x (λ q. omega arith) i) 1 0))
-    (λ (g : c < x). ap (λ b. cond b 1 0) (le-ltb x (min (c + 1) runs) (omega arith)) ∙ sym (λ i. cond (le-ltb x (min c runs) (omega arith) i) 1 0 + cond (ne_eqb c x (λ q. omega arith) i) 1 0))
+    (λ (l : x < c). ap (λ b. cond b 1 0) (lt-ltb x (min (c + 1) runs) (omega arith))
+    ∙ sym (λ i. cond (lt-ltb x (min c runs) (omega arith) i) 1 0 + cond (ne_eqb c x (λ q. omega arith) i) 1 0))
+    (λ (g : c < x). ap (λ b. cond b 1 0) (le-ltb x (min (c + 1) runs) (omega arith))
+    ∙ sym (λ i. cond (le-ltb x (min c runs) (omega arith) i) 1 0 + cond (ne_eqb c x (λ q. omega arith) i) 1 0))
     o)
     (cases_order x c)
 
@@ -70,7 +74,8 @@ once_same : (x c runs : ℕ) → runs ≤ c → once_below x (min (c + 1) runs) 
 once_same x c runs le = ap (once_below x) (omega arith)
 
 -- the deal after a draw by a hand that found a run so far
-module _ (k : Terms) (s : State (Unit {0}) HandView) (id : ℕ) (v : HandView) (h : Dealt k s) (at : get_elem? s.views id ≡ some v) (part : 0 < v.parts) (unmarked : v.marks < v.parts) where
+module _ (k : Terms) (s : State (Unit {0}) HandView) (id : ℕ) (v : HandView) (h : Dealt k s) (at : get_elem? s.views id ≡ some v)
+    (part : 0 < v.parts) (unmarked : v.marks < v.parts) where
   small_word : slice_index s.words 0 + 1 < 2 ^ 64
   small_word =
       let marks = total_le (λ u. u.marks) (λ u. u.parts) s.views (λ j u a. (h.each j u a).marks) in
@@ -79,18 +84,33 @@ module _ (k : Terms) (s : State (Unit {0}) HandView) (id : ℕ) (v : HandView) (
   word_after : (n : ℕ) → slice_index (set s.words 0 n) 0 ≡ n
   word_after n = get_or-set_same s.words 0 n 0 h.words
 
-  took : (c : ℕ) → slice_index s.words 0 ≡ c → c < k.runs → Dealt k record { words = set s.words 0 (c + 1); homes = s.homes; views = set s.views id (hand_view v.runs v.hands v.parts v.marks (v.drawn ++ c ∷ [])) }
+  took : (c : ℕ) → slice_index s.words 0 ≡ c → c < k.runs
+      → Dealt k record {
+        words = set s.words 0 (c + 1);
+        homes = s.homes;
+        views =
+            set s.views id (hand_view v.runs v.hands v.parts v.marks (v.drawn ++ c ∷ []));
+      }
   took c is lt =
       let w : HandView = hand_view v.runs v.hands v.parts v.marks (v.drawn ++ c ∷ []) in
       let mine = h.each id v at in
       let after = word_after (c + 1) in
-      let fit : Fits k (c + 1) w = record { marks = mine.marks; spent = λ m. (let r = mine.spent m in omega arith); terms = mine.terms; behind = λ p. absurd (omega arith) } in
+      let fit : Fits k (c + 1) w =
+      record {
+        marks = mine.marks;
+        spent = λ m. (let r = mine.spent m in omega arith);
+        terms = mine.terms;
+        behind =
+            λ p. absurd (omega arith);
+      } in
       record {
         words = (let l = length-set s.words 0 (c + 1) in let was = h.words in omega arith);
         small = h.small;
         parts = (let t = total_set (λ u. u.parts) s.views id v w at in let was = h.parts in omega arith);
         word = omega arith;
-        each = λ j u a. subst (λ n. Fits k n u) (sym after) (⊎_elim (λ e. subst (λ q. Fits k (c + 1) q) e.1 fit) (λ e. fits_more k (slice_index s.words 0) (c + 1) u (omega arith) (h.each j u e.1)) (at_set s.views id j w u a));
+        each = λ j u a. subst (λ n. Fits k n u) (sym after)
+            (⊎_elim (λ e. subst (λ q. Fits k (c + 1) q) e.1 fit)
+            (λ e. fits_more k (slice_index s.words 0) (c + 1) u (omega arith) (h.each j u e.1)) (at_set s.views id j w u a));
         drawn = λ x.
             let t = total_set (λ u. times x u.drawn) s.views id v w at in
             let more = times-append x v.drawn (c ∷ []) in
@@ -100,7 +120,13 @@ module _ (k : Terms) (s : State (Unit {0}) HandView) (id : ℕ) (v : HandView) (
             goal ∙ ap (λ n. once_below x (min n k.runs)) (sym after);
       }
 
-  found_none : (c : ℕ) → slice_index s.words 0 ≡ c → k.runs ≤ c → Dealt k record { words = set s.words 0 (c + 1); homes = s.homes; views = set s.views id (hand_view v.runs v.hands v.parts (v.marks + 1) v.drawn) }
+  found_none : (c : ℕ) → slice_index s.words 0 ≡ c → k.runs ≤ c
+      → Dealt k record {
+        words = set s.words 0 (c + 1);
+        homes = s.homes;
+        views =
+            set s.views id (hand_view v.runs v.hands v.parts (v.marks + 1) v.drawn);
+      }
   found_none c is le =
       let w : HandView = hand_view v.runs v.hands v.parts (v.marks + 1) v.drawn in
       let mine = h.each id v at in
@@ -111,7 +137,9 @@ module _ (k : Terms) (s : State (Unit {0}) HandView) (id : ℕ) (v : HandView) (
         small = h.small;
         parts = (let t = total_set (λ u. u.parts) s.views id v w at in let was = h.parts in omega arith);
         word = (let t = total_set (λ u. u.marks) s.views id v w at in let was = h.word in omega arith);
-        each = λ j u a. subst (λ n. Fits k n u) (sym after) (⊎_elim (λ e. subst (λ q. Fits k (c + 1) q) e.1 fit) (λ e. fits_more k (slice_index s.words 0) (c + 1) u (omega arith) (h.each j u e.1)) (at_set s.views id j w u a));
+        each = λ j u a. subst (λ n. Fits k n u) (sym after)
+            (⊎_elim (λ e. subst (λ q. Fits k (c + 1) q) e.1 fit)
+            (λ e. fits_more k (slice_index s.words 0) (c + 1) u (omega arith) (h.each j u e.1)) (at_set s.views id j w u a));
         drawn = λ x.
             let t = total_set (λ u. times x u.drawn) s.views id v w at in
             let was : total (λ u. times x u.drawn) s.views ≡ once_below x (min c k.runs) = h.drawn x ∙ ap (λ n. once_below x (min n k.runs)) is in
@@ -126,8 +154,16 @@ module _ (k : Terms) (s : State (Unit {0}) HandView) (id : ℕ) (v : HandView) (
       let runs : v.runs ≡ k.runs = ((h.each id v at).terms part).0 in
       let F : HandView → Type 0 = λ w. Dealt k record { words = set s.words 0 (c + 1); homes = s.homes; views = set s.views id w } in
       ⊎_elim
-      (λ (lt : c < v.runs). subst F (sym (ap (λ b. cond b (hand_view v.runs v.hands v.parts v.marks (v.drawn ++ c ∷ [])) (hand_view v.runs v.hands v.parts (v.marks + 1) v.drawn)) (lt-ltb c v.runs lt))) (took c refl (omega arith)))
-      (λ (le : v.runs ≤ c). subst F (sym (ap (λ b. cond b (hand_view v.runs v.hands v.parts v.marks (v.drawn ++ c ∷ [])) (hand_view v.runs v.hands v.parts (v.marks + 1) v.drawn)) (le-ltb c v.runs le))) (found_none c refl (omega arith)))
+      (λ (lt : c < v.runs). subst F
+      (sym
+      (ap
+      (λ b. cond b (hand_view v.runs v.hands v.parts v.marks (v.drawn ++ c ∷ [])) (hand_view v.runs v.hands v.parts (v.marks + 1) v.drawn))
+      (lt-ltb c v.runs lt))) (took c refl (omega arith)))
+      (λ (le : v.runs ≤ c). subst F
+      (sym
+      (ap
+      (λ b. cond b (hand_view v.runs v.hands v.parts v.marks (v.drawn ++ c ∷ [])) (hand_view v.runs v.hands v.parts (v.marks + 1) v.drawn))
+      (le-ltb c v.runs le))) (found_none c refl (omega arith)))
       (cases_lt c v.runs)
 
 -- a draw, by a hand that found a run so far
@@ -139,12 +175,15 @@ draws k slots id me part unmarked s h len at fits =
     (drew c me.0, keeps, tt, subst F (sym (mod-eq_of_lt (small_word k s id me.0 h at part unmarked))) (drawn_after k s id me.0 h at part unmarked), refl)
 
 -- a look at the word
-pub counts : (k : Terms) (slots id : ℕ) (me : Me (Unit {0}) HandView) → Allows (Dealt k) slots id me 0 (λ n. n) (λ found after. (after ≡ me) × Learns me.0 found)
+pub counts : (k : Terms) (slots id : ℕ) (me : Me (Unit {0}) HandView)
+    → Allows (Dealt k) slots id me 0 (λ n. n) (λ found after. (after ≡ me) × Learns me.0 found)
 counts k slots id me s h len at fits =
     let c = slice_index s.words 0 in
     let mine = h.each id me.0 at in
     let F : List ℕ → List HandView → Type 0 = λ ws vs. Dealt k record { words = ws; homes = s.homes; views = vs } in
-    let same : F (set s.words 0 c) (set s.views id me.0) = subst (λ ws. F ws (set s.views id me.0)) (sym (set-get_or s.words 0 0)) (subst (λ vs. F s.words vs) (sym (set_again s.views id me.0 at)) h) in (
+    let same : F (set s.words 0 c) (set s.views id me.0) =
+    subst (λ ws. F ws (set s.views id me.0)) (sym (set-get_or s.words 0 0))
+    (subst (λ vs. F s.words vs) (sym (set_again s.views id me.0 at)) h) in (
       me.0,
       keeps,
       tt,
@@ -155,14 +194,16 @@ counts k slots id me s h len at fits =
           spent = λ m. (let r = mine.spent m in let t = mine.terms (let le = mine.marks in omega arith) in omega (arith, t.0));
           drawn = λ all part x.
               let t = mine.terms part in
-              let whole = total_whole (λ u. times x u.drawn) (λ u. u.parts) s.views id me.0 at (all ∙ t.1 ∙ sym h.parts) (λ j u a none. ap (times x) ((h.each j u a).behind none)) in
+              let whole = total_whole (λ u. times x u.drawn) (λ u. u.parts) s.views id me.0 at (all ∙ t.1 ∙ sym h.parts)
+              (λ j u a none. ap (times x) ((h.each j u a).behind none)) in
               sym whole ∙ h.drawn x ∙ ap (λ n. once_below x (min c n)) (sym t.0);
         },
       ),
     )
 
 -- a hand is split off a seat that drew nothing
-pub splits : (k : Terms) (id : ℕ) (v : HandView) → 0 < v.parts → v.marks ≡ 0 → v.drawn ≡ [] → Splits (Dealt k) id v (hand_view v.runs v.hands (v.parts - 1) v.marks v.drawn) (hand_view v.runs v.hands 1 0 [])
+pub splits : (k : Terms) (id : ℕ) (v : HandView) → 0 < v.parts → v.marks ≡ 0 → v.drawn ≡ []
+    → Splits (Dealt k) id v (hand_view v.runs v.hands (v.parts - 1) v.marks v.drawn) (hand_view v.runs v.hands 1 0 [])
 splits k id v part unmarked none s h at =
     let l : HandView = hand_view v.runs v.hands (v.parts - 1) v.marks v.drawn in
     let r : HandView = hand_view v.runs v.hands 1 0 [] in
@@ -176,7 +217,8 @@ splits k id v part unmarked none s h at =
       small = h.small;
       parts = (let t = total_set (λ u. u.parts) s.views id v l at in let p = total_push (λ u. u.parts) vs r in let was = h.parts in omega arith);
       word = (let t = total_set (λ u. u.marks) s.views id v l at in let p = total_push (λ u. u.marks) vs r in let was = h.word in omega arith);
-      each = λ j u a. ⊎_elim (λ a'. ⊎_elim (λ e. subst (λ q. Fits k c q) e.1 left) (λ e. h.each j u e.1) (at_set s.views id j l u a')) (λ e. subst (λ q. Fits k c q) e right) (at_snoc vs r u j a);
+      each = λ j u a. ⊎_elim (λ a'. ⊎_elim (λ e. subst (λ q. Fits k c q) e.1 left) (λ e. h.each j u e.1) (at_set s.views id j l u a'))
+          (λ e. subst (λ q. Fits k c q) e right) (at_snoc vs r u j a);
       drawn = λ x. let t = total_set (λ u. times x u.drawn) s.views id v l at in let p = total_push (λ u. times x u.drawn) vs r in let was = h.drawn x in
           let goal : total (λ u. times x u.drawn) (vs ++ r ∷ []) ≡ total (λ u. times x u.drawn) s.views = omega arith in goal ∙ was;
     }
@@ -204,7 +246,10 @@ joins k id v other w part s h at apart at' =
       small = h.small;
       parts = (let t = total_set (λ u. u.parts) s.views id v both at in let p = total_set (λ u. u.parts) vs other w gone at' in let q = h.parts in omega arith);
       word = (let t = total_set (λ u. u.marks) s.views id v both at in let p = total_set (λ u. u.marks) vs other w gone at' in let q = h.word in omega arith);
-      each = λ j u a. ⊎_elim (λ e. subst (λ q. Fits k c q) e.1 left) (λ e. ⊎_elim (λ f. subst (λ q. Fits k c q) f.1 fit) (λ f. h.each j u f.1) (at_set s.views id j both u e.1)) (at_set vs other j gone u a);
-      drawn = λ x. let t = total_set (λ u. times x u.drawn) s.views id v both at in let p = total_set (λ u. times x u.drawn) vs other w gone at' in let m = times-append x v.drawn w.drawn in
+      each = λ j u a. ⊎_elim (λ e. subst (λ q. Fits k c q) e.1 left)
+          (λ e. ⊎_elim (λ f. subst (λ q. Fits k c q) f.1 fit) (λ f. h.each j u f.1) (at_set s.views id j both u e.1))
+          (at_set vs other j gone u a);
+      drawn = λ x. let t = total_set (λ u. times x u.drawn) s.views id v both at in let p =
+          total_set (λ u. times x u.drawn) vs other w gone at' in let m = times-append x v.drawn w.drawn in
           let goal : total (λ u. times x u.drawn) (set vs other gone) ≡ total (λ u. times x u.drawn) s.views = omega arith in goal ∙ h.drawn x;
     }

@@ -37,11 +37,13 @@ module _ {P : Type 0} where
   of_other j k x h n = ap (λ c. map (λ e. e.1) (cond c ((j, x) ∷ filter (λ e. eqb e.0 k) h) (filter (λ e. eqb e.0 k) h))) (ne_eqb j k n)
 
   push_same : (k : ℕ) (x : P) (taken items : List (ℕ × P)) → of_sender k (taken ++ (items ++ (k, x) ∷ [])) ≡ of_sender k (taken ++ items) ++ x ∷ []
-  push_same k x taken items = ap (of_sender k) (sym (append_assoc taken items ((k, x) ∷ []))) ∙ of-append k (taken ++ items) ((k, x) ∷ []) ∙ ap (λ l. of_sender k (taken ++ items) ++ l) (of_same k x [])
+  push_same k x taken items = ap (of_sender k) (sym (append_assoc taken items ((k, x) ∷ []))) ∙ of-append k (taken ++ items) ((k, x) ∷ [])
+      ∙ ap (λ l. of_sender k (taken ++ items) ++ l) (of_same k x [])
 
   push_other : (j k : ℕ) (x : P) (taken items : List (ℕ × P)) → j ≢ k → of_sender k (taken ++ (items ++ (j, x) ∷ [])) ≡ of_sender k (taken ++ items)
   push_other j k x taken items n =
-      ap (of_sender k) (sym (append_assoc taken items ((j, x) ∷ []))) ∙ of-append k (taken ++ items) ((j, x) ∷ []) ∙ ap (λ l. of_sender k (taken ++ items) ++ l) (of_other j k x [] n) ∙ append-nil (of_sender k (taken ++ items))
+      ap (of_sender k) (sym (append_assoc taken items ((j, x) ∷ []))) ∙ of-append k (taken ++ items) ((j, x) ∷ [])
+      ∙ ap (λ l. of_sender k (taken ++ items) ++ l) (of_other j k x [] n) ∙ append-nil (of_sender k (taken ++ items))
 
   at_end : (l : List (View P)) (a b : View P) (i : ℕ) → get_elem? (l ++ a ∷ []) i ≡ some b → (get_elem? l i ≡ some b) ⊎ ((i ≡ length l) × (a ≡ b))
   at_end [] a b zero e = inr (refl, some-injective a b e)
@@ -58,15 +60,19 @@ module _ {P : Type 0} where
     past : (i k : ℕ) (s : List P) → get_elem? settled i ≡ some (k, s) → (s ≡ of_sender k (taken ++ items)) × (get_elem? views (suc k) ≡ some Gone)
 
   -- the taker has end 0
-  taker_at : (views : List (View P)) (port : ℕ) (t : List (ℕ × P)) (m : ℕ) (s : List (ℕ × List P)) (items : List (ℕ × P)) → Delivers items views → get_elem? views port ≡ some (Taker t m s) → port ≡ 0
+  taker_at : (views : List (View P)) (port : ℕ) (t : List (ℕ × P)) (m : ℕ) (s : List (ℕ × List P)) (items : List (ℕ × P))
+      → Delivers items views → get_elem? views port ≡ some (Taker t m s) → port ≡ 0
   taker_at views zero t m s items h at = refl
   taker_at views (suc k) t m s items h at = absurd (h.senders k (Taker t m s) at)
 
-  known : (views : List (View P)) (port : ℕ) (t : List (ℕ × P)) (m : ℕ) (s : List (ℕ × List P)) (items : List (ℕ × P)) → Delivers items views → get_elem? views port ≡ some (Taker t m s) → Known t m s items views
+  known : (views : List (View P)) (port : ℕ) (t : List (ℕ × P)) (m : ℕ) (s : List (ℕ × List P)) (items : List (ℕ × P))
+      → Delivers items views → get_elem? views port ≡ some (Taker t m s) → Known t m s items views
   known views port t m s items h at =
-      let is : Taker h.taken h.made h.settled ≡ Taker t m s = some-injective _ _ (sym h.taker ∙ ap (get_elem? views) (sym (taker_at views port t m s items h at)) ∙ at) in
+      let is : Taker h.taken h.made h.settled ≡ Taker t m s =
+      some-injective _ _ (sym h.taker ∙ ap (get_elem? views) (sym (taker_at views port t m s items h at)) ∙ at) in
       let F : View P → Type 0 = λ v. Known (taken_in v) (made_in v) (settled_in v) items views in
-      let here : F (Taker h.taken h.made h.settled) = record { taker = h.taker; count = h.count; senders = h.senders; strangers = h.strangers; past = h.past } in
+      let here : F (Taker h.taken h.made h.settled) =
+      record { taker = h.taker; count = h.count; senders = h.senders; strangers = h.strangers; past = h.past } in
       subst F is here
 
   pub begins : Delivers {P = P} [] (Taker [] 0 [] ∷ [])
@@ -98,7 +104,8 @@ module _ {P : Type 0} where
               (λ e. let same : j ≡ k' = omega arith in let F : View P → Type 0 = λ u. FitsSender (of_sender k' (h.taken ++ (items ++ (k, x) ∷ []))) k' u in
               subst F e.1 (
                 mine.0 ∙ same,
-                ap (λ l. l ++ x ∷ []) mine.1 ∙ ap (λ i. of_sender i (h.taken ++ items) ++ x ∷ []) (sym mine.0) ∙ sym (push_same k x h.taken items) ∙ ap (λ i. of_sender i (h.taken ++ (items ++ (k, x) ∷ []))) (mine.0 ∙ same),
+                ap (λ l. l ++ x ∷ []) mine.1 ∙ ap (λ i. of_sender i (h.taken ++ items) ++ x ∷ []) (sym mine.0)
+                    ∙ sym (push_same k x h.taken items) ∙ ap (λ i. of_sender i (h.taken ++ (items ++ (k, x) ∷ []))) (mine.0 ∙ same),
               ))
               (λ e. let other : k ≢ k' = λ q. e.0 (ap suc (sym q ∙ mine.0)) in
               subst (λ l. FitsSender l k' v) (sym (push_other k k' x h.taken items other)) (h.senders k' v e.1))
@@ -116,7 +123,8 @@ module _ {P : Type 0} where
   pops zero t m s x items views h at =
       let k = known views 0 t m s (x ∷ items) h at in
       let w : View P = Taker (t ++ x ∷ []) m s in
-      let moved : (n : ℕ) → of_sender n (t ++ x ∷ items) ≡ of_sender n ((t ++ x ∷ []) ++ items) = λ n. ap (of_sender n) (sym (append_assoc t (x ∷ []) items)) in (
+      let moved : (n : ℕ) → of_sender n (t ++ x ∷ items) ≡ of_sender n ((t ++ x ∷ []) ++ items) =
+      λ n. ap (of_sender n) (sym (append_assoc t (x ∷ []) items)) in (
         w,
         record {
           taken = t ++ x ∷ [];
@@ -147,14 +155,17 @@ module _ {P : Type 0} where
         senders = λ j v at'. ⊎_elim
             (λ e. k.senders j v (sym (set_else views 0 (suc j) l (λ q. omega arith)) ∙ e))
             (λ (e : (suc j ≡ length vs) × (r ≡ v)). let same : m ≡ j = (let c = k.count in let d = length-set views 0 l in omega (arith, e.0)) in
-            let F : View P → Type 0 = λ u. FitsSender (of_sender j (t ++ items)) j u in subst F e.1 (same, sym (ap (λ i. of_sender i (t ++ items)) (sym same) ∙ k.strangers m (omega arith))))
+            let F : View P → Type 0 =
+            λ u. FitsSender (of_sender j (t ++ items)) j u in subst F e.1
+            (same, sym (ap (λ i. of_sender i (t ++ items)) (sym same) ∙ k.strangers m (omega arith))))
             (at_end vs r v (suc j) at');
         strangers = λ j le. k.strangers j (omega arith);
         past = λ i j s' at'. let p = k.past i j s' at' in (p.0, at_longer vs (r ∷ []) (suc j) Gone (set_else views 0 (suc j) l (λ q. omega arith) ∙ p.1));
       }
   forks (suc k) t m s items views h at = absurd (h.senders k (Taker t m s) at)
 
-  pub merges : (port : ℕ) (t : List (ℕ × P)) (m : ℕ) (s : List (ℕ × List P)) (other k : ℕ) (sent : List P) → Merges Delivers port (Taker t m s) other (Sender k sent) (Taker t m (s ++ (k, sent) ∷ [])) Gone
+  pub merges : (port : ℕ) (t : List (ℕ × P)) (m : ℕ) (s : List (ℕ × List P)) (other k : ℕ) (sent : List P)
+      → Merges Delivers port (Taker t m s) other (Sender k sent) (Taker t m (s ++ (k, sent) ∷ [])) Gone
   merges zero t m s zero k sent items views h at apart at' = absurd (apart refl)
   merges zero t m s (suc j) k sent items views h at apart at' =
       let kn = known views 0 t m s items h at in
@@ -178,7 +189,8 @@ module _ {P : Type 0} where
             (λ e. let p = kn.past i n s' e in (
               p.0,
               ⊎_elim (λ (q : n ≡ j). ap (λ a. get_elem? (set vs (suc j) Gone) (suc a)) q ∙ gone)
-                  (λ (q : n ≡ j → ⊥). set_else vs (suc j) (suc n) Gone (λ b. q (omega arith)) ∙ set_else views 0 (suc n) both (λ b. omega arith) ∙ p.1) (cases_eq n j),
+                  (λ (q : n ≡ j → ⊥). set_else vs (suc j) (suc n) Gone (λ b. q (omega arith))
+                  ∙ set_else views 0 (suc n) both (λ b. omega arith) ∙ p.1) (cases_eq n j),
             ))
             (λ (e : (k, sent) ≡ (n, s')). let number : k ≡ n = ap (λ x. x.0) e in let list : sent ≡ s' = ap (λ x. x.1) e in (
               sym list ∙ mine.1 ∙ ap (λ a. of_sender a (t ++ items)) (sym mine.0 ∙ number),
@@ -189,22 +201,35 @@ module _ {P : Type 0} where
   merges (suc p) t m s other k sent items views h at apart at' = absurd (h.senders p (Taker t m s) at)
 
   pub learns : (port : ℕ) (t : List (ℕ × P)) (m : ℕ) (s : List (ℕ × List P)) → Learns Delivers port (Taker t m s) (Settles t m s)
-  learns port t m s items views h at = let k = known views port t m s items h at in record { strangers = k.strangers; past = λ i j s' at'. (k.past i j s' at').0 }
+  learns port t m s items views h at = let k =
+      known views port t m s items h at in record { strangers = k.strangers; past = λ i j s' at'. (k.past i j s' at').0 }
 
-  -- the same for a view that is known to be one
-  pub sends : (n port k : ℕ) (s : List P) (x : P) (v : View P) → v ≡ Sender k s → Pushes Delivers n port v (k, x) (λ w. w ≡ Sender (number_in v) (sent_in v ++ x ∷ []))
-  sends n port k s x v is = let F : View P → Type 0 = λ v. Pushes Delivers n port v (k, x) (λ w. w ≡ Sender (number_in v) (sent_in v ++ x ∷ [])) in subst F (sym is) (pushes n port k s x)
+  -- the rules for a view that is known to have this form
+  pub sends : (n port k : ℕ) (s : List P) (x : P) (v : View P) → v ≡ Sender k s
+      → Pushes Delivers n port v (k, x) (λ w. w ≡ Sender (number_in v) (sent_in v ++ x ∷ []))
+  sends n port k s x v is = let F : View P
+      → Type 0 = λ v. Pushes Delivers n port v (k, x) (λ w. w ≡ Sender (number_in v) (sent_in v ++ x ∷ [])) in subst F
+      (sym is) (pushes n port k s x)
 
-  pub takes : (port m : ℕ) (t : List (ℕ × P)) (s : List (ℕ × List P)) (v : View P) → v ≡ Taker t m s → Pops Delivers port v (λ x w. w ≡ Taker (taken_in v ++ x ∷ []) (made_in v) (settled_in v)) × Learns Delivers port v (Settles (taken_in v) (made_in v) (settled_in v))
+  pub takes : (port m : ℕ) (t : List (ℕ × P)) (s : List (ℕ × List P)) (v : View P) → v ≡ Taker t m s
+      → Pops Delivers port v (λ x w. w ≡ Taker (taken_in v ++ x ∷ []) (made_in v) (settled_in v))
+      × Learns Delivers port v (Settles (taken_in v) (made_in v) (settled_in v))
   takes port m t s v is =
-      let F : View P → Type 0 = λ v. Pops Delivers port v (λ x w. w ≡ Taker (taken_in v ++ x ∷ []) (made_in v) (settled_in v)) × Learns Delivers port v (Settles (taken_in v) (made_in v) (settled_in v)) in
+      let F : View P → Type 0 =
+      λ v. Pops Delivers port v (λ x w. w ≡ Taker (taken_in v ++ x ∷ []) (made_in v) (settled_in v))
+      × Learns Delivers port v (Settles (taken_in v) (made_in v) (settled_in v)) in
       subst F (sym is) (pops port t m s, learns port t m s)
 
-  pub enlists : (port m : ℕ) (t : List (ℕ × P)) (s : List (ℕ × List P)) (v : View P) → v ≡ Taker t m s → Forks Delivers port v (Taker (taken_in v) (made_in v + 1) (settled_in v)) (Sender (made_in v) [])
-  enlists port m t s v is = let F : View P → Type 0 = λ v. Forks Delivers port v (Taker (taken_in v) (made_in v + 1) (settled_in v)) (Sender (made_in v) []) in subst F (sym is) (forks port t m s)
+  pub enlists : (port m : ℕ) (t : List (ℕ × P)) (s : List (ℕ × List P)) (v : View P) → v ≡ Taker t m s
+      → Forks Delivers port v (Taker (taken_in v) (made_in v + 1) (settled_in v)) (Sender (made_in v) [])
+  enlists port m t s v is = let F : View P
+      → Type 0 = λ v. Forks Delivers port v (Taker (taken_in v) (made_in v + 1) (settled_in v)) (Sender (made_in v) []) in subst F
+      (sym is) (forks port t m s)
 
-  pub returns : (port m : ℕ) (t : List (ℕ × P)) (s : List (ℕ × List P)) (v : View P) (other k : ℕ) (sent : List P) (w : View P) → v ≡ Taker t m s → w ≡ Sender k sent
+  pub returns : (port m : ℕ) (t : List (ℕ × P)) (s : List (ℕ × List P)) (v : View P) (other k : ℕ) (sent : List P) (w : View P)
+      → v ≡ Taker t m s → w ≡ Sender k sent
       → Merges Delivers port v other w (Taker (taken_in v) (made_in v) (settled_in v ++ (number_in w, sent_in w) ∷ [])) Gone
   returns port m t s v other k sent w is is' =
-      let F : View P → View P → Type 0 = λ v w. Merges Delivers port v other w (Taker (taken_in v) (made_in v) (settled_in v ++ (number_in w, sent_in w) ∷ [])) Gone in
+      let F : View P → View P → Type 0 =
+      λ v w. Merges Delivers port v other w (Taker (taken_in v) (made_in v) (settled_in v ++ (number_in w, sent_in w) ∷ [])) Gone in
       subst (λ v. F v w) (sym is) (subst (λ w. F (Taker t m s) w) (sym is') (merges port t m s other k sent))

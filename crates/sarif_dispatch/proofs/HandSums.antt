@@ -19,11 +19,14 @@ joined-hands v (h ∷ hs) = joined-hands (hand_view v.runs v.hands (v.parts + h.
 pub joined-parts : (v : HandView) (hs : List Hand) → (joined v hs).parts ≡ v.parts + length hs
 joined-parts v [] = omega arith
 joined-parts v (h ∷ hs) =
-    let rest = joined-parts (hand_view v.runs v.hands (v.parts + h.seat.me.0.parts) (v.marks + h.seat.me.0.marks) (v.drawn ++ drawn_by h)) hs in let one = h.one in omega arith
+    let rest = joined-parts (hand_view v.runs v.hands (v.parts + h.seat.me.0.parts) (v.marks + h.seat.me.0.marks) (v.drawn ++ drawn_by h))
+    hs in let one = h.one in omega arith
 
 pub joined-marks : (v : HandView) (hs : List Hand) → (joined v hs).marks ≡ v.marks + total (λ h. h.seat.me.0.marks) hs
 joined-marks v [] = omega arith
-joined-marks v (h ∷ hs) = let rest = joined-marks (hand_view v.runs v.hands (v.parts + h.seat.me.0.parts) (v.marks + h.seat.me.0.marks) (v.drawn ++ drawn_by h)) hs in omega arith
+joined-marks v (h ∷ hs) = let rest =
+    joined-marks
+    (hand_view v.runs v.hands (v.parts + h.seat.me.0.parts) (v.marks + h.seat.me.0.marks) (v.drawn ++ drawn_by h)) hs in omega arith
 
 pub joined-times : (x : ℕ) (v : HandView) (hs : List Hand) → times x (joined v hs).drawn ≡ times x v.drawn + total (λ h. times x (drawn_by h)) hs
 joined-times x v [] = omega arith
@@ -34,7 +37,8 @@ joined-times x v (h ∷ hs) =
 
 -- What the hand knows that took in all others, and looked at the word
 module _ (rest : List Hand) (last : Hand) (word : ℕ) (learns : Learns (joined last.seat.me.0 rest) word) where
-  pub all_drawn : length rest + 1 ≡ last.seat.me.0.hands → (x : ℕ) → total (λ h. times x (drawn_by h)) (rest ++ last ∷ []) ≡ once_below x (min word last.seat.me.0.runs)
+  pub all_drawn : length rest + 1 ≡ last.seat.me.0.hands → (x : ℕ)
+      → total (λ h. times x (drawn_by h)) (rest ++ last ∷ []) ≡ once_below x (min word last.seat.me.0.runs)
   all_drawn all x =
       let one = last.one in
       let parts = joined-parts last.seat.me.0 rest in

@@ -20,18 +20,23 @@ elem_of f (y ∷ ys) (suc i) x at = elem_of f ys i x at
 
 module _ {P : Type 0} where
   -- each sender's post came back
-  pub covers : (mailbox : Mailbox P) (posts : List (Post P)) → AreAllPosts mailbox posts → (k : ℕ) → k < mailbox.senders → (i : ℕ) × (l : List P) × (get_elem? (map returned posts) i ≡ some (k, l))
+  pub covers : (mailbox : Mailbox P) (posts : List (Post P)) → AreAllPosts mailbox posts → (k : ℕ) → k < mailbox.senders
+      → (i : ℕ) × (l : List P) × (get_elem? (map returned posts) i ≡ some (k, l))
   covers mailbox posts all k lt = let at = all.all k lt in (at.0, sent_by at.1, elem_of returned posts at.0 at.1 at.2 ∙ ap (λ n. some (n, sent_by at.1)) at.3)
 
-  pub settles_at : (v : View P) (t : List (ℕ × P)) (m : ℕ) (s : List (ℕ × List P)) (items : List (ℕ × P)) → v ≡ Taker t m s → Settles (taken_in v) (made_in v) (settled_in v) items → Settles t m s items
+  pub settles_at : (v : View P) (t : List (ℕ × P)) (m : ℕ) (s : List (ℕ × List P)) (items : List (ℕ × P)) → v ≡ Taker t m s
+      → Settles (taken_in v) (made_in v) (settled_in v) items → Settles t m s items
   settles_at v t m s items is h = let F : View P → Type 0 = λ w. Settles (taken_in w) (made_in w) (settled_in w) items in subst F is h
 
-  pub settles_at_none : (v : View P) (t : List (ℕ × P)) (m : ℕ) (s : List (ℕ × List P)) → v ≡ Taker t m s → Held 0 (Settles (taken_in v) (made_in v) (settled_in v)) → Settles t m s []
+  pub settles_at_none : (v : View P) (t : List (ℕ × P)) (m : ℕ) (s : List (ℕ × List P)) → v ≡ Taker t m s
+      → Held 0 (Settles (taken_in v) (made_in v) (settled_in v)) → Settles t m s []
   settles_at_none v t m s is h = settles_at v t m s [] is (subst (λ items. Settles (taken_in v) (made_in v) (settled_in v) items) (nil_from_length h.0 h.1) h.2)
 
   -- if nothing is left, what arrived is complete
-  pub whole : (mailbox : Mailbox P) (posts : List (Post P)) (arrived : List (ℕ × P)) → Settles arrived mailbox.senders (map returned posts) [] → AreWhole mailbox posts arrived
+  pub whole : (mailbox : Mailbox P) (posts : List (Post P)) (arrived : List (ℕ × P))
+      → Settles arrived mailbox.senders (map returned posts) [] → AreWhole mailbox posts arrived
   whole mailbox posts arrived h = record {
-    each = λ i post at. ap (of_sender (number_of post)) (sym (append-nil arrived)) ∙ sym (h.past i (number_of post) (sent_by post) (elem_of returned posts i post at));
+    each = λ i post at. ap (of_sender (number_of post)) (sym (append-nil arrived))
+        ∙ sym (h.past i (number_of post) (sent_by post) (elem_of returned posts i post at));
     strangers = λ k le. ap (of_sender k) (sym (append-nil arrived)) ∙ h.strangers k le;
   }

@@ -29,14 +29,16 @@ module _ {P : Type 0} where
   unfolding tally
   tally_more zero x h lt = absurd (omega arith)
   tally_more (suc m) x h lt = ⊎_elim
-      (λ (q : x.0 ≡ m). let same : length (of_sender m (x ∷ h)) ≡ suc (length (of_sender m h)) = subst (λ k. length (of_sender k (x ∷ h)) ≡ suc (length (of_sender k h))) q (ap length (of_same x.0 x.1 h)) in
+      (λ (q : x.0 ≡ m). let same : length (of_sender m (x ∷ h)) ≡ suc (length (of_sender m h)) =
+      subst (λ k. length (of_sender k (x ∷ h)) ≡ suc (length (of_sender k h))) q (ap length (of_same x.0 x.1 h)) in
       let past = tally_past m x h (omega arith) in omega arith)
       (λ (q : x.0 ≡ m → ⊥). let other = ap length (of_other x.0 m x.1 h q) in let more = tally_more m x h (omega (arith, q)) in omega arith)
       (cases_eq x.0 m)
 
   pub rest_of : (k : ℕ) (x : ℕ × P) (h : List (ℕ × P)) → of_sender k (x ∷ h) ≡ [] → of_sender k h ≡ []
   rest_of k x h none = ⊎_elim
-      (λ (q : x.0 ≡ k). absurd (let e : x.1 ∷ of_sender k h ≡ [] = sym (subst (λ j. of_sender j (x ∷ h) ≡ x.1 ∷ of_sender j h) q (of_same x.0 x.1 h)) ∙ none in cc))
+      (λ (q : x.0 ≡ k). absurd
+      (let e : x.1 ∷ of_sender k h ≡ [] = sym (subst (λ j. of_sender j (x ∷ h) ≡ x.1 ∷ of_sender j h) q (of_same x.0 x.1 h)) ∙ none in cc))
       (λ (q : x.0 ≡ k → ⊥). sym (of_other x.0 k x.1 h q) ∙ none)
       (cases_eq x.0 k)
 
@@ -54,7 +56,8 @@ module _ {P : Type 0} where
   tally_same (suc m) a b same = λ i. tally_same m a b (λ k lt. same k (omega arith)) i + length (same m (omega arith) i)
 
   -- two looks of the taker, with the same settled senders, who are all, see as many parcels
-  pub same_length : (t t' : List (ℕ × P)) (m : ℕ) (s : List (ℕ × List P)) (items items' : List (ℕ × P)) → ((k : ℕ) → k < m → (i : ℕ) × (l : List P) × (get_elem? s i ≡ some (k, l))) → Settles t m s items → Settles t' m s items'
+  pub same_length : (t t' : List (ℕ × P)) (m : ℕ) (s : List (ℕ × List P)) (items items' : List (ℕ × P))
+      → ((k : ℕ) → k < m → (i : ℕ) × (l : List P) × (get_elem? s i ≡ some (k, l))) → Settles t m s items → Settles t' m s items'
       → length (t ++ items) ≡ length (t' ++ items')
   same_length t t' m s items items' all one two =
       tally_all m (t ++ items) one.strangers
@@ -62,14 +65,18 @@ module _ {P : Type 0} where
       ∙ sym (tally_all m (t' ++ items') two.strangers)
 
   -- once as many were received as were there, nothing is left
-  pub none_left : (t left items items' : List (ℕ × P)) (m : ℕ) (s : List (ℕ × List P)) → ((k : ℕ) → k < m → (i : ℕ) × (l : List P) × (get_elem? s i ≡ some (k, l))) → Settles t m s items → Settles (t ++ left) m s items' → length left ≡ length items → Settles (t ++ left) m s []
+  pub none_left : (t left items items' : List (ℕ × P)) (m : ℕ) (s : List (ℕ × List P))
+      → ((k : ℕ) → k < m → (i : ℕ) × (l : List P) × (get_elem? s i ≡ some (k, l))) → Settles t m s items → Settles (t ++ left) m s items'
+      → length left ≡ length items → Settles (t ++ left) m s []
   none_left t left items items' m s all one two len =
       let same = same_length t (t ++ left) m s items items' all one two in
       let none : items' ≡ [] = nil_from_length items' (omega (arith, length-append t items, length-append t left, length-append (t ++ left) items')) in
       subst (λ l. Settles (t ++ left) m s l) none two
 
   -- before that, something is left
-  pub more_left : (t left items : List (ℕ × P)) (m : ℕ) (s : List (ℕ × List P)) → ((k : ℕ) → k < m → (i : ℕ) × (l : List P) × (get_elem? s i ≡ some (k, l))) → Settles t m s items → Settles (t ++ left) m s [] → length left < length items → ⊥
+  pub more_left : (t left items : List (ℕ × P)) (m : ℕ) (s : List (ℕ × List P))
+      → ((k : ℕ) → k < m → (i : ℕ) × (l : List P) × (get_elem? s i ≡ some (k, l))) → Settles t m s items → Settles (t ++ left) m s []
+      → length left < length items → ⊥
   more_left t left items m s all one two lt =
       let same = same_length t (t ++ left) m s items [] all one two in
       omega (arith, length-append t items, length-append t left, ap length (append-nil (t ++ left)))

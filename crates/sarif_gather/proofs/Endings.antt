@@ -32,7 +32,9 @@ module _ {T C : Type 0} where
   ends_more zero x h lt = absurd (omega arith)
   ends_more (suc m) x h lt = ⊎_elim
       (λ (q : x.0 ≡ m).
-      let same : ends_in (of_sender m (x ∷ h)) ≡ ends_in (x.1 ∷ []) + ends_in (of_sender m h) = subst (λ k. ends_in (of_sender k (x ∷ h)) ≡ ends_in (x.1 ∷ []) + ends_in (of_sender k h)) q (ap ends_in (of_same x.0 x.1 h) ∙ ends_in-append (x.1 ∷ []) (of_sender x.0 h)) in
+      let same : ends_in (of_sender m (x ∷ h)) ≡ ends_in (x.1 ∷ []) + ends_in (of_sender m h) =
+      subst (λ k. ends_in (of_sender k (x ∷ h)) ≡ ends_in (x.1 ∷ []) + ends_in (of_sender k h)) q
+      (ap ends_in (of_same x.0 x.1 h) ∙ ends_in-append (x.1 ∷ []) (of_sender x.0 h)) in
       let past = ends_past m x h (omega arith) in omega arith)
       (λ (q : x.0 ≡ m → ⊥). let other = ap ends_in (of_other x.0 m x.1 h q) in let more = ends_more m x h (omega (arith, q)) in omega arith)
       (cases_eq x.0 m)
@@ -40,7 +42,8 @@ module _ {T C : Type 0} where
   ends_all : (m : ℕ) (h : List (ℕ × Parcel T C)) → ((k : ℕ) → m ≤ k → of_sender k h ≡ []) → ends_in (parcels_in h) ≡ ends_below m h
   ends_all m [] none = sym (ends_below-nil [] refl m)
   ends_all m (x ∷ h) none = ⊎_elim
-      (λ (lt : x.0 < m). let rest = ends_all m h (λ k le. rest_of k x h (none k le)) in let more = ends_more m x h lt in let cons = ends_in-append (x.1 ∷ []) (parcels_in h) in omega arith)
+      (λ (lt : x.0 < m). let rest = ends_all m h (λ k le. rest_of k x h (none k le)) in let more = ends_more m x h lt in let cons =
+      ends_in-append (x.1 ∷ []) (parcels_in h) in omega arith)
       (λ (le : m ≤ x.0). absurd (let e : x.1 ∷ of_sender x.0 h ≡ [] = sym (of_same x.0 x.1 h) ∙ none x.0 le in cc))
       (cases_lt x.0 m)
 
@@ -71,21 +74,28 @@ module _ {T C : Type 0} where
   ends_of : (k : ℕ) (h : List (ℕ × Parcel T C)) → ends_in (of_sender k h) ≤ ends_in (parcels_in h)
   ends_of k [] = omega arith
   ends_of k (x ∷ h) = ⊎_elim
-      (λ (q : x.0 ≡ k). let same : ends_in (of_sender k (x ∷ h)) ≡ ends_in (x.1 ∷ []) + ends_in (of_sender k h) = subst (λ j. ends_in (of_sender j (x ∷ h)) ≡ ends_in (x.1 ∷ []) + ends_in (of_sender j h)) q (ap ends_in (of_same x.0 x.1 h) ∙ ends_in-append (x.1 ∷ []) (of_sender x.0 h)) in
+      (λ (q : x.0 ≡ k). let same : ends_in (of_sender k (x ∷ h)) ≡ ends_in (x.1 ∷ []) + ends_in (of_sender k h) =
+      subst (λ j. ends_in (of_sender j (x ∷ h)) ≡ ends_in (x.1 ∷ []) + ends_in (of_sender j h)) q
+      (ap ends_in (of_same x.0 x.1 h) ∙ ends_in-append (x.1 ∷ []) (of_sender x.0 h)) in
       let cons = ends_in-append (x.1 ∷ []) (parcels_in h) in let rest = ends_of k h in omega arith)
-      (λ (q : x.0 ≡ k → ⊥). let other = ap ends_in (of_other x.0 k x.1 h q) in let cons = ends_in-append (x.1 ∷ []) (parcels_in h) in let rest = ends_of k h in omega arith)
+      (λ (q : x.0 ≡ k → ⊥). let other = ap ends_in (of_other x.0 k x.1 h q) in let cons =
+      ends_in-append (x.1 ∷ []) (parcels_in h) in let rest = ends_of k h in omega arith)
       (cases_eq x.0 k)
 
   -- each worker below m sent pieces and then its end, and m ends were received: then nothing is left
-  pub all_taken : (m : ℕ) (taken left : List (ℕ × Parcel T C)) → ((k : ℕ) → k < m → (ps : List (Piece T C)) × (of_sender k (taken ++ left) ≡ map Carry ps ++ End false ∷ []))
+  pub all_taken : (m : ℕ) (taken left : List (ℕ × Parcel T C))
+      → ((k : ℕ) → k < m → (ps : List (Piece T C)) × (of_sender k (taken ++ left) ≡ map Carry ps ++ End false ∷ []))
       → ((k : ℕ) → m ≤ k → of_sender k (taken ++ left) ≡ []) → ends_in (parcels_in taken) ≡ m → left ≡ []
   all_taken m taken [] each none ends = refl
   all_taken m taken (x ∷ left) each none ends =
-      let one : (k : ℕ) → k < m → ends_in (of_sender k (taken ++ x ∷ left)) ≡ 1 = λ k lt. let s = each k lt in ap ends_in s.1 ∙ ends_in-append (map Carry s.0) (End false ∷ []) ∙ ap (λ n. n + 1) (ends_carried s.0) in
+      let one : (k : ℕ) → k < m → ends_in (of_sender k (taken ++ x ∷ left)) ≡ 1 = λ k lt. let s = each k lt in ap ends_in s.1
+      ∙ ends_in-append (map Carry s.0) (End false ∷ []) ∙ ap (λ n. n + 1) (ends_carried s.0) in
       let sum = ends_all m (taken ++ x ∷ left) none ∙ ends_each m (taken ++ x ∷ left) one in
       let parts = ap ends_in (map-append (λ e. e.1) taken (x ∷ left)) ∙ ends_in-append (parcels_in taken) (parcels_in (x ∷ left)) in
-      let mine : of_sender x.0 (taken ++ x ∷ left) ≡ of_sender x.0 taken ++ x.1 ∷ of_sender x.0 left = of-append x.0 taken (x ∷ left) ∙ ap (λ l. of_sender x.0 taken ++ l) (of_same x.0 x.1 left) in
-      let low : x.0 < m = ⊎_elim (λ (lt : x.0 < m). lt) (λ (le : m ≤ x.0). absurd (nothing_there (of_sender x.0 taken) x.1 (of_sender x.0 left) (sym mine ∙ none x.0 le))) (cases_lt x.0 m) in
+      let mine : of_sender x.0 (taken ++ x ∷ left) ≡ of_sender x.0 taken ++ x.1 ∷ of_sender x.0 left = of-append x.0 taken (x ∷ left)
+      ∙ ap (λ l. of_sender x.0 taken ++ l) (of_same x.0 x.1 left) in
+      let low : x.0 < m = ⊎_elim (λ (lt : x.0 < m). lt)
+      (λ (le : m ≤ x.0). absurd (nothing_there (of_sender x.0 taken) x.1 (of_sender x.0 left) (sym mine ∙ none x.0 le))) (cases_lt x.0 m) in
       let last = end_is_last (of_sender x.0 taken) (x.1 ∷ of_sender x.0 left) (each x.0 low).0 (sym mine ∙ (each x.0 low).1) in
       let among = ends_of x.0 (x ∷ left) in
       let here = ap ends_in (of_same x.0 x.1 left) in

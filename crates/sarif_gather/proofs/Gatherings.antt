@@ -27,48 +27,71 @@ module _ {A : Type 0} where
   total-map f g [] = refl
   total-map f g (x ∷ xs) = ap (λ n. f (g x) + n) (total-map f g xs)
 
-pub gathered_at : {T C : Type 0} (count : ℕ → ℕ) (item : ℕ → ℕ → T) (end : ℕ → C) (mailbox : Mailbox (Parcel T C)) (deal : Deal) (before : List (Held T C)) (n runs workers : ℕ) (g : Gathered T C)
-    → IsGathered count item end mailbox deal before n g → before ≡ replicate runs empty_run → n ≡ workers → IsGathered count item end mailbox deal (replicate runs empty_run) workers g
+pub gathered_at : {T C : Type 0} (count : ℕ → ℕ) (item : ℕ → ℕ → T) (end : ℕ → C) (mailbox : Mailbox (Parcel T C)) (deal : Deal)
+    (before : List (Held T C)) (n runs workers : ℕ) (g : Gathered T C)
+    → IsGathered count item end mailbox deal before n g → before ≡ replicate runs empty_run → n ≡ workers
+    → IsGathered count item end mailbox deal (replicate runs empty_run) workers g
 gathered_at {T} {C} count item end mailbox deal before n runs workers g h e f =
     let F : List (Held T C) → ℕ → Type 0 = λ b m. IsGathered count item end mailbox deal b m g in
     subst (λ b. F b workers) e (subst (λ m. F before m) f h)
 
 -- The calling thread's facts once all is settled
-module _ {T C : Type 0} (count : ℕ → ℕ) (item : ℕ → ℕ → T) (end : ℕ → C) (runs workers : ℕ) (mailbox : Mailbox (Parcel T C)) (deal : Deal) (g : Gathered T C) (gathered : IsGathered count item end mailbox deal (replicate runs empty_run) workers g) where
+module _ {T C : Type 0} (count : ℕ → ℕ) (item : ℕ → ℕ → T) (end : ℕ → C) (runs workers : ℕ) (mailbox : Mailbox (Parcel T C)) (deal : Deal)
+    (g : Gathered T C) (gathered : IsGathered count item end mailbox deal (replicate runs empty_run) workers g) where
   -- all posts and all hands came back
   pub all_posts : mailbox.senders ≡ workers → AreAllPosts mailbox (map (λ b. b.post) g.backs.items)
   all_posts senders = record {
-    each = λ i post at. let b = from_mapped (λ (b : Back (Parcel T C)). b.post) g.backs.items i post at in subst (λ p. IsPostOf mailbox p) b.2 (gathered.each i b.0 b.1).0.post_of;
-    all = λ k lt. let b = at_below g.backs.items k (let n = gathered.backs in omega arith) in (k, b.0.post, into_mapped (λ (b : Back (Parcel T C)). b.post) g.backs.items k b.0 b.1, (gathered.each k b.0 b.1).0.number);
+    each = λ i post at. let b =
+        from_mapped (λ (b : Back (Parcel T C)). b.post) g.backs.items i post at in subst (λ p. IsPostOf mailbox p) b.2
+        (gathered.each i b.0 b.1).0.post_of;
+    all = λ k lt. let b = at_below g.backs.items k
+        (let n = gathered.backs in omega arith) in (
+          k,
+          b.0.post,
+          into_mapped (λ (b : Back (Parcel T C)). b.post) g.backs.items k b.0 b.1,
+          (gathered.each k b.0 b.1).0.number,
+        );
   }
 
   pub all_hands : hands_of deal ≡ workers → AreAllHands deal (map (λ b. b.hand) g.backs.items)
   all_hands hands = record {
-    each = λ i hand at. let b = from_mapped (λ (b : Back (Parcel T C)). b.hand) g.backs.items i hand at in subst (λ h. IsHandOf deal h) b.2 (gathered.each i b.0 b.1).0.hand_of;
+    each = λ i hand at. let b =
+        from_mapped (λ (b : Back (Parcel T C)). b.hand) g.backs.items i hand at in subst (λ h. IsHandOf deal h) b.2
+        (gathered.each i b.0 b.1).0.hand_of;
     count = length-map g.backs.items (λ b. b.hand) ∙ gathered.backs ∙ sym hands;
   }
 
   -- what each worker sent, and that it found no run left
-  sent : (k : ℕ) (b : Back (Parcel T C)) → slice_get g.backs.items k ≡ Some b → (is_marked b.hand ≡ true) × (sent_by b.post ≡ parcels_of count item end (drawn_by b.hand))
+  sent : (k : ℕ) (b : Back (Parcel T C)) → slice_get g.backs.items k ≡ Some b
+      → (is_marked b.hand ≡ true) × (sent_by b.post ≡ parcels_of count item end (drawn_by b.hand))
   sent k b at = let e = gathered.each k b at in OnFalse_at e.1 e.0.all
 
   -- some hand is marked
   marked : 0 < workers → (b : Back (Parcel T C)) × (slice_get (map (λ b. b.hand) g.backs.items) 0 ≡ Some b.hand) × (is_marked b.hand ≡ true)
-  marked some = let b = at_below g.backs.items 0 (let n = gathered.backs in omega arith) in (b.0, into_mapped (λ (b : Back (Parcel T C)). b.hand) g.backs.items 0 b.0 b.1, (sent 0 b.0 b.1).0)
+  marked some = let b = at_below g.backs.items 0
+      (let n = gathered.backs in omega arith) in (
+        b.0,
+        into_mapped (λ (b : Back (Parcel T C)). b.hand) g.backs.items 0 b.0 b.1,
+        (sent 0 b.0 b.1).0,
+      )
 
-  module _ (left : List (ℕ × Parcel T C)) (senders : mailbox.senders ≡ workers) (arrived : AreWhole mailbox (map (λ b. b.post) g.backs.items) (taken_by g.desk ++ left))
+  module _ (left : List (ℕ × Parcel T C)) (senders : mailbox.senders ≡ workers)
+      (arrived : AreWhole mailbox (map (λ b. b.post) g.backs.items) (taken_by g.desk ++ left))
       (dealt : (run : ℕ) → total (λ h. times run (drawn_by h)) (map (λ b. b.hand) g.backs.items) ≡ once_below run runs) where
-    of_worker : (k : ℕ) (b : Back (Parcel T C)) → slice_get g.backs.items k ≡ Some b → of_sender k (taken_by g.desk ++ left) ≡ parcels_of count item end (drawn_by b.hand)
+    of_worker : (k : ℕ) (b : Back (Parcel T C)) → slice_get g.backs.items k ≡ Some b
+        → of_sender k (taken_by g.desk ++ left) ≡ parcels_of count item end (drawn_by b.hand)
     of_worker k b at =
         let e = (gathered.each k b at).0 in
-        ap (λ n. of_sender n (taken_by g.desk ++ left)) (sym e.number) ∙ arrived.each k b.post (into_mapped (λ (b : Back (Parcel T C)). b.post) g.backs.items k b at) ∙ (sent k b at).1
+        ap (λ n. of_sender n (taken_by g.desk ++ left)) (sym e.number)
+        ∙ arrived.each k b.post (into_mapped (λ (b : Back (Parcel T C)). b.post) g.backs.items k b at) ∙ (sent k b at).1
 
     of_stranger : (k : ℕ) → workers ≤ k → of_sender k (taken_by g.desk ++ left) ≡ []
     of_stranger k le = arrived.strangers k (omega arith)
 
     none_left : left ≡ []
     none_left = all_taken workers (taken_by g.desk) left
-        (λ k lt. let b = at_below g.backs.items k (let n = gathered.backs in omega arith) in (pieces_of_runs count item end (drawn_by b.0.hand), of_worker k b.0 b.1))
+        (λ k lt. let b = at_below g.backs.items k
+        (let n = gathered.backs in omega arith) in (pieces_of_runs count item end (drawn_by b.0.hand), of_worker k b.0 b.1))
         of_stranger gathered.ends
 
     taken_of : (k : ℕ) → of_sender k (taken_by g.desk) ≡ of_sender k (taken_by g.desk ++ left)

@@ -1,4 +1,4 @@
-//! What workers do, and who observes them.
+//! The work that workers do, and the observers that watch them.
 ghost use Rattle.std.specs.Prelude.{◌≡◌, ◌≤◌, ◌<◌, ℕ, IfOk};
 ghost use Rattle.sarif_dispatch.specs.Limits.{most_runs};
 
@@ -28,7 +28,7 @@ pub trait Work {
     // The tail of a run.
     ghost end: { Self → ℕ → Self.Tail };
 
-    // This is a head of that run.
+    // Says that a head is a head of the run with this number.
     ghost IsHeadOf: { Self → ℕ → Self.Head → Type 0 };
 
     /// The number of runs.

@@ -8,7 +8,31 @@ use Rattle.uuid.proofs.OrderLemmas.{from_be_bytes-to_be_bytes_16}
 use Rattle.sarif_model.specs.Guid.{guid_of_text, guid_text}
 
 small_bytes : (n : ℕ) → All (λ b. b < 256) (to_be_bytes w128 n)
-small_bytes n = All-from_recursion (λ b. b < 256) (to_be_bytes w128 n) (omega arith, (omega arith, (omega arith, (omega arith, (omega arith, (omega arith, (omega arith, (omega arith, (omega arith, (omega arith, (omega arith, (omega arith, (omega arith, (omega arith, (omega arith, (omega arith, tt))))))))))))))))
+small_bytes n = All-from_recursion (λ b. b < 256) (to_be_bytes w128 n) (
+  omega arith,
+  (
+    omega arith,
+    (
+      omega arith,
+      (
+        omega arith,
+        (
+          omega arith,
+          (
+            omega arith,
+            (
+              omega arith,
+              (
+                omega arith,
+                (omega arith, (omega arith, (omega arith, (omega arith, (omega arith, (omega arith, (omega arith, (omega arith, tt)))))))),
+              ),
+            ),
+          ),
+        ),
+      ),
+    ),
+  ),
+)
 
 pub guid_back : (guid : ℕ) → guid < 2 ^ 128 → guid_of_text (guid_text guid) ≡ Some guid
 unfolding guid_of_text

@@ -9,7 +9,8 @@ use Rattle.sarif_model.specs.Members.{elements}
 
 put_at : (o : Ordering) (k l : List ℕ) (d e x : Data) (ms : Members) → slice_cmp nat_cmp k l ≡ o
     → put k d (put k e ms) ≡ put k d ms
-    → put k d (match_ordering o (member k e (member l x ms)) (member l e ms) (member l x (put k e ms))) ≡ match_ordering o (member k d (member l x ms)) (member l d ms) (member l x (put k d ms))
+    → put k d (match_ordering o (member k e (member l x ms)) (member l e ms) (member l x (put k e ms)))
+    ≡ match_ordering o (member k d (member l x ms)) (member l d ms) (member l x (put k d ms))
 put_at Less k l d e x ms is later = rw (tied_itself nat_list_cmp_total k)
 put_at Equal k l d e x ms is later = rw is
 put_at Greater k l d e x ms is later = rw (is, later) refl

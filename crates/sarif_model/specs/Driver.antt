@@ -12,6 +12,6 @@ driver_name run =
     (option_and_then (get (codes "name"))
     (option_and_then (get (codes "driver")) (get (codes "tool") run)))
 
--- the same, or the empty string if it is missing
+-- the name of a run's tool, or the empty string if it is missing
 abbrev pub tool_name : Data → List ℕ
 tool_name run = unwrap_or (driver_name run) []

@@ -12,4 +12,5 @@ pub mod Run
 pub mod State
 pub mod Status
 pub mod Suppression
+pub mod WhiteSpace
 pub mod Written

@@ -25,7 +25,7 @@ most_entries = 10000
 abbrev pub most_workers : ℕ
 most_workers = 64
 
--- the first and the last day, as yyyymmdd
+-- the first and the last date, as yyyymmdd
 abbrev pub first_day : ℕ
 first_day = 10000101
 

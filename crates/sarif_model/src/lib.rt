@@ -18,6 +18,7 @@ mod region;
 mod sequence;
 mod source_kind;
 mod text;
+mod white_space;
 
 pub use driver::driver_name;
 pub use fault::Fault;
@@ -38,3 +39,4 @@ pub use region::Region;
 pub use sequence::{Pairs, Sequence};
 pub use source_kind::SourceKind;
 pub use text::{Text, copy_if_there};
+pub use white_space::is_white_space;

@@ -19,8 +19,8 @@ pub const MOST_ENTRIES: usize = 10_000;
 /// The most worker threads.
 pub const MOST_WORKERS: u32 = 64;
 
-/// The first day, as YYYYMMDD.
+/// The first date, as YYYYMMDD.
 pub const FIRST_DAY: u32 = 10_000_101;
 
-/// The last day, as YYYYMMDD.
+/// The last date, as YYYYMMDD.
 pub const LAST_DAY: u32 = 99_991_231;

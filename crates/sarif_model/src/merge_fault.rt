@@ -37,7 +37,7 @@ pub enum At {
     Entry(u32),
 }
 
-/// Why a merge is refused.
+/// Why a merge is rejected.
 #[derive(Clone, Copy, Debug, PartialEq, Eq, Error)]
 pub enum Cause {
     /// What was read is wrong.

@@ -1,5 +1,5 @@
-//! The strings of each variant, there and back.
-use sarif_model::{Kind, Level, State, Status};
+//! The strings of each variant, there and back, and white space.
+use sarif_model::{Kind, Level, State, Status, is_white_space};
 use std::process::Abort;
 
 fn expect_level(rt: &impl Abort, level: Level, text: &str) {
@@ -72,5 +72,15 @@ fn no_other_text_is_a_variant(rt: HostRuntime) {
     }
     for text in ["", "Accepted", "underreview", "new"] {
         assert_eq!(rt; Status::from_name(text), None, "{text}");
+    }
+}
+
+#[test]
+fn white_space_is_five_bytes(rt: HostRuntime) {
+    for byte in b" \t\n\x0c\r" {
+        assert!(rt; is_white_space(*byte));
+    }
+    for byte in b"a0\x0b\x00\xa0" {
+        assert!(rt; !is_white_space(*byte));
     }
 }

@@ -97,7 +97,8 @@ module _ {F T R : Type 0} (g : Shared F (ℕ × (Bor (List T) × Unit {0})) R) (
         let two = suc-mul (suc n) size in
         let one = suc-mul n size in
         let full : length (take size ys) ≡ size = length-take-le size ys (omega arith) in
-        let next : drop size ys ≡ drop (suc from * size) xs = ap (drop size) is ∙ drop-drop size (from * size) xs ∙ ap (λ k. drop k xs) (sym (suc-mul from size)) in
+        let next : drop size ys ≡ drop (suc from * size) xs = ap (drop size) is ∙ drop-drop size (from * size) xs
+        ∙ ap (λ k. drop k xs) (sym (suc-mul from size)) in
         let rest = chunks_given (suc n) (suc from) xs (drop size ys) rs next (omega arith) (omega (arith, length-drop size ys))
         (λ i d l. subst (λ k. GivesChunk g f size xs k (slice_index_or rs i d)) {x = from + suc i} (omega arith) (each (suc i) d (omega arith))) in (
           one_part xs from ys r is (subst (λ k. GivesChunk g f size xs k r) {x = from + 0} (omega arith) (each 0 r (omega arith))),
@@ -107,15 +108,18 @@ module _ {F T R : Type 0} (g : Shared F (ℕ × (Bor (List T) × Unit {0})) R) (
 -- the lists of all parts, concatenated
 pub parts_zipped : {F T U E : Type 0} (g : Shared F (ℕ × (Bor (List T) × Unit {0})) (Result (Vec U Global) E)) (f : F) (R : T → U → Type 0)
     → ((start : ℕ) (p : List T) (v : Vec U Global) → GivesPart g f start p (Ok v) → AllZip R p v.items)
-    → (start : ℕ) (ps : List (List T)) (vs : List (Vec U Global)) → GivesParts g f start ps (map Ok vs) → AllZip R (flat_map (λ p. p) ps) (flat_map (λ v. v.items) vs)
+    → (start : ℕ) (ps : List (List T)) (vs : List (Vec U Global)) → GivesParts g f start ps (map Ok vs)
+    → AllZip R (flat_map (λ p. p) ps) (flat_map (λ v. v.items) vs)
 parts_zipped g f R each start [] [] given = tt
 parts_zipped g f R each start [] (v ∷ vs) given = absurd given
 parts_zipped g f R each start (p ∷ ps) [] given = absurd given
 parts_zipped g f R each start (p ∷ ps) (v ∷ vs) given =
-    both_zipped R p (flat_map (λ q. q) ps) v.items (flat_map (λ w. w.items) vs) (each start p v given.0) (parts_zipped g f R each (start + length p) ps vs given.1)
+    both_zipped R p (flat_map (λ q. q) ps) v.items (flat_map (λ w. w.items) vs) (each start p v given.0)
+    (parts_zipped g f R each (start + length p) ps vs given.1)
 
 -- the next list after those before it
-pub one_more : {A B : Type 0} (R : A → B → Type 0) (xs : List A) (i : ℕ) (d : A) (ys : List B) (y : B) → i < length xs → AllZip R (take i xs) ys → R (slice_index_or xs i d) y → AllZip R (take (i + 1) xs) (ys ++ y ∷ [])
+pub one_more : {A B : Type 0} (R : A → B → Type 0) (xs : List A) (i : ℕ) (d : A) (ys : List B) (y : B) → i < length xs
+    → AllZip R (take i xs) ys → R (slice_index_or xs i d) y → AllZip R (take (i + 1) xs) (ys ++ y ∷ [])
 one_more R xs i d ys y below so_far here =
     subst (λ l. AllZip R l (ys ++ y ∷ [])) (sym (take_more xs i d below)) (all_zipped_more R (take i xs) ys (slice_index_or xs i d) y so_far here)
 
@@ -134,22 +138,26 @@ part_within xs before part after k d whole below =
     let inner = length-append part after in
     let outer = length-append before (part ++ after) in (
       omega (arith, ap length whole, inner, outer),
-      sym (get_or_append_left part after d k below) ∙ sym (get_or-append-add before (part ++ after) k d) ∙ ap (λ l. slice_index_or l (length before + k) d) whole,
+      sym (get_or_append_left part after d k below) ∙ sym (get_or-append-add before (part ++ after) k d)
+          ∙ ap (λ l. slice_index_or l (length before + k) d) whole,
     )
 
 module _ {F T U E : Type 0} (g : Shared F (Bor T × Unit {0}) (Result U E)) (f : F) where
   -- for a caller: what is true for the result of one call is true for the results of all
-  pub each_holds : (R : T → U → Type 0) → ((p : Bor T) (u : U) → g.post f (p, tt) (Ok u) → R p.now u) → (xs : List T) (us : List U) → GivesEachAt g f xs us → AllZip R xs us
+  pub each_holds : (R : T → U → Type 0) → ((p : Bor T) (u : U) → g.post f (p, tt) (Ok u) → R p.now u) → (xs : List T) (us : List U)
+      → GivesEachAt g f xs us → AllZip R xs us
   each_holds R one [] [] given = tt
   each_holds R one [] (u ∷ us) given = absurd given
   each_holds R one (x ∷ xs) [] given = absurd given
   each_holds R one (x ∷ xs) (u ∷ us) given = (subst (λ y. R y u) given.0.shows (one given.0.shown u given.0.says.met), each_holds R one xs us given.1)
 
-  pub each_mapped : (v : T → U) → ((p : Bor T) (u : U) → g.post f (p, tt) (Ok u) → u ≡ v p.now) → (xs : List T) (us : List U) → GivesEachAt g f xs us → us ≡ map v xs
+  pub each_mapped : (v : T → U) → ((p : Bor T) (u : U) → g.post f (p, tt) (Ok u) → u ≡ v p.now) → (xs : List T) (us : List U)
+      → GivesEachAt g f xs us → us ≡ map v xs
   each_mapped v one xs us given = AllZip-map v xs us (each_holds (λ x u. u ≡ v x) one xs us given)
 
 module _ {F J U E : Type 0} (g : Shared F (J × Unit {0}) (Result U E)) (f : F) where
-  pub jobs_hold : (R : J → U → Type 0) → ((j : J) (u : U) → g.post f (j, tt) (Ok u) → R j u) → (js : List J) (us : List U) → GivesEach g f js us → AllZip R js us
+  pub jobs_hold : (R : J → U → Type 0) → ((j : J) (u : U) → g.post f (j, tt) (Ok u) → R j u) → (js : List J) (us : List U)
+      → GivesEach g f js us → AllZip R js us
   jobs_hold R one [] [] given = tt
   jobs_hold R one [] (u ∷ us) given = absurd given
   jobs_hold R one (j ∷ js) [] given = absurd given

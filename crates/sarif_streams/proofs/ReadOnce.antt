@@ -21,7 +21,8 @@ module _ {R : Type 0} (remaining : R → Option (List ℕ)) where
   one_reader old new a b tells one other =
       once (remaining (inner_of old)) (remaining (inner_of new)) a b tells one.0 one.1 other.0
 
-  readers_once : (olds news : List (Counted R)) (one other : List (List ℕ)) → AllByRecursion (Tells remaining) olds → AreRead remaining olds news one → AreRead remaining olds news other → one ≡ other
+  readers_once : (olds news : List (Counted R)) (one other : List (List ℕ)) → AllByRecursion (Tells remaining) olds
+      → AreRead remaining olds news one → AreRead remaining olds news other → one ≡ other
   readers_once [] [] [] [] tells h k = refl
   readers_once [] [] [] (b ∷ bs) tells h k = absurd k
   readers_once [] [] (a ∷ rest) other tells h k = absurd h
@@ -32,7 +33,8 @@ module _ {R : Type 0} (remaining : R → Option (List ℕ)) where
   readers_once (old ∷ olds) (new ∷ news) (a ∷ rest) (b ∷ bs) tells h k =
       ap (λ x. x ∷ rest) (one_reader old new a b tells.0 h.0 k.0) ∙ ap (λ xs. b ∷ xs) (readers_once olds news rest bs tells.1 h.1 k.1)
 
-  file_once : (old new : Option (Counted R)) (one other : Option (List ℕ)) → IfSome old (Tells remaining) → IsReadIf remaining old new one → IsReadIf remaining old new other → one ≡ other
+  file_once : (old new : Option (Counted R)) (one other : Option (List ℕ)) → IfSome old (Tells remaining) → IsReadIf remaining old new one
+      → IsReadIf remaining old new other → one ≡ other
   file_once None None None None tells h k = refl
   file_once None None None (Some b) tells h k = absurd k
   file_once None None (Some a) other tells h k = absurd h
@@ -42,7 +44,8 @@ module _ {R : Type 0} (remaining : R → Option (List ℕ)) where
   file_once (Some old) (Some new) (Some a) None tells h k = absurd k
   file_once (Some old) (Some new) (Some a) (Some b) tells h k = ap Some (one_reader old new a b tells h k)
 
-  pub contents_once : (old new : Readers R) (one other : SourceContents) → AllTell remaining old → WereRead remaining old new one → WereRead remaining old new other → one ≡ other
+  pub contents_once : (old new : Readers R) (one other : SourceContents) → AllTell remaining old → WereRead remaining old new one
+      → WereRead remaining old new other → one ≡ other
   contents_once old new one other tells h k =
       let logs = readers_once old.logs.items new.logs.items one.logs other.logs tells.logs h.logs k.logs in
       let baselines = readers_once old.baselines.items new.baselines.items one.baselines other.baselines tells.baselines h.baselines k.baselines in

@@ -47,7 +47,8 @@ are_read_more remaining os ws bs i d w b in_os in_ws same all one =
     let given : IsRead remaining (get_or os i d) w b = subst (λ o. IsRead remaining o w b) (same_at ws os i d same) one in
     rw (take_more os i d in_os, take_more_set ws i w in_ws) (are_read_push remaining (take i os) (take i ws) bs (get_or os i d) w b all given)
 
-stops_after : {R : Type 0} (remaining : R → Option (List ℕ)) (name : ℕ → Source) (n : ℕ) (os ws : List (Counted R)) (bs : List (List ℕ)) (o w : Counted R) (rest : List (Counted R)) (fault : Refusal ReadersFault)
+stops_after : {R : Type 0} (remaining : R → Option (List ℕ)) (name : ℕ → Source) (n : ℕ) (os ws : List (Counted R)) (bs : List (List ℕ))
+    (o w : Counted R) (rest : List (Counted R)) (fault : Refusal ReadersFault)
     → AreRead remaining os ws bs → HasStopped remaining (name (n + length os)) o w fault
     → StopsIn remaining name n (os ++ o ∷ rest) (ws ++ w ∷ rest) fault
 stops_after remaining name n [] [] [] o w rest fault all one =
@@ -67,7 +68,8 @@ no_fall true old now rise = omega (arith, rise)
 no_fall false old now rise = omega (arith, rise)
 
 -- nor do the others where one of them was read
-pub none_falls_at : {R : Type 0} (os ws : List (Counted R)) (i : ℕ) (d w : Counted R) → i < length ws → NoneFalls os ws → failed_calls (get_or ws i d) ≤ failed_calls w → NoneFalls os (set ws i w)
+pub none_falls_at : {R : Type 0} (os ws : List (Counted R)) (i : ℕ) (d w : Counted R) → i < length ws → NoneFalls os ws
+    → failed_calls (get_or ws i d) ≤ failed_calls w → NoneFalls os (set ws i w)
 none_falls_at [] [] i d w within none more = absurd (omega (arith, within))
 none_falls_at [] (v ∷ ws) i d w within none more = absurd none
 none_falls_at (o ∷ os) [] i d w within none more = absurd none
@@ -80,7 +82,8 @@ none_has_fallen [] = tt
 none_has_fallen (o ∷ os) = (omega arith, none_has_fallen os)
 
 -- reading ended at this one
-pub stops_at : {R : Type 0} (remaining : R → Option (List ℕ)) (name : ℕ → Source) (os ws : List (Counted R)) (bs : List (List ℕ)) (i : ℕ) (d w : Counted R) (fault : Refusal ReadersFault)
+pub stops_at : {R : Type 0} (remaining : R → Option (List ℕ)) (name : ℕ → Source) (os ws : List (Counted R)) (bs : List (List ℕ)) (i : ℕ)
+    (d w : Counted R) (fault : Refusal ReadersFault)
     → i < length os → i < length ws → drop i ws ≡ drop i os
     → AreRead remaining (take i os) (take i ws) bs → HasStopped remaining (name i) (get_or ws i d) w fault
     → StopsIn remaining name 0 os (set ws i w) fault
@@ -95,10 +98,12 @@ stops_at remaining name os ws bs i d w fault in_os in_ws same all one =
     let stopped : HasStopped remaining (name (0 + length (take i os))) o w fault =
     subst (λ n. HasStopped remaining (name n) o w fault) here (subst (λ x. HasStopped remaining (name i) x w fault) (same_at ws os i d same) one) in
     let found = stops_after remaining name 0 (take i os) (take i ws) bs o w rest fault all stopped in
-    subst (λ xs. StopsIn remaining name 0 xs (set ws i w) fault) (sym whole) (subst (λ xs. StopsIn remaining name 0 (take i os ++ o ∷ rest) xs fault) (sym now) found)
+    subst (λ xs. StopsIn remaining name 0 xs (set ws i w) fault) (sym whole)
+    (subst (λ xs. StopsIn remaining name 0 (take i os ++ o ∷ rest) xs fault) (sym now) found)
 
 -- no call of readers that were read has failed
-are_read_quiet : {R : Type 0} (remaining : R → Option (List ℕ)) (os ws : List (Counted R)) (bs : List (List ℕ)) → AreRead remaining os ws bs → failed_calls_in ws ≡ failed_calls_in os
+are_read_quiet : {R : Type 0} (remaining : R → Option (List ℕ)) (os ws : List (Counted R)) (bs : List (List ℕ)) → AreRead remaining os ws bs
+    → failed_calls_in ws ≡ failed_calls_in os
 are_read_quiet remaining [] [] bs all = refl
 are_read_quiet remaining [] (w ∷ ws) bs all = absurd all
 are_read_quiet remaining (o ∷ os) [] bs all = absurd all
@@ -108,14 +113,16 @@ are_read_quiet remaining (o ∷ os) (w ∷ ws) (b ∷ bs) all =
     let rest : failed_calls_in ws ≡ failed_calls_in os = are_read_quiet remaining os ws bs all.1 in
     sum_by-cons failed_calls w ws ∙ (ap (λ n. n + failed_calls_in ws) one ∙ (ap (λ n. failed_calls o + n) rest ∙ sym (sum_by-cons failed_calls o os)))
 
-is_read_quiet : {R : Type 0} (remaining : R → Option (List ℕ)) (o w : Option (Counted R)) (b : Option (List ℕ)) → IsReadIf remaining o w b → failed_calls_if w ≡ failed_calls_if o
+is_read_quiet : {R : Type 0} (remaining : R → Option (List ℕ)) (o w : Option (Counted R)) (b : Option (List ℕ)) → IsReadIf remaining o w b
+    → failed_calls_if w ≡ failed_calls_if o
 is_read_quiet remaining None None b one = refl
 is_read_quiet remaining None (Some w) b one = absurd one
 is_read_quiet remaining (Some o) None b one = absurd one
 is_read_quiet remaining (Some o) (Some w) None one = absurd one
 is_read_quiet remaining (Some o) (Some w) (Some b) one = one.3
 
-pub were_read_quiet : {R : Type 0} (remaining : R → Option (List ℕ)) (old new : Readers R) (contents : SourceContents) → WereRead remaining old new contents → failures new ≡ failures old
+pub were_read_quiet : {R : Type 0} (remaining : R → Option (List ℕ)) (old new : Readers R) (contents : SourceContents)
+    → WereRead remaining old new contents → failures new ≡ failures old
 were_read_quiet remaining old new contents read =
     let logs = are_read_quiet remaining old.logs.items new.logs.items contents.logs read.logs in
     let baselines = are_read_quiet remaining old.baselines.items new.baselines.items contents.baselines read.baselines in

@@ -1,4 +1,4 @@
-//! Where a source is read from, and what is kept of it for an explanation.
+//! Where a source is read from.
 ghost use Rattle.std.specs.Prelude.{◌≡◌, ◌<◌, None, Ok, IfOk, OnErr, length};
 ghost use Rattle.std.specs.Io.{ReadsAtMost};
 ghost use Rattle.std.specs.Io.KnownBytes.{IsAtEnd, ReadConsumes};

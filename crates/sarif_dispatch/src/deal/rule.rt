@@ -20,7 +20,7 @@ pub struct HandView {
     pub runs: u32,
     /// To how many hands they are dealt.
     pub hands: u32,
-    /// How many hands it represents.
+    /// The number of hands that it represents.
     pub parts: u32,
     /// How many of these found no run.
     pub marks: u32,

@@ -9,7 +9,7 @@ use std::sync::atomic::{AtomicU64, Ordering};
 use std::test::Fail;
 use std::thread::Threads;
 
-// How often a test looks at a flag before it notes a miss.
+// How often a test reads a flag before it notes a miss.
 const TURNS: u32 = 50_000_000;
 
 // True once the flag is set.

@@ -23,7 +23,7 @@ GivesAs left Ended Unopened r buf = ⊥
 GivesAs left Ended (Open after) r buf = ⊥
 GivesAs left Ended Ended r buf = r ≡ Ok 0
 
--- the same for a file or a standard stream, of which `rest` is what it has left
+-- the result of a read of a file or a standard stream; `rest` is what a standard stream has left
 abbrev pub InputGivesAs : {R I F D E : Type 0} → (F → Option (List ℕ)) → (I → Option (List ℕ))
     → Input R I F D → Input R I F D → Result ℕ E → List ℕ → Type 0
 InputGivesAs left rest (File old) (File new) r buf = GivesAs left old.stage new.stage r buf

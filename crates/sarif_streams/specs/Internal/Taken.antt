@@ -20,7 +20,7 @@ TakesAs held old None r buf = ⊤
 TakesAs {F} held old (Some after) r buf =
     (before : F) × IsOpenBefore old before × WriteAppends (held before) (held after) r buf
 
--- the same for a file or a standard stream, of which `sent` is what it holds
+-- the result of a write to a file or a standard stream; `sent` is what a standard stream holds
 abbrev pub TargetTakesAs : {R O F D E : Type 0} → (F → Option (List ℕ)) → (O → Option (List ℕ))
     → Target R O F D → Target R O F D → Result ℕ E → List ℕ → Type 0
 TargetTakesAs held sent (File old) (File new) r buf =

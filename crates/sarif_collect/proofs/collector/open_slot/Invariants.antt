@@ -6,4 +6,5 @@ use Rattle.sarif_collect.specs.Slot.{held_of}
 use Rattle.sarif_collect.proofs.collector.open_slot.Given as goal
 
 abbrev pub invariant-loop-i : goal.invariant-loop-i
-invariant-loop-i g l = first_open (map held_of l.slots) ≡ position_from (λ (h : Held g.row.T.Denot g.row.C.Denot). is_none h.tail) l.i (map held_of (drop l.i l.slots))
+invariant-loop-i g l = first_open (map held_of l.slots)
+    ≡ position_from (λ (h : Held g.row.T.Denot g.row.C.Denot). is_none h.tail) l.i (map held_of (drop l.i l.slots))

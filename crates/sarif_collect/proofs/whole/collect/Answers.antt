@@ -14,7 +14,8 @@ returns-in-Err-clause-first g c =
     let was = c.loop-piece.invariant in
     let piece = c.in-Some.piece in
     let steps = c.in-Some.ensures.steps.0 in
-    first_refused (replicate c.args.runs empty_run) c.args.arrivals.items c.loop-piece.yielded piece (into_iter_items c.next.new.self) (was.2 ∙ ap (λ l. c.loop-piece.yielded ++ l) steps) c.loop-piece.at was.3 was.5 c.in-Err.field-0.why
+    first_refused (replicate c.args.runs empty_run) c.args.arrivals.items c.loop-piece.yielded piece (into_iter_items c.next.new.self)
+    (was.2 ∙ ap (λ l. c.loop-piece.yielded ++ l) steps) c.loop-piece.at was.3 was.5 c.in-Err.field-0.why
     (subst (λ (k : List (Held g.row.T.Denot g.row.C.Denot)). IsReason (refusal_of k piece) c.in-Err.field-0.why) was.4 c.in-Err.ensures.why)
 
 pub loop-piece-preserved : goal.loop-piece-preserved
@@ -39,13 +40,18 @@ pub returns-in-Ok-finish-clause-lawful : goal.returns-in-Ok-finish-clause-lawful
 returns-in-Ok-finish-clause-lawful g c =
     let was = c.loop-piece.invariant in
     let yielded = c.loop-piece.yielded in
-    let none : into_iter_items c.loop-piece.piece-iterator ≡ [] = nil_from_length (into_iter_items c.loop-piece.piece-iterator) (sym c.loop-piece.piece-iterator.rest.ok.0 ∙ c.in-None.ensures.steps.0) in
-    told_lists c.args.runs c.args.arrivals.items yielded (was.2 ∙ ap (λ l. yielded ++ l) none ∙ append-nil yielded) c.in-Ok-finish.lists was.5 (sym was.4 ∙ c.in-Ok-finish.ensures.ok)
+    let none : into_iter_items c.loop-piece.piece-iterator ≡ [] =
+    nil_from_length (into_iter_items c.loop-piece.piece-iterator) (sym c.loop-piece.piece-iterator.rest.ok.0 ∙ c.in-None.ensures.steps.0) in
+    told_lists c.args.runs c.args.arrivals.items yielded
+    (was.2 ∙ ap (λ l. yielded ++ l) none ∙ append-nil yielded) c.in-Ok-finish.lists was.5 (sym was.4 ∙ c.in-Ok-finish.ensures.ok)
 
 pub returns-clause-unlawful : goal.returns-clause-unlawful
 returns-clause-unlawful g c =
     let was = c.loop-piece.invariant in
     let yielded = c.loop-piece.yielded in
-    let none : into_iter_items c.loop-piece.piece-iterator ≡ [] = nil_from_length (into_iter_items c.loop-piece.piece-iterator) (sym c.loop-piece.piece-iterator.rest.ok.0 ∙ c.in-None.ensures.steps.0) in
-    told_fault c.args.runs c.args.arrivals.items c.loop-piece.at (Unclosed c.in-Err-finish.run') (left_open (replicate c.args.runs empty_run) c.args.arrivals.items yielded (was.2 ∙ ap (λ l. yielded ++ l) none ∙ append-nil yielded) c.loop-piece.at was.3 was.5 c.in-Err-finish.run'
+    let none : into_iter_items c.loop-piece.piece-iterator ≡ [] =
+    nil_from_length (into_iter_items c.loop-piece.piece-iterator) (sym c.loop-piece.piece-iterator.rest.ok.0 ∙ c.in-None.ensures.steps.0) in
+    told_fault c.args.runs c.args.arrivals.items c.loop-piece.at (Unclosed c.in-Err-finish.run')
+    (left_open (replicate c.args.runs empty_run) c.args.arrivals.items yielded
+    (was.2 ∙ ap (λ l. yielded ++ l) none ∙ append-nil yielded) c.loop-piece.at was.3 was.5 c.in-Err-finish.run'
     (ap first_open (sym was.4) ∙ c.in-Err-finish.ensures.err.1))

@@ -7,5 +7,6 @@ use Rattle.sarif_collect.proofs.whole.collect.Given as goal
 
 abbrev pub invariant-loop-piece : goal.invariant-loop-piece
 invariant-loop-piece g l =
-    (goal.iterator-loop-piece g).can_next l.piece-iterator × (goal.iterator-loop-piece g).is_finite l.piece-iterator × (l.fn.arrivals.items ≡ l.yielded ++ into_iter_items l.piece-iterator)
+    (goal.iterator-loop-piece g).can_next l.piece-iterator × (goal.iterator-loop-piece g).is_finite l.piece-iterator
+    × (l.fn.arrivals.items ≡ l.yielded ++ into_iter_items l.piece-iterator)
     × (l.at ≡ length l.yielded) × (l.collector ≡ all_after (replicate l.fn.runs empty_run) l.yielded) × AllAccepted (replicate l.fn.runs empty_run) l.yielded

@@ -9,8 +9,13 @@ pub join_seat-requires : goal.join_seat-requires
 join_seat-requires c =
     let was = c.loop-hand.invariant in
     let hand = c.in-Some.hand in
-    let fits = was.6 0 hand (ap (λ l. slice_get l 0) c.in-Some.ensures.steps.0) in
-    (was.2.table, fits.table, hand.free, c.requires.free.2, joins c.args.claims.now.shared.key c.loop-hand.all.id c.loop-hand.all.me.0 hand.seat.id hand.seat.me.0 was.4)
+    let fits = was.6 0 hand (ap (λ l. slice_get l 0) c.in-Some.ensures.steps.0) in (
+      was.2.table,
+      fits.table,
+      hand.free,
+      c.requires.free.2,
+      joins c.args.claims.now.shared.key c.loop-hand.all.id c.loop-hand.all.me.0 hand.seat.id hand.seat.me.0 was.4,
+    )
 
 pub loop-hand-preserved : goal.loop-hand-preserved
 loop-hand-preserved c =

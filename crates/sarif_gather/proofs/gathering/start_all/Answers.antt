@@ -8,7 +8,8 @@ use Rattle.sarif_gather.proofs.gathering.start_all.Goals as goal
 pub start_one-started-requires-clause-hand : goal.start_one-started-requires-clause-hand
 start_one-started-requires-clause-hand g c κs within =
     let rest = c.pop.new.self.items in
-    c.loop-post.invariant.6 (length rest) c.in-Some-pop.hand (ap (λ l. slice_get l (length rest)) c.in-Some-pop.ensures.items ∙ slice_get_last rest c.in-Some-pop.hand)
+    c.loop-post.invariant.6 (length rest) c.in-Some-pop.hand
+    (ap (λ l. slice_get l (length rest)) c.in-Some-pop.ensures.items ∙ slice_get_last rest c.in-Some-pop.hand)
 
 pub loop-post-preserved : goal.loop-post-preserved
 loop-post-preserved g c =
@@ -27,7 +28,8 @@ loop-post-preserved g c =
       omega arith,
       omega arith,
       λ i p at. subst (λ n. IsNewPost c.args.place.now.mailbox.now n p) (omega (arith, longer)) (was.5 (suc i) p (ap (λ l. slice_get l (suc i)) steps ∙ at)),
-      λ i hand at. was.6 i hand (ap (λ l. slice_get l i) c.in-Some-pop.ensures.items ∙ slice_get_longer c.pop.new.self.items (c.in-Some-pop.hand ∷ []) i hand at),
+      λ i hand at. was.6 i hand
+          (ap (λ l. slice_get l i) c.in-Some-pop.ensures.items ∙ slice_get_longer c.pop.new.self.items (c.in-Some-pop.hand ∷ []) i hand at),
       λ k h at. ⊎_elim (λ e. was.7 k h e)
           (λ e. (
             ap (λ q. q.promise.place.now) (sym e.1) ∙ made.0,

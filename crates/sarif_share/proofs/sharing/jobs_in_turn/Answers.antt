@@ -15,5 +15,6 @@ loop-job-preserved g c =
     let here : g.F.Fn.post f (job, tt) (Ok made) = search rules in
     let pushed : c.push.new.self.items ≡ l.made.items ++ made ∷ [] = search rules in (
       l.invariant.0 ∙ ap (λ js. l.yielded ++ js) step ∙ sym (append_assoc l.yielded (job ∷ []) left),
-      subst (λ us. GivesEach g.F.Fn f (l.yielded ++ job ∷ []) us) (sym pushed) (all_zipped_more (λ j u. g.F.Fn.post f (j, tt) (Ok u)) l.yielded l.made.items job made l.invariant.1 here),
+      subst (λ us. GivesEach g.F.Fn f (l.yielded ++ job ∷ []) us) (sym pushed)
+          (all_zipped_more (λ j u. g.F.Fn.post f (j, tt) (Ok u)) l.yielded l.made.items job made l.invariant.1 here),
     )

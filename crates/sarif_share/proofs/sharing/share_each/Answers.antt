@@ -17,5 +17,6 @@ returns g c =
     let items = c.args.items.now in
     let lists = c.in_ok-lists.lists.items in
     IfOk-weaker c.join_lists.result (λ all. AreJoined (λ v. v.items) lists all.items) (λ made. GivesEachAt g.F.Fn f items made.items)
-    (λ v are. parts_whole _ _ (λ x u. FnReturnsAt g.F.Fn f x (Ok u)) (λ start p w at. subst (λ q. GivesEachAt g.F.Fn f q w.items) at.shows at.call) items lists v.items c.in_ok-lists.ensures are)
+    (λ v are. parts_whole _ _ (λ x u. FnReturnsAt g.F.Fn f x (Ok u))
+    (λ start p w at. subst (λ q. GivesEachAt g.F.Fn f q w.items) at.shows at.call) items lists v.items c.in_ok-lists.ensures are)
     c.join_lists.ensures

@@ -22,5 +22,6 @@ returns g c =
       whole = cut_whole g.F.Fn f size (length rs) xs span.0;
       some = cut_some g.F.Fn f size (length rs) xs c.part_size-size.ensures span.1;
       given = subst (λ k. GivesParts g.F.Fn f k (cut g.F.Fn f size (length rs) xs) rs) (zero-mul size)
-          (chunks_given g.F.Fn f size (length rs) 0 xs xs rs (ap (λ k. drop k xs) (sym (zero-mul size))) refl span.1 (λ i d l. subst (λ k. GivesChunk g.F.Fn f size xs k (slice_index_or rs i d)) {x = i} (omega arith) (told.each i d l).1));
+          (chunks_given g.F.Fn f size (length rs) 0 xs xs rs (ap (λ k. drop k xs) (sym (zero-mul size))) refl span.1
+          (λ i d l. subst (λ k. GivesChunk g.F.Fn f size xs k (slice_index_or rs i d)) {x = i} (omega arith) (told.each i d l).1));
     }

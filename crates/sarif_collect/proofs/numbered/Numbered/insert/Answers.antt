@@ -14,12 +14,17 @@ unreachable-requires g c = let n = c.self.inside in let k = c.args.seq in
 pub invariant_of-self-then-seq-len : goal.invariant_of-self-then-seq-len
 invariant_of-self-then-seq-len g c = let n = c.self.inside in let k = c.args.seq in
     let none = absent k n.row.items n.early.entries (ap (has_number k) c.self.view_is ∙ c.requires) in
-    rw c.in_default.ensures.items (ap (λ m. all_from m n.early.entries) (omega (arith, length_push n.row.items c.args.body)) ∙ all_from_next k n.early.entries (ap (λ m. all_from m n.early.entries) (omega arith) ∙ c.self.invariant) none.1)
+    rw c.in_default.ensures.items
+    (ap (λ m. all_from m n.early.entries) (omega (arith, length_push n.row.items c.args.body))
+    ∙ all_from_next k n.early.entries (ap (λ m. all_from m n.early.entries) (omega arith) ∙ c.self.invariant) none.1)
 
 pub returns-then-seq-len-clause-ok : goal.returns-then-seq-len-clause-ok
 returns-then-seq-len-clause-ok g c = let n = c.self.inside in let k = c.args.seq in
     let none = absent k n.row.items n.early.entries (ap (has_number k) c.self.view_is ∙ c.requires) in
-    rw (c.in_default.ensures.items, ← c.self.view_is) (sym (insert_next k c.args.body n.row.items n.early.entries (omega arith) (ap (λ m. all_from m n.early.entries) (omega arith) ∙ c.self.invariant) none.1))
+    rw (c.in_default.ensures.items, ← c.self.view_is)
+    (sym
+    (insert_next k c.args.body n.row.items n.early.entries (omega arith)
+    (ap (λ m. all_from m n.early.entries) (omega arith) ∙ c.self.invariant) none.1))
 
 pub invariant_of-self-in-Ok-None : goal.invariant_of-self-in-Ok-None
 invariant_of-self-in-Ok-None g c = let n = c.self.inside in let k = c.args.seq in

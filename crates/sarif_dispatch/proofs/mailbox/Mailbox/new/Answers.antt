@@ -32,6 +32,7 @@ loop-number-preserved g c =
       (queue.0.0 ∙ was.2.0, queue.0.2 ∙ was.2.1),
       rule.0 ∙ ap (λ v. Taker (taken_in v) (made_in v + 1) (settled_in v)) was.3,
       λ k p at. ⊎_elim (λ h. was.4 k p h)
-          (λ h. subst (λ q. F k q) h.1 (let number : c.loop-number.number ≡ k = (let len = was.0 in omega (arith, h.0)) in subst (λ n. F n c.new.result) number post))
+          (λ h. subst (λ q. F k q) h.1
+          (let number : c.loop-number.number ≡ k = (let len = was.0 in omega (arith, h.0)) in subst (λ n. F n c.new.result) number post))
           (slice_get_push c.loop-number.posts.items c.new.result k p (ap (λ l. slice_get l k) (sym c.push_reserved.ensures.items) ∙ at)),
     )

@@ -8,4 +8,5 @@ use Rattle.sarif_dispatch.proofs.mailbox.Mailbox.new.Given as goal
 
 abbrev pub invariant-loop-number : goal.invariant-loop-number
 invariant-loop-number g l = (vec_len l.posts ≡ l.number) × (vec_capacity l.posts ≡ l.senders) × IsPassOf l.line l.pass × (view l.pass ≡ Taker [] l.number [])
-    × ((k : ℕ) (post : Post g.row.P.Denot) → slice_get l.posts.items k ≡ Some post → IsPassOf l.line post.pass × (view post.pass ≡ Sender k []) × (post.number ≡ k))
+    × ((k : ℕ) (post : Post g.row.P.Denot) → slice_get l.posts.items k ≡ Some post
+    → IsPassOf l.line post.pass × (view post.pass ≡ Sender k []) × (post.number ≡ k))

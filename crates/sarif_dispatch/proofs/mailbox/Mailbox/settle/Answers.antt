@@ -52,4 +52,5 @@ returns-clause-whole g c =
     let last = c.learn_as.ensures.rule in
     let then = settles_at _ (t ++ c.loop.left.items) n s last.0 c.loop.invariant.1 last.1 in
     whole c.args.self c.args.posts.items (t ++ c.loop.left.items)
-    (none_left t c.loop.left.items held.0 last.0 n s (covers c.args.self c.args.posts.items c.requires.posts) first then (omega (arith, held.1, c.loop.invariant.2)))
+    (none_left t c.loop.left.items held.0 last.0 n s (covers c.args.self c.args.posts.items c.requires.posts) first then
+    (omega (arith, held.1, c.loop.invariant.2)))

@@ -7,4 +7,5 @@ use Rattle.sarif_dispatch.proofs.mailbox.Mailbox.settle.Given as goal
 
 abbrev pub invariant-loop : goal.invariant-loop
 invariant-loop g l =
-    IsPassOf l.self.line l.pass × (view l.pass ≡ Taker (taken_by l.fn.desk ++ l.left.items) l.self.senders (map returned l.fn.posts.items)) × (vec_len l.left ≡ l.counter) × (l.count ≤ vec_capacity l.left)
+    IsPassOf l.self.line l.pass × (view l.pass ≡ Taker (taken_by l.fn.desk ++ l.left.items) l.self.senders (map returned l.fn.posts.items))
+    × (vec_len l.left ≡ l.counter) × (l.count ≤ vec_capacity l.left)

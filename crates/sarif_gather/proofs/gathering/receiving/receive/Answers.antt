@@ -19,8 +19,10 @@ loop-preserved-in_default-Carry g c =
       ap (λ t. ends_in (parcels_in t)) next.ensures.taken ∙ ends_push h next.result arm.piece arm.is-1 ∙ was.4,
       OnTrue_from c.take_in-is_whole.result _ (λ kept.
           let took = OnTrue_at kept c.take_in-is_whole.ensures in
-          took.1 ∙ ap (with_piece c.loop.collector) arm.piece-is ∙ ap (λ k. with_piece k arm.piece) (OnTrue_at took.0 was.5) ∙ sym (all_after_push c.args.collector.now (carried (parcels_in h)) arm.piece)
-          ∙ sym (ap (λ t. all_after c.args.collector.now (carried (parcels_in t))) next.ensures.taken ∙ ap (all_after c.args.collector.now) (carried_push h next.result arm.piece arm.is-1))),
+          took.1 ∙ ap (with_piece c.loop.collector) arm.piece-is ∙ ap (λ k. with_piece k arm.piece) (OnTrue_at took.0 was.5)
+          ∙ sym (all_after_push c.args.collector.now (carried (parcels_in h)) arm.piece)
+          ∙ sym (ap (λ t. all_after c.args.collector.now (carried (parcels_in t))) next.ensures.taken
+          ∙ ap (all_after c.args.collector.now) (carried_push h next.result arm.piece arm.is-1))),
     )
 
 pub loop-preserved-then-is_whole : goal.loop-preserved-then-is_whole
@@ -36,7 +38,8 @@ loop-preserved-then-is_whole g c =
       ap (λ t. ends_in (parcels_in t)) next.ensures.taken ∙ ends_end h next.result arm.short arm.is-1 ∙ ap (λ n. n + 1) was.4,
       OnTrue_from _ _ (λ long.
           OnTrue_at c.if-is_whole.true was.5
-          ∙ sym (ap (λ t. all_after c.args.collector.now (carried (parcels_in t))) next.ensures.taken ∙ ap (all_after c.args.collector.now) (carried_end h next.result arm.short arm.is-1))),
+          ∙ sym (ap (λ t. all_after c.args.collector.now (carried (parcels_in t))) next.ensures.taken
+          ∙ ap (all_after c.args.collector.now) (carried_end h next.result arm.short arm.is-1))),
     )
 
 pub loop-preserved : goal.loop-preserved

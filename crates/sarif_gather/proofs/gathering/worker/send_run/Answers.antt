@@ -12,5 +12,6 @@ loop-seq-preserved g c =
       c.send_on.ensures.post.1 ∙ was.1,
       c.send_on.ensures.sent
           ∙ ap (λ l. l ++ Carry (Item c.args.run c.loop-seq.seq c.in_ok-body.body) ∷ []) was.2
-          ∙ one_more c.args.run (g.W.Work.item c.args.place.now.work.now c.args.run) (sent_by c.args.post.now) c.loop-seq.seq c.in_ok-body.body (c.in_ok-body.ensures c.args.run c.requires.run c.in_ok-head.ensures),
+          ∙ one_more c.args.run (g.W.Work.item c.args.place.now.work.now c.args.run)
+          (sent_by c.args.post.now) c.loop-seq.seq c.in_ok-body.body (c.in_ok-body.ensures c.args.run c.requires.run c.in_ok-head.ensures),
     )

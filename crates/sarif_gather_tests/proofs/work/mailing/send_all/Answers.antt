@@ -12,4 +12,5 @@ returns g c =
     let len = c.send_each.ensures.len in
     let all = ap length value in
     let back = take_at new (drop (length new) c.args.posts.items) c.args.posts.len (omega (arith, len, all)) in
-    subst (AreAllPosts c.args.mailbox.now) (sym back) (posts_kept c.args.mailbox.now old new len c.send_each.ensures.each (subst (AreAllPosts c.args.mailbox.now) (sym value) c.requires))
+    subst (AreAllPosts c.args.mailbox.now) (sym back)
+    (posts_kept c.args.mailbox.now old new len c.send_each.ensures.each (subst (AreAllPosts c.args.mailbox.now) (sym value) c.requires))

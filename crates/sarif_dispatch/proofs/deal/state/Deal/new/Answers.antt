@@ -11,8 +11,12 @@ pub split_seat-requires : goal.split_seat-requires
 split_seat-requires c =
     let was = c.loop.invariant in
     let words = c.in_ok-claims.ensures.0 in
-    let parts = ap (λ v. v.parts) was.4 in
-    (was.2.table, omega arith, splits c.in_ok-claims.claims.shared.key c.loop.first.id c.loop.first.me.0 (omega arith) (ap (λ v. v.marks) was.4) (ap (λ v. v.drawn) was.4))
+    let parts = ap (λ v. v.parts) was.4 in (
+      was.2.table,
+      omega arith,
+      splits c.in_ok-claims.claims.shared.key c.loop.first.id c.loop.first.me.0 (omega arith) (ap (λ v. v.marks) was.4)
+          (ap (λ v. v.drawn) was.4),
+    )
 
 pub loop-preserved : goal.loop-preserved
 loop-preserved c =
@@ -37,7 +41,8 @@ loop-preserved c =
         hands = ap (λ m. m.0.hands) split.2 ∙ was.2.hands;
       },
       ap (λ m. m.1) split.2 ∙ was.3,
-      ap (λ m. m.0) split.2 ∙ ap (λ v. hand_view v.runs v.hands (v.parts - 1) v.marks v.drawn) was.4 ∙ ap (λ n. hand_view c.args.runs c.args.hands n 0 []) (omega arith),
+      ap (λ m. m.0) split.2 ∙ ap (λ v. hand_view v.runs v.hands (v.parts - 1) v.marks v.drawn) was.4
+          ∙ ap (λ n. hand_view c.args.runs c.args.hands n 0 []) (omega arith),
       λ i h at. ⊎_elim (λ e. was.5 i h e) (λ e. subst F e.1 hand)
           (slice_get_push c.loop.all.items c.new.result i h (ap (λ l. slice_get l i) (sym c.push_reserved.ensures.items) ∙ at)),
     )

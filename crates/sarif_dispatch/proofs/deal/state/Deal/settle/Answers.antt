@@ -13,7 +13,8 @@ load-word-requires c = (c.take_back.ensures.all.0.table, c.args.self.word, count
 
 -- the last hand is one of this deal
 last_of : (c : goal.After-drop-self) → IsSeatOf c.args.self.claims c.in-Some.last.seat
-last_of c = c.requires.each (length c.pop.new.self.items) c.in-Some.last (ap (λ l. slice_get l (length c.pop.new.self.items)) c.in-Some.ensures.items ∙ slice_get_last c.pop.new.self.items c.in-Some.last)
+last_of c = c.requires.each (length c.pop.new.self.items) c.in-Some.last
+    (ap (λ l. slice_get l (length c.pop.new.self.items)) c.in-Some.ensures.items ∙ slice_get_last c.pop.new.self.items c.in-Some.last)
 
 pub returns-clause-drawn : goal.returns-clause-drawn
 returns-clause-drawn c = λ run.
@@ -37,5 +38,6 @@ returns-clause-marked c = λ i hand at marked.
     let F : HandView → Type 0 = λ w. Learns w c.load-word.result in
     let learns = subst F c.take_back.ensures.view c.load-word.ensures.2.1 in
     let runs = (last_of c).runs ∙ c.args.self.runs_are in
-    let le = all_marked rest last c.load-word.result learns i hand (elem (rest ++ last ∷ []) i hand (ap (λ l. slice_get l i) (sym c.in-Some.ensures.items) ∙ at)) marked in
+    let le = all_marked rest last c.load-word.result learns i hand
+    (elem (rest ++ last ∷ []) i hand (ap (λ l. slice_get l i) (sym c.in-Some.ensures.items) ∙ at)) marked in
     omega (arith, c.min.ensures)
