@@ -13,7 +13,8 @@ KeptIf f e (Some a) p = f a.0 ≤ e → p ≡ Some a
 abbrev Below : {A : Type 0} → (A → ℕ) → ℕ → Parse A → Parse A → Type 0
 Below f e p q = (ts : List Token) → KeptIf f e (p ts) (q ts)
 
-mapped : {A B : Type 0} (f : A → ℕ) (g : B → ℕ) (d e : ℕ) (h : A → B) → ((a : A) → g (h a) ≤ e → f a ≤ d) → (o p : Option (A × List Token)) → KeptIf f d o p → KeptIf g e (parse_map h o) (parse_map h p)
+mapped : {A B : Type 0} (f : A → ℕ) (g : B → ℕ) (d e : ℕ) (h : A → B) → ((a : A) → g (h a) ≤ e → f a ≤ d) → (o p : Option (A × List Token))
+    → KeptIf f d o p → KeptIf g e (parse_map h o) (parse_map h p)
 mapped f g d e h k None p x = tt
 mapped f g d e h k (Some a) p x = λ le. ap (parse_map h) (x (k a.0 le))
 
@@ -26,12 +27,14 @@ module _ {B : Type 0} (g : B → ℕ) (e : ℕ) (h : Json → B → B) (is : (j 
       let more : g b.0 ≤ e = omega (arith, is q.0 b.0) in
       ap (option_and_then (λ z. parse_map (h z.0) (n z.1))) (x first) ∙ ap (parse_map (h q.0)) (k more)
 
-  both : (m : Parse B) → Below g e m n → (o p : Option (Json × List Token)) → KeptIf depth e o p → KeptIf g e (option_and_then (λ z. parse_map (h z.0) (m z.1)) o) (option_and_then (λ z. parse_map (h z.0) (n z.1)) p)
+  both : (m : Parse B) → Below g e m n → (o p : Option (Json × List Token)) → KeptIf depth e o p
+      → KeptIf g e (option_and_then (λ z. parse_map (h z.0) (m z.1)) o) (option_and_then (λ z. parse_map (h z.0) (n z.1)) p)
   both m below None p x = tt
   both m below (Some q) p x = and_more q p x (m q.1) (below q.1)
 
 module _ (e : ℕ) (p q : Parse Json) (below : Below depth e p q) where
-  item_turn : (m n : Parse Items) → Below items_depth e m n → (ts : List Token) (o : Option (List Token)) → KeptIf items_depth e (items_step p m ts o) (items_step q n ts o)
+  item_turn : (m n : Parse Items) → Below items_depth e m n → (ts : List Token) (o : Option (List Token))
+      → KeptIf items_depth e (items_step p m ts o) (items_step q n ts o)
   item_turn m n h ts (Some r) = λ _. refl
   item_turn m n h ts None = both items_depth e item (λ j b. refl) n m h (p ts) (q ts) (below ts)
 

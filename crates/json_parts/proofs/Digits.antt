@@ -41,7 +41,7 @@ one_digit_more bs i b within short is low high before =
 -- ---- what is read of digits alone
 
 -- the parts of a numeral whose first digits end at a
-abbrev parts_at : List ℕ → ℕ → Parts
+abbrev pub parts_at : List ℕ → ℕ → Parts
 parts_at s a =
     let point = eqb (get_or s a 0) 46 in
     let b = cond point (digits_end s (a + 1)) a in
@@ -55,22 +55,22 @@ parts_at s a =
       len = cond (has_exponent s b) (digits_end s c) b;
     }
 
-scanned : (s : List ℕ) → scan s ≡ parts_at s (digits_end s 0)
+pub scanned : (s : List ℕ) → scan s ≡ parts_at s (digits_end s 0)
 unfolding scan
 scanned s = refl
 
 module _ (s : List ℕ) (a : ℕ) (is : a ≡ length s) where
-  past : get_or s a 0 ≡ 0
+  pub past : get_or s a 0 ≡ 0
   past = get_or_past s a 0 (omega (arith, is))
 
-  whole : slice_range s 0 a ≡ s
-  whole = take_all (a - 0) s (omega (arith, is))
+  pub whole_text : slice_range s 0 a ≡ s
+  whole_text = take_all (a - 0) s (omega (arith, is))
 
   integer_at : ltb 0 (length s) ≡ true → is_integer (parts_at s a) ≡ true
-  integer_at some = simp (past, whole, some)
+  integer_at some = simp (past, whole_text, some)
 
-  digits_at : digits_of (parts_at s a) ≡ digits_value 10 s
-  digits_at = simp (past, whole, append-nil)
+  pub digits_at : digits_of (parts_at s a) ≡ digits_value 10 s
+  digits_at = simp (past, whole_text, append-nil)
 
 digits_end_all : (s : List ℕ) → AllDigits 10 s → digits_end s 0 ≡ length s
 digits_end_all s all = zero-add (digits_len s) ∙ digits_len_all s all
@@ -93,5 +93,6 @@ number_of_digits s numeral short =
     let some : ltb 0 (length s) ≡ true = lt-ltb 0 (length s) numeral.0 in
     let parts = scanned s in
     rw first
-    (integer_from (scan s) (digits_value 10 s) (ap is_integer parts ∙ integer_at s (digits_end s 0) ends some) (ap digits_of parts ∙ digits_at s (digits_end s 0) ends)
+    (integer_from (scan s) (digits_value 10 s) (ap is_integer parts ∙ integer_at s (digits_end s 0) ends some)
+    (ap digits_of parts ∙ digits_at s (digits_end s 0) ends)
     (short_fits s numeral.1 (omega arith)))

@@ -43,4 +43,5 @@ put_text later name d (member k e ms) = put_text_at _ later name k d e ms refl (
 
 pub filled_is_put : (name : List ℕ) (d : Data) (ms : Members) → filled (surrounding name ms) (compact_text d) ≡ compact_text (object (put name d ms))
 filled_is_put name d ms =
-    ap (λ t. 123 ∷ t) (append_assoc (texts_before name ms) (name_text name) (compact_text d ++ members_text true (members_after name ms)) ∙ sym (put_text false name d ms))
+    ap (λ t. 123 ∷ t) (append_assoc (texts_before name ms) (name_text name) (compact_text d ++ members_text true (members_after name ms))
+    ∙ sym (put_text false name d ms))

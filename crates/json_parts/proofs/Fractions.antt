@@ -21,7 +21,8 @@ number_is (json.array js) d s k e = not_found s (sym e)
 number_is (json.object ms) d s k e = not_found s (sym e)
 
 -- the number that the tokens begin with
-pub number_at : (ts : List Token) → IsReadable ts → (s : List ℕ) → ((j : Json) → BeginsWith ts j → Some s ≡ look.as_number j) → number_of s ≡ as_number (data_of ts)
+pub number_at : (ts : List Token) → IsReadable ts → (s : List ℕ) → ((j : Json) → BeginsWith ts j → Some s ≡ look.as_number j)
+    → number_of s ≡ as_number (data_of ts)
 number_at ts read s h = let k = known ts read in number_is k.0 (data_of ts) s (kind k.0 (data_of ts) k.3) (h k.0 k.1)
 
 no_number : (j : Json) (d : Data) → Kind j d → None ≡ look.as_number j → None ≡ as_number d

@@ -22,7 +22,8 @@ pub If-map : {A B : Type 0} (P : A → Type 0) (Q : B → Type 0) (f : A → B) 
 If-map P Q f k None x = tt
 If-map P Q f k (Some a) x = k a x
 
-pub If-and_then : {A B : Type 0} (P : A → Type 0) (Q : B → Type 0) (f : A → Option B) → ((a : A) → P a → If Q (f a)) → (o : Option A) → If P o → If Q (option_and_then f o)
+pub If-and_then : {A B : Type 0} (P : A → Type 0) (Q : B → Type 0) (f : A → Option B) → ((a : A) → P a → If Q (f a)) → (o : Option A)
+    → If P o → If Q (option_and_then f o)
 If-and_then P Q f k None x = tt
 If-and_then P Q f k (Some a) x = k a x
 
@@ -56,12 +57,14 @@ module _ (P : Data → Type 0) (made : IsMade P) where
     items_have : (js : json.Items) → If Items-have (of_items js)
     items_have json.no_items = made.at_none
     items_have (json.item j js) =
-        If-and_then P Items-have (λ d. option_map (item d) (of_items js)) (λ d x. If-map Items-have Items-have (item d) (λ ds h. made.at_item d ds x h) (of_items js) (items_have js)) (of_json j) (json_has j)
+        If-and_then P Items-have (λ d. option_map (item d) (of_items js))
+        (λ d x. If-map Items-have Items-have (item d) (λ ds h. made.at_item d ds x h) (of_items js) (items_have js)) (of_json j) (json_has j)
 
     members_have : (ms : json.Members) (found : Members) → P (object found) → If Members-have (of_members ms found)
     members_have json.no_members found h = h
     members_have (json.member k j ms) found h =
-        If-and_then P Members-have (λ d. of_members ms (put k d found)) (λ d x. members_have ms (put k d found) (made.at_put k d found x h)) (of_json j) (json_has j)
+        If-and_then P Members-have (λ d. of_members ms (put k d found)) (λ d x. members_have ms (put k d found) (made.at_put k d found x h))
+        (of_json j) (json_has j)
 
 -- ---- stripping
 

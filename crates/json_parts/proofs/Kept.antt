@@ -30,7 +30,8 @@ view-cond : (b : Bool) (xs ys : List Entry) → members_view (cond b xs ys) ≡ 
 view-cond true xs ys = refl
 view-cond false xs ys = refl
 
-pub view-removed : (k : List ℕ) (es : List Entry) → members_view (remove_entry (is_at (λ l. slice_cmp nat_cmp k (string_bytes l))) es) ≡ removed k (members_view es)
+pub view-removed : (k : List ℕ) (es : List Entry)
+    → members_view (remove_entry (is_at (λ l. slice_cmp nat_cmp k (string_bytes l))) es) ≡ removed k (members_view es)
 view-removed k [] = refl
 view-removed k (e ∷ es) =
     view-cond (is_eq (cmp k (string_bytes e.0))) es (e ∷ remove_entry (is_at (λ l. slice_cmp nat_cmp k (string_bytes l))) es)
@@ -58,26 +59,33 @@ module _ (name : Option (List ℕ)) where
   below_kept k (member l e ms) h = below_one (is_left_out name l e) k l e (kept_members name ms) h.0 (below_kept k ms h.1)
 
   -- a member that is put and kept
-  equal_kept : (b : Bool) (k l : List ℕ) (d e : Data) (ms : Members) → cmp k l ≡ Equal → k ≡ l → IsBelow l ms → member l (stripped d) ms ≡ put k (stripped d) (kept_one b l e ms)
-  equal_kept true k l d e ms is same r = ap (λ x. member x (stripped d) ms) (sym same) ∙ sym (put_below k (stripped d) ms (subst (λ x. IsBelow x ms) (sym same) r))
+  equal_kept : (b : Bool) (k l : List ℕ) (d e : Data) (ms : Members) → cmp k l ≡ Equal → k ≡ l → IsBelow l ms
+      → member l (stripped d) ms ≡ put k (stripped d) (kept_one b l e ms)
+  equal_kept true k l d e ms is same r = ap (λ x. member x (stripped d) ms) (sym same)
+      ∙ sym (put_below k (stripped d) ms (subst (λ x. IsBelow x ms) (sym same) r))
   equal_kept false k l d e ms is same r = rw is
 
-  greater_kept : (b : Bool) (k l : List ℕ) (d e : Data) (ms : Members) → cmp k l ≡ Greater → kept_one b l e (put k (stripped d) ms) ≡ put k (stripped d) (kept_one b l e ms)
+  greater_kept : (b : Bool) (k l : List ℕ) (d e : Data) (ms : Members) → cmp k l ≡ Greater
+      → kept_one b l e (put k (stripped d) ms) ≡ put k (stripped d) (kept_one b l e ms)
   greater_kept true k l d e ms is = refl
   greater_kept false k l d e ms is = rw is
 
   put_kept_at : (o : Ordering) (k l : List ℕ) (d e : Data) (ms : Members) → cmp k l ≡ o → is_left_out name k d ≡ false → AreMembersOrdered (member l e ms)
       → kept_members name (put k d ms) ≡ put k (stripped d) (kept_members name ms)
-      → kept_members name (match_ordering o (member k d (member l e ms)) (member l d ms) (member l e (put k d ms))) ≡ put k (stripped d) (kept_members name (member l e ms))
+      → kept_members name (match_ordering o (member k d (member l e ms)) (member l d ms) (member l e (put k d ms)))
+      ≡ put k (stripped d) (kept_members name (member l e ms))
   put_kept_at Less k l d e ms is stays h again =
-      ap (λ b. kept_one b k d (kept_members name (member l e ms))) stays ∙ sym (put_below k (stripped d) _ (below_kept k (member l e ms) (is, below_all k l ms is h.0)))
+      ap (λ b. kept_one b k d (kept_members name (member l e ms))) stays
+      ∙ sym (put_below k (stripped d) _ (below_kept k (member l e ms) (is, below_all k l ms is h.0)))
   put_kept_at Equal k l d e ms is stays h again =
       let same : k ≡ l = (bytes_eq-Decides k l).0 (sym (is_eq-slice_cmp k l) ∙ ap is_eq is) in
       ap (λ x. kept_one (is_left_out name x d) l d (kept_members name ms)) (sym same) ∙ ap (λ b. kept_one b l d (kept_members name ms)) stays
       ∙ equal_kept (is_left_out name l e) k l d e (kept_members name ms) is same (below_kept l ms h.0)
-  put_kept_at Greater k l d e ms is stays h again = ap (kept_one (is_left_out name l e) l e) again ∙ greater_kept (is_left_out name l e) k l d e (kept_members name ms) is
+  put_kept_at Greater k l d e ms is stays h again = ap (kept_one (is_left_out name l e) l e) again
+      ∙ greater_kept (is_left_out name l e) k l d e (kept_members name ms) is
 
-  pub put_kept : (k : List ℕ) (d : Data) (ms : Members) → is_left_out name k d ≡ false → AreMembersOrdered ms → kept_members name (put k d ms) ≡ put k (stripped d) (kept_members name ms)
+  pub put_kept : (k : List ℕ) (d : Data) (ms : Members) → is_left_out name k d ≡ false → AreMembersOrdered ms
+      → kept_members name (put k d ms) ≡ put k (stripped d) (kept_members name ms)
   put_kept k d no_members stays h = ap (λ b. kept_one b k d no_members) stays
   put_kept k d (member l e ms) stays h = put_kept_at _ k l d e ms refl stays h (put_kept k d ms stays h.2)
 
@@ -92,16 +100,19 @@ module _ (name : Option (List ℕ)) where
 
   put_left_at : (o : Ordering) (k l : List ℕ) (d e : Data) (ms : Members) → cmp k l ≡ o → is_left_out name k d ≡ true → AreMembersOrdered (member l e ms)
       → kept_members name (put k d ms) ≡ removed k (kept_members name ms)
-      → kept_members name (match_ordering o (member k d (member l e ms)) (member l d ms) (member l e (put k d ms))) ≡ removed k (kept_members name (member l e ms))
+      → kept_members name (match_ordering o (member k d (member l e ms)) (member l d ms) (member l e (put k d ms)))
+      ≡ removed k (kept_members name (member l e ms))
   put_left_at Less k l d e ms is goes h again =
       ap (λ b. kept_one b k d (kept_members name (member l e ms))) goes ∙ sym (removed_above k _ (below_kept k (member l e ms) (is, below_all k l ms is h.0)))
   put_left_at Equal k l d e ms is goes h again =
       let same : k ≡ l = (bytes_eq-Decides k l).0 (sym (is_eq-slice_cmp k l) ∙ ap is_eq is) in
       ap (λ x. kept_one (is_left_out name x d) l d (kept_members name ms)) (sym same) ∙ ap (λ b. kept_one b l d (kept_members name ms)) goes
       ∙ equal_left (is_left_out name l e) k l e (kept_members name ms) is same (below_kept l ms h.0)
-  put_left_at Greater k l d e ms is goes h again = ap (kept_one (is_left_out name l e) l e) again ∙ greater_left (is_left_out name l e) k l e (kept_members name ms) is
+  put_left_at Greater k l d e ms is goes h again = ap (kept_one (is_left_out name l e) l e) again
+      ∙ greater_left (is_left_out name l e) k l e (kept_members name ms) is
 
-  pub put_left : (k : List ℕ) (d : Data) (ms : Members) → is_left_out name k d ≡ true → AreMembersOrdered ms → kept_members name (put k d ms) ≡ removed k (kept_members name ms)
+  pub put_left : (k : List ℕ) (d : Data) (ms : Members) → is_left_out name k d ≡ true → AreMembersOrdered ms
+      → kept_members name (put k d ms) ≡ removed k (kept_members name ms)
   put_left k d no_members goes h = ap (λ b. kept_one b k d no_members) goes
   put_left k d (member l e ms) goes h = put_left_at _ k l d e ms refl goes h (put_left k d ms goes h.2)
 
@@ -110,7 +121,8 @@ kept-stripped no_members = refl
 kept-stripped (member k d ms) = ap (λ x. if is_fractional d then x else member k (stripped d) x) (kept-stripped ms)
 
 without_one : (b : Bool) (name k : List ℕ) (d : Data) (ms rest : Members) → kept_members (Some name) ms ≡ stripped_members rest
-    → (if (b || is_fractional d) then kept_members (Some name) ms else member k (stripped d) (kept_members (Some name) ms)) ≡ stripped_members (if b then rest else member k d rest)
+    → (if (b || is_fractional d) then kept_members (Some name) ms else member k (stripped d) (kept_members (Some name) ms))
+    ≡ stripped_members (if b then rest else member k d rest)
 without_one true name k d ms rest e = e
 without_one false name k d ms rest e = ap (λ x. if is_fractional d then x else member k (stripped d) x) e
 
@@ -148,7 +160,8 @@ object_made (string s) ms e = not_found ms (sym e)
 object_made (array ds) ms e = not_found ms (sym e)
 object_made (object ns) ms e = ap object (Some_inj _ _ e ∙ kept-stripped ns)
 
-pub object_made_without : (name : List ℕ) (d : Data) (ms : Members) → Some ms ≡ option_map (kept_members (Some name)) (as_object d) → object ms ≡ stripped (without_member name d)
+pub object_made_without : (name : List ℕ) (d : Data) (ms : Members) → Some ms ≡ option_map (kept_members (Some name)) (as_object d)
+    → object ms ≡ stripped (without_member name d)
 object_made_without name null ms e = not_found ms (sym e)
 object_made_without name (boolean b) ms e = not_found ms (sym e)
 object_made_without name (number n) ms e = not_found ms (sym e)

@@ -14,7 +14,8 @@ use Rattle.json.proofs.Found.{one_reading, not_found, Some_inj, IsKey}
 
 pub here : (ns : List Node) (i : ℕ) (d : Node) → i < length ns → drop i (map node_token ns) ≡ node_token (get_or ns i d) ∷ drop (i + 1) (map node_token ns)
 here ns i d h =
-    drop_more (map node_token ns) i (node_token d) (omega (arith, length-map ns node_token)) ∙ ap (λ t. t ∷ drop (i + 1) (map node_token ns)) (get_or-map node_token ns i d (node_token d) h)
+    drop_more (map node_token ns) i (node_token d) (omega (arith, length-map ns node_token))
+    ∙ ap (λ t. t ∷ drop (i + 1) (map node_token ns)) (get_or-map node_token ns i d (node_token d) h)
 
 abbrev Shape : Node → List Token → Json → List Token → Type 0
 Shape (Object a) ts j rest = (ms : Members) × (j ≡ object ms)
@@ -45,7 +46,8 @@ shape (Number s) ts j d rest e = alone (number s.now) j ts rest (sym (value_is d
 shape (Bool b) ts j d rest e = alone (boolean b) j ts rest (sym (value_is d _) ∙ e)
 shape Null ts j d rest e = alone null j ts rest (sym (value_is d _) ∙ e)
 
-pub one_token : (n : Node) (ts : List Token) (j : Json) (d : ℕ) (rest : List Token) → ((a : ℕ) → n ≡ Object a → ⊥) → ((a : ℕ) → n ≡ Array a → ⊥) → value d (node_token n ∷ ts) ≡ Some (j, rest) → rest ≡ ts
+pub one_token : (n : Node) (ts : List Token) (j : Json) (d : ℕ) (rest : List Token) → ((a : ℕ) → n ≡ Object a → ⊥)
+    → ((a : ℕ) → n ≡ Array a → ⊥) → value d (node_token n ∷ ts) ≡ Some (j, rest) → rest ≡ ts
 one_token (Object a) ts j d rest p q e = absurd (p a refl)
 one_token EndObject ts j d rest p q e = absurd (shape EndObject ts j d rest e)
 one_token (Array a) ts j d rest p q e = absurd (q a refl)
@@ -100,7 +102,8 @@ as_str_elsewhere Null ts j never h = ap as_str (sym (shape Null ts j h.0 h.1 h.2
 pub as_number_here : (x : Bor (List ℕ)) (ts : List Token) (j : Json) → BeginsWith (node_token (Number x) ∷ ts) j → Some x.now ≡ as_number j
 as_number_here x ts j h = ap as_number (sym (shape (Number x) ts j h.0 h.1 h.2).0)
 
-pub as_number_elsewhere : (n : Node) (ts : List Token) (j : Json) → ((x : Bor (List ℕ)) → n ≡ Number x → ⊥) → BeginsWith (node_token n ∷ ts) j → None ≡ as_number j
+pub as_number_elsewhere : (n : Node) (ts : List Token) (j : Json) → ((x : Bor (List ℕ)) → n ≡ Number x → ⊥)
+    → BeginsWith (node_token n ∷ ts) j → None ≡ as_number j
 as_number_elsewhere (Object a) ts j never h = ap as_number (sym (shape (Object a) ts j h.0 h.1 h.2).1)
 as_number_elsewhere EndObject ts j never h = absurd (shape EndObject ts j h.0 h.1 h.2)
 as_number_elsewhere (Array a) ts j never h = ap as_number (sym (shape (Array a) ts j h.0 h.1 h.2).1)

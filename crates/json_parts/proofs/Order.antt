@@ -30,7 +30,8 @@ pub below_all : (k l : List ℕ) (ms : Members) → cmp k l ≡ Less → IsBelow
 below_all k l no_members a r = tt
 below_all k l (member e c ms) a r = (nat_list_cmp_total.trans k l e a r.0, below_all k l ms a r.1)
 
-ordered_put_at : (o : Ordering) (k e : List ℕ) (d c : Data) (ms more : Members) → cmp k e ≡ o → IsOrdered d → AreMembersOrdered (member e c ms) → (cmp e k ≡ Less → IsBelow e more) → AreMembersOrdered more
+ordered_put_at : (o : Ordering) (k e : List ℕ) (d c : Data) (ms more : Members) → cmp k e ≡ o → IsOrdered d
+    → AreMembersOrdered (member e c ms) → (cmp e k ≡ Less → IsBelow e more) → AreMembersOrdered more
     → AreMembersOrdered (match_ordering o (member k d (member e c ms)) (member e d ms) (member e c more))
 ordered_put_at Less k e d c ms more is x h below q = ((is, below_all k e ms is h.0), x, h)
 ordered_put_at Equal k e d c ms more is x h below q = (h.0, x, h.2)

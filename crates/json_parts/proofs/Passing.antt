@@ -35,10 +35,13 @@ swap true false true d = refl
 swap true true c d = refl
 
 pub items_pass-item : (n : ℕ) (j : Json) (js : Items) → items_pass n (item j js) ≡ (passes n j && items_pass n js)
-items_pass-item n j js = ap₂ (λ a b. a && b) (max_within (depth j) (items_depth js) n) (is_some-both data_.item (of_json j) (of_items js)) ∙ swap (nat_le (depth j) n) (nat_le (items_depth js) n) (is_some (of_json j)) (is_some (of_items js))
+items_pass-item n j js = ap₂ (λ a b. a && b) (max_within (depth j) (items_depth js) n) (is_some-both data_.item (of_json j) (of_items js))
+    ∙ swap (nat_le (depth j) n) (nat_le (items_depth js) n) (is_some (of_json j)) (is_some (of_items js))
 
 pub members_pass-member : (n : ℕ) (k : List ℕ) (j : Json) (ms : Members) → members_pass n (member k j ms) ≡ (passes n j && members_pass n ms)
-members_pass-member n k j ms = ap₂ (λ a b. a && b) (max_within (depth j) (members_depth ms) n) (is_some-both (data_.member k) (of_json j) (named_of ms)) ∙ swap (nat_le (depth j) n) (nat_le (members_depth ms) n) (is_some (of_json j)) (is_some (named_of ms))
+members_pass-member n k j ms =
+    ap₂ (λ a b. a && b) (max_within (depth j) (members_depth ms) n) (is_some-both (data_.member k) (of_json j) (named_of ms))
+    ∙ swap (nat_le (depth j) n) (nat_le (members_depth ms) n) (is_some (of_json j)) (is_some (named_of ms))
 
 one_less : (a n : ℕ) → 0 < n → nat_le (suc a) n ≡ nat_le a (n - 1)
 one_less a n some = grind arith
@@ -49,7 +52,8 @@ passes-array n js some = ap₂ (λ a b. a && b) (one_less (items_depth js) n som
 pub passes-object : (n : ℕ) (ms : Members) → 0 < n → passes n (object ms) ≡ members_pass (n - 1) ms
 passes-object n ms some =
     ap₂ (λ a b. a && b) (one_less (members_depth ms) n some)
-    (is_some-map data_.object (of_members ms data_.no_members) ∙ ap is_some (of_members-named ms data_.no_members) ∙ is_some-map (λ ns. put_all ns data_.no_members) (named_of ms))
+    (is_some-map data_.object (of_members ms data_.no_members) ∙ ap is_some (of_members-named ms data_.no_members)
+    ∙ is_some-map (λ ns. put_all ns data_.no_members) (named_of ms))
 
 within : (n : ℕ) (b : Bool) → (nat_le 0 n && b) ≡ b
 within n b = let least : nat_le 0 n ≡ true = grind arith in ap (λ x. x && b) least

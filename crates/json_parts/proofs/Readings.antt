@@ -49,20 +49,26 @@ depth_is : (ts r : List Token) (j : Json) → value max_depth ts ≡ Some (j, r)
 unfolding depth_of
 depth_is ts r j is = ap (λ o. unwrap_or (option_map (λ p. depth p.0) o) 0) is
 
-pub known : (ts : List Token) → IsReadable ts → (j : Json) × BeginsWith ts j × (depth j ≤ max_depth) × (of_json j ≡ Some (data_of ts)) × (depth_of ts ≡ depth j) × HasNumbers j
-known ts (j, r, d, is, of, numbers) = (j, (max_depth, r, is), value-depth max_depth ts r j is, of ∙ ap Some (sym (data_is ts r j d is of)), depth_is ts r j is, numbers)
+pub known : (ts : List Token) → IsReadable ts
+    → (j : Json) × BeginsWith ts j × (depth j ≤ max_depth) × (of_json j ≡ Some (data_of ts)) × (depth_of ts ≡ depth j) × HasNumbers j
+known ts (j, r, d, is, of, numbers) =
+    (j, (max_depth, r, is), value-depth max_depth ts r j is, of ∙ ap Some (sym (data_is ts r j d is of)), depth_is ts r j is, numbers)
 
-pub found : (ts : List Token) (j : Json) (d : Data) → BeginsWith ts j → depth j ≤ max_depth → of_json j ≡ Some d → HasNumbers j → IsReadable ts × (data_of ts ≡ d) × (depth_of ts ≡ depth j)
+pub found : (ts : List Token) (j : Json) (d : Data) → BeginsWith ts j → depth j ≤ max_depth → of_json j ≡ Some d → HasNumbers j
+    → IsReadable ts × (data_of ts ≡ d) × (depth_of ts ≡ depth j)
 found ts j d (n, r, is) le of numbers = let at = value_at n max_depth ts r j is le in ((j, r, d, at, of, numbers), data_is ts r j d at of, depth_is ts r j at)
 
 -- ---- the data of a value, by its kind
 
-named_twice : (k : List ℕ) (d : Data) (found : Members) (o : Option Members) → option_map (λ ms. put_all ms (put k d found)) o ≡ option_map (λ ms. put_all ms found) (option_map (member k d) o)
+named_twice : (k : List ℕ) (d : Data) (found : Members) (o : Option Members)
+    → option_map (λ ms. put_all ms (put k d found)) o ≡ option_map (λ ms. put_all ms found) (option_map (member k d) o)
 named_twice k d found None = refl
 named_twice k d found (Some ms) = refl
 
-named_turn : (k : List ℕ) (ms : json.Members) (found : Members) → ((more : Members) → of_members ms more ≡ option_map (λ ns. put_all ns more) (named_of ms)) → (o : Option Data)
-    → option_and_then (λ d. of_members ms (put k d found)) o ≡ option_map (λ ns. put_all ns found) (option_and_then (λ d. option_map (member k d) (named_of ms)) o)
+named_turn : (k : List ℕ) (ms : json.Members) (found : Members)
+    → ((more : Members) → of_members ms more ≡ option_map (λ ns. put_all ns more) (named_of ms)) → (o : Option Data)
+    → option_and_then (λ d. of_members ms (put k d found)) o
+    ≡ option_map (λ ns. put_all ns found) (option_and_then (λ d. option_map (member k d) (named_of ms)) o)
 named_turn k ms found again None = refl
 named_turn k ms found again (Some d) = again (put k d found) ∙ named_twice k d found (named_of ms)
 
@@ -104,7 +110,8 @@ Found n None before now = now ≡ before
 Found n (Some j) before now = (d : Data) × (of_json j ≡ Some d) × (now ≡ Some d) × (depth j ≤ n)
 
 module _ (name : List ℕ) (n : ℕ) where
-  member_found : (k : List ℕ) (j : Json) (d : Data) (found : Members) (now : Option Data) → of_json j ≡ Some d → depth j ≤ n → (o : Option Json) → Found n o (get_member name (put k d found)) now
+  member_found : (k : List ℕ) (j : Json) (d : Data) (found : Members) (now : Option Data) → of_json j ≡ Some d → depth j ≤ n
+      → (o : Option Json) → Found n o (get_member name (put k d found)) now
       → (b : Bool) → bytes_eq k name ≡ b → Found n (later_or o (cond b (Some j) None)) (get_member name found) now
   member_found k j d found now of le (Some i) later b is = later
   member_found k j d found now of le None later true is =
@@ -112,13 +119,15 @@ module _ (name : List ℕ) (n : ℕ) where
   member_found k j d found now of le None later false is =
       later ∙ get_member-put_other name k d found (λ same. true≢false (sym ((bytes_eq-Decides k name).1 (sym same)) ∙ is))
 
-  members_found : (ms : json.Members) (ns found : Members) → named_of ms ≡ Some ns → members_depth ms ≤ n → Found n (look.get_member name ms) (get_member name found) (get_member name (put_all ns found))
+  members_found : (ms : json.Members) (ns found : Members) → named_of ms ≡ Some ns → members_depth ms ≤ n
+      → Found n (look.get_member name ms) (get_member name found) (get_member name (put_all ns found))
   members_found json.no_members ns found e le = ap (λ x. get_member name (put_all x found)) (sym (Some_inj _ _ e))
   members_found (json.member k j ms) ns found e le =
       let first = and_then_some (λ d. option_map (member k d) (named_of ms)) (of_json j) ns e in
       let more = mapped_some (member k first.0) (named_of ms) ns first.2 in
       subst (λ x. Found n (look.get_member name (json.member k j ms)) (get_member name found) (get_member name (put_all x found))) more.2
-      (member_found k j first.0 found _ first.1 (omega arith) (look.get_member name ms) (members_found ms more.0 (put k first.0 found) more.1 (omega arith)) _ refl)
+      (member_found k j first.0 found _ first.1 (omega arith) (look.get_member name ms)
+      (members_found ms more.0 (put k first.0 found) more.1 (omega arith)) _ refl)
 
   pub get_found : (j : Json) (d : Data) → Kind j d → depth j ≤ n → Found n (look.get name j) None (get name d)
   get_found json.null d k le = ap (get name) (sym k)

@@ -53,6 +53,7 @@ same_members (member k d ms) no_members ordered rising same = absurd (some≢non
 same_members (member k d ms) (member l e ns) ordered rising same =
     let both = first (slice_cmp nat_cmp k l) k l d e ms ns refl (nat_list_cmp_total.antisymm l k) ordered.0 rising.0 same in
     let under : IsBelow k ns = rw both.0 rising.0 in
-    let again : (q : List ℕ) → get_member q (member k d ms) ≡ get_member q (member k e ns) = λ q. same q ∙ ap (λ name. get_member q (member name e ns)) (sym both.0) in
+    let again : (q : List ℕ) → get_member q (member k d ms) ≡ get_member q (member k e ns) = λ q. same q
+    ∙ ap (λ name. get_member q (member name e ns)) (sym both.0) in
     let rest = same_members ms ns ordered.2 rising.2 (λ q. later (slice_cmp nat_cmp q k) q k d e ms ns refl ordered.0 under (again q)) in
     rw (both.0, both.1, rest) refl

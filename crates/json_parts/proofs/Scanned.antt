@@ -104,7 +104,8 @@ module _ (p : Parse Json) (each : Scans passes (λ n. n) p) where
       ∙ ap (λ b. b && scan (suc n) later.0.1) (sym (members_pass-member n k first.0.0 later.0.0))
       ∙ ap (λ q. members_pass n q.0 && scan (suc n) q.1) later.2
 
-  member_turn : (n : ℕ) (ts rest : List Token) (ms : Members) (more : Parse Members) → Scans members_pass suc more → (o : Option (Option (List ℕ) × List Token)) → read_key ts ≡ o
+  member_turn : (n : ℕ) (ts rest : List Token) (ms : Members) (more : Parse Members) → Scans members_pass suc more
+      → (o : Option (Option (List ℕ) × List Token)) → read_key ts ≡ o
       → option_and_then (λ q. members_step p more q.0 q.1) o ≡ Some (ms, rest) → scan n ts ≡ (members_pass n ms && scan (suc n) rest)
   member_turn n ts rest ms more scans None read is = not_found (ms, rest) is
   member_turn n ts rest ms more scans (Some (None, r)) read is =
@@ -120,19 +121,22 @@ module _ (p : Parse Json) (each : Scans passes (λ n. n) p) where
 
 -- ---- a value
 
-array_scans : (n : ℕ) (ts r : List Token) (js : Items) → ((k : ℕ) → scan k ts ≡ (items_pass k js && scan (suc k) r)) → deeper n (λ m. scan m ts) ≡ (passes n (array js) && scan n r)
+array_scans : (n : ℕ) (ts r : List Token) (js : Items) → ((k : ℕ) → scan k ts ≡ (items_pass k js && scan (suc k) r))
+    → deeper n (λ m. scan m ts) ≡ (passes n (array js) && scan n r)
 array_scans zero ts r js each = ap (λ b. b && scan zero r) (sym (passes-flat_array zero js refl))
 array_scans (suc k) ts r js each =
     let less : suc k - 1 ≡ k = omega arith in
     each k ∙ ap (λ b. b && scan (suc k) r) (sym (passes-array (suc k) js (omega arith) ∙ ap (λ m. items_pass m js) less))
 
-object_scans : (n : ℕ) (ts r : List Token) (ms : Members) → ((k : ℕ) → scan k ts ≡ (members_pass k ms && scan (suc k) r)) → deeper n (λ m. scan m ts) ≡ (passes n (object ms) && scan n r)
+object_scans : (n : ℕ) (ts r : List Token) (ms : Members) → ((k : ℕ) → scan k ts ≡ (members_pass k ms && scan (suc k) r))
+    → deeper n (λ m. scan m ts) ≡ (passes n (object ms) && scan n r)
 object_scans zero ts r ms each = ap (λ b. b && scan zero r) (sym (passes-flat_object zero ms refl))
 object_scans (suc k) ts r ms each =
     let less : suc k - 1 ≡ k = omega arith in
     each k ∙ ap (λ b. b && scan (suc k) r) (sym (passes-object (suc k) ms (omega arith) ∙ ap (λ m. members_pass m ms) less))
 
-plain_scans : (n : ℕ) (v j : Json) (ts rest : List Token) → passes n v ≡ true → ◌≡◌ {A = Option (Json × List Token)} (Some (v, ts)) (Some (j, rest)) → scan n ts ≡ (passes n j && scan n rest)
+plain_scans : (n : ℕ) (v j : Json) (ts rest : List Token) → passes n v ≡ true
+    → ◌≡◌ {A = Option (Json × List Token)} (Some (v, ts)) (Some (j, rest)) → scan n ts ≡ (passes n j && scan n rest)
 plain_scans n v j ts rest near is = ap (λ b. b && scan n ts) (sym near) ∙ ap (λ q. passes n q.0 && scan n q.1) (Some_inj (v, ts) (j, rest) is)
 
 with_scans : (a : Parse Items) (o : Parse Members) → Scans items_pass suc a → Scans members_pass suc o → Scans passes (λ n. n) (value_with a o)

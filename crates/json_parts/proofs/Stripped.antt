@@ -23,8 +23,10 @@ pub absent_below : (k : List ℕ) (ms : Members) → IsBelow k ms → get_member
 absent_below k no_members h = refl
 absent_below k (member l e ms) h = rw h.0 (absent_below k ms h.1)
 
-skips_or_finds : (o : Ordering) (b : Bool) (k l : List ℕ) (d : Data) (ms : Members) → cmp k l ≡ o → is_fractional d ≡ b → (is_eq o ≡ true → get_member k ms ≡ None) → get_member k (stripped_members ms) ≡ option_and_then unless_fractional (get_member k ms)
-    → get_member k (if b then stripped_members ms else member l (stripped d) (stripped_members ms)) ≡ option_and_then unless_fractional (match_ordering o (get_member k ms) (Some d) (get_member k ms))
+skips_or_finds : (o : Ordering) (b : Bool) (k l : List ℕ) (d : Data) (ms : Members) → cmp k l ≡ o → is_fractional d ≡ b
+    → (is_eq o ≡ true → get_member k ms ≡ None) → get_member k (stripped_members ms) ≡ option_and_then unless_fractional (get_member k ms)
+    → get_member k (if b then stripped_members ms else member l (stripped d) (stripped_members ms))
+    ≡ option_and_then unless_fractional (match_ordering o (get_member k ms) (Some d) (get_member k ms))
 skips_or_finds Less true k l d ms is f only again = again
 skips_or_finds Equal true k l d ms is f only again = again ∙ ap (option_and_then unless_fractional) (only refl) ∙ rw f
 skips_or_finds Greater true k l d ms is f only again = again
@@ -35,13 +37,16 @@ skips_or_finds Greater false k l d ms is f only again = rw is again
 same_name : (k l : List ℕ) (o : Ordering) → cmp k l ≡ o → is_eq o ≡ true → l ≡ k
 same_name k l o is e = sym ((bytes_eq-Decides k l).0 (sym (is_eq-slice_cmp k l) ∙ ap is_eq is ∙ e))
 
-get_member-stripped : (k : List ℕ) (ms : Members) → AreMembersOrdered ms → get_member k (stripped_members ms) ≡ option_and_then unless_fractional (get_member k ms)
+get_member-stripped : (k : List ℕ) (ms : Members) → AreMembersOrdered ms
+    → get_member k (stripped_members ms) ≡ option_and_then unless_fractional (get_member k ms)
 get_member-stripped k no_members h = refl
 get_member-stripped k (member l d ms) h =
-    skips_or_finds (cmp k l) (is_fractional d) k l d ms refl refl (λ e. absent_below k ms (subst (λ x. IsBelow x ms) (same_name k l _ refl e) h.0)) (get_member-stripped k ms h.2)
+    skips_or_finds (cmp k l) (is_fractional d) k l d ms refl refl
+    (λ e. absent_below k ms (subst (λ x. IsBelow x ms) (same_name k l _ refl e) h.0)) (get_member-stripped k ms h.2)
 
 -- a member of a stripped value
-pub get-stripped : (k : List ℕ) (d : Data) → IsOrdered d → get k (stripped d) ≡ option_and_then (λ e. if is_fractional e then None else Some (stripped e)) (get k d)
+pub get-stripped : (k : List ℕ) (d : Data) → IsOrdered d
+    → get k (stripped d) ≡ option_and_then (λ e. if is_fractional e then None else Some (stripped e)) (get k d)
 get-stripped k null h = refl
 get-stripped k (boolean b) h = refl
 get-stripped k (number n) h = refl
@@ -51,7 +56,8 @@ get-stripped k (object ms) h = get_member-stripped k ms h
 
 -- ---- order
 
-found_ordered : (o : Ordering) (k : List ℕ) (d e : Data) (ms : Members) → IsOrdered d → (get_member k ms ≡ Some e → IsOrdered e) → match_ordering o (get_member k ms) (Some d) (get_member k ms) ≡ Some e → IsOrdered e
+found_ordered : (o : Ordering) (k : List ℕ) (d e : Data) (ms : Members) → IsOrdered d → (get_member k ms ≡ Some e → IsOrdered e)
+    → match_ordering o (get_member k ms) (Some d) (get_member k ms) ≡ Some e → IsOrdered e
 found_ordered Less k d e ms x again is = again is
 found_ordered Equal k d e ms x again is = subst IsOrdered (Some_inj d e is) x
 found_ordered Greater k d e ms x again is = again is
@@ -104,7 +110,8 @@ get-without_other k r (object ms) apart = get_member-without_other k r ms apart
 pub differ : (r l : List ℕ) → bytes_eq r l ≡ false → r ≡ l → ⊥
 differ r l e same = true≢false (sym ((bytes_eq-Decides r l).1 same) ∙ e)
 
-same_turn : (b : Bool) (r l : List ℕ) (d : Data) (ms : Members) → bytes_eq r l ≡ b → get_member r (without r ms) ≡ None → get_member r (if b then without r ms else member l d (without r ms)) ≡ None
+same_turn : (b : Bool) (r l : List ℕ) (d : Data) (ms : Members) → bytes_eq r l ≡ b → get_member r (without r ms) ≡ None
+    → get_member r (if b then without r ms else member l d (without r ms)) ≡ None
 same_turn true r l d ms is again = again
 same_turn false r l d ms is again = skips r l d (without r ms) (differ r l is) ∙ again
 
@@ -120,8 +127,10 @@ get-without_same r (string s) = refl
 get-without_same r (array ds) = refl
 get-without_same r (object ms) = get_member-without_same r ms
 
-swap_turn : (b f : Bool) (r l : List ℕ) (d : Data) (ms : Members) → bytes_eq r l ≡ b → is_fractional d ≡ f → stripped_members (without r ms) ≡ without r (stripped_members ms)
-    → stripped_members (if b then without r ms else member l d (without r ms)) ≡ without r (if f then stripped_members ms else member l (stripped d) (stripped_members ms))
+swap_turn : (b f : Bool) (r l : List ℕ) (d : Data) (ms : Members) → bytes_eq r l ≡ b → is_fractional d ≡ f
+    → stripped_members (without r ms) ≡ without r (stripped_members ms)
+    → stripped_members (if b then without r ms else member l d (without r ms))
+    ≡ without r (if f then stripped_members ms else member l (stripped d) (stripped_members ms))
 swap_turn true true r l d ms is f again = again
 swap_turn true false r l d ms is f again = rw is again
 swap_turn false true r l d ms is f again = rw f again

@@ -35,7 +35,8 @@ last None j e = not_found j e
 last (Some (i, [])) j e = ap (λ x. Some (x, [])) (Some_inj i j e)
 last (Some (i, t ∷ ts)) j e = not_found j e
 
-unread_from : (text : List ℕ) (o : Option (Json × List Token)) → value max_depth (tokens text) ≡ o → ((j : Json) → value max_depth (tokens text) ≡ Some (j, []) → of_json j ≡ None) → option_and_then of_json (whole o) ≡ None
+unread_from : (text : List ℕ) (o : Option (Json × List Token)) → value max_depth (tokens text) ≡ o
+    → ((j : Json) → value max_depth (tokens text) ≡ Some (j, []) → of_json j ≡ None) → option_and_then of_json (whole o) ≡ None
 unread_from text None e h = refl
 unread_from text (Some (j, [])) e h = h j e
 unread_from text (Some (j, t ∷ ts)) e h = refl
@@ -43,7 +44,8 @@ unread_from text (Some (j, t ∷ ts)) e h = refl
 pub no_document : (text : List ℕ) → document text ≡ None → read text ≡ None
 no_document text none =
     unread_from text (value max_depth (tokens text)) refl
-    (λ j e. not_found j (sym none ∙ ap whole (value_at max_depth 128 (tokens text) [] j e (let le = value-depth max_depth (tokens text) [] j e in omega (arith, le)))))
+    (λ j e. not_found j (sym none
+    ∙ ap whole (value_at max_depth 128 (tokens text) [] j e (let le = value-depth max_depth (tokens text) [] j e in omega (arith, le)))))
 
 absent : {A : Type 0} (o : Option A) → is_some o ≡ false → o ≡ None
 absent None e = refl
@@ -61,7 +63,9 @@ present : {A : Type 0} (o : Option A) → is_some o ≡ true → (a : A) × (o �
 present None e = absurd (true≢false (sym e))
 present (Some a) e = (a, refl)
 
-readable_from : (text : List ℕ) (o : Option Json) → document text ≡ o → IsSome o → ((j : Json) → IsWhole (tokens text) j → passes max_depth j ≡ true) → IsReadable (tokens text) × (read text ≡ Some (data_of (tokens text)))
+readable_from : (text : List ℕ) (o : Option Json) → document text ≡ o → IsSome o
+    → ((j : Json) → IsWhole (tokens text) j → passes max_depth j ≡ true)
+    → IsReadable (tokens text) × (read text ≡ Some (data_of (tokens text)))
 readable_from text None e some h = absurd (true≢false (sym some))
 readable_from text (Some j) e some h =
     let at : value 128 (tokens text) ≡ Some (j, []) = last (value 128 (tokens text)) j e in
@@ -73,5 +77,6 @@ readable_from text (Some j) e some h =
     let here = value_at 128 max_depth (tokens text) [] j at le in
     (r.0, ap (λ x. option_and_then of_json (whole x)) here ∙ d.1 ∙ ap Some (sym r.1))
 
-pub readable_text : (text : List ℕ) → IsSome (document text) → ((j : Json) → IsWhole (tokens text) j → passes max_depth j ≡ true) → IsReadable (tokens text) × (read text ≡ Some (data_of (tokens text)))
+pub readable_text : (text : List ℕ) → IsSome (document text) → ((j : Json) → IsWhole (tokens text) j → passes max_depth j ≡ true)
+    → IsReadable (tokens text) × (read text ≡ Some (data_of (tokens text)))
 readable_text text some h = readable_from text (document text) refl some h

@@ -11,4 +11,5 @@ json_of_read bytes d utf8 is = rw (is_utf8-from_IsUtf8 bytes utf8) is
 
 pub json_of_refused : (bytes : List ℕ) → (IsUtf8 bytes → read bytes ≡ None) → json_of bytes ≡ None
 json_of_refused bytes refused =
-    elim (is_utf8 bytes) as (λ b. is_utf8 bytes ≡ b → ◌≡◌ {A = Option Data} (if b then read bytes else None) None) [ true ↦ λ e. refused (IsUtf8-from_is_utf8 bytes e) | false ↦ λ e. refl ] refl
+    elim (is_utf8 bytes) as (λ b. is_utf8 bytes ≡ b → ◌≡◌ {A = Option Data} (if b then read bytes else None) None)
+    [ true ↦ λ e. refused (IsUtf8-from_is_utf8 bytes e) | false ↦ λ e. refl ] refl

@@ -44,7 +44,8 @@ pub is_null_at : (ts : List Token) (b : Bool) → IsReadable ts → ((j : Json) 
 is_null_at ts b r h = let k = known ts r in h k.0 k.1 ∙ null_is k.0 (data_of ts) (kind k.0 (data_of ts) k.3)
 
 pub opens_array : (ts : List Token) → IsReadable ts → (r : Option (List Token))
-    → ((j : Json) → BeginsWith ts j → MatchOption r (look.as_array j ≡ None) (λ rest. (js : json.Items) × (j ≡ json.array js) × InItems rest js)) → OpensArray ts r
+    → ((j : Json) → BeginsWith ts j
+    → MatchOption r (look.as_array j ≡ None) (λ rest. (js : json.Items) × (j ≡ json.array js) × InItems rest js)) → OpensArray ts r
 opens_array ts read None h = let k = known ts read in no_array k.0 (data_of ts) (kind k.0 (data_of ts) k.3) (h k.0 k.1)
 opens_array ts read (Some inner) h =
     let k = known ts read in
@@ -54,7 +55,8 @@ opens_array ts read (Some inner) h =
     (items_depth o.0, shape.0, deep, sym shape.2, (o.0, o.2, shape.1, omega arith, omega (arith, k.2, k.4, deep), subst HasNumbers o.1 k.5))
 
 pub opens_object : (ts : List Token) → IsReadable ts → (r : Option (List Token))
-    → ((j : Json) → BeginsWith ts j → MatchOption r (look.as_object j ≡ None) (λ rest. (ms : json.Members) × (j ≡ json.object ms) × InMembers rest ms)) → OpensObject ts r
+    → ((j : Json) → BeginsWith ts j
+    → MatchOption r (look.as_object j ≡ None) (λ rest. (ms : json.Members) × (j ≡ json.object ms) × InMembers rest ms)) → OpensObject ts r
 opens_object ts read None h = let k = known ts read in no_object k.0 (data_of ts) (kind k.0 (data_of ts) k.3) (h k.0 k.1)
 opens_object ts read (Some inner) h =
     let k = known ts read in
@@ -69,9 +71,11 @@ abbrev pub Gets : List ℕ → Data → Option (List Token) → Type 0
 Gets name d None = get name d ≡ None
 Gets name d (Some ts) = IsReadable ts × (get name d ≡ Some (data_of ts))
 
-pub gets_at : (name : List ℕ) (ts : List Token) → IsReadable ts → (r : Option (List Token)) → ((j : Json) → BeginsWith ts j → Finds r (look.get name j)) → Gets name (data_of ts) r
+pub gets_at : (name : List ℕ) (ts : List Token) → IsReadable ts → (r : Option (List Token))
+    → ((j : Json) → BeginsWith ts j → Finds r (look.get name j)) → Gets name (data_of ts) r
 gets_at name ts read None h =
-    let k = known ts read in subst (λ o. Found max_depth o None (get name (data_of ts))) (h k.0 k.1) (get_found name max_depth k.0 (data_of ts) (kind k.0 (data_of ts) k.3) k.2)
+    let k = known ts read in subst (λ o. Found max_depth o None (get name (data_of ts))) (h k.0 k.1)
+    (get_found name max_depth k.0 (data_of ts) (kind k.0 (data_of ts) k.3) k.2)
 gets_at name ts read (Some e) h =
     let k = known ts read in
     let o = h k.0 k.1 in
@@ -104,7 +108,8 @@ abbrev pub StandsNamed : ℕ → Members → Option (List ℕ × List Token) →
 StandsNamed n ms None new = ms ≡ no_members
 StandsNamed n ms (Some m) new = IsReadable m.1 × ((rest : Members) × (ms ≡ member m.0 (data_of m.1) rest) × (depth_of m.1 ≤ n) × MembersAre n new rest)
 
-pub member_at : (n : ℕ) (old new : List Token) (ms : Members) (r : Option (List ℕ × List Token)) → MembersAre n old ms → look.NextMember old r new → StandsNamed n ms r new
+pub member_at : (n : ℕ) (old new : List Token) (ms : Members) (r : Option (List ℕ × List Token)) → MembersAre n old ms
+    → look.NextMember old r new → StandsNamed n ms r new
 member_at n old new ms None (js, within, of, le, most, numbers) h = Some_inj ms no_members (sym of ∙ ap named_of (h js within))
 member_at n old new ms (Some m) (js, within, of, le, most, numbers) h =
     let f = h js within in
@@ -112,8 +117,15 @@ member_at n old new ms (Some m) (js, within, of, le, most, numbers) h =
     let more = mapped_some (member m.0 first.0) (named_of f.1) ms first.2 in
     let deep : members_depth js ≡ max (depth f.0) (members_depth f.1) = ap members_depth f.2 in
     let each = subst MembersHaveNumbers f.2 numbers in
-    let r = found m.1 f.0 first.0 f.3 (omega (arith, deep, le, most)) first.1 each.0 in
-    (r.0, (more.0, sym more.2 ∙ ap (λ x. member m.0 x more.0) (sym r.1), omega (arith, deep, le, r.2), (f.1, f.4, more.1, omega (arith, deep, le), most, each.1)))
+    let r = found m.1 f.0 first.0 f.3 (omega (arith, deep, le, most)) first.1 each.0 in (
+      r.0,
+      (
+        more.0,
+        sym more.2 ∙ ap (λ x. member m.0 x more.0) (sym r.1),
+        omega (arith, deep, le, r.2),
+        (f.1, f.4, more.1, omega (arith, deep, le), most, each.1),
+      ),
+    )
 
 pub next_member_is : (old new : List Token) (r : Option (List ℕ × List Token)) → look.NextMember old r new → NextMember old r new
 next_member_is old new None h n ms are = member_at n old new ms None are h

@@ -83,7 +83,7 @@ fn is_first(members: &Map<String, Value>, name: &str) -> bool
     }
 }
 
-/// Removes the members whose names are below this one, and adds their texts, each followed by a comma.
+/// Removes the members with names below this one, and writes each of them as JSON, followed by a comma.
 fn push_before(
     alloc: Global,
     text: &mut String,

@@ -17,7 +17,8 @@ pub const MAX_DEPTH: usize = 127;
 /// Why a string has no index.
 #[derive(Clone, Copy, Debug, PartialEq, Eq, Drop)]
 pub enum IndexFault {
-    /// It is not UTF-8 or not JSON, nests deeper than `MAX_DEPTH`, or contains a number too large for a float.
+    /// A string that is not UTF-8 or not JSON, nests deeper than `MAX_DEPTH`, or contains a number too large for a
+    /// float.
     NotJson,
     /// Memory ran out.
     OutOfMemory,

@@ -41,7 +41,8 @@ mutual
 
   members_numbers_whole : (ms found : Members) → MembersHaveNumbers ms → MembersHaveNumbers found → MembersHaveNumbers (whole_members ms found)
   members_numbers_whole no_members found h known = known
-  members_numbers_whole (member k j ms) found h known = members_numbers_whole ms (put k (whole j) found) h.1 (numbers_put k (whole j) found (numbers_whole j h.0) known)
+  members_numbers_whole (member k j ms) found h known =
+      members_numbers_whole ms (put k (whole j) found) h.1 (numbers_put k (whole j) found (numbers_whole j h.0) known)
 
 numbers_unless : (b : Bool) (k : List ℕ) (j : Json) (ms : Members) → HasNumbers j → MembersHaveNumbers ms → MembersHaveNumbers (if b then ms else member k j ms)
 numbers_unless true k j ms x rest = rest
@@ -62,7 +63,8 @@ mutual
 
   members_numbers_stripped : (ms : Members) → MembersHaveNumbers ms → MembersHaveNumbers (stripped_members ms)
   members_numbers_stripped no_members h = tt
-  members_numbers_stripped (member k j ms) h = numbers_unless (is_fractional j) k (stripped j) (stripped_members ms) (numbers_stripped j h.0) (members_numbers_stripped ms h.1)
+  members_numbers_stripped (member k j ms) h =
+      numbers_unless (is_fractional j) k (stripped j) (stripped_members ms) (numbers_stripped j h.0) (members_numbers_stripped ms h.1)
 
 -- ---- nothing nests deeper
 
@@ -112,7 +114,8 @@ mutual
 
   members_depth_stripped : (ms : Members) → members_depth (stripped_members ms) ≤ members_depth ms
   members_depth_stripped no_members = omega arith
-  members_depth_stripped (member k j ms) = omega (arith, depth_unless (is_fractional j) k (stripped j) (stripped_members ms), depth_stripped j, members_depth_stripped ms)
+  members_depth_stripped (member k j ms) =
+      omega (arith, depth_unless (is_fractional j) k (stripped j) (stripped_members ms), depth_stripped j, members_depth_stripped ms)
 
 -- ---- what is written is read again
 
@@ -146,7 +149,8 @@ below_all : (k l : List ℕ) (ms : Members) → cmp k l ≡ Less → IsBelow l m
 below_all k l no_members a r = tt
 below_all k l (member e i ms) a r = (nat_list_cmp_total.trans k l e a r.0, below_all k l ms a r.1)
 
-settled_put_at : (o : Ordering) (k e : List ℕ) (j i : Json) (ms more : Members) → cmp k e ≡ o → whole j ≡ j → AreSettled (member e i ms) → (cmp e k ≡ Less → IsBelow e more) → AreSettled more
+settled_put_at : (o : Ordering) (k e : List ℕ) (j i : Json) (ms more : Members) → cmp k e ≡ o → whole j ≡ j → AreSettled (member e i ms)
+    → (cmp e k ≡ Less → IsBelow e more) → AreSettled more
     → AreSettled (match_ordering o (member k j (member e i ms)) (member e j ms) (member e i more))
 settled_put_at Less k e j i ms more is x h below q = ((is, below_all k e ms is h.0), x, h)
 settled_put_at Equal k e j i ms more is x h below q = (h.0, x, h.2)
@@ -179,14 +183,16 @@ join_none : (found : Members) → join found no_members ≡ found
 join_none no_members = refl
 join_none (member l i found) = ap (member l i) (join_none found)
 
-below_one : (found : Members) (k : List ℕ) (j : Json) (ms : Members) → AreBelow found (member k j ms) → IsBelow k ms → AreBelow (join found (member k j no_members)) ms
+below_one : (found : Members) (k : List ℕ) (j : Json) (ms : Members) → AreBelow found (member k j ms) → IsBelow k ms
+    → AreBelow (join found (member k j no_members)) ms
 below_one no_members k j ms h own = (own, tt)
 below_one (member l i found) k j ms h own = (h.0.1, below_one found k j ms h.1 own)
 
 settle : (ms found : Members) → AreSettled ms → AreBelow found ms → whole_members ms found ≡ join found ms
 settle no_members found s below = sym (join_none found)
 settle (member k j ms) found s below =
-    ap (λ i. whole_members ms (put k i found)) s.1 ∙ ap (whole_members ms) (put_last k j ms found below) ∙ settle ms (join found (member k j no_members)) s.2 (below_one found k j ms below s.0)
+    ap (λ i. whole_members ms (put k i found)) s.1 ∙ ap (whole_members ms) (put_last k j ms found below)
+    ∙ settle ms (join found (member k j no_members)) s.2 (below_one found k j ms below s.0)
     ∙ join_one found k j ms
 
 mutual
@@ -207,7 +213,8 @@ mutual
   members_settled (member k j ms) found h = members_settled ms (put k (whole j) found) (settled_put k (whole j) found (whole_twice j) h)
 
 -- stripped later, or at once
-pub stripped_again : (j again : Json) → HasNumbers j → depth j ≤ max_depth → document (text_of (written true j)) ≡ Some again → text_of (stripped (whole again)) ≡ text_of (written false j)
+pub stripped_again : (j again : Json) → HasNumbers j → depth j ≤ max_depth → document (text_of (written true j)) ≡ Some again
+    → text_of (stripped (whole again)) ≡ text_of (written false j)
 stripped_again j again numbers shallow e =
     let same : again ≡ whole j = Some_inj again (whole j) (sym e ∙ read_again true j numbers shallow) in
     ap (λ i. text_of (stripped (whole i))) same ∙ ap (λ i. text_of (stripped i)) (whole_twice j)

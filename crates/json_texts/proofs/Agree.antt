@@ -35,8 +35,10 @@ AreAlike json.no_members (member l d ds) = ⊥
 AreAlike (json.member k j js) no_members = ⊥
 AreAlike (json.member k j js) (member l d ds) = (k ≡ l) × IsAlike j d × AreAlike js ds
 
-put_at : (o : Ordering) (k l : List ℕ) (j i : Json) (d e : Data) (js : json.Members) (ds : Members) → IsAlike j d → IsAlike i e → AreAlike js ds → AreAlike (said.put k j js) (put k d ds)
-    → AreAlike (match_ordering o (json.member k j (json.member l i js)) (json.member l j js) (json.member l i (said.put k j js))) (match_ordering o (member k d (member l e ds)) (member l d ds) (member l e (put k d ds)))
+put_at : (o : Ordering) (k l : List ℕ) (j i : Json) (d e : Data) (js : json.Members) (ds : Members) → IsAlike j d → IsAlike i e
+    → AreAlike js ds → AreAlike (said.put k j js) (put k d ds)
+    → AreAlike (match_ordering o (json.member k j (json.member l i js)) (json.member l j js) (json.member l i (said.put k j js)))
+    (match_ordering o (member k d (member l e ds)) (member l d ds) (member l e (put k d ds)))
 put_at Less k l j i d e js ds x y rest later = (refl, x, (refl, y, rest))
 put_at Equal k l j i d e js ds x y rest later = (refl, x, rest)
 put_at Greater k l j i d e js ds x y rest later = (refl, y, later)
@@ -46,11 +48,14 @@ put_alike k j d json.no_members no_members x rest = (refl, x, tt)
 put_alike k j d json.no_members (member l e ds) x rest = absurd rest
 put_alike k j d (json.member l i js) no_members x rest = absurd rest
 put_alike k j d (json.member l i js) (member m e ds) x rest =
-    subst (λ y. AreAlike (said.put k j (json.member l i js)) (put k d (member y e ds))) rest.0 (put_at (slice_cmp nat_cmp k l) k l j i d e js ds x rest.1 rest.2 (put_alike k j d js ds x rest.2))
+    subst (λ y. AreAlike (said.put k j (json.member l i js)) (put k d (member y e ds))) rest.0
+    (put_at (slice_cmp nat_cmp k l) k l j i d e js ds x rest.1 rest.2 (put_alike k j d js ds x rest.2))
 
-strip_turn : (b c : Bool) (k l : List ℕ) (j : Json) (d : Data) (js : json.Members) (ds : Members) → is_fractional j ≡ b → values.is_fractional d ≡ c → k ≡ l → IsAlike j d
+strip_turn : (b c : Bool) (k l : List ℕ) (j : Json) (d : Data) (js : json.Members) (ds : Members) → is_fractional j ≡ b
+    → values.is_fractional d ≡ c → k ≡ l → IsAlike j d
     → stripped_members js ≡ members_outline (values.stripped_members ds)
-    → (if b then stripped_members js else json.member k (stripped j) (stripped_members js)) ≡ members_outline (if c then values.stripped_members ds else member l (values.stripped d) (values.stripped_members ds))
+    → (if b then stripped_members js else json.member k (stripped j) (stripped_members js))
+    ≡ members_outline (if c then values.stripped_members ds else member l (values.stripped d) (values.stripped_members ds))
 strip_turn true true k l j d js ds p q same x rest = rest
 strip_turn false false k l j d js ds p q same x rest = ap (λ y. json.member y (stripped j) (stripped_members js)) same ∙ ap₂ (json.member l) (x.left q) rest
 strip_turn true false k l j d js ds p q same x rest = let never : true ≡ false = sym p ∙ x.fractional ∙ q in cc
@@ -61,7 +66,8 @@ strip_alike : (js : json.Members) (ds : Members) → AreAlike js ds → stripped
 strip_alike json.no_members no_members h = refl
 strip_alike json.no_members (member l d ds) h = absurd h
 strip_alike (json.member k j js) no_members h = absurd h
-strip_alike (json.member k j js) (member l d ds) h = strip_turn (is_fractional j) (values.is_fractional d) k l j d js ds refl refl h.0 h.1 (strip_alike js ds h.2)
+strip_alike (json.member k j js) (member l d ds) h =
+    strip_turn (is_fractional j) (values.is_fractional d) k l j d js ds refl refl h.0 h.1 (strip_alike js ds h.2)
 
 number_alike : (s : List ℕ) (n : Num) → IsNumber s → number_of s ≡ Some n → IsAlike (json.number s) (number n)
 number_alike s n h e = record {
@@ -91,24 +97,31 @@ mutual
   alike (json.object js) d h e =
       let ds = mapped_some object (of_members js no_members) d e in
       let each = members_alike js json.no_members no_members ds.0 h tt ds.1 in
-      subst (IsAlike (whole (json.object js))) ds.2 (plain_alike (whole (json.object js)) (object ds.0) refl refl (ap json.object (strip_alike (whole_members js json.no_members) ds.0 each)))
+      subst (IsAlike (whole (json.object js))) ds.2
+      (plain_alike (whole (json.object js)) (object ds.0) refl refl
+      (ap json.object (strip_alike (whole_members js json.no_members) ds.0 each)))
 
   items_alike : (js : json.Items) (ds : Items) → ItemsHaveNumbers js → of_items js ≡ Some ds → AreItemsAlike (whole_items js) ds
   items_alike json.no_items ds h e = subst (AreItemsAlike json.no_items) (Some_inj _ _ e) (record { fractional = refl; left = λ _. refl })
   items_alike (json.item j js) ds h e =
       let first = and_then_some (λ d. option_map (item d) (of_items js)) (of_json j) ds e in
       let more = mapped_some (item first.0) (of_items js) ds first.2 in
-      subst (AreItemsAlike (whole_items (json.item j js))) more.2 (more_alike (whole j) first.0 (whole_items js) more.0 (alike j first.0 h.0 first.1) (items_alike js more.0 h.1 more.1))
+      subst (AreItemsAlike (whole_items (json.item j js))) more.2
+      (more_alike (whole j) first.0 (whole_items js) more.0 (alike j first.0 h.0 first.1) (items_alike js more.0 h.1 more.1))
 
-  members_alike : (js found : json.Members) (known ds : Members) → MembersHaveNumbers js → AreAlike found known → of_members js known ≡ Some ds → AreAlike (whole_members js found) ds
+  members_alike : (js found : json.Members) (known ds : Members) → MembersHaveNumbers js → AreAlike found known
+      → of_members js known ≡ Some ds → AreAlike (whole_members js found) ds
   members_alike json.no_members found known ds h same e = subst (AreAlike found) (Some_inj _ _ e) same
   members_alike (json.member k j js) found known ds h same e =
       let first = and_then_some (λ d. of_members js (put k d known)) (of_json j) ds e in
-      members_alike js (said.put k (whole j) found) (put k first.0 known) ds h.1 (put_alike k (whole j) first.0 found known (alike j first.0 h.0 first.1) same) first.2
+      members_alike js (said.put k (whole j) found) (put k first.0 known) ds h.1
+      (put_alike k (whole j) first.0 found known (alike j first.0 h.0 first.1) same) first.2
 
 -- what stripping leaves of both
-pub stripped_outline : (j : Json) (d : Data) → HasNumbers j → of_json j ≡ Some d → values.is_fractional d ≡ false → stripped (whole j) ≡ outline (values.stripped d)
+pub stripped_outline : (j : Json) (d : Data) → HasNumbers j → of_json j ≡ Some d → values.is_fractional d ≡ false
+    → stripped (whole j) ≡ outline (values.stripped d)
 stripped_outline j d h e none = (alike j d h e).left none
 
-pub stripped_text : (j : Json) (d : Data) → HasNumbers j → of_json j ≡ Some d → values.is_fractional d ≡ false → text_of (written false j) ≡ compact_text (values.stripped d)
+pub stripped_text : (j : Json) (d : Data) → HasNumbers j → of_json j ≡ Some d → values.is_fractional d ≡ false
+    → text_of (written false j) ≡ compact_text (values.stripped d)
 stripped_text j d h e none = ap text_of (stripped_outline j d h e none) ∙ print-outline (values.stripped d)

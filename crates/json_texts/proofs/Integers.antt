@@ -1,8 +1,8 @@
 -- The text of an integer in a source is the one that is printed.
-use Rattle.std.proofs.Common.{◌≡◌, ℕ, zero, suc, ◌+◌, ◌-◌, ◌^◌, ◌<◌, ◌≤◌, List, [], ◌∷◌, length, drop, get_or, slice_range, add-zero, Bool, true, false, cond, ◌&&◌, ◌||◌, not, eqb, ltb, leb, Option, Some, None, option_and_then, decimal, append-nil, refl, sym, ap, ◌∙◌, subst, arith}
+use Rattle.std.proofs.Common.{◌≡◌, ℕ, zero, suc, ◌+◌, ◌-◌, ◌^◌, ◌<◌, ◌≤◌, List, [], ◌∷◌, length, drop, get_or, slice_range, add-zero, Bool, true, false, cond, ◌&&◌, ◌||◌, not, eqb, ltb, leb, Option, Some, None, option_and_then, decimal, refl, sym, ap, ◌∙◌, subst, arith}
 use Rattle.std.proofs.lemmas.Bool.{true≢false, false≢true, and_parts, and_from, eqb-true, eq-eqb, ltb-true, leb-true, ne_eqb}
 use Rattle.std.proofs.lemmas.Fmt.{decimal-digits_value}
-use Rattle.std.proofs.lemmas.List.{get_or-drop, get_or_past, drop-drop, length-take, length-drop, take_all}
+use Rattle.std.proofs.lemmas.List.{get_or-drop, drop-drop, length-take, length-drop}
 use Rattle.std.proofs.lemmas.List.Sums.{prefix_len-le-length}
 use Rattle.std.proofs.lemmas.Str.Parse.{numerals_by_value, tells_digits}
 use Rattle.std.specs.Char.{is_ascii_digit}
@@ -19,22 +19,8 @@ use Rattle.serde_json.specs.Data.{Num, unsigned, negative, float}
 use Rattle.serde_json.specs.Find.{is_float}
 use Rattle.serde_json.specs.Read.{is_integer, number_from, number_of, float_of}
 use Rattle.serde_json.specs.Written.{number_text}
+use Rattle.json_parts.proofs.Digits.{parts_at, scanned, whole_text, digits_at}
 use Rattle.json_parts.proofs.Readings.{not_found, Some_inj}
-
--- the parts of a numeral whose first digits end at a
-abbrev parts_at : List ℕ → ℕ → Parts
-parts_at s a =
-    let point = eqb (get_or s a 0) 46 in
-    let b = cond point (digits_end s (a + 1)) a in
-    let c = exponent_start s b in
-    record {
-      whole = slice_range s 0 a;
-      point = point;
-      fraction = cond point (slice_range s (a + 1) b) [];
-      exponent_negative = has_exponent s b && eqb (get_or s (b + 1) 0) 45;
-      exponent = cond (has_exponent s b) (slice_range s c (digits_end s c)) [];
-      len = cond (has_exponent s b) (digits_end s c) b;
-    }
 
 -- what a number leaves after its whole digits
 abbrev after_rest : List ℕ → Option (List ℕ)
@@ -63,7 +49,8 @@ same_sign : (r : List ℕ) → signs (get_or r 0 0) ≡ signs (head r)
 same_sign [] = refl
 same_sign (x ∷ r) = refl
 
-integer_parts : (whole : ℕ) (point : Bool) (exponent : ℕ) → (ltb 0 whole && not point && eqb exponent 0) ≡ true → (0 < whole) × (point ≡ false) × (eqb exponent 0 ≡ true)
+integer_parts : (whole : ℕ) (point : Bool) (exponent : ℕ) → (ltb 0 whole && not point && eqb exponent 0) ≡ true
+    → (0 < whole) × (point ≡ false) × (eqb exponent 0 ≡ true)
 integer_parts whole true exponent e = absurd (false≢true ((and_parts _ _ (and_parts _ _ e).0).1))
 integer_parts whole false exponent e = (ltb-true _ _ (and_parts _ _ (and_parts _ _ e).0).0, refl, (and_parts _ _ e).1)
 
@@ -91,7 +78,8 @@ module _ (t : List ℕ) (a c : ℕ) (r : List ℕ) (is : drop a t ≡ c ∷ r) w
   has_digits some marked =
       let s = exponent_start t a in
       let first : is_ascii_digit (get_or t s 0) ≡ true =
-      ap is_ascii_digit (ap (λ i. get_or t i 0) (sym (add-zero s)) ∙ sym (get_or-drop s t 0 0) ∙ ap (λ x. get_or x 0 0) digits_start) ∙ begins_digit (after_sign r) some in
+      ap is_ascii_digit (ap (λ i. get_or t i 0) (sym (add-zero s)) ∙ sym (get_or-drop s t 0 0) ∙ ap (λ x. get_or x 0 0) digits_start)
+      ∙ begins_digit (after_sign r) some in
       let mark : (eqb (get_or t a 0) 101 || eqb (get_or t a 0) 69) ≡ true = ap (λ x. eqb x 101 || eqb x 69) here ∙ marked in
       let has : has_exponent t a ≡ true = and_from _ _ mark first in
       let run : prefix_len is_ascii_digit (drop s t) ≡ prefix_len is_ascii_digit (after_sign r) = ap (prefix_len is_ascii_digit) digits_start in
@@ -102,14 +90,16 @@ module _ (t : List ℕ) (a c : ℕ) (r : List ℕ) (is : drop a t ≡ c ∷ r) w
       subst (λ b. 0 < length (cond b (slice_range t s (digits_end t s)) [])) (sym has) all
 
   -- nothing but a point or an exponent may follow
-  by_mark : (b : Bool) → (eqb c 101 || eqb c 69) ≡ b → cond b (after_digits (after_sign r)) (Some (c ∷ r)) ≡ Some [] → eqb (length (exponent_at t a)) 0 ≡ true → ⊥
+  by_mark : (b : Bool) → (eqb c 101 || eqb c 69) ≡ b → cond b (after_digits (after_sign r)) (Some (c ∷ r)) ≡ Some []
+      → eqb (length (exponent_at t a)) 0 ≡ true → ⊥
   by_mark true mark e none = let some = has_digits (none_or _ _ _ e) mark in omega (arith, eqb-true _ _ none)
   by_mark false mark e none = cons_isnt_nil (Some_inj _ _ e)
     where
       cons_isnt_nil : c ∷ r ≡ [] → ⊥
       cons_isnt_nil e = cc
 
-  by_point : (b : Bool) → eqb c 46 ≡ b → b ≡ false → option_and_then after_exponent (cond b (after_digits r) (Some (c ∷ r))) ≡ Some [] → eqb (length (exponent_at t a)) 0 ≡ true → ⊥
+  by_point : (b : Bool) → eqb c 46 ≡ b → b ≡ false → option_and_then after_exponent (cond b (after_digits r) (Some (c ∷ r))) ≡ Some []
+      → eqb (length (exponent_at t a)) 0 ≡ true → ⊥
   by_point true point off e none = true≢false off
   by_point false point off e none = by_mark (eqb c 101 || eqb c 69) refl e none
 
@@ -126,10 +116,6 @@ ends t a [] is e whole = refl
 ends t a (c ∷ r) is e whole = absurd (no_more t a c r is e whole)
 
 -- ---- digits without a sign
-
-scanned : (s : List ℕ) → scan s ≡ parts_at s (digits_end s 0)
-unfolding scan
-scanned s = refl
 
 record IsPlain (t : List ℕ) : Type 0 where
   digits : AllDigits 10 t
@@ -155,19 +141,11 @@ after_zero : (r : List ℕ) → after_rest r ≡ Some [] → is_integer (parts_a
 after_zero [] e whole = refl
 after_zero (x ∷ r) e whole = go (is_ascii_digit x) refl whole
   where
-    go : (b : Bool) → is_ascii_digit x ≡ b → is_integer (parts_at (48 ∷ x ∷ r) (0 + cond (is_ascii_digit 48) (1 + cond b (1 + prefix_len is_ascii_digit r) 0) 0)) ≡ true → x ∷ r ≡ []
+    go : (b : Bool) → is_ascii_digit x ≡ b
+        → is_integer (parts_at (48 ∷ x ∷ r) (0 + cond (is_ascii_digit 48) (1 + cond b (1 + prefix_len is_ascii_digit r) 0) 0)) ≡ true
+        → x ∷ r ≡ []
     go true digit whole = cons_isnt_nil x r (Some_inj _ _ (sym (digit_stays x r digit) ∙ e))
     go false digit whole = absurd (no_more (48 ∷ x ∷ r) 1 x r refl e whole)
-
-module _ (t : List ℕ) (a : ℕ) (is : a ≡ length t) where
-  past : get_or t a 0 ≡ 0
-  past = get_or_past t a 0 (omega (arith, is))
-
-  whole_text : slice_range t 0 a ≡ t
-  whole_text = take_all (a - 0) t (omega (arith, is))
-
-  digits_at : digits_of (parts_at t a) ≡ digits_value 10 t
-  digits_at = simp (past, whole_text, append-nil)
 
 all_digits : (t : List ℕ) → eqb (head t) 48 ≡ false → eqb (prefix_len is_ascii_digit t) 0 ≡ false → drop (prefix_len is_ascii_digit t) t ≡ [] → IsPlain t
 all_digits t lead some gone =
@@ -190,14 +168,16 @@ plain_text : (t : List ℕ) → option_and_then after_exponent (option_and_then 
 plain_text t e whole = by_lead t (eqb (head t) 48) refl e (sym (ap is_integer (scanned t)) ∙ whole)
   where
     by_some : (t : List ℕ) (b : Bool) → eqb (head t) 48 ≡ false → eqb (prefix_len is_ascii_digit t) 0 ≡ b
-        → option_and_then after_exponent (option_and_then after_fraction (cond b None (Some (drop (prefix_len is_ascii_digit t) t)))) ≡ Some [] → is_integer (parts_at t (digits_end t 0)) ≡ true → IsPlain t
+        → option_and_then after_exponent (option_and_then after_fraction (cond b None (Some (drop (prefix_len is_ascii_digit t) t))))
+        ≡ Some [] → is_integer (parts_at t (digits_end t 0)) ≡ true → IsPlain t
     by_some t true lead some e whole = not_found _ e
     by_some t false lead some e whole =
         let n = prefix_len is_ascii_digit t in
         let at_end : digits_end t 0 ≡ n = omega arith in
         all_digits t lead some (ends t n (drop n t) refl e (ap (λ a. is_integer (parts_at t a)) (sym at_end) ∙ whole))
 
-    by_lead : (t : List ℕ) (b : Bool) → eqb (head t) 48 ≡ b → option_and_then after_exponent (option_and_then after_fraction (cond b (Some (drop 1 t)) (after_digits t))) ≡ Some []
+    by_lead : (t : List ℕ) (b : Bool) → eqb (head t) 48 ≡ b
+        → option_and_then after_exponent (option_and_then after_fraction (cond b (Some (drop 1 t)) (after_digits t))) ≡ Some []
         → is_integer (parts_at t (digits_end t 0)) ≡ true → IsPlain t
     by_lead [] true lead e whole = absurd (false≢true lead)
     by_lead (x ∷ r) true lead e whole =
@@ -239,7 +219,8 @@ record IsNegative (p : Parts) (n : Num) : Type 0 where
 negative_from : (p : Parts) (n : Num) → number_from true p ≡ Some n → is_float n ≡ false → IsNegative p n
 negative_from p n e whole = go (is_integer p && ltb 0 (digits_of p) && leb (digits_of p) (2 ^ 63)) refl e
   where
-    go : (b : Bool) → (is_integer p && ltb 0 (digits_of p) && leb (digits_of p) (2 ^ 63)) ≡ b → cond b (Some (negative (with_sign true (digits_of p)))) (float_of true p) ≡ Some n → IsNegative p n
+    go : (b : Bool) → (is_integer p && ltb 0 (digits_of p) && leb (digits_of p) (2 ^ 63)) ≡ b
+        → cond b (Some (negative (with_sign true (digits_of p)))) (float_of true p) ≡ Some n → IsNegative p n
     go true all e =
         let parts = and_parts _ _ all in
         let front = and_parts _ _ parts.0 in
@@ -265,7 +246,8 @@ number_parts : (s : List ℕ) → IsNumber s → after_sign_of (eqb (get_or s 0 
 unfolding after_number
 number_parts s e = ap (λ b. after_sign_of b s) (sym (same_minus s)) ∙ e
 
-by_sign : (s : List ℕ) (n : Num) (b : Bool) → eqb (get_or s 0 0) 45 ≡ b → after_sign_of b s ≡ Some [] → cond b (number_from true (scan (drop 1 s))) (number_from false (scan s)) ≡ Some n → is_float n ≡ false → number_text n ≡ s
+by_sign : (s : List ℕ) (n : Num) (b : Bool) → eqb (get_or s 0 0) 45 ≡ b → after_sign_of b s ≡ Some []
+    → cond b (number_from true (scan (drop 1 s))) (number_from false (scan s)) ≡ Some n → is_float n ≡ false → number_text n ≡ s
 by_sign s n true minus e read whole =
     let t = drop 1 s in
     let from = negative_from (scan t) n read whole in

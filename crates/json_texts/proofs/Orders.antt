@@ -23,28 +23,33 @@ same_name k l is = (bytes_eq-Decides k l).0 (sym (is_eq-slice_cmp k l) ∙ ap is
 -- ---- a list with one more member
 
 put_turn : (o : Ordering) (m l : Member) (ls : List Member) → match_ordering o false true (is_there m.name.now ls) ≡ false
-    → (is_there m.name.now ls ≡ false → members_at (take (place m.name.now ls) ls ++ m ∷ drop (place m.name.now ls) ls) ≡ put m.name.now (json_at m.value) (members_at ls))
+    → (is_there m.name.now ls ≡ false
+    → members_at (take (place m.name.now ls) ls ++ m ∷ drop (place m.name.now ls) ls) ≡ put m.name.now (json_at m.value) (members_at ls))
     → members_at (take (match_ordering o 0 0 (suc (place m.name.now ls))) (l ∷ ls) ++ m ∷ drop (match_ordering o 0 0 (suc (place m.name.now ls))) (l ∷ ls))
-    ≡ match_ordering o (member m.name.now (json_at m.value) (member l.name.now (json_at l.value) (members_at ls))) (member l.name.now (json_at m.value) (members_at ls))
+    ≡ match_ordering o (member m.name.now (json_at m.value) (member l.name.now (json_at l.value) (members_at ls)))
+    (member l.name.now (json_at m.value) (members_at ls))
     (member l.name.now (json_at l.value) (put m.name.now (json_at m.value) (members_at ls)))
 put_turn Less m l ls away later = refl
 put_turn Equal m l ls away later = absurd (true≢false away)
 put_turn Greater m l ls away later = ap (member l.name.now (json_at l.value)) (later away)
 
-pub members_inserted : (m : Member) (ls : List Member) → is_there m.name.now ls ≡ false → members_at (take (place m.name.now ls) ls ++ m ∷ drop (place m.name.now ls) ls) ≡ put m.name.now (json_at m.value) (members_at ls)
+pub members_inserted : (m : Member) (ls : List Member) → is_there m.name.now ls ≡ false
+    → members_at (take (place m.name.now ls) ls ++ m ∷ drop (place m.name.now ls) ls) ≡ put m.name.now (json_at m.value) (members_at ls)
 members_inserted m [] away = refl
 members_inserted m (l ∷ ls) away = put_turn (cmp m.name.now l.name.now) m l ls away (members_inserted m ls)
 
 set_turn : (o : Ordering) (m l : Member) (ls : List Member) → cmp m.name.now l.name.now ≡ o → match_ordering o false true (is_there m.name.now ls) ≡ true
     → (is_there m.name.now ls ≡ true → members_at (set ls (place m.name.now ls) m) ≡ put m.name.now (json_at m.value) (members_at ls))
     → members_at (set (l ∷ ls) (match_ordering o 0 0 (suc (place m.name.now ls))) m)
-    ≡ match_ordering o (member m.name.now (json_at m.value) (member l.name.now (json_at l.value) (members_at ls))) (member l.name.now (json_at m.value) (members_at ls))
+    ≡ match_ordering o (member m.name.now (json_at m.value) (member l.name.now (json_at l.value) (members_at ls)))
+    (member l.name.now (json_at m.value) (members_at ls))
     (member l.name.now (json_at l.value) (put m.name.now (json_at m.value) (members_at ls)))
 set_turn Less m l ls is there later = absurd (true≢false (sym there))
 set_turn Equal m l ls is there later = ap (λ name. member name (json_at m.value) (members_at ls)) (same_name m.name.now l.name.now is)
 set_turn Greater m l ls is there later = ap (member l.name.now (json_at l.value)) (later there)
 
-pub members_set : (m : Member) (ls : List Member) → is_there m.name.now ls ≡ true → members_at (set ls (place m.name.now ls) m) ≡ put m.name.now (json_at m.value) (members_at ls)
+pub members_set : (m : Member) (ls : List Member) → is_there m.name.now ls ≡ true
+    → members_at (set ls (place m.name.now ls) m) ≡ put m.name.now (json_at m.value) (members_at ls)
 members_set m [] there = absurd (true≢false (sym there))
 members_set m (l ∷ ls) there = set_turn (cmp m.name.now l.name.now) m l ls refl there (members_set m ls)
 
@@ -94,7 +99,8 @@ listed (e ∷ es) = record { name = e.0; value = e.1 } ∷ listed es
 abbrev key_cmp : Bor (List ℕ) → Bor (List ℕ) → Ordering
 key_cmp a b = slice_cmp nat_cmp a.now b.now
 
-listed_turn : (o : Ordering) (k : Bor (List ℕ)) (v : List Token) (e : Entry) (es more : List Entry) → members_at (listed more) ≡ put k.now (json_at v) (members_at (listed es))
+listed_turn : (o : Ordering) (k : Bor (List ℕ)) (v : List Token) (e : Entry) (es more : List Entry)
+    → members_at (listed more) ≡ put k.now (json_at v) (members_at (listed es))
     → members_at (listed (match_ordering o ((k, v) ∷ e ∷ es) ((e.0, v) ∷ es) (e ∷ more)))
     ≡ match_ordering o (member k.now (json_at v) (member e.0.now (json_at e.1) (members_at (listed es)))) (member e.0.now (json_at v) (members_at (listed es)))
     (member e.0.now (json_at e.1) (put k.now (json_at v) (members_at (listed es))))
@@ -102,27 +108,32 @@ listed_turn Less k v e es more later = refl
 listed_turn Equal k v e es more later = refl
 listed_turn Greater k v e es more later = ap (member e.0.now (json_at e.1)) later
 
-pub listed_put : (es : List Entry) (k : Bor (List ℕ)) (v : List Token) → members_at (listed (insert_entry key_cmp es k v)) ≡ put k.now (json_at v) (members_at (listed es))
+pub listed_put : (es : List Entry) (k : Bor (List ℕ)) (v : List Token)
+    → members_at (listed (insert_entry key_cmp es k v)) ≡ put k.now (json_at v) (members_at (listed es))
 listed_put [] k v = refl
 listed_put (e ∷ es) k v = listed_turn (key_cmp k e.0) k v e es (insert_entry key_cmp es k v) (listed_put es k v)
 
-writable_at : (o : Ordering) (k : Bor (List ℕ)) (v : List Token) (e : Entry) (es more : List Entry) → IsWritable v → AreWritable (listed (e ∷ es)) → AreWritable (listed more)
+writable_at : (o : Ordering) (k : Bor (List ℕ)) (v : List Token) (e : Entry) (es more : List Entry) → IsWritable v
+    → AreWritable (listed (e ∷ es)) → AreWritable (listed more)
     → AreWritable (listed (match_ordering o ((k, v) ∷ e ∷ es) ((e.0, v) ∷ es) (e ∷ more)))
 writable_at Less k v e es more x each later = (x, each)
 writable_at Equal k v e es more x each later = (x, each.1)
 writable_at Greater k v e es more x each later = (each.0, later)
 
-pub listed_writable : (es : List Entry) (k : Bor (List ℕ)) (v : List Token) → IsWritable v → AreWritable (listed es) → AreWritable (listed (insert_entry key_cmp es k v))
+pub listed_writable : (es : List Entry) (k : Bor (List ℕ)) (v : List Token) → IsWritable v → AreWritable (listed es)
+    → AreWritable (listed (insert_entry key_cmp es k v))
 listed_writable [] k v x each = (x, tt)
 listed_writable (e ∷ es) k v x each = writable_at (key_cmp k e.0) k v e es (insert_entry key_cmp es k v) x each (listed_writable es k v x each.1)
 
-nesting_at : (o : Ordering) (k : Bor (List ℕ)) (v : List Token) (e : Entry) (es more : List Entry) → nesting (listed more) ≤ max (depth_of v) (nesting (listed es))
+nesting_at : (o : Ordering) (k : Bor (List ℕ)) (v : List Token) (e : Entry) (es more : List Entry)
+    → nesting (listed more) ≤ max (depth_of v) (nesting (listed es))
     → nesting (listed (match_ordering o ((k, v) ∷ e ∷ es) ((e.0, v) ∷ es) (e ∷ more))) ≤ max (depth_of v) (nesting (listed (e ∷ es)))
 nesting_at Less k v e es more later = omega arith
 nesting_at Equal k v e es more later = omega arith
 nesting_at Greater k v e es more later = omega (arith, later)
 
-pub listed_nesting : (es : List Entry) (k : Bor (List ℕ)) (v : List Token) → nesting (listed (insert_entry key_cmp es k v)) ≤ max (depth_of v) (nesting (listed es))
+pub listed_nesting : (es : List Entry) (k : Bor (List ℕ)) (v : List Token)
+    → nesting (listed (insert_entry key_cmp es k v)) ≤ max (depth_of v) (nesting (listed es))
 listed_nesting [] k v = omega arith
 listed_nesting (e ∷ es) k v = nesting_at (key_cmp k e.0) k v e es (insert_entry key_cmp es k v) (listed_nesting es k v)
 
@@ -133,7 +144,8 @@ each_whole no_members = no_members
 each_whole (member k j ms) = member k (whole j) (each_whole ms)
 
 whole_turn : (o : Ordering) (k l : List ℕ) (j i : Json) (ms : Members) → put k (whole j) (each_whole ms) ≡ each_whole (put k j ms)
-    → match_ordering o (member k (whole j) (member l (whole i) (each_whole ms))) (member l (whole j) (each_whole ms)) (member l (whole i) (put k (whole j) (each_whole ms)))
+    → match_ordering o (member k (whole j) (member l (whole i) (each_whole ms))) (member l (whole j) (each_whole ms))
+    (member l (whole i) (put k (whole j) (each_whole ms)))
     ≡ each_whole (match_ordering o (member k j (member l i ms)) (member l j ms) (member l i (put k j ms)))
 whole_turn Less k l j i ms later = refl
 whole_turn Equal k l j i ms later = refl

@@ -61,7 +61,8 @@ readable ts (j, r, d, is, of, numbers) = (j, r, is, numbers)
 pub data_is : (ts : List Token) → IsReadable ts → of_json (json_at ts) ≡ Some (data_of ts)
 unfolding data_of
 data_is ts (j, r, d, is, of, numbers) =
-    ap of_json (json_is ts r j is) ∙ of ∙ ap Some (sym (ap (λ o. unwrap_or (option_and_then (λ p. of_json p.0) o) nothing) is ∙ ap (λ o. unwrap_or o nothing) of))
+    ap of_json (json_is ts r j is)
+    ∙ of ∙ ap Some (sym (ap (λ o. unwrap_or (option_and_then (λ p. of_json p.0) o) nothing) is ∙ ap (λ o. unwrap_or o nothing) of))
 
 -- ---- an array or an object opens
 
@@ -110,7 +111,8 @@ abbrev MemberNext : ℕ → Members → Option (List ℕ × List Token) → List
 MemberNext n ms None new = ms ≡ no_members
 MemberNext n ms (Some m) new = IsWritable m.1 × ((rest : Members) × (ms ≡ member m.0 (json_at m.1) rest) × (depth_of m.1 ≤ n) × MembersStand n new rest)
 
-pub member_at : (n : ℕ) (ms : Members) (old new : List Token) (r : Option (List ℕ × List Token)) → MembersStand n old ms → look.NextMember old r new → MemberNext n ms r new
+pub member_at : (n : ℕ) (ms : Members) (old new : List Token) (r : Option (List ℕ × List Token)) → MembersStand n old ms
+    → look.NextMember old r new → MemberNext n ms r new
 member_at n ms old new None (within, le, most, numbers) h = h ms within
 member_at n ms old new (Some m) (within, le, most, numbers) h =
     let f = h ms within in
@@ -123,11 +125,13 @@ pub next_member_is : (old new : List Token) (r : Option (List ℕ × List Token)
 next_member_is old new None h n ms s = member_at n ms old new None s h
 next_member_is old new (Some m) h n ms s = (member_at n ms old new (Some m) s h).1
 
-pub member_writable : (n : ℕ) (ms : Members) (old new : List Token) (r : Option (List ℕ × List Token)) → MembersStand n old ms → look.NextMember old r new → IfSome r (λ m. IsWritable m.1)
+pub member_writable : (n : ℕ) (ms : Members) (old new : List Token) (r : Option (List ℕ × List Token)) → MembersStand n old ms
+    → look.NextMember old r new → IfSome r (λ m. IsWritable m.1)
 member_writable n ms old new None s h = tt
 member_writable n ms old new (Some m) s h = (member_at n ms old new (Some m) s h).0
 
-pub member_writable_view : (r : Option (Bor (List ℕ) × List Token)) → IfSome {T = List ℕ × List Token} (option_map (λ m. (m.0.now, m.1)) r) (λ m. IsWritable m.1) → IfSome r (λ m. IsWritable m.1)
+pub member_writable_view : (r : Option (Bor (List ℕ) × List Token))
+    → IfSome {T = List ℕ × List Token} (option_map (λ m. (m.0.now, m.1)) r) (λ m. IsWritable m.1) → IfSome r (λ m. IsWritable m.1)
 member_writable_view None h = tt
 member_writable_view (Some m) h = h
 

@@ -6,7 +6,8 @@ use Rattle.json.specs.Json.{Json}
 use Rattle.json.specs.Tree.{json_tokens}
 
 -- a value of one token was written
-pub one_written : {T E : Type 0} (r : Result T E) (old new : List Token) (t : Token) (i j : Json) → json_tokens i ≡ t ∷ [] → i ≡ j → OnOk r (new ≡ old ++ t ∷ []) → OnOk r (new ≡ old ++ json_tokens j)
+pub one_written : {T E : Type 0} (r : Result T E) (old new : List Token) (t : Token) (i j : Json) → json_tokens i ≡ t ∷ [] → i ≡ j
+    → OnOk r (new ≡ old ++ t ∷ []) → OnOk r (new ≡ old ++ json_tokens j)
 one_written r old new t i j one is = on_ok_weaker r (λ e. e ∙ ap (λ ts. old ++ ts) (sym one ∙ ap json_tokens is))
 
 -- a value within another falls under its measure

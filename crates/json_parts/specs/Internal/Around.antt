@@ -19,7 +19,7 @@ abbrev pub begins_at : List ℕ → Members → Bool
 begins_at name no_members = false
 begins_at name (member k d ms) = match_ordering (slice_cmp nat_cmp name k) false true false
 
--- the texts of the members whose names are below this one, each followed by a comma
+-- the members with names below this one, each written as JSON and followed by a comma
 abbrev pub texts_before : List ℕ → Members → List ℕ
 texts_before name no_members = []
 texts_before name (member k d ms) =

@@ -43,41 +43,44 @@ MembersAre n ts ms =
     × (n ≤ max_depth)
     × MembersHaveNumbers js
 
+-- ---- a pass over the content of an array or an object, which may be of data or of JSON values
+
+-- `Are n ts c`: the tokens begin with the content c, nested at most n deep. `inner` is where the content of the value
+-- begins, if it is an array or an object: `Has` says which content that is
+abbrev pub Opens : {C : Type 0} → Type 0 → (C → Type 0) → (ℕ → List Token → C → Type 0) → List Token
+    → Option (List Token) → Type 0
+Opens {C} No Has Are ts inner =
+    MatchOption inner No
+    (λ new. (n : ℕ) × (c : C) × (depth_of ts ≡ suc n) × Has c × Are n new c)
+
+-- `first` is the first of the content, if it has one, and `new` is at the content after it
+abbrev pub Continues : {C F : Type 0} → (ℕ → List Token → C → Type 0) → C → (F → C → C) → (F → List Token) → List Token
+    → Option F → List Token → Type 0
+Continues {C} Are none with value_of old first new =
+    (n : ℕ) (c : C) → Are n old c
+    → MatchOption first (c ≡ none)
+    (λ f. (rest : C)
+    × (c ≡ with f rest)
+    × (depth_of (value_of f) ≤ n)
+    × Are n new rest)
+
 -- the content of an array
 abbrev pub OpensArray : List Token → Option (List Token) → Type 0
-OpensArray ts r =
-    MatchOption r (as_array (data_of ts) ≡ None)
-    (λ inner. (n : ℕ) × (ds : Items)
-    × (depth_of ts ≡ suc n)
-    × (data_of ts ≡ array ds)
-    × ElementsAre n inner ds)
+OpensArray ts inner =
+    Opens (as_array (data_of ts) ≡ None) (λ ds. data_of ts ≡ array ds) ElementsAre ts inner
 
 abbrev pub OpensObject : List Token → Option (List Token) → Type 0
-OpensObject ts r =
-    MatchOption r (as_object (data_of ts) ≡ None)
-    (λ inner. (n : ℕ) × (ms : Members)
-    × (depth_of ts ≡ suc n)
-    × (data_of ts ≡ object (put_all ms no_members))
-    × MembersAre n inner ms)
+OpensObject ts inner =
+    Opens (as_object (data_of ts) ≡ None) (λ ms. data_of ts ≡ object (put_all ms no_members))
+    MembersAre ts inner
 
--- r is at the first item, and `new` at the items after it
 abbrev pub NextElement : List Token → Option (List Token) → List Token → Type 0
-NextElement old r new =
-    (n : ℕ) (ds : Items) → ElementsAre n old ds
-    → MatchOption r (ds ≡ no_items)
-    (λ ts. (rest : Items)
-    × (ds ≡ item (data_of ts) rest)
-    × (depth_of ts ≤ n)
-    × ElementsAre n new rest)
+NextElement old first new =
+    Continues ElementsAre no_items (λ ts ds. item (data_of ts) ds) (λ ts. ts) old first new
 
 abbrev pub NextMember : List Token → Option (List ℕ × List Token) → List Token → Type 0
-NextMember old r new =
-    (n : ℕ) (ms : Members) → MembersAre n old ms
-    → MatchOption r (ms ≡ no_members)
-    (λ m. (rest : Members)
-    × (ms ≡ member m.0 (data_of m.1) rest)
-    × (depth_of m.1 ≤ n)
-    × MembersAre n new rest)
+NextMember old first new =
+    Continues MembersAre no_members (λ m ms. member m.0 (data_of m.1) ms) (λ m. m.1) old first new
 
 -- ---- a stripped object, without the member of a name where one is given
 

@@ -8,7 +8,7 @@ use Rattle.json.specs.Tree.{HasNumbers, ItemsHaveNumbers, MembersHaveNumbers, it
 use Rattle.json.specs.Find.{InItems, InMembers, as_array, as_object}
 use Rattle.serde_json.specs.Read.{max_depth}
 use Rattle.json_parts.specs.Indexed.{json_at}
-use Rattle.json_parts.specs.Internal.Walking.{depth_of}
+use Rattle.json_parts.specs.Internal.Walking.{depth_of, Opens, Continues}
 use Rattle.json_texts.specs.Whole.{put, is_fractional, written}
 use Rattle.json_texts.specs.declared.sorting.Member.{Member}
 
@@ -25,39 +25,20 @@ MembersStand n ts ms = InMembers ts ms × (members_depth ms ≤ n) × (n ≤ max
 
 -- the content of an array
 abbrev pub OpensArray : List Token → Option (List Token) → Type 0
-OpensArray ts r =
-    MatchOption r (as_array (json_at ts) ≡ None)
-    (λ inner. (n : ℕ) × (js : Items)
-    × (depth_of ts ≡ suc n)
-    × (json_at ts ≡ array js)
-    × ItemsStand n inner js)
+OpensArray ts inner =
+    Opens (as_array (json_at ts) ≡ None) (λ js. json_at ts ≡ array js) ItemsStand ts inner
 
 abbrev pub OpensObject : List Token → Option (List Token) → Type 0
-OpensObject ts r =
-    MatchOption r (as_object (json_at ts) ≡ None)
-    (λ inner. (n : ℕ) × (ms : Members)
-    × (depth_of ts ≡ suc n)
-    × (json_at ts ≡ object ms)
-    × MembersStand n inner ms)
+OpensObject ts inner =
+    Opens (as_object (json_at ts) ≡ None) (λ ms. json_at ts ≡ object ms) MembersStand ts inner
 
--- r is at the first item, and `new` at the items after it
 abbrev pub NextItem : List Token → Option (List Token) → List Token → Type 0
-NextItem old r new =
-    (n : ℕ) (js : Items) → ItemsStand n old js
-    → MatchOption r (js ≡ no_items)
-    (λ ts. (rest : Items)
-    × (js ≡ item (json_at ts) rest)
-    × (depth_of ts ≤ n)
-    × ItemsStand n new rest)
+NextItem old first new =
+    Continues ItemsStand no_items (λ ts js. item (json_at ts) js) (λ ts. ts) old first new
 
 abbrev pub NextMember : List Token → Option (List ℕ × List Token) → List Token → Type 0
-NextMember old r new =
-    (n : ℕ) (ms : Members) → MembersStand n old ms
-    → MatchOption r (ms ≡ no_members)
-    (λ m. (rest : Members)
-    × (ms ≡ member m.0 (json_at m.1) rest)
-    × (depth_of m.1 ≤ n)
-    × MembersStand n new rest)
+NextMember old first new =
+    Continues MembersStand no_members (λ m ms. member m.0 (json_at m.1) ms) (λ m. m.1) old first new
 
 -- the members in the order of their names, each as it is in the source
 abbrev pub in_order : Members → Members → Members

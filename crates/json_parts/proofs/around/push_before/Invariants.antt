@@ -7,7 +7,8 @@ use Rattle.json_parts.proofs.around.push_before.Given as goal
 abbrev pub invariant-loop-alloc : goal.invariant-loop-alloc
 invariant-loop-alloc l = record {
   whole : members_have_float (members_view l.members.entries) ≡ false;
-  added : string_bytes l.text ++ texts_before l.name (members_view l.members.entries) ≡ string_bytes l.initial.text ++ texts_before l.name (members_view l.initial.members.entries);
+  added : string_bytes l.text ++ texts_before l.name (members_view l.members.entries)
+      ≡ string_bytes l.initial.text ++ texts_before l.name (members_view l.initial.members.entries);
   left : members_after l.name (members_view l.members.entries) ≡ members_after l.name (members_view l.initial.members.entries);
 }
 

@@ -23,5 +23,6 @@ pub returns : goal.returns
 returns c =
     let shown : string_bytes c.in_ok-text.text ≡ compact_text (object (members_view c.args.members.entries)) = search (rules, view-Object) in
     let some = nonempty c.args.members.entries (λ e. true≢false (sym (c.is_empty.ensures.1 e) ∙ c.if-is_empty.false)) in
-    let told : string_bytes c.shrink_to_fit.new.self ≡ (take 0 (string_bytes c.in_ok-text.text) ++ 44 ∷ []) ++ drop 1 (string_bytes c.in_ok-text.text) = search rules in
+    let told : string_bytes c.shrink_to_fit.new.self
+    ≡ (take 0 (string_bytes c.in_ok-text.text) ++ 44 ∷ []) ++ drop 1 (string_bytes c.in_ok-text.text) = search rules in
     told ∙ rest_text (members_view c.args.members.entries) (string_bytes c.in_ok-text.text) some shown

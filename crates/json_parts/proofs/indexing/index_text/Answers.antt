@@ -17,7 +17,8 @@ returns-in_err-tape-clause-err c =
     let text = c.in-Ok.text.now in
     let told : c.from_residual.result ≡ Err c.in_err-tape.field-0.0 = search rules in
     subst (λ r. IfErr r (λ e. e ≡ NotJson → json_of c.args.bytes.now ≡ None)) (sym told)
-    (λ e. subst (λ b. json_of b ≡ None) c.in-Ok.ensures.0 (json_of_utf8 text (subst IsUtf8 (sym c.in-Ok.ensures.0) c.in-Ok.ensures.1) ∙ no_document text (c.in_err-tape.ensures.err e)))
+    (λ e. subst (λ b. json_of b ≡ None) c.in-Ok.ensures.0
+    (json_of_utf8 text (subst IsUtf8 (sym c.in-Ok.ensures.0) c.in-Ok.ensures.1) ∙ no_document text (c.in_err-tape.ensures.err e)))
 
 pub returns-then-not-is_readable-clause-err : goal.returns-then-not-is_readable-clause-err
 returns-then-not-is_readable-clause-err c e =

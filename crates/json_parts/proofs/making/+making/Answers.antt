@@ -76,7 +76,8 @@ make_object-members-preserved t c =
     let old = members_view c.members.made.entries in
     let copied : string_bytes c.in_ok-from_str.field-0 ≡ k = search rules in
     let inserted : members_view c.insert.new.self.entries ≡ put k (stripped d) old =
-    ap members_view c.in_ok-insert.ensures.entries ∙ members_view-insert_entry c.members.made.entries c.in_ok-from_str.field-0 v ∙ ap (λ name. put name (view v) old) copied ∙ ap (λ x. put k x old) c.in_ok-value.ensures in (
+    ap members_view c.in_ok-insert.ensures.entries ∙ members_view-insert_entry c.members.made.entries c.in_ok-from_str.field-0 v
+    ∙ ap (λ name. put name (view v) old) copied ∙ ap (λ x. put k x old) c.in_ok-value.ensures in (
       l.0,
       f.0,
       f.3,

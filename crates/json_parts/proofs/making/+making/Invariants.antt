@@ -28,7 +28,8 @@ decreases-make_array-items l = length l.elements
 abbrev pub invariant-make_object-members : goal.invariant-make_object-members
 invariant-make_object-members l =
     (n : ℕ) × (rest : Members) × MembersAre n l.members rest × (depth_of l.node ≡ suc n)
-    × ((done : Members) × AreMembersOrdered done × (data_of l.node ≡ object (put_all rest done)) × (members_view l.made.entries ≡ kept_members (option_map (λ s. s.now) l.left_out) done))
+    × ((done : Members) × AreMembersOrdered done × (data_of l.node ≡ object (put_all rest done))
+    × (members_view l.made.entries ≡ kept_members (option_map (λ s. s.now) l.left_out) done))
 
 abbrev pub decreases-make_object-members : goal.decreases-make_object-members
 decreases-make_object-members l = length l.members

@@ -10,7 +10,8 @@ use Rattle.json_parts.proofs.Passing.{is_some-map}
 use Rattle.json_parts.proofs.Scanned.{deeper, scan, whole_scanned}
 use Rattle.json_parts.proofs.readable.is_readable.Goals as goal
 
-none_left : (token : Node) (levels : ℕ) (ts : List Token) → ((end : ℕ) × (token ≡ Object end)) ⊎ ((end : ℕ) × (token ≡ Array end)) → levels ≡ 0 → scan levels (node_token token ∷ ts) ≡ false
+none_left : (token : Node) (levels : ℕ) (ts : List Token) → ((end : ℕ) × (token ≡ Object end)) ⊎ ((end : ℕ) × (token ≡ Array end))
+    → levels ≡ 0 → scan levels (node_token token ∷ ts) ≡ false
 none_left token levels ts (inl (end, is)) none = ap (λ t. scan levels (node_token t ∷ ts)) is ∙ ap (λ n. deeper n (λ m. scan m ts)) none
 none_left token levels ts (inr (end, is)) none = ap (λ t. scan levels (node_token t ∷ ts)) is ∙ ap (λ n. deeper n (λ m. scan m ts)) none
 
@@ -22,7 +23,8 @@ returns-then-is_none c = λ j whole.
     let below : l.token-index < length tokens = omega arith in
     let left = drop_more tokens l.token-index (Object 0) below ∙ ap (λ token. token ∷ later) c.in-Number.is in
     let none : is_some c.parse_number.result ≡ false = grind arith in
-    let far : is_some (number_of c.in-Number.text.now) ≡ false = sym (ap is_some c.parse_number.ensures) ∙ is_some-map number_view c.parse_number.result ∙ none in
+    let far : is_some (number_of c.in-Number.text.now) ≡ false = sym (ap is_some c.parse_number.ensures)
+    ∙ is_some-map number_view c.parse_number.result ∙ none in
     sym
     (sym (whole_scanned c.args.depth (map node_token tokens) j whole)
     ∙ l.invariant.same

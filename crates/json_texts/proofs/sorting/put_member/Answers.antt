@@ -30,8 +30,10 @@ returns-in_ok-insert-clause-put c =
 
 pub returns-in_ok-insert-clause-writable : goal.returns-in_ok-insert-clause-writable
 returns-in_ok-insert-clause-writable c =
-    subst AreWritable (sym c.in_ok-insert.ensures.items) (writable_inserted c.place_of-at.result.0 c.args.member c.args.list.now.items c.requires.writable.0 c.requires.writable.1)
+    subst AreWritable (sym c.in_ok-insert.ensures.items)
+    (writable_inserted c.place_of-at.result.0 c.args.member c.args.list.now.items c.requires.writable.0 c.requires.writable.1)
 
 pub returns-in_ok-insert-clause-nested : goal.returns-in_ok-insert-clause-nested
 returns-in_ok-insert-clause-nested c =
-    subst (λ xs. nesting xs ≤ max (depth_of c.args.member.value) (nesting c.args.list.now.items)) (sym c.in_ok-insert.ensures.items) (nesting_inserted c.place_of-at.result.0 c.args.member c.args.list.now.items)
+    subst (λ xs. nesting xs ≤ max (depth_of c.args.member.value) (nesting c.args.list.now.items)) (sym c.in_ok-insert.ensures.items)
+    (nesting_inserted c.place_of-at.result.0 c.args.member c.args.list.now.items)

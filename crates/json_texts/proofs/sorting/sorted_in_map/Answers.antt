@@ -15,7 +15,12 @@ members-preserved c =
       f.0,
       f.3,
       l.3,
-      (l.4.0, l.4.1, l.4.2 ∙ ap (λ ms. in_order ms (members_at (listed es))) f.1 ∙ ap (in_order f.0) (sym (ap (λ e. members_at (listed e)) now ∙ listed_put es k v))),
+      (
+        l.4.0,
+        l.4.1,
+        l.4.2 ∙ ap (λ ms. in_order ms (members_at (listed es))) f.1
+            ∙ ap (in_order f.0) (sym (ap (λ e. members_at (listed e)) now ∙ listed_put es k v)),
+      ),
       subst (λ e. AreWritable (listed e)) (sym now) (listed_writable es k v c.in-Some-take_member.ensures.writable l.5),
       omega (arith, ap (λ e. nesting (listed e)) now, listed_nesting es k v, f.2, l.6),
     )

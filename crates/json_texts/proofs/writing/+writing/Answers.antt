@@ -17,7 +17,8 @@ write_value-returns-in-Some-clause-tokens t c =
     let keeps = c.args.keeps_numbers in
     let s = c.in-Some.text.now in
     let is = a_string (json_at ts) s (c.in-Some.ensures (json_at ts) (known ts c.requires).begins) in
-    one_written c.string.result c.args.out.now.tokens c.string.new.self.tokens (token.string s) (string s) (written keeps (json_at ts)) refl (sym (ap (written keeps) is ∙ written_string keeps s)) c.string.ensures.ok
+    one_written c.string.result c.args.out.now.tokens c.string.new.self.tokens (token.string s) (string s) (written keeps (json_at ts)) refl
+    (sym (ap (written keeps) is ∙ written_string keeps s)) c.string.ensures.ok
 
 pub write_value-number-requires : goal.write_value-number-requires
 write_value-number-requires t c =
@@ -31,7 +32,8 @@ write_value-returns-in-Some-as_number-clause-tokens t c =
     let keeps = c.args.keeps_numbers in
     let s = c.in-Some-as_number.text.now in
     let is = a_number (json_at ts) s (c.in-Some-as_number.ensures (json_at ts) (known ts c.requires).begins) in
-    one_written c.number.result c.args.out.now.tokens c.number.new.self.tokens (token.number s) (number s) (written keeps (json_at ts)) refl (sym (ap (written keeps) is ∙ written_number keeps s)) c.number.ensures.ok
+    one_written c.number.result c.args.out.now.tokens c.number.new.self.tokens (token.number s) (number s) (written keeps (json_at ts)) refl
+    (sym (ap (written keeps) is ∙ written_number keeps s)) c.number.ensures.ok
 
 pub write_value-returns-in-Some-2-clause-tokens : goal.write_value-returns-in-Some-2-clause-tokens
 write_value-returns-in-Some-2-clause-tokens t c =
@@ -39,7 +41,8 @@ write_value-returns-in-Some-2-clause-tokens t c =
     let keeps = c.args.keeps_numbers in
     let sorts = subst (λ o. Sorts ts (option_map (λ v. v.items) o)) c.in-Some-2.is c.in_ok-members.ensures in
     let all =
-    ap (λ xs. object (written_members keeps (members_at xs))) c.as_slice.ensures.value ∙ ap (λ ms. object (written_members keeps ms)) sorts.2 ∙ sym (written_object keeps sorts.0) ∙ ap (written keeps) (sym sorts.1) in
+    ap (λ xs. object (written_members keeps (members_at xs))) c.as_slice.ensures.value
+    ∙ ap (λ ms. object (written_members keeps ms)) sorts.2 ∙ sym (written_object keeps sorts.0) ∙ ap (written keeps) (sym sorts.1) in
     on_ok_weaker c.write_members.result (λ e. e ∙ ap (λ j. c.args.out.now.tokens ++ json_tokens j) all) c.write_members.ensures.tokens
 
 pub write_value-items-init : goal.write_value-items-init
@@ -76,7 +79,8 @@ write_value-items-preserved t c =
       f.0,
       f.3,
       l.3,
-      ap (λ xs. xs ++ rest) done.tokens ∙ append_assoc now (json_tokens (written keeps (json_at c.in-Some-take_item.item))) rest ∙ sym (ap (λ js. now ++ items_tokens (written_items keeps js)) f.1) ∙ l.4,
+      ap (λ xs. xs ++ rest) done.tokens ∙ append_assoc now (json_tokens (written keeps (json_at c.in-Some-take_item.item))) rest
+          ∙ sym (ap (λ js. now ++ items_tokens (written_items keeps js)) f.1) ∙ l.4,
       done.before ∙ l.5,
     )
 
@@ -84,7 +88,8 @@ pub write_value-returns-in-Some-items_in-clause-tokens : goal.write_value-return
 write_value-returns-in-Some-items_in-clause-tokens t c =
     let l = c.items.invariant in
     let over = c.in_default-take_item.ensures.value l.0 l.1 l.2 in
-    on_ok_weaker c.end_array.result (λ e. e ∙ sym (ap (λ js. c.items.out.tokens ++ items_tokens (written_items c.args.keeps_numbers js)) over) ∙ l.4) c.end_array.ensures.ok
+    on_ok_weaker c.end_array.result
+    (λ e. e ∙ sym (ap (λ js. c.items.out.tokens ++ items_tokens (written_items c.args.keeps_numbers js)) over) ∙ l.4) c.end_array.ensures.ok
 
 pub write_value-returns-in-Some-as_bool-clause-tokens : goal.write_value-returns-in-Some-as_bool-clause-tokens
 write_value-returns-in-Some-as_bool-clause-tokens t c =
@@ -92,7 +97,8 @@ write_value-returns-in-Some-as_bool-clause-tokens t c =
     let keeps = c.args.keeps_numbers in
     let b = c.in-Some-as_bool.b in
     let is = a_boolean (json_at ts) b (c.in-Some-as_bool.ensures (json_at ts) (known ts c.requires).begins) in
-    one_written c.boolean.result c.args.out.now.tokens c.boolean.new.self.tokens (token.boolean b) (boolean b) (written keeps (json_at ts)) refl (sym (ap (written keeps) is ∙ written_boolean keeps b)) c.boolean.ensures.ok
+    one_written c.boolean.result c.args.out.now.tokens c.boolean.new.self.tokens (token.boolean b) (boolean b)
+    (written keeps (json_at ts)) refl (sym (ap (written keeps) is ∙ written_boolean keeps b)) c.boolean.ensures.ok
 
 pub write_value-returns-in-None-clause-tokens : goal.write_value-returns-in-None-clause-tokens
 write_value-returns-in-None-clause-tokens t c =
@@ -102,4 +108,5 @@ write_value-returns-in-None-clause-tokens t c =
     let b = (known ts c.requires).begins in
     let object_none = subst (λ o. Sorts ts (option_map (λ v. v.items) o)) c.in_default-2.is c.in_ok-members.ensures in
     let is = a_null j (c.in_default.ensures j b) (c.in_default-as_number.ensures j b) (c.in-None.ensures j b) c.in_default-items_in.ensures object_none in
-    one_written c.null.result c.args.out.now.tokens c.null.new.self.tokens token.null null (written keeps j) refl (sym (ap (written keeps) is ∙ written_null keeps)) c.null.ensures.ok
+    one_written c.null.result c.args.out.now.tokens c.null.new.self.tokens token.null null (written keeps j) refl
+    (sym (ap (written keeps) is ∙ written_null keeps)) c.null.ensures.ok

@@ -16,7 +16,8 @@ decreases-write_value l = 2 * depth_of l.element.now
 abbrev pub invariant-write_members-members : goal.invariant-write_members-members
 invariant-write_members-members l =
     let left = drop l.member-index l.members in
-    (l.out.tokens ++ members_tokens (written_members l.keeps_numbers (members_at left)) ≡ l.fn.out.tokens ++ json_tokens (object (written_members l.keeps_numbers (members_at l.members))))
+    (l.out.tokens ++ members_tokens (written_members l.keeps_numbers (members_at left))
+    ≡ l.fn.out.tokens ++ json_tokens (object (written_members l.keeps_numbers (members_at l.members))))
     × (l.out.before ≡ l.fn.out.before) × AreWritable left × (nesting left ≤ nesting l.members)
 
 abbrev pub invariant-write_value-items : goal.invariant-write_value-items

@@ -7,11 +7,13 @@ use Rattle.json_parts.proofs.node.Node.get.Goals as goal
 pub returns-in_err-element : goal.returns-in_err-element
 returns-in_err-element c =
     let gone : c.from_residual.result ≡ None = grind arith in
-    ap (option_map data_of) gone ∙ sym (gets_at c.args.name.now c.self.inside.element c.self.invariant None c.in_err-element.ensures) ∙ ap (λ x. get c.args.name.now (data_of x)) c.self.view_is
+    ap (option_map data_of) gone ∙ sym (gets_at c.args.name.now c.self.inside.element c.self.invariant None c.in_err-element.ensures)
+    ∙ ap (λ x. get c.args.name.now (data_of x)) c.self.view_is
 
 pub invariant_of-result : goal.invariant_of-result
 invariant_of-result c = (gets_at c.args.name.now c.self.inside.element c.self.invariant (Some c.in_ok-element.element) c.in_ok-element.ensures).0
 
 pub returns : goal.returns
 returns c =
-    sym (gets_at c.args.name.now c.self.inside.element c.self.invariant (Some c.in_ok-element.element) c.in_ok-element.ensures).1 ∙ ap (λ x. get c.args.name.now (data_of x)) c.self.view_is
+    sym (gets_at c.args.name.now c.self.inside.element c.self.invariant (Some c.in_ok-element.element) c.in_ok-element.ensures).1
+    ∙ ap (λ x. get c.args.name.now (data_of x)) c.self.view_is

@@ -11,7 +11,8 @@ returns-in_default c =
     let ns = c.args.nodes.now in
     let n = get_or ns c.args.i (Object 0) in
     record {
-      value = λ depth j rest e. one_token n _ j depth rest (λ a z. grind arith) (λ a z. grind arith) (ap (value depth) (sym (here ns c.args.i (Object 0) c.requires.0)) ∙ e);
+      value = λ depth j rest e. one_token n _ j depth rest (λ a z. grind arith) (λ a z. grind arith)
+          (ap (value depth) (sym (here ns c.args.i (Object 0) c.requires.0)) ∙ e);
       later = omega arith;
     }
 

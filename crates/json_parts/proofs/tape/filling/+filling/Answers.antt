@@ -17,10 +17,12 @@ pub push_items-items-preserved : goal.push_items-items-preserved
 push_items-items-preserved t c =
     let l = c.items.invariant in
     let going : (after_end_array c.items.reader ≡ None) × (c.take_end_array.new.self ≡ c.items.reader) = grind arith in
-    let built : Grown c.items.nodes.items c.items.reader c.push_value.new.nodes.items c.push_value.new.reader × (skip_value c.args.depth c.items.reader ≡ Some c.push_value.new.reader) =
+    let built : Grown c.items.nodes.items c.items.reader c.push_value.new.nodes.items c.push_value.new.reader
+    × (skip_value c.args.depth c.items.reader ≡ Some c.push_value.new.reader) =
     rw (← going.1) c.in_ok-push_value.ensures.ok in
     let less : length c.push_value.new.reader < length c.items.reader = rw (← going.1) c.in_ok-push_value.ensures.shorter in
-    let turn = item_turn c.args.depth l.0 c.push.new.nodes.items c.items.nodes.items c.push_value.new.nodes.items c.args.reader.now c.items.reader c.push_value.new.reader l.1 l.2 going.0 l.4 built in
+    let turn = item_turn c.args.depth l.0 c.push.new.nodes.items c.items.nodes.items c.push_value.new.nodes.items c.args.reader.now
+    c.items.reader c.push_value.new.reader l.1 l.2 going.0 l.4 built in
     (l.0 - 1, turn.0, turn.1, omega (arith, l.3, less), turn.2, omega (arith, l.5, c.in_ok-push_value.ensures.ok.0.longer))
 
 pub push_items-returns-in_err-push_value-clause-err : goal.push_items-returns-in_err-push_value-clause-err
@@ -38,7 +40,9 @@ push_items-returns-clause-ok t c =
     let at : c.len-at.result ≡ length c.args.nodes.now.items = search rules in
     let after : c.len-after.result ≡ length c.items.nodes.items = search rules in
     on_ok c.close.result
-    (λ made. items_closed c.args.depth l.0 c.len-at.result (c.len-after.result + 1) c.args.nodes.now.items c.push.new.nodes.items c.items.nodes.items c.close.new.nodes.items c.args.reader.now c.items.reader r
+    (λ made. items_closed c.args.depth l.0 c.len-at.result
+    (c.len-after.result + 1) c.args.nodes.now.items c.push.new.nodes.items c.items.nodes.items c.close.new.nodes.items
+    c.args.reader.now c.items.reader r
     c.in_ok-push.ensures.ok l.4 (closed_array c.items.reader r ended) l.1 l.2 at (omega (arith, after)) made)
     c.close.ensures.ok
 
@@ -53,11 +57,19 @@ push_members-members-preserved t c =
     let s = c.next_key.new.self in
     let k = c.in-Some.name in
     let key : read_key c.members.reader ≡ Some (Some k.now, s) = grind arith in
-    let turn = member_turn c.args.depth l.0 c.push.new.nodes.items c.members.nodes.items c.push-in-Some.new.nodes.items c.push_value.new.nodes.items c.args.reader.now c.members.reader s c.push_value.new.reader k
+    let turn = member_turn c.args.depth l.0 c.push.new.nodes.items c.members.nodes.items c.push-in-Some.new.nodes.items
+    c.push_value.new.nodes.items c.args.reader.now c.members.reader s c.push_value.new.reader k
     l.1 l.2 key l.4 c.in_ok-push-2.ensures.ok c.in_ok-push_value.ensures.ok in
-    let more : length c.push-in-Some.new.nodes.items ≡ length c.members.nodes.items + 1 = ap length c.in_ok-push-2.ensures.ok ∙ length-append c.members.nodes.items _ in
-    let read = ap length (read_key_is c.members.reader (Some k.now) s key) in
-    (l.0 - 1, turn.0, turn.1, omega (arith, l.3, read, c.in_ok-push_value.ensures.shorter), turn.2, omega (arith, l.5, more, c.in_ok-push_value.ensures.ok.0.longer))
+    let more : length c.push-in-Some.new.nodes.items ≡ length c.members.nodes.items + 1 = ap length c.in_ok-push-2.ensures.ok
+    ∙ length-append c.members.nodes.items _ in
+    let read = ap length (read_key_is c.members.reader (Some k.now) s key) in (
+      l.0 - 1,
+      turn.0,
+      turn.1,
+      omega (arith, l.3, read, c.in_ok-push_value.ensures.shorter),
+      turn.2,
+      omega (arith, l.5, more, c.in_ok-push_value.ensures.ok.0.longer),
+    )
 
 pub push_members-returns-in_err-push_value-clause-err : goal.push_members-returns-in_err-push_value-clause-err
 push_members-returns-in_err-push_value-clause-err t c invalid =
@@ -76,7 +88,9 @@ push_members-returns-clause-ok t c =
     let at : c.len-at.result ≡ length c.args.nodes.now.items = search rules in
     let after : c.len-after.result ≡ length c.members.nodes.items = search rules in
     on_ok c.close.result
-    (λ made. members_closed c.args.depth l.0 c.len-at.result (c.len-after.result + 1) c.args.nodes.now.items c.push.new.nodes.items c.members.nodes.items c.close.new.nodes.items c.args.reader.now c.members.reader r
+    (λ made. members_closed c.args.depth l.0 c.len-at.result
+    (c.len-after.result + 1) c.args.nodes.now.items c.push.new.nodes.items c.members.nodes.items c.close.new.nodes.items
+    c.args.reader.now c.members.reader r
     c.in_ok-push.ensures.ok l.4 (read_key_is c.members.reader None r ended) l.1 l.2 at (omega (arith, after)) made)
     c.close.ensures.ok
 
@@ -90,7 +104,10 @@ push_value-returns-in-String-clause-ok t c =
     let first : c.args.reader.now ≡ token_of c.in_ok-token.token ∷ c.next.new.self = grind arith in
     let is : c.args.reader.now ≡ Token.string c.in-String.text.now ∷ c.next.new.self = grind (arith, first) in
     on_ok c.push.result
-    (λ pushed. (grown_push c.args.nodes.now.items _ c.push.new.nodes.items c.args.reader.now c.next.new.self pushed is (λ all i. tt), ap (skip_value c.args.depth) is ∙ ap left (value_is c.args.depth _)))
+    (λ pushed. (
+      grown_push c.args.nodes.now.items _ c.push.new.nodes.items c.args.reader.now c.next.new.self pushed is (λ all i. tt),
+      ap (skip_value c.args.depth) is ∙ ap left (value_is c.args.depth _),
+    ))
     c.push.ensures.ok
 
 pub push_value-returns-in-Number-clause-ok : goal.push_value-returns-in-Number-clause-ok
@@ -98,7 +115,10 @@ push_value-returns-in-Number-clause-ok t c =
     let first : c.args.reader.now ≡ token_of c.in_ok-token.token ∷ c.next.new.self = grind arith in
     let is : c.args.reader.now ≡ Token.number c.in-Number.text.now ∷ c.next.new.self = grind (arith, first) in
     on_ok c.push-in-Number.result
-    (λ pushed. (grown_push c.args.nodes.now.items _ c.push-in-Number.new.nodes.items c.args.reader.now c.next.new.self pushed is (λ all i. tt), ap (skip_value c.args.depth) is ∙ ap left (value_is c.args.depth _)))
+    (λ pushed. (
+      grown_push c.args.nodes.now.items _ c.push-in-Number.new.nodes.items c.args.reader.now c.next.new.self pushed is (λ all i. tt),
+      ap (skip_value c.args.depth) is ∙ ap left (value_is c.args.depth _),
+    ))
     c.push-in-Number.ensures.ok
 
 pub push_value-returns-in-Bool-clause-ok : goal.push_value-returns-in-Bool-clause-ok
@@ -106,7 +126,10 @@ push_value-returns-in-Bool-clause-ok t c =
     let first : c.args.reader.now ≡ token_of c.in_ok-token.token ∷ c.next.new.self = grind arith in
     let is : c.args.reader.now ≡ Token.boolean c.in-Bool.b ∷ c.next.new.self = grind (arith, first) in
     on_ok c.push-in-Bool.result
-    (λ pushed. (grown_push c.args.nodes.now.items _ c.push-in-Bool.new.nodes.items c.args.reader.now c.next.new.self pushed is (λ all i. tt), ap (skip_value c.args.depth) is ∙ ap left (value_is c.args.depth _)))
+    (λ pushed. (
+      grown_push c.args.nodes.now.items _ c.push-in-Bool.new.nodes.items c.args.reader.now c.next.new.self pushed is (λ all i. tt),
+      ap (skip_value c.args.depth) is ∙ ap left (value_is c.args.depth _),
+    ))
     c.push-in-Bool.ensures.ok
 
 pub push_value-returns-in-Null-clause-ok : goal.push_value-returns-in-Null-clause-ok
@@ -114,7 +137,10 @@ push_value-returns-in-Null-clause-ok t c =
     let first : c.args.reader.now ≡ token_of c.in_ok-token.token ∷ c.next.new.self = grind arith in
     let is : c.args.reader.now ≡ Token.null ∷ c.next.new.self = grind (arith, first) in
     on_ok c.push-in-Null.result
-    (λ pushed. (grown_push c.args.nodes.now.items _ c.push-in-Null.new.nodes.items c.args.reader.now c.next.new.self pushed is (λ all i. tt), ap (skip_value c.args.depth) is ∙ ap left (value_is c.args.depth _)))
+    (λ pushed. (
+      grown_push c.args.nodes.now.items _ c.push-in-Null.new.nodes.items c.args.reader.now c.next.new.self pushed is (λ all i. tt),
+      ap (skip_value c.args.depth) is ∙ ap left (value_is c.args.depth _),
+    ))
     c.push-in-Null.ensures.ok
 
 pub push_value-returns-in-EndObject-clause-err : goal.push_value-returns-in-EndObject-clause-err

@@ -46,5 +46,7 @@ loop-key-preserved c j begins =
 pub returns : goal.returns
 returns c j begins =
     let now = c.loop-key.invariant j begins in
-    let done : now.0 ≡ no_members = subst (λ r. NextMember c.loop-key.members (option_map (λ m. (m.0.now, m.1)) r) c.next_member.new.self) c.in_default.is c.next_member.ensures.value now.0 now.2 in
+    let done : now.0 ≡ no_members =
+    subst (λ r. NextMember c.loop-key.members (option_map (λ m. (m.0.now, m.1)) r) c.next_member.new.self) c.in_default.is
+    c.next_member.ensures.value now.0 now.2 in
     subst (Finds c.loop-key.found) (sym (now.4 ∙ ap (λ ms. later_or (get_member c.args.name.now ms) now.1) done)) now.3

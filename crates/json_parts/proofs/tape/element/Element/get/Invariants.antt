@@ -5,7 +5,9 @@ use Rattle.json_parts.proofs.tape.element.Element.get.Given as goal
 
 abbrev pub invariant-loop-key : goal.invariant-loop-key
 invariant-loop-key l =
-    (j : Json) → BeginsWith l.self j → (rest : Members) × (earlier : Option Json) × InMembers l.members rest × Finds l.found earlier × (get l.name j ≡ later_or (get_member l.name rest) earlier)
+    (j : Json) → BeginsWith l.self j
+    → (rest : Members) × (earlier : Option Json) × InMembers l.members rest × Finds l.found earlier
+    × (get l.name j ≡ later_or (get_member l.name rest) earlier)
 
 abbrev pub decreases-loop-key : goal.decreases-loop-key
 decreases-loop-key l = length l.members

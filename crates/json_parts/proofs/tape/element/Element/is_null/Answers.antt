@@ -10,4 +10,5 @@ returns-in-Null c j begins =
 
 pub returns-in_default : goal.returns-in_default
 returns-in_default c j begins =
-    other_node c.node.result (λ e. grind arith) ∙ null_here c.node.result (drop 1 c.args.self.now) j (subst (λ ts. BeginsWith ts j) (c.node.ensures j begins) begins)
+    other_node c.node.result (λ e. grind arith)
+    ∙ null_here c.node.result (drop 1 c.args.self.now) j (subst (λ ts. BeginsWith ts j) (c.node.ensures j begins) begins)

@@ -9,8 +9,13 @@ use Rattle.json_parts.proofs.tape.element.Element.items.Goals as goal
 pub returns-in-Array : goal.returns-in-Array
 returns-in-Array c j begins =
     let rest = drop 1 c.args.self.now in
-    let shape = an_array c.in-Array.field-0 rest j (subst (λ ts. BeginsWith ts j) (c.node.ensures j begins ∙ ap (λ n. node_token n ∷ rest) c.in-Array.is) begins) in
-    (shape.0, shape.1, subst (λ ts. InItems ts shape.0) (sym (c.inside.ensures j begins)) (opened c.args.self.now (array shape.0) (subst (BeginsWith c.args.self.now) shape.1 begins)))
+    let shape = an_array c.in-Array.field-0 rest j
+    (subst (λ ts. BeginsWith ts j) (c.node.ensures j begins ∙ ap (λ n. node_token n ∷ rest) c.in-Array.is) begins) in (
+      shape.0,
+      shape.1,
+      subst (λ ts. InItems ts shape.0) (sym (c.inside.ensures j begins))
+          (opened c.args.self.now (array shape.0) (subst (BeginsWith c.args.self.now) shape.1 begins)),
+    )
 
 pub returns-in_default : goal.returns-in_default
 returns-in_default c j begins =

@@ -11,7 +11,8 @@ pub returns-then-self : goal.returns-then-self
 returns-then-self c j begins =
     let a = c.self.inside in
     let all = map node_token a.nodes.now in
-    sym c.self.view_is ∙ here a.nodes.now a.at (Object 0) (omega arith) ∙ ap (λ ts. node_token (get_or a.nodes.now a.at (Object 0)) ∷ ts) (sym (drop-drop 1 a.at all) ∙ ap (drop 1) c.self.view_is)
+    sym c.self.view_is ∙ here a.nodes.now a.at (Object 0) (omega arith)
+    ∙ ap (λ ts. node_token (get_or a.nodes.now a.at (Object 0)) ∷ ts) (sym (drop-drop 1 a.at all) ∙ ap (drop 1) c.self.view_is)
 
 pub returns-else-self : goal.returns-else-self
 returns-else-self c j begins =

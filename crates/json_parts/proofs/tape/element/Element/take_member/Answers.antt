@@ -22,7 +22,8 @@ returns-in_default c =
     let i = c.self.inside.at in
     let n = get_or ns i (Object 0) in
     record {
-      value = λ ms given. members_close (node_token n) _ ms (no_key n (λ s e. grind arith)) (subst (λ ts. InMembers ts ms) (sym c.self.view_is ∙ here ns i (Object 0) (omega arith)) given);
+      value = λ ms given. members_close (node_token n) _ ms (no_key n (λ s e. grind arith))
+          (subst (λ ts. InMembers ts ms) (sym c.self.view_is ∙ here ns i (Object 0) (omega arith)) given);
       shorter = tt;
     }
 
