@@ -77,7 +77,8 @@ links_any : (sections : List Section) (lines : Option Span) (parts : List (List 
     ≡ list_any (λ (s : Section). (s.link && list_any (λ part. has_last part (parts_of s.name)) parts) && changes lines s) sections
 links_any sections lines parts =
     any_any (λ part s. is_link_named part lines s) parts sections
-    ∙ any_same (λ (s : Section). list_any (λ part. is_link_named part lines s) parts) (λ (s : Section). (s.link && list_any (λ part. has_last part (parts_of s.name)) parts) && changes lines s) sections
+    ∙ any_same (λ (s : Section). list_any (λ part. is_link_named part lines s) parts)
+    (λ (s : Section). (s.link && list_any (λ part. has_last part (parts_of s.name)) parts) && changes lines s) sections
     (λ s. any_and (λ part. s.link && has_last part (parts_of s.name)) (changes lines s) parts
     ∙ ap (λ b. b && changes lines s) (and_any s.link (λ part. has_last part (parts_of s.name)) parts))
 
@@ -89,14 +90,19 @@ or_last false false false d e = refl
 
 may_parts : (link absolute : Bool) (file parts : List (List ℕ)) →
     (end_alike file (sought_parts (absolute, parts)) || (link && list_any (λ part. has_last part file) parts)) ≡ path_may_be link file (absolute, parts)
-may_parts link absolute file parts = ap (λ b. b || (link && list_any (λ part. has_last part file) parts)) (ends absolute file parts) ∙ or_last (has_no_parts parts) (has_no_parts file) (not absolute && end_alike file parts) (absolute && last_alike parts file) (link && list_any (λ part. has_last part file) parts)
+may_parts link absolute file parts = ap (λ b. b || (link && list_any (λ part. has_last part file) parts)) (ends absolute file parts)
+    ∙ or_last (has_no_parts parts) (has_no_parts file) (not absolute && end_alike file parts) (absolute && last_alike parts file)
+    (link && list_any (λ part. has_last part file) parts)
 
 found_is : (sections : List Section) (lines : Option Span) (path : Path)
     → is_found sections lines path ≡ list_any (λ (s : Section). path_may_be s.link (parts_of s.name) path && changes lines s) sections
 found_is sections lines path =
     ap (λ b. list_any (is_ending (sought_parts path) lines) sections || b) (links_any sections lines path.1)
-    ∙ (any_either (is_ending (sought_parts path) lines) (λ (s : Section). (s.link && list_any (λ part. has_last part (parts_of s.name)) path.1) && changes lines s) sections
-    ∙ any_same (λ (s : Section). is_ending (sought_parts path) lines s || ((s.link && list_any (λ part. has_last part (parts_of s.name)) path.1) && changes lines s))
+    ∙ (any_either (is_ending (sought_parts path) lines)
+    (λ (s : Section). (s.link && list_any (λ part. has_last part (parts_of s.name)) path.1) && changes lines s) sections
+    ∙ any_same
+    (λ (s : Section). is_ending (sought_parts path) lines s
+    || ((s.link && list_any (λ part. has_last part (parts_of s.name)) path.1) && changes lines s))
     (λ (s : Section). path_may_be s.link (parts_of s.name) path && changes lines s) sections
     (λ s. or_and (end_alike (parts_of s.name) (sought_parts path)) (s.link && list_any (λ part. has_last part (parts_of s.name)) path.1) (changes lines s)
     ∙ ap (λ b. b && changes lines s) (may_parts s.link path.0 (parts_of s.name) path.1)))
@@ -104,7 +110,10 @@ found_is sections lines path =
 pub all_found : (sections : List Section) (roots : List (List ℕ)) (uri : List ℕ) (lines : Option Span)
     → list_any (is_found sections lines) (paths_of roots uri) ≡ meets sections roots uri lines
 all_found sections roots uri lines =
-    any_same (is_found sections lines) (λ path. list_any (λ (s : Section). path_may_be s.link (parts_of s.name) path && changes lines s) sections) (paths_of roots uri) (found_is sections lines)
+    any_same (is_found sections lines)
+    (λ path. list_any (λ (s : Section). path_may_be s.link (parts_of s.name) path && changes lines s) sections) (paths_of roots uri)
+    (found_is sections lines)
     ∙ (any_any (λ path (s : Section). path_may_be s.link (parts_of s.name) path && changes lines s) (paths_of roots uri) sections
-    ∙ any_same (λ (s : Section). list_any (λ path. path_may_be s.link (parts_of s.name) path && changes lines s) (paths_of roots uri)) (λ s. may_be roots uri s && changes lines s) sections
+    ∙ any_same (λ (s : Section). list_any (λ path. path_may_be s.link (parts_of s.name) path && changes lines s) (paths_of roots uri))
+    (λ s. may_be roots uri s && changes lines s) sections
     (λ s. any_and (path_may_be s.link (parts_of s.name)) (changes lines s) (paths_of roots uri)))

@@ -93,7 +93,8 @@ pub link_added : (links : List ChangedFile) (file : ChangedFile) (s : Section) (
 link_added links file s sections key is some first changed link have part lines clean =
     let more : 0 < length (joined (parts_of s.name)) = omega (arith, some, ap (λ (xs : List ℕ). length xs) is) in
     any_with (found_at (part ++ 47 ∷ []) lines) links file
-    ∙ (or_both (list_any (found_at (part ++ 47 ∷ []) lines) links) (list_any (is_link_named part lines) sections) (found_at (part ++ 47 ∷ []) lines file) (is_link_named part lines s)
+    ∙ (or_both (list_any (found_at (part ++ 47 ∷ []) lines) links) (list_any (is_link_named part lines) sections)
+    (found_at (part ++ 47 ∷ []) lines file) (is_link_named part lines s)
     (have part lines clean) (link_found file s part lines (parts_of s.name) refl more first changed link clean)
     ∙ sym (any_with (is_link_named part lines) sections s))
 
@@ -126,7 +127,10 @@ no_link links s sections link have part lines clean =
 
 -- ---- the files of a tree
 
-pub tree_any : (tree : Option (List ChangedFile)) (sorted given : List ChangedFile) → IfNone tree (sorted ≡ []) → IfSome tree (λ files. files ≡ sorted) → IsPermutation given sorted
+pub tree_any : (tree : Option (List ChangedFile)) (sorted given : List ChangedFile) → IfNone tree (sorted ≡ [])
+    → IfSome tree (λ files. files ≡ sorted) → IsPermutation given sorted
     → (key : List ℕ) (lines : Option Span) → list_any (found_at key lines) (tree_files tree) ≡ list_any (found_at key lines) given
-tree_any None sorted given none some same key lines = ap (λ files. list_any (found_at key lines) files) (sym none) ∙ sym (list_any-IsPermutation (found_at key lines) given sorted same)
-tree_any (Some files) sorted given none some same key lines = ap (λ files. list_any (found_at key lines) files) some ∙ sym (list_any-IsPermutation (found_at key lines) given sorted same)
+tree_any None sorted given none some same key lines = ap (λ files. list_any (found_at key lines) files) (sym none)
+    ∙ sym (list_any-IsPermutation (found_at key lines) given sorted same)
+tree_any (Some files) sorted given none some same key lines = ap (λ files. list_any (found_at key lines) files) some
+    ∙ sym (list_any-IsPermutation (found_at key lines) given sorted same)

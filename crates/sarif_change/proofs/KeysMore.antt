@@ -1,5 +1,6 @@
 -- Keys that begin alike.
-use Rattle.std.proofs.Common.{◌≡◌, ℕ, Bool, true, false, ◌&&◌, ◌||◌, List, [], ◌∷◌, take, length, refl, sym, ap, ◌∙◌, suc, zero, arith}
+use Rattle.std.proofs.Common.{◌≡◌, ℕ, Bool, true, false, ◌&&◌, ◌||◌, List, [], ◌∷◌, take, refl, sym, ap, ◌∙◌, suc, zero, arith}
+use Rattle.std.proofs.lemmas.Bool.{and_parts}
 use Rattle.std.specs.Prelude.{nat_eq, ◌==◌}
 use Rattle.std.specs.List.{starts_with}
 use Rattle.std.proofs.lemmas.Bool.Decides.{nat_tests}
@@ -47,11 +48,7 @@ opens_self (x ∷ xs) = ap (λ b. b && opens xs xs) (same_twice x) ∙ opens_sel
 pub opens_equal : (n : ℕ) (xs ys : List ℕ) → take n xs ≡ take n ys → opens ys (take n xs) ≡ true
 opens_equal n xs ys same = ap (λ beginning. opens ys beginning) same ∙ opens_take n ys
 
--- ---- keys of which one begins with another
-
-both_true : (a b : Bool) → (a && b) ≡ true → (a ≡ true) × (b ≡ true)
-both_true true b h = (refl, h)
-both_true false b h = grind arith
+-- ---- keys that begin with another key
 
 equal_twice : (x y z : ℕ) → (x == z) ≡ true → (y == x) ≡ true → (y == z) ≡ true
 equal_twice x y z h i = grind (arith, nat_tests)
@@ -66,8 +63,8 @@ opens_twice k c [] h i = refl
 opens_twice k [] (y ∷ q) h i = grind arith
 opens_twice [] (x ∷ c) (y ∷ q) h i = grind arith
 opens_twice (z ∷ k) (x ∷ c) (y ∷ q) h i =
-    let first = both_true _ _ h in
-    let second = both_true _ _ i in
+    let first = and_parts _ _ h in
+    let second = and_parts _ _ i in
     let rest : opens k q ≡ true = opens_twice k c q first.1 second.1 in
     let same : (y == z) ≡ true = equal_twice x y z first.0 second.0 in
     rw (same, rest) refl
@@ -81,7 +78,7 @@ meet_not k [] q h d = grind arith
 meet_not k (x ∷ c) [] h d = grind arith
 meet_not [] (x ∷ c) (y ∷ q) h d = grind arith
 meet_not (z ∷ k) (x ∷ c) (y ∷ q) h d =
-    let both = both_true _ _ h in
+    let both = and_parts _ _ h in
     differs_step x y z (meet c q) (meet k q) both.0 d (λ e. meet_not k c q both.1 e)
 
 pub differs : (k c q : List ℕ) → opens k c ≡ true → alike c q ≡ false → alike k q ≡ false

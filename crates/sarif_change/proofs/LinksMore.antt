@@ -1,17 +1,17 @@
 -- Symbolic links by the parts of a key, and what an index finds.
-use Rattle.std.proofs.Common.{◌≡◌, ℕ, Bool, true, false, not, ◌&&◌, ◌||◌, List, [], ◌∷◌, ◌++◌, length, take, Option, Some, None, refl, sym, ap, ◌∙◌, arith, if◌then◌else◌}
+use Rattle.std.proofs.Common.{◌≡◌, ℕ, Bool, true, false, ◌&&◌, ◌||◌, List, [], ◌∷◌, ◌++◌, length, take, Option, Some, None, refl, sym, ap, ◌∙◌, arith}
+use Rattle.std.proofs.lemmas.Bool.{and_parts}
 use Rattle.std.specs.Prelude.{is_none}
 use Rattle.std.specs.List.{list_any, list_all}
-use Rattle.sarif_diff.specs.Lines.{with_byte}
 use Rattle.sarif_diff.specs.declared.section.Section.{Section}
 use Rattle.sarif_diff.specs.declared.section.Span.{Span}
-use Rattle.sarif_change.specs.Parts.{pieces_of, is_slash}
-use Rattle.sarif_change.specs.Uri.{Path}
+use Rattle.sarif_change.specs.Parts.{pieces_of}
 use Rattle.sarif_change.specs.Internal.Files.{found_at}
 use Rattle.sarif_change.specs.Internal.Index.{IsIndex, tree_files, sought_parts, is_found, is_ending, is_link_named}
 use Rattle.sarif_change.specs.Internal.Keys.{joined, has_no_slash}
 use Rattle.sarif_change.specs.declared.file.ChangedFile.{ChangedFile}
-use Rattle.sarif_change.proofs.PartsMore.{none_left}
+use Rattle.sarif_change.proofs.JoinedMore.{pieces_joined}
+use Rattle.sarif_diff.proofs.PiecesMore.{none_left}
 
 abbrev pub linked : Option (List ChangedFile) → Option Span → List ℕ → Bool
 linked links lines part = list_any (found_at (part ++ 47 ∷ []) lines) (tree_files links)
@@ -37,36 +37,13 @@ module _ (links : Option (List ChangedFile)) (lines : Option Span) (rest part af
 
 pub at_end : (links : Option (List ChangedFile)) (lines : Option Span) (rest : List ℕ) → length rest ≡ 0
     → false ≡ list_any (λ part. list_any (found_at (part ++ 47 ∷ []) lines) (tree_files links)) (pieces_of rest)
-at_end links lines rest none = rw (none_left rest none) refl
+at_end links lines rest none = rw (none_left 47 rest none) refl
 
--- ---- the pieces of a key
-
-both_true : (a b : Bool) → (a && b) ≡ true → (a ≡ true) × (b ≡ true)
-both_true true b h = (refl, h)
-both_true false b h = grind arith
-
-not_true : (t : Bool) → not t ≡ true → t ≡ false
-not_true true h = grind arith
-not_true false h = refl
-
-piece_first : (p P : List ℕ) → has_no_slash p ≡ true → pieces_of (p ++ 47 ∷ P) ≡ p ∷ pieces_of P
-unfolding pieces_of
-piece_first [] P h = refl
-piece_first (x ∷ p) P h =
-    let both = both_true _ _ h in
-    let no : is_slash x ≡ false = not_true (is_slash x) both.0 in
-    rw (no, piece_first p P both.1) refl
-
-pieces_joined : (parts : List (List ℕ)) → list_all has_no_slash parts ≡ true → pieces_of (joined parts) ≡ parts
-unfolding pieces_of
-pieces_joined [] h = refl
-pieces_joined (p ∷ ps) h =
-    let both = both_true _ _ h in
-    piece_first p (joined ps) both.0 ∙ ap (λ rest. p ∷ rest) (pieces_joined ps both.1)
+-- ---- what an index finds
 
 one_clean : (parts : List (List ℕ)) → list_all has_no_slash parts ≡ true → list_all has_no_slash (take 1 parts) ≡ true
 one_clean [] h = refl
-one_clean (p ∷ ps) h = ap (λ b. b && true) (both_true _ _ h).0
+one_clean (p ∷ ps) h = ap (λ b. b && true) (and_parts _ _ h).0
 
 sought_clean : (absolute : Bool) (parts : List (List ℕ)) → list_all has_no_slash parts ≡ true → list_all has_no_slash (sought_parts (absolute, parts)) ≡ true
 sought_clean true parts h = one_clean parts h
@@ -76,10 +53,11 @@ links_found : (files links : Option (List ChangedFile)) (sections : List Section
     → list_all has_no_slash parts ≡ true → list_any (linked links lines) parts ≡ list_any (λ part. list_any (is_link_named part lines) sections) parts
 links_found files links sections lines [] index h = refl
 links_found files links sections lines (p ∷ ps) index h =
-    let both = both_true _ _ h in
+    let both = and_parts _ _ h in
     rw (index.links p lines both.0, links_found files links sections lines ps index both.1) refl
 
-pub path_found : (files links : Option (List ChangedFile)) (sections : List Section) (lines : Option Span) (absolute : Bool) (parts : List (List ℕ)) (key sought : List ℕ)
+pub path_found : (files links : Option (List ChangedFile)) (sections : List Section) (lines : Option Span) (absolute : Bool)
+    (parts : List (List ℕ)) (key sought : List ℕ)
     → IsIndex files links sections → list_all has_no_slash parts ≡ true → key ≡ joined parts → sought ≡ joined (sought_parts (absolute, parts))
     → (list_any (found_at sought lines) (tree_files files) || list_any (linked links lines) (pieces_of key)) ≡ is_found sections lines (absolute, parts)
 path_found files links sections lines absolute parts key sought index clean is looked =
@@ -89,13 +67,15 @@ path_found files links sections lines absolute parts key sought index clean is l
     (ap (λ k. list_any (linked links lines) (pieces_of k)) is ∙ (ap (λ ps. list_any (linked links lines) ps) (pieces_joined parts clean)
     ∙ links_found files links sections lines parts index clean)))
 
-pub path_by_end : (files links : Option (List ChangedFile)) (sections : List Section) (lines : Option Span) (absolute : Bool) (parts : List (List ℕ)) (key sought : List ℕ)
+pub path_by_end : (files links : Option (List ChangedFile)) (sections : List Section) (lines : Option Span) (absolute : Bool)
+    (parts : List (List ℕ)) (key sought : List ℕ)
     → IsIndex files links sections → list_all has_no_slash parts ≡ true → key ≡ joined parts → sought ≡ joined (sought_parts (absolute, parts))
     → list_any (found_at sought lines) (tree_files files) ≡ true → true ≡ is_found sections lines (absolute, parts)
 path_by_end files links sections lines absolute parts key sought index clean is looked h =
     sym (ap (λ b. b || list_any (linked links lines) (pieces_of key)) h) ∙ path_found files links sections lines absolute parts key sought index clean is looked
 
-pub path_by_link : (files links : Option (List ChangedFile)) (sections : List Section) (lines : Option Span) (absolute : Bool) (parts : List (List ℕ)) (key sought : List ℕ)
+pub path_by_link : (files links : Option (List ChangedFile)) (sections : List Section) (lines : Option Span) (absolute : Bool)
+    (parts : List (List ℕ)) (key sought : List ℕ)
     → IsIndex files links sections → list_all has_no_slash parts ≡ true → key ≡ joined parts → sought ≡ joined (sought_parts (absolute, parts))
     → list_any (found_at sought lines) (tree_files files) ≡ false → list_any (linked links lines) (pieces_of key) ≡ is_found sections lines (absolute, parts)
 path_by_link files links sections lines absolute parts key sought index clean is looked h =

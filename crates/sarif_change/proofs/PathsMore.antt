@@ -1,5 +1,6 @@
--- The paths that a URI may stand for.
-use Rattle.std.proofs.Common.{◌≡◌, ◌<◌, ◌≤◌, ℕ, Bool, true, false, ◌&&◌, ◌||◌, Option, List, [], ◌∷◌, ◌++◌, length, map, drop, get_or, refl, sym, ap, ◌∙◌, arith}
+-- The paths that a URI may represent.
+use Rattle.std.proofs.Common.{◌≡◌, ◌<◌, ℕ, Bool, true, false, ◌||◌, Option, List, [], ◌∷◌, ◌++◌, length, map, drop, get_or, refl, sym, ap, ◌∙◌, arith}
+use Rattle.std.proofs.lemmas.Bool.{and_parts}
 use Rattle.std.specs.List.{list_any, list_all}
 use Rattle.sarif_diff.specs.declared.section.Section.{Section}
 use Rattle.sarif_diff.specs.declared.section.Span.{Span}
@@ -20,7 +21,10 @@ pub four_rooted : (a b c d : List (List ℕ)) (first second third fourth : List 
     → fourth ≡ rooted_keys (a ++ (b ++ (c ++ (d ++ []))))
 four_rooted a b c d first second third fourth f g h i =
     let all : rooted_keys (a ++ (b ++ (c ++ (d ++ [])))) ≡ rooted_keys a ++ (rooted_keys b ++ (rooted_keys c ++ (rooted_keys d ++ []))) =
-    rooted_both a (b ++ (c ++ (d ++ []))) ∙ ap (λ ps. rooted_keys a ++ ps) (rooted_both b (c ++ (d ++ [])) ∙ ap (λ ps. rooted_keys b ++ ps) (rooted_both c (d ++ []) ∙ ap (λ ps. rooted_keys c ++ ps) (rooted_both d [])))
+    rooted_both a (b ++ (c ++ (d ++ [])))
+    ∙ ap (λ ps. rooted_keys a ++ ps)
+    (rooted_both b (c ++ (d ++ []))
+    ∙ ap (λ ps. rooted_keys b ++ ps) (rooted_both c (d ++ []) ∙ ap (λ ps. rooted_keys c ++ ps) (rooted_both d [])))
     in
     rw (i, h, g, f, all, append-nil, append_assoc, append_assoc) refl
 
@@ -36,7 +40,8 @@ pub none_seen : (paths : List SoughtPath) → length paths ≡ 0 → length (map
 none_seen [] h = refl
 none_seen (p ∷ ps) h = absurd (omega (arith, h))
 
-chosen_some : (readings rests : List (List ℕ)) (made : List (Bool × List ℕ)) → made ≡ rooted_keys rests → 0 < length made → made ≡ map keyed (chosen_paths readings rests)
+chosen_some : (readings rests : List (List ℕ)) (made : List (Bool × List ℕ)) → made ≡ rooted_keys rests → 0 < length made
+    → made ≡ map keyed (chosen_paths readings rests)
 chosen_some readings [] made is some = absurd (omega (arith, some, ap (λ (ps : List (Bool × List ℕ)). length ps) is))
 chosen_some readings (r ∷ rs) made is some = is
 
@@ -48,7 +53,8 @@ rooted_chosen roots readings uri made is h some =
 pub own_chosen : (roots readings : List (List ℕ)) (uri : List ℕ) (made own : List (Bool × List ℕ)) → readings ≡ readings_of uri
     → made ≡ rooted_keys (after_roots roots readings) → length made ≡ 0 → own ≡ map keyed (map own_path readings) → own ≡ map keyed (paths_of roots uri)
 own_chosen roots readings uri made own is h none o =
-    let empty : after_roots roots (readings_of uri) ≡ [] = none_rooted (after_roots roots (readings_of uri)) made (h ∙ ap (λ rs. rooted_keys (after_roots roots rs)) is) none in
+    let empty : after_roots roots (readings_of uri) ≡ [] =
+    none_rooted (after_roots roots (readings_of uri)) made (h ∙ ap (λ rs. rooted_keys (after_roots roots rs)) is) none in
     o ∙ (ap (λ rs. map keyed (map own_path rs)) is ∙ sym (ap (λ rests. map keyed (chosen_paths (readings_of uri) rests)) empty))
 
 -- ---- paths have no slashes in their parts
@@ -70,10 +76,6 @@ paths_clean roots uri = chosen_clean (readings_of uri) (after_roots roots (readi
 
 -- ---- paths, one by one
 
-both_true : (a b : Bool) → (a && b) ≡ true → (a ≡ true) × (b ≡ true)
-both_true true b h = (refl, h)
-both_true false b h = grind arith
-
 pub no_path : (sections : List Section) (lines : Option Span) (sought : List Path) → [] ≡ map keyed sought → false ≡ list_any (is_found sections lines) sought
 no_path sections lines [] h = refl
 no_path sections lines (p ∷ ps) h = absurd (omega (arith, ap (λ (xs : List (Bool × List ℕ)). length xs) h))
@@ -84,7 +86,8 @@ first_is x y xs ys h = ap (λ (zs : List (Bool × List ℕ)). get_or zs 0 x) h
 rest_is : (x y : Bool × List ℕ) (xs ys : List (Bool × List ℕ)) → x ∷ xs ≡ y ∷ ys → xs ≡ ys
 rest_is x y xs ys h = ap (λ (zs : List (Bool × List ℕ)). drop 1 zs) h
 
-path_is : (sections : List Section) (lines : Option Span) (first : SoughtPath) (p : Path) (found : Bool) → list_all has_no_slash p.1 ≡ true → seen first ≡ keyed p
+path_is : (sections : List Section) (lines : Option Span) (first : SoughtPath) (p : Path) (found : Bool)
+    → list_all has_no_slash p.1 ≡ true → seen first ≡ keyed p
     → ((parts : List (List ℕ)) → list_all has_no_slash parts ≡ true → first.key.items ≡ joined parts → found ≡ is_found sections lines (first.absolute, parts))
     → found ≡ is_found sections lines p
 path_is sections lines first p found clean same finds =
@@ -96,16 +99,20 @@ pub path_first : (sections : List Section) (lines : Option Span) (first : Sought
     → true ≡ list_any (is_found sections lines) sought
 path_first sections lines first rest found is finds [] clean same = absurd (omega (arith, ap (λ (xs : List (Bool × List ℕ)). length xs) same))
 path_first sections lines first rest found is finds (p ∷ ps) clean same =
-    let here : found ≡ is_found sections lines p = path_is sections lines first p found (both_true _ _ clean).0 (first_is (seen first) (keyed p) (map seen rest) (map keyed ps) same) finds in
+    let here : found ≡ is_found sections lines p =
+    path_is sections lines first p found (and_parts _ _ clean).0
+    (first_is (seen first) (keyed p) (map seen rest) (map keyed ps) same) finds in
     ap (λ b. b || list_any (is_found sections lines) ps) (sym is ∙ here)
 
 pub path_after : (sections : List Section) (lines : Option Span) (first : SoughtPath) (rest : List SoughtPath) (found more : Bool) → found ≡ false
     → ((parts : List (List ℕ)) → list_all has_no_slash parts ≡ true → first.key.items ≡ joined parts → found ≡ is_found sections lines (first.absolute, parts))
-    → ((sought : List Path) → list_all (λ (path : Path). list_all has_no_slash path.1) sought ≡ true → map seen rest ≡ map keyed sought → more ≡ list_any (is_found sections lines) sought)
+    → ((sought : List Path) → list_all (λ (path : Path). list_all has_no_slash path.1) sought ≡ true → map seen rest ≡ map keyed sought
+    → more ≡ list_any (is_found sections lines) sought)
     → (sought : List Path) → list_all (λ (path : Path). list_all has_no_slash path.1) sought ≡ true → seen first ∷ map seen rest ≡ map keyed sought
     → more ≡ list_any (is_found sections lines) sought
 path_after sections lines first rest found more is finds others [] clean same = absurd (omega (arith, ap (λ (xs : List (Bool × List ℕ)). length xs) same))
 path_after sections lines first rest found more is finds others (p ∷ ps) clean same =
-    let both = both_true _ _ clean in
-    let here : found ≡ is_found sections lines p = path_is sections lines first p found both.0 (first_is (seen first) (keyed p) (map seen rest) (map keyed ps) same) finds in
+    let both = and_parts _ _ clean in
+    let here : found ≡ is_found sections lines p =
+    path_is sections lines first p found both.0 (first_is (seen first) (keyed p) (map seen rest) (map keyed ps) same) finds in
     others ps both.1 (rest_is (seen first) (keyed p) (map seen rest) (map keyed ps) same) ∙ ap (λ b. b || list_any (is_found sections lines) ps) (sym is ∙ here)

@@ -134,17 +134,21 @@ pub reached : (spans : List Span) (l : Span) (count : ℕ) (d : Span)
 reached spans l count d h rise some within =
     (elim (leb l.first (get_or spans (count - 1) d).last) as (λ b. leb l.first (get_or spans (count - 1) d).last ≡ b → b ≡ list_any (touches l) spans) [
       | true ↦ λ is. sym (list_any_at (touches l) spans (count - 1) d (omega arith)
-          (and_true (leb (get_or spans (count - 1) d).first l.last) (leb l.first (get_or spans (count - 1) d).last) (h.0 (count - 1) d (omega arith) (omega arith)) is))
+          (and_true (leb (get_or spans (count - 1) d).first l.last) (leb l.first (get_or spans (count - 1) d).last)
+          (h.0 (count - 1) d (omega arith) (omega arith)) is))
       | false ↦ λ is. sym (list_any_none (touches l) spans (λ k e inside.
           no_other (leb (get_or spans k e).first l.last) (leb l.first (get_or spans k e).last) (λ begins.
           let place : k < count = omega (arith, λ (p : count ≤ k). true≢false (sym begins ∙ h.1 k e p inside)) in
-          let same : (get_or spans (count - 1) e).last ≡ (get_or spans (count - 1) d).last = ap (λ (s : Span). s.last) (get_or_default spans (count - 1) e d (omega arith)) in
-          smaller l.first (get_or spans k e).last (get_or spans (count - 1) d).last is (omega (arith, rise k (count - 1) e (omega arith) (omega arith), same)))))
+          let same : (get_or spans (count - 1) e).last ≡ (get_or spans (count - 1) d).last =
+          ap (λ (s : Span). s.last) (get_or_default spans (count - 1) e d (omega arith)) in
+          smaller l.first (get_or spans k e).last (get_or spans (count - 1) d).last is
+          (omega (arith, rise k (count - 1) e (omega arith) (omega arith), same)))))
     ]) refl
 
 -- ---- the spans, one by one, as a loop raises them
 
 pub raise_goes : (made spans : List Span) (i most : ℕ) (x : Span) → i < length spans
-    → (made ++ record { first = (get_or spans i x).first; last = max most (get_or spans i x).last } ∷ []) ++ raised (max most (get_or spans i x).last) (drop (i + 1) spans)
+    → (made ++ record { first = (get_or spans i x).first; last = max most (get_or spans i x).last } ∷ [])
+    ++ raised (max most (get_or spans i x).last) (drop (i + 1) spans)
     ≡ made ++ raised most (drop i spans)
 raise_goes made spans i most x within = rw (drop_more spans i x within) (append_assoc made _ _)

@@ -1,5 +1,6 @@
 -- The files of a tree.
-use Rattle.std.proofs.Common.{◌≡◌, ℕ, Bool, true, false, ◌&&◌, ◌||◌, List, [], ◌∷◌, ◌++◌, refl, sym, ap, ◌∙◌, arith, Option}
+use Rattle.std.proofs.Common.{◌≡◌, ℕ, Bool, true, false, ◌||◌, List, [], ◌∷◌, ◌++◌, refl, sym, ap, ◌∙◌, Option}
+use Rattle.std.proofs.lemmas.Bool.{and_parts}
 use Rattle.std.specs.List.{list_any, list_all}
 use Rattle.std.proofs.lemmas.List.Folds.{list_any-append, list_all-append}
 use Rattle.sarif_diff.specs.declared.section.Span.{Span}
@@ -7,10 +8,6 @@ use Rattle.sarif_change.specs.Internal.Keys.{opens, alike}
 use Rattle.sarif_change.specs.Internal.Files.{changed_at, found_at}
 use Rattle.sarif_change.specs.declared.file.ChangedFile.{ChangedFile}
 use Rattle.sarif_change.proofs.KeysMore.{opens_self, opens_twice, opens_alike, differs}
-
-both_true : (a b : Bool) → (a && b) ≡ true → (a ≡ true) × (b ≡ true)
-both_true true b h = (refl, h)
-both_true false b h = grind arith
 
 pub any_in_both : (test : ChangedFile → Bool) (left right : List ChangedFile) → (list_any test left || list_any test right) ≡ list_any test (left ++ right)
 any_in_both test left right = sym (list_any-append test left right)
@@ -23,7 +20,7 @@ open_twice : (files : List ChangedFile) (first second : List ℕ) → list_all (
     → list_all (λ file. opens file.key.items second) files ≡ true
 open_twice [] first second h o = refl
 open_twice (file ∷ files) first second h o =
-    let both = both_true _ _ h in
+    let both = and_parts _ _ h in
     rw (opens_twice file.key.items first second both.0 o) (open_twice files first second both.1 o)
 
 pub all_open : (left right : List ChangedFile) (first second beginning : List ℕ)
@@ -38,7 +35,7 @@ pub found_in_all : (files : List ChangedFile) (beginning key : List ℕ) (lines 
     → list_any (found_at key lines) files ≡ list_any (λ file. changed_at lines file.changed) files
 found_in_all [] beginning key lines h o = refl
 found_in_all (file ∷ files) beginning key lines h o =
-    let both = both_true _ _ h in
+    let both = and_parts _ _ h in
     let is : alike file.key.items key ≡ true = opens_alike file.key.items key (opens_twice file.key.items beginning key both.0 o) in
     rw is (ap (λ b. changed_at lines file.changed || b) (found_in_all files beginning key lines both.1 o))
 
@@ -47,5 +44,5 @@ pub found_in_none : (files : List ChangedFile) (beginning key : List ℕ) (lines
     → list_any (found_at key lines) files ≡ false
 found_in_none [] beginning key lines h o = refl
 found_in_none (file ∷ files) beginning key lines h o =
-    let both = both_true _ _ h in
+    let both = and_parts _ _ h in
     rw (differs file.key.items beginning key both.0 o) (found_in_none files beginning key lines both.1 o)

@@ -12,7 +12,8 @@ skip_one (suc n) b bs some = let is : suc n - 1 ≡ n = omega arith in rw is ref
 pub skips : (out uri : List ℕ) (at skipped : ℕ) → at < length uri → 0 < skipped
     → out ++ decoded_from (skipped - 1) (drop (at + 1) uri) ≡ out ++ decoded_from skipped (drop at uri)
 skips out uri at skipped within some =
-    ap (λ rest. out ++ rest) (skip_one skipped (get_or uri at 0) (drop (at + 1) uri) some ∙ ap (λ bs. decoded_from skipped bs) (sym (drop_more uri at 0 within)))
+    ap (λ rest. out ++ rest)
+    (skip_one skipped (get_or uri at 0) (drop (at + 1) uri) some ∙ ap (λ bs. decoded_from skipped bs) (sym (drop_more uri at 0 within)))
 
 step : (out : List ℕ) (b : ℕ) (bs : List ℕ)
     → (out ++ unwrap_or (escaped b bs) b ∷ []) ++ decoded_from (digits_after (escaped b bs)) bs ≡ out ++ decoded_from 0 (b ∷ bs)

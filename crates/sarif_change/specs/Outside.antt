@@ -1,5 +1,5 @@
 -- What is outside of a change.
-use Rattle.std.specs.Prelude.{◌≡◌, ◌⊎◌, ℕ, ◌≤◌, Bool, true, false, not, ◌&&◌, nat_le, List, [], ◌∷◌, Option, Some, None, unwrap_or, if◌then◌else◌}
+use Rattle.std.specs.Prelude.{◌≡◌, ◌⊎◌, ℕ, ◌≤◌, Bool, true, false, not, ◌&&◌, nat_le, List, [], ◌∷◌, Option, Some, None, option_map, unwrap_or, if◌then◌else◌}
 use Rattle.std.specs.List.{list_any, list_all, Contains}
 use Rattle.std.specs.Option.{option_and_then}
 use Rattle.sarif_diff.specs.declared.section.Section.{Section}
@@ -30,21 +30,18 @@ lines_in Files region = None
 -- ---- places
 
 module _ (sections : List Section) (roots : List (List ℕ)) (scope : Scope) where
-  -- whether a place has a path, and meets the change
-  abbrev pub spot_meets : Spot → Option (List ℕ) → Bool
-  spot_meets spot None = false
-  spot_meets spot (Some uri) = meets sections roots uri (lines_in scope spot.region)
+  -- whether a place meets the change, if it has a path
+  abbrev pub meeting : Spot → Option Bool
+  meeting spot =
+      option_map (λ uri. meets sections roots uri (lines_in scope spot.region)) spot.uri
 
+  -- whether a place has a path, and meets the change
   abbrev pub is_met : Spot → Bool
-  is_met spot = spot_meets spot spot.uri
+  is_met spot = unwrap_or (meeting spot) false
 
   -- whether a place has a path, and doesn't meet the change
-  abbrev pub spot_misses : Spot → Option (List ℕ) → Bool
-  spot_misses spot None = false
-  spot_misses spot (Some uri) = not (meets sections roots uri (lines_in scope spot.region))
-
   abbrev pub is_missed : Spot → Bool
-  is_missed spot = spot_misses spot spot.uri
+  is_missed spot = not (unwrap_or (meeting spot) true)
 
   -- whether there are locations, and each is missed
   abbrev pub are_missed : List Spot → Bool

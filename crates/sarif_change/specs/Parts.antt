@@ -1,23 +1,19 @@
 -- The parts of a path. Paths are compared from their ends, so a path is turned: its last byte is the first. Its parts are
 -- those of the turned path, the last part first.
-use Rattle.std.specs.Prelude.{ℕ, Bool, true, ◌&&◌, ◌||◌, ◌==◌, List, [], ◌∷◌, ◌++◌, length, map, reverse, bytes_eq, codes, if◌then◌else◌}
+use Rattle.std.specs.Prelude.{ℕ, Bool, true, ◌&&◌, ◌||◌, ◌==◌, List, [], ◌∷◌, length, map, reverse, bytes_eq, codes, if◌then◌else◌}
 use Rattle.std.specs.Char.{to_ascii_lowercase}
-use Rattle.sarif_diff.specs.Lines.{with_byte}
+use Rattle.sarif_diff.specs.Pieces.{pieces_at}
 
--- a byte as paths are compared: `\` and `:` count as `/`, a capital letter as the small one
+-- a byte as paths are compared: `\` and `:` are treated as `/`, and a capital letter as the small one
 abbrev pub plain : ℕ → ℕ
 plain b = if b == 92 || b == 58 then 47 else to_ascii_lowercase b
 
 abbrev pub turned : List ℕ → List ℕ
 turned path = reverse (map plain path)
 
-abbrev pub is_slash : ℕ → Bool
-is_slash b = b == 47
-
 -- the pieces between slashes; one after the last slash counts only if it isn't empty
-unfoldable pub pieces_of : List ℕ → List (List ℕ)
-pieces_of [] = []
-pieces_of (b ∷ bs) = if is_slash b then [] ∷ pieces_of bs else with_byte b (pieces_of bs)
+abbrev pub pieces_of : List ℕ → List (List ℕ)
+pieces_of path = pieces_at 47 path
 
 -- whether a piece is `..`, or is empty or `.`
 abbrev pub is_up : List ℕ → Bool

@@ -1,4 +1,4 @@
--- What a URI may stand for.
+-- The paths that a URI may represent.
 use Rattle.std.specs.Prelude.{ℕ, ◌+◌, ◌*◌, ◌-◌, zero, suc, Bool, true, false, ◌&&◌, ◌||◌, ◌==◌, nat_le, List, [], ◌∷◌, length, take, drop, map, Option, Some, None, is_some, unwrap_or, if◌then◌else◌}
 use Rattle.std.specs.List.{flat_map, position_or_len}
 use Rattle.std.specs.Option.{option_to_list}
@@ -18,7 +18,7 @@ before_cut uri = take (position_or_len is_cut uri) uri
 abbrev pub hex_value : ℕ → ℕ
 hex_value b = if nat_le b 57 then b - 48 else if nat_le b 70 then b - 55 else b - 87
 
--- the byte that a `%` and what follows it stand for, if these are two hexadecimal digits
+-- the byte that a `%` and the two hexadecimal digits after it represent, if such digits follow
 abbrev pub hex_byte : List ℕ → Option ℕ
 hex_byte [] = None
 hex_byte (b ∷ []) = None
@@ -74,7 +74,7 @@ own_path reading = (is_absolute reading, parts_of reading)
 abbrev pub relative_path : List ℕ → Path
 relative_path rest = (false, parts_of rest)
 
--- those of the readings that begin with a root, without it; they alone count if there are any
+-- the readings that begin with a root, without that root; if there are any, only they count
 abbrev pub after_roots : List (List ℕ) → List (List ℕ) → List (List ℕ)
 after_roots roots readings = flat_map (λ reading. option_to_list (after_root roots reading)) readings
 

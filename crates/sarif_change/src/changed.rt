@@ -12,7 +12,7 @@ ghost use Rattle.sarif_change.specs.Internal.Sought.{seen, keyed};
 ghost use Rattle.sarif_change.specs.declared.spots.Spot.{Spot as OneSpot};
 
 use crate::index::{file_tree, link_tree};
-use crate::parts::{cut_piece, first_part};
+use crate::parts::{first_part, first_piece};
 use crate::spots::{Scope, Spot, Spots};
 use crate::tree::Tree;
 use crate::uri::{SoughtPath, paths_of};
@@ -27,7 +27,7 @@ pub struct Changed {
     sections: Sequence<Section>,
     /// The files of the sections.
     files: Option<Tree>,
-    /// Those that are symbolic links, each by its last part alone.
+    /// The files that are symbolic links, each by the last part of its path only.
     links: Option<Tree>,
 }
 
@@ -97,7 +97,7 @@ fn has_link(
     }
     let mut rest = key;
     while !rest.is_empty() {
-        let (part, after) = cut_piece(rest);
+        let (part, after) = first_piece(rest);
         if is_link(alloc, links, part, lines)? {
             return Ok(true);
         }
@@ -206,60 +206,27 @@ impl Changed {
         Ok(met)
     }
 
-    /// Returns whether a place has a path, and meets the change.
-    fn is_met(
+    /// Returns whether a place meets the change, if it has a path.
+    fn meeting(
         &self,
         alloc: Global,
         roots: &[Text],
         scope: Scope,
         spot: &Spot,
-    ) -> Result<bool, AllocError>
-        ensures { IfOk result (λ met. met ≡ said.is_met self.now roots.now scope spot.now) }
+    ) -> Result<Option<bool>, AllocError>
+        ensures { IfOk result (λ met. met ≡ said.meeting self.now roots.now scope spot.now) }
     {
         match &spot.uri {
-            None => Ok(false),
-            Some(uri) => Ok(self.meets(alloc, roots, uri, lines_in(scope, spot.region))?),
-        }
-    }
-
-    /// Returns whether a place has a path, and doesn't meet the change.
-    fn is_missed(
-        &self,
-        alloc: Global,
-        roots: &[Text],
-        scope: Scope,
-        spot: &Spot,
-    ) -> Result<bool, AllocError>
-        ensures { IfOk result
-            (λ missed. missed ≡ said.is_missed self.now roots.now scope spot.now) }
-    {
-        match &spot.uri {
-            None => Ok(false),
-            Some(uri) => Ok(!self.meets(alloc, roots, uri, lines_in(scope, spot.region))?),
-        }
-    }
-
-    /// Returns whether each of these places has a path, and doesn't meet the change.
-    fn all_missed(
-        &self,
-        alloc: Global,
-        roots: &[Text],
-        scope: Scope,
-        spots: &[Spot],
-    ) -> Result<bool, AllocError>
-        ensures { IfOk result
-            (λ missed. missed ≡ list_all (said.is_missed self.now roots.now scope) spots.now) }
-    {
-        for spot in spots {
-            if !self.is_missed(alloc, roots, scope, spot)? {
-                return Ok(false);
+            None => Ok(None),
+            Some(uri) => {
+                let met = self.meets(alloc, roots, uri, lines_in(scope, spot.region))?;
+                Ok(Some(met))
             }
         }
-        Ok(true)
     }
 
     /// Returns whether there are places, and each has a path and doesn't meet the change.
-    #[tactic(auto, using(crate::proofs::OutsideMore::none_missed, crate::proofs::OutsideMore::some_missed))]
+    #[tactic(auto, using(crate::proofs::OutsideMore::none_missed, crate::proofs::OutsideMore::all_missed, crate::proofs::OutsideMore::not_missed))]
     fn are_missed(
         &self,
         alloc: Global,
@@ -273,8 +240,12 @@ impl Changed {
         if spots.is_empty() {
             return Ok(false);
         }
-        let missed = self.all_missed(alloc, roots, scope, spots)?;
-        Ok(missed)
+        for spot in spots {
+            if self.meeting(alloc, roots, scope, spot)?.unwrap_or(true) {
+                return Ok(false);
+            }
+        }
+        Ok(true)
     }
 
     /// Returns whether one of these places has a path and meets the change.
@@ -289,7 +260,7 @@ impl Changed {
             (λ met. met ≡ list_any (said.is_met self.now roots.now scope) spots.now) }
     {
         for spot in spots {
-            if self.is_met(alloc, roots, scope, spot)? {
+            if self.meeting(alloc, roots, scope, spot)?.unwrap_or(false) {
                 return Ok(true);
             }
         }

@@ -11,7 +11,7 @@ use sarif_diff::Span;
 use std::alloc::{AllocError, Global};
 use std::marker::Model;
 
-/// The changed lines of some files. Contracts see whether one of them is changed whole, and the spans.
+/// The changed lines of some files. Contracts see the spans, and whether any of the files is changed completely.
 #[derive(Debug, Drop)]
 pub struct ChangedLines {
     whole: bool,

@@ -1,9 +1,10 @@
 //! The parts of paths, as keys.
-ghost use Rattle.std.specs.Prelude.{◌≡◌, ◌≤◌, ◌<◌, ◌+◌, ◌++◌, ◌∷◌, [], ℕ, List, true, IfOk, OnOk, length, map, position, take};
-ghost use Rattle.std.specs.List.{list_all, position_or_len};
+ghost use Rattle.std.specs.Prelude.{◌≡◌, ◌≤◌, ◌<◌, ◌+◌, ◌++◌, ◌∷◌, [], ℕ, List, true, IfOk, OnOk, length, map, take};
+ghost use Rattle.std.specs.List.{list_all};
 ghost use Rattle.sarif_change.specs.Parts as said;
 ghost use Rattle.sarif_change.specs.Internal.Keys.{joined, part_key, has_no_slash};
 
+use sarif_diff::cut_piece;
 use std::alloc::{AllocError, Global};
 
 /// Returns a byte of a path as paths are compared.
@@ -37,35 +38,13 @@ fn turn(alloc: Global, path: &[u8]) -> Result<Vec<u8>, AllocError>
     Ok(turned)
 }
 
-/// Returns where the first slash is.
-fn slash_at(path: &[u8]) -> Option<usize>
-    ensures { result ≡ position said.is_slash path.now }
-{
-    path.iter().position(|b| *b == b'/')
-}
-
-/// Returns how many bytes come before the first slash, or the length if there is none.
-#[tactic(auto, using(crate::proofs::PartsMore::place_is, crate::proofs::PartsMore::place_within))]
-fn piece_length(path: &[u8]) -> usize
-    ensures is { result ≡ position_or_len said.is_slash path.now }
-    ensures within { result ≤ length path.now }
-{
-    slash_at(path).unwrap_or(path.len())
-}
-
 /// Returns the first piece, and what follows its slash.
-#[tactic(auto, using(crate::proofs::PartsMore::cut, crate::proofs::PartsMore::uncut))]
-pub(crate) fn cut_piece(path: &[u8]) -> (&[u8], &[u8])
+pub(crate) fn first_piece(path: &[u8]) -> (&[u8], &[u8])
     requires { 0 < length path.now }
     ensures cut { said.pieces_of path.now ≡ result.0.now ∷ said.pieces_of result.1.now }
     ensures less { length result.1.now + 1 ≤ length path.now }
 {
-    let at = piece_length(path);
-    if at < path.len() {
-        (&path[..at], &path[at + 1..])
-    } else {
-        (path, &path[path.len()..])
-    }
+    cut_piece(path, b'/')
 }
 
 /// Returns whether a piece is `..`.
@@ -103,7 +82,7 @@ fn key_of_turned(alloc: Global, turned: &[u8]) -> Result<Vec<u8>, AllocError>
     let mut key: Vec<u8> = Vec::new(alloc);
     let mut rest = turned;
     while !rest.is_empty() {
-        let (piece, after) = cut_piece(rest);
+        let (piece, after) = first_piece(rest);
         if is_up(piece) {
             return Ok(key);
         }
@@ -121,7 +100,7 @@ fn is_folder(turned: &[u8]) -> bool
     if turned.is_empty() {
         return true;
     }
-    let last = cut_piece(turned).0;
+    let last = first_piece(turned).0;
     is_up(last) || is_here(last)
 }
 
@@ -137,12 +116,15 @@ pub(crate) fn key_of(alloc: Global, path: &[u8]) -> Result<Vec<u8>, AllocError>
 }
 
 /// Returns the first part of a key, with its slash.
-#[tactic(auto, using(crate::proofs::JoinedMore::first_joined, crate::proofs::JoinedMore::whole_joined))]
+#[tactic(auto, using(crate::proofs::JoinedMore::no_parts, crate::proofs::JoinedMore::first_joined, crate::proofs::JoinedMore::whole_joined))]
 pub(crate) fn first_part(key: &[u8]) -> &[u8]
     ensures { (parts : List (List ℕ)) → list_all has_no_slash parts ≡ true → key.now ≡ joined parts
         → result.now ≡ joined (take 1 parts) }
 {
-    let at = piece_length(key);
+    if key.is_empty() {
+        return key;
+    }
+    let at = first_piece(key).0.len();
     if at < key.len() {
         return &key[..at + 1];
     }

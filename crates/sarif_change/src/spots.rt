@@ -1,7 +1,7 @@
 //! The places of a result.
 use sarif_model::{Region, Sequence, Text};
 
-/// What of a file counts as changed.
+/// The part of a changed file that is treated as changed.
 #[derive(Clone, Copy, Debug, PartialEq, Eq)]
 pub enum Scope {
     /// The changed lines.
@@ -22,7 +22,7 @@ pub struct Spot {
 /// The places of a result that decide whether it is outside of a change.
 #[derive(Debug, Drop)]
 pub struct Spots {
-    /// Its `locations`; none if they are no array.
+    /// Its `locations`; empty if that member is not an array.
     pub locations: Sequence<Spot>,
     /// Its related locations, and the steps of its code flows.
     pub others: Sequence<Spot>,

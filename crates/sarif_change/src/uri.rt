@@ -1,4 +1,4 @@
-//! What a URI may stand for.
+//! The paths that a URI may represent.
 ghost use Rattle.std.specs.Prelude.{◌≡◌, ◌≤◌, ◌<◌, ◌++◌, ◌∷◌, [], true, IfOk, OnOk, length, map, option_map, is_some, position, if◌then◌else◌};
 ghost use Rattle.std.specs.List.{position_or_len};
 ghost use Rattle.std.specs.Option.{option_to_list};
@@ -11,7 +11,7 @@ use crate::parts::key_of;
 use sarif_model::Text;
 use std::alloc::{AllocError, Global};
 
-/// A path that a URI may stand for.
+/// A path that a URI may represent.
 #[derive(Drop)]
 pub struct SoughtPath {
     /// Whether it is absolute.
@@ -28,7 +28,7 @@ fn cut_at(uri: &[u8]) -> Option<usize>
 }
 
 /// Returns how many bytes come before the first `?` or `#`, or the length if there is none.
-#[tactic(auto, using(crate::proofs::PartsMore::place_is, crate::proofs::PartsMore::place_within))]
+#[tactic(auto, using(sarif_diff::proofs::PiecesMore::place_is, sarif_diff::proofs::PiecesMore::place_within))]
 fn cut_length(uri: &[u8]) -> usize
     ensures is { result ≡ position_or_len said.is_cut uri.now }
     ensures within { result ≤ length uri.now }
@@ -58,7 +58,7 @@ fn hex_value(digit: u8) -> u8
     }
 }
 
-/// Returns the byte that a `%` and what follows it stand for, if these are two hexadecimal digits.
+/// Returns the byte that a `%` and the two hexadecimal digits after it represent, if such digits follow.
 fn hex_byte(rest: &[u8]) -> Option<u8>
     ensures { result ≡ said.hex_byte rest.now }
 {
@@ -74,7 +74,7 @@ fn hex_byte(rest: &[u8]) -> Option<u8>
     }
 }
 
-/// Returns the byte that this one and what follows it stand for, if it is `%`.
+/// Returns the byte that this byte and the two digits after it represent, if this byte is `%` and they follow.
 fn escaped(byte: u8, rest: &[u8]) -> Option<u8>
     ensures { result ≡ said.escaped byte rest.now }
 {
@@ -250,7 +250,7 @@ fn readings_of<'u>(alloc: Global, uri: &'u [u8]) -> Result<UriReadings<'u>, Allo
     })
 }
 
-/// Returns the paths that a URI may stand for, with these roots.
+/// Returns the paths that a URI may represent, with these roots.
 pub(crate) fn paths_of(
     alloc: Global,
     roots: &[Text],

@@ -51,7 +51,7 @@ pub fn is_outside(
     changed.is_outside(alloc, roots, scope, &spots)
 }
 
-/// Returns the URIs of which a location at that line is not as told: outside or inside.
+/// Returns the URIs for which a location at that line is not as expected: outside if `outside`, otherwise inside.
 pub fn other_uris(
     alloc: Global,
     changed: &Changed,

@@ -1,6 +1,7 @@
 -- The lines of a diff.
-use Rattle.std.specs.Prelude.{ℕ, ◌-◌, Bool, nat_eq, ◌==◌, List, [], ◌∷◌, length, take, drop, if◌then◌else◌}
+use Rattle.std.specs.Prelude.{ℕ, ◌-◌, Bool, nat_eq, List, [], ◌∷◌, length, take, drop, if◌then◌else◌}
 use Rattle.std.specs.List.{starts_with, ends_with}
+use Rattle.sarif_diff.specs.Pieces.{pieces_at}
 
 -- whether a line begins with this word, or ends with it
 abbrev pub begins : List ℕ → List ℕ → Bool
@@ -21,18 +22,9 @@ without_mark bytes = if begins bytes (239 ∷ 187 ∷ 191 ∷ []) then drop 3 by
 abbrev pub trimmed : List ℕ → List ℕ
 trimmed line = if ends line (13 ∷ []) then take (length line - 1) line else line
 
-abbrev pub is_feed : ℕ → Bool
-is_feed b = b == 10
-
--- these lines with one more byte at their front
-abbrev pub with_byte : ℕ → List (List ℕ) → List (List ℕ)
-with_byte b [] = (b ∷ []) ∷ []
-with_byte b (line ∷ lines) = (b ∷ line) ∷ lines
-
 -- the lines, each without the line feed that ends it; the last may lack it
-unfoldable pub lines_of : List ℕ → List (List ℕ)
-lines_of [] = []
-lines_of (b ∷ bs) = if is_feed b then [] ∷ lines_of bs else with_byte b (lines_of bs)
+abbrev pub lines_of : List ℕ → List (List ℕ)
+lines_of bytes = pieces_at 10 bytes
 
 -- the first of these lines, or the empty one if there is none
 abbrev pub first_line : List (List ℕ) → List ℕ

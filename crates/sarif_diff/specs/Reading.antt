@@ -16,6 +16,7 @@ use Rattle.sarif_diff.specs.declared.header.Range.{Range}
 use Rattle.sarif_diff.specs.declared.hunk.Hunk.{Hunk}
 use Rattle.sarif_diff.specs.declared.hunk.Sign.{Sign}
 use Rattle.sarif_diff.specs.declared.hunk.Sign.TheVariants as sign
+use Rattle.sarif_diff.specs.declared.reading.Line.{Line}
 use Rattle.sarif_diff.specs.declared.reading.Reading.{Reading}
 use Rattle.sarif_diff.specs.declared.section.Change.{Change}
 use Rattle.sarif_diff.specs.declared.section.Section.{Section}
@@ -27,6 +28,18 @@ most_sections = 1000000
 
 abbrev pub most_hunks : ℕ
 most_hunks = 1000000
+
+-- a line: its number, its bytes, and the lines that follow it
+pub record NumberedLine : Type 0 where
+  pub number : ℕ
+  pub bytes : List ℕ
+  pub rest : List (List ℕ)
+
+abbrev pub numbered : Line → NumberedLine
+numbered line = record { number = line.number; bytes = line.bytes.now; rest = lines_of line.rest.now }
+
+abbrev pub trimmed_line : NumberedLine → NumberedLine
+trimmed_line line = record line { bytes = trimmed line.bytes }
 
 -- the sections that ended, and the section that a line is in
 abbrev pub ReadingState : Type 0
@@ -46,31 +59,33 @@ abbrev pub with_begun : ℕ → Reading → SectionDraft → Result ReadingState
 with_begun number r d =
     if nat_le most_sections (length r.sections) then Err (AtLine number TooMany) else Ok (r, Some d)
 
-abbrev pub git_begun : ℕ → List ℕ → Reading → Result ReadingState DiffFault
-git_begun number line r =
-    at_line number (git_file (drop 11 line)) >>= λ file. with_begun number r (drafts.begun number file None)
+abbrev pub git_begun : NumberedLine → Reading → Result ReadingState DiffFault
+git_begun line r =
+    at_line line.number (git_file (drop 11 line.bytes)) >>= λ file.
+    with_begun line.number r (drafts.begun line.number file None)
 
-abbrev pub plain_begun : ℕ → List ℕ → Reading → Result ReadingState DiffFault
-plain_begun number line r =
-    at_line number (file_of (drop 4 line)) >>= λ file. with_begun number r (drafts.begun number None (Some file))
+abbrev pub plain_begun : NumberedLine → Reading → Result ReadingState DiffFault
+plain_begun line r =
+    at_line line.number (file_of (drop 4 line.bytes)) >>= λ file.
+    with_begun line.number r (drafts.begun line.number None (Some file))
 
--- ---- lines that are in no hunk, with the lines that follow them
+-- ---- lines that are in no hunk
 
 -- a line of text, which is in no section
-abbrev pub text_line : ℕ → List ℕ → List (List ℕ) → Reading → Result ReadingState DiffFault
-text_line number line rest r =
-    if begins line (codes "@@ -") then Err (AtLine number BadHunk)
-    else if is_plain line rest then plain_begun number line r
-    else if says_differ line then Err (AtLine number BadHeader)
-    else if hides_files line rest then Err (AtLine number Submodule)
+abbrev pub text_line : NumberedLine → Reading → Result ReadingState DiffFault
+text_line line r =
+    if begins line.bytes (codes "@@ -") then Err (AtLine line.number BadHunk)
+    else if is_plain line.bytes line.rest then plain_begun line r
+    else if says_differ line.bytes then Err (AtLine line.number BadHeader)
+    else if hides_files line.bytes line.rest then Err (AtLine line.number Submodule)
     else Ok (r, None)
 
 -- a line that follows no section
-abbrev pub outer_line : ℕ → List ℕ → List (List ℕ) → Reading → Result ReadingState DiffFault
-outer_line number line rest r =
-    if is_section line then git_begun number line r
-    else if is_combined line then Err (AtLine number Combined)
-    else text_line number line rest r
+abbrev pub outer_line : NumberedLine → Reading → Result ReadingState DiffFault
+outer_line line r =
+    if is_section line.bytes then git_begun line r
+    else if is_combined line.bytes then Err (AtLine line.number Combined)
+    else text_line line r
 
 -- the header of a hunk
 abbrev pub with_ranges : ℕ → Reading → SectionDraft → Option (Range × Range) → Result ReadingState DiffFault
@@ -78,39 +93,40 @@ with_ranges number r d None = Err (AtLine number BadHunk)
 with_ranges number r d (Some p) =
     Ok (record r { hunks = r.hunks + 1 }, Some (record d { hunk = Some (hunks.begun number p.0 p.1) }))
 
-abbrev pub header_line : ℕ → List ℕ → Reading → SectionDraft → Result ReadingState DiffFault
-header_line number line r d =
+abbrev pub header_line : NumberedLine → Reading → SectionDraft → Result ReadingState DiffFault
+header_line line r d =
     if not (is_some (name_of d)) then Err (AtLine d.line BadHeader)
-    else if nat_le most_hunks r.hunks then Err (AtLine number TooMany)
-    else with_ranges number r d (ranges_of line)
+    else if nat_le most_hunks r.hunks then Err (AtLine line.number TooMany)
+    else with_ranges line.number r d (ranges_of line.bytes)
 
 -- a line that belongs to the section, by its word, or that ends it
-abbrev pub own_line : ℕ → List ℕ → List (List ℕ) → Reading → SectionDraft → Option Word → Result ReadingState DiffFault
-own_line number line rest r d (Some w) = result_map (λ next. (r, Some next)) (at_line number (with_word d w line))
-own_line number line rest r d None = closed r d >>= λ next. text_line number line rest next
+abbrev pub own_line : NumberedLine → Reading → SectionDraft → Option Word → Result ReadingState DiffFault
+own_line line r d (Some w) =
+    result_map (λ next. (r, Some next)) (at_line line.number (with_word d w line.bytes))
+own_line line r d None = closed r d >>= λ next. text_line line next
 
 -- a line that follows a section, and is in no hunk
-abbrev pub inner_line : ℕ → List ℕ → List (List ℕ) → Reading → SectionDraft → Result ReadingState DiffFault
-inner_line number line rest r d =
-    if is_section line then (closed r d >>= λ next. git_begun number line next)
-    else if is_combined line then Err (AtLine number Combined)
-    else if begins line (codes "@@ ") then header_line number line r d
-    else own_line number line rest r d (own_word d line)
+abbrev pub inner_line : NumberedLine → Reading → SectionDraft → Result ReadingState DiffFault
+inner_line line r d =
+    if is_section line.bytes then (closed r d >>= λ next. git_begun line next)
+    else if is_combined line.bytes then Err (AtLine line.number Combined)
+    else if begins line.bytes (codes "@@ ") then header_line line r d
+    else own_line line r d (own_word d line.bytes)
 
 -- ---- all lines
 
-abbrev pub hunk_line : ℕ → List ℕ → Reading → SectionDraft → Hunk → Result ReadingState DiffFault
-hunk_line number line r d h = result_map (λ next. (r, Some next)) (with_hunk_line number line d h)
+abbrev pub hunk_line : NumberedLine → Reading → SectionDraft → Hunk → Result ReadingState DiffFault
+hunk_line line r d h = result_map (λ next. (r, Some next)) (with_hunk_line line.number line.bytes d h)
 
 -- a line that follows a section, by the hunk that it is in
-abbrev pub section_line : ℕ → List ℕ → List (List ℕ) → Reading → SectionDraft → Option Hunk → Result ReadingState DiffFault
-section_line number line rest r d None = inner_line number (trimmed line) rest r d
-section_line number line rest r d (Some h) = hunk_line number line r d h
+abbrev pub section_line : NumberedLine → Reading → SectionDraft → Option Hunk → Result ReadingState DiffFault
+section_line line r d None = inner_line (trimmed_line line) r d
+section_line line r d (Some h) = hunk_line line r d h
 
--- any line: with its number, itself, and the lines that follow it
-abbrev pub next_line : ℕ → List ℕ → List (List ℕ) → Reading → Option SectionDraft → Result ReadingState DiffFault
-next_line number line rest r None = outer_line number (trimmed line) rest r
-next_line number line rest r (Some d) = section_line number line rest r d (hunk_around d.hunk line)
+-- any line
+abbrev pub next_line : NumberedLine → Reading → Option SectionDraft → Result ReadingState DiffFault
+next_line line r None = outer_line (trimmed_line line) r
+next_line line r (Some d) = section_line line r d (hunk_around d.hunk line.bytes)
 
 -- whether a line adds one to the new file
 abbrev pub is_new : Option Sign → Bool
@@ -152,7 +168,7 @@ change added r =
 unfoldable pub change_from : ℕ → ℕ → Reading → Option SectionDraft → List (List ℕ) → Result Change DiffFault
 change_from number added r draft [] = ended number r draft >>= change added
 change_from number added r draft (line ∷ rest) =
-    next_line number line rest r draft >>= λ next.
+    next_line (record { number = number; bytes = line; rest = rest }) r draft >>= λ next.
     change_from (number + 1) (if adds draft line then added + 1 else added) next.0 next.1 rest
 
 abbrev pub nothing : Reading

@@ -8,7 +8,7 @@ use crate::fault::DiffFault;
 use crate::hunk::{Hunk, Sign, sign_of};
 use crate::hunk_lines::{hunk_fault, is_inside};
 use crate::lines::{cut_line, without_mark};
-use crate::reading::Reading;
+use crate::reading::{Line, Reading};
 use crate::section::Change;
 use sarif_model::Refusal;
 use std::alloc::Global;
@@ -99,9 +99,14 @@ pub fn read_sections(alloc: Global, bytes: &[u8]) -> Result<Change, Refusal<Diff
     let mut added: usize = 0;
     let mut rest = without_mark(bytes);
     while !rest.is_empty() {
-        let (line, after) = cut_line(rest);
-        added = add_one_if(added, adds(&draft, line));
-        draft = match reading.read_line(alloc, number, line, after, draft) {
+        let (bytes, after) = cut_line(rest);
+        added = add_one_if(added, adds(&draft, bytes));
+        let line = Line {
+            number,
+            bytes,
+            rest: after,
+        };
+        draft = match reading.read_line(alloc, &line, draft) {
             Ok(next) => next,
             Err(refusal) => return Err(refusal),
         };

@@ -1,13 +1,13 @@
 //! The names of files in the lines of a section.
-ghost use Rattle.std.specs.Prelude.{◌≡◌, ◌≤◌, IfOk, Ok, Err, length, position};
+ghost use Rattle.std.specs.Prelude.{◌≡◌, ◌≤◌, IfOk, Ok, Err, length};
 ghost use Rattle.std.specs.Bool.{OnTrue};
-ghost use Rattle.std.specs.List.{position_or_len};
 ghost use Rattle.sarif_model.specs.Internal.Refusal.{IfFault};
 ghost use Rattle.sarif_diff.specs.Name as said;
 
 use crate::fault::LineFault;
 use crate::lines::begins;
 use crate::name::Name;
+use crate::pieces::piece_length;
 use crate::quoted::unquote;
 use sarif_model::Refusal;
 use std::alloc::Global;
@@ -83,27 +83,11 @@ pub(crate) fn moved_name(alloc: Global, text: &[u8]) -> Result<Name, Refusal<Lin
     Ok(some_name(name)?)
 }
 
-/// Returns where the first tab is.
-fn tab_at(text: &[u8]) -> Option<usize>
-    ensures { result ≡ position said.is_tab text.now }
-{
-    text.iter().position(|b| *b == b'\t')
-}
-
-/// Returns how many bytes come before the first tab, or the length if there is none.
-#[tactic(auto, using(crate::proofs::LinesMore::place_is, crate::proofs::LinesMore::place_within))]
-fn tab_place(text: &[u8]) -> usize
-    ensures is { result ≡ position_or_len said.is_tab text.now }
-    ensures within { result ≤ length text.now }
-{
-    tab_at(text).unwrap_or(text.len())
-}
-
 /// Returns what comes before the first tab.
 fn before_tab(text: &[u8]) -> &[u8]
     ensures { result.now ≡ said.before_tab text.now }
 {
-    &text[..tab_place(text)]
+    &text[..piece_length(text, b'\t')]
 }
 
 /// Returns the name in a line `--- ` or `+++ `.

@@ -3,7 +3,6 @@ ghost use Rattle.std.specs.Prelude.{◌≡◌, ◌≤◌, Ok, Err, Some, IfOk, l
 ghost use Rattle.sarif_model.specs.Internal.Refusal.{IfFault};
 ghost use Rattle.sarif_diff.specs.Draft.{at_line, with_word, own_word, hunk_around};
 ghost use Rattle.sarif_diff.specs.Draft as drafts;
-ghost use Rattle.sarif_diff.specs.Lines.{lines_of};
 ghost use Rattle.sarif_diff.specs.Name as names;
 ghost use Rattle.sarif_diff.specs.Reading as said;
 ghost use Rattle.sarif_diff.specs.declared.fault.DiffFault.TheVariants.{AtLine};
@@ -35,6 +34,30 @@ pub struct Reading {
     pub sections: Sequence<Section>,
     /// How many hunks there were.
     pub hunks: usize,
+}
+
+/// A line of a diff, and what follows it.
+#[derive(Clone, Copy)]
+pub(crate) struct Line<'a> {
+    /// Its number.
+    pub number: usize,
+    /// Its bytes, without the line feed.
+    pub bytes: &'a [u8],
+    /// What follows its line feed.
+    pub rest: &'a [u8],
+}
+
+impl<'a> Line<'a> {
+    /// Returns the line without the carriage return that it may end with.
+    fn trimmed(&self) -> Line<'a>
+        ensures { said.numbered result ≡ said.trimmed_line (said.numbered self.now) }
+    {
+        Line {
+            number: self.number,
+            bytes: trim_return(self.bytes),
+            rest: self.rest,
+        }
+    }
 }
 
 /// Returns an error of this line.
@@ -135,47 +158,40 @@ impl Reading {
     }
 
     /// Returns the section that a line `diff --git ` begins, unless it is one too many.
-    fn begin_git(
-        &self,
-        alloc: Global,
-        number: usize,
-        line: &[u8],
-    ) -> Result<SectionDraft, Refusal<DiffFault>>
-        requires { 11 ≤ length line.now }
+    fn begin_git(&self, alloc: Global, line: &Line<'_>) -> Result<SectionDraft, Refusal<DiffFault>>
+        requires { 11 ≤ length line.now.bytes.now }
         ensures ok { IfOk result (λ begun.
-            said.git_begun number line.now self.now ≡ Ok (self.now, Some begun)) }
+            said.git_begun (said.numbered line.now) self.now ≡ Ok (self.now, Some begun)) }
         ensures err { IfFault result (λ fault.
-            said.git_begun number line.now self.now ≡ Err fault) }
+            said.git_begun (said.numbered line.now) self.now ≡ Err fault) }
     {
-        let file = git_file_at(alloc, number, &line[11..])?;
-        self.begin_section(alloc, number, file, None)
+        let file = git_file_at(alloc, line.number, &line.bytes[11..])?;
+        self.begin_section(alloc, line.number, file, None)
     }
 
     /// Reads a line of text, which is in no section. Returns the section that it begins, if it begins one.
     fn read_text(
         &self,
         alloc: Global,
-        number: usize,
-        line: &[u8],
-        rest: &[u8],
+        line: &Line<'_>,
     ) -> Result<Option<SectionDraft>, Refusal<DiffFault>>
         ensures ok { IfOk result (λ draft.
-            said.text_line number line.now (lines_of rest.now) self.now ≡ Ok (self.now, draft)) }
+            said.text_line (said.numbered line.now) self.now ≡ Ok (self.now, draft)) }
         ensures err { IfFault result (λ fault.
-            said.text_line number line.now (lines_of rest.now) self.now ≡ Err fault) }
+            said.text_line (said.numbered line.now) self.now ≡ Err fault) }
     {
-        if begins(line, b"@@ -") {
-            return Err(wrong(number, LineFault::BadHunk));
+        if begins(line.bytes, b"@@ -") {
+            return Err(wrong(line.number, LineFault::BadHunk));
         }
-        if is_plain(line, rest) {
-            let file = file_at(alloc, number, &line[4..])?;
-            return Ok(Some(self.begin_section(alloc, number, None, Some(file))?));
+        if is_plain(line.bytes, line.rest) {
+            let file = file_at(alloc, line.number, &line.bytes[4..])?;
+            return Ok(Some(self.begin_section(alloc, line.number, None, Some(file))?));
         }
-        if says_differ(line) {
-            return Err(wrong(number, LineFault::BadHeader));
+        if says_differ(line.bytes) {
+            return Err(wrong(line.number, LineFault::BadHeader));
         }
-        if hides_files(line, rest) {
-            return Err(wrong(number, LineFault::Submodule));
+        if hides_files(line.bytes, line.rest) {
+            return Err(wrong(line.number, LineFault::Submodule));
         }
         Ok(None)
     }
@@ -184,74 +200,69 @@ impl Reading {
     fn read_outer(
         &self,
         alloc: Global,
-        number: usize,
-        line: &[u8],
-        rest: &[u8],
+        line: &Line<'_>,
     ) -> Result<Option<SectionDraft>, Refusal<DiffFault>>
         ensures ok { IfOk result (λ draft.
-            said.outer_line number line.now (lines_of rest.now) self.now ≡ Ok (self.now, draft)) }
+            said.outer_line (said.numbered line.now) self.now ≡ Ok (self.now, draft)) }
         ensures err { IfFault result (λ fault.
-            said.outer_line number line.now (lines_of rest.now) self.now ≡ Err fault) }
+            said.outer_line (said.numbered line.now) self.now ≡ Err fault) }
     {
-        if is_section(line) {
-            return Ok(Some(self.begin_git(alloc, number, line)?));
+        if is_section(line.bytes) {
+            return Ok(Some(self.begin_git(alloc, line)?));
         }
-        if is_combined(line) {
-            return Err(wrong(number, LineFault::Combined));
+        if is_combined(line.bytes) {
+            return Err(wrong(line.number, LineFault::Combined));
         }
-        self.read_text(alloc, number, line, rest)
+        self.read_text(alloc, line)
     }
 
     /// Reads the header of a hunk.
     fn read_header(
         &mut self,
-        number: usize,
-        line: &[u8],
+        line: &Line<'_>,
         draft: SectionDraft,
     ) -> Result<Option<SectionDraft>, Refusal<DiffFault>>
         ensures ok { IfOk result
-            (λ next. said.header_line number line.now self.old draft ≡ Ok (self.new, next)) }
+            (λ next. said.header_line (said.numbered line.now) self.old draft ≡ Ok (self.new, next)) }
         ensures err { IfFault result
-            (λ fault. said.header_line number line.now self.old draft ≡ Err fault) }
+            (λ fault. said.header_line (said.numbered line.now) self.old draft ≡ Err fault) }
     {
         if !draft.is_named() {
             return Err(wrong(draft.line, LineFault::BadHeader));
         }
         if self.hunks >= MOST_HUNKS {
-            return Err(wrong(number, LineFault::TooMany));
+            return Err(wrong(line.number, LineFault::TooMany));
         }
-        let Some((old, new)) = ranges_of(line) else {
-            return Err(wrong(number, LineFault::BadHunk));
+        let Some((old, new)) = ranges_of(line.bytes) else {
+            return Err(wrong(line.number, LineFault::BadHunk));
         };
         self.hunks += 1;
-        Ok(Some(draft.with_hunk(Hunk::begin(number, old, new))))
+        Ok(Some(draft.with_hunk(Hunk::begin(line.number, old, new))))
     }
 
     /// Reads a line that belongs to the section, or that ends it.
     fn read_own(
         &mut self,
         alloc: Global,
-        number: usize,
-        line: &[u8],
-        rest: &[u8],
+        line: &Line<'_>,
         draft: SectionDraft,
     ) -> Result<Option<SectionDraft>, Refusal<DiffFault>>
         ensures ok { IfOk result (λ next.
-            said.own_line number line.now (lines_of rest.now) self.old draft
-            (own_word draft line.now) ≡ Ok (self.new, next)) }
+            said.own_line (said.numbered line.now) self.old draft
+            (own_word draft line.now.bytes.now) ≡ Ok (self.new, next)) }
         ensures err { IfFault result (λ fault.
-            said.own_line number line.now (lines_of rest.now) self.old draft
-            (own_word draft line.now) ≡ Err fault) }
+            said.own_line (said.numbered line.now) self.old draft
+            (own_word draft line.now.bytes.now) ≡ Err fault) }
     {
         let mut draft = draft;
-        match draft.own_word(line) {
+        match draft.own_word(line.bytes) {
             Some(word) => {
-                take_line_at(alloc, number, &mut draft, word, line)?;
+                take_line_at(alloc, line.number, &mut draft, word, line.bytes)?;
                 Ok(Some(draft))
             }
             None => {
                 self.close(draft)?;
-                self.read_text(alloc, number, line, rest)
+                self.read_text(alloc, line)
             }
         }
     }
@@ -260,75 +271,69 @@ impl Reading {
     fn read_inner(
         &mut self,
         alloc: Global,
-        number: usize,
-        line: &[u8],
-        rest: &[u8],
+        line: &Line<'_>,
         draft: SectionDraft,
     ) -> Result<Option<SectionDraft>, Refusal<DiffFault>>
         ensures ok { IfOk result (λ next.
-            said.inner_line number line.now (lines_of rest.now) self.old draft
+            said.inner_line (said.numbered line.now) self.old draft
             ≡ Ok (self.new, next)) }
         ensures err { IfFault result (λ fault.
-            said.inner_line number line.now (lines_of rest.now) self.old draft ≡ Err fault) }
+            said.inner_line (said.numbered line.now) self.old draft ≡ Err fault) }
     {
-        if is_section(line) {
+        if is_section(line.bytes) {
             self.close(draft)?;
-            return Ok(Some(self.begin_git(alloc, number, line)?));
+            return Ok(Some(self.begin_git(alloc, line)?));
         }
-        if is_combined(line) {
-            return Err(wrong(number, LineFault::Combined));
+        if is_combined(line.bytes) {
+            return Err(wrong(line.number, LineFault::Combined));
         }
-        if begins(line, b"@@ ") {
-            return self.read_header(number, line, draft);
+        if begins(line.bytes, b"@@ ") {
+            return self.read_header(line, draft);
         }
-        self.read_own(alloc, number, line, rest, draft)
+        self.read_own(alloc, line, draft)
     }
 
     /// Reads a line that follows a section. Returns the section that it is in, if it is in one.
     fn read_in_section(
         &mut self,
         alloc: Global,
-        number: usize,
-        line: &[u8],
-        rest: &[u8],
+        line: &Line<'_>,
         draft: SectionDraft,
     ) -> Result<Option<SectionDraft>, Refusal<DiffFault>>
         ensures ok { IfOk result (λ next.
-            said.section_line number line.now (lines_of rest.now) self.old draft
-            (hunk_around draft.hunk line.now) ≡ Ok (self.new, next)) }
+            said.section_line (said.numbered line.now) self.old draft
+            (hunk_around draft.hunk line.now.bytes.now) ≡ Ok (self.new, next)) }
         ensures err { IfFault result (λ fault.
-            said.section_line number line.now (lines_of rest.now) self.old draft
-            (hunk_around draft.hunk line.now) ≡ Err fault) }
+            said.section_line (said.numbered line.now) self.old draft
+            (hunk_around draft.hunk line.now.bytes.now) ≡ Err fault) }
     {
         let mut draft = draft;
-        match draft.hunk_around(line) {
+        match draft.hunk_around(line.bytes) {
             Some(hunk) => {
-                draft.take_hunk_line(number, hunk, line)?;
+                draft.take_hunk_line(line.number, hunk, line.bytes)?;
                 Ok(Some(draft))
             }
-            None => self.read_inner(alloc, number, trim_return(line), rest, draft),
+            None => self.read_inner(alloc, &line.trimmed(), draft),
         }
     }
 
     /// Reads a line. Returns the section that it is in, if it is in one. `draft` is the section that the line before it
-    /// was in, and `rest` is what follows it.
+    /// was in.
     pub(crate) fn read_line(
         &mut self,
         alloc: Global,
-        number: usize,
-        line: &[u8],
-        rest: &[u8],
+        line: &Line<'_>,
         draft: Option<SectionDraft>,
     ) -> Result<Option<SectionDraft>, Refusal<DiffFault>>
         ensures ok { IfOk result (λ next.
-            said.next_line number line.now (lines_of rest.now) self.old draft
+            said.next_line (said.numbered line.now) self.old draft
             ≡ Ok (self.new, next)) }
         ensures err { IfFault result (λ fault.
-            said.next_line number line.now (lines_of rest.now) self.old draft ≡ Err fault) }
+            said.next_line (said.numbered line.now) self.old draft ≡ Err fault) }
     {
         match draft {
-            None => self.read_outer(alloc, number, trim_return(line), rest),
-            Some(draft) => self.read_in_section(alloc, number, line, rest, draft),
+            None => self.read_outer(alloc, &line.trimmed()),
+            Some(draft) => self.read_in_section(alloc, line, draft),
         }
     }
 }

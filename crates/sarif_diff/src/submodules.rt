@@ -29,7 +29,7 @@ fn no_digit_at(text: &[u8]) -> Option<usize>
 }
 
 /// Returns how many hexadecimal digits these bytes begin with.
-#[tactic(auto, using(crate::proofs::LinesMore::place_is, crate::proofs::LinesMore::place_within))]
+#[tactic(auto, using(crate::proofs::PiecesMore::place_is, crate::proofs::PiecesMore::place_within))]
 fn digits_in(text: &[u8]) -> usize
     ensures is { result ≡ said.digits_in text.now }
     ensures within { result ≤ length text.now }

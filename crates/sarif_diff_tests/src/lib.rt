@@ -9,4 +9,6 @@ mod lines;
 #[cfg(test)]
 mod names;
 #[cfg(test)]
+mod pieces;
+#[cfg(test)]
 mod told;

@@ -1,4 +1,4 @@
--- The paths that a URI may stand for, by their keys.
+-- The paths that a URI may represent, by their keys.
 use Rattle.std.specs.Prelude.{ℕ, Bool, List, [], ◌∷◌, map}
 use Rattle.sarif_change.specs.Uri.{Path, relative_path}
 use Rattle.sarif_change.specs.Internal.Keys.{joined}

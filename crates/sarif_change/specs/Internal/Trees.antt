@@ -13,7 +13,7 @@ abbrev pub files_in : Node → List ChangedFile
 files_in (One file) = file ∷ []
 files_in (Two left shared right) = left.value ++ right.value
 
--- the files begin with that key, and change just the lines that are said of both
+-- the keys of all files begin with the shared beginning; the shared part changes exactly what any of them changes
 pub record IsShared (shared : SharedPart) (files : List ChangedFile) : Type 0 where
   pub beginning : list_all (λ file. opens file.key.items shared.beginning.items) files ≡ true
   pub changed : (lines : Option Span)

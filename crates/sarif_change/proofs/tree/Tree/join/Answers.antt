@@ -14,7 +14,8 @@ invariant_of-result c =
       c.requires.right,
       record {
         beginning =
-            all_open c.args.left c.args.right c.beginning.result.now c.beginning-2.result.now c.in_ok-beginning.beginning.items c.beginning.ensures c.beginning-2.ensures
+            all_open c.args.left c.args.right c.beginning.result.now c.beginning-2.result.now c.in_ok-beginning.beginning.items
+            c.beginning.ensures c.beginning-2.ensures
             (ap (λ b. opens c.beginning.result.now b) c.in_ok-beginning.ensures.items ∙ c.beginning_of.ensures.first)
             (ap (λ b. opens c.beginning-2.result.now b) c.in_ok-beginning.ensures.items ∙ c.beginning_of.ensures.second);
         changed = λ lines. c.in_ok-changed.ensures lines
