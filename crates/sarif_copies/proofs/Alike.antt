@@ -42,7 +42,8 @@ one_more : (r : Record) (n : ℕ) (before : List Record) (x : Record)
 one_more r n [] x = ap (λ m. if are_alike x r then Some m else None) (sym (add-zero n))
 one_more r n (q ∷ qs) x =
     let place : n + 1 + length qs ≡ n + suc (length qs) = omega arith in
-    more_by (are_alike q r) n (n + 1 + length qs) (n + suc (length qs)) (first_alike r (n + 1) qs) (first_alike r (n + 1) (qs ++ x ∷ [])) (are_alike x r) place (one_more r (n + 1) qs x)
+    more_by (are_alike q r) n (n + 1 + length qs) (n + suc (length qs)) (first_alike r (n + 1) qs) (first_alike r (n + 1) (qs ++ x ∷ []))
+    (are_alike x r) place (one_more r (n + 1) qs x)
 
 -- ---- the table
 
@@ -63,7 +64,8 @@ module _ {S : Type 0} (before : List Record) (x : Record) (old : HashMap WholeRe
         ∙ ap (λ y. record_eq y (fields_of key)) (sym is)
         ∙ sym (same_is_equal own key)
 
-    added_at : (b : Bool) (o there : Option ℕ) → (b ≡ true → there ≡ o) → cond b (Some (unwrap_or there number)) o ≡ option_or o (if b then Some (0 + length before) else None)
+    added_at : (b : Bool) (o there : Option ℕ) → (b ≡ true → there ≡ o)
+        → cond b (Some (unwrap_or there number)) o ≡ option_or o (if b then Some (0 + length before) else None)
     added_at true None there same =
         let place : number ≡ 0 + length before = omega (arith, count) in
         ap (λ p. Some (unwrap_or p number)) (same refl) ∙ ap Some place

@@ -43,7 +43,8 @@ taken_long (r ∷ rs) zero a is = refl
 taken_long (r ∷ rs) (suc i) a is = ap suc (taken_long rs i a is)
 
 -- a result is alike to itself at the latest
-reached_by : (b : Bool) (n m k : ℕ) (qs more : Option ℕ) → m ≡ k → more ≡ Some (unwrap_or qs m) → (if b then Some n else more) ≡ Some (unwrap_or (if b then Some n else qs) k)
+reached_by : (b : Bool) (n m k : ℕ) (qs more : Option ℕ) → m ≡ k → more ≡ Some (unwrap_or qs m)
+    → (if b then Some n else more) ≡ Some (unwrap_or (if b then Some n else qs) k)
 reached_by true n m k qs more place rest = refl
 reached_by false n m k qs more place rest = rest ∙ ap (λ p. Some (unwrap_or qs p)) place
 
@@ -53,7 +54,8 @@ reached_from a n [] rest itself =
     ap (λ b. if b then Some n else first_alike a (n + 1) rest) itself ∙ ap Some (sym (add-zero n))
 reached_from a n (q ∷ qs) rest itself =
     let place : n + 1 + length qs ≡ n + suc (length qs) = omega arith in
-    reached_by (are_alike q a) n (n + 1 + length qs) (n + suc (length qs)) (first_alike a (n + 1) qs) (first_alike a (n + 1) (qs ++ a ∷ rest)) place (reached_from a (n + 1) qs rest itself)
+    reached_by (are_alike q a) n (n + 1 + length qs) (n + suc (length qs)) (first_alike a (n + 1) qs)
+    (first_alike a (n + 1) (qs ++ a ∷ rest)) place (reached_from a (n + 1) qs rest itself)
 
 reached : (a : Record) (before rest : List Record) → are_alike a a ≡ true → first_alike a 0 (before ++ a ∷ rest) ≡ Some (finding_of before a)
 reached a before rest itself =
@@ -65,7 +67,8 @@ abbrev IsFoundAt : Record → ℕ → List Record → ℕ → Type 0
 IsFoundAt r n rs j =
     (i : ℕ) × (n + i ≡ j) × (i < length rs) × (q : Record) × (slice_get rs i ≡ Some q) × (are_alike q r ≡ true)
 
-found_by : (b : Bool) (r : Record) (n : ℕ) (q : Record) (qs : List Record) (j : ℕ) → are_alike q r ≡ b → (first_alike r (n + 1) qs ≡ Some j → IsFoundAt r (n + 1) qs j)
+found_by : (b : Bool) (r : Record) (n : ℕ) (q : Record) (qs : List Record) (j : ℕ) → are_alike q r ≡ b
+    → (first_alike r (n + 1) qs ≡ Some j → IsFoundAt r (n + 1) qs j)
     → (if b then Some n else first_alike r (n + 1) qs) ≡ Some j → IsFoundAt r n (q ∷ qs) j
 found_by true r n q qs j alike later found = (0, add-zero n ∙ some_is n j found, omega arith, q, refl, alike)
 found_by false r n q qs j alike later found =
@@ -101,7 +104,8 @@ module _ (rs : List Record) where
       let place : there.0 ≡ m = omega (arith, there.1) in
       ap (slice_get rs) (sym place) ∙ there.4 ∙ ap Some (alike_parts there.3 a there.5).2
 
-  pub one_if_alike : (i k m n : ℕ) (a b : Record) → slice_get rs i ≡ Some a → slice_get rs k ≡ Some b → slice_get (findings_of rs) i ≡ Some m → slice_get (findings_of rs) k ≡ Some n
+  pub one_if_alike : (i k m n : ℕ) (a b : Record) → slice_get rs i ≡ Some a → slice_get rs k ≡ Some b
+      → slice_get (findings_of rs) i ≡ Some m → slice_get (findings_of rs) k ≡ Some n
       → (i ≡ k) ⊎ (are_alike a b ≡ true) → m ≡ n
   one_if_alike i k m n a b at_i at_k is_i is_k (inl same) = some_is m n (sym is_i ∙ ap (slice_get (findings_of rs)) same ∙ is_k)
   one_if_alike i k m n a b at_i at_k is_i is_k (inr alike) =
@@ -109,14 +113,16 @@ module _ (rs : List Record) where
       some_is m n (sym (with_line i m a at_i is_i parts.0) ∙ ap (λ r. first_alike r 0 rs) parts.2 ∙ with_line k n b at_k is_k parts.1)
 
   -- a result without a line isn't the finding of one with a line
-  apart : (i k m n : ℕ) (a b : Record) → slice_get rs i ≡ Some a → slice_get rs k ≡ Some b → slice_get (findings_of rs) i ≡ Some m → slice_get (findings_of rs) k ≡ Some n → m ≡ n
+  apart : (i k m n : ℕ) (a b : Record) → slice_get rs i ≡ Some a → slice_get rs k ≡ Some b → slice_get (findings_of rs) i ≡ Some m
+      → slice_get (findings_of rs) k ≡ Some n → m ≡ n
       → has_line a ≡ false → has_line b ≡ true → ⊥
   apart i k m n a b at_i at_k is_i is_k one none line =
       let there = same_there k n b at_k is_k line in
       let here : slice_get rs n ≡ Some a = ap (slice_get rs) (sym one ∙ without_line i m a at_i is_i none) ∙ at_i in
       false≢true (sym none ∙ ap has_line (some_is a b (sym here ∙ there)) ∙ line)
 
-  pub alike_if_one : (i k m n : ℕ) (a b : Record) → slice_get rs i ≡ Some a → slice_get rs k ≡ Some b → slice_get (findings_of rs) i ≡ Some m → slice_get (findings_of rs) k ≡ Some n
+  pub alike_if_one : (i k m n : ℕ) (a b : Record) → slice_get rs i ≡ Some a → slice_get rs k ≡ Some b
+      → slice_get (findings_of rs) i ≡ Some m → slice_get (findings_of rs) k ≡ Some n
       → m ≡ n → (i ≡ k) ⊎ (are_alike a b ≡ true)
   alike_if_one i k m n a b at_i at_k is_i is_k one = by_lines (has_line a) (has_line b) refl refl
     where
@@ -131,7 +137,8 @@ module _ (rs : List Record) where
           inr (subst (λ r. are_alike a r ≡ true) same (alike_itself a line))
 
   -- a finding isn't after its result, and is its own
-  pub first_and_own : (i m : ℕ) (a : Record) → slice_get rs i ≡ Some a → slice_get (findings_of rs) i ≡ Some m → (m ≤ i) × (slice_get (findings_of rs) m ≡ Some m)
+  pub first_and_own : (i m : ℕ) (a : Record) → slice_get rs i ≡ Some a → slice_get (findings_of rs) i ≡ Some m
+      → (m ≤ i) × (slice_get (findings_of rs) m ≡ Some m)
   first_and_own i m a at is = by_line (has_line a) refl
     where
       long : length (take i rs) ≡ i

@@ -12,10 +12,10 @@ use Rattle.sarif_model.specs.contracts.kinds.KindPartialEq.TheImpl as kinds
 use Rattle.sarif_model.specs.contracts.kinds.LevelPartialEq.TheImpl as levels
 use Rattle.sarif_model.specs.contracts.kinds.StatusPartialEq.TheImpl as statuses
 use Rattle.sarif_model.specs.Level.{severity}
-use Rattle.sarif_match.specs.KeyParts.{message_eq, pairs_eq, place_eq}
+use Rattle.sarif_match.specs.KeyParts.{message_eq, pairs_eq, place_eq, region_eq}
 use Rattle.sarif_match.specs.State.{kind_number}
 use Rattle.sarif_copies.specs.declared.whole_record.WholeRecord.{WholeRecord}
-use Rattle.sarif_copies.specs.Copies.{record_eq, region_eq, status_number}
+use Rattle.sarif_copies.specs.Copies.{record_eq, status_number}
 use Rattle.sarif_copies.specs.Internal.Table.{fields_of, same_whole}
 
 kind_test : (k l : Kind) → kinds.ghosts.eq k l ≡ (kind_number k == kind_number l)

@@ -6,9 +6,8 @@ use Rattle.std.specs.Cmp.Lexicographic.{pointwise}
 use Rattle.sarif_model.specs.declared.kinds.Status.{Status}
 use Rattle.sarif_model.specs.declared.kinds.Status.TheVariants.{Accepted, UnderReview, Rejected}
 use Rattle.sarif_model.specs.declared.record.Record.{Record}
-use Rattle.sarif_model.specs.declared.region.Region.{Region}
 use Rattle.sarif_model.specs.Level.{severity}
-use Rattle.sarif_match.specs.KeyParts.{message_eq, pairs_eq, place_eq}
+use Rattle.sarif_match.specs.KeyParts.{message_eq, pairs_eq, place_eq, region_eq}
 use Rattle.sarif_match.specs.State.{kind_number}
 
 -- the number of each status, in the order of their declaration
@@ -16,12 +15,6 @@ abbrev pub status_number : Status → ℕ
 status_number Accepted = 0
 status_number UnderReview = 1
 status_number Rejected = 2
-
-abbrev pub region_eq : Region → Region → Bool
-region_eq a b =
-    (a.start_line == b.start_line)
-    && (option_eq ◌==◌ a.start_column b.start_column
-    && (option_eq ◌==◌ a.end_line b.end_line && option_eq ◌==◌ a.end_column b.end_column))
 
 -- whether each field is equal
 abbrev pub record_eq : Record → Record → Bool

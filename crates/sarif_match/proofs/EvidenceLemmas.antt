@@ -23,9 +23,12 @@ module _ (current partner : Record) where
 
   by_both : (o p : Option (List ℕ)) (snippet other : List ℕ) (rest : Bool) → o ≡ Some snippet → p ≡ Some other → by_snippets o p rest ≡ true → snippet ≡ other
   by_both o p snippet other rest is other_is told =
-      same_text snippet other (sym (ap (λ (q : Option (List ℕ)). by_snippets q p rest) is ∙ ap (λ (q : Option (List ℕ)). by_snippets (Some snippet) q rest) other_is) ∙ told)
+      same_text snippet other
+      (sym (ap (λ (q : Option (List ℕ)). by_snippets q p rest) is
+      ∙ ap (λ (q : Option (List ℕ)). by_snippets (Some snippet) q rest) other_is) ∙ told)
 
-  pub unchanged_has_snippet : (snippet other : List ℕ) → state_in Three current (Some partner) ≡ Unchanged → (seen current).snippet ≡ Some snippet → (seen partner).snippet ≡ Some other → snippet ≡ other
+  pub unchanged_has_snippet : (snippet other : List ℕ) → state_in Three current (Some partner) ≡ Unchanged
+      → (seen current).snippet ≡ Some snippet → (seen partner).snippet ≡ Some other → snippet ≡ other
   unchanged_has_snippet snippet other is mine theirs =
       by_both (seen current).snippet (seen partner).snippet snippet other (has_other_evidence (seen current) (seen partner)) mine theirs (both is).1
 
@@ -35,13 +38,15 @@ module _ (current partner : Record) where
   without_one (Some s) (Some t) rest (inl none) = let never : ⊥ = cc in absurd never
   without_one (Some s) (Some t) rest (inr none) = let never : ⊥ = cc in absurd never
 
-  pub unchanged_has_other : state_in Three current (Some partner) ≡ Unchanged → ((seen current).snippet ≡ None) ⊎ ((seen partner).snippet ≡ None) → has_other_evidence (seen current) (seen partner) ≡ true
+  pub unchanged_has_other : state_in Three current (Some partner) ≡ Unchanged
+      → ((seen current).snippet ≡ None) ⊎ ((seen partner).snippet ≡ None) → has_other_evidence (seen current) (seen partner) ≡ true
   unchanged_has_other is none =
       sym (without_one (seen current).snippet (seen partner).snippet (has_other_evidence (seen current) (seen partner)) none) ∙ (both is).1
 
   unchanged_by : state_of current (Some partner) ≡ Unchanged → evidence ≡ true → state_in Three current (Some partner) ≡ Unchanged
   unchanged_by is enough =
-      ap (λ (b : Bool). cond (b && evidence) Unchanged Updated) (from_unchanged (is_unchanged current partner) is) ∙ ap (λ (b : Bool). cond b Unchanged Updated) enough
+      ap (λ (b : Bool). cond (b && evidence) Unchanged Updated) (from_unchanged (is_unchanged current partner) is)
+      ∙ ap (λ (b : Bool). cond b Unchanged Updated) enough
 
   pub enough_is_unchanged : IsUnchanged current partner → evidence ≡ true → state_in Three current (Some partner) ≡ Unchanged
   enough_is_unchanged same enough = unchanged_by (equal_is_unchanged current partner same) enough

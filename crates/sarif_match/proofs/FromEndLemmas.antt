@@ -9,7 +9,8 @@ use Rattle.sarif_match.specs.Internal.Turned.{AreBelow}
 use Rattle.sarif_match.proofs.TurnedLemmas.{length-seen, partners_below}
 
 module _ (current baseline : List Record) (tiers : List Tier) (cs bs : List Record) (partners : List (Option ℕ)) (marks : List Bool) where
-  module _ (current_is : cs ≡ seen_from_end current) (baseline_is : bs ≡ seen_from_end baseline) (told : partners ≡ partners_after cs bs tiers) (marked : length marks ≡ length bs) where
+  module _ (current_is : cs ≡ seen_from_end current) (baseline_is : bs ≡ seen_from_end baseline)
+      (told : partners ≡ partners_after cs bs tiers) (marked : length marks ≡ length bs) where
     pub below_marks : AreBelow (length marks) partners
     below_marks =
         subst (λ (m : ℕ). AreBelow m partners) (sym marked) (subst (AreBelow (length bs)) (sym told) (partners_below cs bs tiers))
@@ -23,4 +24,7 @@ module _ (current baseline : List Record) (tiers : List Tier) (cs bs : List Reco
     pub turned_is : tiers ≡ tiers_in Three current baseline → turned (length marks) partners ≡ partners_in Three current baseline
     turned_is in_order =
         ap (λ (m : ℕ). turned m partners) counted
-        ∙ ap (turned (length baseline)) (told ∙ ap (λ (l : List Record). partners_after l bs tiers) current_is ∙ ap (λ (l : List Record). partners_after (seen_from_end current) l tiers) baseline_is ∙ ap (partners_after (seen_from_end current) (seen_from_end baseline)) in_order)
+        ∙ ap (turned (length baseline))
+        (told ∙ ap (λ (l : List Record). partners_after l bs tiers) current_is
+        ∙ ap (λ (l : List Record). partners_after (seen_from_end current) l tiers) baseline_is
+        ∙ ap (partners_after (seen_from_end current) (seen_from_end baseline)) in_order)

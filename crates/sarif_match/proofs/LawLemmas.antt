@@ -57,12 +57,15 @@ module _ (partners : List (Option ℕ)) (p : ℕ × ℕ) (i j : ℕ) (within : p
       let at : (p.0 == i) ≡ true = eq-eqb p.0 i (ap (λ (q : ℕ × ℕ). q.0) same) in
       at_place ∙ ap (λ (b : Bool). cond b (Some p.1) (slice_index_or partners i None)) at ∙ ap (λ (q : ℕ × ℕ). Some q.1) same
 
-put_tells : (m : ℕ) (partners : List (Option ℕ)) (ps : List (ℕ × ℕ)) (i j : ℕ) → Fits m partners ps → slice_index_or (put_all partners ps) i None ≡ Some j → (slice_index_or partners i None ≡ Some j) ⊎ HasPair ps i j
+put_tells : (m : ℕ) (partners : List (Option ℕ)) (ps : List (ℕ × ℕ)) (i j : ℕ) → Fits m partners ps
+    → slice_index_or (put_all partners ps) i None ≡ Some j → (slice_index_or partners i None ≡ Some j) ⊎ HasPair ps i j
 put_tells m partners [] i j fits found = inl found
 put_tells m partners (p ∷ ps) i j fits found =
-    ⊎_elim (λ here. ⊎_elim (λ same. inr (inl same)) (λ was. inl was) (one_put partners p i j fits.0 here)) (λ rest. inr (inr rest)) (put_tells m (slice_set partners p.0 (Some p.1)) ps i j fits.3 found)
+    ⊎_elim (λ here. ⊎_elim (λ same. inr (inl same)) (λ was. inl was) (one_put partners p i j fits.0 here)) (λ rest. inr (inr rest))
+    (put_tells m (slice_set partners p.0 (Some p.1)) ps i j fits.3 found)
 
-put_keeps : (m : ℕ) (partners : List (Option ℕ)) (ps : List (ℕ × ℕ)) (i j : ℕ) → Fits m partners ps → (slice_index_or partners i None ≡ Some j) ⊎ HasPair ps i j → slice_index_or (put_all partners ps) i None ≡ Some j
+put_keeps : (m : ℕ) (partners : List (Option ℕ)) (ps : List (ℕ × ℕ)) (i j : ℕ) → Fits m partners ps
+    → (slice_index_or partners i None ≡ Some j) ⊎ HasPair ps i j → slice_index_or (put_all partners ps) i None ≡ Some j
 put_keeps m partners [] i j fits (inl was) = was
 put_keeps m partners [] i j fits (inr h) = absurd h
 put_keeps m partners (p ∷ ps) i j fits (inl was) =
@@ -80,32 +83,44 @@ length-put_all partners (p ∷ ps) =
 pub is_taken-by : (partners : List (Option ℕ)) (i j : ℕ) → slice_index_or partners i None ≡ Some j → is_taken partners j ≡ true
 is_taken-by [] i j found = absurd (none_is_no_some j found)
 is_taken-by (x ∷ partners) zero j found =
-    ap (λ (o : Option ℕ). option_map_or (λ (taken : ℕ). taken == j) o false || is_taken partners j) found ∙ ap (λ (b : Bool). b || is_taken partners j) (eq-eqb j j refl)
+    ap (λ (o : Option ℕ). option_map_or (λ (taken : ℕ). taken == j) o false || is_taken partners j) found
+    ∙ ap (λ (b : Bool). b || is_taken partners j) (eq-eqb j j refl)
 is_taken-by (x ∷ partners) (suc i) j found =
-    ap (λ (b : Bool). option_map_or (λ (taken : ℕ). taken == j) x false || b) (is_taken-by partners i j found) ∙ or-true (option_map_or (λ (taken : ℕ). taken == j) x false)
+    ap (λ (b : Bool). option_map_or (λ (taken : ℕ). taken == j) x false || b) (is_taken-by partners i j found)
+    ∙ or-true (option_map_or (λ (taken : ℕ). taken == j) x false)
 
 module _ (current baseline : List Record) where
   -- after one more tier, matched results were matched before or match at it
-  after_tells : (partners : List (Option ℕ)) (tier : Tier) (i j : ℕ) → length partners ≡ length current → slice_index_or (after_tier current baseline partners tier) i None ≡ Some j → (slice_index_or partners i None ≡ Some j) ⊎ IsPairedAt current baseline partners tier i j
+  after_tells : (partners : List (Option ℕ)) (tier : Tier) (i j : ℕ) → length partners ≡ length current
+      → slice_index_or (after_tier current baseline partners tier) i None ≡ Some j
+      → (slice_index_or partners i None ≡ Some j) ⊎ IsPairedAt current baseline partners tier i j
   after_tells partners tier i j counted found =
-      ⊎_elim (λ was. inl was) (λ h. inr (paired-of current baseline partners tier i j h)) (put_tells (length baseline) partners (pairs_at current baseline partners tier) i j (Fits-pairs_at current baseline partners tier counted) found)
+      ⊎_elim (λ was. inl was) (λ h. inr (paired-of current baseline partners tier i j h))
+      (put_tells (length baseline) partners (pairs_at current baseline partners tier) i j
+      (Fits-pairs_at current baseline partners tier counted) found)
 
-  after_keeps : (partners : List (Option ℕ)) (tier : Tier) (i j : ℕ) → length partners ≡ length current → (slice_index_or partners i None ≡ Some j) ⊎ IsPairedAt current baseline partners tier i j → slice_index_or (after_tier current baseline partners tier) i None ≡ Some j
+  after_keeps : (partners : List (Option ℕ)) (tier : Tier) (i j : ℕ) → length partners ≡ length current
+      → (slice_index_or partners i None ≡ Some j) ⊎ IsPairedAt current baseline partners tier i j
+      → slice_index_or (after_tier current baseline partners tier) i None ≡ Some j
   after_keeps partners tier i j counted h =
-      put_keeps (length baseline) partners (pairs_at current baseline partners tier) i j (Fits-pairs_at current baseline partners tier counted) (⊎_elim (λ was. inl was) (λ paired. inr (pair-of current baseline partners tier i j paired)) h)
+      put_keeps (length baseline) partners (pairs_at current baseline partners tier) i j
+      (Fits-pairs_at current baseline partners tier counted)
+      (⊎_elim (λ was. inl was) (λ paired. inr (pair-of current baseline partners tier i j paired)) h)
 
-  after_counted : (partners : List (Option ℕ)) (tier : Tier) → length partners ≡ length current → length (after_tier current baseline partners tier) ≡ length current
+  after_counted : (partners : List (Option ℕ)) (tier : Tier) → length partners ≡ length current
+      → length (after_tier current baseline partners tier) ≡ length current
   after_counted partners tier counted = length-put_all partners (pairs_at current baseline partners tier) ∙ counted
 
   -- the two match at one of these tiers, among the results that earlier tiers and the first matches left unmatched
-  record ArePairedIn (partners : List (Option ℕ)) (tiers : List Tier) (i j : ℕ) : Type 0 where
-    before : List Tier
-    tier : Tier
-    after : List Tier
-    split : tiers ≡ before ++ (tier ∷ after)
-    paired : IsPairedAt current baseline (fold (after_tier current baseline) partners before) tier i j
+  pub record ArePairedIn (partners : List (Option ℕ)) (tiers : List Tier) (i j : ℕ) : Type 0 where
+    pub before : List Tier
+    pub tier : Tier
+    pub after : List Tier
+    pub split : tiers ≡ before ++ (tier ∷ after)
+    pub paired : IsPairedAt current baseline (fold (after_tier current baseline) partners before) tier i j
 
-  later : (partners : List (Option ℕ)) (first : Tier) (tiers : List Tier) (i j : ℕ) → ArePairedIn (after_tier current baseline partners first) tiers i j → ArePairedIn partners (first ∷ tiers) i j
+  later : (partners : List (Option ℕ)) (first : Tier) (tiers : List Tier) (i j : ℕ)
+      → ArePairedIn (after_tier current baseline partners first) tiers i j → ArePairedIn partners (first ∷ tiers) i j
   later partners first tiers i j h = record {
     before = first ∷ h.before;
     tier = h.tier;
@@ -114,23 +129,33 @@ module _ (current baseline : List Record) where
     paired = h.paired;
   }
 
-  at_first : (partners : List (Option ℕ)) (first : Tier) (tiers : List Tier) (i j : ℕ) → IsPairedAt current baseline partners first i j → ArePairedIn partners (first ∷ tiers) i j
+  at_first : (partners : List (Option ℕ)) (first : Tier) (tiers : List Tier) (i j : ℕ) → IsPairedAt current baseline partners first i j
+      → ArePairedIn partners (first ∷ tiers) i j
   at_first partners first tiers i j h =
       record { before = []; tier = first; after = tiers; split = refl; paired = h }
 
-  all_tell : (tiers : List Tier) (partners : List (Option ℕ)) (i j : ℕ) → length partners ≡ length current → slice_index_or (fold (after_tier current baseline) partners tiers) i None ≡ Some j → (slice_index_or partners i None ≡ Some j) ⊎ ArePairedIn partners tiers i j
+  all_tell : (tiers : List Tier) (partners : List (Option ℕ)) (i j : ℕ) → length partners ≡ length current
+      → slice_index_or (fold (after_tier current baseline) partners tiers) i None ≡ Some j
+      → (slice_index_or partners i None ≡ Some j) ⊎ ArePairedIn partners tiers i j
   all_tell [] partners i j counted found = inl found
   all_tell (t ∷ tiers) partners i j counted found =
-      ⊎_elim (λ here. ⊎_elim (λ was. inl was) (λ paired. inr (at_first partners t tiers i j paired)) (after_tells partners t i j counted here)) (λ rest. inr (later partners t tiers i j rest)) (all_tell tiers (after_tier current baseline partners t) i j (after_counted partners t counted) found)
+      ⊎_elim
+      (λ here. ⊎_elim (λ was. inl was) (λ paired. inr (at_first partners t tiers i j paired)) (after_tells partners t i j counted here))
+      (λ rest. inr (later partners t tiers i j rest))
+      (all_tell tiers (after_tier current baseline partners t) i j (after_counted partners t counted) found)
 
-  pub all_keep_old : (tiers : List Tier) (partners : List (Option ℕ)) (i j : ℕ) → length partners ≡ length current → slice_index_or partners i None ≡ Some j → slice_index_or (fold (after_tier current baseline) partners tiers) i None ≡ Some j
+  pub all_keep_old : (tiers : List Tier) (partners : List (Option ℕ)) (i j : ℕ) → length partners ≡ length current
+      → slice_index_or partners i None ≡ Some j → slice_index_or (fold (after_tier current baseline) partners tiers) i None ≡ Some j
   all_keep_old [] partners i j counted was = was
   all_keep_old (t ∷ tiers) partners i j counted was =
       all_keep_old tiers (after_tier current baseline partners t) i j (after_counted partners t counted) (after_keeps partners t i j counted (inl was))
 
-  pub all_keep : (before : List Tier) (tier : Tier) (after : List Tier) (partners : List (Option ℕ)) (i j : ℕ) → length partners ≡ length current → IsPairedAt current baseline (fold (after_tier current baseline) partners before) tier i j → slice_index_or (fold (after_tier current baseline) partners (before ++ (tier ∷ after))) i None ≡ Some j
+  pub all_keep : (before : List Tier) (tier : Tier) (after : List Tier) (partners : List (Option ℕ)) (i j : ℕ)
+      → length partners ≡ length current → IsPairedAt current baseline (fold (after_tier current baseline) partners before) tier i j
+      → slice_index_or (fold (after_tier current baseline) partners (before ++ (tier ∷ after))) i None ≡ Some j
   all_keep [] tier after partners i j counted paired =
-      all_keep_old after (after_tier current baseline partners tier) i j (after_counted partners tier counted) (after_keeps partners tier i j counted (inr paired))
+      all_keep_old after (after_tier current baseline partners tier) i j (after_counted partners tier counted)
+      (after_keeps partners tier i j counted (inr paired))
   all_keep (t ∷ before) tier after partners i j counted paired =
       all_keep before tier after (after_tier current baseline partners t) i j (after_counted partners t counted) paired
 
@@ -139,9 +164,18 @@ module _ (current baseline : List Record) where
   nobody (suc n) zero j found = none_is_no_some j found
   nobody (suc n) (suc i) j found = nobody n i j found
 
+  -- a match after these tiers is one at one of them
+  pub paired_in : (tiers : List Tier) (i j : ℕ) → slice_index_or (partners_after current baseline tiers) i None ≡ Some j
+      → ArePairedIn (replicate (length current) None) tiers i j
+  paired_in tiers i j found =
+      ⊎_elim (λ was. absurd (nobody (length current) i j was)) (λ h. h)
+      (all_tell tiers (replicate (length current) None) i j (length-replicate (length current) None) found)
+
   pub partners-are : (i j : ℕ) → slice_index_or (partners_of current baseline) i None ≡ Some j → ArePartners current baseline i j
   partners-are i j found =
-      ⊎_elim (λ was. absurd (nobody (length current) i j was)) (λ h. record { before = h.before; tier = h.tier; after = h.after; in_order = h.split; paired = h.paired }) (all_tell (tiers_of current baseline) (replicate (length current) None) i j (length-replicate (length current) None) found)
+      ⊎_elim (λ was. absurd (nobody (length current) i j was))
+      (λ h. record { before = h.before; tier = h.tier; after = h.after; in_order = h.split; paired = h.paired })
+      (all_tell (tiers_of current baseline) (replicate (length current) None) i j (length-replicate (length current) None) found)
 
   keyed_below : (rs : List Record) (tier : Tier) (j : ℕ) (key : KeyParts) → key_at tier rs j ≡ Some key → j < length rs
   keyed_below [] tier j key is = absurd (none_is_no_some key is)
@@ -151,13 +185,16 @@ module _ (current baseline : List Record) where
   -- a match is one of the baseline results
   pub partner_below : (tiers : List Tier) (i j : ℕ) → slice_index_or (partners_after current baseline tiers) i None ≡ Some j → j < length baseline
   partner_below tiers i j found =
-      ⊎_elim (λ was. absurd (nobody (length current) i j was)) (λ h. keyed_below baseline h.tier j h.paired.key h.paired.baseline_key) (all_tell tiers (replicate (length current) None) i j (length-replicate (length current) None) found)
+      ⊎_elim (λ was. absurd (nobody (length current) i j was)) (λ h. keyed_below baseline h.tier j h.paired.key h.paired.baseline_key)
+      (all_tell tiers (replicate (length current) None) i j (length-replicate (length current) None) found)
 
   pub are-partners : (i j : ℕ) → ArePartners current baseline i j → slice_index_or (partners_of current baseline) i None ≡ Some j
   are-partners i j h =
-      ap (λ (ts : List Tier). slice_index_or (fold (after_tier current baseline) (replicate (length current) None) ts) i None) h.in_order ∙ all_keep h.before h.tier h.after (replicate (length current) None) i j (length-replicate (length current) None) h.paired
+      ap (λ (ts : List Tier). slice_index_or (fold (after_tier current baseline) (replicate (length current) None) ts) i None) h.in_order
+      ∙ all_keep h.before h.tier h.after (replicate (length current) None) i j (length-replicate (length current) None) h.paired
 
-  fold_counted : (tiers : List Tier) (partners : List (Option ℕ)) → length partners ≡ length current → length (fold (after_tier current baseline) partners tiers) ≡ length current
+  fold_counted : (tiers : List Tier) (partners : List (Option ℕ)) → length partners ≡ length current
+      → length (fold (after_tier current baseline) partners tiers) ≡ length current
   fold_counted [] partners counted = counted
   fold_counted (t ∷ tiers) partners counted =
       fold_counted tiers (after_tier current baseline partners t) (after_counted partners t counted)
@@ -166,16 +203,23 @@ module _ (current baseline : List Record) where
   after_counts before =
       fold_counted before (replicate (length current) None) (length-replicate (length current) None)
 
-  last_tier : (before : List Tier) (tier : Tier) (i : ℕ) → slice_index_or (partners_after current baseline (before ++ (tier ∷ []))) i None ≡ slice_index_or (after_tier current baseline (partners_after current baseline before) tier) i None
+  last_tier : (before : List Tier) (tier : Tier) (i : ℕ) → slice_index_or (partners_after current baseline (before ++ (tier ∷ []))) i None
+      ≡ slice_index_or (after_tier current baseline (partners_after current baseline before) tier) i None
   last_tier before tier i =
       ap (λ (ps : List (Option ℕ)). slice_index_or ps i None) (fold-append (after_tier current baseline) (replicate (length current) None) before (tier ∷ []))
 
   -- one tier adds exactly the results that match at it
-  pub tier-tells : (before : List Tier) (tier : Tier) (i j : ℕ) → slice_index_or (partners_after current baseline (before ++ (tier ∷ []))) i None ≡ Some j → (slice_index_or (partners_after current baseline before) i None ≡ Some j) ⊎ IsPairedAt current baseline (partners_after current baseline before) tier i j
+  pub tier-tells : (before : List Tier) (tier : Tier) (i j : ℕ)
+      → slice_index_or (partners_after current baseline (before ++ (tier ∷ []))) i None ≡ Some j
+      → (slice_index_or (partners_after current baseline before) i None ≡ Some j) ⊎ IsPairedAt current baseline
+      (partners_after current baseline before) tier i j
   tier-tells before tier i j found =
       after_tells (partners_after current baseline before) tier i j (after_counts before) (sym (last_tier before tier i) ∙ found)
 
-  pub tier-adds : (before : List Tier) (tier : Tier) (i j : ℕ) → (slice_index_or (partners_after current baseline before) i None ≡ Some j) ⊎ IsPairedAt current baseline (partners_after current baseline before) tier i j → slice_index_or (partners_after current baseline (before ++ (tier ∷ []))) i None ≡ Some j
+  pub tier-adds : (before : List Tier) (tier : Tier) (i j : ℕ)
+      → (slice_index_or (partners_after current baseline before) i None ≡ Some j) ⊎ IsPairedAt current baseline
+      (partners_after current baseline before) tier i j
+      → slice_index_or (partners_after current baseline (before ++ (tier ∷ []))) i None ≡ Some j
   tier-adds before tier i j h =
       last_tier before tier i ∙ after_keeps (partners_after current baseline before) tier i j (after_counts before) h
 
@@ -184,7 +228,10 @@ module _ (current baseline : List Record) where
   IsOneToOne partners =
       (i k j : ℕ) → slice_index_or partners i None ≡ Some j → slice_index_or partners k None ≡ Some j → i ≡ k
 
-  rank-rises : (partners : List (Option ℕ)) (tier : Tier) (key : KeyParts) (i k : ℕ) → key_at tier current i ≡ Some key → has_partner partners i ≡ false → i < k → rank (λ n. not (has_partner partners n)) key i (keyed_from tier 0 current) < rank (λ n. not (has_partner partners n)) key k (keyed_from tier 0 current)
+  rank-rises : (partners : List (Option ℕ)) (tier : Tier) (key : KeyParts) (i k : ℕ) → key_at tier current i ≡ Some key
+      → has_partner partners i ≡ false → i < k
+      → rank (λ n. not (has_partner partners n)) key i (keyed_from tier 0 current) < rank (λ n. not (has_partner partners n)) key k
+      (keyed_from tier 0 current)
   rank-rises partners tier key i k is left lt =
       let test = λ (n : ℕ). not (has_partner partners n) in
       let s = stands_keyed tier 0 i i current key (omega arith) is in
@@ -193,26 +240,41 @@ module _ (current baseline : List Record) where
       let more = rank-more same_parts test key i k key s.before s.after s.below lt (ap not left) (parts_refl key) in
       omega (arith, here, there, more)
 
-  paired_once : (partners : List (Option ℕ)) (tier : Tier) (i k j : ℕ) → IsPairedAt current baseline partners tier i j → IsPairedAt current baseline partners tier k j → i ≡ k
+  paired_once : (partners : List (Option ℕ)) (tier : Tier) (i k j : ℕ) → IsPairedAt current baseline partners tier i j
+      → IsPairedAt current baseline partners tier k j → i ≡ k
   paired_once partners tier i k j a b =
       let test = λ (n : ℕ). not (has_partner partners n) in
       let same : b.key ≡ a.key = same_Some b.key a.key (sym b.baseline_key ∙ a.baseline_key) in
       let b_key : key_at tier current k ≡ Some a.key = b.current_key ∙ ap Some same in
-      let ranks : rank test a.key i (keyed_from tier 0 current) ≡ rank test a.key k (keyed_from tier 0 current) = a.ranks ∙ ap (λ (key : KeyParts). rank (λ n. not (is_taken partners n)) key j (keyed_from tier 0 baseline)) (sym same) ∙ sym b.ranks ∙ ap (λ (key : KeyParts). rank test key k (keyed_from tier 0 current)) same in
-      ⊎_elim (λ lt. absurd (omega (arith, ranks, rank-rises partners tier a.key i k a.current_key a.current_left lt))) (λ ge. ⊎_elim (λ lt. absurd (omega (arith, ranks, rank-rises partners tier a.key k i b_key b.current_left lt))) (λ le. omega (arith, ge, le)) (cases_lt k i)) (cases_lt i k)
+      let ranks : rank test a.key i (keyed_from tier 0 current) ≡ rank test a.key k (keyed_from tier 0 current) = a.ranks
+      ∙ ap (λ (key : KeyParts). rank (λ n. not (is_taken partners n)) key j (keyed_from tier 0 baseline)) (sym same) ∙ sym b.ranks
+      ∙ ap (λ (key : KeyParts). rank test key k (keyed_from tier 0 current)) same in
+      ⊎_elim (λ lt. absurd (omega (arith, ranks, rank-rises partners tier a.key i k a.current_key a.current_left lt)))
+      (λ ge. ⊎_elim (λ lt. absurd (omega (arith, ranks, rank-rises partners tier a.key k i b_key b.current_left lt)))
+      (λ le. omega (arith, ge, le)) (cases_lt k i)) (cases_lt i k)
 
-  once_after : (partners : List (Option ℕ)) (tier : Tier) → length partners ≡ length current → IsOneToOne partners → IsOneToOne (after_tier current baseline partners tier)
+  once_after : (partners : List (Option ℕ)) (tier : Tier) → length partners ≡ length current → IsOneToOne partners
+      → IsOneToOne (after_tier current baseline partners tier)
   once_after partners tier counted once i k j at_i at_k =
-      ⊎_elim (λ was_i. ⊎_elim (λ was_k. once i k j was_i was_k) (λ new_k. absurd (true≢false (sym (is_taken-by partners i j was_i) ∙ new_k.baseline_left))) (after_tells partners tier k j counted at_k)) (λ new_i. ⊎_elim (λ was_k. absurd (true≢false (sym (is_taken-by partners k j was_k) ∙ new_i.baseline_left))) (λ new_k. paired_once partners tier i k j new_i new_k) (after_tells partners tier k j counted at_k)) (after_tells partners tier i j counted at_i)
+      ⊎_elim
+      (λ was_i. ⊎_elim (λ was_k. once i k j was_i was_k)
+      (λ new_k. absurd (true≢false (sym (is_taken-by partners i j was_i) ∙ new_k.baseline_left)))
+      (after_tells partners tier k j counted at_k))
+      (λ new_i. ⊎_elim (λ was_k. absurd (true≢false (sym (is_taken-by partners k j was_k) ∙ new_i.baseline_left)))
+      (λ new_k. paired_once partners tier i k j new_i new_k) (after_tells partners tier k j counted at_k))
+      (after_tells partners tier i j counted at_i)
 
-  once_all : (tiers : List Tier) (partners : List (Option ℕ)) → length partners ≡ length current → IsOneToOne partners → IsOneToOne (fold (after_tier current baseline) partners tiers)
+  once_all : (tiers : List Tier) (partners : List (Option ℕ)) → length partners ≡ length current → IsOneToOne partners
+      → IsOneToOne (fold (after_tier current baseline) partners tiers)
   once_all [] partners counted once = once
   once_all (t ∷ tiers) partners counted once =
       once_all tiers (after_tier current baseline partners t) (after_counted partners t counted) (once_after partners t counted once)
 
-  pub once_after_tiers : (tiers : List Tier) (i k j : ℕ) → slice_index_or (partners_after current baseline tiers) i None ≡ Some j → slice_index_or (partners_after current baseline tiers) k None ≡ Some j → i ≡ k
+  pub once_after_tiers : (tiers : List Tier) (i k j : ℕ) → slice_index_or (partners_after current baseline tiers) i None ≡ Some j
+      → slice_index_or (partners_after current baseline tiers) k None ≡ Some j → i ≡ k
   once_after_tiers tiers =
       once_all tiers (replicate (length current) None) (length-replicate (length current) None) (λ i k j found _. absurd (nobody (length current) i j found))
 
-  pub partners-once : (i k j : ℕ) → slice_index_or (partners_of current baseline) i None ≡ Some j → slice_index_or (partners_of current baseline) k None ≡ Some j → i ≡ k
+  pub partners-once : (i k j : ℕ) → slice_index_or (partners_of current baseline) i None ≡ Some j
+      → slice_index_or (partners_of current baseline) k None ≡ Some j → i ≡ k
   partners-once = once_after_tiers (tiers_of current baseline)

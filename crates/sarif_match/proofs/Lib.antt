@@ -1,3 +1,4 @@
+pub mod BlindSpot
 pub mod EvidenceLemmas
 pub mod FitsLemmas
 pub mod FromEndLemmas
@@ -9,6 +10,7 @@ pub mod NamedLemmas
 pub mod NoBaseline
 pub mod NoneLeft
 pub mod PackedLemmas
+pub mod PairEvidence
 pub mod PairedLemmas
 pub mod PairingLemmas
 pub mod PartsLemmas

@@ -5,7 +5,8 @@ use Rattle.std.specs.Char.{encode_utf8}
 use Rattle.std.specs.List.{AllByRecursion}
 use Rattle.std.proofs.lemmas.Bool.{le-ltb, ltb-true, ltb-false}
 use Rattle.std.proofs.lemmas.Str.{encode_ascii}
-use Rattle.sarif_match.specs.Seen.{is_white, packed}
+use Rattle.sarif_model.specs.WhiteSpace.{is_white_space}
+use Rattle.sarif_match.specs.Seen.{packed}
 
 abbrev AreHigh : List ℕ → Type 0
 AreHigh bytes = AllByRecursion (λ b. 128 ≤ b) bytes
@@ -13,7 +14,7 @@ AreHigh bytes = AllByRecursion (λ b. 128 ≤ b) bytes
 high_apart : (b n : ℕ) → 128 ≤ b → n < 128 → (b == n) ≡ false
 high_apart b n high low = ne_eqb b n (λ same. omega (arith, high, low, same))
 
-high_is_not_white : (b : ℕ) → 128 ≤ b → is_white b ≡ false
+high_is_not_white : (b : ℕ) → 128 ≤ b → is_white_space b ≡ false
 high_is_not_white b high =
     let space = high_apart b 32 high (omega arith) in
     let tab = high_apart b 9 high (omega arith) in
@@ -40,11 +41,11 @@ unfolding encode_utf8
 encoded_high c high = rw (le-ltb c 128 high) (by_width (nat_lt c 2048) (nat_lt c 65536) c)
 
 by_size : (c : ℕ) (rest : List ℕ) (small : Bool) → nat_lt c 128 ≡ small
-    → packed (encode_utf8 c ++ rest) ≡ cond (is_white c) (packed rest) (encode_utf8 c ++ packed rest)
+    → packed (encode_utf8 c ++ rest) ≡ cond (is_white_space c) (packed rest) (encode_utf8 c ++ packed rest)
 by_size c rest true e =
     let alone = encode_ascii c (ltb-true c 128 e) in
-    ap (λ bytes. packed (bytes ++ rest)) alone ∙ by_test (is_white c)
-    ∙ ap (λ bytes. cond (is_white c) (packed rest) (bytes ++ packed rest)) (sym alone)
+    ap (λ bytes. packed (bytes ++ rest)) alone ∙ by_test (is_white_space c)
+    ∙ ap (λ bytes. cond (is_white_space c) (packed rest) (bytes ++ packed rest)) (sym alone)
   where
     by_test : (b : Bool) → cond (not b) (c ∷ packed rest) (packed rest) ≡ cond b (packed rest) (c ∷ packed rest)
     by_test true = refl
@@ -55,18 +56,20 @@ by_size c rest false e =
     ∙ ap (λ b. cond b (packed rest) (encode_utf8 c ++ packed rest)) (sym (high_is_not_white c high))
 
 -- one character more
-packed_char : (c : ℕ) (rest : List ℕ) → packed (encode_utf8 c ++ rest) ≡ cond (is_white c) (packed rest) (encode_utf8 c ++ packed rest)
+packed_char : (c : ℕ) (rest : List ℕ) → packed (encode_utf8 c ++ rest) ≡ cond (is_white_space c) (packed rest) (encode_utf8 c ++ packed rest)
 packed_char c rest = by_size c rest (nat_lt c 128) refl
 
 -- a character that stays
-pub packed_kept : (kept new rest more all : List ℕ) (c : ℕ) → is_white c ≡ false → new ≡ kept ++ encode_utf8 c → rest ≡ encode_utf8 c ++ more → kept ++ packed rest ≡ all → new ++ packed more ≡ all
+pub packed_kept : (kept new rest more all : List ℕ) (c : ℕ) → is_white_space c ≡ false → new ≡ kept ++ encode_utf8 c
+    → rest ≡ encode_utf8 c ++ more → kept ++ packed rest ≡ all → new ++ packed more ≡ all
 packed_kept kept new rest more all c stays pushed parts so_far =
     ap (λ l. l ++ packed more) pushed ∙ append_assoc kept (encode_utf8 c) (packed more)
     ∙ ap (λ b. kept ++ cond b (packed more) (encode_utf8 c ++ packed more)) (sym stays)
     ∙ ap (λ l. kept ++ l) (sym (packed_char c more)) ∙ ap (λ l. kept ++ packed l) (sym parts) ∙ so_far
 
 -- a character that goes
-pub packed_gone : (kept rest more all : List ℕ) (c : ℕ) → is_white c ≡ true → rest ≡ encode_utf8 c ++ more → kept ++ packed rest ≡ all → kept ++ packed more ≡ all
+pub packed_gone : (kept rest more all : List ℕ) (c : ℕ) → is_white_space c ≡ true → rest ≡ encode_utf8 c ++ more → kept ++ packed rest ≡ all
+    → kept ++ packed more ≡ all
 packed_gone kept rest more all c goes parts so_far =
     ap (λ b. kept ++ cond b (packed more) (encode_utf8 c ++ packed more)) (sym goes)
     ∙ ap (λ l. kept ++ l) (sym (packed_char c more)) ∙ ap (λ l. kept ++ packed l) (sym parts) ∙ so_far

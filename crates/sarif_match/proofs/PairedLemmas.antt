@@ -29,7 +29,8 @@ keyed_from-above tier n m [] lt = tt
 keyed_from-above tier n m (r ∷ rs) lt =
     with_key-above n m (key_of r tier) (keyed_from tier (suc n) rs) lt (keyed_from-above tier (suc n) m rs (omega arith))
 
-stands_first : (n i : ℕ) (o : Option KeyParts) (rest : List (ℕ × KeyParts)) (key : KeyParts) → n ≡ i → o ≡ Some key → IsAbove n rest → StandsAt (with_key n o rest) i key
+stands_first : (n i : ℕ) (o : Option KeyParts) (rest : List (ℕ × KeyParts)) (key : KeyParts) → n ≡ i → o ≡ Some key → IsAbove n rest
+    → StandsAt (with_key n o rest) i key
 stands_first n i o rest key at is above = record {
   before = [];
   after = rest;
@@ -49,7 +50,8 @@ stands_behind n i (Some own) rest key lt s = record {
 }
 
 -- a result that has a key is among the results that have one
-pub stands_keyed : (tier : Tier) (n i m : ℕ) (rs : List Record) (key : KeyParts) → i ≡ n + m → key_at tier rs m ≡ Some key → StandsAt (keyed_from tier n rs) i key
+pub stands_keyed : (tier : Tier) (n i m : ℕ) (rs : List Record) (key : KeyParts) → i ≡ n + m → key_at tier rs m ≡ Some key
+    → StandsAt (keyed_from tier n rs) i key
 stands_keyed tier n i m [] key at is = absurd (none_is_no_some key is)
 stands_keyed tier n i zero (r ∷ rs) key at is =
     stands_first n i (key_of r tier) (keyed_from tier (suc n) rs) key (omega arith) is (keyed_from-above tier (suc n) n rs (omega arith))
@@ -64,12 +66,16 @@ pub record IsKeyed (tier : Tier) (n : ℕ) (rs : List Record) (before after : Li
   pub below : AreNumberedBelow i before
   pub above : IsAbove i after
 
-keyed_later : (tier : Tier) (n : ℕ) (r : Record) (rs : List Record) (before after : List (ℕ × KeyParts)) (i : ℕ) (key : KeyParts) → IsKeyed tier (suc n) rs before after i key → IsKeyed tier n (r ∷ rs) before after i key
+keyed_later : (tier : Tier) (n : ℕ) (r : Record) (rs : List Record) (before after : List (ℕ × KeyParts)) (i : ℕ) (key : KeyParts)
+    → IsKeyed tier (suc n) rs before after i key → IsKeyed tier n (r ∷ rs) before after i key
 keyed_later tier n r rs before after i key h =
     let was : i ≡ suc n + h.place = h.at in
     record { place = suc h.place; at = omega arith; key_is = h.key_is; below = h.below; above = h.above }
 
-keyed_by : (tier : Tier) (n : ℕ) (r : Record) (rs : List Record) (o : Option KeyParts) (before after : List (ℕ × KeyParts)) (i : ℕ) (key : KeyParts) → key_of r tier ≡ o → with_key n o (keyed_from tier (suc n) rs) ≡ before ++ ((i, key) ∷ after) → ((front : List (ℕ × KeyParts)) → keyed_from tier (suc n) rs ≡ front ++ ((i, key) ∷ after) → IsKeyed tier (suc n) rs front after i key) → IsKeyed tier n (r ∷ rs) before after i key
+keyed_by : (tier : Tier) (n : ℕ) (r : Record) (rs : List Record) (o : Option KeyParts) (before after : List (ℕ × KeyParts)) (i : ℕ)
+    (key : KeyParts) → key_of r tier ≡ o → with_key n o (keyed_from tier (suc n) rs) ≡ before ++ ((i, key) ∷ after)
+    → ((front : List (ℕ × KeyParts)) → keyed_from tier (suc n) rs ≡ front ++ ((i, key) ∷ after) → IsKeyed tier (suc n) rs front after i key)
+    → IsKeyed tier n (r ∷ rs) before after i key
 keyed_by tier n r rs None before after i key is e rest = keyed_later tier n r rs before after i key (rest before e)
 keyed_by tier n r rs (Some own) [] after i key is e rest =
     let first : ◌≡◌ {A = ℕ × KeyParts} (n, own) (i, key) = cons_first (n, own) (i, key) (keyed_from tier (suc n) rs) after e in
@@ -81,7 +87,8 @@ keyed_by tier n r rs (Some own) [] after i key is e rest =
       at = omega arith;
       key_is = is ∙ ap Some same;
       below = tt;
-      above = subst (λ (m : ℕ). IsAbove m after) number (subst (λ (es : List (ℕ × KeyParts)). IsAbove n es) others (keyed_from-above tier (suc n) n rs (omega arith)));
+      above = subst (λ (m : ℕ). IsAbove m after) number
+          (subst (λ (es : List (ℕ × KeyParts)). IsAbove n es) others (keyed_from-above tier (suc n) n rs (omega arith)));
     }
 keyed_by tier n r rs (Some own) (b ∷ before) after i key is e rest =
     let first : ◌≡◌ {A = ℕ × KeyParts} (n, own) b = cons_first (n, own) b (keyed_from tier (suc n) rs) (before ++ ((i, key) ∷ after)) e in
@@ -90,34 +97,49 @@ keyed_by tier n r rs (Some own) (b ∷ before) after i key is e rest =
     let was : i ≡ suc n + found.place = found.at in
     record { place = suc found.place; at = omega arith; key_is = found.key_is; below = (omega arith, found.below); above = found.above }
 
-keyed_split : (tier : Tier) (n : ℕ) (rs : List Record) (before after : List (ℕ × KeyParts)) (i : ℕ) (key : KeyParts) → keyed_from tier n rs ≡ before ++ ((i, key) ∷ after) → IsKeyed tier n rs before after i key
+keyed_split : (tier : Tier) (n : ℕ) (rs : List Record) (before after : List (ℕ × KeyParts)) (i : ℕ) (key : KeyParts)
+    → keyed_from tier n rs ≡ before ++ ((i, key) ∷ after) → IsKeyed tier n rs before after i key
 keyed_split tier n [] before after i key e = absurd (nil_has_no_middle before (i, key) after e)
 keyed_split tier n (r ∷ rs) before after i key e =
     keyed_by tier n r rs (key_of r tier) before after i key refl e (λ front e'. keyed_split tier (suc n) rs front after i key e')
 
 -- the rank of a result whose left-over front is known
-rank-front : (test : ℕ → Bool) (tier : Tier) (rs : List Record) (i : ℕ) (own key : KeyParts) (before after front : List (ℕ × KeyParts)) → keyed_from tier 0 rs ≡ before ++ ((i, own) ∷ after) → AreNumberedBelow i before → IsAbove i after → filter (λ (e : ℕ × KeyParts). test e.0) before ≡ front → rank test key i (keyed_from tier 0 rs) ≡ length (places same_parts key front)
+rank-front : (test : ℕ → Bool) (tier : Tier) (rs : List Record) (i : ℕ) (own key : KeyParts) (before after front : List (ℕ × KeyParts))
+    → keyed_from tier 0 rs ≡ before ++ ((i, own) ∷ after) → AreNumberedBelow i before → IsAbove i after
+    → filter (λ (e : ℕ × KeyParts). test e.0) before ≡ front → rank test key i (keyed_from tier 0 rs) ≡ length (places same_parts key front)
 rank-front test tier rs i own key before after front split below above front_is =
-    ap (rank test key i) split ∙ rank-split same_parts test key i own before after below above ∙ ap (λ (es : List (ℕ × KeyParts)). length (places same_parts key es)) front_is
+    ap (rank test key i) split ∙ rank-split same_parts test key i own before after below above
+    ∙ ap (λ (es : List (ℕ × KeyParts)). length (places same_parts key es)) front_is
 
 -- what the rule pairs is among the pairs
-pub pair-of : (current baseline : List Record) (partners : List (Option ℕ)) (tier : Tier) (i j : ℕ) → IsPairedAt current baseline partners tier i j → HasPair (pairs_at current baseline partners tier) i j
+pub pair-of : (current baseline : List Record) (partners : List (Option ℕ)) (tier : Tier) (i j : ℕ)
+    → IsPairedAt current baseline partners tier i j → HasPair (pairs_at current baseline partners tier) i j
 pair-of current baseline partners tier i j paired =
     let key = paired.key in
     let is_left = λ (e : ℕ × KeyParts). not (has_partner partners e.0) in
     let is_free = λ (e : ℕ × KeyParts). not (is_taken partners e.0) in
     let c = stands_keyed tier 0 i i current key (omega arith) paired.current_key in
     let b = stands_keyed tier 0 j j baseline key (omega arith) paired.baseline_key in
-    let c_left : left partners (keyed_from tier 0 current) ≡ left partners c.before ++ ((i, key) ∷ left partners c.after) = ap (left partners) c.split ∙ filter-split is_left c.before (i, key) c.after (ap not paired.current_left) in
-    let b_free : free partners (keyed_from tier 0 baseline) ≡ free partners b.before ++ ((j, key) ∷ free partners b.after) = ap (free partners) b.split ∙ filter-split is_free b.before (j, key) b.after (ap not paired.baseline_left) in
+    let c_left : left partners (keyed_from tier 0 current) ≡ left partners c.before ++ ((i, key) ∷ left partners c.after) =
+    ap (left partners) c.split ∙ filter-split is_left c.before (i, key) c.after (ap not paired.current_left) in
+    let b_free : free partners (keyed_from tier 0 baseline) ≡ free partners b.before ++ ((j, key) ∷ free partners b.after) =
+    ap (free partners) b.split ∙ filter-split is_free b.before (j, key) b.after (ap not paired.baseline_left) in
     let c_rank = rank-front (λ n. not (has_partner partners n)) tier current i key key c.before c.after (left partners c.before) c.split c.below c.above refl in
     let b_rank = rank-front (λ n. not (is_taken partners n)) tier baseline j key key b.before b.after (free partners b.before) b.split b.below b.above refl in
-    let ranks : length (places same_parts key (left partners c.before)) ≡ length (places same_parts key (free partners b.before)) = sym c_rank ∙ paired.ranks ∙ b_rank in
-    let found : slice_get (places same_parts key (free partners (keyed_from tier 0 baseline))) (length (places same_parts key (left partners c.before))) ≡ Some j = ap (λ (es : List (ℕ × KeyParts)). slice_get (places same_parts key es) (length (places same_parts key (left partners c.before)))) b_free ∙ ap (slice_get (places same_parts key (free partners b.before ++ ((j, key) ∷ free partners b.after)))) ranks ∙ slice_get-places same_parts key (free partners b.before) (j, key) (free partners b.after) (parts_refl key) in
-    subst (λ (es : List (ℕ × KeyParts)). HasPair (pairs_from same_parts [] es (free partners (keyed_from tier 0 baseline))) i j) (sym c_left) (pair_made same_parts [] (left partners c.before) i key (left partners c.after) (free partners (keyed_from tier 0 baseline)) j found)
+    let ranks : length (places same_parts key (left partners c.before)) ≡ length (places same_parts key (free partners b.before)) =
+    sym c_rank ∙ paired.ranks ∙ b_rank in
+    let found : slice_get (places same_parts key (free partners (keyed_from tier 0 baseline)))
+    (length (places same_parts key (left partners c.before))) ≡ Some j =
+    ap (λ (es : List (ℕ × KeyParts)). slice_get (places same_parts key es) (length (places same_parts key (left partners c.before)))) b_free
+    ∙ ap (slice_get (places same_parts key (free partners b.before ++ ((j, key) ∷ free partners b.after)))) ranks
+    ∙ slice_get-places same_parts key (free partners b.before) (j, key) (free partners b.after) (parts_refl key) in
+    subst (λ (es : List (ℕ × KeyParts)). HasPair (pairs_from same_parts [] es (free partners (keyed_from tier 0 baseline))) i j)
+    (sym c_left)
+    (pair_made same_parts [] (left partners c.before) i key (left partners c.after) (free partners (keyed_from tier 0 baseline)) j found)
 
 -- what is among the pairs is paired by the rule
-pub paired-of : (current baseline : List Record) (partners : List (Option ℕ)) (tier : Tier) (i j : ℕ) → HasPair (pairs_at current baseline partners tier) i j → IsPairedAt current baseline partners tier i j
+pub paired-of : (current baseline : List Record) (partners : List (Option ℕ)) (tier : Tier) (i j : ℕ)
+    → HasPair (pairs_at current baseline partners tier) i j → IsPairedAt current baseline partners tier i j
 paired-of current baseline partners tier i j h =
     let is_left = λ (e : ℕ × KeyParts). not (has_partner partners e.0) in
     let is_free = λ (e : ℕ × KeyParts). not (is_taken partners e.0) in
@@ -131,8 +153,10 @@ paired-of current baseline partners tier i j h =
     let same : place.own ≡ key = parts_same place.own key place.same in
     let c_at : c_key.place ≡ i = omega (arith, c_key.at) in
     let b_at : b_key.place ≡ j = omega (arith, b_key.at) in
-    let c_rank = rank-front (λ n. not (has_partner partners n)) tier current i key key c.before c.after pair.before c.split c_key.below c_key.above c.front_is in
-    let b_rank = rank-front (λ n. not (is_taken partners n)) tier baseline j place.own key b.before b.after place.before b.split b_key.below b_key.above b.front_is in
+    let c_rank = rank-front (λ n. not (has_partner partners n)) tier current i key key c.before c.after pair.before c.split c_key.below
+    c_key.above c.front_is in
+    let b_rank = rank-front (λ n. not (is_taken partners n)) tier baseline j place.own key b.before b.after place.before b.split b_key.below
+    b_key.above b.front_is in
     record {
       key = key;
       current_key = ap (key_at tier current) (sym c_at) ∙ c_key.key_is;

@@ -19,7 +19,8 @@ module _ {K : Type 0} (eq : K → K → Bool) where
   -- one result more at the end is one place more of its key
   pub places-push : (k : K) (xs : List (ℕ × K)) (e : ℕ × K) → places eq k (xs ++ (e ∷ [])) ≡ cond (eq e.1 k) (places eq k xs ++ (e.0 ∷ [])) (places eq k xs)
   places-push k xs e =
-      ap (map (λ (x : ℕ × K). x.0)) (filter-append (λ (x : ℕ × K). eq x.1 k) xs (e ∷ [])) ∙ map-append (λ (x : ℕ × K). x.0) (filter (λ (x : ℕ × K). eq x.1 k) xs) (filter (λ (x : ℕ × K). eq x.1 k) (e ∷ [])) ∙ by_test (eq e.1 k)
+      ap (map (λ (x : ℕ × K). x.0)) (filter-append (λ (x : ℕ × K). eq x.1 k) xs (e ∷ []))
+      ∙ map-append (λ (x : ℕ × K). x.0) (filter (λ (x : ℕ × K). eq x.1 k) xs) (filter (λ (x : ℕ × K). eq x.1 k) (e ∷ [])) ∙ by_test (eq e.1 k)
     where
       by_test : (b : Bool) → places eq k xs ++ map (λ (x : ℕ × K). x.0) (cond b (e ∷ []) []) ≡ cond b (places eq k xs ++ (e.0 ∷ [])) (places eq k xs)
       by_test true = refl
@@ -31,28 +32,44 @@ module _ {K : Type 0} (eq : K → K → Bool) where
       take_more xs i e within ∙ ap (λ (x : ℕ × K). take i xs ++ (x ∷ [])) (sym here)
 
   -- a queue that is filled has one result more
-  pub queue_filled : (q : K) (xs : List (ℕ × K)) (i : ℕ) (e : ℕ × K) (old new : List ℕ) → e ≡ get_or xs i e → i < length xs → new ≡ cond (eq e.1 q) (old ++ (e.0 ∷ [])) old → old ≡ places eq q (take i xs) → new ≡ places eq q (take (i + 1) xs)
+  pub queue_filled : (q : K) (xs : List (ℕ × K)) (i : ℕ) (e : ℕ × K) (old new : List ℕ) → e ≡ get_or xs i e → i < length xs
+      → new ≡ cond (eq e.1 q) (old ++ (e.0 ∷ [])) old → old ≡ places eq q (take i xs) → new ≡ places eq q (take (i + 1) xs)
   queue_filled q xs i e old new here within step so_far =
-      step ∙ ap (λ (ns : List ℕ). cond (eq e.1 q) (ns ++ (e.0 ∷ [])) ns) so_far ∙ sym (places-push q (take i xs) e) ∙ ap (places eq q) (sym (taken_more xs i e here within))
+      step ∙ ap (λ (ns : List ℕ). cond (eq e.1 q) (ns ++ (e.0 ∷ [])) ns) so_far ∙ sym (places-push q (take i xs) e)
+      ∙ ap (places eq q) (sym (taken_more xs i e here within))
 
   -- a queue that is emptied has one result less
-  pub queue_emptied : (q : K) (xs bs : List (ℕ × K)) (i : ℕ) (e : ℕ × K) (old new : List ℕ) → e ≡ get_or xs i e → i < length xs → new ≡ cond (eq e.1 q) (drop 1 old) old → old ≡ drop (length (places eq q (take i xs))) (places eq q bs) → new ≡ drop (length (places eq q (take (i + 1) xs))) (places eq q bs)
+  pub queue_emptied : (q : K) (xs bs : List (ℕ × K)) (i : ℕ) (e : ℕ × K) (old new : List ℕ) → e ≡ get_or xs i e → i < length xs
+      → new ≡ cond (eq e.1 q) (drop 1 old) old → old ≡ drop (length (places eq q (take i xs))) (places eq q bs)
+      → new ≡ drop (length (places eq q (take (i + 1) xs))) (places eq q bs)
   queue_emptied q xs bs i e old new here within step so_far =
-      step ∙ ap (λ (ns : List ℕ). cond (eq e.1 q) (drop 1 ns) ns) so_far ∙ by_test (eq e.1 q) ∙ ap (λ (ns : List ℕ). drop (length ns) (places eq q bs)) (sym (places-push q (take i xs) e) ∙ ap (places eq q) (sym (taken_more xs i e here within)))
+      step ∙ ap (λ (ns : List ℕ). cond (eq e.1 q) (drop 1 ns) ns) so_far ∙ by_test (eq e.1 q)
+      ∙ ap (λ (ns : List ℕ). drop (length ns) (places eq q bs))
+      (sym (places-push q (take i xs) e) ∙ ap (places eq q) (sym (taken_more xs i e here within)))
     where
       seen : List ℕ
       seen = places eq q (take i xs)
 
-      by_test : (b : Bool) → cond b (drop 1 (drop (length seen) (places eq q bs))) (drop (length seen) (places eq q bs)) ≡ drop (length (cond b (seen ++ (e.0 ∷ [])) seen)) (places eq q bs)
+      by_test : (b : Bool) → cond b (drop 1 (drop (length seen) (places eq q bs))) (drop (length seen) (places eq q bs))
+          ≡ drop (length (cond b (seen ++ (e.0 ∷ [])) seen)) (places eq q bs)
       by_test true =
           let longer : suc (length seen) ≡ length (seen ++ (e.0 ∷ [])) = omega (arith, length-append seen (e.0 ∷ [])) in
           drop-one (places eq q bs) (length seen) ∙ ap (λ (n : ℕ). drop n (places eq q bs)) longer
       by_test false = refl
 
-  -- what was said and what is left
-  pub told_more : (xs bs : List (ℕ × K)) (i : ℕ) (e : ℕ × K) (pairs new : List (ℕ × ℕ)) (o : Option ℕ) (all : List (ℕ × ℕ)) → e ≡ get_or xs i e → i < length xs → o ≡ slice_get (drop (length (places eq e.1 (take i xs))) (places eq e.1 bs)) 0 → new ≡ pushed pairs e.0 o → pairs ++ pairs_from eq (take i xs) (drop i xs) bs ≡ all → new ++ pairs_from eq (take (i + 1) xs) (drop (i + 1) xs) bs ≡ all
+  -- after one more result, the pairs found so far and the pairs that are left are still all pairs
+  pub told_more : (xs bs : List (ℕ × K)) (i : ℕ) (e : ℕ × K) (pairs new : List (ℕ × ℕ)) (o : Option ℕ) (all : List (ℕ × ℕ))
+      → e ≡ get_or xs i e → i < length xs → o ≡ slice_get (drop (length (places eq e.1 (take i xs))) (places eq e.1 bs)) 0
+      → new ≡ pushed pairs e.0 o → pairs ++ pairs_from eq (take i xs) (drop i xs) bs ≡ all
+      → new ++ pairs_from eq (take (i + 1) xs) (drop (i + 1) xs) bs ≡ all
   told_more xs bs i e pairs new o all here within popped pushed_on so_far =
       let rest : List (ℕ × ℕ) = pairs_from eq (take i xs ++ (e ∷ [])) (drop (suc i) xs) bs in
       let opened : drop i xs ≡ e ∷ drop (suc i) xs = drop-cons xs i e within ∙ ap (λ (x : ℕ × K). x ∷ drop (suc i) xs) (sym here) in
       let next : suc i ≡ i + 1 = omega arith in
-      ap (λ (ps : List (ℕ × ℕ)). ps ++ pairs_from eq (take (i + 1) xs) (drop (i + 1) xs) bs) pushed_on ∙ ap (λ (seen : List (ℕ × K)). pushed pairs e.0 o ++ pairs_from eq seen (drop (i + 1) xs) bs) (taken_more xs i e here within) ∙ ap (λ (n : ℕ). pushed pairs e.0 o ++ pairs_from eq (take i xs ++ (e ∷ [])) (drop n xs) bs) (sym next) ∙ pushed-append pairs e.0 o rest ∙ ap (λ (p : Option ℕ). pairs ++ with_pair e.0 p rest) (popped ∙ slice_get-drop (places eq e.1 bs) (length (places eq e.1 (take i xs)))) ∙ ap (λ (ys : List (ℕ × K)). pairs ++ pairs_from eq (take i xs) ys bs) (sym opened) ∙ so_far
+      ap (λ (ps : List (ℕ × ℕ)). ps ++ pairs_from eq (take (i + 1) xs) (drop (i + 1) xs) bs) pushed_on
+      ∙ ap (λ (seen : List (ℕ × K)). pushed pairs e.0 o ++ pairs_from eq seen (drop (i + 1) xs) bs) (taken_more xs i e here within)
+      ∙ ap (λ (n : ℕ). pushed pairs e.0 o ++ pairs_from eq (take i xs ++ (e ∷ [])) (drop n xs) bs) (sym next)
+      ∙ pushed-append pairs e.0 o rest
+      ∙ ap (λ (p : Option ℕ). pairs ++ with_pair e.0 p rest)
+      (popped ∙ slice_get-drop (places eq e.1 bs) (length (places eq e.1 (take i xs))))
+      ∙ ap (λ (ys : List (ℕ × K)). pairs ++ pairs_from eq (take i xs) ys bs) (sym opened) ∙ so_far

@@ -16,21 +16,21 @@ use Rattle.sarif_match.proofs.KeyLemmas.{eq-is_same_parts}
 use Rattle.sarif_match.proofs.ValueLemmas.{same_text}
 
 -- strings
-text_refl : (a : List ℕ) → bytes_eq a a ≡ true
+pub text_refl : (a : List ℕ) → bytes_eq a a ≡ true
 text_refl a = (bytes_eq-Decides a a).1 refl
 
-option_same : (a b : Option (List ℕ)) → option_eq bytes_eq a b ≡ true → a ≡ b
+pub option_same : (a b : Option (List ℕ)) → option_eq bytes_eq a b ≡ true → a ≡ b
 option_same None None e = refl
 option_same None (Some b) e = absurd (false≢true e)
 option_same (Some a) None e = absurd (false≢true e)
 option_same (Some a) (Some b) e = ap Some (same_text a b e)
 
-option_refl : (a : Option (List ℕ)) → option_eq bytes_eq a a ≡ true
+pub option_refl : (a : Option (List ℕ)) → option_eq bytes_eq a a ≡ true
 option_refl None = refl
 option_refl (Some a) = text_refl a
 
 module _ {X : Type 0} (E : X → X → Bool) where
-  list_same : ((x y : X) → E x y ≡ true → x ≡ y) → (xs ys : List X) → pointwise E xs ys ≡ true → xs ≡ ys
+  pub list_same : ((x y : X) → E x y ≡ true → x ≡ y) → (xs ys : List X) → pointwise E xs ys ≡ true → xs ≡ ys
   list_same same [] [] e = refl
   list_same same [] (y ∷ ys) e = absurd (false≢true e)
   list_same same (x ∷ xs) [] e = absurd (false≢true e)
@@ -40,7 +40,7 @@ module _ {X : Type 0} (E : X → X → Bool) where
       let rest : xs ≡ ys = list_same same xs ys both.1 in
       λ i. first i ∷ rest i
 
-  list_refl : ((x : X) → E x x ≡ true) → (xs : List X) → pointwise E xs xs ≡ true
+  pub list_refl : ((x : X) → E x x ≡ true) → (xs : List X) → pointwise E xs xs ≡ true
   list_refl each [] = refl
   list_refl each (x ∷ xs) = and_from (E x x) (pointwise E xs xs) (each x) (list_refl each xs)
 
@@ -51,11 +51,12 @@ pair_same p q e =
     let value : p.1 ≡ q.1 = same_text p.1 q.1 both.1 in
     λ i. (name i, value i)
 
-pairs_same : (a b : List (List ℕ × List ℕ)) → pairs_eq a b ≡ true → a ≡ b
+pub pairs_same : (a b : List (List ℕ × List ℕ)) → pairs_eq a b ≡ true → a ≡ b
 pairs_same a b e = list_same (λ (p q : List ℕ × List ℕ). bytes_eq p.0 q.0 && bytes_eq p.1 q.1) pair_same a b e
 
-pairs_refl : (a : List (List ℕ × List ℕ)) → pairs_eq a a ≡ true
-pairs_refl a = list_refl (λ (p q : List ℕ × List ℕ). bytes_eq p.0 q.0 && bytes_eq p.1 q.1) (λ p. and_from (bytes_eq p.0 p.0) (bytes_eq p.1 p.1) (text_refl p.0) (text_refl p.1)) a
+pub pairs_refl : (a : List (List ℕ × List ℕ)) → pairs_eq a a ≡ true
+pairs_refl a = list_refl (λ (p q : List ℕ × List ℕ). bytes_eq p.0 q.0 && bytes_eq p.1 q.1)
+    (λ p. and_from (bytes_eq p.0 p.0) (bytes_eq p.1 p.1) (text_refl p.0) (text_refl p.1)) a
 
 pub place_same : (a b : Place) → place_eq a b ≡ true → a ≡ b
 place_same a b e =
@@ -78,7 +79,8 @@ message_same a b e =
 
 pub message_refl : (a : Message) → message_eq a a ≡ true
 message_refl a =
-    and_from (option_eq bytes_eq a.text a.text) (option_eq bytes_eq a.id a.id && pointwise bytes_eq a.args a.args) (option_refl a.text) (and_from (option_eq bytes_eq a.id a.id) (pointwise bytes_eq a.args a.args) (option_refl a.id) (list_refl bytes_eq text_refl a.args))
+    and_from (option_eq bytes_eq a.text a.text) (option_eq bytes_eq a.id a.id && pointwise bytes_eq a.args a.args) (option_refl a.text)
+    (and_from (option_eq bytes_eq a.id a.id) (pointwise bytes_eq a.args a.args) (option_refl a.id) (list_refl bytes_eq text_refl a.args))
 
 -- tool, rule and place, and one part more
 four_same : {M : Type 0} (eq : M → M → Bool) → ((m n : M) → eq m n ≡ true → m ≡ n) → (t t' r r' : List ℕ) (p p' : Place) (m m' : M)
@@ -100,22 +102,23 @@ group_refl a =
     (and_from (bytes_eq a.rule_id a.rule_id) (place_eq a.place a.place && message_eq a.message a.message) (text_refl a.rule_id)
     (and_from (place_eq a.place a.place) (message_eq a.message a.message) (place_refl a.place) (message_refl a.message)))
 
-abbrev number_eq : Option ℕ → Option ℕ → Bool
+abbrev pub number_eq : Option ℕ → Option ℕ → Bool
 number_eq a b = option_eq (λ m n. m == n) a b
 
-number_same : (a b : Option ℕ) → number_eq a b ≡ true → a ≡ b
+pub number_same : (a b : Option ℕ) → number_eq a b ≡ true → a ≡ b
 number_same None None e = refl
 number_same None (Some b) e = absurd (false≢true e)
 number_same (Some a) None e = absurd (false≢true e)
 number_same (Some a) (Some b) e = ap Some ((Decides-eqb a b).0 e)
 
-number_refl : (a : Option ℕ) → number_eq a a ≡ true
+pub number_refl : (a : Option ℕ) → number_eq a a ≡ true
 number_refl None = refl
 number_refl (Some a) = eq-eqb a a refl
 
-region_same : (a b : Region) → region_eq a b ≡ true → a ≡ b
+pub region_same : (a b : Region) → region_eq a b ≡ true → a ≡ b
 region_same a b e =
-    let both = and_parts (a.start_line == b.start_line) (number_eq a.start_column b.start_column && (number_eq a.end_line b.end_line && number_eq a.end_column b.end_column)) e in
+    let both = and_parts (a.start_line == b.start_line)
+    (number_eq a.start_column b.start_column && (number_eq a.end_line b.end_line && number_eq a.end_column b.end_column)) e in
     let rest = and_parts (number_eq a.start_column b.start_column) (number_eq a.end_line b.end_line && number_eq a.end_column b.end_column) both.1 in
     let last = and_parts (number_eq a.end_line b.end_line) (number_eq a.end_column b.end_column) rest.1 in
     let start_line : a.start_line ≡ b.start_line = (Decides-eqb a.start_line b.start_line).0 both.0 in
@@ -124,9 +127,11 @@ region_same a b e =
     let end_column : a.end_column ≡ b.end_column = number_same a.end_column b.end_column last.1 in
     λ i. record { start_line = start_line i; start_column = start_column i; end_line = end_line i; end_column = end_column i }
 
-region_refl : (a : Region) → region_eq a a ≡ true
+pub region_refl : (a : Region) → region_eq a a ≡ true
 region_refl a =
-    and_from (a.start_line == a.start_line) (number_eq a.start_column a.start_column && (number_eq a.end_line a.end_line && number_eq a.end_column a.end_column)) (eq-eqb a.start_line a.start_line refl)
+    and_from (a.start_line == a.start_line)
+    (number_eq a.start_column a.start_column && (number_eq a.end_line a.end_line && number_eq a.end_column a.end_column))
+    (eq-eqb a.start_line a.start_line refl)
     (and_from (number_eq a.start_column a.start_column) (number_eq a.end_line a.end_line && number_eq a.end_column a.end_column) (number_refl a.start_column)
     (and_from (number_eq a.end_line a.end_line) (number_eq a.end_column a.end_column) (number_refl a.end_line) (number_refl a.end_column)))
 
@@ -202,11 +207,15 @@ parts_refl (guid_parts t g) = and_from (bytes_eq t t) (g == g) (text_refl t) (eq
 parts_refl (fingerprint_parts t n v) =
     and_from (bytes_eq t t) (bytes_eq n n && bytes_eq v v) (text_refl t) (and_from (bytes_eq n n) (bytes_eq v v) (text_refl n) (text_refl v))
 parts_refl (partial_here_parts t r p m) =
-    and_from (bytes_eq t t) (bytes_eq r r && (place_eq p p && pairs_eq m m)) (text_refl t) (and_from (bytes_eq r r) (place_eq p p && pairs_eq m m) (text_refl r) (and_from (place_eq p p) (pairs_eq m m) (place_refl p) (pairs_refl m)))
+    and_from (bytes_eq t t) (bytes_eq r r && (place_eq p p && pairs_eq m m)) (text_refl t)
+    (and_from (bytes_eq r r) (place_eq p p && pairs_eq m m) (text_refl r)
+    (and_from (place_eq p p) (pairs_eq m m) (place_refl p) (pairs_refl m)))
 parts_refl (partial_moved_parts t r m) =
     and_from (bytes_eq t t) (bytes_eq r r && pairs_eq m m) (text_refl t) (and_from (bytes_eq r r) (pairs_eq m m) (text_refl r) (pairs_refl m))
 parts_refl (place_parts t r p m) =
-    and_from (bytes_eq t t) (bytes_eq r r && (place_eq p p && message_eq m m)) (text_refl t) (and_from (bytes_eq r r) (place_eq p p && message_eq m m) (text_refl r) (and_from (place_eq p p) (message_eq m m) (place_refl p) (message_refl m)))
+    and_from (bytes_eq t t) (bytes_eq r r && (place_eq p p && message_eq m m)) (text_refl t)
+    (and_from (bytes_eq r r) (place_eq p p && message_eq m m) (text_refl r)
+    (and_from (place_eq p p) (message_eq m m) (place_refl p) (message_refl m)))
 parts_refl (region_parts g f m s l) =
     whole_refl g f m (option_eq bytes_eq s s && region_eq l l) (and_from (option_eq bytes_eq s s) (region_eq l l) (option_refl s) (region_refl l))
 parts_refl (text_parts g f m s) = whole_refl g f m (bytes_eq s s) (text_refl s)
@@ -217,5 +226,8 @@ parts_refl (place_left_parts g) = group_refl g
 
 -- equal keys have equal parts, and the other way round
 pub key_is_parts : (a b : Key) → (same_key a b ≡ true → parts_of a ≡ parts_of b) × (parts_of a ≡ parts_of b → same_key a b ≡ true)
-key_is_parts a b =
-    (λ e. parts_same (parts_of a) (parts_of b) (sym (eq-is_same_parts a b) ∙ e), λ e. eq-is_same_parts a b ∙ ap (same_parts (parts_of a)) (sym e) ∙ parts_refl (parts_of a))
+key_is_parts a b = (
+  λ e. parts_same (parts_of a) (parts_of b) (sym (eq-is_same_parts a b) ∙ e),
+  λ e. eq-is_same_parts a b
+      ∙ ap (same_parts (parts_of a)) (sym e) ∙ parts_refl (parts_of a),
+)

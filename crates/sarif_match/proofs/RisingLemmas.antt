@@ -72,14 +72,16 @@ same_as member other = bytes_eq other.0 member.0 && bytes_eq other.1 member.1
 abbrev has : Member → List Member → Bool
 has member others = list_any (same_as member) others
 
-other_first : (o : Member) (os members : List Member) → AllByRecursion (λ (x : Member). text_cmp o.0 x.0 ≡ Less) members → share_member members (o ∷ os) ≡ share_member members os
+other_first : (o : Member) (os members : List Member) → AllByRecursion (λ (x : Member). text_cmp o.0 x.0 ≡ Less) members
+    → share_member members (o ∷ os) ≡ share_member members os
 other_first o os [] each = refl
 other_first o os (x ∷ members) each =
     ap (λ (b : Bool). ((b && bytes_eq o.1 x.1) || has x os) || share_member members (o ∷ os)) (apart o.0 x.0 each.0)
     ∙ ap (λ (b : Bool). has x os || b) (other_first o os members each.1)
 
 -- a member whose name is below all of them is none of these
-filled_first : (o : Member) (os members : List Member) → AllByRecursion (λ (x : Member). text_cmp o.0 x.0 ≡ Less) members → share_member members (filled (o ∷ os)) ≡ share_member members (filled os)
+filled_first : (o : Member) (os members : List Member) → AllByRecursion (λ (x : Member). text_cmp o.0 x.0 ≡ Less) members
+    → share_member members (filled (o ∷ os)) ≡ share_member members (filled os)
 filled_first o os members each = by_test (not (length o.1 == 0))
   where
     by_test : (b : Bool) → share_member members (cond b (o ∷ filled os) (filled os)) ≡ share_member members (filled os)
@@ -119,12 +121,16 @@ only_first m o os each not_less = by_test (not (length o.1 == 0)) (none_after m 
     by_test true none = ap (λ (c : Bool). same_as m o || c) none ∙ or_false (same_as m o)
     by_test false none = none
 
--- one member more
-shared_step : (m : Member) (ms rest : List Member) → rises_from (Some m.0) ms ≡ true → rises_from None rest ≡ true → share_member (m ∷ filled ms) (filled rest) ≡ begins_with m (from_name m.0 rest) || share_member (filled ms) (filled (from_name m.0 rest))
+-- one more member
+shared_step : (m : Member) (ms rest : List Member) → rises_from (Some m.0) ms ≡ true → rises_from None rest ≡ true
+    → share_member (m ∷ filled ms) (filled rest)
+    ≡ begins_with m (from_name m.0 rest) || share_member (filled ms) (filled (from_name m.0 rest))
 shared_step m ms [] members others = refl
 shared_step m ms (o ∷ os) members others = by_test (is_lt (text_cmp o.0 m.0)) refl (shared_step m ms os members (rises_rest o os others))
   where
-    by_test : (b : Bool) → is_lt (text_cmp o.0 m.0) ≡ b → share_member (m ∷ filled ms) (filled os) ≡ begins_with m (from_name m.0 os) || share_member (filled ms) (filled (from_name m.0 os)) → share_member (m ∷ filled ms) (filled (o ∷ os)) ≡ begins_with m (cond b (from_name m.0 os) (o ∷ os)) || share_member (filled ms) (filled (cond b (from_name m.0 os) (o ∷ os)))
+    by_test : (b : Bool) → is_lt (text_cmp o.0 m.0) ≡ b → share_member (m ∷ filled ms) (filled os) ≡ begins_with m (from_name m.0 os)
+        || share_member (filled ms) (filled (from_name m.0 os)) → share_member (m ∷ filled ms) (filled (o ∷ os))
+        ≡ begins_with m (cond b (from_name m.0 os) (o ∷ os)) || share_member (filled ms) (filled (cond b (from_name m.0 os) (o ∷ os)))
     by_test true is rest =
         let lt = less (text_cmp o.0 m.0) is in
         filled_first o os (m ∷ filled ms) (lt, after_before o.0 m.0 (filled ms) lt (after_filled m.0 ms (rises_after m.0 ms members)))
@@ -133,7 +139,10 @@ shared_step m ms (o ∷ os) members others = by_test (is_lt (text_cmp o.0 m.0)) 
         ap (λ (b : Bool). b || share_member (filled ms) (filled (o ∷ os))) (only_first m o os (rises_after o.0 os others) is)
 
 -- a filled member
-pub shared_more : (all rest : List Member) (i : ℕ) (m : Member) (told : Bool) → m ≡ get_or all i m → i < length all → not (length m.1 == 0) ≡ true → rises_from None all ≡ true → rises_from None rest ≡ true → share_member (filled (drop i all)) (filled rest) ≡ told → begins_with m (from_name m.0 rest) || share_member (filled (drop (i + 1) all)) (filled (from_name m.0 rest)) ≡ told
+pub shared_more : (all rest : List Member) (i : ℕ) (m : Member) (told : Bool) → m ≡ get_or all i m → i < length all
+    → not (length m.1 == 0) ≡ true → rises_from None all ≡ true → rises_from None rest ≡ true
+    → share_member (filled (drop i all)) (filled rest) ≡ told
+    → begins_with m (from_name m.0 rest) || share_member (filled (drop (i + 1) all)) (filled (from_name m.0 rest)) ≡ told
 shared_more all rest i m told here within is_filled members others so_far =
     let ms : List Member = drop (suc i) all in
     let next : i + 1 ≡ suc i = omega arith in
@@ -145,7 +154,9 @@ shared_more all rest i m told here within is_filled members others so_far =
     ∙ ap (λ (l : List Member). share_member (filled l) (filled rest)) (sym opened) ∙ so_far
 
 -- a member that isn't filled
-pub shared_less : (all rest : List Member) (i : ℕ) (m : Member) (told : Bool) → m ≡ get_or all i m → i < length all → not (length m.1 == 0) ≡ false → share_member (filled (drop i all)) (filled rest) ≡ told → share_member (filled (drop (i + 1) all)) (filled rest) ≡ told
+pub shared_less : (all rest : List Member) (i : ℕ) (m : Member) (told : Bool) → m ≡ get_or all i m → i < length all
+    → not (length m.1 == 0) ≡ false → share_member (filled (drop i all)) (filled rest) ≡ told
+    → share_member (filled (drop (i + 1) all)) (filled rest) ≡ told
 shared_less all rest i m told here within is_filled so_far =
     let ms : List Member = drop (suc i) all in
     let next : i + 1 ≡ suc i = omega arith in
@@ -166,9 +177,14 @@ rises_after_one m rest rise = by_test (not (length m.1 == 0))
     by_test false = rise
 
 -- any member
-pub shared_one : (all rest : List Member) (i : ℕ) (m : Member) (told : Bool) → m ≡ get_or all i m → i < length all → rises_from None all ≡ true → rises_from None rest ≡ true → share_member (filled (drop i all)) (filled rest) ≡ told → (not (length m.1 == 0) && begins_with m (rest_after m rest)) || share_member (filled (drop (i + 1) all)) (filled (rest_after m rest)) ≡ told
+pub shared_one : (all rest : List Member) (i : ℕ) (m : Member) (told : Bool) → m ≡ get_or all i m → i < length all
+    → rises_from None all ≡ true → rises_from None rest ≡ true → share_member (filled (drop i all)) (filled rest) ≡ told
+    → (not (length m.1 == 0) && begins_with m (rest_after m rest))
+    || share_member (filled (drop (i + 1) all)) (filled (rest_after m rest)) ≡ told
 shared_one all rest i m told here within members others so_far = by_test (not (length m.1 == 0)) refl
   where
-    by_test : (b : Bool) → not (length m.1 == 0) ≡ b → (b && begins_with m (cond b (from_name m.0 rest) rest)) || share_member (filled (drop (i + 1) all)) (filled (cond b (from_name m.0 rest) rest)) ≡ told
+    by_test : (b : Bool) → not (length m.1 == 0) ≡ b
+        → (b && begins_with m (cond b (from_name m.0 rest) rest))
+        || share_member (filled (drop (i + 1) all)) (filled (cond b (from_name m.0 rest) rest)) ≡ told
     by_test true is = shared_more all rest i m told here within is members others so_far
     by_test false is = shared_less all rest i m told here within is so_far

@@ -13,7 +13,8 @@ use Rattle.sarif_match.proofs.ValueLemmas.{same_text}
 abbrev text_cmp : List ℕ → List ℕ → Ordering
 text_cmp = slice_cmp nat_cmp
 
-each_of_match : (P : List ℕ → Type 0) (o : Ordering) (x y z : List (List ℕ)) → AllByRecursion P x → AllByRecursion P y → AllByRecursion P z → AllByRecursion P (match_ordering o x y z)
+each_of_match : (P : List ℕ → Type 0) (o : Ordering) (x y z : List (List ℕ)) → AllByRecursion P x → AllByRecursion P y → AllByRecursion P z
+    → AllByRecursion P (match_ordering o x y z)
 each_of_match P Less x y z a b c = a
 each_of_match P Equal x y z a b c = b
 each_of_match P Greater x y z a b c = c
@@ -23,7 +24,8 @@ each_inserted P k [] one each = (one, tt)
 each_inserted P k (x ∷ ks) one each =
     each_of_match P (text_cmp k x) (k ∷ (x ∷ ks)) (x ∷ ks) (x ∷ insert_key text_cmp ks k) (one, each) each (each.0, each_inserted P k ks one each.1)
 
-below_each : (k x : List ℕ) (ks : List (List ℕ)) → text_cmp k x ≡ Less → AllByRecursion (λ y. text_cmp x y ≡ Less) ks → AllByRecursion (λ y. text_cmp k y ≡ Less) ks
+below_each : (k x : List ℕ) (ks : List (List ℕ)) → text_cmp k x ≡ Less → AllByRecursion (λ y. text_cmp x y ≡ Less) ks
+    → AllByRecursion (λ y. text_cmp k y ≡ Less) ks
 below_each k x [] lt each = tt
 below_each k x (y ∷ ks) lt each =
     (nat_list_cmp_total.trans k x y lt each.0, below_each k x ks lt each.1)
@@ -34,7 +36,8 @@ unfolding IsStrictlySortedBy
 sorted_inserted k [] h = (tt, tt)
 sorted_inserted k (x ∷ ks) h = at (text_cmp k x) refl (sorted_inserted k ks h.1)
   where
-    at : (o : Ordering) → text_cmp k x ≡ o → IsStrictlySortedBy text_cmp (insert_key text_cmp ks k) → IsStrictlySortedBy text_cmp (match_ordering o (k ∷ (x ∷ ks)) (x ∷ ks) (x ∷ insert_key text_cmp ks k))
+    at : (o : Ordering) → text_cmp k x ≡ o → IsStrictlySortedBy text_cmp (insert_key text_cmp ks k)
+        → IsStrictlySortedBy text_cmp (match_ordering o (k ∷ (x ∷ ks)) (x ∷ ks) (x ∷ insert_key text_cmp ks k))
     at Less is rest = ((is, below_each k x ks is h.0), h)
     at Equal is rest = h
     at Greater is rest =
@@ -78,7 +81,9 @@ module _ (name : List ℕ) where
   has_inserted k [] = refl
   has_inserted k (x ∷ ks) = at (text_cmp k x) refl (has_inserted k ks)
     where
-      at : (o : Ordering) → text_cmp k x ≡ o → has_name name (insert_key text_cmp ks k) ≡ bytes_eq k name || has_name name ks → has_name name (match_ordering o (k ∷ (x ∷ ks)) (x ∷ ks) (x ∷ insert_key text_cmp ks k)) ≡ bytes_eq k name || (bytes_eq x name || has_name name ks)
+      at : (o : Ordering) → text_cmp k x ≡ o → has_name name (insert_key text_cmp ks k) ≡ bytes_eq k name || has_name name ks
+          → has_name name (match_ordering o (k ∷ (x ∷ ks)) (x ∷ ks) (x ∷ insert_key text_cmp ks k))
+          ≡ bytes_eq k name || (bytes_eq x name || has_name name ks)
       at Less is rest = refl
       at Equal is rest =
           or_twice (bytes_eq k name) (bytes_eq x name) (has_name name ks) (ap (λ (t : List ℕ). bytes_eq t name) (same_text k x (texts_ties k x ∙ ap is_eq is)))
@@ -88,8 +93,11 @@ module _ (name : List ℕ) where
   has_with : (names ks : List (List ℕ)) → has_name name (with_names ks names) ≡ has_name name ks || has_name name names
   has_with [] ks = or_false (has_name name ks)
   has_with (n ∷ names) ks =
-      has_with names (insert_key text_cmp ks n) ∙ ap (λ (b : Bool). b || has_name name names) (has_inserted n ks) ∙ or_moved (bytes_eq n name) (has_name name ks) (has_name name names)
+      has_with names (insert_key text_cmp ks n) ∙ ap (λ (b : Bool). b || has_name name names) (has_inserted n ks)
+      ∙ or_moved (bytes_eq n name) (has_name name ks) (has_name name names)
 
-  pub has_names : (current baseline : List Record) → has_name name (rising_names current baseline) ≡ has_name name (names_of current) || has_name name (names_of baseline)
+  pub has_names : (current baseline : List Record)
+      → has_name name (rising_names current baseline) ≡ has_name name (names_of current) || has_name name (names_of baseline)
   has_names current baseline =
-      has_with (names_of baseline) (with_names [] (names_of current)) ∙ ap (λ (b : Bool). b || has_name name (names_of baseline)) (has_with (names_of current) [])
+      has_with (names_of baseline) (with_names [] (names_of current))
+      ∙ ap (λ (b : Bool). b || has_name name (names_of baseline)) (has_with (names_of current) [])

@@ -44,7 +44,8 @@ module _ {X : Type 0} where
       pub kept : p x ≡ true
       pub front_is : filter p before ≡ front
 
-    kept_here : (y : X) (ys front : List X) (x : X) (rear : List X) → p y ≡ true → y ∷ filter p ys ≡ front ++ (x ∷ rear) → ((front' : List X) → filter p ys ≡ front' ++ (x ∷ rear) → SplitsKept ys front' x) → SplitsKept (y ∷ ys) front x
+    kept_here : (y : X) (ys front : List X) (x : X) (rear : List X) → p y ≡ true → y ∷ filter p ys ≡ front ++ (x ∷ rear)
+        → ((front' : List X) → filter p ys ≡ front' ++ (x ∷ rear) → SplitsKept ys front' x) → SplitsKept (y ∷ ys) front x
     kept_here y ys [] x rear is e rest =
         let same : y ≡ x = cons_first y x (filter p ys) rear e in
         record { before = []; after = ys; split = ap (λ (z : X). z ∷ ys) same; kept = subst (λ (z : X). p z ≡ true) same is; front_is = refl }
@@ -56,7 +57,8 @@ module _ {X : Type 0} where
           after = found.after;
           split = ap (λ (zs : List X). y ∷ zs) found.split;
           kept = found.kept;
-          front_is = ap (λ (b : Bool). cond b (y ∷ filter p found.before) (filter p found.before)) is ∙ ap (λ (zs : List X). y ∷ zs) found.front_is ∙ ap (λ (z : X). z ∷ front) same;
+          front_is = ap (λ (b : Bool). cond b (y ∷ filter p found.before) (filter p found.before)) is
+              ∙ ap (λ (zs : List X). y ∷ zs) found.front_is ∙ ap (λ (z : X). z ∷ front) same;
         }
 
     not_kept_here : (y : X) (ys front : List X) (x : X) → p y ≡ false → SplitsKept ys front x → SplitsKept (y ∷ ys) front x
@@ -68,7 +70,9 @@ module _ {X : Type 0} where
       front_is = ap (λ (b : Bool). cond b (y ∷ filter p found.before) (filter p found.before)) is ∙ found.front_is;
     }
 
-    kept_or_not : (y : X) (ys front : List X) (x : X) (rear : List X) (b : Bool) → p y ≡ b → cond b (y ∷ filter p ys) (filter p ys) ≡ front ++ (x ∷ rear) → ((front' : List X) → filter p ys ≡ front' ++ (x ∷ rear) → SplitsKept ys front' x) → SplitsKept (y ∷ ys) front x
+    kept_or_not : (y : X) (ys front : List X) (x : X) (rear : List X) (b : Bool) → p y ≡ b
+        → cond b (y ∷ filter p ys) (filter p ys) ≡ front ++ (x ∷ rear)
+        → ((front' : List X) → filter p ys ≡ front' ++ (x ∷ rear) → SplitsKept ys front' x) → SplitsKept (y ∷ ys) front x
     kept_or_not y ys front x rear true is e rest = kept_here y ys front x rear is e rest
     kept_or_not y ys front x rear false is e rest = not_kept_here y ys front x is (rest front e)
 
@@ -90,11 +94,14 @@ module _ {K : Type 0} where
 
   module _ (eq : K → K → Bool) where
     -- the place of a result in the list of its key
-    pub slice_get-places : (key : K) (before : List (ℕ × K)) (e : ℕ × K) (after : List (ℕ × K)) → eq e.1 key ≡ true → slice_get (places eq key (before ++ (e ∷ after))) (length (places eq key before)) ≡ Some e.0
+    pub slice_get-places : (key : K) (before : List (ℕ × K)) (e : ℕ × K) (after : List (ℕ × K)) → eq e.1 key ≡ true
+        → slice_get (places eq key (before ++ (e ∷ after))) (length (places eq key before)) ≡ Some e.0
     slice_get-places key before e after same =
         let number = λ (x : ℕ × K). x.0 in
         let test = λ (x : ℕ × K). eq x.1 key in
-        ap (λ (ns : List ℕ). slice_get ns (length (places eq key before))) (ap (map number) (filter-split test before e after same) ∙ map-append number (filter test before) (e ∷ filter test after)) ∙ slice_get-middle (places eq key before) e.0 (map number (filter test after))
+        ap (λ (ns : List ℕ). slice_get ns (length (places eq key before)))
+        (ap (map number) (filter-split test before e after same) ∙ map-append number (filter test before) (e ∷ filter test after))
+        ∙ slice_get-middle (places eq key before) e.0 (map number (filter test after))
 
     -- a result at a place in the list of a key
     pub record StandsInPlaces (key : K) (es : List (ℕ × K)) (r j : ℕ) : Type 0 where
@@ -122,7 +129,12 @@ module _ {K : Type 0} where
       after = rest.after;
       split = ap (λ (xs : List (ℕ × K)). e ∷ xs) rest.split;
       same = rest.same;
-      place = ap (λ (b : Bool). length (map (λ (x : ℕ × K). x.0) (cond b (e ∷ filter (λ (x : ℕ × K). eq x.1 key) rest.before) (filter (λ (x : ℕ × K). eq x.1 key) rest.before)))) same ∙ ap suc rest.place;
+      place =
+          ap
+          (λ (b : Bool). length
+          (map (λ (x : ℕ × K). x.0)
+          (cond b (e ∷ filter (λ (x : ℕ × K). eq x.1 key) rest.before) (filter (λ (x : ℕ × K). eq x.1 key) rest.before))))
+          same ∙ ap suc rest.place;
     }
 
     stands_past : (key : K) (e : ℕ × K) (es : List (ℕ × K)) (r j : ℕ) → eq e.1 key ≡ false → StandsInPlaces key es r j → StandsInPlaces key (e ∷ es) r j
@@ -132,10 +144,16 @@ module _ {K : Type 0} where
       after = rest.after;
       split = ap (λ (xs : List (ℕ × K)). e ∷ xs) rest.split;
       same = rest.same;
-      place = ap (λ (b : Bool). length (map (λ (x : ℕ × K). x.0) (cond b (e ∷ filter (λ (x : ℕ × K). eq x.1 key) rest.before) (filter (λ (x : ℕ × K). eq x.1 key) rest.before)))) other ∙ rest.place;
+      place =
+          ap
+          (λ (b : Bool). length
+          (map (λ (x : ℕ × K). x.0)
+          (cond b (e ∷ filter (λ (x : ℕ × K). eq x.1 key) rest.before) (filter (λ (x : ℕ × K). eq x.1 key) rest.before)))) other ∙ rest.place;
     }
 
-    stands_by : (key : K) (e : ℕ × K) (es : List (ℕ × K)) (r j : ℕ) (b : Bool) → eq e.1 key ≡ b → slice_get (map (λ (x : ℕ × K). x.0) (cond b (e ∷ filter (λ (x : ℕ × K). eq x.1 key) es) (filter (λ (x : ℕ × K). eq x.1 key) es))) r ≡ Some j → ((q : ℕ) → slice_get (places eq key es) q ≡ Some j → StandsInPlaces key es q j) → StandsInPlaces key (e ∷ es) r j
+    stands_by : (key : K) (e : ℕ × K) (es : List (ℕ × K)) (r j : ℕ) (b : Bool) → eq e.1 key ≡ b
+        → slice_get (map (λ (x : ℕ × K). x.0) (cond b (e ∷ filter (λ (x : ℕ × K). eq x.1 key) es) (filter (λ (x : ℕ × K). eq x.1 key) es)))
+        r ≡ Some j → ((q : ℕ) → slice_get (places eq key es) q ≡ Some j → StandsInPlaces key es q j) → StandsInPlaces key (e ∷ es) r j
     stands_by key e es zero j true is found rest = stands_here key e es j is (same_Some e.0 j found)
     stands_by key e es (suc r) j true is found rest = stands_further key e es r j is (rest r found)
     stands_by key e es r j false is found rest = stands_past key e es r j is (rest r found)
@@ -146,14 +164,19 @@ module _ {K : Type 0} where
         stands_by key e es r j (eq e.1 key) refl found (λ q. stands_in_places key es q j)
 
     -- a current result with a baseline result at its place is paired with it
-    pub pair_made : (seen before : List (ℕ × K)) (i : ℕ) (key : K) (after bs : List (ℕ × K)) (j : ℕ) → slice_get (places eq key bs) (length (places eq key (seen ++ before))) ≡ Some j → HasPair (pairs_from eq seen (before ++ ((i, key) ∷ after)) bs) i j
+    pub pair_made : (seen before : List (ℕ × K)) (i : ℕ) (key : K) (after bs : List (ℕ × K)) (j : ℕ)
+        → slice_get (places eq key bs) (length (places eq key (seen ++ before))) ≡ Some j
+        → HasPair (pairs_from eq seen (before ++ ((i, key) ∷ after)) bs) i j
     pair_made seen [] i key after bs j found =
         let rest : List (ℕ × ℕ) = pairs_from eq (seen ++ ((i, key) ∷ [])) after bs in
-        let partner : slice_get (places eq key bs) (length (places eq key seen)) ≡ Some j = ap (λ (xs : List (ℕ × K)). slice_get (places eq key bs) (length (places eq key xs))) (sym (append-nil seen)) ∙ found in
+        let partner : slice_get (places eq key bs) (length (places eq key seen)) ≡ Some j =
+        ap (λ (xs : List (ℕ × K)). slice_get (places eq key bs) (length (places eq key xs))) (sym (append-nil seen)) ∙ found in
         subst (λ (o : Option ℕ). HasPair (with_pair i o rest) i j) (sym partner) (inl refl)
     pair_made seen (b ∷ before) i key after bs j found =
-        let found' : slice_get (places eq key bs) (length (places eq key ((seen ++ (b ∷ [])) ++ before))) ≡ Some j = ap (λ (xs : List (ℕ × K)). slice_get (places eq key bs) (length (places eq key xs))) (append_assoc seen (b ∷ []) before) ∙ found in
-        HasPair-with_pair b.0 i j (slice_get (places eq b.1 bs) (length (places eq b.1 seen))) (pairs_from eq (seen ++ (b ∷ [])) (before ++ ((i, key) ∷ after)) bs) (pair_made (seen ++ (b ∷ [])) before i key after bs j found')
+        let found' : slice_get (places eq key bs) (length (places eq key ((seen ++ (b ∷ [])) ++ before))) ≡ Some j =
+        ap (λ (xs : List (ℕ × K)). slice_get (places eq key bs) (length (places eq key xs))) (append_assoc seen (b ∷ []) before) ∙ found in
+        HasPair-with_pair b.0 i j (slice_get (places eq b.1 bs) (length (places eq b.1 seen)))
+        (pairs_from eq (seen ++ (b ∷ [])) (before ++ ((i, key) ∷ after)) bs) (pair_made (seen ++ (b ∷ [])) before i key after bs j found')
 
     -- a pair is of a current result and the baseline result at its place
     pub record IsPairOf (seen es bs : List (ℕ × K)) (i j : ℕ) : Type 0 where
@@ -169,10 +192,13 @@ module _ {K : Type 0} where
       key = rest.key;
       after = rest.after;
       split = ap (λ (xs : List (ℕ × K)). e ∷ xs) rest.split;
-      found = ap (λ (xs : List (ℕ × K)). slice_get (places eq rest.key bs) (length (places eq rest.key xs))) (sym (append_assoc seen (e ∷ []) rest.before)) ∙ rest.found;
+      found = ap (λ (xs : List (ℕ × K)). slice_get (places eq rest.key bs) (length (places eq rest.key xs)))
+          (sym (append_assoc seen (e ∷ []) rest.before)) ∙ rest.found;
     }
 
-    pair_here : (seen : List (ℕ × K)) (e : ℕ × K) (es bs : List (ℕ × K)) (i j m : ℕ) → slice_get (places eq e.1 bs) (length (places eq e.1 seen)) ≡ Some m → ◌≡◌ {A = ℕ × ℕ} (e.0, m) (i, j) → IsPairOf seen (e ∷ es) bs i j
+    pair_here : (seen : List (ℕ × K)) (e : ℕ × K) (es bs : List (ℕ × K)) (i j m : ℕ)
+        → slice_get (places eq e.1 bs) (length (places eq e.1 seen)) ≡ Some m → ◌≡◌ {A = ℕ × ℕ} (e.0, m) (i, j)
+        → IsPairOf seen (e ∷ es) bs i j
     pair_here seen e es bs i j m found same =
         let at : e.0 ≡ i = ap (λ (p : ℕ × ℕ). p.0) same in
         let to : m ≡ j = ap (λ (p : ℕ × ℕ). p.1) same in
@@ -184,7 +210,10 @@ module _ {K : Type 0} where
           found = ap (λ (xs : List (ℕ × K)). slice_get (places eq e.1 bs) (length (places eq e.1 xs))) (append-nil seen) ∙ found ∙ ap Some to;
         }
 
-    pair_by : (seen : List (ℕ × K)) (e : ℕ × K) (es bs : List (ℕ × K)) (i j : ℕ) (o : Option ℕ) → slice_get (places eq e.1 bs) (length (places eq e.1 seen)) ≡ o → HasPair (with_pair e.0 o (pairs_from eq (seen ++ (e ∷ [])) es bs)) i j → (HasPair (pairs_from eq (seen ++ (e ∷ [])) es bs) i j → IsPairOf (seen ++ (e ∷ [])) es bs i j) → IsPairOf seen (e ∷ es) bs i j
+    pair_by : (seen : List (ℕ × K)) (e : ℕ × K) (es bs : List (ℕ × K)) (i j : ℕ) (o : Option ℕ)
+        → slice_get (places eq e.1 bs) (length (places eq e.1 seen)) ≡ o
+        → HasPair (with_pair e.0 o (pairs_from eq (seen ++ (e ∷ [])) es bs)) i j
+        → (HasPair (pairs_from eq (seen ++ (e ∷ [])) es bs) i j → IsPairOf (seen ++ (e ∷ [])) es bs i j) → IsPairOf seen (e ∷ es) bs i j
     pair_by seen e es bs i j None is h rest = pair_further seen e es bs i j (rest h)
     pair_by seen e es bs i j (Some m) is (inl same) rest = pair_here seen e es bs i j m is same
     pair_by seen e es bs i j (Some m) is (inr h) rest = pair_further seen e es bs i j (rest h)
@@ -198,35 +227,68 @@ module _ {K : Type 0} where
     abbrev pub ranked : (ℕ → Bool) → K → ℕ → ℕ × K → Bool
     ranked test key i e = nat_lt e.0 i && (test e.0 && eq e.1 key)
 
-    rank-before : (test : ℕ → Bool) (key : K) (i : ℕ) (before : List (ℕ × K)) → AreNumberedBelow i before → length (filter (ranked test key i) before) ≡ length (places eq key (filter (λ (e : ℕ × K). test e.0) before))
+    rank-before : (test : ℕ → Bool) (key : K) (i : ℕ) (before : List (ℕ × K)) → AreNumberedBelow i before
+        → length (filter (ranked test key i) before) ≡ length (places eq key (filter (λ (e : ℕ × K). test e.0) before))
     rank-before test key i [] below = refl
     rank-before test key i (e ∷ before) below =
-        ap (λ (b : Bool). length (cond (b && (test e.0 && eq e.1 key)) (e ∷ filter (ranked test key i) before) (filter (ranked test key i) before))) (lt-ltb e.0 i below.0) ∙ by_tests (test e.0) (eq e.1 key) refl (rank-before test key i before below.1)
+        ap
+        (λ (b : Bool). length
+        (cond (b && (test e.0 && eq e.1 key)) (e ∷ filter (ranked test key i) before) (filter (ranked test key i) before)))
+        (lt-ltb e.0 i below.0) ∙ by_tests (test e.0) (eq e.1 key) refl (rank-before test key i before below.1)
       where
-        by_tests : (b c : Bool) → eq e.1 key ≡ c → length (filter (ranked test key i) before) ≡ length (places eq key (filter (λ (e : ℕ × K). test e.0) before)) → length (cond (b && c) (e ∷ filter (ranked test key i) before) (filter (ranked test key i) before)) ≡ length (places eq key (cond b (e ∷ filter (λ (e : ℕ × K). test e.0) before) (filter (λ (e : ℕ × K). test e.0) before)))
-        by_tests true true is rest = ap suc rest ∙ sym (ap (λ (b : Bool). length (map (λ (x : ℕ × K). x.0) (cond b (e ∷ filter (λ (x : ℕ × K). eq x.1 key) (filter (λ (e : ℕ × K). test e.0) before)) (filter (λ (x : ℕ × K). eq x.1 key) (filter (λ (e : ℕ × K). test e.0) before))))) is)
-        by_tests true false is rest = rest ∙ sym (ap (λ (b : Bool). length (map (λ (x : ℕ × K). x.0) (cond b (e ∷ filter (λ (x : ℕ × K). eq x.1 key) (filter (λ (e : ℕ × K). test e.0) before)) (filter (λ (x : ℕ × K). eq x.1 key) (filter (λ (e : ℕ × K). test e.0) before))))) is)
+        by_tests : (b c : Bool) → eq e.1 key ≡ c
+            → length (filter (ranked test key i) before) ≡ length (places eq key (filter (λ (e : ℕ × K). test e.0) before))
+            → length (cond (b && c) (e ∷ filter (ranked test key i) before) (filter (ranked test key i) before))
+            ≡ length (places eq key (cond b (e ∷ filter (λ (e : ℕ × K). test e.0) before) (filter (λ (e : ℕ × K). test e.0) before)))
+        by_tests true true is rest = ap suc rest
+            ∙ sym
+            (ap
+            (λ (b : Bool). length
+            (map (λ (x : ℕ × K). x.0)
+            (cond b (e ∷ filter (λ (x : ℕ × K). eq x.1 key) (filter (λ (e : ℕ × K). test e.0) before))
+            (filter (λ (x : ℕ × K). eq x.1 key) (filter (λ (e : ℕ × K). test e.0) before))))) is)
+        by_tests true false is rest = rest
+            ∙ sym
+            (ap
+            (λ (b : Bool). length
+            (map (λ (x : ℕ × K). x.0)
+            (cond b (e ∷ filter (λ (x : ℕ × K). eq x.1 key) (filter (λ (e : ℕ × K). test e.0) before))
+            (filter (λ (x : ℕ × K). eq x.1 key) (filter (λ (e : ℕ × K). test e.0) before))))) is)
         by_tests false c is rest = rest
 
     rank-after : (test : ℕ → Bool) (key : K) (i : ℕ) (after : List (ℕ × K)) → IsAbove i after → filter (ranked test key i) after ≡ []
     rank-after test key i [] above = refl
     rank-after test key i (e ∷ after) above =
         let past : i < e.0 = above.0 in
-        ap (λ (b : Bool). cond (b && (test e.0 && eq e.1 key)) (e ∷ filter (ranked test key i) after) (filter (ranked test key i) after)) (le-ltb e.0 i (omega arith)) ∙ rank-after test key i after above.1
+        ap (λ (b : Bool). cond (b && (test e.0 && eq e.1 key)) (e ∷ filter (ranked test key i) after) (filter (ranked test key i) after))
+        (le-ltb e.0 i (omega arith)) ∙ rank-after test key i after above.1
 
-    pub rank-split : (test : ℕ → Bool) (key : K) (i : ℕ) (own : K) (before after : List (ℕ × K)) → AreNumberedBelow i before → IsAbove i after → length (filter (ranked test key i) (before ++ ((i, own) ∷ after))) ≡ length (places eq key (filter (λ (e : ℕ × K). test e.0) before))
+    pub rank-split : (test : ℕ → Bool) (key : K) (i : ℕ) (own : K) (before after : List (ℕ × K)) → AreNumberedBelow i before
+        → IsAbove i after → length (filter (ranked test key i) (before ++ ((i, own) ∷ after)))
+        ≡ length (places eq key (filter (λ (e : ℕ × K). test e.0) before))
     rank-split test key i own before after below above =
-        let here : filter (ranked test key i) ((i, own) ∷ after) ≡ [] = ap (λ (b : Bool). cond (b && (test i && eq own key)) ((i, own) ∷ filter (ranked test key i) after) (filter (ranked test key i) after)) (le-ltb i i (omega arith)) ∙ rank-after test key i after above in
-        ap length (filter-append (ranked test key i) before ((i, own) ∷ after) ∙ ap (λ (xs : List (ℕ × K)). filter (ranked test key i) before ++ xs) here ∙ append-nil (filter (ranked test key i) before)) ∙ rank-before test key i before below
+        let here : filter (ranked test key i) ((i, own) ∷ after) ≡ [] =
+        ap
+        (λ (b : Bool). cond (b && (test i && eq own key)) ((i, own) ∷ filter (ranked test key i) after) (filter (ranked test key i) after))
+        (le-ltb i i (omega arith)) ∙ rank-after test key i after above in
+        ap length (filter-append (ranked test key i) before ((i, own) ∷ after)
+        ∙ ap (λ (xs : List (ℕ × K)). filter (ranked test key i) before ++ xs) here ∙ append-nil (filter (ranked test key i) before))
+        ∙ rank-before test key i before below
 
     AreNumberedBelow-from : (i k : ℕ) (es : List (ℕ × K)) → i < k → AreNumberedBelow i es → AreNumberedBelow k es
     AreNumberedBelow-from i k [] lt below = tt
     AreNumberedBelow-from i k (e ∷ es) lt below = let first : e.0 < i = below.0 in (omega arith, AreNumberedBelow-from i k es lt below.1)
 
     -- a rank rises from one result with the key to the next
-    pub rank-more : (test : ℕ → Bool) (key : K) (i k : ℕ) (own : K) (before after : List (ℕ × K)) → AreNumberedBelow i before → i < k → test i ≡ true → eq own key ≡ true → length (places eq key (filter (λ (e : ℕ × K). test e.0) before)) < length (filter (ranked test key k) (before ++ ((i, own) ∷ after)))
+    pub rank-more : (test : ℕ → Bool) (key : K) (i k : ℕ) (own : K) (before after : List (ℕ × K)) → AreNumberedBelow i before → i < k
+        → test i ≡ true → eq own key ≡ true
+        → length (places eq key (filter (λ (e : ℕ × K). test e.0) before)) < length
+        (filter (ranked test key k) (before ++ ((i, own) ∷ after)))
     rank-more test key i k own before after below lt is_left same =
-        let here : ranked test key k (i, own) ≡ true = ap (λ (b : Bool). b && (test i && eq own key)) (lt-ltb i k lt) ∙ ap (λ (b : Bool). b && eq own key) is_left ∙ same in
-        let split : length (filter (ranked test key k) (before ++ ((i, own) ∷ after))) ≡ length (filter (ranked test key k) before) + suc (length (filter (ranked test key k) after)) = ap length (filter-split (ranked test key k) before (i, own) after here) ∙ length-append (filter (ranked test key k) before) ((i, own) ∷ filter (ranked test key k) after) in
+        let here : ranked test key k (i, own) ≡ true = ap (λ (b : Bool). b && (test i && eq own key)) (lt-ltb i k lt)
+        ∙ ap (λ (b : Bool). b && eq own key) is_left ∙ same in
+        let split : length (filter (ranked test key k) (before ++ ((i, own) ∷ after))) ≡ length (filter (ranked test key k) before)
+        + suc (length (filter (ranked test key k) after)) = ap length (filter-split (ranked test key k) before (i, own) after here)
+        ∙ length-append (filter (ranked test key k) before) ((i, own) ∷ filter (ranked test key k) after) in
         let front = rank-before test key k before (AreNumberedBelow-from i k before lt below) in
         omega (arith, split, front)

@@ -56,16 +56,26 @@ unchanged_is_equal current partner e =
     let rest = and_parts levels (messages && places) all.1 in
     let last = and_parts messages places rest.1 in
     record {
-      kind = sym (kind_at-number current.kind) ∙ ap kind_at ((Decides-eqb (kind_number current.kind) (kind_number partner.kind)).0 all.0) ∙ kind_at-number partner.kind;
-      level = sym (level_at-number current.level) ∙ ap level_at ((Decides-eqb (severity current.level) (severity partner.level)).0 rest.0) ∙ level_at-number partner.level;
+      kind = sym (kind_at-number current.kind) ∙ ap kind_at ((Decides-eqb (kind_number current.kind) (kind_number partner.kind)).0 all.0)
+          ∙ kind_at-number partner.kind;
+      level = sym (level_at-number current.level) ∙ ap level_at ((Decides-eqb (severity current.level) (severity partner.level)).0 rest.0)
+          ∙ level_at-number partner.level;
       message = message_same current.message partner.message last.0;
       place = place_same current.place partner.place last.1;
     }
 
 pub equal_is_unchanged : (current partner : Record) → IsUnchanged current partner → state_of current (Some partner) ≡ Unchanged
 equal_is_unchanged current partner h =
-    let kinds : (kind_number current.kind == kind_number partner.kind) ≡ true = eq-eqb (kind_number current.kind) (kind_number partner.kind) (ap kind_number h.kind) in
+    let kinds : (kind_number current.kind == kind_number partner.kind) ≡ true =
+    eq-eqb (kind_number current.kind) (kind_number partner.kind) (ap kind_number h.kind) in
     let levels : (severity current.level == severity partner.level) ≡ true = eq-eqb (severity current.level) (severity partner.level) (ap severity h.level) in
     let messages : message_eq current.message partner.message ≡ true = ap (message_eq current.message) (sym h.message) ∙ message_refl current.message in
     let places : place_eq current.place partner.place ≡ true = ap (place_eq current.place) (sym h.place) ∙ place_refl current.place in
-    ap (λ (b : Bool). cond (b && ((severity current.level == severity partner.level) && (message_eq current.message partner.message && place_eq current.place partner.place))) Unchanged Updated) kinds ∙ ap (λ (b : Bool). cond (b && (message_eq current.message partner.message && place_eq current.place partner.place)) Unchanged Updated) levels ∙ ap (λ (b : Bool). cond (b && place_eq current.place partner.place) Unchanged Updated) messages ∙ ap (λ (b : Bool). cond b Unchanged Updated) places
+    ap
+    (λ (b : Bool). cond
+    (b
+    && ((severity current.level == severity partner.level)
+    && (message_eq current.message partner.message && place_eq current.place partner.place))) Unchanged Updated) kinds
+    ∙ ap (λ (b : Bool). cond (b && (message_eq current.message partner.message && place_eq current.place partner.place)) Unchanged Updated)
+    levels ∙ ap (λ (b : Bool). cond (b && place_eq current.place partner.place) Unchanged Updated) messages
+    ∙ ap (λ (b : Bool). cond b Unchanged Updated) places

@@ -1,7 +1,6 @@
 -- The matching of two lists, given that of the lists in reverse order.
-use Rattle.std.proofs.Common.{◌≡◌, ◌≢◌, ℕ, ◌-◌, ◌<◌, ◌≤◌, zero, suc, Bool, true, false, ◌||◌, ◌⊎◌, inl, inr, ⊎_elim, List, [], ◌∷◌, ◌++◌, Option, Some, None, ◌==◌, length, map, option_map, reverse, slice_get, slice_index_or, is_some, IfSome, refl, sym, ap, ◌∙◌, arith, eq-eqb}
+use Rattle.std.proofs.Common.{◌≡◌, ◌≢◌, ℕ, ◌-◌, ◌<◌, ◌≤◌, zero, suc, Bool, true, false, ◌||◌, ⊎_elim, List, [], ◌∷◌, Option, Some, None, ◌==◌, length, map, option_map, reverse, slice_index_or, IfSome, refl, sym, ap, ◌∙◌, arith, eq-eqb}
 use Rattle.std.specs.Option.{option_map_or}
-use Rattle.std.specs.List.{list_any}
 use Rattle.std.proofs.lemmas.Bool.{ne_eqb, cases_lt}
 use Rattle.std.proofs.lemmas.Bool.Decides.{eqb_tells}
 use Rattle.std.proofs.lemmas.List.{get_or-reverse, length-map, length-reverse, reverse-append}
@@ -44,7 +43,7 @@ module _ (count j k : ℕ) (same : (t : ℕ) → t < count → (from_end count t
   one_turned None below = refl
   one_turned (Some t) below = same t below
 
-  -- who is taken after the turn
+  -- the baseline results that are matched after the turn
   taken_turned : (partners : List (Option ℕ)) → AreBelow count partners → is_taken (turned count partners) j ≡ is_taken partners k
   taken_turned [] below = refl
   taken_turned (o ∷ partners) below =
@@ -68,12 +67,15 @@ past_same : (count j t : ℕ) → count ≤ j → t < count → (from_end count 
 past_same count j t past below =
     ne_eqb (from_end count t) j (λ same. (let at : count - 1 - t ≡ j = same in omega arith)) ∙ sym (ne_eqb t j (λ same. omega (arith, same)))
 
-pub taken_within : (count j : ℕ) (partners : List (Option ℕ)) → j < count → AreBelow count partners → is_taken (turned count partners) j ≡ is_taken partners (from_end count j)
+pub taken_within : (count j : ℕ) (partners : List (Option ℕ)) → j < count → AreBelow count partners
+    → is_taken (turned count partners) j ≡ is_taken partners (from_end count j)
 taken_within count j partners within below =
     taken_turned count j (from_end count j) (λ t small. within_same count j t within small) partners below
 
 -- the marks in reverse order
-pub marks_turned : (partners : List (Option ℕ)) (marks : List Bool) → AreBelow (length marks) partners → ((j : ℕ) → slice_index_or marks j false ≡ is_taken partners j) → (j : ℕ) → slice_index_or (reverse marks) j false ≡ is_taken (turned (length marks) partners) j
+pub marks_turned : (partners : List (Option ℕ)) (marks : List Bool) → AreBelow (length marks) partners
+    → ((j : ℕ) → slice_index_or marks j false ≡ is_taken partners j) → (j : ℕ)
+    → slice_index_or (reverse marks) j false ≡ is_taken (turned (length marks) partners) j
 marks_turned partners marks below same j = ⊎_elim within past (cases_lt j (length marks))
   where
     within : j < length marks → slice_index_or (reverse marks) j false ≡ is_taken (turned (length marks) partners) j
@@ -92,7 +94,9 @@ slice_index_or-option_map f (x ∷ xs) zero = refl
 slice_index_or-option_map f (x ∷ xs) (suc i) = slice_index_or-option_map f xs i
 
 -- a match after the turn
-pub partner_turned : (count i : ℕ) (partners : List (Option ℕ)) → i < length partners → slice_index_or (turned count partners) i None ≡ option_map (from_end count) (slice_index_or partners (from_end (length partners) i) None)
+pub partner_turned : (count i : ℕ) (partners : List (Option ℕ)) → i < length partners
+    → slice_index_or (turned count partners) i None
+    ≡ option_map (from_end count) (slice_index_or partners (from_end (length partners) i) None)
 partner_turned count i partners within =
     let f = option_map (from_end count) in
     let counted : length (map f partners) ≡ length partners = length-map partners f in

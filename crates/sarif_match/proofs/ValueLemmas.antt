@@ -7,6 +7,9 @@ pub same_text : (a b : List ℕ) → bytes_eq a b ≡ true → a ≡ b
 same_text a b e = (bytes_eq-Decides a b).0 e
 
 -- the value is at the position that the look-up reached
-pub value_of-here : (name : List ℕ) (pairs : List (List ℕ × List ℕ)) (i : ℕ) (p : List ℕ × List ℕ) → p ≡ get_or pairs i p → i < length pairs → bytes_eq p.0 name ≡ true → value_of name (drop i pairs) ≡ value_of name pairs → value_of name pairs ≡ Some p.1
+pub value_of-here : (name : List ℕ) (pairs : List (List ℕ × List ℕ)) (i : ℕ) (p : List ℕ × List ℕ) → p ≡ get_or pairs i p → i < length pairs
+    → bytes_eq p.0 name ≡ true → value_of name (drop i pairs) ≡ value_of name pairs → value_of name pairs ≡ Some p.1
 value_of-here name pairs i p here within same reached =
-    sym reached ∙ ap (value_of name) (drop-cons pairs i p within) ∙ subst (λ (q : List ℕ × List ℕ). value_of name (q ∷ drop (suc i) pairs) ≡ Some p.1) here (ap (λ (b : Bool). cond b (Some p.1) (value_of name (drop (suc i) pairs))) same)
+    sym reached ∙ ap (value_of name) (drop-cons pairs i p within)
+    ∙ subst (λ (q : List ℕ × List ℕ). value_of name (q ∷ drop (suc i) pairs) ≡ Some p.1) here
+    (ap (λ (b : Bool). cond b (Some p.1) (value_of name (drop (suc i) pairs))) same)

@@ -7,4 +7,5 @@ pub mod Queues
 pub mod Side
 pub mod InStep
 pub mod Rising
+pub mod SameFinding
 pub mod Turned

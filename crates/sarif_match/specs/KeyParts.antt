@@ -8,7 +8,7 @@ use Rattle.sarif_match.specs.declared.group.Group as lent
 use Rattle.sarif_match.specs.declared.tier_key.Key as borrowed
 use Rattle.sarif_match.specs.declared.tier_key.Key.TheVariants.{Guid, Same, SameText, FingerprintHere, Fingerprint, PartialHere, PartialMoved, PlaceText, Place as AtPlace, PlaceLeft}
 
--- what tells apart the groups of results
+-- the parts that distinguish the groups of results
 pub record Group : Type 0 where
   pub tool : List ℕ
   pub rule_id : List ℕ

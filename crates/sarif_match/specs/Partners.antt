@@ -22,7 +22,7 @@ abbrev pub keyed_from : Tier → ℕ → List Record → List (ℕ × KeyParts)
 keyed_from tier n [] = []
 keyed_from tier n (r ∷ rs) = with_key n (key_of r tier) (keyed_from tier (suc n) rs)
 
--- Partners are a list: for each current result the number of a baseline result, or none.
+-- Matches are a list: for each current result the number of a baseline result, or none.
 
 -- whether current result i has a match
 abbrev pub has_partner : List (Option ℕ) → ℕ → Bool
@@ -41,7 +41,7 @@ left partners keyed = filter (λ e. not (has_partner partners e.0)) keyed
 abbrev pub free : {K : Type 0} → List (Option ℕ) → List (ℕ × K) → List (ℕ × K)
 free partners keyed = filter (λ e. not (is_taken partners e.0)) keyed
 
--- the partners, with each of these pairs added
+-- the matches, with each of these pairs added
 abbrev pub put_all : List (Option ℕ) → List (ℕ × ℕ) → List (Option ℕ)
 put_all partners [] = partners
 put_all partners (pair ∷ pairs) = put_all (slice_set partners pair.0 (Some pair.1)) pairs
@@ -53,11 +53,11 @@ module _ (current baseline : List Record) where
       pairs_from same_parts []
       (left partners (keyed_from tier 0 current)) (free partners (keyed_from tier 0 baseline))
 
-  -- the partners after one more tier
+  -- the matches after one more tier
   abbrev pub after_tier : List (Option ℕ) → Tier → List (Option ℕ)
   after_tier partners tier = put_all partners (pairs_at partners tier)
 
-  -- the partners after these tiers
+  -- the matches after these tiers
   abbrev pub partners_after : List Tier → List (Option ℕ)
   partners_after tiers = fold after_tier (replicate (length current) None) tiers
 
@@ -71,7 +71,7 @@ module _ (current baseline : List Record) where
 abbrev pub from_end : ℕ → ℕ → ℕ
 from_end count number = count - 1 - number
 
--- the partners of two lists, given those of the lists in reverse order; the baseline has `count` results
+-- the matches of two lists, given those of the lists in reverse order; the baseline has `count` results
 abbrev pub turned : ℕ → List (Option ℕ) → List (Option ℕ)
 turned count partners = reverse (map (option_map (from_end count)) partners)
 

@@ -1,14 +1,11 @@
 -- What version 3 sees of a result.
-use Rattle.std.specs.Prelude.{ℕ, List, [], Bool, not, Option, Some, None, ◌||◌, ◌==◌, length, filter, if◌then◌else◌}
+use Rattle.std.specs.Prelude.{ℕ, List, [], Bool, not, Option, Some, None, ◌==◌, length, filter, if◌then◌else◌}
+use Rattle.sarif_model.specs.WhiteSpace.{is_white_space}
 use Rattle.sarif_model.specs.declared.record.Record.{Record}
-
--- a space, a tab, a line feed, a form feed or a carriage return
-abbrev pub is_white : ℕ → Bool
-is_white b = (b == 32) || ((b == 9) || ((b == 10) || ((b == 12) || (b == 13))))
 
 -- the text without white space
 abbrev pub packed : List ℕ → List ℕ
-packed text = filter (λ b. not (is_white b)) text
+packed text = filter (λ b. not (is_white_space b)) text
 
 -- the snippet without white space; one of white space alone is none
 abbrev pub packed_snippet : Option (List ℕ) → Option (List ℕ)

@@ -36,7 +36,7 @@ abbrev pub tiers_of : List Record → List Record → List Tier
 tiers_of cs bs =
     Guid ∷ (map Fingerprint (falling_names cs bs) ++ PartialHere ∷ (PartialMoved ∷ (Place ∷ [])))
 
--- those of version 3 for names of fingerprints: a result that stayed in its place comes before one that moved
+-- the tiers of version 3 for names of fingerprints: a result that did not move comes before one that moved
 abbrev pub finer_tiers : List (List ℕ) → List Tier
 finer_tiers names =
     Guid ∷ (Same ∷ (SameText ∷ (map FingerprintHere names

@@ -7,13 +7,13 @@ ghost use Rattle.sarif_match.specs.Seen.{filled, packed, packed_snippet, seen};
 ghost use Rattle.sarif_match.specs.Evidence.{are_same_members, has_evidence, has_no_members};
 ghost use Rattle.sarif_match.specs.Evidence.{has_other_evidence, is_same_guid};
 
-use crate::seeing::{is_filled, is_white};
+use crate::seeing::is_filled;
 use crate::sharing::share_member;
-use sarif_model::{Record, Text};
+use sarif_model::{Record, Text, is_white_space};
 
 /// Whether there is evidence that two results are the same: their snippets decide, if both have one; otherwise a GUID,
 /// a fingerprint or all partial fingerprints are the same, or neither has a fingerprint of either type.
-pub(crate) fn has_evidence(current: &Record, partner: &Record) -> bool
+pub fn has_evidence(current: &Record, partner: &Record) -> bool
     ensures { result ≡ has_evidence (seen current.now) (seen partner.now) }
 {
     match filled_snippet(current) {
@@ -134,7 +134,7 @@ fn are_same_packed(text: &str, other: &str) -> bool
 {
     let mut rest = other.as_bytes();
     for byte in text.as_bytes() {
-        if !is_white(*byte) {
+        if !is_white_space(*byte) {
             match after_first_byte(rest, *byte) {
                 Some(more) => rest = more,
                 None => return false,
@@ -150,7 +150,7 @@ fn after_first_byte(bytes: &[u8], first: u8) -> Option<&[u8]>
         ≡ after_first_byte first (packed bytes.now) }
 {
     for (number, byte) in bytes.iter().enumerate() {
-        if !is_white(*byte) {
+        if !is_white_space(*byte) {
             return if *byte == first {
                 Some(&bytes[number + 1..])
             } else {
@@ -166,7 +166,7 @@ fn is_white_alone(bytes: &[u8]) -> bool
     ensures { result ≡ (length (packed bytes.now) == 0) }
 {
     for byte in bytes {
-        if !is_white(*byte) {
+        if !is_white_space(*byte) {
             return false;
         }
     }

@@ -5,7 +5,7 @@ ghost use Rattle.sarif_match.specs.KeyParts.{borrowed_group};
 
 use sarif_model::{Message, Place, Record, Text};
 
-/// What tells the groups of results apart: tool, rule, place and message.
+/// The parts that distinguish the groups of results: tool, rule, place and message.
 #[derive(Clone, Copy, Debug, PartialEq, Eq, Hash)]
 pub struct Group<'a> {
     pub tool: &'a Text,

@@ -1,6 +1,6 @@
 //! Laws of tiers, keys, matches and states. Each law is the contract of a function that does nothing.
-ghost use Rattle.std.specs.Prelude.{◌≡◌, ◌↔◌, ◌⊎◌, ◌||◌, ◌∷◌, ◌++◌, [], ℕ, List, Some, None, true, false};
-ghost use Rattle.std.specs.Prelude.{IsTrue, slice_get, slice_index_or};
+ghost use Rattle.std.specs.Prelude.{◌≡◌, ◌≢◌, ◌<◌, ◌↔◌, ◌⊎◌, ◌||◌, ◌∷◌, ◌++◌, [], ℕ, List, Some, None, true, false};
+ghost use Rattle.std.specs.Prelude.{IsTrue, length, slice_get, slice_index_or};
 ghost use Rattle.std.specs.Ordering.{nat_cmp};
 ghost use Rattle.std.specs.Cmp.Lexicographic.{slice_cmp};
 ghost use Rattle.std.specs.List.Sorted.{IsStrictlySortedBy};
@@ -13,6 +13,8 @@ ghost use Rattle.sarif_match.specs.Key.{group_of};
 ghost use Rattle.sarif_match.specs.KeyParts.{KeyParts, parts_of};
 ghost use Rattle.sarif_match.specs.Internal.Queues.{same_key};
 ghost use Rattle.sarif_match.specs.declared.tier.Tier.{Tier};
+ghost use Rattle.sarif_match.specs.declared.tier.Tier.TheVariants.{PlaceLeft};
+ghost use Rattle.sarif_match.specs.Internal.SameFinding.{AreMatchedAt, AreTheSame, HaveUnlikeSnippets, match_in};
 ghost use Rattle.sarif_match.specs.Internal.Paired.{ArePartners, IsPairedAt, key_at, key_in_at};
 ghost use Rattle.sarif_match.specs.Partners.{is_taken, partners_after, partners_in, partners_of};
 ghost use Rattle.sarif_match.specs.Seen.{seen};
@@ -117,4 +119,33 @@ pub fn no_two_have_the_same_match_in_either_version()
     ensures { (version : MatchingVersion) (current baseline : List Record) (i h j : ℕ) →
         slice_index_or (partners_in version current baseline) i None ≡ Some j →
         slice_index_or (partners_in version current baseline) h None ≡ Some j → i ≡ h }
+{}
+
+/// No blind spot: in version 3 an unchanged result has a match of the same tool, kind, effective level, message and
+/// place. If both have a snippet, the two are the same except for white space; otherwise there is other evidence. So a
+/// result is new or updated if every baseline result of its tool, place and message has another snippet than its own.
+pub fn unchanged_results_have_a_match_that_is_the_same()
+    ensures same { (current baseline : List Record) (i : ℕ) (r : Record) →
+        slice_get current i ≡ Some r → state_in Three r (match_in Three current baseline i) ≡ Unchanged →
+        (j : ℕ) × (b : Record)
+        × (slice_index_or (partners_in Three current baseline) i None ≡ Some j)
+        × (slice_get baseline j ≡ Some b) × AreTheSame r b }
+    ensures snippet { (current baseline : List Record) (i : ℕ) (r : Record) (snippet : List ℕ) →
+        slice_get current i ≡ Some r → (seen r).snippet ≡ Some snippet →
+        ((j : ℕ) (b : Record) → slice_get baseline j ≡ Some b →
+        b.tool ≡ r.tool → b.place ≡ r.place → b.message ≡ r.message →
+        (other : List ℕ) × ((seen b).snippet ≡ Some other) × (snippet ≢ other)) →
+        ¬ (state_in Three r (match_in Three current baseline i) ≡ Unchanged) }
+{}
+
+/// In version 3 two results that match have evidence, unless they match at the last tier or their snippets differ.
+pub fn matches_have_evidence_but_for_the_last_tier()
+    ensures tier { (current baseline : List Record) (i j : ℕ) →
+        slice_index_or (partners_in Three current baseline) i None ≡ Some j →
+        (j < length baseline) × ((tier : Tier) × AreMatchedAt current baseline tier i j) }
+    ensures evidence { (current baseline : List Record) (tier : Tier) (i j : ℕ) (r b : Record) →
+        slice_get current i ≡ Some r → slice_get baseline j ≡ Some b →
+        AreMatchedAt current baseline tier i j →
+        (tier ≡ PlaceLeft)
+        ⊎ ((has_evidence (seen r) (seen b) ≡ true) ⊎ HaveUnlikeSnippets r b) }
 {}

@@ -23,6 +23,7 @@ mod tier_list;
 mod version;
 mod whole;
 
+pub use evidence::has_evidence;
 pub use group::Group;
 pub use matching::{Matching, match_all_in, match_all_with};
 pub use states::{state, state_in};

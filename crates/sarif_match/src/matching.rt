@@ -23,7 +23,7 @@ use std::alloc::{AllocError, Global};
 use std::hash::BuildHasher;
 use std::marker::Model;
 
-/// The baseline result that each current result matches. Contracts see the list of partners: for each current
+/// The baseline result that each current result matches. Contracts see the list of matches: for each current
 /// result the number of its match in the baseline, or none.
 #[derive(Drop)]
 pub struct Matching {
@@ -41,7 +41,7 @@ impl Model for Matching {
 }
 
 impl Matching {
-    /// The partners and marks of a finished matching.
+    /// The matches and marks of a finished matching.
     fn of(progress: Progress) -> Matching
         requires { IsSound (length progress.partners.items)
             (length progress.taken.items) progress }
@@ -176,7 +176,7 @@ fn match_tiers<'a, S: BuildHasher + Copy>(
     Ok(progress)
 }
 
-/// The partners, each counted from the other end of its list; the baseline has `count` results.
+/// The matches, each counted from the other end of its list; the baseline has `count` results.
 fn turned(
     alloc: Global,
     count: u32,

@@ -1,11 +1,11 @@
-//! An unfinished matching: the partners so far, and marks for the matched results.
+//! An unfinished matching: the matches so far, and marks for the matched results.
 ghost use Rattle.std.specs.Prelude.{◌≡◌, ◌<◌, Some, None, false, length, replicate, slice_set, IfOk};
 ghost use Rattle.sarif_match.specs.Partners.{has_partner, put_all};
 ghost use Rattle.sarif_match.specs.Internal.Fits.{Fits};
 
 use std::alloc::{AllocError, Global};
 
-/// The partners so far, and which results are matched.
+/// The matches so far, and which results are matched.
 #[derive(Drop)]
 pub(crate) struct Progress {
     /// The match of each current result, if it has one.

@@ -2,7 +2,8 @@
 ghost use Rattle.std.specs.Prelude.{◌≡◌, ◌==◌, IfOk, IsOkAnd, None, Some, not, length, map};
 ghost use Rattle.std.specs.Prelude.{if◌then◌else◌};
 ghost use Rattle.sarif_match.specs.Partners.{seen_from_end};
-ghost use Rattle.sarif_match.specs.Seen.{filled, is_white, packed, packed_snippet, seen};
+ghost use Rattle.sarif_model.specs.WhiteSpace.{is_white_space};
+ghost use Rattle.sarif_match.specs.Seen.{filled, packed, packed_snippet, seen};
 
 use sarif_model::{Message, Pairs, Place, Record, Sequence, Text};
 use std::alloc::{AllocError, Global};
@@ -137,7 +138,7 @@ fn packed(alloc: Global, text: &str) -> Result<Text, AllocError>
 
 /// Whether this is a character of white space.
 fn is_white_char(c: char) -> bool
-    ensures { result ≡ is_white c }
+    ensures { result ≡ is_white_space c }
 {
     matches!(c, ' ' | '\t' | '\n' | '\u{c}' | '\r')
 }
@@ -147,11 +148,4 @@ pub(crate) fn is_filled(member: &(Text, Text)) -> bool
     ensures { result ≡ not (length member.now.1 == 0) }
 {
     !member.1.as_str().is_empty()
-}
-
-/// Whether this is the byte of a space, a tab, a line feed, a form feed or a carriage return.
-pub(crate) fn is_white(byte: u8) -> bool
-    ensures { result ≡ is_white byte }
-{
-    matches!(byte, b' ' | b'\t' | b'\n' | 0x0c | b'\r')
 }

@@ -113,7 +113,7 @@ fn begins_with(members: &[(Text, Text)], member: &(Text, Text)) -> bool
     }
 }
 
-/// The same, by going through the others for each member.
+/// Whether two lists have a filled member in common, by comparing each member with all others.
 fn share_any(members: &[(Text, Text)], others: &[(Text, Text)]) -> bool
     ensures { result ≡ share_member (filled members.now) (filled others.now) }
 {

@@ -11,7 +11,7 @@ use sarif_model::{Record, Text};
 use std::alloc::{AllocError, Global};
 use std::collections::BTreeSet;
 
-/// Returns the tiers of a merge of these results in a version, in order. Each tier of a fingerprint name stands once
+/// Returns the tiers of a merge of these results in a version, in order. Each tier of a fingerprint name occurs once
 /// for each name of either list, the greatest name first; in version 3 only names with a value that isn't the empty
 /// string count. Returns `AllocError` if memory for the list runs out.
 pub fn tiers(

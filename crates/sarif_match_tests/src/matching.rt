@@ -81,7 +81,7 @@ fn expect_among(
     Ok(())
 }
 
-/// The same for results that are not made yet.
+/// Makes the results from sketches, then asserts their matches and states, and which baseline results are matched.
 fn expect(
     rt: &(impl Abort + AllocGlobal),
     current: &[Sketch],

@@ -13,7 +13,7 @@ use Rattle.sarif_match.specs.Tiers.{tiers_of}
 abbrev pub key_at : Tier → List Record → ℕ → Option KeyParts
 key_at tier rs i = option_and_then (λ r. key_of r tier) (slice_get rs i)
 
--- the same in a version
+-- the key of result i at a tier in a version, if there is such a result and it has one
 abbrev pub key_in_at : MatchingVersion → Tier → List Record → ℕ → Option KeyParts
 key_in_at version tier rs i = option_and_then (λ r. key_in version r tier) (slice_get rs i)
 

@@ -9,7 +9,8 @@ pub returns-then-eq : goal.returns-then-eq
 returns-then-eq c =
     let group = group_of c.args.finding.now in
     let own = c.member-item.result in
-    let found = value_of-here c.args.name.now c.args.finding.now.full c.loop-member.member-index own (search rules) (omega (arith, ap length c.as_slice-member-items.ensures)) (search rules) c.loop-member.invariant in
+    let found = value_of-here c.args.name.now c.args.finding.now.full c.loop-member.member-index own (search rules)
+    (omega (arith, ap length c.as_slice-member-items.ensures)) (search rules) c.loop-member.invariant in
     ap (λ (g : Group). Some (fingerprint_here_parts g own.0 own.1)) c.group_of.ensures
     ∙ ap (λ (name : List ℕ). Some (fingerprint_here_parts group name own.1)) (same_text _ _ (search rules))
     ∙ sym (ap (option_map (λ (value : List ℕ). fingerprint_here_parts group c.args.name.now value)) found)

@@ -6,4 +6,5 @@ use Rattle.sarif_match.proofs.finer_tiers.add_filled_names.Given as goal
 
 abbrev pub invariant-loop-finding : goal.invariant-loop-finding
 invariant-loop-finding l =
-    with_names (map (λ name. name.now) (keys l.names)) (names_of (map seen (drop l.finding-index l.findings))) ≡ with_names (map (λ name. name.now) (keys l.fn.names)) (names_of (map seen l.findings))
+    with_names (map (λ name. name.now) (keys l.names)) (names_of (map seen (drop l.finding-index l.findings)))
+    ≡ with_names (map (λ name. name.now) (keys l.fn.names)) (names_of (map seen l.findings))

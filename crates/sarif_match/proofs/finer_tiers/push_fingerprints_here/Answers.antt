@@ -9,4 +9,6 @@ use Rattle.sarif_match.proofs.finer_tiers.push_fingerprints_here.Goals as goal
 pub returns : goal.returns
 returns c =
     let all = take_all c.loop-name.name-index c.deref-name-items.result.now (omega arith) ∙ c.deref-name-items.ensures.value ∙ c.in_ok-descending.ensures in
-    c.loop-name.invariant ∙ ap (λ (names : List (Bor (List ℕ))). c.args.tiers.now.items ++ map (λ (name : Bor (List ℕ)). FingerprintHere name.now) names) all ∙ ap (λ (tiers : List Tier). c.args.tiers.now.items ++ tiers) (fingerprints_here-reverse (keys c.args.names.now))
+    c.loop-name.invariant ∙ ap
+    (λ (names : List (Bor (List ℕ))). c.args.tiers.now.items ++ map (λ (name : Bor (List ℕ)). FingerprintHere name.now) names) all
+    ∙ ap (λ (tiers : List Tier). c.args.tiers.now.items ++ tiers) (fingerprints_here-reverse (keys c.args.names.now))

@@ -8,5 +8,7 @@ pub returns-then-eq : goal.returns-then-eq
 returns-then-eq c =
     let tool = c.args.finding.now.tool in
     let own = c.loop-own-item.result in
-    let found = value_of-here c.args.name.now c.args.finding.now.full c.loop-own.own-index own (search rules) (omega (arith, ap length c.as_slice-own-items.ensures)) (search rules) c.loop-own.invariant in
-    ap (λ (name : List ℕ). Some (fingerprint_parts tool name own.1)) (same_text _ _ (search rules)) ∙ sym (ap (option_map (λ (value : List ℕ). fingerprint_parts tool c.args.name.now value)) found)
+    let found = value_of-here c.args.name.now c.args.finding.now.full c.loop-own.own-index own (search rules)
+    (omega (arith, ap length c.as_slice-own-items.ensures)) (search rules) c.loop-own.invariant in
+    ap (λ (name : List ℕ). Some (fingerprint_parts tool name own.1)) (same_text _ _ (search rules))
+    ∙ sym (ap (option_map (λ (value : List ℕ). fingerprint_parts tool c.args.name.now value)) found)

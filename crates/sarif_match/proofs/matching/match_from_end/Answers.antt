@@ -12,7 +12,8 @@ turned-requires-clause-below g c =
     let progress = c.in_ok-progress.progress in
     let told : progress.partners.items ≡ partners_after cs bs tiers = search rules in
     let marked : length progress.taken.items ≡ length bs = search rules in
-    below_marks c.args.current.now c.args.baseline.now tiers cs bs progress.partners.items progress.taken.items c.in_ok-current_seen.ensures c.in_ok-baseline_seen.ensures told marked
+    below_marks c.args.current.now c.args.baseline.now tiers cs bs progress.partners.items progress.taken.items c.in_ok-current_seen.ensures
+    c.in_ok-baseline_seen.ensures told marked
 
 pub turned-requires-clause-few : goal.turned-requires-clause-few
 turned-requires-clause-few g c =
@@ -22,7 +23,8 @@ turned-requires-clause-few g c =
     let progress = c.in_ok-progress.progress in
     let told : progress.partners.items ≡ partners_after cs bs tiers = search rules in
     let marked : length progress.taken.items ≡ length bs = search rules in
-    few_marks c.args.current.now c.args.baseline.now tiers cs bs progress.partners.items progress.taken.items c.in_ok-current_seen.ensures c.in_ok-baseline_seen.ensures told marked most_results c.requires.baseline
+    few_marks c.args.current.now c.args.baseline.now tiers cs bs progress.partners.items progress.taken.items c.in_ok-current_seen.ensures
+    c.in_ok-baseline_seen.ensures told marked most_results c.requires.baseline
 
 pub returns : goal.returns
 returns g c =
@@ -32,4 +34,6 @@ returns g c =
     let progress = c.in_ok-progress.progress in
     let told : progress.partners.items ≡ partners_after cs bs tiers = search rules in
     let marked : length progress.taken.items ≡ length bs = search rules in
-    subst (λ (l : List (Option ℕ)). IfOk c.turned.result (λ matching. matching ≡ l)) (turned_is c.args.current.now c.args.baseline.now tiers cs bs progress.partners.items progress.taken.items c.in_ok-current_seen.ensures c.in_ok-baseline_seen.ensures told marked c.in_ok-tiers.ensures) c.turned.ensures
+    subst (λ (l : List (Option ℕ)). IfOk c.turned.result (λ matching. matching ≡ l))
+    (turned_is c.args.current.now c.args.baseline.now tiers cs bs progress.partners.items progress.taken.items c.in_ok-current_seen.ensures
+    c.in_ok-baseline_seen.ensures told marked c.in_ok-tiers.ensures) c.turned.ensures

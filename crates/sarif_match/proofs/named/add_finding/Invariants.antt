@@ -8,4 +8,5 @@ use Rattle.sarif_match.proofs.named.add_finding.Given as goal
 
 abbrev pub invariant-loop-name : goal.invariant-loop-name
 invariant-loop-name g l =
-    (q : List ℕ) → with_parts (group_at l.named q) ≡ with_parts (group_at l.fn.named q) ++ with_key l.number (option_map (λ value. fingerprint_parts l.finding.tool q value) (value_of q (take l.name-index l.name-items))) []
+    (q : List ℕ) → with_parts (group_at l.named q) ≡ with_parts (group_at l.fn.named q)
+    ++ with_key l.number (option_map (λ value. fingerprint_parts l.finding.tool q value) (value_of q (take l.name-index l.name-items))) []

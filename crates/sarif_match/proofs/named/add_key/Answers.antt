@@ -17,7 +17,10 @@ returns-in-Some g c = λ q.
     let found : get same_name c.args.named.now c.args.name ≡ Some c.in-Some.group.now = search rules in
     let there : IsSome (get same_name c.args.named.now c.args.name) = search rules in
     let written : c.put_last.new.group.items ≡ put c.in-Some.group.now.items = search rules in
-    read-updated (on_texts_equal (λ (name : Bor (List ℕ)). name.now)) group_of put c.args.named.now (c.get_mut.follows.lender c.put_last.new.group) c.args.name query c.put_last.new.group (((c.get_mut.follows.holds c.put_last.new.group).3 there).0 query) (written ∙ sym (ap (λ (o : Option (Vec (ℕ × Key) Global)). put (group_of o)) found))
+    read-updated (on_texts_equal (λ (name : Bor (List ℕ)). name.now)) group_of put c.args.named.now
+    (c.get_mut.follows.lender c.put_last.new.group) c.args.name query c.put_last.new.group
+    (((c.get_mut.follows.holds c.put_last.new.group).3 there).0 query)
+    (written ∙ sym (ap (λ (o : Option (Vec (ℕ × Key) Global)). put (group_of o)) found))
 
 pub returns : goal.returns
 returns g c = λ q.
@@ -26,4 +29,6 @@ returns g c = λ q.
     let same : c.get_mut.follows.lender-at-none ≡ c.args.named.now = search rules in
     let none : get same_name c.args.named.now c.args.name ≡ None = search rules in
     let items : c.in_ok-group.group.items ≡ put [] = search rules in
-    read-updated (on_texts_equal (λ (name : Bor (List ℕ)). name.now)) group_of put c.args.named.now c.insert.new.self c.args.name query c.in_ok-group.group (rw same at (c.in_ok-insert.ensures.updates.0 query)) (items ∙ sym (ap (λ (o : Option (Vec (ℕ × Key) Global)). put (group_of o)) none))
+    read-updated (on_texts_equal (λ (name : Bor (List ℕ)). name.now)) group_of put c.args.named.now c.insert.new.self c.args.name query
+    c.in_ok-group.group (rw same at (c.in_ok-insert.ensures.updates.0 query))
+    (items ∙ sym (ap (λ (o : Option (Vec (ℕ × Key) Global)). put (group_of o)) none))

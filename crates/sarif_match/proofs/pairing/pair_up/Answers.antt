@@ -8,9 +8,12 @@ pub loop-number-preserved : goal.loop-number-preserved
 loop-number-preserved g c =
     let e = c.loop-number-item.result in
     let at = c.loop-number.number-index in
-    let new : c.match-take_first.pairs.items ≡ pushed c.loop-number.pairs.items e.0 c.take_first.result = elim c.match-take_first.branch [ in-Some+in_ok-push w ↦ search rules | in_default w ↦ search rules ] in
+    let new : c.match-take_first.pairs.items ≡ pushed c.loop-number.pairs.items e.0 c.take_first.result =
+    elim c.match-take_first.branch [ in-Some+in_ok-push w ↦ search rules | in_default w ↦ search rules ] in
     let popped = c.take_first.ensures.first ∙ ap (λ (ns : List ℕ). slice_get ns 0) (c.loop-number.invariant.queues e.1) in
     record {
-      queues = λ q. queue_emptied same_key q c.args.current.now c.args.baseline.now at e _ _ c.loop-number-item.is c.loop-number-test.true (c.take_first.ensures.rest q) (c.loop-number.invariant.queues q);
-      told = told_more same_key c.args.current.now c.args.baseline.now at e c.loop-number.pairs.items c.match-take_first.pairs.items c.take_first.result _ c.loop-number-item.is c.loop-number-test.true popped new c.loop-number.invariant.told;
+      queues = λ q. queue_emptied same_key q c.args.current.now c.args.baseline.now at e _ _ c.loop-number-item.is c.loop-number-test.true
+          (c.take_first.ensures.rest q) (c.loop-number.invariant.queues q);
+      told = told_more same_key c.args.current.now c.args.baseline.now at e c.loop-number.pairs.items c.match-take_first.pairs.items
+          c.take_first.result _ c.loop-number-item.is c.loop-number-test.true popped new c.loop-number.invariant.told;
     }

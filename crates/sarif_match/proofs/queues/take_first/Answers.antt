@@ -15,4 +15,7 @@ pub returns-clause-rest : goal.returns-clause-rest
 returns-clause-rest g c = λ q.
     let found : get same_key c.args.queues.now c.args.key.now ≡ Some c.in_ok-queue.queue.now = search rules in
     let there : IsSome (get same_key c.args.queues.now c.args.key.now) = search rules in
-    read-updated laws-law items_of (drop 1) c.args.queues.now (c.get_mut.follows.lender c.pop_front.new.self) c.args.key.now q c.pop_front.new.self (((c.get_mut.follows.holds c.pop_front.new.self).3 there).0 q) (c.pop_front.ensures.rest ∙ sym (ap (λ (o : Option (VecDeque ℕ Global)). drop 1 (items_of o)) found))
+    read-updated laws-law items_of (drop 1) c.args.queues.now
+    (c.get_mut.follows.lender c.pop_front.new.self) c.args.key.now q c.pop_front.new.self
+    (((c.get_mut.follows.holds c.pop_front.new.self).3 there).0 q)
+    (c.pop_front.ensures.rest ∙ sym (ap (λ (o : Option (VecDeque ℕ Global)). drop 1 (items_of o)) found))

@@ -12,7 +12,8 @@ returns-then-is_first c =
     let old = c.loop-member.rest.now in
     let first : (not (length m.1 == 0) && begins_with m (rest_after m old)) ≡ true = search rules in
     sym (ap (λ (b : Bool). b || share_member (filled (drop (c.loop-member.member-index + 1) all)) (filled (rest_after m old))) first)
-    ∙ shared_one all old c.loop-member.member-index m _ c.member-item.is c.loop-member-test.true c.requires.members c.loop-member.invariant.rises c.loop-member.invariant.told
+    ∙ shared_one all old c.loop-member.member-index m _ c.member-item.is c.loop-member-test.true c.requires.members
+    c.loop-member.invariant.rises c.loop-member.invariant.told
 
 pub loop-member-preserved : goal.loop-member-preserved
 loop-member-preserved c =
@@ -24,6 +25,7 @@ loop-member-preserved c =
     record {
       told = ap (λ l. share_member (filled (drop (c.loop-member.member-index + 1) all)) (filled l)) now
           ∙ sym (ap (λ (b : Bool). b || share_member (filled (drop (c.loop-member.member-index + 1) all)) (filled (rest_after m old))) other)
-          ∙ shared_one all old c.loop-member.member-index m _ c.member-item.is c.loop-member-test.true c.requires.members c.loop-member.invariant.rises c.loop-member.invariant.told;
+          ∙ shared_one all old c.loop-member.member-index m _ c.member-item.is c.loop-member-test.true c.requires.members
+          c.loop-member.invariant.rises c.loop-member.invariant.told;
       rises = ap (λ l. rises_from None l) now ∙ rises_after_one m old c.loop-member.invariant.rises;
     }

@@ -5,4 +5,5 @@ use Rattle.sarif_match.proofs.tier_list.add_names.Given as goal
 
 abbrev pub invariant-loop-finding : goal.invariant-loop-finding
 invariant-loop-finding l =
-    with_names (map (λ name. name.now) (keys l.names)) (names_of (drop l.finding-index l.findings)) ≡ with_names (map (λ name. name.now) (keys l.fn.names)) (names_of l.findings)
+    with_names (map (λ name. name.now) (keys l.names)) (names_of (drop l.finding-index l.findings))
+    ≡ with_names (map (λ name. name.now) (keys l.fn.names)) (names_of l.findings)

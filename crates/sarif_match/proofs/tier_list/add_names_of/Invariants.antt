@@ -5,4 +5,5 @@ use Rattle.sarif_match.proofs.tier_list.add_names_of.Given as goal
 
 abbrev pub invariant-loop-name : goal.invariant-loop-name
 invariant-loop-name l =
-    with_names (map (λ name. name.now) (keys l.names)) (map (λ pair. pair.0) (drop l.name-index l.fingerprints)) ≡ with_names (map (λ name. name.now) (keys l.fn.names)) (map (λ pair. pair.0) l.fingerprints)
+    with_names (map (λ name. name.now) (keys l.names)) (map (λ pair. pair.0) (drop l.name-index l.fingerprints))
+    ≡ with_names (map (λ name. name.now) (keys l.fn.names)) (map (λ pair. pair.0) l.fingerprints)
