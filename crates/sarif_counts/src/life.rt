@@ -43,7 +43,7 @@ pub struct Life {
 }
 
 impl Life {
-    /// Nothing, for a merge of which nothing was requested besides its log.
+    /// Nothing, for a merge that was requested to write only its log.
     pub fn none() -> Life
         ensures suppressions { result.suppressions ≡ None }
         ensures unused { result.unused ≡ None }

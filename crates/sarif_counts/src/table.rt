@@ -15,7 +15,7 @@ use std::alloc::{AllocError, Global};
 /// The names of the columns: a state's active results by level, and all its suppressed ones.
 const HEADING: &str = "state           error    warning       note       none suppressed\n";
 
-/// Returns the counts as a table of six lines, each with a newline: a heading, one line for each of the states
+/// Returns a table of the counts in six lines, each with a newline: a heading, one line for each of the states
 /// new, unchanged, updated and absent, and the verdict with the hits and the policy's `max`. Returns `AllocError`
 /// if memory for it runs out.
 pub fn summary(alloc: Global, counts: &Counts, policy: &Policy) -> Result<String, AllocError>

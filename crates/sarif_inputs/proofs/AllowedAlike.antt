@@ -47,13 +47,16 @@ module _ (checks : Checks) where
       → source_faults runs results (numbered with_files name n sources) ≡ source_faults runs results (numbered without_files name n sources)
   faults_alike name n runs results [] alike = refl
   faults_alike name n runs results (bytes ∷ rest) alike =
-      λ i. (reading_faults (name n) (alike.0 i) ++ limit_faults (name n) (runs + length (readable (alike.0 i))) (results + results_total (readable (alike.0 i))))
+      λ i.
+      (reading_faults (name n) (alike.0 i)
+      ++ limit_faults (name n) (runs + length (readable (alike.0 i))) (results + results_total (readable (alike.0 i))))
       ++ faults_alike name (n + 1) (runs + length (readable (alike.0 i))) (results + results_total (readable (alike.0 i))) rest alike.1 i
 
 pub current_alike : (inputs : Inputs) → AllByRecursion IsReadAlike inputs.logs → input_runs (allowing true inputs) ≡ input_runs (allowing false inputs)
 current_alike inputs alike = runs_alike inputs.checks Log 0 inputs.logs alike
 
-pub baseline_alike : (inputs : Inputs) → AllByRecursion IsReadAlike inputs.baselines → baseline_runs (allowing true inputs) ≡ baseline_runs (allowing false inputs)
+pub baseline_alike : (inputs : Inputs) → AllByRecursion IsReadAlike inputs.baselines
+    → baseline_runs (allowing true inputs) ≡ baseline_runs (allowing false inputs)
 baseline_alike inputs alike = runs_alike inputs.checks Baseline 0 inputs.baselines alike
 
 sources_alike : (inputs : Inputs) → AllByRecursion IsReadAlike inputs.logs → AllByRecursion IsReadAlike inputs.baselines

@@ -17,10 +17,12 @@ use Rattle.sarif_inputs.proofs.ReadFacts.{placed-append, front, back}
 use Rattle.sarif_inputs.proofs.SourceRuns.{total_append}
 use Rattle.sarif_model.specs.Limits.{most_results, most_runs, most_sources}
 
-module _ (checks : Checks) (ls bs : List (List ℕ)) (all : List OpenedRun) (n : ℕ) (are : map placed_of all ≡ placed (sources_of checks ls bs)) (count : n ≡ length (placed (numbered checks Log 0 ls))) where
+module _ (checks : Checks) (ls bs : List (List ℕ)) (all : List OpenedRun) (n : ℕ)
+    (are : map placed_of all ≡ placed (sources_of checks ls bs)) (count : n ≡ length (placed (numbered checks Log 0 ls))) where
   pub logs_within : n ≤ length all
   logs_within =
-      let both = ap length (are ∙ placed-append (numbered checks Log 0 ls) (numbered checks Baseline 0 bs)) ∙ length-append (placed (numbered checks Log 0 ls)) (placed (numbered checks Baseline 0 bs)) in
+      let both = ap length (are ∙ placed-append (numbered checks Log 0 ls) (numbered checks Baseline 0 bs))
+      ∙ length-append (placed (numbered checks Log 0 ls)) (placed (numbered checks Baseline 0 bs)) in
       omega (arith, both, count, length-map all placed_of)
 
   pub runs_of_logs : map placed_of (take n all) ≡ placed (numbered checks Log 0 ls)
@@ -31,7 +33,8 @@ module _ (checks : Checks) (ls bs : List (List ℕ)) (all : List OpenedRun) (n :
 
   few_in_parts : length all ≤ most_runs → length (take n all) + length (drop n all) ≤ most_runs
   few_in_parts few =
-      let both = ap length (are ∙ placed-append (numbered checks Log 0 ls) (numbered checks Baseline 0 bs)) ∙ length-append (placed (numbered checks Log 0 ls)) (placed (numbered checks Baseline 0 bs)) in
+      let both = ap length (are ∙ placed-append (numbered checks Log 0 ls) (numbered checks Baseline 0 bs))
+      ∙ length-append (placed (numbered checks Log 0 ls)) (placed (numbered checks Baseline 0 bs)) in
       let logs = ap length runs_of_logs in
       let baselines = ap length runs_of_baselines in
       omega (arith, few, both, logs, baselines, length-map all placed_of, length-map (take n all) placed_of, length-map (drop n all) placed_of)

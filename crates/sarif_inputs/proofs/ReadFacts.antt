@@ -13,7 +13,7 @@ use Rattle.sarif_read.specs.Reading.{log_of}
 use Rattle.sarif_model.specs.declared.merge_fault.MergeFault.{MergeFault}
 use Rattle.sarif_model.specs.declared.merge_fault.Source.{Source}
 use Rattle.sarif_model.specs.declared.merge_fault.Source.TheVariants.{Log, Baseline}
-use Rattle.sarif_inputs.specs.Inputs.{Sourced, numbered, placed, placed_from, readable, reads_regions, runs_in}
+use Rattle.sarif_inputs.specs.Inputs.{Sourced, numbered, placed, placed_from, readable, record_options, runs_in}
 use Rattle.sarif_runs.specs.Judging.{skips, run_values}
 use Rattle.sarif_runs.specs.Placed.{AreReadWith, Placed}
 use Rattle.sarif_inputs.proofs.SourceRuns.{data_placed}
@@ -34,7 +34,9 @@ log_from checks k n (run ∷ runs) = (refl, log_from checks k (n + 1) runs)
 pub log_sides : (checks : Checks) (k : ℕ) (ls : List (List ℕ)) → AllByRecursion (λ p. skips p.source ≡ false) (placed (numbered checks Log k ls))
 log_sides checks k [] = tt
 log_sides checks k (bytes ∷ ls) =
-    all-append (λ p. skips p.source ≡ false) (placed_from checks (Log k) 0 (readable (log_of checks.allow_external bytes))) (placed (numbered checks Log (k + 1) ls)) (log_from checks k 0 (readable (log_of checks.allow_external bytes))) (log_sides checks (k + 1) ls)
+    all-append (λ p. skips p.source ≡ false) (placed_from checks (Log k) 0 (readable (log_of checks.allow_external bytes)))
+    (placed (numbered checks Log (k + 1) ls)) (log_from checks k 0 (readable (log_of checks.allow_external bytes)))
+    (log_sides checks (k + 1) ls)
 
 baseline_from : (checks : Checks) (k n : ℕ) (runs : List Data) → AllByRecursion (λ p. skips p.source ≡ true) (placed_from checks (Baseline k) n runs)
 baseline_from checks k n [] = tt
@@ -43,20 +45,24 @@ baseline_from checks k n (run ∷ runs) = (refl, baseline_from checks k (n + 1) 
 pub baseline_sides : (checks : Checks) (k : ℕ) (bs : List (List ℕ)) → AllByRecursion (λ p. skips p.source ≡ true) (placed (numbered checks Baseline k bs))
 baseline_sides checks k [] = tt
 baseline_sides checks k (bytes ∷ bs) =
-    all-append (λ p. skips p.source ≡ true) (placed_from checks (Baseline k) 0 (readable (log_of checks.allow_external bytes))) (placed (numbered checks Baseline (k + 1) bs)) (baseline_from checks k 0 (readable (log_of checks.allow_external bytes))) (baseline_sides checks (k + 1) bs)
+    all-append (λ p. skips p.source ≡ true) (placed_from checks (Baseline k) 0 (readable (log_of checks.allow_external bytes)))
+    (placed (numbered checks Baseline (k + 1) bs)) (baseline_from checks k 0 (readable (log_of checks.allow_external bytes)))
+    (baseline_sides checks (k + 1) bs)
 
 -- ---- regions
 
-regions_from : (checks : Checks) (source : Source) (n : ℕ) (runs : List Data) → AreReadWith (reads_regions checks) (placed_from checks source n runs)
-regions_from checks source n [] = tt
-regions_from checks source n (run ∷ runs) = (refl, regions_from checks source (n + 1) runs)
+records_from : (checks : Checks) (source : Source) (n : ℕ) (runs : List Data) → AreReadWith (record_options checks) (placed_from checks source n runs)
+records_from checks source n [] = tt
+records_from checks source n (run ∷ runs) = (refl, records_from checks source (n + 1) runs)
 
 -- all sources are read with regions, or all without
-pub read_alike : (checks : Checks) (name : ℕ → Source) (k : ℕ) (sources : List (List ℕ)) → AreReadWith (reads_regions checks) (placed (numbered checks name k sources))
+pub read_alike : (checks : Checks) (name : ℕ → Source) (k : ℕ) (sources : List (List ℕ))
+    → AreReadWith (record_options checks) (placed (numbered checks name k sources))
 read_alike checks name k [] = tt
 read_alike checks name k (bytes ∷ sources) =
     let here = readable (log_of checks.allow_external bytes) in
-    all-append (λ p. p.options.read_regions ≡ reads_regions checks) (placed_from checks (name k) 0 here) (placed (numbered checks name (k + 1) sources)) (regions_from checks (name k) 0 here) (read_alike checks name (k + 1) sources)
+    all-append (λ p. p.options.records ≡ record_options checks) (placed_from checks (name k) 0 here)
+    (placed (numbered checks name (k + 1) sources)) (records_from checks (name k) 0 here) (read_alike checks name (k + 1) sources)
 
 -- ---- numbers with a fraction
 
@@ -71,7 +77,9 @@ module _ (law : (allow : Bool) (bytes : List ℕ) (runs : List Data) → log_of 
       let here = placed_from s.checks s.source 0 (runs_in s) in
       ap (list_any has_float) (map-append (λ p. p.run) here (placed rest))
       ∙ (list_any-append has_float (run_values here) (run_values (placed rest))
-      ∙ (ap (λ b. b || list_any has_float (run_values (placed rest))) (ap (list_any has_float) (data_placed s.checks s.source 0 (runs_in s)) ∙ readable_whole s.checks.allow_external s.bytes (log_of s.checks.allow_external s.bytes) refl)
+      ∙ (ap (λ b. b || list_any has_float (run_values (placed rest)))
+      (ap (list_any has_float) (data_placed s.checks s.source 0 (runs_in s))
+      ∙ readable_whole s.checks.allow_external s.bytes (log_of s.checks.allow_external s.bytes) refl)
       ∙ whole rest))
 
 -- ---- the two parts of all runs

@@ -48,7 +48,8 @@ read_of_index allow bytes found (Err e) is ok few few_runs err = record {
 told_by : (fault : ReadFault) → refusal_of_index index.NotJson ≡ refusal.Fault fault → whole NotJson ≡ fault
 told_by fault same = cc
 
-pub read_without_index : (allow : Bool) (bytes : List ℕ) (fault : IndexFault) → IsIndexed (without_mark bytes) (Err fault) → IsParsedFrom allow bytes (Err (refusal_of_index fault))
+pub read_without_index : (allow : Bool) (bytes : List ℕ) (fault : IndexFault) → IsIndexed (without_mark bytes) (Err fault)
+    → IsParsedFrom allow bytes (Err (refusal_of_index fault))
 read_without_index allow bytes index.NotJson none = record {
   ok = tt;
   few_runs = tt;

@@ -11,18 +11,21 @@ use Rattle.sarif_inputs.specs.Internal.Parsed.{Parsed, IsParsedFrom, AreParsedFr
 abbrev Found : Type 0
 Found = Result (List Token) IndexFault
 
-each_read : (allow : Bool) (shown : List (Bor Found)) (rs : List Parsed) → AllZip (λ p r. IsReadFrom allow p.now r) shown rs → AreReadFrom allow (map (λ p. p.now) shown) rs
+each_read : (allow : Bool) (shown : List (Bor Found)) (rs : List Parsed) → AllZip (λ p r. IsReadFrom allow p.now r) shown rs
+    → AreReadFrom allow (map (λ p. p.now) shown) rs
 each_read allow [] [] read = tt
 each_read allow [] (r ∷ rs) read = absurd read
 each_read allow (p ∷ shown) [] read = absurd read
 each_read allow (p ∷ shown) (r ∷ rs) read = (read.0, each_read allow shown rs read.1)
 
 -- what was read from references to these was read from these
-pub read_shown : (allow : Bool) (shown : List (Bor Found)) (ps : List Found) (rs : List Parsed) → map (λ p. p.now) shown ≡ ps → AllZip (λ p r. IsReadFrom allow p.now r) shown rs → AreReadFrom allow ps rs
+pub read_shown : (allow : Bool) (shown : List (Bor Found)) (ps : List Found) (rs : List Parsed) → map (λ p. p.now) shown ≡ ps
+    → AllZip (λ p r. IsReadFrom allow p.now r) shown rs → AreReadFrom allow ps rs
 read_shown allow shown ps rs is read = subst (λ qs. AreReadFrom allow qs rs) is (each_read allow shown rs read)
 
 -- what was read from the indexes of sources was read from the sources
-pub parsed_by : (allow : Bool) (bs : List (List ℕ)) (ps : List Found) (rs : List Parsed) → AreIndexed (map without_mark bs) ps → AreReadFrom allow ps rs → AreParsedFrom allow bs rs
+pub parsed_by : (allow : Bool) (bs : List (List ℕ)) (ps : List Found) (rs : List Parsed) → AreIndexed (map without_mark bs) ps
+    → AreReadFrom allow ps rs → AreParsedFrom allow bs rs
 parsed_by allow [] [] [] indexed read = tt
 parsed_by allow [] [] (r ∷ rs) indexed read = absurd read
 parsed_by allow [] (p ∷ ps) rs indexed read = absurd indexed

@@ -23,14 +23,18 @@ faults_step : (checks : Checks) (name : ℕ → Source) (n runs results now all 
     → faults_with (name n) (log_of checks.allow_external bytes) runs results ≡ []
     → source_faults now all (numbered checks name (n + 1) rest) ≡ source_faults runs results (numbered checks name n (bytes ∷ rest))
 faults_step checks name n runs results now all bytes rest same_now same_all none =
-    let then = source_faults (runs + length (readable (log_of checks.allow_external bytes))) (results + results_total (readable (log_of checks.allow_external bytes))) (numbered checks name (n + 1) rest) in
+    let then = source_faults (runs + length (readable (log_of checks.allow_external bytes)))
+    (results + results_total (readable (log_of checks.allow_external bytes))) (numbered checks name (n + 1) rest) in
     rw (same_now, same_all) (sym (ap (λ faults. faults ++ then) none))
 
 pub source_step : (checks : Checks) (name : ℕ → Source) (n : ℕ) (old new : ReadSoFar) (bytes : List ℕ) (rest : List (List ℕ))
     → map placed_read new.runs.items ≡ map placed_read old.runs.items ++ placed_from checks (name n) 0 (readable (log_of checks.allow_external bytes))
     → new.results ≡ old.results + results_total (readable (log_of checks.allow_external bytes))
     → faults_with (name n) (log_of checks.allow_external bytes) (length old.runs.items) old.results ≡ []
-    → (map placed_read new.runs.items ++ placed (numbered checks name (n + 1) rest) ≡ map placed_read old.runs.items ++ placed (numbered checks name n (bytes ∷ rest))) × (source_faults (length new.runs.items) new.results (numbered checks name (n + 1) rest) ≡ source_faults (length old.runs.items) old.results (numbered checks name n (bytes ∷ rest)))
+    → (map placed_read new.runs.items ++ placed (numbered checks name (n + 1) rest) ≡ map placed_read old.runs.items
+    ++ placed (numbered checks name n (bytes ∷ rest)))
+    × (source_faults (length new.runs.items) new.results (numbered checks name (n + 1) rest)
+    ≡ source_faults (length old.runs.items) old.results (numbered checks name n (bytes ∷ rest)))
 source_step checks name n old new bytes rest runs results none =
     let here = placed_from checks (name n) 0 (readable (log_of checks.allow_external bytes)) in
     let then = placed (numbered checks name (n + 1) rest) in
@@ -55,7 +59,8 @@ total_on s rest =
     ∙ ap (λ ds. results_total ds + results_total (run_values (placed rest))) (data_placed s.checks s.source 0 (runs_in s))
 
 pub faults_append : (runs results : ℕ) (ls bs : List Sourced)
-    → source_faults runs results (ls ++ bs) ≡ source_faults runs results ls ++ source_faults (runs + length (placed ls)) (results + results_total (run_values (placed ls))) bs
+    → source_faults runs results (ls ++ bs)
+    ≡ source_faults runs results ls ++ source_faults (runs + length (placed ls)) (results + results_total (run_values (placed ls))) bs
 faults_append runs results [] bs = rw (add-zero runs, add-zero results) refl
 faults_append runs results (s ∷ ls) bs =
     let now = runs + length (runs_in s) in
@@ -90,7 +95,8 @@ module _ (ls bs : List Sourced) (start : ReadSoFar) (no_runs : start.runs.items 
       → IsOutOfResources e ⊎ (first (source_faults (length start.runs.items) start.results ls) ≡ Some e)
       → IsOutOfResources e ⊎ (first (source_faults 0 0 (ls ++ bs)) ≡ Some e)
   refused_by_logs e refused =
-      let here = still_first (source_faults 0 0 ls) (source_faults (0 + length (placed ls)) (0 + results_total (run_values (placed ls))) bs) e (rw (at_start ls) at refused) in
+      let here = still_first (source_faults 0 0 ls)
+      (source_faults (0 + length (placed ls)) (0 + results_total (run_values (placed ls))) bs) e (rw (at_start ls) at refused) in
       rw (faults_append 0 0 ls bs) here
 
   -- after the logs are read, the errors are those of the baselines

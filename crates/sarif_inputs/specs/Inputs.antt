@@ -1,10 +1,13 @@
 -- What a merge is given, and the runs that can be read from it.
-use Rattle.std.specs.Prelude.{ℕ, ◌+◌, Bool, false, List, [], ◌∷◌, ◌++◌, Option, Result, Ok, Err}
+use Rattle.std.specs.Prelude.{ℕ, ◌+◌, Bool, true, false, List, [], ◌∷◌, ◌++◌, Option, Result, Ok, Err}
 use Rattle.std.specs.List.{flat_map}
 use Rattle.serde_json.specs.Data.{Data}
 use Rattle.sarif_options.specs.declared.checks.Checks.{Checks}
+use Rattle.sarif_runs.specs.declared.run_options.RecordOptions.{RecordOptions}
 use Rattle.sarif_runs.specs.declared.run_options.RunOptions.{RunOptions}
 use Rattle.sarif_runs.specs.Placed.{Placed}
+use Rattle.sarif_match.specs.declared.version.MatchingVersion.{MatchingVersion}
+use Rattle.sarif_match.specs.declared.version.MatchingVersion.TheVariants.{Two, Three}
 use Rattle.sarif_read.specs.declared.read_fault.ReadFault.{ReadFault}
 use Rattle.sarif_read.specs.Reading.{log_of}
 use Rattle.sarif_model.specs.declared.merge_fault.Source.{Source}
@@ -49,16 +52,22 @@ must_succeed checks Suppress = false
 must_succeed checks Output = false
 must_succeed checks Known = false
 
--- whether the regions of results are read: they are not yet
-abbrev pub reads_regions : Checks → Bool
-reads_regions checks = false
+-- whether a version of matching reads regions and snippets
+abbrev pub looks_at_regions : MatchingVersion → Bool
+looks_at_regions Two = false
+looks_at_regions Three = true
+
+-- what the records of results have
+abbrev pub record_options : Checks → RecordOptions
+record_options checks =
+    record { regions = looks_at_regions checks.matching; ignored = checks.ignored }
 
 -- how the runs of this source are read
 abbrev pub run_options : Checks → Source → RunOptions
 run_options checks source =
     record {
       must_succeed = must_succeed checks source;
-      read_regions = reads_regions checks;
+      records = record_options checks;
     }
 
 abbrev pub placed_from : Checks → Source → ℕ → List Data → List Placed

@@ -5,8 +5,8 @@ ghost use Rattle.sarif_inputs.specs.Internal.Allowing.{IsReadAlike, allowing};
 ghost use Rattle.sarif_inputs.specs.Faults.{faults_of};
 ghost use Rattle.sarif_inputs.specs.Inputs.{Inputs, baseline_runs, input_runs};
 
-/// Where each source is read the same whether external property files are allowed or not, the runs of a merge and its
-/// errors are the same too, and so is all that is made of them.
+/// If each source is read the same whether external property files are allowed or not, the runs of a merge and its
+/// errors are the same too, and so is everything that is made from them.
 pub fn allowing_external_files_changes_nothing_without_them()
     ensures current { (inputs : Inputs) → AllByRecursion IsReadAlike inputs.logs
         → input_runs (allowing true inputs) ≡ input_runs (allowing false inputs) }

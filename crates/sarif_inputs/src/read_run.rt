@@ -14,7 +14,7 @@ pub(crate) struct ReadRun<'t, 'a> {
     /// Its number in its source, from 0.
     pub(crate) number: u32,
     /// How it is read.
-    pub(crate) options: RunOptions,
+    pub(crate) options: RunOptions<'t>,
     pub(crate) run: IndexedRun<'t, 'a>,
     ghost whole: { has_float (run_of run) ≡ false },
 }
@@ -26,7 +26,7 @@ impl<'t, 'a> ReadRun<'t, 'a> {
     pub(crate) fn new(
         source: Source,
         number: u32,
-        options: RunOptions,
+        options: RunOptions<'t>,
         run: IndexedRun<'t, 'a>,
     ) -> ReadRun<'t, 'a>
         requires whole { has_float (run_of run) ≡ false }
@@ -34,7 +34,7 @@ impl<'t, 'a> ReadRun<'t, 'a> {
             ≡ record {
               source = source;
               number = number;
-              options = options;
+              options = options.entry;
               run = run_of run.entry;
             } }
     {

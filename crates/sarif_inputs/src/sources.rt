@@ -25,13 +25,14 @@ use crate::opening::open_each;
 use crate::read_run::ReadRun;
 use crate::reading::{ReadLog, read_kinds};
 use json_parts::{Index, IndexFault};
+use sarif_match::MatchingVersion;
 use sarif_model::{
     At, Cause, Fault, MOST_RESULTS, MOST_RUNS, MOST_SOURCES, MergeFault, Refusal, Source,
     SourceKind,
 };
 use sarif_options::Checks;
 use sarif_read::{IndexedRun, ReadFault, read_runs_hold_no_fraction};
-use sarif_runs::{OpenedRun, RunOptions};
+use sarif_runs::{IgnoredNames, OpenedRun, RecordOptions, RunOptions};
 use std::alloc::{AllocError, Global};
 use std::hash::RandomState;
 use std::thread::Threads;
@@ -53,8 +54,8 @@ struct AllRuns<'t, 'a> {
     inputs: u32,
 }
 
-/// At most `MOST_SOURCES` logs and as many baselines: otherwise returns `TooMany` at the first log past the limit,
-/// or else at the first baseline past it.
+/// Checks that there are at most `MOST_SOURCES` logs and at most `MOST_SOURCES` baselines. Returns `TooMany` at the
+/// first log past the limit, if there is one, otherwise at the first baseline past it.
 pub fn check_numbers(logs: usize, baselines: usize) -> Result<(), MergeFault>
     ensures faults { (ls bs : List (List ℕ)) → length ls ≡ logs → length bs ≡ baselines
         → Answers (number_faults Source.Log ls ++ number_faults Source.Baseline bs) result }
@@ -137,8 +138,8 @@ fn count_results(runs: &[IndexedRun<'_, '_>]) -> u32
 }
 
 /// Whether the analysis of a run of this source must have been successful.
-fn must_succeed(checks: Checks, source: Source) -> bool
-    ensures { result ≡ said.must_succeed checks source }
+fn must_succeed(checks: &Checks, source: Source) -> bool
+    ensures { result ≡ said.must_succeed checks.now source }
 {
     match source {
         Source::Log(_) => checks.require_success,
@@ -146,19 +147,39 @@ fn must_succeed(checks: Checks, source: Source) -> bool
     }
 }
 
+/// Whether a version of matching reads regions and snippets.
+fn looks_at_regions(version: MatchingVersion) -> bool
+    ensures { result ≡ said.looks_at_regions version }
+{
+    match version {
+        MatchingVersion::Two => false,
+        MatchingVersion::Three => true,
+    }
+}
+
+/// What the records of results have.
+fn record_options<'o>(checks: &'o Checks) -> RecordOptions<'o>
+    ensures { result ≡ said.record_options checks.now }
+{
+    RecordOptions {
+        regions: looks_at_regions(checks.matching),
+        ignored: IgnoredNames::new(checks.ignored.as_slice()),
+    }
+}
+
 /// How the runs of this source are read.
-fn run_options(checks: Checks, source: Source) -> RunOptions
-    ensures { result ≡ said.run_options checks source }
+fn run_options<'o>(checks: &'o Checks, source: Source) -> RunOptions<'o>
+    ensures { result ≡ said.run_options checks.now source }
 {
     RunOptions {
         must_succeed: must_succeed(checks, source),
-        read_regions: false,
+        records: record_options(checks),
     }
 }
 
 /// Adds the runs of a source with their numbers.
 fn place_runs<'t, 'a>(
-    checks: Checks,
+    checks: &'t Checks,
     source: Source,
     runs: Vec<IndexedRun<'t, 'a>>,
     all: &mut Vec<ReadRun<'t, 'a>>,
@@ -167,7 +188,7 @@ fn place_runs<'t, 'a>(
     requires whole { list_any has_float (map run_of runs.items) ≡ false }
     ensures { OnOk result (map placed_read all.new.items
         ≡ map placed_read all.old.items
-        ++ placed_from checks source 0 (map run_of runs.entry.items)) }
+        ++ placed_from checks.now source 0 (map run_of runs.entry.items)) }
 {
     let mut number = 0;
     for run in runs {
@@ -201,22 +222,22 @@ impl<'t, 'a> ReadSoFar<'t, 'a> {
     /// Adds the runs that were read from a source.
     fn add(
         &mut self,
-        checks: Checks,
+        checks: &'t Checks,
         source: Source,
         parsed: ReadLog<'t, 'a>,
     ) -> Result<(), MergeFault>
         requires counted { IsCounted self.old }
-        requires parsed { (bytes : List ℕ) × IsParsedFrom checks.allow_external bytes parsed }
-        ensures runs { (bytes : List ℕ) → IsParsedFrom checks.allow_external bytes parsed.entry
+        requires parsed { (bytes : List ℕ) × IsParsedFrom checks.now.allow_external bytes parsed }
+        ensures runs { (bytes : List ℕ) → IsParsedFrom checks.now.allow_external bytes parsed.entry
             → OnOk result (map placed_read self.new.runs.items
             ≡ map placed_read self.old.runs.items
-            ++ placed_from checks source 0 (readable (log_of checks.allow_external bytes))) }
-        ensures results { (bytes : List ℕ) → IsParsedFrom checks.allow_external bytes parsed.entry
+            ++ placed_from checks.now source 0 (readable (log_of checks.now.allow_external bytes))) }
+        ensures results { (bytes : List ℕ) → IsParsedFrom checks.now.allow_external bytes parsed.entry
             → OnOk result (self.new.results
-            ≡ self.old.results + results_total (readable (log_of checks.allow_external bytes))) }
+            ≡ self.old.results + results_total (readable (log_of checks.now.allow_external bytes))) }
         ensures counted { OnOk result (IsCounted self.new) }
-        ensures faults { (bytes : List ℕ) → IsParsedFrom checks.allow_external bytes parsed.entry
-            → Answers (faults_with source (log_of checks.allow_external bytes)
+        ensures faults { (bytes : List ℕ) → IsParsedFrom checks.now.allow_external bytes parsed.entry
+            → Answers (faults_with source (log_of checks.now.allow_external bytes)
             (length self.old.runs.items) self.old.results) result }
         ensures quiet { IsQuiet result }
     {
@@ -232,24 +253,24 @@ impl<'t, 'a> ReadSoFar<'t, 'a> {
     /// Adds the runs that were read from the sources of a kind, in order.
     fn add_all(
         &mut self,
-        checks: Checks,
+        checks: &'t Checks,
         kind: SourceKind,
         logs: Vec<ReadLog<'t, 'a>>,
     ) -> Result<(), MergeFault>
         requires few { length logs.items ≤ most_sources }
         requires counted { IsCounted self.old }
         requires parsed { (sources : List (List ℕ))
-            × AreParsedFrom checks.allow_external sources logs.items }
+            × AreParsedFrom checks.now.allow_external sources logs.items }
         ensures runs { (sources : List (List ℕ))
-            → AreParsedFrom checks.allow_external sources logs.entry.items
+            → AreParsedFrom checks.now.allow_external sources logs.entry.items
             → OnOk result (map placed_read self.new.runs.items
             ≡ map placed_read self.old.runs.items
-            ++ placed (numbered checks (source_of kind) 0 sources)) }
+            ++ placed (numbered checks.now (source_of kind) 0 sources)) }
         ensures counted { OnOk result (IsCounted self.new) }
         ensures faults { (sources : List (List ℕ))
-            → AreParsedFrom checks.allow_external sources logs.entry.items
+            → AreParsedFrom checks.now.allow_external sources logs.entry.items
             → Answers (source_faults (length self.old.runs.items) self.old.results
-            (numbered checks (source_of kind) 0 sources)) result }
+            (numbered checks.now (source_of kind) 0 sources)) result }
         ensures quiet { IsQuiet result }
     {
         let mut number = 0;
@@ -266,7 +287,7 @@ impl<'t, 'a> ReadSoFar<'t, 'a> {
 fn read_all<'t, 'a, R: Threads + Sync>(
     rt: &R,
     alloc: Global,
-    checks: Checks,
+    checks: &'t Checks,
     indexes: &'t [Result<Index<'a>, IndexFault>],
     logs: usize,
     threads: u32,
@@ -275,14 +296,14 @@ fn read_all<'t, 'a, R: Threads + Sync>(
     requires indexes { (ls : List (List ℕ)) × (bs : List (List ℕ))
         × AreIndexesOf ls bs indexes.now logs }
     ensures all { (ls bs : List (List ℕ)) → AreIndexesOf ls bs indexes.now logs
-        → IfOk result (λ runs. map placed_read runs.all.items ≡ placed (sources_of checks ls bs)) }
+        → IfOk result (λ runs. map placed_read runs.all.items ≡ placed (sources_of checks.now ls bs)) }
     ensures inputs { (ls bs : List (List ℕ)) → AreIndexesOf ls bs indexes.now logs
-        → IfOk result (λ runs. runs.inputs ≡ length (placed (numbered checks Source.Log 0 ls))) }
+        → IfOk result (λ runs. runs.inputs ≡ length (placed (numbered checks.now Source.Log 0 ls))) }
     ensures few { IfOk result (λ runs. length runs.all.items ≤ most_runs) }
     ensures few_results { IfOk result
         (λ runs. results_total (run_values (map placed_read runs.all.items)) ≤ most_results) }
     ensures faults { (ls bs : List (List ℕ)) → AreIndexesOf ls bs indexes.now logs
-        → Answers (source_faults 0 0 (sources_of checks ls bs)) result }
+        → Answers (source_faults 0 0 (sources_of checks.now ls bs)) result }
     ensures quiet { IsQuiet result }
 {
     let (first, second) = read_kinds(rt, alloc, indexes, logs, threads, checks.allow_external)?;
@@ -296,9 +317,9 @@ fn read_all<'t, 'a, R: Threads + Sync>(
 
 /// How runs are read and opened.
 #[derive(Clone, Copy)]
-pub struct Opening {
+pub struct Opening<'o> {
     /// What is required of runs beyond the form of a log.
-    pub checks: Checks,
+    pub checks: &'o Checks,
     /// What the tables of their rules and overrides hash with; no result depends on it.
     pub seed: RandomState,
 }
@@ -311,7 +332,7 @@ pub struct Opening {
 pub fn open_sources<'t, 'a, R: Threads + Sync>(
     rt: &R,
     alloc: Global,
-    opening: Opening,
+    opening: Opening<'t>,
     indexes: &'t [Result<Index<'a>, IndexFault>],
     logs: usize,
     threads: u32,
@@ -320,9 +341,9 @@ pub fn open_sources<'t, 'a, R: Threads + Sync>(
     requires indexes { (ls : List (List ℕ)) × (bs : List (List ℕ))
         × AreIndexesOf ls bs indexes.now logs }
     ensures runs { (ls bs : List (List ℕ)) → AreIndexesOf ls bs indexes.now logs
-        → IfOk result (AreRunsOf opening.checks ls bs) }
+        → IfOk result (AreRunsOf opening.entry.checks.now ls bs) }
     ensures faults { (ls bs : List (List ℕ)) → AreIndexesOf ls bs indexes.now logs
-        → Answers (source_faults 0 0 (sources_of opening.checks ls bs)) result }
+        → Answers (source_faults 0 0 (sources_of opening.entry.checks.now ls bs)) result }
     ensures quiet { IsQuiet result }
 {
     let AllRuns { all, inputs } = read_all(rt, alloc, opening.checks, indexes, logs, threads)?;

@@ -1,7 +1,7 @@
 -- Where in its file a result is: the region of its first location, and the text of its snippet (SARIF 2.1.0,
 -- physicalLocation object, "region property", "contextRegion property"; region object, "snippet property"). A member
 -- of the wrong type is treated as missing: no result is rejected for these.
-use Rattle.std.specs.Prelude.{◌^◌, ◌==◌, ℕ, Bool, true, false, ◌&&◌, ◌||◌, nat_lt, List, Option, Some, None, codes, if◌then◌else◌, option_map, option_and_then, unwrap_or}
+use Rattle.std.specs.Prelude.{◌^◌, ◌==◌, ℕ, Bool, true, false, ◌&&◌, nat_lt, List, Option, Some, None, codes, if◌then◌else◌, option_map, option_and_then, unwrap_or}
 use Rattle.std.specs.List.{list_all}
 use Rattle.std.specs.Option.{option_or}
 use Rattle.serde_json.specs.Data.{Data}
@@ -9,6 +9,7 @@ use Rattle.serde_json.specs.Find.{get, as_str, as_array, as_number, as_u64}
 use Rattle.sarif_model.specs.declared.region.Region.{Region}
 use Rattle.sarif_model.specs.Members.{first_of}
 use Rattle.sarif_model.specs.Run.{elements_or_none}
+use Rattle.sarif_model.specs.WhiteSpace.{is_white_space}
 use Rattle.sarif_members.specs.declared.own_members.region.RegionAndSnippet.{RegionAndSnippet}
 
 -- the member of that name, in a value that may be missing
@@ -47,13 +48,9 @@ region_of region =
 
 -- ---- the snippet
 
--- a space, a tab, a line feed, a form feed or a carriage return
-abbrev pub is_blank : ℕ → Bool
-is_blank b = (b == 32) || ((b == 9) || ((b == 10) || ((b == 12) || (b == 13))))
-
 -- the text, unless it is white space alone
 abbrev pub unless_blank : List ℕ → Option (List ℕ)
-unless_blank text = if list_all is_blank text then None else Some text
+unless_blank text = if list_all is_white_space text then None else Some text
 
 -- the text of the snippet of a region
 abbrev pub snippet_in : Option Data → Option (List ℕ)

@@ -1,12 +1,42 @@
-//! What a merge requires of runs.
+//! What a merge requires of runs, and how it matches their results.
+ghost use Rattle.std.specs.Prelude.{◌≡◌, [], false};
+ghost use Rattle.sarif_match.specs.declared.version.MatchingVersion.TheVariants.{Two};
 
-/// What a merge requires of runs beyond the form of a log. The default accepts runs whose analysis
-/// failed, and rejects each run that names external property files.
-#[derive(Clone, Copy, Debug, Default, PartialEq, Eq)]
+use sarif_match::MatchingVersion;
+use sarif_model::{Sequence, Text};
+use std::alloc::Global;
+
+/// What a merge requires of runs beyond the form of a log, and what it compares of their results.
+#[derive(Debug, Drop, PartialEq, Eq)]
 pub struct Checks {
     /// Whether an input run whose analysis failed is rejected (SARIF 2.1.0, "executionSuccessful property").
     pub require_success: bool,
     /// Whether a run may name external property files if none of them holds what a merge reads (SARIF 2.1.0,
     /// "externalPropertyFileReferences property").
     pub allow_external: bool,
+    /// By which version results are matched, and with it whether their regions and snippets are read.
+    pub matching: MatchingVersion,
+    /// The names of fingerprints that are ignored: results are taken as if they had none with these names (SARIF
+    /// 2.1.0, "fingerprints property", "partialFingerprints property").
+    pub ignored: Sequence<Text>,
+}
+
+impl Checks {
+    /// Accepts runs whose analysis failed, rejects each run that names external property files, matches by version 2
+    /// and ignores no fingerprint. Does not allocate.
+    pub fn new(alloc: Global) -> Checks
+        ensures { result ≡ record {
+          require_success = false;
+          allow_external = false;
+          matching = Two;
+          ignored = [];
+        } }
+    {
+        Checks {
+            require_success: false,
+            allow_external: false,
+            matching: MatchingVersion::Two,
+            ignored: Sequence::new(alloc),
+        }
+    }
 }

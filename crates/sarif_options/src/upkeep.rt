@@ -17,7 +17,7 @@ pub struct Renewal {
 /// Which current results become known.
 #[derive(Clone, Copy, Debug, PartialEq, Eq)]
 pub enum Knowing {
-    /// Those that the baseline knows already, and new ones that are neither hits nor suppressed.
+    /// Results that the baseline knows already, and new results that are neither hits nor suppressed.
     Matched,
     /// New hits and new suppressed results too.
     Adopted,

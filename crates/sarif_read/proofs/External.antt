@@ -26,7 +26,8 @@ unfolding check_run
 run_same before run h =
     ap (λ external. check_tool run >>= λ _. external >>= λ _. check_results run >>= λ _. count_results before run) (external_same run h)
 
-each_same : (n before : ℕ) (runs : List Data) → AllByRecursion (λ run. check_external false run ≡ Ok tt) runs → check_each true n before runs ≡ check_each false n before runs
+each_same : (n before : ℕ) (runs : List Data) → AllByRecursion (λ run. check_external false run ≡ Ok tt) runs
+    → check_each true n before runs ≡ check_each false n before runs
 unfolding check_each
 each_same n before [] h = refl
 each_same n before (run ∷ runs) h =

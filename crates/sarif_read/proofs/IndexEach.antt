@@ -15,10 +15,12 @@ use Rattle.sarif_read.specs.Internal.Indexed.{run_of}
 pub front : (nodes : List (List Token)) (i : ℕ) (node : List Token) → i < length nodes → node ≡ get_or nodes i node → drop i nodes ≡ node ∷ drop (i + 1) nodes
 front nodes i node below is = rw (add-one, drop-cons nodes i node, ← is) refl
 
-pub total_push : (runs : List IndexedRun) (run : IndexedRun) → results_total (map run_of (runs ++ run ∷ [])) ≡ results_total (map run_of runs) + length (results_of (run_of run))
+pub total_push : (runs : List IndexedRun) (run : IndexedRun)
+    → results_total (map run_of (runs ++ run ∷ [])) ≡ results_total (map run_of runs) + length (results_of (run_of run))
 total_push [] run = omega arith
 total_push (r ∷ runs) run =
-    let rest : results_total (map run_of (runs ++ run ∷ [])) ≡ results_total (map run_of runs) + length (results_of (run_of run)) = total_push runs run in omega (arith, rest)
+    let rest : results_total (map run_of (runs ++ run ∷ [])) ≡ results_total (map run_of runs) + length (results_of (run_of run)) =
+    total_push runs run in omega (arith, rest)
 
 pub made_push : (runs : List IndexedRun) (run : IndexedRun) (nodes : List (List Token)) (i : ℕ) (node : List Token)
     → map run_of runs ≡ map value_at (take i nodes) → run_of run ≡ value_at node → i < length nodes → node ≡ get_or nodes i node

@@ -21,10 +21,12 @@ use Rattle.sarif_read.proofs.RunOf.{listed_values, rebuilt, stripped_ordered}
 bare_is : (tokens : List Token) (b : Data) → b ≡ stripped (without_member (codes "results") (data_of tokens)) → b ≡ bare (value_at tokens)
 bare_is tokens b is = is ∙ stripped-without (codes "results") (data_of tokens)
 
-pub tool_of_bare : (tokens : List Token) (b : Data) → b ≡ stripped (without_member (codes "results") (data_of tokens)) → check_tool b ≡ check_tool (value_at tokens)
+pub tool_of_bare : (tokens : List Token) (b : Data) → b ≡ stripped (without_member (codes "results") (data_of tokens))
+    → check_tool b ≡ check_tool (value_at tokens)
 tool_of_bare tokens b is = ap check_tool (bare_is tokens b is) ∙ bare_check_tool (value_at tokens)
 
-pub external_of_bare : (allow : Bool) (tokens : List Token) (b : Data) → b ≡ stripped (without_member (codes "results") (data_of tokens)) → check_external allow b ≡ check_external allow (value_at tokens)
+pub external_of_bare : (allow : Bool) (tokens : List Token) (b : Data) → b ≡ stripped (without_member (codes "results") (data_of tokens))
+    → check_external allow b ≡ check_external allow (value_at tokens)
 external_of_bare allow tokens b is = ap (check_external allow) (bare_is tokens b is) ∙ bare_check_external allow (value_at tokens)
 
 -- what has a tool is an object
@@ -36,7 +38,8 @@ named (string s) h = cc
 named (array ds) h = cc
 named (object ms) h = rw (get-without_same (codes "results") (object ms)) refl
 
-pub bare_beside : (tokens : List Token) (b : Data) → b ≡ stripped (without_member (codes "results") (data_of tokens)) → check_tool b ≡ Ok tt → IsTrue (is_bare b)
+pub bare_beside : (tokens : List Token) (b : Data) → b ≡ stripped (without_member (codes "results") (data_of tokens))
+    → check_tool b ≡ Ok tt → IsTrue (is_bare b)
 bare_beside tokens b is h =
     rw (bare_is tokens b is) (named (value_at tokens) (sym (tool_of_bare tokens b is) ∙ h))
 

@@ -45,7 +45,8 @@ of_no_kind (object ms) run is h none = rw is refl
 pub results_wrong : (run d : Data) → Some d ≡ get (codes "results") run → is_some (as_null d) ≡ false → None ≡ as_array d → check_results run ≡ Err BadRun
 results_wrong run d is h none = of_no_kind d run (sym is) h none
 
-pub array_listed : (run d : Data) (ds : List Data) → Some d ≡ get (codes "results") run → Some (items_of ds) ≡ as_array d → Some (array (items_of ds)) ≡ get (codes "results") run
+pub array_listed : (run d : Data) (ds : List Data) → Some d ≡ get (codes "results") run → Some (items_of ds) ≡ as_array d
+    → Some (array (items_of ds)) ≡ get (codes "results") run
 array_listed run d ds is h = rw (is_array_at d (items_of ds) h) at is
 
 pub results_objects : (run d : Data) (ds : List Data) (b : Bool) → Some d ≡ get (codes "results") run → Some (items_of ds) ≡ as_array d → b ≡ are_objects ds

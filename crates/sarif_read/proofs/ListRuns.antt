@@ -35,7 +35,8 @@ of_no_kind (object ms) log is h none = rw is refl
 pub runs_wrong : (log d : Data) → Some d ≡ get (codes "runs") log → is_some (as_null d) ≡ false → None ≡ as_array d → check_runs log ≡ Err NotLog
 runs_wrong log d is h none = of_no_kind d log (sym is) h none
 
-array_runs : (log d : Data) (ds : List Data) → Some d ≡ get (codes "runs") log → Some (items_of ds) ≡ as_array d → Some (array (items_of ds)) ≡ get (codes "runs") log
+array_runs : (log d : Data) (ds : List Data) → Some d ≡ get (codes "runs") log → Some (items_of ds) ≡ as_array d
+    → Some (array (items_of ds)) ≡ get (codes "runs") log
 array_runs log d ds is h = rw (is_array_at d (items_of ds) h) at is
 
 pub runs_array : (log d : Data) (ds : List Data) → Some d ≡ get (codes "runs") log → Some (items_of ds) ≡ as_array d → check_runs log ≡ Ok tt

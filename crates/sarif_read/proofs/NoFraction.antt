@@ -22,7 +22,9 @@ mutual
   pub no_fraction_members : (ms : Members) → members_have_float (stripped_members ms) ≡ false
   no_fraction_members no_members = refl
   no_fraction_members (member k d ms) =
-      elim (is_fractional d) as (λ b. is_fractional d ≡ b → members_have_float (if b then stripped_members ms else member k (stripped d) (stripped_members ms)) ≡ false) [
+      elim (is_fractional d) as
+      (λ b. is_fractional d ≡ b
+      → members_have_float (if b then stripped_members ms else member k (stripped d) (stripped_members ms)) ≡ false) [
         | true ↦ λ e. no_fraction_members ms
         | false ↦ λ e. rw (no_fraction d e, no_fraction_members ms) refl
       ] refl
@@ -56,7 +58,9 @@ mutual
   pub twice_members : (ms : Members) → stripped_members (stripped_members ms) ≡ stripped_members ms
   twice_members no_members = refl
   twice_members (member k d ms) =
-      elim (is_fractional d) as (λ b. is_fractional d ≡ b → stripped_members (if b then stripped_members ms else member k (stripped d) (stripped_members ms)) ≡ (if b then stripped_members ms else member k (stripped d) (stripped_members ms))) [
+      elim (is_fractional d) as
+      (λ b. is_fractional d ≡ b → stripped_members (if b then stripped_members ms else member k (stripped d) (stripped_members ms))
+      ≡ (if b then stripped_members ms else member k (stripped d) (stripped_members ms))) [
         | true ↦ λ e. twice_members ms
         | false ↦ λ e. rw (same_fractions d, e, twice d, twice_members ms) refl
       ] refl

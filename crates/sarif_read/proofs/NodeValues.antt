@@ -14,7 +14,8 @@ use Rattle.sarif_model.specs.Run.{elements_or_none}
 use Rattle.sarif_read.specs.Internal.Listed.{value_at, AreOrdered}
 
 -- a property of a value is that of the stripped value if all arrays have the same one, and so have all objects
-same_property : {A : Type 0} (property : Data → A) → ((ds es : Items) → property (array ds) ≡ property (array es)) → ((ms ns : Members) → property (object ms) ≡ property (object ns))
+same_property : {A : Type 0} (property : Data → A) → ((ds es : Items) → property (array ds) ≡ property (array es))
+    → ((ms ns : Members) → property (object ms) ≡ property (object ns))
     → (d : Data) → property (stripped d) ≡ property d
 same_property property arrays objects null = refl
 same_property property arrays objects (boolean b) = refl

@@ -28,7 +28,8 @@ of_found (Some (object ms)) h = cc
 unit : (x : ⊤) → x ≡ tt
 unit x = refl
 
-pub results_there : (allow : Bool) (run : Data) (before now : ℕ) → check_run allow before run ≡ Ok now → is_some (results_array run) ≡ is_some (member_at (codes "results") run)
+pub results_there : (allow : Bool) (run : Data) (before now : ℕ) → check_run allow before run ≡ Ok now
+    → is_some (results_array run) ≡ is_some (member_at (codes "results") run)
 unfolding check_run checked
 results_there allow run before now h =
     let tool = bind_ok (check_tool run) _ now h in

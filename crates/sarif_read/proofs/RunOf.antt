@@ -129,12 +129,14 @@ few_whole run d is =
     let same : length (results_of d) ≡ length (nodes_of run.results) = ap (λ e. length (results_of e)) is ∙ count_results run in
     rw same run.few
 
-nth_value : (nodes : List (List Token)) (i : ℕ) (tokens : List Token) → i < length nodes → slice_index_or (map value_at nodes) i null ≡ value_at (slice_index_or nodes i tokens)
+nth_value : (nodes : List (List Token)) (i : ℕ) (tokens : List Token) → i < length nodes
+    → slice_index_or (map value_at nodes) i null ≡ value_at (slice_index_or nodes i tokens)
 nth_value [] i tokens below = absurd (omega (arith, below))
 nth_value (node ∷ nodes) zero tokens below = refl
 nth_value (node ∷ nodes) (suc i) tokens below = nth_value nodes i tokens (omega (arith, below))
 
-pub nth_result : (run : IndexedRun) (i : ℕ) (tokens : List Token) → i < length (nodes_of run.results) → result_at (run_of run) i ≡ value_at (slice_index_or (nodes_of run.results) i tokens)
+pub nth_result : (run : IndexedRun) (i : ℕ) (tokens : List Token) → i < length (nodes_of run.results)
+    → result_at (run_of run) i ≡ value_at (slice_index_or (nodes_of run.results) i tokens)
 nth_result run i tokens below =
     ap (λ ds. slice_index_or ds i null) (results_run run) ∙ nth_value (nodes_of run.results) i tokens below
 
@@ -160,7 +162,8 @@ rebuilt_members r x no_members ordered found = cc
 rebuilt_members r x (member l d ms) ordered found =
     rebuilt_step _ r l x d ms refl ordered.0 found (rebuilt_members r x ms ordered.2)
 
-found_in : (r : List ℕ) (ms : Members) → AreMembersOrdered ms → (found : Option Data) → get_member r ms ≡ found → with_member r found (object (without r ms)) ≡ object ms
+found_in : (r : List ℕ) (ms : Members) → AreMembersOrdered ms → (found : Option Data) → get_member r ms ≡ found
+    → with_member r found (object (without r ms)) ≡ object ms
 found_in r ms ordered None is = ap object (without_none r ms is)
 found_in r ms ordered (Some x) is = ap object (rebuilt_members r x ms ordered is)
 

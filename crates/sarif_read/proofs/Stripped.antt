@@ -11,15 +11,16 @@ pub stripped_items_view : (vs : List Value) → stripped_items (items_view vs) �
 stripped_items_view [] = refl
 stripped_items_view (v ∷ vs) = ap (λ ds. Rattle.serde_json.specs.Data.item (stripped (view v)) ds) (stripped_items_view vs)
 
--- a value is no deeper than its array
+-- a value nests at most as deep as its array
 pub item_depth_at : (vs : List Value) (i : ℕ) (v : Value) → i < length vs → depth (view (slice_index_or vs i v)) ≤ items_depth (items_view vs)
 item_depth_at [] i v below = absurd (omega (arith, below))
 item_depth_at (w ∷ vs) zero v below = omega arith
 item_depth_at (w ∷ vs) (suc i) v below =
     let rest : depth (view (slice_index_or vs i v)) ≤ items_depth (items_view vs) = item_depth_at vs i v (omega (arith, below)) in omega (arith, rest)
 
--- a value is no deeper than its object
-pub member_depth_at : (before : List Entry) (k : String Global) (v : Value) (after : List Entry) → depth (view v) ≤ members_depth (members_view (before ++ (k, v) ∷ after))
+-- a value nests at most as deep as its object
+pub member_depth_at : (before : List Entry) (k : String Global) (v : Value) (after : List Entry)
+    → depth (view v) ≤ members_depth (members_view (before ++ (k, v) ∷ after))
 member_depth_at [] k v after = omega arith
 member_depth_at (e ∷ before) k v after =
     let rest : depth (view v) ≤ members_depth (members_view (before ++ (k, v) ∷ after)) = member_depth_at before k v after in omega (arith, rest)
@@ -34,9 +35,11 @@ kept_step false true k w d rest ms same stripped_so left = rw (stripped_so refl,
 kept_step false false k w d rest ms same stripped_so left = cc
 
 pub stripped_from_retain : {F : Type 0} (T : F → String Global → Value → Bool → Value → F → Type 0)
-    → ((f : F) (k : String Global) (v : Value) (b : Bool) (w : Value) (f' : F) → T f k v b w f' → (b ≡ not (is_fractional (view v))) × (IsTrue b → view w ≡ stripped (view v)))
+    → ((f : F) (k : String Global) (v : Value) (b : Bool) (w : Value) (f' : F) → T f k v b w f'
+    → (b ≡ not (is_fractional (view v))) × (IsTrue b → view w ≡ stripped (view v)))
     → (f : F) (es kept : List Entry) → RetainsPairs T f es kept → members_view kept ≡ stripped_members (members_view es)
 stripped_from_retain T tells f [] kept is = ap members_view is
 stripped_from_retain T tells f (e ∷ es) kept (b, w, f', rest, call, more, is) =
     let told = tells f e.0 e.1 b w f' call in
-    ap members_view is ∙ kept_step (is_fractional (view e.1)) b e.0 w (stripped (view e.1)) rest (stripped_members (members_view es)) told.0 told.1 (stripped_from_retain T tells f' es rest more)
+    ap members_view is ∙ kept_step (is_fractional (view e.1)) b e.0 w (stripped (view e.1)) rest
+    (stripped_members (members_view es)) told.0 told.1 (stripped_from_retain T tells f' es rest more)

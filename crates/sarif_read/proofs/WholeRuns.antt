@@ -57,7 +57,8 @@ stripped_runs (boolean b) = refl
 stripped_runs (number n) = refl
 stripped_runs (string s) = refl
 stripped_runs (array ds) = refl
-stripped_runs (object ms) = runs_whole (get_member (codes "runs") (stripped_members ms)) (found_whole (codes "runs") (stripped_members ms) (no_fraction_members ms))
+stripped_runs (object ms) =
+    runs_whole (get_member (codes "runs") (stripped_members ms)) (found_whole (codes "runs") (stripped_members ms) (no_fraction_members ms))
 
 pub bind_ok : {A B E : Type 0} (r : Result A E) (f : A → Result B E) (y : B) → (r >>= f) ≡ Ok y → (x : A) × (r ≡ Ok x) × (f x ≡ Ok y)
 bind_ok (Ok x) f y h = (x, refl, h)

@@ -87,7 +87,7 @@ fn refused_at(number: u32, refusal: Refusal<Fault>) -> Refusal<ReadFault>
     }
 }
 
-/// The runs, each of which has the form of a run, with at most `MOST_RESULTS` results in all.
+/// The runs, if each has the form of a run, with at most `MOST_RESULTS` results in all.
 fn index_each<'t, 'a>(
     alloc: Global,
     nodes: &[Node<'t, 'a>],
@@ -172,10 +172,10 @@ fn checked_runs<'t, 'a>(
     Ok(nodes)
 }
 
-/// The runs of an indexed log (SARIF 2.1.0, "sarifLog object"), of which each is stripped and has
-/// the form of one. Takes no memory for their results but the list of their places. With `allow_external` a run may
-/// name external property files, if none of them holds artifacts, tool components, invocations or results, which
-/// are what is read of a run (SARIF 2.1.0, "externalPropertyFileReferences property").
+/// The runs of an indexed log (SARIF 2.1.0, "sarifLog object"). Each of them is stripped and has the form of a run.
+/// For their results, allocates only the list of their places. With `allow_external` a run may name external
+/// property files, if none of them holds artifacts, tool components, invocations or results: these are the parts of
+/// a run that are read (SARIF 2.1.0, "externalPropertyFileReferences property").
 ///
 /// Returns the first error of the log:
 /// `NotLog`, `WrongVersion` or `TooMany` without a run, `BadRun`, `ExternalProperties` or `TooMany`

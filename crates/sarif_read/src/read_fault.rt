@@ -1,4 +1,4 @@
-//! Why a log is refused.
+//! Why a log is rejected.
 ghost use Rattle.std.specs.Prelude.{◌≡◌};
 ghost use Rattle.sarif_read.specs.Internal.ReadRefusal.{whole, refusal_of_fault, refusal_of_index};
 

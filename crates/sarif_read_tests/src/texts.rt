@@ -1,4 +1,4 @@
-//! Texts that are put together from parts.
+//! Strings that are put together from parts.
 use json_parts::{push_value, text_around};
 use serde_json::{Map, Value};
 use std::test::Fail;

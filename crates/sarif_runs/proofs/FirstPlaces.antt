@@ -18,7 +18,9 @@ first_or-not_here None i = refl
 first_or-not_here (Some j) i = refl
 
 -- the place, by the index of the first that passes, which is the length where none does
-place_at_push : (n len len' : ℕ) (b : Bool) → n ≤ len → len' ≡ len + 1 → cond (ltb (cond (eqb n len) (len + cond b 0 1) n) len') (Some (cond (eqb n len) (len + cond b 0 1) n)) None ≡ first_or (cond (ltb n len) (Some n) None) b len
+place_at_push : (n len len' : ℕ) (b : Bool) → n ≤ len → len' ≡ len + 1
+    → cond (ltb (cond (eqb n len) (len + cond b 0 1) n) len') (Some (cond (eqb n len) (len + cond b 0 1) n)) None
+    ≡ first_or (cond (ltb n len) (Some n) None) b len
 place_at_push n len len' true h e = grind (arith, nat_tests)
 place_at_push n len len' false h e = grind (arith, nat_tests)
 
@@ -27,7 +29,8 @@ position-push p xs y =
     ap (λ m. cond (ltb m (length (xs ++ y ∷ []))) (Some m) None) (position_or_len_push p xs y)
     ∙ place_at_push (position_or_len p xs) (length xs) (length (xs ++ y ∷ [])) (p y) (prefix_len-le-length _ xs) (length_push xs y)
 
-pub position-take : {X : Type 0} (p : X → Bool) (xs : List X) (i : ℕ) (d : X) → i < length xs → position p (take (i + 1) xs) ≡ first_or (position p (take i xs)) (p (get_or xs i d)) i
+pub position-take : {X : Type 0} (p : X → Bool) (xs : List X) (i : ℕ) (d : X) → i < length xs
+    → position p (take (i + 1) xs) ≡ first_or (position p (take i xs)) (p (get_or xs i d)) i
 position-take p xs i d h =
     let long : length (take i xs) ≡ i = length-take-le i xs (omega arith) in
     ap (position p) (take_at_read xs i d h).1
@@ -72,14 +75,17 @@ is_same_descriptor-symmetric d e =
     ∙ ap (λ b. eqb e.component d.component && b) (eqb_symmetric d.rule e.rule)
 
 -- after a new key is put at a descriptor that had none, each descriptor keeps its first place
-pub kept_first : (old new : Descriptor → Option ℕ) (d : Descriptor) (i : ℕ) → ((q : Descriptor) → new q ≡ cond (is_same_descriptor d q) (Some i) (old q)) → old d ≡ None → (q : Descriptor) → new q ≡ first_or (old q) (is_same_descriptor q d) i
+pub kept_first : (old new : Descriptor → Option ℕ) (d : Descriptor) (i : ℕ)
+    → ((q : Descriptor) → new q ≡ cond (is_same_descriptor d q) (Some i) (old q)) → old d ≡ None → (q : Descriptor)
+    → new q ≡ first_or (old q) (is_same_descriptor q d) i
 kept_first old new d i updated none q =
     updated q
     ∙ put_at (is_same_descriptor d q) (old q) i (λ same. subst (λ e. old e ≡ None) (is_same_descriptor-equal d q same) none)
     ∙ ap (λ b. first_or (old q) b i) (is_same_descriptor-symmetric d q)
 
 -- how the first places go on with an override that specifies a descriptor, and with one that specifies none
-pub first_for-some : (q d : Descriptor) (os : List Override) (i : ℕ) (o : Override) → i < length os → (get_or os i o).descriptor ≡ Some d → first_for q (take (i + 1) os) ≡ first_or (first_for q (take i os)) (is_same_descriptor q d) i
+pub first_for-some : (q d : Descriptor) (os : List Override) (i : ℕ) (o : Override) → i < length os → (get_or os i o).descriptor ≡ Some d
+    → first_for q (take (i + 1) os) ≡ first_or (first_for q (take i os)) (is_same_descriptor q d) i
 first_for-some q d os i o h s =
     position-take (specifies q) os i o h
     ∙ ap (λ named. first_or (first_for q (take i os)) (is_descriptor q named) i) s
@@ -88,14 +94,16 @@ none_from_not_some : {X : Type 0} (o : Option X) → ((x : X) → o ≡ Some x �
 none_from_not_some None h = refl
 none_from_not_some (Some x) h = absurd (h x refl)
 
-pub first_for-none : (q : Descriptor) (os : List Override) (i : ℕ) (o : Override) → i < length os → ((d : Descriptor) → (get_or os i o).descriptor ≡ Some d → ⊥) → first_for q (take (i + 1) os) ≡ first_for q (take i os)
+pub first_for-none : (q : Descriptor) (os : List Override) (i : ℕ) (o : Override) → i < length os
+    → ((d : Descriptor) → (get_or os i o).descriptor ≡ Some d → ⊥) → first_for q (take (i + 1) os) ≡ first_for q (take i os)
 first_for-none q os i o h s =
     position-take (specifies q) os i o h
     ∙ ap (λ named. first_or (first_for q (take i os)) (is_descriptor q named) i) (none_from_not_some (get_or os i o).descriptor s)
     ∙ first_or-not_here (first_for q (take i os)) i
 
 -- the level of the first override that specifies the descriptor, by its place
-pub level_at_place : (d : Descriptor) (os : List Override) (i : ℕ) (o : Override) → first_for d os ≡ Some i → o ≡ get_or os i o → o.level ≡ overriding_level os (Some d)
+pub level_at_place : (d : Descriptor) (os : List Override) (i : ℕ) (o : Override) → first_for d os ≡ Some i → o ≡ get_or os i o
+    → o.level ≡ overriding_level os (Some d)
 level_at_place d os i o found e =
     let at = found_at (specifies d) os i found in
     sym (ap (λ f. option_and_then (λ o. o.level) f) (at.1 ∙ slice_get_read os (length os) i o refl at.0 e))

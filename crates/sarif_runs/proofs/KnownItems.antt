@@ -1,5 +1,5 @@
 -- The item of a result depends only on the members that its own members are read from.
-use Rattle.std.proofs.Common.{◌≡◌, ℕ, Bool, true, false, ◌&&◌, sym, ap, ◌∙◌}
+use Rattle.std.proofs.Common.{◌≡◌, ℕ, true, false, ◌&&◌, sym, ap, ◌∙◌}
 use Rattle.std.specs.Prelude.{if◌then◌else◌}
 use Rattle.serde_json.specs.Data.{Data}
 use Rattle.sarif_model.specs.Members.{◌>>=◌}
@@ -13,22 +13,25 @@ use Rattle.sarif_runs.specs.Internal.Found.{record_item}
 use Rattle.sarif_runs.specs.Judging.{item_by, item_of, skips}
 use Rattle.sarif_runs.specs.Placed.{Placed}
 use Rattle.sarif_runs.specs.declared.item.Item.{Item}
+use Rattle.sarif_runs.specs.declared.run_options.RecordOptions.{RecordOptions}
 use Rattle.sarif_runs.specs.declared.item.Item.TheVariants.{Skipped}
 
 -- the item of a result's value depends only on these members
-recorded : (regions : Bool) (run found : Data) → record_item regions run (picked record_names found) ≡ record_item regions run found
+recorded : (options : RecordOptions) (run found : Data)
+    → record_item options run (picked record_names found) ≡ record_item options run found
 unfolding record_in
-recorded regions run found =
-    ap (λ parts. item_by (head_of run >>= λ head. parts >>= record_by head (tool_name run))) (own_members regions found)
+recorded options run found =
+    ap (λ parts. item_by (head_of run >>= λ head. parts >>= record_by options.ignored head (tool_name run)))
+    (own_members options.regions found)
 
 -- the item of a baseline result depends only on these members
 pub known_item : (p : Placed) (seq : ℕ) (found : Data) (item : Item) → skips p.source ≡ true
     → found ≡ picked record_names (result_at p.run seq) → is_absent_result found ≡ false
-    → item ≡ record_item p.options.read_regions p.run found → item ≡ item_of p seq
+    → item ≡ record_item p.options.records p.run found → item ≡ item_of p seq
 unfolding record_of
 known_item p seq found item known is present made =
     let x : Data = result_at p.run seq in
     let there : is_absent_result x ≡ false = sym (absent_members x) ∙ ap is_absent_result (sym is) ∙ present in
     let both : (skips p.source && is_absent_result x) ≡ false = ap (λ b. b && is_absent_result x) known ∙ there in
-    made ∙ ap (record_item p.options.read_regions p.run) is ∙ recorded p.options.read_regions p.run x
-    ∙ ap (λ b. if b then Skipped else item_by (record_of p.options.read_regions p.run seq)) (sym both)
+    made ∙ ap (record_item p.options.records p.run) is ∙ recorded p.options.records p.run x
+    ∙ ap (λ b. if b then Skipped else item_by (record_of p.options.records p.run seq)) (sym both)

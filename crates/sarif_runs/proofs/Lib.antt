@@ -3,4 +3,5 @@ pub mod Beside
 pub mod FirstPlaces
 pub mod KnownItems
 pub mod NamedFiles
+pub mod NoneNamed
 pub mod SpotsWithin

@@ -1,5 +1,5 @@
--- What is read of a run doesn't depend on the external property files that it names.
-use Rattle.std.proofs.Common.{◌≡◌, ℕ, Bool, refl, codes}
+-- The parts of a run that are read don't depend on the external property files that it names.
+use Rattle.std.proofs.Common.{◌≡◌, ℕ, refl, codes}
 use Rattle.serde_json.specs.Data.{Data}
 use Rattle.sarif_model.specs.Run.{results_of}
 use Rattle.sarif_read.specs.Failed.{failed}
@@ -10,13 +10,17 @@ use Rattle.sarif_runs.specs.Place.{artifacts_of}
 use Rattle.sarif_runs.specs.Overrides.{invocations_of}
 use Rattle.sarif_runs.specs.Head.{head_of}
 use Rattle.sarif_runs.specs.Record.{record_of}
+use Rattle.sarif_runs.specs.declared.run_options.RecordOptions.{RecordOptions}
 
 pub same_results : (run : Data) → results_of (without_files run) ≡ results_of run
 same_results run = rw (member_beside (codes "externalPropertyFileReferences") (codes "results") run refl) refl
 
 pub same_failing : (run : Data) → failed (without_files run) ≡ failed run
 same_failing run =
-    rw (member_beside (codes "externalPropertyFileReferences") (codes "invocations") run refl, member_beside (codes "externalPropertyFileReferences") (codes "results") run refl) refl
+    rw (
+      member_beside (codes "externalPropertyFileReferences") (codes "invocations") run refl,
+      member_beside (codes "externalPropertyFileReferences") (codes "results") run refl,
+    ) refl
 
 pub same_head : (run : Data) → head_of (without_files run) ≡ head_of run
 unfolding head_of components_of artifacts_of invocations_of
@@ -27,9 +31,9 @@ same_head run =
       member_beside (codes "externalPropertyFileReferences") (codes "invocations") run refl,
     ) refl
 
-pub same_record : (regions : Bool) (run : Data) (seq : ℕ) → record_of regions (without_files run) seq ≡ record_of regions run seq
+pub same_record : (options : RecordOptions) (run : Data) (seq : ℕ) → record_of options (without_files run) seq ≡ record_of options run seq
 unfolding record_of
-same_record regions run seq =
+same_record options run seq =
     rw (
       same_head run,
       member_beside (codes "externalPropertyFileReferences") (codes "tool") run refl,

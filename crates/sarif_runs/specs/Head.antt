@@ -8,7 +8,7 @@ use Rattle.sarif_runs.specs.Rules.{components_of}
 use Rattle.sarif_runs.specs.Place.{artifacts_of}
 use Rattle.sarif_runs.specs.Overrides.{invocations_of}
 
--- the head of a run, or its first fault
+-- the head of a run, or its first error
 unfoldable pub head_of : Data → Result RunHead Fault
 head_of run = do
   components ← components_of run

@@ -37,7 +37,7 @@ item_by (Err fault) = Bad fault
 abbrev pub item_of : Placed → ℕ → Item
 item_of p seq =
     if skips p.source && is_absent_result (result_at p.run seq) then Skipped
-    else item_by (record_of p.options.read_regions p.run seq)
+    else item_by (record_of p.options.records p.run seq)
 
 -- the results of a run, in order
 abbrev pub items_of : Placed → List Item

@@ -1,5 +1,6 @@
 pub mod Descriptor
 pub mod Head
+pub mod Ignoring
 pub mod Internal
 pub mod Judging
 pub mod Level

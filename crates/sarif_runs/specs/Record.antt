@@ -1,5 +1,5 @@
 -- The record of a result: its own members, and what its run says about it (SARIF 2.1.0, "result object").
-use Rattle.std.specs.Prelude.{ℕ, Bool, ◌||◌, List, [], Option, Some, None, Result, Ok, if◌then◌else◌, is_some, option_map, unwrap_or}
+use Rattle.std.specs.Prelude.{ℕ, ◌||◌, List, [], Option, Some, None, Result, Ok, if◌then◌else◌, is_some, option_map, unwrap_or}
 use Rattle.serde_json.specs.Data.{Data}
 use Rattle.sarif_model.specs.declared.fault.Fault.{Fault}
 use Rattle.sarif_members.specs.declared.parts.Parts.{Parts}
@@ -16,6 +16,8 @@ use Rattle.sarif_runs.specs.Descriptor.{reference_of, descriptor_of}
 use Rattle.sarif_runs.specs.Level.{rule_at, level_of}
 use Rattle.sarif_runs.specs.Place.{place_of}
 use Rattle.sarif_runs.specs.Head.{head_of}
+use Rattle.sarif_runs.specs.Ignoring.{without_names}
+use Rattle.sarif_runs.specs.declared.run_options.RecordOptions.{RecordOptions}
 
 -- the id of a descriptor's rule
 abbrev pub descriptor_id : List (List Rule) → Option Descriptor → Option (List ℕ)
@@ -31,9 +33,10 @@ rule_id_of components None descriptor = unwrap_or (descriptor_id components desc
 abbrev pub if_placed : {X : Type 0} → Place → Option X → Option X
 if_placed place found = if is_some place.uri || is_some place.base then found else None
 
--- the record of a result with these own members, in a run with that head and that tool
-unfoldable pub record_by : RunHead → List ℕ → Parts → Result Record Fault
-record_by head tool parts = do
+-- the record of a result with these own members, without the fingerprints of these names, in a run with that head and
+-- that tool
+unfoldable pub record_by : List (List ℕ) → RunHead → List ℕ → Parts → Result Record Fault
+record_by ignored head tool parts = do
   descriptor ← descriptor_of head.components (reference_of parts)
   level ← level_of head parts
   place ← place_of head.artifacts parts
@@ -45,20 +48,20 @@ record_by head tool parts = do
     message = parts.message;
     place = place;
     guid = parts.guid;
-    full = parts.full;
-    partial = parts.partial;
+    full = without_names ignored parts.full;
+    partial = without_names ignored parts.partial;
     held = parts.held;
     region = if_placed place parts.region;
     snippet = if_placed place parts.snippet;
   })
 
--- the record of a result of a run with that head and that tool, or its first error; with its region and its snippet if
--- regions are read
-unfoldable pub record_in : Bool → RunHead → List ℕ → Data → Result Record Fault
-record_in regions head tool result = parts_of regions result >>= record_by head tool
+-- the record of a result of a run with that head and that tool, or its first error
+unfoldable pub record_in : RecordOptions → RunHead → List ℕ → Data → Result Record Fault
+record_in options head tool result =
+    parts_of options.regions result >>= record_by options.ignored head tool
 
 -- the record of the result with that number, or the first error
-unfoldable pub record_of : Bool → Data → ℕ → Result Record Fault
-record_of regions run seq = do
+unfoldable pub record_of : RecordOptions → Data → ℕ → Result Record Fault
+record_of options run seq = do
   head ← head_of run
-  record_in regions head (tool_name run) (result_at run seq)
+  record_in options head (tool_name run) (result_at run seq)

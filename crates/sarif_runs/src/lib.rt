@@ -4,6 +4,7 @@
 
 mod component;
 mod head;
+mod ignoring;
 mod invocation;
 mod item;
 mod laws;
@@ -23,6 +24,6 @@ pub use laws::external_files_change_no_record;
 pub use making::{copy_tool_name, make_record_of};
 pub use open::open_value;
 pub use opened::OpenedRun;
-pub use run_options::RunOptions;
+pub use run_options::{IgnoredNames, RecordOptions, RunOptions};
 pub use spots::{Spot, list_spots};
 pub use whole::{make_record, open_run, read_parts};

@@ -7,6 +7,8 @@ ghost use Rattle.sarif_runs.specs.Record.{rule_id_of, if_placed, record_by, reco
 ghost use Rattle.sarif_model.specs.Driver.{tool_name};
 
 use crate::head::RunHead;
+use crate::ignoring::without_names;
+use crate::run_options::RecordOptions;
 use sarif_members::{Parts, read_members};
 use sarif_model::{Fault, Place, Record, Refusal, Text, driver_name};
 use serde_json::Value;
@@ -15,23 +17,24 @@ use std::alloc::{AllocError, Global};
 /// Makes the record of a result of a run with that head and that tool (SARIF 2.1.0, "result object"). The errors
 /// are those of [`read_members`](sarif_members::read_members), and then `BadIndex` if the component, the rule, the
 /// invocation or, without a `uri`, the artifact is past the end of its table. Returns `OutOfMemory` if memory runs
-/// out. With `regions` the record has the region and the snippet of the first location, if that names an artifact.
+/// out. With `options.regions` the record has the region and the snippet of the first location, if that names an
+/// artifact. It has no fingerprint of either type with one of the names in `options.ignored`.
 #[tactic(auto, unfolding(crate::specs::Record::record_in))]
 pub fn make_record_of(
     alloc: Global,
     head: &RunHead,
     tool: &Text,
     result_value: &Value,
-    regions: bool,
+    options: &RecordOptions<'_>,
 ) -> Result<Record, Refusal<Fault>>
     ensures ok { IfOk result
-        (λ made. record_in regions head.now tool.now (view result_value.now) ≡ Ok made) }
+        (λ made. record_in options.now head.now tool.now (view result_value.now) ≡ Ok made) }
     ensures err { IfFault result
-        (λ fault. record_in regions head.now tool.now (view result_value.now) ≡ Err fault) }
+        (λ fault. record_in options.now head.now tool.now (view result_value.now) ≡ Err fault) }
 {
-    let parts = read_members(alloc, result_value, regions)?;
+    let parts = read_members(alloc, result_value, options.regions)?;
     let tool = tool.clone()?;
-    finish_record(alloc, head, tool, parts)
+    finish_record(alloc, head, tool, parts, options.ignored.as_slice())
 }
 
 /// The name of the run's driver (SARIF 2.1.0, toolComponent object, "name property"), or the empty string. Returns
@@ -56,15 +59,16 @@ fn keep_if_placed<T: Drop>(place: &Place, found: Option<T>) -> Option<T>
     }
 }
 
-/// The record of a result with these own members.
+/// The record of a result with these own members, without the fingerprints of these names.
 #[tactic(auto, unfolding(crate::specs::Record::record_by))]
 fn finish_record(
     alloc: Global,
     head: &RunHead,
     tool: Text,
     parts: Parts,
+    ignored: &[Text],
 ) -> Result<Record, Refusal<Fault>>
-    ensures { Gives result (record_by head.now tool parts) }
+    ensures { Gives result (record_by ignored.now head.now tool parts) }
 {
     let descriptor = head.descriptor(&parts)?;
     let level = head.level_with(&parts, descriptor)?;
@@ -72,6 +76,8 @@ fn finish_record(
     let rule_id = head.rule_id(alloc, parts.rule_id, descriptor)?;
     let region = keep_if_placed(&place, parts.region);
     let snippet = keep_if_placed(&place, parts.snippet);
+    let full = without_names(alloc, ignored, parts.full)?;
+    let partial = without_names(alloc, ignored, parts.partial)?;
     Ok(Record {
         tool,
         rule_id,
@@ -80,8 +86,8 @@ fn finish_record(
         message: parts.message,
         place,
         guid: parts.guid,
-        full: parts.full,
-        partial: parts.partial,
+        full,
+        partial,
         held: parts.held,
         region,
         snippet,

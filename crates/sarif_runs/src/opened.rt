@@ -27,7 +27,7 @@ pub struct OpenedRun<'t, 'a> {
     /// Its number in its source, from 0.
     pub number: u32,
     /// How it is read.
-    pub options: RunOptions,
+    pub options: RunOptions<'t>,
     pub(crate) run: IndexedRun<'t, 'a>,
     pub(crate) tool: Text,
     pub(crate) head: Result<RunHead, Fault>,
@@ -73,7 +73,7 @@ impl<'t, 'a> OpenedRun<'t, 'a> {
         seed: RandomState,
         source: Source,
         number: u32,
-        options: RunOptions,
+        options: RunOptions<'t>,
         run: IndexedRun<'t, 'a>,
     ) -> Result<OpenedRun<'t, 'a>, AllocError>
         requires whole { has_float (run_of run) ≡ false }
@@ -81,7 +81,7 @@ impl<'t, 'a> OpenedRun<'t, 'a> {
             ≡ record {
               source = source;
               number = number;
-              options = options;
+              options = options.entry;
               run = run_of run.entry;
             }) }
     {
@@ -160,17 +160,17 @@ impl<'t, 'a> OpenedRun<'t, 'a> {
         self.run.result(alloc, seq)
     }
 
-    /// The item of this value as a result of the run: its record, with its region and its snippet if the options say
-    /// so, or its first error. Returns `AllocError` if memory runs out.
+    /// The item of this value as a result of the run: its record, as the options say, or its first error. Returns
+    /// `AllocError` if memory runs out.
     pub fn item_of(&self, alloc: Global, found: &Value) -> Result<Item, AllocError>
-        ensures { IfOk result (λ item. item ≡ record_item (placed_of self.now).options.read_regions
+        ensures { IfOk result (λ item. item ≡ record_item (placed_of self.now).options.records
             (placed_of self.now).run (view found.now)) }
     {
         let head = match &self.head {
             Ok(head) => head,
             Err(fault) => return Ok(Item::Bad(*fault)),
         };
-        match make_record_of(alloc, head, &self.tool, found, self.options.read_regions) {
+        match make_record_of(alloc, head, &self.tool, found, &self.options.records) {
             Ok(record) => Ok(Item::Sound(record)),
             Err(Refusal::Fault(fault)) => Ok(Item::Bad(fault)),
             Err(Refusal::OutOfMemory) => Err(AllocError),

@@ -11,6 +11,7 @@ ghost use Rattle.sarif_runs.specs.Record.{record_of};
 use crate::head::RunHead;
 use crate::making::{copy_tool_name, make_record_of};
 use crate::open::open_value;
+use crate::run_options::RecordOptions;
 use sarif_members::{Parts, read_members};
 use sarif_model::{Fault, Record, Refusal};
 use sarif_read::RawRun;
@@ -47,20 +48,20 @@ pub fn read_parts(
 
 /// Makes the record of result `seq` of a run, numbered from 0, with the head that was opened from that run and the
 /// name of the run's driver. The errors are those of [`make_record_of`](crate::make_record_of), including
-/// `BadIndex` and `OutOfMemory`. With `regions` the record has the region and the snippet of the result.
+/// `BadIndex` and `OutOfMemory`, and `options` have the same meaning.
 #[tactic(auto, unfolding(crate::specs::Record::record_of))]
 pub fn make_record(
     alloc: Global,
     head: &RunHead,
     run: &RawRun,
     seq: u32,
-    regions: bool,
+    options: &RecordOptions<'_>,
 ) -> Result<Record, Refusal<Fault>>
     requires opened { head_of (view run.now) ≡ Ok head.now }
     requires in_run { seq < length (results_of (view run.now)) }
-    ensures ok { IfOk result (λ made. record_of regions (view run.now) seq ≡ Ok made) }
-    ensures err { IfFault result (λ fault. record_of regions (view run.now) seq ≡ Err fault) }
+    ensures ok { IfOk result (λ made. record_of options.now (view run.now) seq ≡ Ok made) }
+    ensures err { IfFault result (λ fault. record_of options.now (view run.now) seq ≡ Err fault) }
 {
     let tool = copy_tool_name(alloc, run.value())?;
-    make_record_of(alloc, head, &tool, run.result(seq), regions)
+    make_record_of(alloc, head, &tool, run.result(seq), options)
 }

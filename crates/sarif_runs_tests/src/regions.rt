@@ -2,7 +2,7 @@
 //! artifact, or all locations of a result.
 use sarif_model::{Fault, Record, Refusal, Region, Text};
 use sarif_read::{RawRun, read_log};
-use sarif_runs::{make_record, open_run};
+use sarif_runs::{IgnoredNames, RecordOptions, make_record, open_run};
 use std::alloc::{AllocError, Global};
 use std::hash::RandomState;
 use std::test::Fail;
@@ -17,7 +17,11 @@ fn record_of(
     if run.len() == 0 {
         return Err(Refusal::Fault(Fault::NotLog));
     }
-    make_record(alloc, &head, run, 0, regions)
+    let options = RecordOptions {
+        regions,
+        ignored: IgnoredNames::new(&[]),
+    };
+    make_record(alloc, &head, run, 0, &options)
 }
 
 /// A line or a column, or a dash.

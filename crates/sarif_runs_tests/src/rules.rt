@@ -1,9 +1,11 @@
-//! Examples worked out by hand, and that each call succeeds if there is enough memory. A row is an expected value
+//! Examples computed by hand, and that each call succeeds if there is enough memory. A row is an expected value
 //! and a run, whose first result gives its descriptor, its level and its place, or an error.
 use sarif_members::Parts;
 use sarif_model::{Fault, Kind, Level, Place, Record, Refusal};
 use sarif_read::{Log, RawRun, read_log};
-use sarif_runs::{Descriptor, RunHead, make_record, open_run, read_parts};
+use sarif_runs::{
+    Descriptor, IgnoredNames, RecordOptions, RunHead, make_record, open_run, read_parts,
+};
 use std::alloc::{AllocError, Global};
 use std::hash::RandomState;
 use std::io;
@@ -142,7 +144,11 @@ fn record_of(alloc: Global, seed: RandomState, run: &RawRun) -> Result<Record, R
     if run.len() == 0 {
         return Err(Refusal::Fault(Fault::NotLog));
     }
-    make_record(alloc, &head, run, 0, false)
+    let options = RecordOptions {
+        regions: false,
+        ignored: IgnoredNames::new(&[]),
+    };
+    make_record(alloc, &head, run, 0, &options)
 }
 
 const BY_INDEX_OR_ID: &str =

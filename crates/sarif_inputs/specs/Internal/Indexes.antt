@@ -6,7 +6,7 @@ use Rattle.sarif_inputs.specs.Internal.Together.{AreIndexed}
 use Rattle.json_parts.specs.Mark.{without_mark}
 use Rattle.sarif_model.specs.Limits.{most_sources}
 
--- these are the indexes of this many logs, followed by those of the baselines
+-- indexes are those of this many logs, followed by those of the baselines
 pub record AreIndexesOf (logs baselines : List (List ℕ))
     (indexes : List (Result (List Token) IndexFault)) (first : ℕ) : Type 0 where
   pub count : length logs ≡ first

@@ -26,7 +26,7 @@ pub record IsParsedFrom (allow : Bool) (bytes : List ℕ) (parsed : Parsed) : Ty
   pub few_results : IfOk parsed (λ log. results_total (map run_of log.items) ≤ most_results)
   pub err : IfFault parsed (λ e. log_of allow bytes ≡ Err e)
 
--- this was read from each of these sources
+-- a list has, for each of these sources, what was read from it
 abbrev pub AreParsedFrom : Bool → List (List ℕ) → List Parsed → Type 0
 AreParsedFrom allow [] [] = ⊤
 AreParsedFrom allow [] (one ∷ parsed) = ⊥
@@ -34,7 +34,7 @@ AreParsedFrom allow (bytes ∷ sources) [] = ⊥
 AreParsedFrom allow (bytes ∷ sources) (one ∷ parsed) =
     IsParsedFrom allow bytes one × AreParsedFrom allow sources parsed
 
--- this was read from this index, of any bytes
+-- a log was read from this index, whichever bytes have that index
 abbrev pub IsReadFrom : Bool → Result (List Token) IndexFault → Parsed → Type 0
 IsReadFrom allow index read =
     (bytes : List ℕ) → IsIndexed (without_mark bytes) index → IsParsedFrom allow bytes read

@@ -11,7 +11,7 @@ use Rattle.sarif_inputs.specs.Internal.ReadSoFar.{sources_of}
 use Rattle.sarif_inputs.specs.SourceFaults.{source_faults}
 use Rattle.sarif_model.specs.Limits.{most_results, most_runs, most_sources}
 
--- these are the runs of logs and baselines without errors
+-- runs are those of logs and baselines without errors
 pub record AreRunsOf (checks : Checks) (logs baselines : List (List ℕ)) (runs : Runs) : Type 0 where
   pub current : map placed_of runs.current.items ≡ placed (numbered checks Log 0 logs)
   pub baseline : map placed_of runs.baseline.items ≡ placed (numbered checks Baseline 0 baselines)

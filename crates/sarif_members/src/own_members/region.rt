@@ -2,9 +2,10 @@
 ghost use Rattle.std.specs.Prelude.{◌≡◌, ◌==◌, IfOk, option_map};
 ghost use Rattle.std.specs.List.{list_all};
 ghost use Rattle.serde_json.specs.View.{view as seen};
+ghost use Rattle.sarif_model.specs.WhiteSpace.{is_white_space};
 ghost use Rattle.sarif_members.specs.Regions as said;
 
-use sarif_model::{Region, Text, copy_if_there};
+use sarif_model::{Region, Text, copy_if_there, is_white_space};
 use serde_json::Value;
 use std::alloc::{AllocError, Global};
 
@@ -59,23 +60,11 @@ fn read_lines(region: Option<&Value>) -> Option<Region>
     })
 }
 
-/// Whether this is the byte of a space, a tab, a line feed, a form feed or a carriage return.
-fn is_blank(byte: u8) -> bool
-    ensures { result ≡ said.is_blank byte }
-{
-    matches!(byte, b' ' | b'\t' | b'\n' | 0x0c | b'\r')
-}
-
 /// Whether a string is white space alone.
 fn is_all_blank(bytes: &[u8]) -> bool
-    ensures { result ≡ list_all said.is_blank bytes.now }
+    ensures { result ≡ list_all is_white_space bytes.now }
 {
-    for byte in bytes {
-        if !is_blank(*byte) {
-            return false;
-        }
-    }
-    true
+    bytes.iter().all(|byte| is_white_space(*byte))
 }
 
 /// The text of the snippet of a region, unless it is white space alone.

@@ -7,13 +7,16 @@ use Rattle.sarif_model.specs.declared.merge_fault.Source.TheVariants.{Output}
 use Rattle.sarif_runs.specs.declared.spots.Spot.{Spot}
 use Rattle.sarif_runs.specs.Placed.{Placed}
 
--- stands past the end of a list of runs
+-- the run that is returned past the end of a list of runs
 abbrev pub no_run : Placed
 no_run =
     record {
       source = Output;
       number = 0;
-      options = record { must_succeed = false; read_regions = false };
+      options = record {
+        must_succeed = false;
+        records = record { regions = false; ignored = [] };
+      };
       run = null;
     }
 
@@ -24,7 +27,7 @@ placed_at runs k = slice_index_or runs k no_run
 abbrev pub spots_in : ℕ → ℕ → List Spot
 spots_in run count = map (λ seq. record { run = run; seq = seq }) (range_with_len 0 count)
 
--- the runs, of which the first has number n
+-- the places of the results of runs; the first run has number n
 abbrev pub spots_from : ℕ → List Placed → List Spot
 spots_from n [] = []
 spots_from n (p ∷ runs) = spots_in n (length (results_of p.run)) ++ spots_from (n + 1) runs

@@ -15,11 +15,13 @@ split_off-requires g c =
 pub returns-clause-logs : goal.returns-clause-logs
 returns-clause-logs g c = λ ls bs are.
     let read = c.in_ok-first.first.items in
-    let parts = parsed_parts c.args.allow_external ls bs c.args.logs read are.count (parsed_by c.args.allow_external (ls ++ bs) c.args.indexes.now read are.indexed c.in_ok-first.ensures) in
+    let parts = parsed_parts c.args.allow_external ls bs c.args.logs read are.count
+    (parsed_by c.args.allow_external (ls ++ bs) c.args.indexes.now read are.indexed c.in_ok-first.ensures) in
     subst (λ rs. AreParsedFrom c.args.allow_external ls rs) (sym c.in_ok-second.ensures.items) parts.0
 
 pub returns-clause-baselines : goal.returns-clause-baselines
 returns-clause-baselines g c = λ ls bs are.
     let read = c.in_ok-first.first.items in
-    let parts = parsed_parts c.args.allow_external ls bs c.args.logs read are.count (parsed_by c.args.allow_external (ls ++ bs) c.args.indexes.now read are.indexed c.in_ok-first.ensures) in
+    let parts = parsed_parts c.args.allow_external ls bs c.args.logs read are.count
+    (parsed_by c.args.allow_external (ls ++ bs) c.args.indexes.now read are.indexed c.in_ok-first.ensures) in
     subst (λ rs. AreParsedFrom c.args.allow_external bs rs) (sym c.in_ok-second.ensures.tail) parts.1

@@ -14,7 +14,7 @@ split_off-requires g c =
     let found = c.in_ok-all.ensures in
     let opened = c.in_ok-current.current in
     let are = c.in_ok-current.ensures ∙ found.all given.0 given.1 given.2 in
-    let within = logs_within c.args.opening.checks given.0 given.1 opened.items c.in_ok-all.field-0.inputs are (found.inputs given.0 given.1 given.2) in
+    let within = logs_within c.args.opening.checks.now given.0 given.1 opened.items c.in_ok-all.field-0.inputs are (found.inputs given.0 given.1 given.2) in
     let long : vec_len opened ≡ length opened.items = search rules in
     omega (arith, within, long)
 
@@ -26,5 +26,5 @@ returns-clause-runs g c = λ ls bs indexed.
     let same = c.in_ok-current.ensures in
     let few : length opened ≤ most_runs = omega (arith, found.few, ap length same, length-map opened placed_of, length-map read placed_read) in
     let few_results = subst (λ ps. results_total (run_values ps) ≤ most_results) (sym same) found.few_results in
-    are_runs c.args.opening.checks ls bs opened c.in_ok-all.field-0.inputs (same ∙ found.all ls bs indexed) (found.inputs ls bs indexed) _
+    are_runs c.args.opening.checks.now ls bs opened c.in_ok-all.field-0.inputs (same ∙ found.all ls bs indexed) (found.inputs ls bs indexed) _
     c.in_ok-baseline.ensures.items c.in_ok-baseline.ensures.tail few few_results indexed.few_logs indexed.few_baselines (found.faults ls bs indexed)

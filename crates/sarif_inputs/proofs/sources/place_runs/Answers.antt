@@ -17,7 +17,7 @@ loop-run-preserved c =
     let vs = c.loop-run.yielded in
     let before = map placed_read c.args.all.now.items in
     let found = c.new-read.result in
-    let one : ℕ → List Placed = λ n. record { source = source; number = n; options = run_options c.args.checks source; run = run_of run } ∷ [] in
+    let one : ℕ → List Placed = λ n. record { source = source; number = n; options = run_options c.args.checks.now source; run = run_of run } ∷ [] in
     let rest : c.loop-run.run-iterator.rest.items ≡ run ∷ c.next.new.self.rest.items = search rules in
     record {
       parts = grind (arith, common_steps, rest);
@@ -26,11 +26,13 @@ loop-run-preserved c =
           ap (map placed_read) c.in_ok-push.ensures.items
           ∙ map-append placed_read c.loop-run.all.items (found ∷ [])
           ∙ ap (λ p. map placed_read c.loop-run.all.items ++ p ∷ []) c.new-read.ensures.placed
-          ∙ ap (λ o. map placed_read c.loop-run.all.items ++ record { source = source; number = c.loop-run.number; options = o; run = run_of run } ∷ []) c.run_options.ensures
+          ∙ ap
+          (λ o. map placed_read c.loop-run.all.items
+          ++ record { source = source; number = c.loop-run.number; options = o; run = run_of run } ∷ []) c.run_options.ensures
           ∙ ap (λ ps. ps ++ one c.loop-run.number) c.loop-run.invariant.placed
-          ∙ append_assoc before (placed_from c.args.checks source 0 (map run_of vs)) (one c.loop-run.number)
-          ∙ ap (λ n. before ++ (placed_from c.args.checks source 0 (map run_of vs) ++ one n)) c.loop-run.invariant.number
-          ∙ ap (λ ps. before ++ ps) (sym (placed_more c.args.checks source vs run));
+          ∙ append_assoc before (placed_from c.args.checks.now source 0 (map run_of vs)) (one c.loop-run.number)
+          ∙ ap (λ n. before ++ (placed_from c.args.checks.now source 0 (map run_of vs) ++ one n)) c.loop-run.invariant.number
+          ∙ ap (λ ps. before ++ ps) (sym (placed_more c.args.checks.now source vs run));
     }
 
 pub new-read-requires : goal.new-read-requires

@@ -6,4 +6,5 @@ use Rattle.sarif_runs.proofs.invocation.add_first.Goals as goal
 
 pub returns-in_ok-insert : goal.returns-in_ok-insert
 returns-in_ok-insert c =
-    kept_first (get is_same_descriptor c.args.table.now) (get is_same_descriptor c.insert.new.self) c.args.descriptor c.args.place c.in_ok-insert.ensures.updates.0 (search rules)
+    kept_first (get is_same_descriptor c.args.table.now)
+    (get is_same_descriptor c.insert.new.self) c.args.descriptor c.args.place c.in_ok-insert.ensures.updates.0 (search rules)

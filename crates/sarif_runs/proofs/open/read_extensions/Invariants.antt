@@ -7,4 +7,5 @@ use Rattle.sarif_runs.proofs.open.read_extensions.Given as goal
 
 abbrev pub invariant-loop-extension : goal.invariant-loop-extension
 invariant-loop-extension l =
-    before l.components (read_each rules_of (map view (drop l.extension-index l.extensions))) ≡ before l.fn.components (read_each rules_of (map view l.extensions))
+    before l.components (read_each rules_of (map view (drop l.extension-index l.extensions)))
+    ≡ before l.fn.components (read_each rules_of (map view l.extensions))

@@ -7,4 +7,5 @@ use Rattle.sarif_runs.proofs.open.read_overrides.Given as goal
 
 abbrev pub invariant-loop-value : goal.invariant-loop-value
 invariant-loop-value l =
-    before l.overrides.items (read_each (override_of l.components) (map view (drop l.value-index l.values))) ≡ read_each (override_of l.components) (map view l.values)
+    before l.overrides.items (read_each (override_of l.components) (map view (drop l.value-index l.values)))
+    ≡ read_each (override_of l.components) (map view l.values)

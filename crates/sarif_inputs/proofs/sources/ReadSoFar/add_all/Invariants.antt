@@ -17,6 +17,8 @@ invariant-loop-parsed l =
       within : (left : List (List ℕ)) × AreParsedFrom l.checks.allow_external left rest;
       whole : (sources : List (List ℕ)) → AreParsedFrom l.checks.allow_external sources l.fn.logs.items → (left : List (List ℕ))
           × AreParsedFrom l.checks.allow_external left rest
-          × (map placed_read l.self.runs.items ++ placed (numbered l.checks name l.number left) ≡ map placed_read l.fn.self.runs.items ++ placed (numbered l.checks name 0 sources))
-          × (source_faults (length l.self.runs.items) l.self.results (numbered l.checks name l.number left) ≡ source_faults (length l.fn.self.runs.items) l.fn.self.results (numbered l.checks name 0 sources));
+          × (map placed_read l.self.runs.items ++ placed (numbered l.checks name l.number left)
+          ≡ map placed_read l.fn.self.runs.items ++ placed (numbered l.checks name 0 sources))
+          × (source_faults (length l.self.runs.items) l.self.results (numbered l.checks name l.number left)
+          ≡ source_faults (length l.fn.self.runs.items) l.fn.self.results (numbered l.checks name 0 sources));
     }

@@ -9,7 +9,8 @@ use Rattle.sarif_read.proofs.whole.stripping.+strip.Goals as goal
 pub strip_in_place-returns-in-Array : goal.strip_in_place-returns-in-Array
 strip_in_place-returns-in-Array t c =
     let told : map view c.strip_items.new.items.items ≡ map (λ v. stripped (view v)) c.in-Array.items.items = search rules in
-    let done : items_view c.strip_items.new.items.items ≡ stripped_items (items_view c.in-Array.items.items) = ap items_of told ∙ sym (stripped_items_view c.in-Array.items.items) in
+    let done : items_view c.strip_items.new.items.items ≡ stripped_items (items_view c.in-Array.items.items) = ap items_of told
+    ∙ sym (stripped_items_view c.in-Array.items.items) in
     let seen : view c.args.value.now ≡ array (items_view c.in-Array.items.items) = search (rules, the_lemmas) in
     search (rules, the_lemmas, done, seen)
 
